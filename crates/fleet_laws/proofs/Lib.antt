@@ -1,0 +1,4 @@
+pub mod Laws
+pub mod Midway
+pub mod Outputs
+pub mod StoredReads

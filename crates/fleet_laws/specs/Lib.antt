@@ -1,0 +1,5 @@
+pub mod Begins
+pub mod Midway
+pub mod Reads
+pub mod Faults
+pub mod Outputs

@@ -1,0 +1,21 @@
+-- That a store answers reads as if it still had every flush, and that rows of one key may be put in place of others with
+-- no read changed.
+use Rattle.std.specs.Prelude.{ℕ, Bool, true, false, List, ◌++◌}
+use Rattle.row_model.specs.Rows.{Row}
+use Rattle.row_model.specs.Fold.{Operator}
+use Rattle.fleet_model.specs.Store.{Manifest, Store}
+use Rattle.fleet_model.specs.ReadsFit.{SameReads}
+use Rattle.fleet_model.specs.Invariant.{StoreInvariant}
+use Rattle.fleet_model.specs.Reads.{StoredReadsAgree}
+
+-- Newer and older rows may be replaced each by themselves; a replacement may be replaced again; and what may be
+-- replaced above older rows may be where there are none.
+pub record ReplacementsAddUp (merge : Operator) (manifest : Manifest) (key : List ℕ) : Type 0 where
+  pub side_by_side : (oldest : Bool) (newer newer' older older' : List Row) → SameReads merge manifest false key newer newer' → SameReads merge manifest oldest key older older'
+      → SameReads merge manifest oldest key (newer ++ older) (newer' ++ older')
+  pub in_turn : (oldest : Bool) (a b c : List Row) → SameReads merge manifest oldest key a b → SameReads merge manifest oldest key b c → SameReads merge manifest oldest key a c
+  pub as_oldest : (a b : List Row) → SameReads merge manifest false key a b → SameReads merge manifest true key a b
+
+-- In a store that meets the invariant, reads over what its nodes hold answer as reads over all that was flushed into them.
+abbrev pub StoresAnswerReads : Operator → Type 0
+StoresAnswerReads merge = (store : Store) → StoreInvariant merge store → StoredReadsAgree merge store

@@ -1,0 +1,51 @@
+//! Laws on the fleet: each call has an empty body, and its clause is a law about the stored objects, the calls of a store
+//! or an attempt's own words.
+#![tactic(auto)]
+
+ghost use Rattle.std.specs.Prelude.{ℕ, List};
+ghost use Rattle.row_model.specs.Append.{append};
+ghost use Rattle.row_model.specs.Fold.{Operator};
+ghost use Rattle.fleet_model.specs.History.{Party};
+ghost use Rattle.fleet_model.specs.Invariant.{FleetInvariant};
+ghost use Rattle.fleet_model.specs.Store.{Manifest, Store};
+ghost use Rattle.fleet_laws.specs.Begins.{FreshFleetFits};
+ghost use Rattle.fleet_laws.specs.Faults.{OldPutsAreLost};
+ghost use Rattle.fleet_laws.specs.Midway.{midway_parties, midway_store};
+ghost use Rattle.fleet_laws.specs.Outputs.{OutputsMakeWhatIsLeft};
+ghost use Rattle.fleet_laws.specs.Reads.{ReplacementsAddUp, StoresAnswerReads};
+
+/// A fresh store with no live party meets the invariant of the fleet, so it holds before the first line of a script.
+pub fn fresh_fleet_fits()
+    ensures { (merge : Operator) → FreshFleetFits merge }
+{}
+
+/// A fleet in the midst of a job meets the invariant too: a flush of three versions of a key is stored, a worker runs a
+/// job over it, it has put a table with the first two, and a heartbeat has published that table. So the invariant asks
+/// nothing that cannot be.
+pub fn midway_fits()
+    ensures { FleetInvariant append midway_store midway_parties }
+{}
+
+/// Replacements that change no read add up: of the newer rows of a key and of the older ones, and one after the other.
+/// This is why many nodes may become one, node by node.
+pub fn replacements_add_up()
+    ensures { (merge : Operator) (manifest : Manifest) (key : List ℕ) → ReplacementsAddUp merge manifest key }
+{}
+
+/// A store that meets the invariant answers every read, from its floor and tick on, as if all rows that were ever flushed
+/// into its nodes still stood there: what compactions have dropped is seen by no read.
+pub fn stores_answer_reads()
+    ensures { (merge : Operator) → StoresAnswerReads merge }
+{}
+
+/// A put of a version that is no longer stored changes nothing where a fault strikes it, and the history says Lost, also
+/// where the fault lets puts stand.
+pub fn old_puts_are_lost()
+    ensures { (line : ℕ) (party : Party) (version : ℕ) (store : Store) → OldPutsAreLost line party version store }
+{}
+
+/// Where the tables that a worker noted for a range begin what the range makes, then what its source tables make after
+/// the last noted row is exactly what the attempt has left to write.
+pub fn outputs_make_what_is_left()
+    ensures { (merge : Operator) → OutputsMakeWhatIsLeft merge }
+{}

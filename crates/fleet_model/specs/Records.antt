@@ -1,0 +1,66 @@
+-- What each change of the job records makes of the jobs.
+use Rattle.std.specs.Prelude.{ℕ, ◌+◌, List, [], ◌∷◌, map, Option, Some, None}
+use Rattle.fleet_model.specs.Jobs.{JobSpec, Job, Jobs, Context, Submitted, Scheduled, Running, Compacted, Completed, Failed, changed, put_job, trimmed}
+use Rattle.fleet_model.specs.History.{RecordChange, RecordsEpoch, Submit, Claim, Beat, Finish, Release, Polled, PollChange}
+
+-- what a change takes that the history does not record: the moment, the contexts that a beat publishes, and the
+-- tables of the sources as a job is opened
+pub record Unrecorded : Type 0 where
+  pub moment : ℕ
+  pub published : ℕ → Option Context
+  pub tables_of : JobSpec → List ℕ
+
+abbrev pub no_contexts : ℕ → Option Context
+no_contexts job = None
+
+abbrev pub firsts : {A : Type 0} → List (ℕ × A) → List ℕ
+firsts pairs = map (λ p. p.0) pairs
+
+-- a job as it is submitted or added
+abbrev pub new_job : ℕ × JobSpec → Job
+new_job p = record { id = p.0; spec = p.1; status = Submitted; lease = None; attempt = 0; source_tables = []; context = None; outputs = [] }
+
+abbrev pub with_new : List (ℕ × JobSpec) → Jobs → Jobs
+with_new [] jobs = jobs
+with_new (p ∷ specs) jobs = with_new specs (put_job (new_job p) jobs)
+
+abbrev pub claimed_by : ℕ → ℕ → Job → Job
+claimed_by worker moment job = record job { status = Running; lease = Some (record { worker = worker; heartbeat = moment }); attempt = job.attempt + 1 }
+
+abbrev pub beaten_by : ℕ → Unrecorded → Job → Job
+beaten_by worker unrecorded job = record job { lease = Some (record { worker = worker; heartbeat = unrecorded.moment }); context = unrecorded.published job.id }
+
+abbrev pub finished_by : ℕ → ℕ → List (List ℕ) → Job → Job
+finished_by worker moment outputs job = record job { status = Compacted; lease = Some (record { worker = worker; heartbeat = moment }); context = None; outputs = outputs }
+
+-- waits for a worker again, and keeps its context
+abbrev pub to_waiting : Job → Job
+to_waiting job = record job { status = Scheduled; lease = None }
+
+abbrev pub to_scheduled : (JobSpec → List ℕ) → Job → Job
+to_scheduled tables_of job = record job { status = Scheduled; source_tables = tables_of job.spec; context = None }
+
+abbrev pub to_completed : Job → Job
+to_completed job = record job { status = Completed }
+
+abbrev pub to_failed : Job → Job
+to_failed job = record job { status = Failed; context = None }
+
+-- the jobs that a poll adds come first, since it may open or end them at once
+abbrev pub after_poll : Unrecorded → PollChange → Jobs → Jobs
+after_poll unrecorded change jobs =
+    changed to_failed change.failed (changed to_completed change.completed (changed (to_scheduled unrecorded.tables_of) change.scheduled (changed to_waiting change.freed (with_new change.added jobs))))
+
+-- the jobs after a change, the finished ones not yet dropped
+abbrev pub after_change : Unrecorded → RecordChange → Jobs → Jobs
+after_change unrecorded (RecordsEpoch epoch) jobs = jobs
+after_change unrecorded (Submit specs) jobs = with_new specs jobs
+after_change unrecorded (Claim worker attempts) jobs = changed (claimed_by worker unrecorded.moment) (firsts attempts) jobs
+after_change unrecorded (Beat worker attempts) jobs = changed (beaten_by worker unrecorded) (firsts attempts) jobs
+after_change unrecorded (Finish worker job attempt outputs) jobs = changed (finished_by worker unrecorded.moment outputs) (job ∷ []) jobs
+after_change unrecorded (Release worker attempts) jobs = changed to_waiting (firsts attempts) jobs
+after_change unrecorded (Polled change) jobs = after_poll unrecorded change jobs
+
+-- the jobs after a put that stood
+abbrev pub jobs_after : Unrecorded → RecordChange → Jobs → Jobs
+jobs_after unrecorded change jobs = trimmed (after_change unrecorded change jobs)

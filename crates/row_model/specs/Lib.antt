@@ -1,0 +1,16 @@
+pub mod Ranges
+pub mod Chunks
+pub mod Lists
+pub mod Rows
+pub mod Fold
+pub mod Append
+pub mod Read
+pub mod Settings
+pub mod FoldedRows
+pub mod KeptRows
+pub mod JobRows
+pub mod Sizes
+pub mod Plan
+pub mod Bounds
+pub mod Tables
+pub mod Worked

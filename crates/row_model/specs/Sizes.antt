@@ -1,0 +1,55 @@
+-- The sizes of rows and tables, and where the blocks of a table begin.
+use Rattle.std.specs.Prelude.{ℕ, ◌+◌, nat_le, ◌==◌, if◌then◌else◌, ℤ, List, [], ◌∷◌, length, sum_by, Option, Some, None, ◌-◌, ◌^◌, min}
+use Rattle.row_model.specs.Rows.{Content, Value, Merge, Tombstone, Row}
+
+abbrev pub content_len : Content → ℕ
+content_len (Value bytes) = length bytes
+content_len (Merge bytes) = length bytes
+content_len Tombstone = 0
+
+abbrev pub stamp_size : Option ℤ → ℕ
+stamp_size None = 0
+stamp_size (Some stamp) = 8
+
+-- the size of a row by which tables and blocks are cut
+abbrev pub estimated_size : Row → ℕ
+estimated_size r = length r.key + content_len r.content + 8 + stamp_size r.created + stamp_size r.expires
+
+abbrev pub written_value_size : Content → ℕ
+written_value_size (Value bytes) = 4 + length bytes
+written_value_size (Merge bytes) = 4 + length bytes
+written_value_size Tombstone = 0
+
+-- the size of a row as it is written, where so many bytes of its key are shared with an earlier key
+abbrev pub encoded_size : Row → ℕ → ℕ
+encoded_size r prefix = 13 + (length r.key - prefix) + stamp_size r.created + stamp_size r.expires + written_value_size r.content
+
+-- sums of sizes stop at the greatest that 64 bits hold
+abbrev pub saturated : ℕ → ℕ
+saturated size = min size (2 ^ 64 - 1)
+
+abbrev pub table_size : List Row → ℕ
+table_size rows = saturated (sum_by estimated_size rows)
+
+abbrev pub block_bytes : ℕ
+block_bytes = 4096
+
+-- A block's first key, and the size of the rows before it
+pub record Block : Type 0 where
+  pub first_key : List ℕ
+  pub offset : ℕ
+
+-- how far a block is filled after a row: a block ends with the row with which it reaches block_bytes
+abbrev pub or_full : ℕ → ℕ
+or_full filled = if nat_le block_bytes filled then 0 else filled
+
+-- a row opens a block where nothing stands in it yet
+abbrev pub block_at : ℕ → ℕ → Row → List Block → List Block
+block_at offset filled r later = if filled == 0 then record { first_key = r.key; offset = offset } ∷ later else later
+
+abbrev pub blocks_from : ℕ → ℕ → List Row → List Block
+blocks_from offset filled [] = []
+blocks_from offset filled (r ∷ rows) = block_at offset filled r (blocks_from (saturated (offset + estimated_size r)) (or_full (filled + estimated_size r)) rows)
+
+abbrev pub blocks : List Row → List Block
+blocks rows = blocks_from 0 0 rows

@@ -1,0 +1,34 @@
+-- A script as it is typed, each line with the reply that it is given, and what it is that a fleet gives these replies.
+use Rattle.std.specs.Prelude.{◌≡◌, ℕ, List, [], ◌∷◌, ◌++◌, map}
+use Rattle.std.specs.List.{concat}
+use Rattle.script_model.specs.Script.{Line, IsScript}
+use Rattle.script_model.specs.Grammars.{full_grammar}
+use Rattle.script_model.specs.States.{Inputs, State, fresh_state}
+use Rattle.script_model.specs.Defaults.{default_options}
+use Rattle.script_model.specs.Follows.{ScriptRun}
+
+-- each line and its reply, without their newlines
+abbrev pub Conversation : Type 0
+Conversation = List (List ℕ × List ℕ)
+
+abbrev pub newline : List ℕ → List ℕ
+newline text = text ++ 10 ∷ []
+
+-- the text that is typed
+abbrev pub typed : Conversation → List ℕ
+typed conversation = concat (map (λ said. newline said.0) conversation)
+
+abbrev pub replies : Conversation → List (List ℕ)
+replies conversation = map (λ said. newline said.1) conversation
+
+-- What is typed is a script, and a fresh fleet with the default options may give exactly these replies.
+pub record MayReply (inputs : Inputs) (conversation : Conversation) : Type 0 where
+  pub lines : List Line
+  pub script : IsScript full_grammar (typed conversation) lines
+  pub last : State
+  pub run : ScriptRun inputs 1 (fresh_state default_options) lines (replies conversation) last
+
+-- And it can give no others.
+pub record MustReply (inputs : Inputs) (conversation : Conversation) : Type 0 where
+  pub may : MayReply inputs conversation
+  pub only : (answers : List (List ℕ)) (end : State) → ScriptRun inputs 1 (fresh_state default_options) may.lines answers end → answers ≡ replies conversation
