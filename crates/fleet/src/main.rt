@@ -1,0 +1,41 @@
+//! The fleet's program: `fleet run` runs the script on standard input, and writes its replies to standard output.
+#![tactic(auto)]
+
+mod standard;
+
+use fleet_run::{Fleet, fleet_main};
+use standard::{StandardSink, StandardSource};
+use std::io::ErrorKind;
+use std::process::ExitCode;
+use std::{env, io};
+
+/// What the program ends with where a word is not UTF-8.
+const USAGE: u8 = 2;
+
+/// What it ends with where it finds no memory for its words.
+const MEMORY: u8 = 6;
+
+fn main(rt: HostRuntime) -> ExitCode {
+    let alloc = rt.alloc();
+    let given = match env::args(&rt) {
+        Ok(given) => given,
+        Err(error) if error.kind() == ErrorKind::InvalidData => return ExitCode::from(USAGE),
+        Err(_) => return ExitCode::from(MEMORY),
+    };
+    let mut words = Vec::new(alloc);
+    for word in given.skip(1) {
+        if words.push(word).is_err() {
+            return ExitCode::from(MEMORY);
+        }
+    }
+    let texts: Result<Vec<&str>, _> = words.iter().map(|word| word.as_str()).collect(alloc);
+    let Ok(texts) = texts else {
+        return ExitCode::from(MEMORY);
+    };
+    let Ok(mut fleet) = Fleet::new(alloc) else {
+        return ExitCode::from(MEMORY);
+    };
+    let mut source = StandardSource::new(rt.reader());
+    let mut sink = StandardSink::new(io::writer(&rt));
+    ExitCode::from(fleet_main(alloc, texts.as_slice(), &mut source, &mut fleet, &mut sink))
+}

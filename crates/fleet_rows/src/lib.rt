@@ -1,0 +1,19 @@
+//! Rows as tables hold them, the ids of tables and jobs, lists that contracts see as lists, and the errors of the fleet.
+#![tactic(auto)]
+
+mod copies;
+mod errors;
+mod list;
+mod row;
+mod text;
+mod ulid;
+
+pub use copies::Copies;
+pub use errors::{CompactionFilterError, MergeOperatorError, SlateDBError};
+pub use list::ListOf;
+pub use row::{RowEntry, ValueDeletable};
+pub use text::Text;
+pub use ulid::Ulid;
+
+#[cfg(test)]
+mod tests;

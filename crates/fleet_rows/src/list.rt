@@ -1,0 +1,131 @@
+//! Lists that contracts see as lists.
+
+ghost use Rattle.std.specs.Prelude.{◌≡◌, ◌↔◌, ◌++◌, [], ◌∷◌, length, slice_get, IsTrue, OnOk, OnErr, IfOk, IsOkUnless};
+ghost use Rattle.std.specs.Option.{option_copied};
+ghost use Rattle.std.specs.Cmp.Lexicographic.{pointwise, lists_per, lists_equiv};
+
+use crate::{Copies, SlateDBError};
+use std::alloc::{AllocError, Global};
+use std::marker::Model;
+
+/// Items in order, seen as a list.
+#[derive(Debug, Drop)]
+pub struct ListOf<T> {
+    items: Vec<T>,
+}
+
+impl<T> Model for ListOf<T> {
+    ghost use Rattle.std.specs.Prelude.{List};
+    ghost use Rattle.std.specs.Coded.{coded_list};
+
+    ghost Value = { List T };
+
+    ghost coded = { coded_list T.code };
+
+    ghost view = { λ l. l.items.items };
+}
+
+impl<T: Drop> ListOf<T> {
+    /// An empty list, which takes no memory yet.
+    pub fn new(alloc: Global) -> Self
+        ensures { result ≡ [] }
+    {
+        ListOf {
+            items: Vec::new(alloc),
+        }
+    }
+
+    /// The list of these items, in their own memory.
+    pub fn from_vec(items: Vec<T>) -> Self
+        ensures { result ≡ items.items }
+    {
+        ListOf { items }
+    }
+
+    /// The items, in the memory that they have.
+    pub fn into_vec(self) -> Vec<T>
+        ensures { result.items ≡ self }
+    {
+        let ListOf { items } = self;
+        items
+    }
+
+    /// Adds an item at the end. Where memory is wanted, the item is dropped.
+    pub fn push(&mut self, item: T) -> Result<(), SlateDBError>
+        ensures ok { OnOk result (self.new ≡ self.old ++ item ∷ []) }
+        ensures err { OnErr result (self.new ≡ self.old) }
+        ensures memory { IsOkUnless result SlateDBError.Memory }
+    {
+        Ok(self.items.push(item)?)
+    }
+
+    /// How many items there are.
+    pub fn len(&self) -> u64
+        ensures { result ≡ length self.now }
+    {
+        self.items.len() as u64
+    }
+
+    /// Whether there is no item.
+    pub fn is_empty(&self) -> bool
+        ensures { IsTrue result ↔ (self.now ≡ []) }
+    {
+        self.items.is_empty()
+    }
+
+    /// The item at this place, counted from 0.
+    pub fn get(&self, place: u64) -> Option<&T>
+        ensures { option_copied result ≡ slice_get self.now place }
+    {
+        self.items.get(place as usize)
+    }
+
+    /// The items as a slice.
+    pub fn as_slice(&self) -> &[T]
+        ensures { result.now ≡ self.now }
+    {
+        self.items.as_slice()
+    }
+}
+
+impl<T: Copies + Drop> ListOf<T> {
+    /// A copy.
+    pub fn clone(&self) -> Result<ListOf<T>, SlateDBError>
+        ensures copy { IfOk result (λ copy. copy ≡ self.now) }
+        ensures memory { IsOkUnless result SlateDBError.Memory }
+    {
+        Ok(Clone::clone(self)?)
+    }
+}
+
+impl<T: Copies + Drop> Clone for ListOf<T> {
+    ghost is_clone = { λ l copy. copy ≡ l };
+
+    fn clone(&self) -> Result<ListOf<T>, AllocError> {
+        let mut items = Vec::new(*self.items.allocator());
+        'items: for item in self.as_slice() {
+            items.push(item.copied()?)?;
+        }
+        Ok(ListOf { items })
+    }
+}
+
+impl<T: Copies + Drop> Copies for ListOf<T> {
+    fn copied(&self) -> Result<ListOf<T>, AllocError> {
+        Clone::clone(self)
+    }
+}
+
+impl<T: PartialEq> PartialEq for ListOf<T> {
+    ghost eq = { pointwise T.eq };
+
+    ghost laws = { lists_per T.laws };
+
+    fn eq(&self, other: &Self) -> bool {
+        self.items == other.items
+    }
+}
+
+impl<T: Eq> Eq for ListOf<T> {
+    ghost laws = { lists_equiv T.Eq.laws };
+}

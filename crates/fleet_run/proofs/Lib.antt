@@ -1,0 +1,9 @@
+pub mod PlainReads
+pub mod NewerFirst
+pub mod Steps
+pub mod Newest
+pub mod Accepted
+pub mod Written
+pub mod Given
+pub mod Runs
+pub mod Told

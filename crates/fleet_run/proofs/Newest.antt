@@ -1,0 +1,54 @@
+-- The newest row of a key, flush after flush.
+use Rattle.std.proofs.Common.{◌≡◌, refl, sym, ap, ◌∙◌, ℕ, ◌+◌, ◌<◌, List, [], ◌∷◌, ◌++◌, length, drop, get_or, true, false, Option, Some, None, is_some, slice_get, Bor}
+use Rattle.std.specs.Prelude.{option_map, nat_le}
+use Rattle.std.specs.Option.{option_or, option_copied}
+use Rattle.std.proofs.lemmas.List.{at_drop_more}
+use Rattle.std.proofs.lemmas.List.Elements.{filter-append}
+use Rattle.row_model.specs.Rows.{Row, rows_of_key}
+use Rattle.row_model.specs.Read.{seen_at}
+use Rattle.row_laws.proofs.KeyRows.{of_key-append}
+use Rattle.fleet_model.specs.Nodes.{Tables}
+use Rattle.fleet_rows.specs.Row.{row_of}
+use Rattle.fleet_rows.specs.declared.row.RowEntry.{RowEntry}
+use Rattle.fleet_run.specs.Serve.{newest_row}
+use Rattle.fleet_run.proofs.NewerFirst.{all_rows}
+
+abbrev pub newest_of : List Row → List ℕ → ℕ → Option Row
+newest_of rows key seq = slice_get (seen_at seq (rows_of_key key rows)) 0
+
+first-append : (xs ys : List Row) → slice_get (xs ++ ys) 0 ≡ option_or (slice_get xs 0) (slice_get ys 0)
+first-append [] ys = refl
+first-append (x ∷ xs) ys = refl
+
+newest-cons : (flush : ℕ × List Row) (older : Tables) (key : List ℕ) (seq : ℕ) → newest_row (flush ∷ older) key seq ≡ option_or (newest_of flush.1 key seq) (newest_row older key seq)
+newest-cons flush older key seq =
+    let newer = rows_of_key key flush.1 in
+    let later = rows_of_key key (all_rows older) in
+    ap (λ rows. slice_get (seen_at seq rows) 0) (of_key-append key flush.1 (all_rows older))
+    ∙ ap (λ rows. slice_get rows 0) (filter-append (λ (r : Row). nat_le r.seq seq) newer later)
+    ∙ first-append (seen_at seq newer) (seen_at seq later)
+
+-- the newest row from flush i on is one of that flush, or else one of those behind it
+newest_step : (flushes : Tables) (i : ℕ) (flush : ℕ × List Row) (key : List ℕ) (seq : ℕ) (found : Option Row) → i < length flushes → flush ≡ get_or flushes i flush → found ≡ newest_of flush.1 key seq
+    → newest_row (drop i flushes) key seq ≡ option_or found (newest_row (drop (i + 1) flushes) key seq)
+newest_step flushes i flush key seq found lt at is =
+    at_drop_more (λ (fs : Tables). newest_row fs key seq) flushes i flush lt
+    ∙ ap (λ (f : ℕ × List Row). newest_row (f ∷ drop (i + 1) flushes) key seq) (sym at)
+    ∙ newest-cons flush (drop (i + 1) flushes) key seq
+    ∙ ap (λ o. option_or o (newest_row (drop (i + 1) flushes) key seq)) (sym is)
+
+or_found : (r : Option (Bor RowEntry)) (later : Option Row) → is_some r ≡ true → option_or (option_map row_of (option_copied r)) later ≡ option_map row_of (option_copied r)
+or_found (Some row) later h = refl
+or_found None later h = absurd (cc h)
+
+or_later : (r : Option (Bor RowEntry)) (later : Option Row) → is_some r ≡ false → option_or (option_map row_of (option_copied r)) later ≡ later
+or_later (Some row) later h = absurd (cc h)
+or_later None later h = refl
+
+pub newest_found : (flushes : Tables) (i : ℕ) (flush : ℕ × List Row) (key : List ℕ) (seq : ℕ) (r : Option (Bor RowEntry)) → i < length flushes → flush ≡ get_or flushes i flush
+    → option_map row_of (option_copied r) ≡ newest_of flush.1 key seq → is_some r ≡ true → option_map row_of (option_copied r) ≡ newest_row (drop i flushes) key seq
+newest_found flushes i flush key seq r lt at is some = sym (newest_step flushes i flush key seq (option_map row_of (option_copied r)) lt at is ∙ or_found r (newest_row (drop (i + 1) flushes) key seq) some)
+
+pub newest_later : (flushes : Tables) (i : ℕ) (flush : ℕ × List Row) (key : List ℕ) (seq : ℕ) (r : Option (Bor RowEntry)) → i < length flushes → flush ≡ get_or flushes i flush
+    → option_map row_of (option_copied r) ≡ newest_of flush.1 key seq → is_some r ≡ false → newest_row (drop (i + 1) flushes) key seq ≡ newest_row (drop i flushes) key seq
+newest_later flushes i flush key seq r lt at is none = sym (newest_step flushes i flush key seq (option_map row_of (option_copied r)) lt at is ∙ or_later r (newest_row (drop (i + 1) flushes) key seq) none)

@@ -1,0 +1,10 @@
+pub mod Outside
+pub mod Memory
+pub mod Safe
+pub mod FleetView
+pub mod Serve
+pub mod Kinds
+pub mod Holds
+pub mod Served
+pub mod Errors
+pub mod Program

@@ -1,0 +1,11 @@
+-- A source and a sink that never fail, as contracts see them.
+use Rattle.std.specs.Prelude.{Some, None}
+use Rattle.fleet_run.specs.Outside.{SourceView, SinkView}
+use Rattle.fleet_run.specs.declared.safe.SafeSource.{SafeSource}
+use Rattle.fleet_run.specs.declared.safe.SafeSink.{SafeSink}
+
+abbrev pub safe_source_view : SafeSource → SourceView
+safe_source_view s = record { left = Some s.left.now; given = s.given; ended = s.ended; faults = 0 }
+
+abbrev pub safe_sink_view : SafeSink → SinkView
+safe_sink_view s = record { written = None; taken = s.taken; faults = 0 }

@@ -1,0 +1,20 @@
+//! The fleet's script as it runs, and the program but for its standard streams.
+#![tactic(auto)]
+
+mod answer;
+mod fleet;
+mod memory;
+mod outside;
+mod program;
+mod safe;
+mod script;
+
+pub use fleet::Fleet;
+pub use memory::{MemSink, MemSource};
+pub use outside::{Failed, Sink, Source};
+pub use program::fleet_main;
+pub use safe::{SafeSink, SafeSource};
+pub use script::{FleetError, run_script};
+
+#[cfg(test)]
+mod tests;

@@ -1,0 +1,45 @@
+//! What a script comes from, and what its replies go to.
+
+ghost use Rattle.std.specs.Prelude.{◌≡◌, ◌<◌, ◌≤◌, ◌==◌, false, length, IfOk, OnErr};
+ghost use Rattle.std.specs.Io.KnownBytes.{ReadConsumes, WriteAppends};
+ghost use Rattle.fleet_run.specs.Outside.{SourceView, SinkView, Rose, counted};
+
+/// A read or a write was not done.
+#[derive(Clone, Copy, Debug, PartialEq, Eq)]
+pub struct Failed;
+
+/// What gives the bytes of a script.
+pub trait Source {
+    /// What it gave so far and has left, whether it has ended, and how many reads failed.
+    ghost told: { Self → SourceView };
+
+    /// Fills the front of the buffer, and answers how much of it. An answer of 0 for a buffer with room says
+    /// that the source has ended.
+    fn read(&mut self, into: &mut [u8]) -> Result<usize, Failed>
+        ensures at_most { IfOk result (λ n. n ≤ length into.old) }
+        ensures bytes { ReadConsumes (told self.old).left (told self.new).left result into.new }
+        ensures given { IfOk result (λ n. (told self.new).given ≡ counted (told self.old).given n) }
+        ensures none_given { OnErr result ((told self.new).given ≡ (told self.old).given) }
+        ensures ended { IfOk result (λ n. 0 < length into.old → (told self.new).ended ≡ (n == 0)) }
+        ensures not_ended { OnErr result (0 < length into.old → (told self.new).ended ≡ false) }
+        ensures without_room { length into.old ≡ 0 → (told self.new).ended ≡ (told self.old).ended }
+        ensures failed { OnErr result (Rose (told self.old).faults (told self.new).faults) }
+        ensures never_fall { (told self.old).faults ≤ (told self.new).faults };
+}
+
+/// What takes the replies to a script.
+pub trait Sink {
+    /// What it took so far, and how many writes failed.
+    ghost told: { Self → SinkView };
+
+    /// Takes the front of the piece, and answers how much of it. Who takes nothing of a piece that is not
+    /// empty has failed, whatever it answers.
+    fn write(&mut self, from: &[u8]) -> Result<usize, Failed>
+        ensures at_most { IfOk result (λ n. n ≤ length from.now) }
+        ensures bytes { WriteAppends (told self.old).written (told self.new).written result from.now }
+        ensures taken { IfOk result (λ n. (told self.new).taken ≡ counted (told self.old).taken n) }
+        ensures none_taken { OnErr result ((told self.new).taken ≡ (told self.old).taken) }
+        ensures failed { OnErr result (Rose (told self.old).faults (told self.new).faults) }
+        ensures took_nothing { IfOk result (λ n. n ≡ 0 → 0 < length from.now → Rose (told self.old).faults (told self.new).faults) }
+        ensures never_fall { (told self.old).faults ≤ (told self.new).faults };
+}

@@ -1,0 +1,151 @@
+//! A whole script.
+
+ghost use Rattle.std.specs.Prelude.{◌≡◌, ℕ, ◌≤◌, [], List, Err, OnOk, OnErr, IfErr, ◌⊎◌};
+ghost use Rattle.row_model.specs.Fold.{Operator};
+ghost use Rattle.script_model.specs.Script.{AreLines, IsScript, IsBadAt};
+ghost use Rattle.script_model.specs.Script as model;
+ghost use Rattle.script_model.specs.Grammars.{first_grammar};
+ghost use Rattle.fleet_text.specs.Lines.{line_of, lines_of};
+ghost use Rattle.fleet_run.specs.FleetView.{fresh_fleet, AreFlushes};
+ghost use Rattle.fleet_run.specs.Outside.{Rose, Took, TookShort, TookNothing};
+ghost use Rattle.fleet_run.specs.Serve.{reply_to, fleet_after};
+ghost use Rattle.fleet_run.specs.Served.{Served, ServedUpToFault, ServedFront, Ran, RunsUpToFault, RunsFront};
+ghost use Rattle.fleet_run.specs.Errors.{IsScriptError, as_fleet_error};
+ghost use Rattle.fleet_run.specs.declared.script.FleetError.TheVariants.{BadLine, WriteFault, Memory};
+
+use crate::fleet::Fleet;
+use crate::outside::Sink;
+use fleet_rows::SlateDBError;
+use fleet_text::{Line, LineList, TextError, read_script};
+use std::alloc::Global;
+use std::collections::VecDeque;
+use thiserror::Error;
+
+/// Why a script was not run to its end, or a program's words were not carried out.
+#[derive(Clone, Copy, Debug, PartialEq, Eq, Error)]
+pub enum FleetError {
+    /// The first line outside the grammar, counted from 1.
+    #[error("line {0} is outside the grammar")]
+    BadLine(u64),
+    #[error("a reply could not be written")]
+    WriteFault,
+    #[error("out of memory")]
+    Memory,
+    #[error("the script is too long")]
+    TooLong,
+    #[error("the script could not be read")]
+    ReadFault,
+    #[error("unknown words")]
+    Usage,
+}
+
+impl From<TextError> for FleetError {
+    ghost from_gives = { λ t e. e ≡ as_fleet_error t };
+
+    fn from(error: TextError) -> FleetError {
+        match error {
+            TextError::BadLine(line) => FleetError::BadLine(line),
+            TextError::Memory => FleetError::Memory,
+        }
+    }
+}
+
+/// Hands a piece to the sink, and the rest of it again where only a front was taken.
+fn write_all<K: Sink>(sink: &mut K, piece: &[u8]) -> Result<(), FleetError>
+    ensures ok { OnOk result (Took piece.now (K.told sink.old) (K.told sink.new)) }
+    ensures rose { OnErr result (Rose (K.told sink.old).faults (K.told sink.new).faults) }
+    ensures short { OnErr result (TookShort piece.now (K.told sink.old) (K.told sink.new)) }
+    ensures only { IfErr result (λ e. e ≡ WriteFault) }
+    ensures never_fall { (K.told sink.old).faults ≤ (K.told sink.new).faults }
+{
+    let mut rest = piece;
+    'pieces: while !rest.is_empty() {
+        match sink.write(rest) {
+            Ok(n) if n > 0 => rest = &rest[n..],
+            _ => return Err(FleetError::WriteFault),
+        }
+    }
+    Ok(())
+}
+
+/// Runs one line, and writes its reply.
+fn run_line<K: Sink>(
+    alloc: Global,
+    line: Line,
+    fleet: &mut Fleet,
+    sink: &mut K,
+) -> Result<(), FleetError>
+    requires { first_grammar [] (line_of line) }
+    ensures sound { AreFlushes fleet.old.flushes }
+    ensures state { OnOk result (fleet.new ≡ fleet_after (line_of line) fleet.old) }
+    ensures took { OnOk result (Took (reply_to (line_of line) fleet.old) (K.told sink.old) (K.told sink.new)) }
+    ensures rose { result ≡ Err WriteFault → Rose (K.told sink.old).faults (K.told sink.new).faults }
+    ensures fault_state { result ≡ Err WriteFault → fleet.new ≡ fleet_after (line_of line) fleet.old }
+    ensures fault_took { result ≡ Err WriteFault → TookShort (reply_to (line_of line) fleet.old) (K.told sink.old) (K.told sink.new) }
+    ensures memory_state { result ≡ Err Memory → fleet.new ≡ fleet.old }
+    ensures memory_took { result ≡ Err Memory → TookNothing (K.told sink.old) (K.told sink.new) }
+    ensures only { IfErr result (λ e. (e ≡ WriteFault) ⊎ (e ≡ Memory)) }
+    ensures never_fall { (K.told sink.old).faults ≤ (K.told sink.new).faults }
+{
+    let reply = match fleet.serve(alloc, line) {
+        Ok(reply) => reply,
+        Err(_) => return Err(FleetError::Memory),
+    };
+    write_all(sink, reply.as_slice())
+}
+
+fn run_lines<K: Sink>(
+    alloc: Global,
+    lines: LineList,
+    fleet: &mut Fleet,
+    sink: &mut K,
+) -> Result<(), FleetError>
+    requires fresh { fleet.old ≡ fresh_fleet }
+    requires grammar { AreLines first_grammar [] (lines_of lines) }
+    ensures ran { OnOk result ((merge : Operator) → Ran merge (lines_of lines) fleet.new (K.told sink.old) (K.told sink.new)) }
+    ensures rose { result ≡ Err WriteFault → Rose (K.told sink.old).faults (K.told sink.new).faults }
+    ensures fault { result ≡ Err WriteFault → (merge : Operator) → RunsUpToFault merge (lines_of lines) fleet.new (K.told sink.old) (K.told sink.new) }
+    ensures memory { result ≡ Err Memory → (merge : Operator) → RunsFront merge (lines_of lines) fleet.new (K.told sink.old) (K.told sink.new) }
+    ensures only { IfErr result (λ e. (e ≡ WriteFault) ⊎ (e ≡ Memory)) }
+    ensures never_fall { (K.told sink.old).faults ≤ (K.told sink.new).faults }
+{
+    let mut left = VecDeque::from_vec(lines.into_vec());
+    'lines: while let Some(line) = left.pop_front() {
+        run_line(alloc, line, fleet, sink)?;
+    }
+    Ok(())
+}
+
+/// Runs a script on a fresh fleet. Its whole text is read first; then each line is run, and its reply is handed to
+/// the sink as one piece before the next line.
+pub fn run_script<K: Sink>(
+    alloc: Global,
+    text: &[u8],
+    fleet: &mut Fleet,
+    sink: &mut K,
+) -> Result<(), FleetError>
+    requires fresh { fleet.old ≡ fresh_fleet }
+
+    // The text is a script, and the sink took exactly the replies of its run.
+    ensures served { OnOk result ((merge : Operator) → Served merge text.now fleet.new (K.told sink.old) (K.told sink.new)) }
+
+    // The first line outside the grammar is named, and nothing was run or written.
+    ensures bad_line { (n : ℕ) → result ≡ Err (BadLine n) → IsBadAt first_grammar text.now n }
+    ensures bad_line_exact { (n : ℕ) → IsBadAt first_grammar text.now n → (result ≡ Err (BadLine n)) ⊎ (result ≡ Err Memory) }
+    ensures bad_line_state { (n : ℕ) → result ≡ Err (BadLine n) → fleet.new ≡ fleet.old }
+    ensures bad_line_took { (n : ℕ) → result ≡ Err (BadLine n) → TookNothing (K.told sink.old) (K.told sink.new) }
+
+    // The sink failed in this call: a front of the replies was written.
+    ensures rose { result ≡ Err WriteFault → Rose (K.told sink.old).faults (K.told sink.new).faults }
+    ensures fault { result ≡ Err WriteFault → (merge : Operator) → ServedUpToFault merge text.now fleet.new (K.told sink.old) (K.told sink.new) }
+
+    // Whole replies to the first lines were written.
+    ensures memory { result ≡ Err Memory → (merge : Operator) → ServedFront merge text.now fleet.new (K.told sink.old) (K.told sink.new) }
+
+    ensures valid { (lines : List model.Line) → IsScript first_grammar text.now lines → IfErr result (λ e. (e ≡ WriteFault) ⊎ (e ≡ Memory)) }
+    ensures only { IfErr result IsScriptError }
+    ensures never_fall { (K.told sink.old).faults ≤ (K.told sink.new).faults }
+{
+    let lines = read_script(alloc, text)?;
+    run_lines(alloc, lines, fleet, sink)
+}

@@ -1,0 +1,153 @@
+use crate::{
+    Failed, Fleet, FleetError, MemSink, MemSource, SafeSink, SafeSource, Sink, Source, fleet_main,
+    run_script,
+};
+use std::test::Fail;
+
+const FLUSH_AND_READ: &str =
+    "flush 1 - 3 0 61:t:-:4:-:-,61:v:7631:2:-:-,61:v:7630:1:-:-\nread - 61 3 0\nread - 61 4 0\nread - 61 2 0\nread - 62 9 0\n";
+
+const REPLIES: &str = "ok\nvalue 7631\nnone\nnotretained 3 0\nnone\n";
+
+#[test]
+fn scripts_get_their_replies(rt: HostRuntime) -> Result<(), Fail> {
+    let rows: [(&str, &str); 5] = [
+        ("", ""),
+        (FLUSH_AND_READ, REPLIES),
+        (
+            "flush 5 - 3 7 62:v:76:9:-:-\nflush 5 - 3 7 62:v:76:9:-:-\nflush 6 - 3 7 62:v:76:10:-:-,61:v:76:10:-:-\nflush 6 - 3 7 62:v:76:9:-:-\nflush 6 - 2 7 62:v:76:10:-:-\nflush 6 - 3 6 62:v:76:10:-:-\nflush 6 - 3 7 62:v:76:10:-:-\nread - 62 9 6\n",
+            "ok\nbadflush name\nbadflush order\nbadflush sequence\nbadflush floor\nbadflush tick\nok\nnotretained 3 7\n",
+        ),
+        // An older flush answers where the newer one has no version that old; an empty value is a value.
+        (
+            "flush 1 - 0 0 61:v:-:1:-:-,62:v:7a:2:-:-\nflush 2 - 0 0 61:v:78:3:-:-,62:t:-:4:-:-\nread - 61 2 0\nread - 61 3 0\nread - 62 3 0\nread - 62 4 0\nread - 61 0 0\n",
+            "ok\nok\nvalue -\nvalue 78\nvalue 7a\nnone\nnone\n",
+        ),
+        // A floor and a tick at their limits.
+        (
+            "flush 1 - 18446744073709551615 9223372036854775807 61:v:76:1:-:-\nread - 61 18446744073709551615 9223372036854775807\nread - 61 18446744073709551614 9223372036854775807\nread - 61 18446744073709551615 -9223372036854775808\n",
+            "ok\nvalue 76\nnotretained 18446744073709551615 9223372036854775807\nnotretained 18446744073709551615 9223372036854775807\n",
+        ),
+    ];
+    for (script, replies) in rows {
+        let mut fleet = Fleet::new(rt.alloc())?;
+        let mut sink = MemSink::new(rt.alloc(), &[]);
+        let result = run_script(rt.alloc(), script.as_bytes(), &mut fleet, &mut sink);
+        assert_eq!(rt; result, Ok(()));
+        assert_eq!(rt; sink.as_slice(), replies.as_bytes());
+    }
+    Ok(())
+}
+
+#[test]
+fn bad_lines_are_named(rt: HostRuntime) -> Result<(), Fail> {
+    let rows: [(&str, u64); 4] = [
+        ("read - 61 1 0\nread - 61 2 0\nread - 6 1 0\n", 3),
+        ("read - 61 1 0", 1),
+        ("\n", 1),
+        ("read - 61 1 0\nread 73 61 1 0\n", 2),
+    ];
+    for (script, line) in rows {
+        let mut fleet = Fleet::new(rt.alloc())?;
+        let mut sink = MemSink::new(rt.alloc(), &[]);
+        let result = run_script(rt.alloc(), script.as_bytes(), &mut fleet, &mut sink);
+        assert_eq!(rt; result, Err(FleetError::BadLine(line)));
+        assert_eq!(rt; sink.as_slice(), b"".as_slice());
+    }
+    Ok(())
+}
+
+#[test]
+fn second_write_fails(rt: HostRuntime) -> Result<(), Fail> {
+    let mut fleet = Fleet::new(rt.alloc())?;
+    let mut sink = MemSink::new(rt.alloc(), &[2]);
+    let script = b"read - 61 1 0\nread - 61 2 0\n";
+    let result = run_script(rt.alloc(), script, &mut fleet, &mut sink);
+    assert_eq!(rt; result, Err(FleetError::WriteFault));
+    assert_eq!(rt; sink.as_slice(), b"none\n".as_slice());
+    Ok(())
+}
+
+/// Takes one byte at a time.
+struct SlowSink<'a> {
+    inner: MemSink<'a>,
+}
+
+impl Sink for SlowSink<'_> {
+    ghost use Rattle.fleet_run.specs.Memory.{sink_view};
+
+    ghost told = { λ s. sink_view s.inner };
+
+    fn write(&mut self, from: &[u8]) -> Result<usize, Failed> {
+        self.inner.write(&from[..from.len().min(1)])
+    }
+}
+
+#[test]
+fn pieces_are_written_whole(rt: HostRuntime) -> Result<(), Fail> {
+    let mut fleet = Fleet::new(rt.alloc())?;
+    let mut sink = SlowSink {
+        inner: MemSink::new(rt.alloc(), &[]),
+    };
+    let result = run_script(rt.alloc(), FLUSH_AND_READ.as_bytes(), &mut fleet, &mut sink);
+    assert_eq!(rt; result, Ok(()));
+    assert_eq!(rt; sink.inner.as_slice(), REPLIES.as_bytes());
+    let SlowSink { inner } = sink;
+    drop(inner);
+    Ok(())
+}
+
+#[test]
+fn statuses(rt: HostRuntime) -> Result<(), Fail> {
+    let rows: [(&[&str], &str, &[u64], &[u64], u8, &str); 8] = [
+        (&["run"], FLUSH_AND_READ, &[], &[], 0, REPLIES),
+        (&[], FLUSH_AND_READ, &[], &[], 2, ""),
+        (&["run", "run"], FLUSH_AND_READ, &[], &[], 2, ""),
+        (&["walk"], FLUSH_AND_READ, &[], &[], 2, ""),
+        (&["run"], "read - 61 1 0\nread - 6 1 0\n", &[], &[], 3, ""),
+        (&["run"], FLUSH_AND_READ, &[1], &[], 4, ""),
+        (&["run"], FLUSH_AND_READ, &[2], &[], 4, ""),
+        (&["run"], FLUSH_AND_READ, &[], &[2], 5, "ok\n"),
+    ];
+    for (words, script, no_reads, no_writes, status, replies) in rows {
+        let mut fleet = Fleet::new(rt.alloc())?;
+        let mut source = MemSource::new(script.as_bytes(), no_reads);
+        let mut sink = MemSink::new(rt.alloc(), no_writes);
+        let answer = fleet_main(rt.alloc(), words, &mut source, &mut fleet, &mut sink);
+        assert_eq!(rt; answer, status);
+        assert_eq!(rt; sink.as_slice(), replies.as_bytes());
+    }
+    Ok(())
+}
+
+#[test]
+fn longest_script(rt: HostRuntime) -> Result<(), Fail> {
+    let rows: [(usize, u8); 2] = [(67_108_864, 3), (67_108_865, 7)];
+    for (length, status) in rows {
+        let script = vec![in rt.alloc(); b'x'; length]?;
+        let mut fleet = Fleet::new(rt.alloc())?;
+        let mut source = SafeSource::new(script.as_slice());
+        let mut sink = SafeSink::new();
+        let answer = fleet_main(rt.alloc(), &["run"], &mut source, &mut fleet, &mut sink);
+        assert_eq!(rt; answer, status);
+        assert_eq!(rt; sink.taken(), 0);
+    }
+    Ok(())
+}
+
+#[test]
+fn sources_give_and_end(rt: HostRuntime) -> Result<(), Fail> {
+    let mut buffer = [0u8; 4];
+    let mut memory = MemSource::new(b"abcdef", &[2]);
+    assert_eq!(rt; memory.read(&mut buffer), Ok(4));
+    assert_eq!(rt; buffer.as_slice(), b"abcd".as_slice());
+    assert_eq!(rt; memory.read(&mut buffer), Err(Failed));
+    assert_eq!(rt; memory.read(&mut buffer), Ok(2));
+    assert_eq!(rt; memory.read(&mut buffer), Ok(0));
+    let mut safe = SafeSource::new(b"abcdef");
+    assert_eq!(rt; safe.read(&mut buffer), Ok(4));
+    assert_eq!(rt; safe.read(&mut []), Ok(0));
+    assert_eq!(rt; safe.read(&mut buffer), Ok(2));
+    assert_eq!(rt; safe.read(&mut buffer), Ok(0));
+    Ok(())
+}

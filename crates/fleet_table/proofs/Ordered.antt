@@ -1,0 +1,104 @@
+-- The order of rows by neighbours, and rows before a place.
+use Rattle.std.proofs.Common.{◌≡◌, refl, sym, ◌∙◌, ap, ℕ, zero, suc, ◌<◌, ◌≤◌, ◌+◌, cond, List, [], ◌∷◌, length, ◌&&◌, Bool, true, false, IsTrue, arith, rules}
+use Rattle.std.specs.Prelude.{slice_index_or, MatchBool, None}
+use Rattle.std.specs.List.{AllByRecursion, AllWithin, HoldsAt, prefix_len}
+use Rattle.std.specs.List.Sorted.{IsStrictlySortedBy, IsPartitionedBy, IsPartitionPoint}
+use Rattle.std.specs.declared.cmp.Ordering.TheVariants.{Less}
+use Rattle.std.specs.Ordering.{is_lt}
+use Rattle.row_model.specs.Rows.{Row, Tombstone, row_cmp, are_ordered, IsStrictlyOrdered}
+use Rattle.std.proofs.lemmas.List.Sums.{prefix_len_is}
+use Rattle.std.proofs.lemmas.List.Elements.{All-from_all_within, recursion_from_All}
+use Rattle.row_laws.proofs.Order.{row_total}
+use Rattle.row_laws.proofs.ApartRows.{lt_is}
+use Rattle.row_laws.proofs.Elements.{all_weaken}
+use Rattle.fleet_rows.specs.declared.row.RowEntry.{RowEntry}
+use Rattle.fleet_rows.specs.Row.{row_of, rows_of}
+use Rattle.fleet_table.specs.Order.{is_before}
+
+both : (a b : Bool) → (a && b) ≡ true → (a ≡ true) × (b ≡ true)
+both true b h = (refl, h)
+both false b h = absurd (cc h)
+
+and_true : (a b : Bool) → a ≡ true → b ≡ true → (a && b) ≡ true
+and_true a b h g = ap (λ x. x && b) h ∙ g
+
+-- rows of which each is before the next are strictly ordered
+pub ordered_of_test : (rows : List Row) → are_ordered rows ≡ true → IsStrictlyOrdered rows
+unfolding IsStrictlySortedBy
+ordered_of_test [] h = tt
+ordered_of_test (r ∷ []) h = (tt, tt)
+ordered_of_test (r ∷ q ∷ rows) h =
+    let parts = both (is_lt (row_cmp r q)) (are_ordered (q ∷ rows)) h in
+    let first : row_cmp r q ≡ Less = lt_is (row_cmp r q) parts.0 in
+    let rest : IsStrictlyOrdered (q ∷ rows) = ordered_of_test (q ∷ rows) parts.1 in
+    ((first, all_weaken (λ x. row_cmp q x ≡ Less) (λ x. row_cmp r x ≡ Less) (λ x after. row_total.trans r q x first after) rows rest.0), rest)
+
+pub test_of_ordered : (rows : List Row) → IsStrictlyOrdered rows → are_ordered rows ≡ true
+unfolding IsStrictlySortedBy
+test_of_ordered [] h = refl
+test_of_ordered (r ∷ []) h = refl
+test_of_ordered (r ∷ q ∷ rows) h = and_true (is_lt (row_cmp r q)) (are_ordered (q ∷ rows)) (ap is_lt h.0.0) (test_of_ordered (q ∷ rows) h.1)
+
+-- so the test says whether they are
+pub decided : (rows : List Row) (b : Bool) → b ≡ are_ordered rows → (IsTrue b → IsStrictlyOrdered rows) × (IsStrictlyOrdered rows → IsTrue b)
+decided rows true e = ((λ _. ordered_of_test rows (sym e)), λ _. search rules)
+decided rows false e = ((λ h. absurd (search rules)), λ ordered. let clash : false ≡ true = e ∙ test_of_ordered rows ordered in absurd (cc clash))
+
+-- nothing is out of order in a list of one row or none
+pub ordered_short : (rows : List RowEntry) → length rows < 2 → are_ordered (rows_of rows) ≡ true
+ordered_short [] h = refl
+ordered_short (r ∷ []) h = refl
+ordered_short (r ∷ q ∷ rows) h = absurd (omega arith)
+
+-- ---- a fact of each row, found by a test of each
+
+holds_at : (P : Row → Type 0) (rows : List RowEntry) (j : ℕ) (d : RowEntry) → j < length rows → AllByRecursion P (rows_of rows) → P (row_of (slice_index_or rows j d))
+holds_at P [] j d lt h = absurd (omega arith)
+holds_at P (q ∷ rows) zero d lt h = h.0
+holds_at P (q ∷ rows) (suc j) d lt h = holds_at P rows j d (omega arith) h.1
+
+all_rows : (P : Row → Type 0) (rows : List RowEntry) → AllByRecursion (λ r. P (row_of r)) rows → AllByRecursion P (rows_of rows)
+all_rows P [] h = tt
+all_rows P (r ∷ rows) h = (h.0, all_rows P rows h.1)
+
+some_fails : (P : Row → Type 0) (rows : List RowEntry) → (k : ℕ) × (k < length rows) × HoldsAt (λ r. P (row_of r) → ⊥) rows k → AllByRecursion P (rows_of rows) → ⊥
+some_fails P [] fails h = let lt = fails.1 in absurd (omega arith)
+some_fails P (r ∷ rows) fails h = fails.2 r (holds_at P (r ∷ rows) fails.0 r fails.1 h)
+
+pub all_decided : (P : Row → Type 0) (rows : List RowEntry) (b : Bool)
+    → MatchBool b (AllWithin (λ r. P (row_of r)) rows 0 (length rows)) ((k : ℕ) × (k < length rows) × HoldsAt (λ r. P (row_of r) → ⊥) rows k)
+    → (IsTrue b → AllByRecursion P (rows_of rows)) × (AllByRecursion P (rows_of rows) → IsTrue b)
+all_decided P rows true within =
+    let Q : RowEntry → Type 0 = λ r. P (row_of r) in
+    ((λ _. all_rows P rows (recursion_from_All Q rows (All-from_all_within Q rows within))), λ _. search rules)
+all_decided P rows false fails = ((λ h. absurd (search rules)), λ h. absurd (some_fails P rows fails h))
+
+-- ---- rows before a place
+
+abbrev place_row : List ℕ → ℕ → Row
+place_row key seq = record { key = key; content = Tombstone; seq = seq; created = None; expires = None }
+
+before_too : (key : List ℕ) (seq : ℕ) (r q : Row) → row_cmp r q ≡ Less → is_before key seq q ≡ true → is_before key seq r ≡ true
+before_too key seq r q before h = ap is_lt (row_total.trans r q (place_row key seq) before (lt_is (row_cmp q (place_row key seq)) h))
+
+-- an earlier row of ordered rows is before each place that a later one is before
+pub before_place : (key : List ℕ) (seq : ℕ) (rows : List RowEntry) → IsStrictlyOrdered (rows_of rows) → IsPartitionedBy (λ r. is_before key seq (row_of r)) rows
+unfolding IsStrictlySortedBy
+before_place key seq [] ordered i j d le lt h = absurd (omega arith)
+before_place key seq (r ∷ rows) ordered zero zero d le lt h = h
+before_place key seq (r ∷ rows) ordered zero (suc j) d le lt h = before_too key seq (row_of r) (row_of (slice_index_or rows j d)) (holds_at (λ q. row_cmp (row_of r) q ≡ Less) rows j d (omega arith) ordered.0) h
+before_place key seq (r ∷ rows) ordered (suc i) zero d le lt h = absurd (omega arith)
+before_place key seq (r ∷ rows) ordered (suc i) (suc j) d le lt h = before_place key seq rows ordered.1 i j d (omega arith) (omega arith) h
+
+prefix-mapped : (p : Row → Bool) (rows : List RowEntry) → prefix_len p (rows_of rows) ≡ prefix_len (λ r. p (row_of r)) rows
+prefix-mapped p [] = refl
+prefix-mapped p (r ∷ rows) = ap (λ n. cond (p (row_of r)) (1 + n) 0) (prefix-mapped p rows)
+
+-- where they end is how many there are
+pub before_count : (key : List ℕ) (seq : ℕ) (rows : List RowEntry) (i : ℕ) → i ≤ length rows
+    → IsPartitionPoint (λ r. is_before key seq (row_of r) ≡ true) (λ r. is_before key seq (row_of r) ≡ false) rows i
+    → i ≡ prefix_len (is_before key seq) (rows_of rows)
+before_count key seq [] i within ends = omega arith
+before_count key seq (r ∷ rows) i within ends =
+    sym (prefix-mapped (is_before key seq) (r ∷ rows)
+    ∙ prefix_len_is (λ q. is_before key seq (row_of q)) (r ∷ rows) i r within (λ k low. ends.0 k r (omega arith) low) (λ low. ends.1 i r (omega arith) low))

@@ -1,0 +1,47 @@
+-- What it is for a reader to have read a text.
+use Rattle.std.specs.Prelude.{◌≡◌, ◌≢◌, ℕ, ◌<◌, ◌^◌, false, List, [], ◌∷◌, length, Option, Some, None, decimal}
+use Rattle.std.specs.List.{AllByRecursion, join_with_byte}
+use Rattle.row_model.specs.Rows.{Row, Content, is_merge}
+use Rattle.row_model.specs.Bounds.{AreBytes, IsContent, IsRow, AreRows}
+use Rattle.script_model.specs.Words.{bytes_text, kind_text, content_text, stamp_text}
+use Rattle.script_model.specs.Script.{Line, words}
+use Rattle.script_model.specs.Grammars.{IsPlain, first_grammar}
+
+-- What was read of a text: a value that fits and is spelt so, or nothing where no value that fits is.
+abbrev pub Reads : {A B : Type 0} → (A → B) → (A → Type 0) → B → Option A → Type 0
+Reads spelling Fits text (Some x) = Fits x × (text ≡ spelling x)
+Reads spelling Fits text None = (x : _) → Fits x → text ≢ spelling x
+
+-- The same of values that are seen as the model's.
+abbrev pub ReadsAs : {A M B : Type 0} → (A → M) → (M → B) → (M → Type 0) → B → Option A → Type 0
+ReadsAs view spelling Fits text (Some x) = Fits (view x) × (text ≡ spelling (view x))
+ReadsAs view spelling Fits text None = (m : _) → Fits m → text ≢ spelling m
+
+abbrev pub IsValue : List ℕ → Type 0
+IsValue bytes = AreBytes bytes × (length bytes < 2 ^ 32)
+
+abbrev pub IsRoot : List ℕ → Type 0
+IsRoot segment = segment ≡ []
+
+abbrev pub content_words : Content → List (List ℕ)
+content_words content = kind_text content ∷ content_text content ∷ []
+
+abbrev pub IsFirstContent : Content → Type 0
+IsFirstContent content = IsContent content × (is_merge content ≡ false)
+
+abbrev pub row_words : Row → List (List ℕ)
+row_words r = bytes_text r.key ∷ kind_text r.content ∷ content_text r.content ∷ decimal r.seq ∷ stamp_text r.created ∷ stamp_text r.expires ∷ []
+
+-- rows and lines of the first path
+abbrev pub IsFirstRow : Row → Type 0
+IsFirstRow r = IsRow r × IsPlain r
+
+abbrev pub AreFirstRows : List Row → Type 0
+AreFirstRows rows = (0 < length rows) × AreRows rows × AllByRecursion IsPlain rows
+
+abbrev pub IsFirstLine : Line → Type 0
+IsFirstLine line = first_grammar [] line
+
+-- a line without its newline
+abbrev pub line_text : Line → List ℕ
+line_text line = join_with_byte 32 (words line)

@@ -1,0 +1,18 @@
+//! Scripts as text: the reader of their lines, and replies as they are printed.
+#![tactic(auto)]
+
+mod error;
+mod line;
+mod reply;
+mod row;
+mod script;
+mod word;
+
+pub use error::TextError;
+pub use line::{Line, LineList};
+pub use reply::Reply;
+pub use script::read_script;
+pub use word::number_of;
+
+#[cfg(test)]
+mod tests;

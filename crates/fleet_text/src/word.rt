@@ -1,0 +1,145 @@
+//! The words of a line.
+
+ghost use Rattle.std.specs.Prelude.{◌≡◌, ◌≢◌, ◌++◌, ◌∷◌, [], MatchOption, All, ◌<◌, ◌^◌, ◌↔◌, IsTrue, IfOk, map, decimal};
+ghost use Rattle.std.specs.Fmt.{signed_decimal};
+ghost use Rattle.std.specs.List.{slice_split, list_all};
+ghost use Rattle.row_model.specs.Bounds.{AreBytes, IsKey, IsStamp};
+ghost use Rattle.script_model.specs.Bounds.{IsName};
+ghost use Rattle.script_model.specs.Words.{bytes_text};
+ghost use Rattle.script_laws.specs.ByteTests.{is_byte, is_lower_digit};
+ghost use Rattle.fleet_text.specs.Reading.{Reads, IsValue, IsRoot};
+
+use bytes::Bytes;
+use std::alloc::{AllocError, Global};
+
+/// The parts of a text between the bytes that cut it.
+pub fn parts(alloc: Global, text: &[u8], cut: u8) -> Result<Vec<&[u8]>, AllocError>
+    ensures { IfOk result (λ v. map (λ x. x.now) v.items ≡ slice_split (is_byte cut) text.now) }
+{
+    text.split(|b| *b == cut).collect(alloc)
+}
+
+/// What stands before the first of a byte, and behind it.
+pub fn cut(text: &[u8], byte: u8) -> Option<(&[u8], &[u8])>
+    ensures { MatchOption result (All (λ b. b ≢ byte) text.now) (λ p. All (λ b. b ≢ byte) p.0.now × (text.now ≡ p.0.now ++ byte ∷ p.1.now)) }
+{
+    let at = text.iter().position(|b| *b == byte)?;
+    Some((&text[..at], &text[at + 1..]))
+}
+
+/// Whether a word is this name.
+pub fn is_word(word: &[u8], name: &str) -> bool
+    ensures { IsTrue result ↔ (word.now ≡ name.now) }
+{
+    word == name.as_bytes()
+}
+
+/// The number whose decimal a word is: digits, with no sign and no zero in front of others.
+pub fn number_of(word: &[u8]) -> Option<u64>
+    ensures { Reads decimal (λ n. n < 2 ^ 64) word.now result }
+{
+    if word.is_empty() || word[0] == b'+' {
+        return None;
+    }
+    if word.len() > 1 && word[0] == b'0' {
+        return None;
+    }
+    let Ok(text) = std::str::from_utf8(word) else {
+        return None;
+    };
+    text.parse().ok()
+}
+
+/// A number, or `-` and a number that is not 0.
+pub fn signed_of(word: &[u8]) -> Option<i64>
+    ensures { Reads signed_decimal IsStamp word.now result }
+{
+    if word.is_empty() || word[0] != b'-' {
+        let number = number_of(word)?;
+        return i64::try_from(number).ok();
+    }
+    let magnitude = number_of(&word[1..])?;
+    if magnitude == 0 {
+        return None;
+    }
+    0i64.checked_sub_unsigned(magnitude)
+}
+
+fn is_lower_hex(digit: u8) -> bool
+    ensures { result ≡ is_lower_digit digit }
+{
+    digit.is_ascii_digit() || (b'a' <= digit && digit <= b'f')
+}
+
+fn are_lower_hex(word: &[u8]) -> bool
+    ensures { result ≡ list_all is_lower_digit word.now }
+{
+    word.iter().all(|digit| is_lower_hex(*digit))
+}
+
+/// Bytes in lower-case hex, or `-` where there are none.
+pub fn bytes_of(alloc: Global, word: &[u8]) -> Result<Option<Bytes>, AllocError>
+    ensures { IfOk result (Reads bytes_text AreBytes word.now) }
+{
+    if is_word(word, "-") {
+        return Ok(Some(Bytes::new()));
+    }
+    if word.is_empty() || word.len() % 2 != 0 || !are_lower_hex(word) {
+        return Ok(None);
+    }
+    // An even number of digits is refused for memory alone.
+    let Ok(bytes) = hex::decode(alloc, word) else {
+        return Err(AllocError);
+    };
+    Ok(Some(Bytes::from_vec(bytes)?))
+}
+
+/// The prefix of the root, which is empty.
+pub fn root_of(word: &[u8]) -> Option<Bytes>
+    ensures { Reads bytes_text IsRoot word.now result }
+{
+    if is_word(word, "-") {
+        Some(Bytes::new())
+    } else {
+        None
+    }
+}
+
+/// Bytes, at least one and at most 65,535.
+pub fn key_of(alloc: Global, word: &[u8]) -> Result<Option<Bytes>, AllocError>
+    ensures { IfOk result (Reads bytes_text IsKey word.now) }
+{
+    let Some(key) = bytes_of(alloc, word)? else {
+        return Ok(None);
+    };
+    if key.is_empty() || key.len() > 65_535 {
+        return Ok(None);
+    }
+    Ok(Some(key))
+}
+
+/// Bytes, fewer than 2^32.
+pub fn value_bytes_of(alloc: Global, word: &[u8]) -> Result<Option<Bytes>, AllocError>
+    ensures { IfOk result (Reads bytes_text IsValue word.now) }
+{
+    let Some(value) = bytes_of(alloc, word)? else {
+        return Ok(None);
+    };
+    if value.len() >= 1 << 32 {
+        return Ok(None);
+    }
+    Ok(Some(value))
+}
+
+const LAST_NAME: u64 = 1_099_511_627_775;
+
+/// The name of a flush.
+pub fn name_of(word: &[u8]) -> Option<u64>
+    ensures { Reads decimal IsName word.now result }
+{
+    let name = number_of(word)?;
+    if name == 0 || name > LAST_NAME {
+        return None;
+    }
+    Some(name)
+}
