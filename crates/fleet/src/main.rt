@@ -39,3 +39,6 @@ fn main(rt: HostRuntime) -> ExitCode {
     let mut sink = StandardSink::new(io::writer(&rt));
     ExitCode::from(fleet_main(alloc, texts.as_slice(), &mut source, &mut fleet, &mut sink))
 }
+
+#[cfg(test)]
+mod tests;

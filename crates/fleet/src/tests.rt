@@ -1,0 +1,56 @@
+//! The program's core where memory runs out.
+
+ghost use Rattle.std.specs.Prelude.{None};
+ghost use Rattle.fleet_run.specs.Outside.{SinkView};
+
+use fleet_run::{Failed, Fleet, SafeSource, Sink, fleet_main};
+use std::test::Fail;
+
+const FLUSH_AND_READ: &str =
+    "flush 1 - 3 0 61:t:-:4:-:-,61:v:7631:2:-:-,61:v:7630:1:-:-\nread - 61 3 0\nread - 61 4 0\nread - 61 2 0\nread - 62 9 0\n";
+
+const REPLIES: &str = "ok\nvalue 7631\nnone\nnotretained 3 0\nnone\n";
+
+/// Keeps the first bytes that it takes, and asks for no memory.
+#[derive(Drop)]
+struct ShortSink {
+    bytes: [u8; 64],
+    len: usize,
+    taken: u64,
+}
+
+impl Sink for ShortSink {
+    ghost told = { λ s. record { written = None; taken = s.taken; faults = 0 } };
+
+    fn write(&mut self, from: &[u8]) -> Result<usize, Failed> {
+        let taken = self.taken.saturating_add(from.len() as u64);
+        for byte in from {
+            if self.len < self.bytes.len() {
+                self.bytes[self.len] = *byte;
+                self.len += 1;
+            }
+        }
+        self.taken = taken;
+        Ok(from.len())
+    }
+}
+
+/// Where a growth is refused, on whatever way, the status is 6 and whole replies stand. With ample memory it is 0.
+#[test]
+fn memory_ends_between_replies(rt: HostRuntime) -> Result<(), Fail> {
+    let Ok(mut fleet) = Fleet::new(rt.alloc()) else {
+        return Ok(());
+    };
+    let mut source = SafeSource::new(FLUSH_AND_READ.as_bytes());
+    let mut sink = ShortSink {
+        bytes: [0; 64],
+        len: 0,
+        taken: 0,
+    };
+    let status = fleet_main(rt.alloc(), &["run"], &mut source, &mut fleet, &mut sink);
+    let written = &sink.bytes[..sink.len.min(sink.bytes.len())];
+    assert!(rt; REPLIES.as_bytes().starts_with(written));
+    assert!(rt; written.is_empty() || written.ends_with(b"\n"));
+    assert_eq!(rt; status, if written == REPLIES.as_bytes() { 0 } else { 6 });
+    Ok(())
+}
