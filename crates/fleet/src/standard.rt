@@ -18,7 +18,7 @@ pub struct StandardSource<R> {
 
 impl<R: Read> StandardSource<R> {
     pub fn new(reader: R) -> StandardSource<R>
-        ensures { result.given ≡ 0 }
+        ensures { result ≡ record { reader = reader; given = 0; ended = false; faults = 0 } }
     {
         StandardSource {
             reader,
@@ -59,7 +59,9 @@ pub struct StandardSink<W> {
 }
 
 impl<W: Write> StandardSink<W> {
-    pub fn new(writer: W) -> StandardSink<W> {
+    pub fn new(writer: W) -> StandardSink<W>
+        ensures { result ≡ record { writer = writer; taken = 0; faults = 0 } }
+    {
         StandardSink {
             writer,
             taken: 0,

@@ -160,6 +160,7 @@ impl Fleet {
         ensures err { OnErr result (self.new ≡ self.old) }
         ensures sound { AreFlushes self.old.flushes }
     {
+        // A look at a field, by which the type's invariant is known here.
         let _ = &self.flushes;
         match line {
             Line::Flush {
