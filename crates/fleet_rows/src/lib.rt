@@ -5,13 +5,15 @@ mod copies;
 mod errors;
 mod list;
 mod row;
+mod settings;
 mod text;
 mod ulid;
 
 pub use copies::Copies;
 pub use errors::{CompactionFilterError, MergeOperatorError, SlateDBError};
-pub use list::ListOf;
+pub use list::{JobList, ListOf, PlaceList, RuleList};
 pub use row::{RowEntry, ValueDeletable};
+pub use settings::Settings;
 pub use text::Text;
 pub use ulid::Ulid;
 

@@ -4,7 +4,7 @@ ghost use Rattle.std.specs.Prelude.{◌≡◌, ◌↔◌, ◌++◌, [], ◌∷�
 ghost use Rattle.std.specs.Option.{option_copied};
 ghost use Rattle.std.specs.Cmp.Lexicographic.{pointwise, lists_per, lists_equiv};
 
-use crate::{Copies, SlateDBError};
+use crate::{Copies, SlateDBError, Ulid};
 use std::alloc::{AllocError, Global};
 use std::marker::Model;
 
@@ -129,3 +129,12 @@ impl<T: PartialEq> PartialEq for ListOf<T> {
 impl<T: Eq> Eq for ListOf<T> {
     ghost laws = { lists_equiv T.Eq.laws };
 }
+
+/// Ids of jobs or of tables.
+pub type JobList = ListOf<Ulid>;
+
+/// Jobs, each with the number of the rule that it failed.
+pub type RuleList = ListOf<(Ulid, u8)>;
+
+/// Places of a scheduler's proposals, counted from 1, each with the number of the rule that it failed.
+pub type PlaceList = ListOf<(u64, u8)>;

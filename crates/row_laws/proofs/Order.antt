@@ -1,6 +1,6 @@
 -- What a job makes of ordered rows is in order.
 use Rattle.std.proofs.Common.{◌≡◌, refl, sym, ap, subst, ℕ, List, [], ◌∷◌, ◌++◌, map, cond, Bool, true, false, ℤ, Option, Some, None}
-use Rattle.std.specs.Prelude.{if◌then◌else◌, nat_le, ⊤}
+use Rattle.std.specs.Prelude.{if◌then◌else◌, nat_le, flat_map, ⊤}
 use Rattle.std.specs.List.{AllByRecursion}
 use Rattle.std.specs.List.Sorted.{IsStrictlySortedBy}
 use Rattle.std.specs.declared.cmp.Ordering.{Ordering}
@@ -156,6 +156,17 @@ ordered_of_rise : (a : Option Cursor) (rows : List Row) → Rise a rows → IsSt
 unfolding IsStrictlySortedBy
 ordered_of_rise a [] h = tt
 ordered_of_rise a (r ∷ rows) h = (all_after (Some (place r)) rows h.1, ordered_of_rise (Some (place r)) rows h.1)
+
+rise_kept_keys : (settings : Settings) (gs : List (Chunk Row)) (a : Option Cursor) → Rise a (flat gs) → Rise a (flat_map (λ g. kept_rows settings (elements g)) gs)
+rise_kept_keys settings [] a h = tt
+rise_kept_keys settings (g ∷ gs) a h =
+    rise_other_end a (kept_rows settings (elements g)) (flat gs) (flat_map (λ g. kept_rows settings (elements g)) gs) (rise_kept_keys settings gs) (rise_kept settings a (elements g) (flat gs) h)
+
+-- what is kept of ordered rows, key after key, is in order
+pub kept_keys_order : (settings : Settings) (rows : List Row) → IsStrictlyOrdered rows → IsStrictlyOrdered (flat_map (λ g. kept_rows settings (elements g)) (chunk_by same_key rows))
+kept_keys_order settings rows ordered =
+    ordered_of_rise None (flat_map (λ g. kept_rows settings (elements g)) (chunk_by same_key rows)) (rise_kept_keys settings (chunk_by same_key rows) None
+    (subst (Rise None) (sym (flat-chunk_by same_key rows)) (rise_of_ordered None rows (all_after_nothing rows) ordered)))
 
 pub jobs_keep_order : (merge : Operator) → JobsKeepOrder merge
 jobs_keep_order merge settings rows ordered =

@@ -1,0 +1,6 @@
+-- The settings as the program holds them, seen as the model's.
+use Rattle.row_model.specs.Settings as model
+use Rattle.fleet_rows.specs.declared.settings.Settings.{Settings}
+
+abbrev pub settings_of : Settings → model.Settings
+settings_of s = record { floor = s.floor; tick = s.tick; last_run = s.last_run }
