@@ -1,0 +1,64 @@
+-- Ranges of byte strings: the model's range of one, and the keys with a prefix.
+use Rattle.std.specs.Prelude.{ℕ, ◌+◌, ◌<◌, Bool, true, false, List, [], ◌∷◌, ◌++◌, Option, Some, None, All, nat_lt, bytes_eq, if◌then◌else◌}
+use Rattle.std.specs.declared.ops.Bound.{Bound}
+use Rattle.std.specs.declared.ops.Bound.TheVariants.{Included, Excluded, Unbounded}
+use Rattle.row_model.specs.Ranges.{Range}
+use Rattle.row_model.specs.Ranges as model
+use Rattle.fleet_range.specs.Ranges.{Ends}
+
+abbrev pub model_bound : Bound (List ℕ) → model.Bound
+model_bound Unbounded = model.Unbounded
+model_bound (Included key) = model.Included key
+model_bound (Excluded key) = model.Excluded key
+
+-- the model's range of what a `BytesRange` shows
+abbrev pub range_of : Ends (List ℕ) → Range
+range_of ends = record { from = model_bound ends.0; to = model_bound ends.1 }
+
+abbrev pub IsBytes : List ℕ → Type 0
+IsBytes key = All (λ b. b < 256) key
+
+abbrev pub raised : ℕ → Option (List ℕ) → Option (List ℕ)
+raised b (Some rest) = Some (b ∷ rest)
+raised b None = if nat_lt b 255 then Some ((b + 1) ∷ []) else None
+
+-- the last byte below ff raised by one, and what follows cut; None where all bytes are ff
+abbrev pub successor : List ℕ → Option (List ℕ)
+successor [] = None
+successor (b ∷ prefix) = raised b (successor prefix)
+
+abbrev pub end_before : Option (List ℕ) → Bound (List ℕ)
+end_before None = Unbounded
+end_before (Some key) = Excluded key
+
+abbrev pub prefix_start : List ℕ → Bound (List ℕ)
+prefix_start [] = Unbounded
+prefix_start (b ∷ prefix) = Included (b ∷ prefix)
+
+abbrev pub prefix_ends : List ℕ → Ends (List ℕ)
+prefix_ends prefix = (prefix_start prefix, end_before (successor prefix))
+
+-- a bound on what follows the prefix, as a bound on the whole key; this side of the prefix's range where there is none
+abbrev pub placed : List ℕ → Bound (List ℕ) → Bound (List ℕ) → Bound (List ℕ)
+placed prefix whole Unbounded = whole
+placed prefix whole (Included suffix) = Included (prefix ++ suffix)
+placed prefix whole (Excluded suffix) = Excluded (prefix ++ suffix)
+
+abbrev pub placed_ends : List ℕ → Ends (List ℕ) → Ends (List ℕ)
+placed_ends prefix ends = (placed prefix (prefix_start prefix) ends.0, placed prefix (end_before (successor prefix)) ends.1)
+
+abbrev pub is_excluded : {K : Type 0} → Bound K → Bool
+is_excluded (Excluded key) = true
+is_excluded (Included key) = false
+is_excluded Unbounded = false
+
+abbrev pub point_between : Bound (List ℕ) → Bound (List ℕ) → Option (List ℕ)
+point_between (Included x) (Included y) = if bytes_eq x y then Some x else None
+point_between (Included x) (Excluded y) = None
+point_between (Included x) Unbounded = None
+point_between (Excluded x) end = None
+point_between Unbounded end = None
+
+-- the one key of a range whose bounds are both Included at it
+abbrev pub point_of : Ends (List ℕ) → Option (List ℕ)
+point_of ends = point_between ends.0 ends.1

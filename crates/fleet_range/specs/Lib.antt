@@ -1,0 +1,4 @@
+pub mod Sides
+pub mod Ranges
+pub mod Shown
+pub mod Keys
