@@ -1,0 +1,120 @@
+-- A key's rows from the newest on, and at the old end.
+use Rattle.std.proofs.Common.{◌≡◌, ◌∙◌, sym, refl, ap, ℕ, ℤ, List, [], ◌∷◌, ◌++◌, Bool, true, false, not, cond, ◌&&◌, Option, Some, None, length, ◌-◌, suc, arith, append-nil}
+use Rattle.std.specs.Prelude.{slice_get, nat_le, reverse, if◌then◌else◌}
+use Rattle.std.specs.Option.{option_to_list}
+use Rattle.std.proofs.lemmas.List.{map-append, append_assoc, reverse-append}
+use Rattle.row_model.specs.Rows.{Row, Tombstone, is_operand, is_tombstone, is_expired}
+use Rattle.row_model.specs.KeptRows.{retention_walk, as_tombstone_if_expired, without_old_tombstones, before_old_tombstones}
+use Rattle.fleet_rows.specs.Row.{row_of, rows_of}
+use Rattle.fleet_rows.specs.declared.row.RowEntry.{RowEntry}
+use Rattle.fleet_fold.specs.Retention.{is_dropped, ends_walk}
+
+-- ---- one row of the walk
+
+pub walk-dropped : (floor : ℕ) (tick : ℤ) (r : Row) (rows : List Row) → is_dropped tick r ≡ true → retention_walk floor tick (r ∷ rows) ≡ retention_walk floor tick rows
+walk-dropped floor tick r rows h = by (is_operand r) (is_expired r tick) h
+  where
+    by : (operand expired : Bool) → operand && expired ≡ true
+        → cond operand (cond expired (retention_walk floor tick rows) (r ∷ retention_walk floor tick rows)) (cond (nat_le r.seq floor) (as_tombstone_if_expired tick r ∷ []) (as_tombstone_if_expired tick r ∷ retention_walk floor tick rows)) ≡ retention_walk floor tick rows
+    by true true h = refl
+    by true false h = absurd (cc h)
+    by false expired h = absurd (cc h)
+
+pub walk-kept : (floor : ℕ) (tick : ℤ) (r : Row) (rows : List Row) → is_dropped tick r ≡ false
+    → retention_walk floor tick (r ∷ rows) ≡ as_tombstone_if_expired tick r ∷ (if ends_walk floor r then [] else retention_walk floor tick rows)
+walk-kept floor tick r rows h = by (is_operand r) (is_expired r tick) refl (nat_le r.seq floor) h
+  where
+    by : (operand expired : Bool) → is_expired r tick ≡ expired → (low : Bool) → operand && expired ≡ false
+        → cond operand (cond expired (retention_walk floor tick rows) (r ∷ retention_walk floor tick rows)) (cond low (as_tombstone_if_expired tick r ∷ []) (as_tombstone_if_expired tick r ∷ retention_walk floor tick rows))
+        ≡ as_tombstone_if_expired tick r ∷ cond (not operand && low) [] (retention_walk floor tick rows)
+    by true true e low h = absurd (cc h)
+    by true false e low h = ap (λ b. cond b (record r { content = Tombstone; expires = None }) r ∷ retention_walk floor tick rows) (sym e)
+    by false expired e true h = refl
+    by false expired e false h = refl
+
+-- a row taken from the end of rows that are turned round
+pub turned : (xs ys : List RowEntry) (o : Option RowEntry) (row : RowEntry) → xs ≡ ys ++ option_to_list o → o ≡ Some row → rows_of (reverse xs) ≡ row_of row ∷ rows_of (reverse ys)
+turned xs ys o row f e =
+    ap (λ (w : List RowEntry). rows_of (reverse w)) (f ∙ ap (λ (z : Option RowEntry). ys ++ option_to_list z) e) ∙ ap (λ (w : List RowEntry). rows_of w) (reverse-append ys (row ∷ []))
+
+module _ (floor : ℕ) (tick : ℤ) where
+  -- an expired operand is passed over
+  pub passed_over : (kept xs ys : List RowEntry) (o : Option RowEntry) (row : RowEntry) (whole : List Row) → is_dropped tick (row_of row) ≡ true → xs ≡ ys ++ option_to_list o → o ≡ Some row
+      → rows_of kept ++ retention_walk floor tick (rows_of (reverse xs)) ≡ whole → rows_of kept ++ retention_walk floor tick (rows_of (reverse ys)) ≡ whole
+  passed_over kept xs ys o row whole drops f e so_far =
+      ap (λ (w : List Row). rows_of kept ++ w) (sym (ap (retention_walk floor tick) (turned xs ys o row f e) ∙ walk-dropped floor tick (row_of row) (rows_of (reverse ys)) drops)) ∙ so_far
+
+  -- a kept row stands behind those before it
+  pub more_kept : (kept all xs ys : List RowEntry) (o : Option RowEntry) (row given : RowEntry) (whole : List Row) (b : Bool) → is_dropped tick (row_of row) ≡ false
+      → row_of given ≡ as_tombstone_if_expired tick (row_of row) → all ≡ kept ++ given ∷ [] → xs ≡ ys ++ option_to_list o → o ≡ Some row → ends_walk floor (row_of row) ≡ b
+      → rows_of kept ++ retention_walk floor tick (rows_of (reverse xs)) ≡ whole
+      → rows_of all ++ (if b then [] else retention_walk floor tick (rows_of (reverse ys))) ≡ whole
+  more_kept kept all xs ys o row given whole b stays same is f e ends so_far =
+      let tail : List Row = (if b then [] else retention_walk floor tick (rows_of (reverse ys))) in
+      ap (λ (w : List RowEntry). rows_of w ++ tail) is
+      ∙ (ap (λ (w : List Row). w ++ tail) (map-append row_of kept (given ∷ []))
+      ∙ (append_assoc (rows_of kept) (row_of given ∷ []) tail
+      ∙ (ap (λ (r : Row). rows_of kept ++ r ∷ tail) same
+      ∙ (ap (λ (z : Bool). rows_of kept ++ as_tombstone_if_expired tick (row_of row) ∷ (if z then [] else retention_walk floor tick (rows_of (reverse ys)))) (sym ends)
+      ∙ (ap (λ (w : List Row). rows_of kept ++ w) (sym (ap (retention_walk floor tick) (turned xs ys o row f e) ∙ walk-kept floor tick (row_of row) (rows_of (reverse ys)) stays)) ∙ so_far)))))
+
+-- ---- the old end
+
+-- a row that is no tombstone ends what is left
+strip-whole : (xs : List Row) (x : Row) → is_tombstone x.content ≡ false → without_old_tombstones (xs ++ x ∷ []) ≡ xs ++ x ∷ []
+strip-whole [] x h = rw h refl
+strip-whole (y ∷ ys) x h = ap (before_old_tombstones y) (strip-whole ys x h) ∙ long ys y where
+  long : (zs : List Row) (y : Row) → before_old_tombstones y (zs ++ x ∷ []) ≡ y ∷ (zs ++ x ∷ [])
+  long [] y = refl
+  long (z ∷ zs) y = refl
+
+-- a tombstone at the old end goes
+strip-one : (xs : List Row) (x : Row) → is_tombstone x.content ≡ true → without_old_tombstones (xs ++ x ∷ []) ≡ without_old_tombstones xs
+strip-one [] x h = rw h refl
+strip-one (y ∷ ys) x h = ap (before_old_tombstones y) (strip-one ys x h)
+
+-- a list with a last row is a front and that row
+last_splits : (xs : List RowEntry) (x : RowEntry) → slice_get xs (length xs - 1) ≡ Some x → (front : List RowEntry) × (xs ≡ front ++ x ∷ [])
+last_splits [] x h = absurd (cc)
+last_splits (y ∷ []) x h = let e : y ≡ x = cc in ([], ap (λ (z : RowEntry). z ∷ []) e)
+last_splits (y ∷ (z ∷ zs)) x h =
+    let m : length (y ∷ (z ∷ zs)) - 1 ≡ suc (length (z ∷ zs) - 1) = omega arith in
+    let k : slice_get (z ∷ zs) (length (z ∷ zs) - 1) ≡ Some x = rw m at h in
+    let r = last_splits (z ∷ zs) x k in
+    (y ∷ r.0, ap (λ (w : List RowEntry). y ∷ w) r.1)
+
+-- a list ends in one way
+same_front : (cs ds : List RowEntry) (a b : RowEntry) → cs ++ a ∷ [] ≡ ds ++ b ∷ [] → cs ≡ ds
+same_front [] [] a b h = refl
+same_front [] (c ∷ cs) a b h = absurd (longer cs (cc))
+  where
+    longer : (cs : List RowEntry) → [] ≡ cs ++ b ∷ [] → ⊥
+    longer [] h = cc
+    longer (c ∷ cs) h = cc
+same_front (d ∷ ds) [] a b h = absurd (longer ds (cc))
+  where
+    longer : (ds : List RowEntry) → ds ++ a ∷ [] ≡ [] → ⊥
+    longer [] h = cc
+    longer (c ∷ cs) h = cc
+same_front (d ∷ ds) (c ∷ cs) a b h =
+    let p : d ≡ c = cc in
+    let q : ds ++ a ∷ [] ≡ cs ++ b ∷ [] = cc in
+    ap (λ (w : List RowEntry). d ∷ w) (same_front ds cs a b q) ∙ ap (λ (z : RowEntry). z ∷ cs) p
+
+rows-snoc : (front : List RowEntry) (x : RowEntry) → rows_of (front ++ x ∷ []) ≡ rows_of front ++ row_of x ∷ []
+rows-snoc front x = map-append row_of front (x ∷ [])
+
+pub strip_goes : (xs ys : List RowEntry) (x : RowEntry) (o : Option RowEntry) → slice_get xs (length xs - 1) ≡ Some x → xs ≡ ys ++ option_to_list o → is_tombstone (row_of x).content ≡ true
+    → without_old_tombstones (rows_of ys) ≡ without_old_tombstones (rows_of xs)
+strip_goes xs ys x None h f t = ap (λ (w : List RowEntry). without_old_tombstones (rows_of w)) (sym (append-nil ys) ∙ sym f)
+strip_goes xs ys x (Some r) h f t =
+    let s = last_splits xs x h in
+    let same : ys ≡ s.0 = same_front ys s.0 r x (sym f ∙ s.1) in
+    ap (λ (w : List RowEntry). without_old_tombstones (rows_of w)) same
+    ∙ (sym (ap without_old_tombstones (rows-snoc s.0 x) ∙ strip-one (rows_of s.0) (row_of x) t) ∙ ap (λ (w : List RowEntry). without_old_tombstones (rows_of w)) (sym s.1))
+
+pub strip_stays : (xs : List RowEntry) (x : RowEntry) → slice_get xs (length xs - 1) ≡ Some x → is_tombstone (row_of x).content ≡ false → rows_of xs ≡ without_old_tombstones (rows_of xs)
+strip_stays xs x h t =
+    let s = last_splits xs x h in
+    let e : rows_of xs ≡ rows_of s.0 ++ row_of x ∷ [] = ap (λ (w : List RowEntry). rows_of w) s.1 ∙ rows-snoc s.0 x in
+    e ∙ (sym (strip-whole (rows_of s.0) (row_of x) t) ∙ ap without_old_tombstones (sym e))

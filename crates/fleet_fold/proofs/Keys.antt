@@ -1,0 +1,188 @@
+-- Rows key after key: the first key's, and what a seek leaves.
+use Rattle.std.proofs.Common.{◌≡◌, ◌∙◌, sym, refl, ap, ℕ, ℤ, List, [], ◌∷◌, ◌++◌, Bool, true, false, cond, Option, None}
+use Rattle.std.specs.Prelude.{flat_map, if◌then◌else◌, bytes_eq}
+use Rattle.std.specs.List.{AllByRecursion}
+use Rattle.std.specs.Ordering.{is_lt, is_gt}
+use Rattle.std.proofs.lemmas.Slice.Eq.{bytes_eq-Decides}
+use Rattle.row_model.specs.Chunks.{Chunk, elements, chunk_by}
+use Rattle.row_model.specs.Rows.{Row, Tombstone, same_key, key_cmp, is_expired}
+use Rattle.row_model.specs.Settings.{Settings}
+use Rattle.row_model.specs.KeptRows.{kept_rows, as_tombstone_if_expired}
+use Rattle.row_laws.specs.Walks.{IsJoined, EndsLoose}
+use Rattle.row_laws.specs.Keys.{is_below}
+use Rattle.row_laws.proofs.Walks.{chunk_is_walked}
+use Rattle.row_laws.proofs.ApartRows.{false_or, lt_is, chunk_by-append}
+use Rattle.std.specs.declared.cmp.Ordering.{Ordering}
+use Rattle.std.specs.declared.cmp.Ordering.TheVariants.{Less, Equal, Greater}
+use Rattle.std.proofs.lemmas.Cmp.{nat_list_cmp_total}
+use Rattle.std.proofs.lemmas.Grind.{flat_map-append}
+use Rattle.fleet_iter.specs.Iteration.{IteratorState, AreRising, from_key}
+use Rattle.fleet_rows.specs.Row.{rows_of}
+use Rattle.fleet_rows.specs.declared.row.RowEntry.{RowEntry}
+use Rattle.fleet_fold.specs.Retention.{kept_of_keys, HaveOneKey, AreEndedBy, from_ahead, ReadsKey}
+use Rattle.fleet_fold.proofs.AllKept.{all_kept}
+
+same : (a b : Row) → same_key a b ≡ true → a.key ≡ b.key
+same a b h = (bytes_eq-Decides a.key b.key).0 h
+
+-- rows of one key's first row join each other
+joined : (r x : Row) (rows : List Row) → same_key r x ≡ true → AllByRecursion (λ q. same_key r q ≡ true) rows → IsJoined same_key x rows
+joined r x [] h all = tt
+joined r x (y ∷ rows) h all = ((bytes_eq-Decides x.key y.key).1 (sym (same r x h) ∙ same r y all.0), joined r y rows all.0 all.1)
+
+loose : (r x : Row) (rows later : List Row) → same_key r x ≡ true → AllByRecursion (λ q. same_key r q ≡ true) rows → AreEndedBy (r ∷ rows) later → EndsLoose same_key x rows later
+loose r x [] [] h all ended = tt
+loose r x [] (q ∷ later) h all ended = ap (λ k. bytes_eq k q.key) (sym (same r x h)) ∙ ended
+loose r x (y ∷ rows) [] h all ended = loose r y rows [] all.0 all.1 tt
+loose r x (y ∷ rows) (q ∷ later) h all ended = loose r y rows (q ∷ later) all.0 all.1 ended
+
+none_kept : (settings : Settings) → kept_rows settings [] ≡ []
+none_kept settings = by settings.last_run
+  where
+    by : (last : Bool) → cond {A = List Row} last [] [] ≡ []
+    by true = refl
+    by false = refl
+
+-- the first key's rows, and then the others
+pub first_key : (settings : Settings) (rows later : List Row) → HaveOneKey rows → AreEndedBy rows later → kept_of_keys settings (rows ++ later) ≡ kept_rows settings rows ++ kept_of_keys settings later
+first_key settings [] later alike ended =
+    ap (λ (w : List Row). w ++ kept_of_keys settings later) (sym (none_kept settings))
+first_key settings (r ∷ rows) later alike ended =
+    let own : same_key r r ≡ true = (bytes_eq-Decides r.key r.key).1 refl in
+    ap (λ (gs : List (Chunk Row)). flat_map (λ g. kept_rows settings (elements g)) gs) (chunk_is_walked Row same_key r rows later (joined r r rows own alike) (loose r r rows later own alike ended))
+
+pub all_back : (P : Row → Type 0) (xs ys : List Row) → AllByRecursion P (xs ++ ys) → AllByRecursion P ys
+all_back P [] ys h = h
+all_back P (x ∷ xs) ys h = all_back P xs ys h.1
+
+-- what stands behind rising rows rises
+pub rising_back : (xs ys : List Row) → AreRising (xs ++ ys) → AreRising ys
+rising_back [] ys h = h
+rising_back (x ∷ xs) ys h = rising_back xs ys h.1
+
+-- a key is read and kept
+pub key_kept : (settings : Settings) (ahead later : Option RowEntry) (old new : IteratorState) (rows kept turned : List RowEntry) → ReadsKey ahead old rows later new
+    → rows_of kept ≡ kept_rows settings (rows_of rows) → turned ≡ kept
+    → kept_of_keys settings (from_ahead ahead old) ≡ rows_of turned ++ kept_of_keys settings (from_ahead later new)
+key_kept settings ahead later old new rows kept turned h is back =
+    ap (kept_of_keys settings) h.parts
+    ∙ (first_key settings (rows_of rows) (from_ahead later new) h.alike h.ended
+    ∙ ap (λ (w : List Row). w ++ kept_of_keys settings (from_ahead later new)) (sym is ∙ ap (λ (w : List RowEntry). rows_of w) (sym back)))
+
+-- ---- what a seek leaves
+
+module _ (key : List ℕ) where
+  -- the rows that a seek drops
+  abbrev low : List Row → List Row
+  low [] = []
+  low (r ∷ rows) = if is_below key r then r ∷ low rows else []
+
+  abbrev AllAre : Bool → List Row → Type 0
+  AllAre b rows = AllByRecursion (λ r. is_below key r ≡ b) rows
+
+  low_and_rest : (rows : List Row) → low rows ++ from_key key rows ≡ rows
+  low_and_rest [] = refl
+  low_and_rest (r ∷ rows) = by (is_below key r) (low_and_rest rows)
+    where
+      by : (b : Bool) → low rows ++ from_key key rows ≡ rows → (if b then r ∷ low rows else []) ++ (if b then from_key key rows else r ∷ rows) ≡ r ∷ rows
+      by true rest = ap (λ (w : List Row). r ∷ w) rest
+      by false rest = refl
+
+  low_are_below : (rows : List Row) → AllAre true (low rows)
+  low_are_below [] = tt
+  low_are_below (r ∷ rows) = by (is_below key r) refl (low_are_below rows)
+    where
+      by : (b : Bool) → is_below key r ≡ b → AllAre true (low rows) → AllAre true (if b then r ∷ low rows else [])
+      by true e rest = (e, rest)
+      by false e rest = tt
+
+  -- a row that is not before a row at or above the key is there too
+  at_or_above : (r q : Row) → is_below key r ≡ false → is_gt (key_cmp r.key q.key) ≡ false → is_below key q ≡ false
+  at_or_above r q high not_after = false_or (is_below key q) (λ low. by (lt_is (key_cmp q.key key) low) (key_cmp r.key q.key) refl not_after)
+    where
+      by : key_cmp q.key key ≡ Less → (o : Ordering) → key_cmp r.key q.key ≡ o → is_gt o ≡ false → ⊥
+      by low Less e h = let below : is_below key r ≡ true = ap is_lt (nat_list_cmp_total.trans r.key q.key key e low) in let clash : true ≡ false = sym below ∙ high in cc clash
+      by low Equal e h = let below : is_below key r ≡ true = ap is_lt (nat_list_cmp_total.congr r.key q.key key e ∙ low) in let clash : true ≡ false = sym below ∙ high in cc clash
+      by low Greater e h = cc h
+
+  all_above : (r : Row) (rows : List Row) → is_below key r ≡ false → AllByRecursion (λ q. is_gt (key_cmp r.key q.key) ≡ false) rows → AllAre false rows
+  all_above r [] high rising = tt
+  all_above r (q ∷ rows) high rising = (at_or_above r q high rising.0, all_above r rows high rising.1)
+
+  rest_is_above : (rows : List Row) → AreRising rows → AllAre false (from_key key rows)
+  rest_is_above [] rising = tt
+  rest_is_above (r ∷ rows) rising = by (is_below key r) refl (rest_is_above rows rising.1)
+    where
+      by : (b : Bool) → is_below key r ≡ b → AllAre false (from_key key rows) → AllAre false (if b then from_key key rows else r ∷ rows)
+      by true e rest = rest
+      by false e rest = (e, all_above r rows e rising.0)
+
+  -- a row that is below the key has another key than one that is not
+  other_key : (r q : Row) → is_below key r ≡ true → is_below key q ≡ false → same_key r q ≡ false
+  other_key r q low high = false_or (same_key r q) (λ alike. let clash : true ≡ false = sym low ∙ (ap (λ k. is_lt (key_cmp k key)) (same r q alike) ∙ high) in cc clash)
+
+  others : (r : Row) (rows : List Row) → is_below key r ≡ true → AllAre false rows → AllByRecursion (λ q. same_key r q ≡ false) rows
+  others r [] low high = tt
+  others r (q ∷ rows) low high = (other_key r q low high.0, others r rows low high.1)
+
+  all_others : (xs ys : List Row) → AllAre true xs → AllAre false ys → AllByRecursion (λ x. AllByRecursion (λ y. same_key x y ≡ false) ys) xs
+  all_others [] ys low high = tt
+  all_others (x ∷ xs) ys low high = (others x ys low.0 high, all_others xs ys low.1 high)
+
+  -- kept rows stand where their key's rows stand
+  below_stays : (b : Bool) (tick : ℤ) (r : Row) → is_below key r ≡ b → is_below key (as_tombstone_if_expired tick r) ≡ b
+  below_stays b tick r h = by (is_expired r tick)
+    where
+      by : (expired : Bool) → is_below key (if expired then record r { content = Tombstone; expires = None } else r) ≡ b
+      by true = h
+      by false = h
+
+  dropped : (xs ys : List Row) → AllAre true xs → from_key key (xs ++ ys) ≡ from_key key ys
+  dropped [] ys h = refl
+  dropped (x ∷ xs) ys h = ap (λ c. if c then from_key key (xs ++ ys) else x ∷ (xs ++ ys)) h.0 ∙ dropped xs ys h.1
+
+  stays : (ys : List Row) → AllAre false ys → from_key key ys ≡ ys
+  stays [] h = refl
+  stays (y ∷ ys) h = ap (λ c. if c then from_key key ys else y ∷ ys) h.0
+
+  keys-append : (settings : Settings) (xs ys : List Row) → AllAre true xs → AllAre false ys → kept_of_keys settings (xs ++ ys) ≡ kept_of_keys settings xs ++ kept_of_keys settings ys
+  keys-append settings xs ys low high =
+      let f = λ (g : Chunk Row). kept_rows settings (elements g) in
+      ap (flat_map f) (chunk_by-append same_key xs ys (all_others xs ys low high)) ∙ flat_map-append f (chunk_by same_key xs) (chunk_by same_key ys)
+
+  -- of rising rows the kept ones may be sought, or those below
+  pub sought : (settings : Settings) (rows : List Row) → AreRising rows → from_key key (kept_of_keys settings rows) ≡ kept_of_keys settings (from_key key rows)
+  sought settings rows rising =
+      let xs = low rows in
+      let ys = from_key key rows in
+      let below = low_are_below rows in
+      let above = rest_is_above rows rising in
+      ap (λ (w : List Row). from_key key (kept_of_keys settings w)) (sym (low_and_rest rows))
+      ∙ (ap (from_key key) (keys-append settings xs ys below above)
+      ∙ (dropped (kept_of_keys settings xs) (kept_of_keys settings ys) (all_kept (λ r. is_below key r ≡ true) (λ tick r h. below_stays true tick r h) settings xs below) ∙ stays (kept_of_keys settings ys) (all_kept (λ r. is_below key r ≡ false) (λ tick r h. below_stays false tick r h) settings ys above)))
+
+  -- a seek in the first of two lists, where it drops all of that and where it does not
+  pub seek-through : (xs ys : List Row) → from_key key xs ≡ [] → from_key key (xs ++ ys) ≡ from_key key ys
+  seek-through [] ys h = refl
+  seek-through (x ∷ xs) ys h = by (is_below key x) h (seek-through xs ys)
+    where
+      by : (c : Bool) → (if c then from_key key xs else x ∷ xs) ≡ [] → (from_key key xs ≡ [] → from_key key (xs ++ ys) ≡ from_key key ys) → (if c then from_key key (xs ++ ys) else x ∷ (xs ++ ys)) ≡ from_key key ys
+      by true e rest = rest e
+      by false e rest = absurd (cc e)
+
+  pub seek-within : (xs ys : List Row) → (from_key key xs ≡ [] → ⊥) → from_key key (xs ++ ys) ≡ from_key key xs ++ ys
+  seek-within [] ys h = absurd (h refl)
+  seek-within (x ∷ xs) ys h = by (is_below key x) h (seek-within xs ys)
+    where
+      by : (c : Bool) → ((if c then from_key key xs else x ∷ xs) ≡ [] → ⊥) → ((from_key key xs ≡ [] → ⊥) → from_key key (xs ++ ys) ≡ from_key key xs ++ ys)
+          → (if c then from_key key (xs ++ ys) else x ∷ (xs ++ ys)) ≡ (if c then from_key key xs else x ∷ xs) ++ ys
+      by true e rest = rest e
+      by false e rest = refl
+
+  pub rising_rest : (rows : List Row) → AreRising rows → AreRising (from_key key rows)
+  rising_rest [] rising = tt
+  rising_rest (r ∷ rows) rising = by (is_below key r) (rising_rest rows rising.1)
+    where
+      by : (c : Bool) → AreRising (from_key key rows) → AreRising (if c then from_key key rows else r ∷ rows)
+      by true rest = rest
+      by false rest = rising

@@ -1,0 +1,80 @@
+-- What retention gives of rows that stand key after key.
+use Rattle.std.specs.Prelude.{◌≡◌, ℕ, ℤ, nat_le, not, ◌&&◌, Bool, true, false, List, [], ◌∷◌, ◌++◌, flat_map, Option, None, ⊤}
+use Rattle.std.specs.List.{AllByRecursion}
+use Rattle.std.specs.Option.{option_to_list}
+use Rattle.row_model.specs.Chunks.{elements, chunk_by}
+use Rattle.row_model.specs.KeptRows.{kept_rows}
+use Rattle.row_model.specs.Rows.{Row, same_key, is_operand, is_expired}
+use Rattle.row_model.specs.Settings.{Settings}
+use Rattle.fleet_iter.specs.Iteration.{IteratorState, AreRising}
+use Rattle.fleet_rows.specs.Row.{rows_of}
+use Rattle.fleet_rows.specs.declared.row.RowEntry.{RowEntry}
+
+-- the kept rows of each key in turn
+abbrev pub kept_of_keys : Settings → List Row → List Row
+kept_of_keys settings rows = flat_map (λ g. kept_rows settings (elements g)) (chunk_by same_key rows)
+
+-- the walk drops a row, and the walk ends with one
+abbrev pub is_dropped : ℤ → Row → Bool
+is_dropped tick r = is_operand r && is_expired r tick
+
+abbrev pub ends_walk : ℕ → Row → Bool
+ends_walk floor r = not (is_operand r) && nat_le r.seq floor
+
+-- the rows have one key
+abbrev pub HaveOneKey : List Row → Type 0
+HaveOneKey [] = ⊤
+HaveOneKey (r ∷ rows) = AllByRecursion (λ q. same_key r q ≡ true) rows
+
+-- what is behind them begins with another key; behind none there is nothing
+abbrev pub AreEndedBy : List Row → List Row → Type 0
+AreEndedBy [] later = later ≡ []
+AreEndedBy (r ∷ rows) [] = ⊤
+AreEndedBy (r ∷ rows) (q ∷ later) = same_key r q ≡ false
+
+-- a row that was read ahead, and those of the inner iterator
+abbrev pub from_ahead : Option RowEntry → IteratorState → List Row
+from_ahead ahead inner = rows_of (option_to_list ahead) ++ inner.rows
+
+-- what an inner iterator stays while rows are read of it
+abbrev pub IsReadable : IteratorState → Type 0
+IsReadable inner = (inner.failed ≡ false) × (inner.initialised ≡ true)
+
+-- whether a row has the key of those before it
+abbrev pub joins : List Row → Row → Bool
+joins [] q = true
+joins (r ∷ rows) q = same_key r q
+
+-- the rows of the next key are read
+pub record ReadsKey (ahead : Option RowEntry) (old : IteratorState) (rows : List RowEntry) (later : Option RowEntry) (new : IteratorState) : Type 0 where
+  pub parts : from_ahead ahead old ≡ rows_of rows ++ from_ahead later new
+  pub alike : HaveOneKey (rows_of rows)
+  pub ended : AreEndedBy (rows_of rows) (from_ahead later new)
+  pub readable : IsReadable new
+  pub whole : new.whole ≡ old.whole
+  pub all : rows ≡ [] → new.whole ≡ true
+
+-- kept rows come into an empty buffer, unless nothing is left
+pub record Fills (settings : Settings) (buffer : List RowEntry) (ahead : Option RowEntry) (old : IteratorState) (filled : List RowEntry) (later : Option RowEntry) (new : IteratorState) : Type 0 where
+  pub rows : rows_of buffer ++ kept_of_keys settings (from_ahead ahead old) ≡ rows_of filled ++ kept_of_keys settings (from_ahead later new)
+  pub readable : IsReadable new
+  pub whole : new.whole ≡ old.whole
+  pub ends : filled ≡ [] → from_ahead later new ≡ []
+  pub all : filled ≡ [] → new.whole ≡ true
+  pub rising : AreRising (from_ahead ahead old) → AreRising (from_ahead later new)
+
+-- the rows that retention has left: those that are kept already, and what it will keep of the others
+abbrev pub retained : Bool → Settings → List RowEntry → Option RowEntry → IteratorState → IteratorState
+retained failed settings buffer ahead inner =
+    record { rows = rows_of buffer ++ kept_of_keys settings (from_ahead ahead inner); initialised = inner.initialised; failed = failed; whole = inner.whole }
+
+-- what retention knows of its inner iterator, until it fails
+pub record ReadsOn (buffer : List RowEntry) (ahead : Option RowEntry) (inner : IteratorState) : Type 0 where
+  pub alive : inner.failed ≡ false
+  pub begun : (buffer ≡ [] → ⊥) → inner.initialised ≡ true
+  pub ahead_begun : (ahead ≡ None → ⊥) → inner.initialised ≡ true
+  pub rising : AreRising (from_ahead ahead inner)
+
+abbrev pub Knows : Bool → List RowEntry → Option RowEntry → IteratorState → Type 0
+Knows true buffer ahead inner = ⊤
+Knows false buffer ahead inner = ReadsOn buffer ahead inner

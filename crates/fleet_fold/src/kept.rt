@@ -1,0 +1,109 @@
+//! What is kept of the rows of a key.
+
+ghost use Rattle.std.specs.Prelude.{◌≡◌, IfOk};
+ghost use Rattle.row_model.specs.Rows.{is_expired, is_operand, is_tombstone};
+ghost use Rattle.row_model.specs.KeptRows.{as_tombstone_if_expired, retention_walk, without_old_tombstones, kept_rows};
+ghost use Rattle.fleet_rows.specs.Row.{row_of, rows_of, content_of};
+ghost use Rattle.fleet_fold.specs.Retention.{is_dropped, ends_walk};
+ghost use Rattle.fleet_rows.specs.Settings.{settings_of};
+
+use fleet_rows::{RowEntry, Settings, ValueDeletable};
+use std::alloc::{AllocError, Global};
+
+fn is_expired(row: &RowEntry, tick: i64) -> bool
+    ensures { result ≡ is_expired (row_of row.now) tick }
+{
+    match row.expire_ts {
+        Some(stamp) => stamp <= tick,
+        None => false,
+    }
+}
+
+fn is_operand(row: &RowEntry) -> bool
+    ensures { result ≡ is_operand (row_of row.now) }
+{
+    match &row.value {
+        ValueDeletable::Merge(_) => true,
+        _ => false,
+    }
+}
+
+// An expired row becomes a tombstone.
+fn as_tombstone_if_expired(row: RowEntry, tick: i64) -> RowEntry
+    ensures { row_of result ≡ as_tombstone_if_expired tick (row_of row) }
+{
+    if is_expired(&row, tick) {
+        RowEntry {
+            key: row.key,
+            value: ValueDeletable::Tombstone,
+            seq: row.seq,
+            create_ts: row.create_ts,
+            expire_ts: None,
+        }
+    } else {
+        row
+    }
+}
+
+// Whether a row is an expired operand.
+fn is_dropped(row: &RowEntry, tick: i64) -> bool
+    ensures { result ≡ is_dropped tick (row_of row.now) }
+{
+    is_operand(row) && is_expired(row, tick)
+}
+
+// Whether a kept row hides all older ones.
+fn ends_walk(row: &RowEntry, floor: u64) -> bool
+    ensures { result ≡ ends_walk floor (row_of row.now) }
+{
+    !is_operand(row) && row.seq <= floor
+}
+
+// From the newest row on, up to the first that hides all older ones.
+fn walked(
+    alloc: Global,
+    settings: Settings,
+    rows: Vec<RowEntry>,
+) -> Result<Vec<RowEntry>, AllocError>
+    ensures { IfOk result (λ kept. rows_of kept.items ≡ retention_walk settings.floor settings.tick (rows_of rows.items)) }
+{
+    let mut rest = rows;
+    rest.reverse();
+    let mut kept = Vec::new(alloc);
+    'rows: while let Some(row) = rest.pop() {
+        if !is_dropped(&row, settings.tick) {
+            let last = ends_walk(&row, settings.floor);
+            kept.push(as_tombstone_if_expired(row, settings.tick))?;
+            if last {
+                return Ok(kept);
+            }
+        }
+    }
+    Ok(kept)
+}
+
+// Removes the tombstones at the old end.
+fn remove_old_tombstones(rows: &mut Vec<RowEntry>)
+    ensures { rows_of rows.new.items ≡ without_old_tombstones (rows_of rows.old.items) }
+{
+    'old: while let Some(row) = rows.last()
+        && row.value.is_tombstone()
+    {
+        rows.pop();
+    }
+}
+
+/// What is kept of the rows of one key, newest first.
+pub(crate) fn kept_rows(
+    alloc: Global,
+    settings: Settings,
+    rows: Vec<RowEntry>,
+) -> Result<Vec<RowEntry>, AllocError>
+    ensures { IfOk result (λ kept. rows_of kept.items ≡ kept_rows (settings_of settings) (rows_of rows.items)) }
+{
+    let mut kept = walked(alloc, settings, rows)?;
+    if settings.last_run {
+        remove_old_tombstones(&mut kept);
+    }
+    Ok(kept)
+}

@@ -1,0 +1,205 @@
+//! Retention, a key at a time.
+
+ghost use Rattle.std.specs.Prelude.{◌≡◌, ◌++◌, reverse, false, [], None, OnOk, IfOk, IfErr};
+ghost use Rattle.std.specs.Option.{option_to_list};
+ghost use Rattle.fleet_iter.specs.Iteration.{IteratorState, CanFail, AreRising, from_key};
+ghost use Rattle.fleet_rows.specs.Row.{row_of, rows_of};
+ghost use Rattle.fleet_rows.specs.Settings.{settings_of};
+ghost use Rattle.fleet_fold.specs.Retention.{kept_of_keys, joins, IsReadable, ReadsKey, Fills};
+ghost use Rattle.fleet_fold.specs.State.{state_of, IsSound};
+
+use crate::kept::kept_rows;
+use fleet_iter::{RowEntryIterator, RowSource};
+use fleet_rows::{RowEntry, Settings, SlateDBError};
+use std::alloc::Global;
+use std::cmp::Ordering;
+
+/// What retention keeps of the rows of an iterator, one key after the other.
+#[derive(Drop)]
+pub struct RetentionIterator<T: RowEntryIterator> {
+    inner: T,
+    settings: Settings,
+    // Kept rows of a key, of which the next stands last.
+    buffer: Vec<RowEntry>,
+    // The first row of the next key.
+    ahead: Option<RowEntry>,
+    failed: bool,
+}
+
+impl<T: RowEntryIterator> RetentionIterator<T> {
+    /// Retention of the rows that `inner` has left.
+    pub fn new(alloc: Global, inner: T, settings: Settings) -> Self
+        requires sound { T.sound inner }
+        requires alive { (T.state inner).failed ≡ false }
+        requires rising { AreRising (T.state inner).rows }
+        ensures rows { state_of T.state result ≡ record (T.state inner) { rows = kept_of_keys (settings_of settings) (T.state inner).rows } }
+        ensures sound { IsSound T.sound T.state result }
+        ensures rising { AreRising (state_of T.state result).rows }
+    {
+        RetentionIterator {
+            inner,
+            settings,
+            buffer: Vec::new(alloc),
+            ahead: None,
+            failed: false,
+        }
+    }
+}
+
+fn has_key(rows: &[RowEntry], row: &RowEntry) -> bool
+    ensures { result ≡ joins (rows_of rows.now) (row_of row.now) }
+{
+    match rows {
+        [] => true,
+        [first, ..] => first.key == row.key,
+    }
+}
+
+// The rows of the next key, none at the end. The row behind them is read too.
+fn read_key<T: RowSource>(
+    alloc: Global,
+    inner: &mut T,
+    ahead: &mut Option<RowEntry>,
+) -> Result<Vec<RowEntry>, SlateDBError>
+    requires sound { T.sound inner.old }
+    requires readable { IsReadable (T.state inner.old) }
+    ensures ok { IfOk result (λ rows. ReadsKey ahead.old (T.state inner.old) rows.items ahead.new (T.state inner.new)) }
+    ensures err { IfErr result (CanFail (T.state inner.old).whole) }
+    ensures sound { T.sound inner.new }
+{
+    let mut rows = Vec::new(alloc);
+    if let Some(row) = ahead.take() {
+        rows.push(row)?;
+    }
+    'rows: while let Some(row) = inner.next_row(alloc)? {
+        if has_key(&rows, &row) {
+            rows.push(row)?;
+        } else {
+            *ahead = Some(row);
+            return Ok(rows);
+        }
+    }
+    Ok(rows)
+}
+
+// Keeps rows, a key after the other, until some are kept or none are left.
+fn fill<T: RowSource>(
+    alloc: Global,
+    settings: Settings,
+    inner: &mut T,
+    buffer: &mut Vec<RowEntry>,
+    ahead: &mut Option<RowEntry>,
+) -> Result<(), SlateDBError>
+    requires sound { T.sound inner.old }
+    requires readable { IsReadable (T.state inner.old) }
+    ensures ok { OnOk result (Fills (settings_of settings) (reverse buffer.old.items) ahead.old (T.state inner.old) (reverse buffer.new.items) ahead.new (T.state inner.new)) }
+    ensures err { IfErr result (CanFail (T.state inner.old).whole) }
+    ensures sound { T.sound inner.new }
+{
+    'keys: while buffer.is_empty() {
+        let rows = read_key(alloc, inner, ahead)?;
+        if rows.is_empty() {
+            return Ok(());
+        }
+        let mut kept = kept_rows(alloc, settings, rows)?;
+        kept.reverse();
+        *buffer = kept;
+    }
+    Ok(())
+}
+
+// Drops the rows below a key, of rows of which the next stands last.
+fn drop_below(buffer: &mut Vec<RowEntry>, key: &[u8])
+    ensures { rows_of (reverse buffer.new.items) ≡ from_key key.now (rows_of (reverse buffer.old.items)) }
+{
+    'below: while let Some(row) = buffer.last()
+        && row.key.as_slice().cmp(key) == Ordering::Less
+    {
+        buffer.pop();
+    }
+}
+
+// Drops a row that is below a key.
+fn drop_if_below(ahead: &mut Option<RowEntry>, key: &[u8])
+    ensures { rows_of (option_to_list ahead.new) ≡ from_key key.now (rows_of (option_to_list ahead.old)) }
+{
+    if let Some(row) = ahead
+        && row.key.as_slice().cmp(key) == Ordering::Less
+    {
+        *ahead = None;
+    }
+}
+
+impl<T: RowEntryIterator> RowEntryIterator for RetentionIterator<T> {
+    ghost state = { state_of T.state };
+
+    ghost sound = { IsSound T.sound T.state };
+
+    fn init(&mut self, alloc: Global) -> Result<(), SlateDBError> {
+        if self.failed {
+            return Err(SlateDBError::IteratorFailed);
+        }
+        match self.inner.init(alloc) {
+            Ok(()) => Ok(()),
+            Err(error) => {
+                self.failed = true;
+                Err(error)
+            }
+        }
+    }
+
+    fn next(&mut self, alloc: Global) -> Result<Option<RowEntry>, SlateDBError> {
+        if self.failed {
+            return Err(SlateDBError::IteratorFailed);
+        }
+        if self.buffer.is_empty() && self.ahead.is_none() {
+            match self.inner.next(alloc) {
+                Ok(None) => return Ok(None),
+                Ok(Some(row)) => self.ahead = Some(row),
+                Err(SlateDBError::IteratorNotInitialized) => {
+                    return Err(SlateDBError::IteratorNotInitialized);
+                }
+                Err(error) => {
+                    self.failed = true;
+                    return Err(error);
+                }
+            }
+        }
+        let settings = self.settings;
+        match fill(
+            alloc,
+            settings,
+            &mut self.inner,
+            &mut self.buffer,
+            &mut self.ahead,
+        ) {
+            Ok(()) => Ok(self.buffer.pop()),
+            Err(error) => {
+                self.failed = true;
+                Err(error)
+            }
+        }
+    }
+
+    fn seek(&mut self, alloc: Global, next_key: &[u8]) -> Result<(), SlateDBError> {
+        if self.failed {
+            return Err(SlateDBError::IteratorFailed);
+        }
+        drop_below(&mut self.buffer, next_key);
+        if !self.buffer.is_empty() {
+            return Ok(());
+        }
+        drop_if_below(&mut self.ahead, next_key);
+        if self.ahead.is_some() {
+            return Ok(());
+        }
+        match self.inner.seek(alloc, next_key) {
+            Ok(()) => Ok(()),
+            Err(SlateDBError::IteratorNotInitialized) => Err(SlateDBError::IteratorNotInitialized),
+            Err(error) => {
+                self.failed = true;
+                Err(error)
+            }
+        }
+    }
+}

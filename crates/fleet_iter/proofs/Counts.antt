@@ -1,0 +1,33 @@
+-- The bytes of the rows that a merge takes.
+use Rattle.std.proofs.Common.{◌≡◌, ◌∙◌, sym, refl, ap, ℕ, ◌+◌, List, [], ◌∷◌, Option, Some, None, true, false, cond}
+use Rattle.row_model.specs.Rows.{Row}
+use Rattle.row_model.specs.Sizes.{saturated}
+use Rattle.fleet_rows.specs.Row.{row_of}
+use Rattle.fleet_rows.specs.declared.row.RowEntry.{RowEntry}
+use Rattle.std.proofs.Math.ListN.{set}
+use Rattle.fleet_iter.specs.Iteration.{IteratorState, behind_first}
+use Rattle.fleet_iter.specs.declared.iterator.IterationOrder.{IterationOrder}
+use Rattle.fleet_iter.specs.Merge.{best, passes, hides, merged, lists, rows_left, merged_left, AllTaken, Drops}
+use Rattle.fleet_iter.specs.Tracked.{row_bytes, first_bytes, counted, kept_back}
+use Rattle.fleet_iter.proofs.Merges.{first_left, none_left, takes_head}
+
+-- a row that is kept back is dropped, and counts
+pub counts_step : (order : IterationOrder) (row : Row) (hs hs' : List (Option RowEntry)) (ss ss' : List IteratorState) (count bytes more : ℕ) → AllTaken hs ss → passes (hides row) (best order hs) ≡ true → Drops order hs ss hs' ss'
+    → bytes ≡ first_bytes (merged_left order hs ss) → more ≡ saturated (count + bytes) → counted more (kept_back row (merged_left order hs' ss')) ≡ counted count (kept_back row (merged_left order hs ss))
+counts_step order row hs hs' ss ss' count bytes more a low d e q =
+    let f = first_left order (hides row) hs ss a low in
+    let later : merged_left order hs' ss' ≡ f.1 = d.rows ∙ ap behind_first f.2 in
+    let kept : kept_back row (merged_left order hs ss) ≡ f.0 ∷ kept_back row f.1 = ap (kept_back row) f.2 ∙ ap (λ b. cond b (f.0 ∷ kept_back row f.1) []) f.3 in
+    let size : bytes ≡ row_bytes f.0 = e ∙ ap first_bytes f.2 in
+    ap (λ (w : List Row). counted more (kept_back row w)) later
+    ∙ (ap (λ (n : ℕ). counted n (kept_back row f.1)) (q ∙ ap (λ (b : ℕ). saturated (count + b)) size) ∙ sym (ap (counted count) kept))
+
+-- where the first row is not kept back, none is
+pub counts_end : (order : IterationOrder) (row : Row) (hs : List (Option RowEntry)) (ss : List IteratorState) → AllTaken hs ss → passes (hides row) (best order hs) ≡ false → kept_back row (merged_left order hs ss) ≡ []
+counts_end order row hs ss a high = by (best order hs) refl high
+  where
+    by : (b : Option (ℕ × RowEntry)) → best order hs ≡ b → passes (hides row) b ≡ false → kept_back row (merged_left order hs ss) ≡ []
+    by None f high = ap (kept_back row) (none_left order hs ss a f).0
+    by (Some p) f high =
+        let rest = merged order (lists (set hs p.0 None) (rows_left ss)) in
+        ap (kept_back row) (takes_head order hs ss a p.0 p.1 f).rows ∙ ap (λ b. cond b (row_of p.1 ∷ kept_back row rest) []) high

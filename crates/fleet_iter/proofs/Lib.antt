@@ -1,0 +1,9 @@
+pub mod Merges
+pub mod MergedRows
+pub mod RisingRows
+pub mod RisingMerges
+pub mod Dedup
+pub mod Lists
+pub mod Peeks
+pub mod Resumes
+pub mod Counts

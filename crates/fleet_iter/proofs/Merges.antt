@@ -1,0 +1,354 @@
+-- The least head of a merge, and a step of it.
+use Rattle.std.proofs.Common.{◌≡◌, ◌∙◌, sym, refl, ap, subst, ℕ, ◌+◌, ◌<◌, List, [], ◌∷◌, ◌++◌, suc, zero, Ok, Err, Option, Some, None, Bool, true, false, cond, drop, drop-cons, add-one, get_or, length, arith, zero-add, add-zero, ◌-◌, ◌≤◌}
+use Rattle.std.specs.Option.{option_to_list, option_map}
+use Rattle.std.specs.List.{AllByRecursion}
+use Rattle.std.proofs.lemmas.List.{drop_all}
+use Rattle.std.proofs.Math.ListN.{set}
+use Rattle.row_model.specs.Rows.{Row}
+use Rattle.fleet_rows.specs.Row.{row_of, rows_of}
+use Rattle.fleet_rows.specs.declared.row.RowEntry.{RowEntry}
+use Rattle.fleet_rows.specs.declared.errors.SlateDBError.{SlateDBError}
+use Rattle.fleet_iter.specs.Iteration.{IteratorState, Nexts, NextAnswers, CanFail, behind_first, without_first}
+use Rattle.fleet_iter.specs.declared.iterator.IterationOrder.{IterationOrder}
+use Rattle.fleet_iter.specs.Merge.{best, choose, goes_first, goes_ahead, passes, merged, merge_two, merge_into, merged_left, lists, rows_left, AllTaken, IsTaken, are_whole, Steps, Takes, Drops, AllBegun}
+
+-- a place counted from further in front
+abbrev pub shifted : ℕ → Option (ℕ × RowEntry) → Option (ℕ × RowEntry)
+shifted i None = None
+shifted i (Some p) = Some (p.0 + i, p.1)
+
+-- the less of a head and what was found
+abbrev pub pick : (order : IterationOrder) → ℕ → Option RowEntry → Option (ℕ × RowEntry) → Option (ℕ × RowEntry)
+pick order i None f = f
+pick order i (Some x) None = Some (i, x)
+pick order i (Some x) (Some q) = cond (goes_first order (row_of x) (row_of q.1)) (Some (i, x)) (Some q)
+
+choose_shifted : (order : IterationOrder) → (i : ℕ) (h : Option RowEntry) (b : Option (ℕ × RowEntry)) → shifted i (choose order h b) ≡ pick order i h (shifted (i + 1) b)
+choose_shifted order i None None = refl
+choose_shifted order i None (Some p) = let e : (p.0 + 1) + i ≡ p.0 + (i + 1) = omega arith in ap (λ (n : ℕ). Some (n, p.1)) e
+choose_shifted order i (Some x) None = ap (λ (n : ℕ). Some (n, x)) (zero-add i)
+choose_shifted order i (Some x) (Some p) = by_test (goes_first order (row_of x) (row_of p.1)) where
+  by_test : (t : Bool) → shifted i (cond t (Some (0, x)) (Some (p.0 + 1, p.1))) ≡ cond t (Some (i, x)) (Some (p.0 + (i + 1), p.1))
+  by_test true = ap (λ (n : ℕ). Some (n, x)) (zero-add i)
+  by_test false = let e : (p.0 + 1) + i ≡ p.0 + (i + 1) = omega arith in ap (λ (n : ℕ). Some (n, p.1)) e
+
+-- one head more
+best_from : (order : IterationOrder) → (hs : List (Option RowEntry)) (i : ℕ) (h : Option RowEntry) → i < length hs → h ≡ get_or hs i h → shifted i (best order (drop i hs)) ≡ pick order i h (shifted (i + 1) (best order (drop (i + 1) hs)))
+best_from order hs i h lt is =
+    let e : drop i hs ≡ h ∷ drop (i + 1) hs = rw (add-one, drop-cons hs i h, ← is) in
+    ap (λ (z : List (Option RowEntry)). shifted i (best order z)) e ∙ choose_shifted order i h (best order (drop (i + 1) hs))
+
+-- a head that goes ahead is picked
+pub picked : (order : IterationOrder) → (i : ℕ) (x : RowEntry) (f : Option (ℕ × RowEntry)) → goes_ahead order x f ≡ true → pick order i (Some x) f ≡ Some (i, x)
+picked order i x None h = refl
+picked order i x (Some q) h = ap (λ b. cond b (Some (i, x)) (Some q)) h
+
+pub passed : (order : IterationOrder) → (i : ℕ) (x : RowEntry) (f : Option (ℕ × RowEntry)) → goes_ahead order x f ≡ false → pick order i (Some x) f ≡ f
+passed order i x None h = absurd (cc)
+passed order i x (Some q) h = ap (λ b. cond b (Some (i, x)) (Some q)) h
+
+-- the search goes on by one head
+pub found_more : (order : IterationOrder) → (hs : List (Option RowEntry)) (n : ℕ) (h : Option RowEntry) (f g : Option (ℕ × RowEntry)) → 0 < n → n ≤ length hs → h ≡ get_or hs (n - 1) h → f ≡ shifted n (best order (drop n hs)) → g ≡ pick order (n - 1) h f → g ≡ shifted (n - 1) (best order (drop (n - 1) hs))
+found_more order hs n h f g pos le is inv e =
+    let one : (n - 1) + 1 ≡ n = omega arith in
+    let lt : n - 1 < length hs = omega arith in
+    let b = best_from order hs (n - 1) h lt is in
+    e ∙ (ap (pick order (n - 1) h) inv ∙ sym (subst (λ m. shifted (n - 1) (best order (drop (n - 1) hs)) ≡ pick order (n - 1) h (shifted m (best order (drop m hs)))) one b))
+
+-- nothing stands behind all heads
+pub found_none : (order : IterationOrder) → (hs : List (Option RowEntry)) → None ≡ shifted (length hs) (best order (drop (length hs) hs))
+found_none order hs = rw (drop_all (length hs) hs (omega arith)) refl
+
+pub all_found : (order : IterationOrder) → (hs : List (Option RowEntry)) (n : ℕ) (f : Option (ℕ × RowEntry)) → n ≤ 0 → f ≡ shifted n (best order (drop n hs)) → f ≡ best order hs
+all_found order hs n f le h =
+    let zero : n ≡ 0 = omega arith in
+    subst (λ m. f ≡ shifted m (best order (drop m hs))) zero h ∙ unshifted (best order hs) where
+      unshifted : (p : Option (ℕ × RowEntry)) → shifted 0 p ≡ p
+      unshifted None = refl
+      unshifted (Some p) = ap (λ (m : ℕ). Some (m, p.1)) (add-zero p.0)
+
+behind_none : (order : IterationOrder) → (b : Option (ℕ × RowEntry)) → choose order None b ≡ None → b ≡ None
+behind_none order None e = refl
+behind_none order (Some p) e = cc
+
+some_head : (order : IterationOrder) → (x : RowEntry) (b : Option (ℕ × RowEntry)) → choose order (Some x) b ≡ None → ⊥
+some_head order x None e = cc
+some_head order x (Some p) e = tested (goes_first order (row_of x) (row_of p.1)) e where
+  tested : (t : Bool) → cond {A = Option (ℕ × RowEntry)} t (Some (0, x)) (Some (p.0 + 1, p.1)) ≡ None → ⊥
+  tested true e = cc
+  tested false e = cc
+
+-- where no head is left, no row is, and nothing was kept back
+pub none_left : (order : IterationOrder) → (hs : List (Option RowEntry)) (ss : List IteratorState) → AllTaken hs ss → best order hs ≡ None → (merged order (lists hs (rows_left ss)) ≡ []) × (are_whole ss ≡ true)
+none_left order [] [] a e = (refl, refl)
+none_left order [] (s ∷ ss) a e = absurd a
+none_left order (h ∷ hs) [] a e = absurd a
+none_left order (None ∷ hs) (s ∷ ss) a e =
+    let rest = none_left order hs ss a.1 (behind_none order (best order hs) e) in
+    (ap (λ (w : List Row). merge_two order w (merged order (lists hs (rows_left ss)))) a.0.2 ∙ rest.0, ap (λ b. cond b (are_whole ss) false) a.0.3 ∙ rest.1)
+none_left order (Some x ∷ hs) (s ∷ ss) a e = absurd (some_head order x (best order hs) e)
+
+-- the least head is the first row of the merge
+pub record Heads (order : IterationOrder) (hs : List (Option RowEntry)) (rs : List (List Row)) (k : ℕ) (x : RowEntry) : Type 0 where
+  pub rows : merged order (lists hs rs) ≡ row_of x ∷ merged order (lists (set hs k None) rs)
+  pub head : (d : Option RowEntry) → get_or hs k d ≡ Some x
+
+-- what stands at the place and what it is, moved along equations
+heads_at : (order : IterationOrder) → (hs : List (Option RowEntry)) (rs : List (List Row)) (k j : ℕ) (x y : RowEntry) → k ≡ j → x ≡ y → Heads order hs rs j y → Heads order hs rs k x
+heads_at order hs rs k j x y e f h = subst (λ n. Heads order hs rs n x) (sym e) (subst (λ z. Heads order hs rs j z) (sym f) h)
+
+behind_front : (order : IterationOrder) → (b : Option (ℕ × RowEntry)) (k : ℕ) (x : RowEntry) → choose order None b ≡ Some (k, x) → (p : ℕ × RowEntry) × (b ≡ Some p) × (k ≡ suc p.0) × (x ≡ p.1)
+behind_front order None k x e = absurd (cc)
+behind_front order (Some p) k x e =
+    let q : (p.0 + 1, p.1) ≡ (k, x) = cc in
+    (p, refl, sym (ap (λ (z : ℕ × RowEntry). z.0) q) ∙ add-one p.0, sym (ap (λ (z : ℕ × RowEntry). z.1) q))
+
+pub takes_head : (order : IterationOrder) → (hs : List (Option RowEntry)) (ss : List IteratorState) → AllTaken hs ss → (k : ℕ) (x : RowEntry) → best order hs ≡ Some (k, x) → Heads order hs (rows_left ss) k x
+takes_head order [] ss a k x e = absurd (cc)
+takes_head order (h ∷ hs) [] a k x e = absurd a
+takes_head order (None ∷ hs) (s ∷ ss) a k x e =
+    let f = behind_front order (best order hs) k x e in
+    let ih = takes_head order hs ss a.1 f.0.0 f.0.1 f.1 in
+    let here : s.rows ≡ [] = a.0.2 in
+    heads_at order (None ∷ hs) (rows_left (s ∷ ss)) k (suc f.0.0) x f.0.1 f.2 f.3
+    (record { rows = ap (λ (w : List Row). merge_two order w (merged order (lists hs (rows_left ss)))) here ∙ (ih.rows ∙ ap (λ (w : List Row). row_of f.0.1 ∷ merge_two order w (merged order (lists (set hs f.0.0 None) (rows_left ss)))) (sym here)); head = λ d. ih.head d })
+takes_head order (Some z ∷ hs) (s ∷ ss) a k x e = by_best (λ j y q. takes_head order hs ss a.1 j y q) (best order hs) refl e where
+  first : merged order (lists hs (rows_left ss)) ≡ [] → Heads order (Some z ∷ hs) (rows_left (s ∷ ss)) 0 z
+  first n = record { rows = ap (merge_into order (row_of z) (merge_two order s.rows)) n ∙ ap (λ (w : List Row). row_of z ∷ merge_two order s.rows w) (sym n); head = λ d. refl }
+
+  by_test : (p : ℕ × RowEntry) → Heads order hs (rows_left ss) p.0 p.1 → (t : Bool) → goes_first order (row_of z) (row_of p.1) ≡ t → cond {A = Option (ℕ × RowEntry)} t (Some (0, z)) (Some (p.0 + 1, p.1)) ≡ Some (k, x) → Heads order (Some z ∷ hs) (rows_left (s ∷ ss)) k x
+  by_test p ih true q f =
+      let g : (0, z) ≡ (k, x) = cc in
+      let rest = merged order (lists (set hs p.0 None) (rows_left ss)) in
+      heads_at order (Some z ∷ hs) (rows_left (s ∷ ss)) k 0 x z (sym (ap (λ (w : ℕ × RowEntry). w.0) g)) (sym (ap (λ (w : ℕ × RowEntry). w.1) g))
+      (record {
+        rows = ap (merge_into order (row_of z) (merge_two order s.rows)) ih.rows
+            ∙ (ap (λ b. cond b (row_of z ∷ merge_two order s.rows (row_of p.1 ∷ rest)) (row_of p.1 ∷ merge_into order (row_of z) (merge_two order s.rows) rest)) q
+            ∙ ap (λ (w : List Row). row_of z ∷ merge_two order s.rows w) (sym ih.rows));
+        head = λ d. refl;
+      })
+  by_test p ih false q f =
+      let g : (p.0 + 1, p.1) ≡ (k, x) = cc in
+      let rest = merged order (lists (set hs p.0 None) (rows_left ss)) in
+      heads_at order (Some z ∷ hs) (rows_left (s ∷ ss)) k (suc p.0) x p.1 (sym (ap (λ (w : ℕ × RowEntry). w.0) g) ∙ add-one p.0) (sym (ap (λ (w : ℕ × RowEntry). w.1) g))
+      (record {
+        rows = ap (merge_into order (row_of z) (merge_two order s.rows)) ih.rows
+            ∙ ap (λ b. cond b (row_of z ∷ merge_two order s.rows (row_of p.1 ∷ rest)) (row_of p.1 ∷ merge_into order (row_of z) (merge_two order s.rows) rest)) q;
+        head = λ d. ih.head d;
+      })
+
+  by_best : ((j : ℕ) (y : RowEntry) → best order hs ≡ Some (j, y) → Heads order hs (rows_left ss) j y) → (b : Option (ℕ × RowEntry)) → best order hs ≡ b → choose order (Some z) b ≡ Some (k, x) → Heads order (Some z ∷ hs) (rows_left (s ∷ ss)) k x
+  by_best ih None q f =
+      let g : (0, z) ≡ (k, x) = cc in
+      heads_at order (Some z ∷ hs) (rows_left (s ∷ ss)) k 0 x z (sym (ap (λ (w : ℕ × RowEntry). w.0) g)) (sym (ap (λ (w : ℕ × RowEntry). w.1) g))
+      (first (none_left order hs ss a.1 q).0)
+  by_best ih (Some p) q f = by_test p (ih p.0 p.1 q) (goes_first order (row_of z) (row_of p.1)) refl f
+
+-- the source's next row takes the head's place
+pub record Refills (hs : List (Option RowEntry)) (ss : List IteratorState) (k : ℕ) (t : IteratorState) (h : Option RowEntry) : Type 0 where
+  pub same : lists (set hs k None) (rows_left ss) ≡ lists (set hs k h) (rows_left (set ss k t))
+  pub taken : AllTaken (set hs k h) (set ss k t)
+  pub whole : are_whole (set ss k t) ≡ are_whole ss
+
+pub refilled : (hs : List (Option RowEntry)) (ss : List IteratorState) → AllTaken hs ss → (k : ℕ) (x : RowEntry) → get_or hs k None ≡ Some x → (s t : IteratorState) (h : Option RowEntry) → s ≡ get_or ss k s → Steps s t h → Refills hs ss k t h
+refilled [] ss a k x e s t h is st = absurd (cc)
+refilled (g ∷ hs) [] a k x e s t h is st = absurd a
+refilled (g ∷ hs) (r ∷ ss) a zero x e s t h is st =
+    let same : r.rows ≡ rows_of (option_to_list h) ++ t.rows = ap (λ (z : IteratorState). z.rows) (sym is) ∙ st.0 in
+    let whole : t.whole ≡ r.whole = st.2 ∙ ap (λ (z : IteratorState). z.whole) is in
+    record { same = ap (λ (w : List Row). w ∷ lists hs (rows_left ss)) same; taken = (st.1, a.1); whole = ap (λ b. cond b (are_whole ss) false) whole }
+refilled (g ∷ hs) (r ∷ ss) a (suc k) x e s t h is st =
+    let ih = refilled hs ss a.1 k x e s t h is st in
+    record { same = ap (λ (w : List (List Row)). (rows_of (option_to_list g) ++ r.rows) ∷ w) ih.same; taken = (a.0, ih.taken); whole = ap (λ b. cond r.whole b false) ih.whole }
+
+-- the whole step
+pub takes_all : (order : IterationOrder) → (hs : List (Option RowEntry)) (ss : List IteratorState) → AllTaken hs ss → (k : ℕ) (x : RowEntry) → best order hs ≡ Some (k, x) → (s t : IteratorState) (h : Option RowEntry) → s ≡ get_or ss k s → Steps s t h → Takes order false hs ss (set hs k h) (set ss k t) (Some x)
+takes_all order hs ss a k x e s t h is st =
+    let p = takes_head order hs ss a k x e in
+    let q = refilled hs ss a k x (p.head None) s t h is st in
+    record { rows = p.rows ∙ ap (λ (w : List (List Row)). row_of x ∷ merged order w) q.same; taken = q.taken; whole = q.whole; ends = λ n. absurd (cc) }
+
+pub takes_none : (order : IterationOrder) → (hs : List (Option RowEntry)) (ss : List IteratorState) → AllTaken hs ss → best order hs ≡ None → Takes order false hs ss hs ss None
+takes_none order hs ss a e = record { rows = refl; taken = a; whole = refl; ends = λ q. none_left order hs ss a e }
+
+clean : (g : Option RowEntry) (s : IteratorState) → IsTaken g s → s.failed ≡ false
+clean None s a = a.0
+clean (Some x) s a = a.0
+
+begun : (g : Option RowEntry) (s : IteratorState) → IsTaken g s → s.initialised ≡ true
+begun None s a = a.1
+begun (Some x) s a = a.1
+
+-- what a source's answer says of a source whose head was taken
+pub steps_of : (g : Option RowEntry) (s t : IteratorState) (h : Option RowEntry) → IsTaken g s → Nexts s t (Ok h) → Steps s t h
+steps_of g s t h a n = by_answer h (n.answers (clean g s a) (begun g s a)) where
+  by_answer : (h : Option RowEntry) → NextAnswers s t (Ok h) → Steps s t h
+  by_answer None b =
+      (ap (λ (z : IteratorState). z.rows) (sym b.same), (ap (λ (z : IteratorState). z.failed) b.same ∙ clean g s a, ap (λ (z : IteratorState). z.initialised) b.same ∙ begun g s a, ap (λ (z : IteratorState). z.rows) b.same ∙ b.rows, ap (λ (z : IteratorState). z.whole) b.same ∙ b.whole), ap (λ (z : IteratorState). z.whole) b.same)
+  by_answer (Some x) b = (ap (λ (z : IteratorState). z.rows) b, (sym (ap (λ (z : IteratorState). z.failed) b) ∙ clean g s a, sym (ap (λ (z : IteratorState). z.initialised) b) ∙ begun g s a), sym (ap (λ (z : IteratorState). z.whole) b))
+
+-- the place that a search answers
+pub placed : (b : Option (ℕ × RowEntry)) (k : ℕ) → Some k ≡ option_map (λ p. p.0) b → (x : RowEntry) × (b ≡ Some (k, x))
+placed None k e = absurd (cc)
+placed (Some p) k e = let q : k ≡ p.0 = cc in (p.1, ap (λ (n : ℕ). Some (n, p.1)) (sym q))
+
+pub placed_none : (b : Option (ℕ × RowEntry)) → None ≡ option_map {U = ℕ} (λ p. p.0) b → b ≡ None
+placed_none None e = refl
+placed_none (Some p) e = absurd (cc)
+
+pub same_count : (hs : List (Option RowEntry)) (ss : List IteratorState) → AllTaken hs ss → length hs ≡ length ss
+same_count [] [] a = refl
+same_count [] (s ∷ ss) a = absurd a
+same_count (h ∷ hs) [] a = absurd a
+same_count (h ∷ hs) (s ∷ ss) a = ap suc (same_count hs ss a.1)
+
+first_place : (z : RowEntry) (k : ℕ) (x : RowEntry) → ◌≡◌ {A = Option (ℕ × RowEntry)} (Some (0, z)) (Some (k, x)) → 0 ≡ k
+first_place z k x e = let P : Option (ℕ × RowEntry) → ℕ = place_or in ap P e where
+  place_or : Option (ℕ × RowEntry) → ℕ
+  place_or None = 0
+  place_or (Some p) = p.0
+
+front_within : (n : ℕ) (z : RowEntry) (k : ℕ) (x : RowEntry) → ◌≡◌ {A = Option (ℕ × RowEntry)} (Some (0, z)) (Some (k, x)) → k < suc n
+front_within n z k x e = let q : 0 ≡ k = first_place z k x e in omega (arith, q)
+
+pub best_within : (order : IterationOrder) → (hs : List (Option RowEntry)) (k : ℕ) (x : RowEntry) → best order hs ≡ Some (k, x) → k < length hs
+best_within order [] k x e = absurd (cc)
+best_within order (h ∷ hs) k x e = by_head h (best order hs) e (λ j y q. best_within order hs j y q) where
+  deeper : (p : ℕ × RowEntry) → p.0 < length hs → k ≡ p.0 + 1 → k < length (h ∷ hs)
+  deeper p lt q = omega arith
+
+  by_test : (z : RowEntry) (p : ℕ × RowEntry) (t : Bool) → p.0 < length hs → cond {A = Option (ℕ × RowEntry)} t (Some (0, z)) (Some (p.0 + 1, p.1)) ≡ Some (k, x) → k < length (h ∷ hs)
+  by_test z p true lt e = front_within (length hs) z k x e
+  by_test z p false lt e = let g : (p.0 + 1, p.1) ≡ (k, x) = cc in deeper p lt (sym (ap (λ (w : ℕ × RowEntry). w.0) g))
+
+  by_head : (h' : Option RowEntry) (b : Option (ℕ × RowEntry)) → choose order h' b ≡ Some (k, x) → ((j : ℕ) (y : RowEntry) → b ≡ Some (j, y) → j < length hs) → k < length (h ∷ hs)
+  by_head None None e ih = absurd (cc)
+  by_head None (Some p) e ih = let f = behind_front order (Some p) k x e in let q : f.0 ≡ p = cc in deeper p (ih p.0 p.1 refl) (f.2 ∙ (ap (λ (w : ℕ × RowEntry). suc w.0) q ∙ sym (add-one p.0)))
+  by_head (Some z) None e ih = front_within (length hs) z k x e
+  by_head (Some z) (Some p) e ih = by_test z p (goes_first order (row_of z) (row_of p.1)) (ih p.0 p.1 refl) e
+
+pub taken_at : (hs : List (Option RowEntry)) (ss : List IteratorState) → AllTaken hs ss → (k : ℕ) → k < length ss → (s : IteratorState) → s ≡ get_or ss k s → (g : Option RowEntry) × IsTaken g s
+taken_at [] [] a k lt s is = absurd (omega arith)
+taken_at [] (r ∷ ss) a k lt s is = absurd a
+taken_at (h ∷ hs) [] a k lt s is = absurd a
+taken_at (h ∷ hs) (r ∷ ss) a zero lt s is = (h, subst (IsTaken h) (sym is) a.0)
+taken_at (h ∷ hs) (r ∷ ss) a (suc k) lt s is = taken_at hs ss a.1 k (omega arith) s is
+
+-- all are whole where one is, so what a source refuses with, a merge may
+one_whole : (ss : List IteratorState) (k : ℕ) (s : IteratorState) → k < length ss → s ≡ get_or ss k s → are_whole ss ≡ true → s.whole ≡ true
+one_whole [] k s lt is all = absurd (omega arith)
+one_whole (r ∷ ss) zero s lt is all = ap (λ (z : IteratorState). z.whole) is ∙ first r.whole all
+  where
+    first : (b : Bool) → cond b (are_whole ss) false ≡ true → b ≡ true
+    first true h = refl
+    first false h = absurd (cc h)
+one_whole (r ∷ ss) (suc k) s lt is all = one_whole ss k s (omega arith) is (rest r.whole all)
+  where
+    rest : (b : Bool) → cond b (are_whole ss) false ≡ true → are_whole ss ≡ true
+    rest true h = h
+    rest false h = absurd (cc h)
+
+pub refused : (g : Option RowEntry) (ss : List IteratorState) (k : ℕ) (s t : IteratorState) (e : SlateDBError) → k < length ss → s ≡ get_or ss k s → IsTaken g s → Nexts s t (Err e) → CanFail (are_whole ss) e
+refused g ss k s t e lt is a n =
+    let cause = (n.answers (clean g s a) (begun g s a)).cause in
+    record { initialised = cause.initialised; alive = cause.alive; memory = λ all. cause.memory (one_whole ss k s lt is all) }
+
+-- ---- what holds of each source
+
+pub all_at : {T : Type 0} (P : T → Type 0) (xs : List T) (k : ℕ) (x : T) → k < length xs → x ≡ get_or xs k x → AllByRecursion P xs → P x
+all_at P [] k x lt is all = absurd (omega arith)
+all_at P (y ∷ xs) zero x lt is all = subst P (sym is) all.0
+all_at P (y ∷ xs) (suc k) x lt is all = all_at P xs k x (omega arith) is all.1
+
+pub all_set : {T : Type 0} (P : T → Type 0) (xs : List T) (k : ℕ) (x : T) → P x → AllByRecursion P xs → AllByRecursion P (set xs k x)
+all_set P [] k x h all = tt
+all_set P (y ∷ xs) zero x h all = (h, all.1)
+all_set P (y ∷ xs) (suc k) x h all = (all.0, all_set P xs k x h all.1)
+
+-- ---- the first rows
+
+-- a source is initialised, and its first row taken
+pub steps_first : (s i t : IteratorState) (h : Option RowEntry) → s.failed ≡ false → i ≡ record s { initialised = true } → Nexts i t (Ok h) → Steps s t h
+steps_first s i t h alive is n = by_answer h (n.answers (ap (λ (z : IteratorState). z.failed) is ∙ alive) (ap (λ (z : IteratorState). z.initialised) is)) where
+  by_answer : (h : Option RowEntry) → NextAnswers i t (Ok h) → Steps s t h
+  by_answer None b =
+      let same : t ≡ record s { initialised = true } = b.same ∙ is in
+      (sym (ap (λ (z : IteratorState). z.rows) same), (ap (λ (z : IteratorState). z.failed) same ∙ alive, ap (λ (z : IteratorState). z.initialised) same, ap (λ (z : IteratorState). z.rows) b.same ∙ b.rows, ap (λ (z : IteratorState). z.whole) b.same ∙ b.whole), ap (λ (z : IteratorState). z.whole) same)
+  by_answer (Some x) b =
+      let same : record s { initialised = true } ≡ record t { rows = row_of x ∷ t.rows } = sym is ∙ b in
+      (ap (λ (z : IteratorState). z.rows) same, (sym (ap (λ (z : IteratorState). z.failed) same) ∙ alive, sym (ap (λ (z : IteratorState). z.initialised) same)), sym (ap (λ (z : IteratorState). z.whole) same))
+
+pub alive_at : (hs : List (Option RowEntry)) (ss : List IteratorState) (k : ℕ) (s : IteratorState) → AllBegun hs ss → length hs ≡ k → k < length ss → s ≡ get_or ss k s → s.failed ≡ false
+alive_at [] [] k s a n lt is = absurd (omega arith)
+alive_at [] (r ∷ ss) zero s a n lt is = ap (λ (z : IteratorState). z.failed) is ∙ a.0
+alive_at [] (r ∷ ss) (suc k) s a n lt is = absurd (omega arith)
+alive_at (h ∷ hs) [] k s a n lt is = absurd a
+alive_at (h ∷ hs) (r ∷ ss) zero s a n lt is = absurd (omega arith)
+alive_at (h ∷ hs) (r ∷ ss) (suc k) s a n lt is = alive_at hs ss k s a.1 (omega arith) (omega arith) is
+
+pub record More (hs : List (Option RowEntry)) (ss : List IteratorState) (k : ℕ) (t : IteratorState) (h : Option RowEntry) : Type 0 where
+  pub begun : AllBegun (hs ++ h ∷ []) (set ss k t)
+  pub rows : lists (hs ++ h ∷ []) (rows_left (set ss k t)) ≡ lists hs (rows_left ss)
+  pub whole : are_whole (set ss k t) ≡ are_whole ss
+
+pub begin_more : (hs : List (Option RowEntry)) (ss : List IteratorState) (k : ℕ) (s t : IteratorState) (h : Option RowEntry) → AllBegun hs ss → length hs ≡ k → k < length ss → s ≡ get_or ss k s → Steps s t h → More hs ss k t h
+begin_more [] [] k s t h a n lt is st = absurd (omega arith)
+begin_more [] (r ∷ ss) zero s t h a n lt is st =
+    let same : rows_of (option_to_list h) ++ t.rows ≡ r.rows = sym (ap (λ (z : IteratorState). z.rows) (sym is) ∙ st.0) in
+    let whole : t.whole ≡ r.whole = st.2 ∙ ap (λ (z : IteratorState). z.whole) is in
+    record { begun = (st.1, a.1); rows = ap (λ (w : List Row). w ∷ rows_left ss) same; whole = ap (λ b. cond b (are_whole ss) false) whole }
+begin_more [] (r ∷ ss) (suc k) s t h a n lt is st = absurd (omega arith)
+begin_more (g ∷ hs) [] k s t h a n lt is st = absurd a
+begin_more (g ∷ hs) (r ∷ ss) zero s t h a n lt is st = absurd (omega arith)
+begin_more (g ∷ hs) (r ∷ ss) (suc k) s t h a n lt is st =
+    let ih = begin_more hs ss k s t h a.1 (omega arith) (omega arith) is st in
+    record { begun = (a.0, ih.begun); rows = ap (λ (w : List (List Row)). (rows_of (option_to_list g) ++ r.rows) ∷ w) ih.rows; whole = ap (λ b. cond r.whole b false) ih.whole }
+
+pub all_begun : (hs : List (Option RowEntry)) (ss : List IteratorState) → AllBegun hs ss → length ss ≤ length hs → AllTaken hs ss
+all_begun [] [] a n = tt
+all_begun [] (s ∷ ss) a n = absurd (omega arith)
+all_begun (h ∷ hs) [] a n = absurd a
+all_begun (h ∷ hs) (s ∷ ss) a n = (a.0, all_begun hs ss a.1 (omega arith))
+
+pub one_fails : (ss : List IteratorState) (k : ℕ) (s : IteratorState) (e : SlateDBError) → k < length ss → s ≡ get_or ss k s → CanFail s.whole e → CanFail (are_whole ss) e
+one_fails ss k s e lt is cause = record { initialised = cause.initialised; alive = cause.alive; memory = λ all. cause.memory (one_whole ss k s lt is all) }
+
+-- ---- rows that are skipped
+
+-- the least head is the first row
+pub first_left : (order : IterationOrder) (test : Row → Bool) (hs : List (Option RowEntry)) (ss : List IteratorState) → AllTaken hs ss → passes test (best order hs) ≡ true
+    → (r : Row) × (rest : List Row) × (merged_left order hs ss ≡ r ∷ rest) × (test r ≡ true)
+first_left order test hs ss a low = by (best order hs) refl low
+  where
+    by : (b : Option (ℕ × RowEntry)) → best order hs ≡ b → passes test b ≡ true → (r : Row) × (rest : List Row) × (merged_left order hs ss ≡ r ∷ rest) × (test r ≡ true)
+    by None f low = absurd (cc low)
+    by (Some p) f low = (row_of p.1, merged order (lists (set hs p.0 None) (rows_left ss)), (takes_head order hs ss a p.0 p.1 f).rows, low)
+
+-- one that passes is dropped, and fewer are left
+pub skip_step : (order : IterationOrder) (test : Row → Bool) (hs hs' : List (Option RowEntry)) (ss ss' : List IteratorState) → AllTaken hs ss → passes test (best order hs) ≡ true → Drops order hs ss hs' ss'
+    → (without_first test (merged_left order hs ss) ≡ without_first test (merged_left order hs' ss')) × (length (merged_left order hs' ss') < length (merged_left order hs ss))
+skip_step order test hs hs' ss ss' a low d =
+    let f = first_left order test hs ss a low in
+    let later : merged_left order hs' ss' ≡ f.1 = d.rows ∙ ap behind_first f.2 in
+    let size : length (merged_left order hs ss) ≡ suc (length f.1) = ap length f.2 in
+    let less : length (merged_left order hs' ss') ≡ length f.1 = ap length later in
+    (ap (without_first test) f.2 ∙ (ap (λ b. cond b (without_first test f.1) (f.0 ∷ f.1)) f.3 ∙ sym (ap (without_first test) later)), omega (arith, size, less))
+
+-- where the first does not pass, none is skipped
+pub skip_end : (order : IterationOrder) (test : Row → Bool) (hs : List (Option RowEntry)) (ss : List IteratorState) → AllTaken hs ss → passes test (best order hs) ≡ false → merged_left order hs ss ≡ without_first test (merged_left order hs ss)
+skip_end order test hs ss a high = by (best order hs) refl high
+  where
+    by : (b : Option (ℕ × RowEntry)) → best order hs ≡ b → passes test b ≡ false → merged_left order hs ss ≡ without_first test (merged_left order hs ss)
+    by None f high = let none = (none_left order hs ss a f).0 in none ∙ sym (ap (without_first test) none)
+    by (Some p) f high =
+        let is = (takes_head order hs ss a p.0 p.1 f).rows in
+        let rest = merged order (lists (set hs p.0 None) (rows_left ss)) in
+        is ∙ (sym (ap (λ b. cond b (without_first test rest) (row_of p.1 ∷ rest)) high) ∙ sym (ap (without_first test) is))
+
+-- what is taken is dropped
+pub dropped : (order : IterationOrder) (hs hs' : List (Option RowEntry)) (ss ss' : List IteratorState) (o : Option RowEntry) → Takes order false hs ss hs' ss' o → Drops order hs ss hs' ss'
+dropped order hs hs' ss ss' o t = record { rows = by o t.rows t.ends; taken = t.taken; whole = t.whole }
+  where
+    by : (o : Option RowEntry) → merged_left order hs ss ≡ rows_of (option_to_list o) ++ merged_left order hs' ss' → (o ≡ None → (merged_left order hs ss ≡ []) × (are_whole ss ≡ true)) → merged_left order hs' ss' ≡ behind_first (merged_left order hs ss)
+    by None e ends = let none = (ends refl).0 in sym e ∙ (none ∙ sym (ap behind_first none))
+    by (Some x) e ends = sym (ap behind_first e)

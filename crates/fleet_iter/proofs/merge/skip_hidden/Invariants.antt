@@ -1,0 +1,24 @@
+use Rattle.std.proofs.Common.{◌≡◌, length}
+use Rattle.std.specs.Prelude.{map}
+use Rattle.std.specs.List.{AllByRecursion}
+use Rattle.fleet_rows.specs.Row.{row_of}
+use Rattle.fleet_iter.specs.Iteration.{without_first}
+use Rattle.fleet_iter.specs.Merge.{hides, AllTaken, merged_left, are_whole}
+use Rattle.fleet_iter.specs.Tracked.{counted, kept_back}
+use Rattle.fleet_iter.proofs.merge.skip_hidden.Given as goal
+
+abbrev pub invariant-hidden : goal.invariant-hidden
+invariant-hidden g l =
+    let f = g.T.RowSource.state in
+    let ss = map f l.sources.items in
+    let old = map f l.fn.sources.items in
+    record {
+      sound : AllByRecursion g.T.RowSource.sound l.sources.items;
+      taken : AllTaken l.heads.items ss;
+      rows : without_first (hides (row_of l.row)) (merged_left l.order l.heads.items ss) ≡ without_first (hides (row_of l.row)) (merged_left l.order l.fn.heads.items old);
+      whole : are_whole ss ≡ are_whole old;
+      bytes : counted l.count (kept_back (row_of l.row) (merged_left l.order l.heads.items ss)) ≡ counted l.processed (kept_back (row_of l.row) (merged_left l.order l.fn.heads.items old));
+    }
+
+abbrev pub decreases-hidden : goal.decreases-hidden
+decreases-hidden g l = length (merged_left l.order l.heads.items (map g.T.RowSource.state l.sources.items))

@@ -1,0 +1,19 @@
+use Rattle.std.proofs.Common.{◌≡◌, length}
+use Rattle.std.specs.Prelude.{map}
+use Rattle.std.specs.List.{AllByRecursion}
+use Rattle.fleet_iter.specs.Merge.{AllBegun, lists, rows_left, are_whole}
+use Rattle.fleet_iter.proofs.merge.take_heads.Given as goal
+
+abbrev pub invariant-sources : goal.invariant-sources
+invariant-sources g l =
+    let f = g.T.RowSource.state in
+    let ss = map f l.sources.items in
+    let old = map f l.fn.sources.items in
+    record {
+      sound : AllByRecursion g.T.RowSource.sound l.sources.items;
+      count : length l.heads.items ≡ l.i;
+      size : length l.sources.items ≡ length l.fn.sources.items;
+      begun : AllBegun l.heads.items ss;
+      rows : lists l.heads.items (rows_left ss) ≡ rows_left old;
+      whole : are_whole ss ≡ are_whole old;
+    }

@@ -1,0 +1,103 @@
+-- What an iterator over rows answers.
+use Rattle.std.specs.Prelude.{◌≡◌, ◌≢◌, ℕ, List, [], ◌∷◌, Option, Some, None, Bool, true, false, Result, Ok, Err, not, ◌&&◌, if◌then◌else◌}
+use Rattle.std.specs.Ordering.{is_gt}
+use Rattle.row_model.specs.Lists.{Pairs}
+use Rattle.row_model.specs.Rows.{Row, key_cmp, IsStrictlyOrdered}
+use Rattle.row_laws.specs.Keys.{is_below}
+use Rattle.fleet_rows.specs.Row.{row_of}
+use Rattle.fleet_rows.specs.declared.row.RowEntry.{RowEntry}
+use Rattle.fleet_rows.specs.declared.errors.SlateDBError.{SlateDBError}
+use Rattle.fleet_rows.specs.declared.errors.SlateDBError.TheVariants.{IteratorNotInitialized, IteratorFailed, Memory}
+
+pub record IteratorState : Type 0 where
+  pub rows : List Row  -- the rows left
+  pub initialised : Bool
+  pub failed : Bool
+  pub whole : Bool  -- nothing but want of memory can keep it from giving all of them
+
+-- none of its calls has failed it
+pub record IsAlive (s : IteratorState) : Type 0 where
+  pub alive : s.failed ≡ false
+
+-- what may fail an iterator: want of memory, and where it is not whole, another refusal
+pub record CanFail (whole : Bool) (e : SlateDBError) : Type 0 where
+  pub initialised : e ≢ IteratorNotInitialized
+  pub alive : e ≢ IteratorFailed
+  pub memory : whole ≡ true → e ≡ Memory
+
+-- this call failed it
+pub record Fails (old new : IteratorState) (e : SlateDBError) : Type 0 where
+  pub failed : new.failed ≡ true
+  pub cause : CanFail old.whole e
+
+-- a failed iterator says so, and stays as it is
+pub record StaysFailed (A : Type 0) (old new : IteratorState) (result : Result A SlateDBError) : Type 0 where
+  pub answer : result ≡ Err IteratorFailed
+  pub same : new ≡ old
+
+-- one that is not initialised says so, and stays as it is
+pub record StaysUninitialised (A : Type 0) (old new : IteratorState) (result : Result A SlateDBError) : Type 0 where
+  pub answer : result ≡ Err IteratorNotInitialized
+  pub same : new ≡ old
+
+abbrev pub InitAnswers : IteratorState → IteratorState → Result (Unit {0}) SlateDBError → Type 0
+InitAnswers old new (Ok done) = new ≡ record old { initialised = true }
+InitAnswers old new (Err e) = Fails old new e
+
+pub record Inits (old new : IteratorState) (result : Result (Unit {0}) SlateDBError) : Type 0 where
+  pub failed : old.failed ≡ true → StaysFailed (Unit {0}) old new result
+  pub answers : old.failed ≡ false → InitAnswers old new result
+
+-- nothing is left, and nothing was kept back
+pub record Ends (old new : IteratorState) : Type 0 where
+  pub rows : old.rows ≡ []
+  pub whole : old.whole ≡ true
+  pub same : new ≡ old
+
+abbrev pub NextAnswers : IteratorState → IteratorState → Result (Option RowEntry) SlateDBError → Type 0
+NextAnswers old new (Ok None) = Ends old new
+NextAnswers old new (Ok (Some row)) = old ≡ record new { rows = row_of row ∷ new.rows }
+NextAnswers old new (Err e) = Fails old new e
+
+pub record Nexts (old new : IteratorState) (result : Result (Option RowEntry) SlateDBError) : Type 0 where
+  pub failed : old.failed ≡ true → StaysFailed (Option RowEntry) old new result
+  pub uninitialised : old.failed ≡ false → old.initialised ≡ false → StaysUninitialised (Option RowEntry) old new result
+  pub answers : old.failed ≡ false → old.initialised ≡ true → NextAnswers old new result
+
+-- without the first row, if there is one
+abbrev pub behind_first : List Row → List Row
+behind_first [] = []
+behind_first (r ∷ rows) = rows
+
+-- without the rows that pass a test, up to the first that does not
+abbrev pub without_first : (Row → Bool) → List Row → List Row
+without_first test [] = []
+without_first test (r ∷ rows) = if test r then without_first test rows else r ∷ rows
+
+-- without the rows below a key, up to the first that is not
+abbrev pub from_key : List ℕ → List Row → List Row
+from_key key [] = []
+from_key key (r ∷ rows) = if is_below key r then from_key key rows else r ∷ rows
+
+-- no later row has a lesser key
+abbrev pub AreRising : List Row → Type 0
+AreRising rows = Pairs (λ r q. is_gt (key_cmp r.key q.key) ≡ false) rows
+
+-- the same as a test, of each row and the next
+abbrev pub are_rising : List Row → Bool
+are_rising [] = true
+are_rising (r ∷ []) = true
+are_rising (r ∷ q ∷ rows) = not (is_gt (key_cmp r.key q.key)) && are_rising (q ∷ rows)
+
+-- Strictly ordered rows rise.
+abbrev pub OrderedRowsRise : Type 0
+OrderedRowsRise = (rows : List Row) → IsStrictlyOrdered rows → AreRising rows
+
+abbrev pub SeekAnswers : List ℕ → IteratorState → IteratorState → Result (Unit {0}) SlateDBError → Type 0
+SeekAnswers key old new (Ok done) = new ≡ record old { rows = from_key key old.rows }
+SeekAnswers key old new (Err e) = Fails old new e
+
+pub record Seeks (key : List ℕ) (old new : IteratorState) (result : Result (Unit {0}) SlateDBError) : Type 0 where
+  pub failed : old.failed ≡ true → StaysFailed (Unit {0}) old new result
+  pub uninitialised : old.failed ≡ false → old.initialised ≡ false → StaysUninitialised (Unit {0}) old new result
+  pub answers : old.failed ≡ false → old.initialised ≡ true → SeekAnswers key old new result

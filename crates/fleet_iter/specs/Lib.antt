@@ -1,0 +1,10 @@
+pub mod Entry
+pub mod Iteration
+pub mod List
+pub mod Merge
+pub mod MergeState
+pub mod Peek
+pub mod PeekState
+pub mod Resume
+pub mod ResumeState
+pub mod Tracked

@@ -1,0 +1,174 @@
+-- The merge of lists of rows: always the least head, and of alike heads the earlier list's.
+use Rattle.std.specs.Prelude.{◌≡◌, ℕ, ◌+◌, List, [], ◌∷◌, ◌++◌, Option, Some, None, Bool, true, false, not, ◌&&◌, ⊤, map, flat_map, if◌then◌else◌}
+use Rattle.std.specs.Option.{option_to_list}
+use Rattle.std.specs.Borrow.{Bor}
+use Rattle.std.specs.declared.cmp.Ordering.{Ordering}
+use Rattle.std.specs.Ordering.{is_gt, nat_cmp, ordering_then}
+use Rattle.row_model.specs.Rows.{Row, key_cmp, same_key, is_operand, IsStrictlyOrdered}
+use Rattle.row_laws.specs.Merges.{AreApart}
+use Rattle.row_laws.specs.Sources.{merged_rows}
+use Rattle.std.specs.List.{AllByRecursion}
+use Rattle.fleet_rows.specs.Row.{row_of, rows_of}
+use Rattle.fleet_rows.specs.declared.row.RowEntry.{RowEntry}
+use Rattle.fleet_iter.specs.Iteration.{IteratorState, AreRising, behind_first, without_first}
+use Rattle.fleet_iter.specs.declared.iterator.IterationOrder.{IterationOrder}
+use Rattle.fleet_iter.specs.declared.iterator.IterationOrder.TheVariants.{Ascending, Descending}
+
+-- keys in an order, and within a key falling sequences
+abbrev pub keys_in : IterationOrder → List ℕ → List ℕ → Ordering
+keys_in Ascending a b = key_cmp a b
+keys_in Descending a b = key_cmp b a
+
+abbrev pub cmp_in : IterationOrder → Row → Row → Ordering
+cmp_in order a b = ordering_then (keys_in order a.key b.key) (nat_cmp b.seq a.seq)
+
+-- whether a row goes before another, or stands where it stands
+abbrev pub goes_first : IterationOrder → Row → Row → Bool
+goes_first order a b = not (is_gt (cmp_in order a b))
+
+-- a row and what goes on from it, merged with a list
+abbrev pub merge_into : IterationOrder → Row → (List Row → List Row) → List Row → List Row
+merge_into order r rest [] = r ∷ rest []
+merge_into order r rest (q ∷ rows) = if goes_first order r q then r ∷ rest (q ∷ rows) else q ∷ merge_into order r rest rows
+
+abbrev pub merge_two : IterationOrder → List Row → List Row → List Row
+merge_two order [] others = others
+merge_two order (r ∷ rows) others = merge_into order r (merge_two order rows) others
+
+abbrev pub merged : IterationOrder → List (List Row) → List Row
+merged order [] = []
+merged order (rows ∷ lists) = merge_two order rows (merged order lists)
+
+-- whether a row keeps back one that comes after it: a row of the same key, unless it is an operand that is merged onto it
+abbrev pub hides : Row → Row → Bool
+hides r q = not (is_operand r) && same_key r q
+
+-- the rows behind a row, without those that the row given last keeps back
+abbrev pub given_behind : Row → List Row → List Row
+given_behind r [] = []
+given_behind r (q ∷ rows) = if hides r q then given_behind r rows else q ∷ given_behind q rows
+
+abbrev pub deduplicated : List Row → List Row
+deduplicated [] = []
+deduplicated (r ∷ rows) = r ∷ given_behind r rows
+
+-- the rows that a merge gives of its merged ones, with dedup or without
+abbrev pub given : Bool → List Row → List Row
+given true rows = deduplicated rows
+given false rows = rows
+
+-- lists whose first rows were taken
+abbrev pub lists : List (Option RowEntry) → List (List Row) → List (List Row)
+lists [] ls = ls
+lists (h ∷ hs) [] = []
+lists (h ∷ hs) (l ∷ ls) = (rows_of (option_to_list h) ++ l) ∷ lists hs ls
+
+abbrev pub rows_left : List IteratorState → List (List Row)
+rows_left ss = map (λ s. s.rows) ss
+
+-- the merge of what heads and sources have left
+abbrev pub merged_left : IterationOrder → List (Option RowEntry) → List IteratorState → List Row
+merged_left order hs ss = merged order (lists hs (rows_left ss))
+
+-- the place and the row of the least head
+abbrev pub choose : IterationOrder → Option RowEntry → Option (ℕ × RowEntry) → Option (ℕ × RowEntry)
+choose order None None = None
+choose order None (Some p) = Some (p.0 + 1, p.1)
+choose order (Some x) None = Some (0, x)
+choose order (Some x) (Some p) = if goes_first order (row_of x) (row_of p.1) then Some (0, x) else Some (p.0 + 1, p.1)
+
+abbrev pub best : IterationOrder → List (Option RowEntry) → Option (ℕ × RowEntry)
+best order [] = None
+best order (h ∷ hs) = choose order h (best order hs)
+
+-- what a search found, by its value
+abbrev pub found_row : Option (ℕ × Bor RowEntry) → Option (ℕ × RowEntry)
+found_row None = None
+found_row (Some p) = Some (p.0, p.1.now)
+
+-- whether a row goes before what was found behind it
+abbrev pub goes_ahead : IterationOrder → RowEntry → Option (ℕ × RowEntry) → Bool
+goes_ahead order x None = true
+goes_ahead order x (Some p) = goes_first order (row_of x) (row_of p.1)
+
+-- whether the row that was found passes a test
+abbrev pub passes : (Row → Bool) → Option (ℕ × RowEntry) → Bool
+passes test None = false
+passes test (Some p) = test (row_of p.1)
+
+-- a source whose first row was taken; none is only where it has ended
+abbrev pub IsTaken : Option RowEntry → IteratorState → Type 0
+IsTaken (Some x) s = (s.failed ≡ false) × (s.initialised ≡ true)
+IsTaken None s = (s.failed ≡ false) × (s.initialised ≡ true) × (s.rows ≡ []) × (s.whole ≡ true)
+
+abbrev pub AllTaken : List (Option RowEntry) → List IteratorState → Type 0
+AllTaken [] [] = ⊤
+AllTaken (h ∷ hs) (s ∷ ss) = IsTaken h s × AllTaken hs ss
+AllTaken [] (s ∷ ss) = ⊥
+AllTaken (h ∷ hs) [] = ⊥
+
+-- whether all are whole
+abbrev pub are_whole : List IteratorState → Bool
+are_whole [] = true
+are_whole (s ∷ ss) = if s.whole then are_whole ss else false
+
+-- a step of a source: the row that is its next head
+abbrev pub Steps : IteratorState → IteratorState → Option RowEntry → Type 0
+Steps s t h = (s.rows ≡ rows_of (option_to_list h) ++ t.rows) × IsTaken h t × (t.whole ≡ s.whole)
+
+-- the first row that is given is taken, and with it the rows that it keeps back
+pub record Takes (order : IterationOrder) (dedup : Bool) (hs : List (Option RowEntry)) (ss : List IteratorState) (hs' : List (Option RowEntry)) (ss' : List IteratorState) (o : Option RowEntry) : Type 0 where
+  pub rows : given dedup (merged_left order hs ss) ≡ rows_of (option_to_list o) ++ given dedup (merged_left order hs' ss')
+  pub taken : AllTaken hs' ss'
+  pub whole : are_whole ss' ≡ are_whole ss
+  pub ends : o ≡ None → (merged_left order hs ss ≡ []) × (are_whole ss ≡ true)
+
+-- the first row is dropped, if there is one
+pub record Drops (order : IterationOrder) (hs : List (Option RowEntry)) (ss : List IteratorState) (hs' : List (Option RowEntry)) (ss' : List IteratorState) : Type 0 where
+  pub rows : merged_left order hs' ss' ≡ behind_first (merged_left order hs ss)
+  pub taken : AllTaken hs' ss'
+  pub whole : are_whole ss' ≡ are_whole ss
+
+abbrev pub NoneFailed : List IteratorState → Type 0
+NoneFailed [] = ⊤
+NoneFailed (s ∷ ss) = (s.failed ≡ false) × NoneFailed ss
+
+-- the first rows of the first sources were taken, and none has failed
+abbrev pub AllBegun : List (Option RowEntry) → List IteratorState → Type 0
+AllBegun [] ss = NoneFailed ss
+AllBegun (h ∷ hs) [] = ⊥
+AllBegun (h ∷ hs) (s ∷ ss) = IsTaken h s × AllBegun hs ss
+
+-- the first row of each source is taken
+pub record Begins (ss : List IteratorState) (hs' : List (Option RowEntry)) (ss' : List IteratorState) : Type 0 where
+  pub rows : lists hs' (rows_left ss') ≡ rows_left ss
+  pub taken : AllTaken hs' ss'
+  pub whole : are_whole ss' ≡ are_whole ss
+
+-- the rows that pass a test are taken, up to the first that does not
+pub record Skips (order : IterationOrder) (test : Row → Bool) (hs : List (Option RowEntry)) (ss : List IteratorState) (hs' : List (Option RowEntry)) (ss' : List IteratorState) : Type 0 where
+  pub rows : merged_left order hs' ss' ≡ without_first test (merged_left order hs ss)
+  pub taken : AllTaken hs' ss'
+  pub whole : are_whole ss' ≡ are_whole ss
+
+-- a merge's flags, heads and sources fit
+abbrev pub Fits : Bool → Bool → List (Option RowEntry) → List IteratorState → Type 0
+Fits true initialised hs ss = ⊤
+Fits false true hs ss = AllTaken hs ss
+Fits false false hs ss = (hs ≡ []) × NoneFailed ss
+
+abbrev pub merging : IterationOrder → Bool → Bool → Bool → List (Option RowEntry) → List IteratorState → IteratorState
+merging order dedup initialised failed hs ss =
+    record { rows = given dedup (merged_left order hs ss); initialised = initialised; failed = failed; whole = are_whole ss }
+
+-- a merge with dedup that is not initialised
+abbrev pub starting : IterationOrder → List IteratorState → IteratorState
+starting order ss = record { rows = deduplicated (merged order (rows_left ss)); initialised = false; failed = false; whole = are_whole ss }
+
+-- The ascending merge of ordered lists, of which no two have a row with key and sequence in common, has all their rows in order.
+abbrev pub MergesSort : Type 0
+MergesSort = (ls : List (List Row)) → AllByRecursion IsStrictlyOrdered ls → AreApart (flat_map (λ rows. rows) ls) → merged Ascending ls ≡ merged_rows ls
+
+-- The ascending merge of rising lists rises, with dedup or without, so it may be sought.
+abbrev pub MergesRise : Type 0
+MergesRise = (dedup : Bool) (ls : List (List Row)) → AllByRecursion AreRising ls → AreRising (given dedup (merged Ascending ls))

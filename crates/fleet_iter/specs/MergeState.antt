@@ -1,0 +1,17 @@
+-- What a merge has left, and what holds inside it.
+use Rattle.std.specs.Prelude.{List, map}
+use Rattle.std.specs.List.{AllByRecursion}
+use Rattle.row_model.specs.Rows.{Row}
+use Rattle.fleet_iter.specs.Iteration.{IteratorState}
+use Rattle.fleet_iter.specs.Merge.{merging, merged_left, Fits}
+use Rattle.fleet_iter.specs.declared.merge.MergeIterator.{MergeIterator}
+
+-- the rows that its sources have left, in its order: those that it gives, and those that they keep back
+abbrev pub merge_of : {T : Type 0} → (T → IteratorState) → MergeIterator T → List Row
+merge_of state m = merged_left m.order m.heads.items (map state m.sources.items)
+
+abbrev pub state_of : {T : Type 0} → (T → IteratorState) → MergeIterator T → IteratorState
+state_of state m = merging m.order m.dedup m.initialised m.failed m.heads.items (map state m.sources.items)
+
+abbrev pub IsSound : {T : Type 0} → (T → Type 0) → (T → IteratorState) → MergeIterator T → Type 0
+IsSound sound state m = AllByRecursion sound m.sources.items × Fits m.failed m.initialised m.heads.items (map state m.sources.items)

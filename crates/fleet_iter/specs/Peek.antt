@@ -1,0 +1,54 @@
+-- Iterators that have read a row ahead.
+use Rattle.std.specs.Prelude.{◌≡◌, [], ◌∷◌, ◌++◌, Option, Some, None, true, false, Result, Ok, Err, ⊤}
+use Rattle.std.specs.Borrow.{Bor}
+use Rattle.std.specs.Option.{option_to_list, option_copied}
+use Rattle.fleet_rows.specs.Row.{row_of, rows_of}
+use Rattle.fleet_rows.specs.declared.row.RowEntry.{RowEntry}
+use Rattle.fleet_rows.specs.declared.errors.SlateDBError.{SlateDBError}
+use Rattle.fleet_rows.specs.declared.errors.SlateDBError.TheVariants.{IteratorNotInitialized, IteratorFailed}
+use Rattle.fleet_iter.specs.Iteration.{IteratorState, CanFail, Fails, Ends, StaysFailed, StaysUninitialised, behind_first}
+
+-- what is left behind a row that was read ahead
+abbrev pub ahead : Option RowEntry → IteratorState → IteratorState
+ahead row s = record s { rows = rows_of (option_to_list row) ++ s.rows }
+
+-- a row was read ahead only of an iterator that gives rows
+abbrev pub HasBegun : Option RowEntry → IteratorState → Type 0
+HasBegun None s = ⊤
+HasBegun (Some row) s = (s.failed ≡ false) × (s.initialised ≡ true)
+
+-- the row is the first one left, and stays there
+pub record Shows (row : RowEntry) (old new : IteratorState) : Type 0 where
+  pub first : old.rows ≡ row_of row ∷ behind_first old.rows
+  pub same : new ≡ old
+
+abbrev pub PeekAnswers : IteratorState → IteratorState → Result (Option RowEntry) SlateDBError → Type 0
+PeekAnswers old new (Ok None) = Ends old new
+PeekAnswers old new (Ok (Some row)) = Shows row old new
+PeekAnswers old new (Err e) = Fails old new e
+
+pub record Peeks (old new : IteratorState) (result : Result (Option RowEntry) SlateDBError) : Type 0 where
+  pub failed : old.failed ≡ true → StaysFailed (Option RowEntry) old new result
+  pub uninitialised : old.failed ≡ false → old.initialised ≡ false → StaysUninitialised (Option RowEntry) old new result
+  pub answers : old.failed ≡ false → old.initialised ≡ true → PeekAnswers old new result
+
+-- the same of the answer alone: what is left behind the look cannot be told while what it shows is held
+abbrev pub LookAnswers : IteratorState → Result (Option RowEntry) SlateDBError → Type 0
+LookAnswers s (Ok None) = (s.rows ≡ []) × (s.whole ≡ true)
+LookAnswers s (Ok (Some row)) = s.rows ≡ row_of row ∷ behind_first s.rows
+LookAnswers s (Err e) = CanFail s.whole e
+
+pub record Looks (s : IteratorState) (result : Result (Option RowEntry) SlateDBError) : Type 0 where
+  pub failed : s.failed ≡ true → result ≡ Err IteratorFailed
+  pub uninitialised : s.failed ≡ false → s.initialised ≡ false → result ≡ Err IteratorNotInitialized
+  pub answers : s.failed ≡ false → s.initialised ≡ true → LookAnswers s result
+
+-- an answer by value
+abbrev pub shown : Result (Option (Bor RowEntry)) SlateDBError → Result (Option RowEntry) SlateDBError
+shown (Ok row) = Ok (option_copied row)
+shown (Err e) = Err e
+
+-- the row that was read ahead, where that went well
+abbrev pub filled : Result (Unit {0}) SlateDBError → Option RowEntry → Result (Option RowEntry) SlateDBError
+filled (Ok done) row = Ok row
+filled (Err e) row = Err e

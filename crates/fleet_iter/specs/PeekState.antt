@@ -1,0 +1,10 @@
+-- What an iterator that can be looked at has left, and what holds inside it.
+use Rattle.fleet_iter.specs.Iteration.{IteratorState}
+use Rattle.fleet_iter.specs.Peek.{ahead, HasBegun}
+use Rattle.fleet_iter.specs.declared.peeking.PeekingIterator.{PeekingIterator}
+
+abbrev pub state_of : {T : Type 0} → (T → IteratorState) → PeekingIterator T → IteratorState
+state_of state p = ahead p.peeked (state p.inner)
+
+abbrev pub IsSound : {T : Type 0} → (T → Type 0) → (T → IteratorState) → PeekingIterator T → Type 0
+IsSound sound state p = sound p.inner × HasBegun p.peeked (state p.inner)

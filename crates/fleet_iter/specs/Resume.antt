@@ -1,0 +1,19 @@
+-- Rows taken up again behind a cursor, the key and sequence of the row that was written last.
+use Rattle.std.specs.Prelude.{◌≡◌, nat_le, ◌&&◌, bytes_eq, List, filter, Bool, Option, Some, None}
+use Rattle.row_model.specs.Rows.{Row, IsStrictlyOrdered}
+use Rattle.row_laws.specs.Keys.{is_from}
+use Rattle.row_laws.specs.Resume.{Cursor, is_unwritten}
+use Rattle.fleet_iter.specs.Iteration.{from_key, without_first}
+
+-- a row of the cursor's key whose sequence is not below the cursor's
+abbrev pub is_written : Cursor → Row → Bool
+is_written cursor r = bytes_eq r.key cursor.0 && nat_le cursor.1 r.seq
+
+-- from the cursor's key on, without the first rows that stand written
+abbrev pub rows_behind : Option Cursor → List Row → List Row
+rows_behind None rows = rows
+rows_behind (Some cursor) rows = without_first (is_written cursor) (from_key cursor.0 rows)
+
+-- Of ordered rows these are exactly those of the cursor's key and later ones that do not stand written.
+abbrev pub ResumesBehind : Type 0
+ResumesBehind = (cursor : Cursor) (rows : List Row) → IsStrictlyOrdered rows → rows_behind (Some cursor) rows ≡ filter (is_unwritten cursor) (filter (is_from cursor.0) rows)

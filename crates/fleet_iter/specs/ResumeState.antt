@@ -1,0 +1,10 @@
+-- What a resumed iterator has left, and what holds inside it.
+use Rattle.fleet_iter.specs.Iteration.{IteratorState}
+use Rattle.fleet_iter.specs.PeekState as peek
+use Rattle.fleet_iter.specs.declared.resuming.ResumingIterator.{ResumingIterator}
+
+abbrev pub state_of : {T : Type 0} → (T → IteratorState) → ResumingIterator T → IteratorState
+state_of state r = peek.state_of state r.inner
+
+abbrev pub IsSound : {T : Type 0} → (T → Type 0) → (T → IteratorState) → ResumingIterator T → Type 0
+IsSound sound state r = peek.IsSound sound state r.inner

@@ -1,0 +1,88 @@
+//! What an iterator over rows does.
+
+ghost use Rattle.std.specs.Prelude.{◌≡◌, ⊤};
+ghost use Rattle.fleet_iter.specs.Iteration.{IteratorState, Inits, Nexts, Seeks, AreRising};
+
+use fleet_rows::{RowEntry, SlateDBError};
+use std::alloc::Global;
+
+/// The order in which keys are given. Sequences fall within a key in both.
+#[derive(Clone, Copy, Debug, PartialEq, Eq)]
+pub enum IterationOrder {
+    Ascending,
+    Descending,
+}
+
+/// Rows, one after the other. An answer that is an error, other than `IteratorNotInitialized`, fails the iterator, and it is
+/// made anew.
+pub trait RowEntryIterator: Send + Sync + Drop {
+    /// The rows left, whether it was initialised, whether it failed, and whether nothing but want of memory may fail it.
+    ghost state: { Self → IteratorState };
+
+    /// What holds inside it: so it is made, and so each call leaves it.
+    ghost sound: { Self → Type 0 };
+
+    /// Makes it ready. A second call does nothing more.
+    fn init(&mut self, alloc: Global) -> Result<(), SlateDBError>
+        requires { sound self.old }
+        ensures init { Inits (state self.old) (state self.new) result }
+        ensures sound { sound self.new };
+
+    /// The first row left.
+    fn next(&mut self, alloc: Global) -> Result<Option<RowEntry>, SlateDBError>
+        requires { sound self.old }
+        ensures next { Nexts (state self.old) (state self.new) result }
+        ensures sound { sound self.new };
+
+    /// Drops the rows below a key.
+    fn seek(&mut self, alloc: Global, next_key: &[u8]) -> Result<(), SlateDBError>
+        requires sound { sound self.old }
+        requires rising { AreRising (state self.old).rows }
+        ensures seek { Seeks next_key.now (state self.old) (state self.new) result }
+        ensures sound { sound self.new };
+}
+
+/// An iterator as the functions of a merge or an adapter take it, which need not send it to another thread. Each
+/// `RowEntryIterator` is one.
+pub trait RowSource {
+    ghost state: { Self → IteratorState };
+
+    ghost sound: { Self → Type 0 };
+
+    /// As `init`.
+    fn init_source(&mut self, alloc: Global) -> Result<(), SlateDBError>
+        requires { sound self.old }
+        ensures init { Inits (state self.old) (state self.new) result }
+        ensures sound { sound self.new };
+
+    /// As `next`.
+    fn next_row(&mut self, alloc: Global) -> Result<Option<RowEntry>, SlateDBError>
+        requires { sound self.old }
+        ensures next { Nexts (state self.old) (state self.new) result }
+        ensures sound { sound self.new };
+
+    /// As `seek`.
+    fn seek_row(&mut self, alloc: Global, next_key: &[u8]) -> Result<(), SlateDBError>
+        requires sound { sound self.old }
+        requires rising { AreRising (state self.old).rows }
+        ensures seek { Seeks next_key.now (state self.old) (state self.new) result }
+        ensures sound { sound self.new };
+}
+
+impl<T: RowEntryIterator> RowSource for T {
+    ghost state = { T.state };
+
+    ghost sound = { T.sound };
+
+    fn init_source(&mut self, alloc: Global) -> Result<(), SlateDBError> {
+        self.init(alloc)
+    }
+
+    fn next_row(&mut self, alloc: Global) -> Result<Option<RowEntry>, SlateDBError> {
+        self.next(alloc)
+    }
+
+    fn seek_row(&mut self, alloc: Global, next_key: &[u8]) -> Result<(), SlateDBError> {
+        self.seek(alloc, next_key)
+    }
+}

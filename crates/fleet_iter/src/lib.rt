@@ -1,0 +1,25 @@
+//! Iterators over rows: lists, merges that give the rows of several iterators in order, and adapters that look at the next row
+//! or take the rows up again behind a cursor.
+#![tactic(auto)]
+
+mod boxes;
+mod entry;
+mod iterator;
+mod list;
+mod merge;
+mod peeking;
+mod resuming;
+mod rising;
+mod tracked;
+
+pub use entry::MergeIteratorHeapEntry;
+pub use iterator::{IterationOrder, RowEntryIterator, RowSource};
+pub use list::{EmptyIterator, ListIterator};
+pub use merge::{MergeIterator, merges_rise, merges_sort};
+pub use peeking::PeekingIterator;
+pub use resuming::{ResumingIterator, resumes_behind};
+pub use rising::{are_rising, ordered_rows_rise};
+pub use tracked::TrackedRowEntryIterator;
+
+#[cfg(test)]
+mod tests;

@@ -1,0 +1,116 @@
+//! Iterators that hold all their rows.
+
+ghost use Rattle.std.specs.Prelude.{◌≡◌, ⊤, false, [], reverse};
+ghost use Rattle.fleet_rows.specs.Row.{rows_of};
+ghost use Rattle.fleet_iter.specs.Iteration.{Inits, Nexts, Seeks};
+ghost use Rattle.fleet_iter.specs.List.{left, giving};
+ghost use Rattle.fleet_iter.specs.Tracked.{counted, taken_at_once};
+
+use crate::tracked::row_bytes;
+use crate::{RowEntryIterator, TrackedRowEntryIterator};
+use fleet_rows::{RowEntry, SlateDBError};
+use std::alloc::Global;
+use std::cmp::Ordering;
+use std::marker::Model;
+
+/// No rows.
+#[derive(Debug, Drop)]
+pub struct EmptyIterator {}
+
+impl EmptyIterator {
+    /// An iterator without rows.
+    pub fn new() -> EmptyIterator {
+        EmptyIterator {}
+    }
+}
+
+impl RowEntryIterator for EmptyIterator {
+    ghost state = { λ _. left [] };
+
+    ghost sound = { λ _. ⊤ };
+
+    fn init(&mut self, _alloc: Global) -> Result<(), SlateDBError> {
+        Ok(())
+    }
+
+    fn next(&mut self, _alloc: Global) -> Result<Option<RowEntry>, SlateDBError> {
+        Ok(None)
+    }
+
+    fn seek(&mut self, _alloc: Global, _next_key: &[u8]) -> Result<(), SlateDBError> {
+        Ok(())
+    }
+}
+
+/// The rows of a list, one after the other. Contracts see the rows left, and the bytes of those that were given.
+#[derive(Debug, Drop)]
+pub struct ListIterator {
+    // The next row stands last.
+    rows: Vec<RowEntry>,
+    processed: u64,
+}
+
+impl Model for ListIterator {
+    ghost use Rattle.std.specs.Prelude.{reverse};
+    ghost use Rattle.fleet_rows.specs.Row.{rows_of};
+    ghost use Rattle.fleet_iter.specs.List.{Listed};
+
+    ghost Value = { Listed };
+
+    ghost view = { λ l. record { rows = rows_of (reverse l.rows.items); processed = l.processed } };
+}
+
+impl ListIterator {
+    /// These rows, in their own memory.
+    pub fn new(rows: Vec<RowEntry>) -> ListIterator
+        ensures { result ≡ record { rows = rows_of rows.items; processed = 0 } }
+    {
+        let mut rows = rows;
+        rows.reverse();
+        ListIterator { rows, processed: 0 }
+    }
+}
+
+impl RowEntryIterator for ListIterator {
+    ghost state = { giving };
+
+    ghost sound = { λ _. ⊤ };
+
+    fn init(&mut self, _alloc: Global) -> Result<(), SlateDBError>
+        ensures init { Inits (giving self.old) (giving self.new) result }
+        ensures processed { self.new.processed ≡ self.old.processed }
+    {
+        Ok(())
+    }
+
+    fn next(&mut self, _alloc: Global) -> Result<Option<RowEntry>, SlateDBError>
+        ensures next { Nexts (giving self.old) (giving self.new) result }
+        ensures processed { self.new.processed ≡ counted self.old.processed (taken_at_once false self.old.rows) }
+    {
+        let Some(row) = self.rows.pop() else {
+            return Ok(None);
+        };
+        self.processed = self.processed.saturating_add(row_bytes(&row));
+        Ok(Some(row))
+    }
+
+    fn seek(&mut self, _alloc: Global, next_key: &[u8]) -> Result<(), SlateDBError>
+        ensures seek { Seeks next_key.now (giving self.old) (giving self.new) result }
+        ensures processed { self.new.processed ≡ self.old.processed }
+    {
+        'below: while let Some(row) = self.rows.last()
+            && row.key.as_slice().cmp(next_key) == Ordering::Less
+        {
+            self.rows.pop();
+        }
+        Ok(())
+    }
+}
+
+impl TrackedRowEntryIterator for ListIterator {
+    ghost processed = { λ l. l.processed };
+
+    fn bytes_processed(&self) -> u64 {
+        self.processed
+    }
+}

@@ -1,0 +1,400 @@
+//! The rows of several iterators, in order.
+
+ghost use Rattle.std.specs.Prelude.{◌≡◌, map, true, false, [], IfOk, IfErr, OnOk};
+ghost use Rattle.std.specs.Option.{option_map};
+ghost use Rattle.std.specs.List.{AllByRecursion};
+ghost use Rattle.row_laws.specs.Keys.{is_below};
+ghost use Rattle.fleet_rows.specs.Row.{row_of};
+ghost use Rattle.fleet_iter.specs.Iteration.{IteratorState, Inits, Nexts, Seeks, CanFail, AreRising};
+ghost use Rattle.fleet_iter.specs.declared.iterator.IterationOrder.TheVariants as in_order;
+ghost use Rattle.fleet_iter.specs.Merge.{keys_in, cmp_in, hides, best, found_row, goes_ahead, passes, AllTaken, Takes, Drops, Steps, Skips, Begins, NoneFailed, starting, merged, merged_left, rows_left, given, are_whole, MergesSort, MergesRise};
+ghost use Rattle.fleet_iter.specs.Tracked.{row_bytes, first_bytes, kept_back, counted, taken_at_once};
+ghost use Rattle.fleet_iter.specs.MergeState.{state_of, merge_of, IsSound};
+
+use crate::tracked::row_bytes;
+use crate::{IterationOrder, RowEntryIterator, RowSource, TrackedRowEntryIterator};
+use bytes::Bytes;
+use fleet_rows::{RowEntry, SlateDBError, ValueDeletable};
+use std::alloc::Global;
+use std::cmp::Ordering;
+use std::mem;
+
+fn compare_keys(order: IterationOrder, key: &Bytes, other: &Bytes) -> Ordering
+    ensures { result ≡ keys_in order key.now other.now }
+{
+    match order {
+        IterationOrder::Ascending => key.cmp(other),
+        IterationOrder::Descending => other.cmp(key),
+    }
+}
+
+// By key, and then by falling sequence.
+pub(crate) fn compare(order: IterationOrder, row: &RowEntry, other: &RowEntry) -> Ordering
+    ensures { result ≡ cmp_in order (row_of row.now) (row_of other.now) }
+{
+    compare_keys(order, &row.key, &other.key).then(other.seq.cmp(&row.seq))
+}
+
+// Whether a row keeps back one behind it.
+fn hides(row: &RowEntry, other: &RowEntry) -> bool
+    ensures { result ≡ hides (row_of row.now) (row_of other.now) }
+{
+    !matches!(row.value, ValueDeletable::Merge(_)) && row.key == other.key
+}
+
+// Whether a row goes before what was found behind it.
+fn goes_ahead(order: IterationOrder, row: &RowEntry, found: &Option<(usize, &RowEntry)>) -> bool
+    ensures { result ≡ goes_ahead order row.now (found_row found.now) }
+{
+    match found {
+        Some((_, other)) => compare(order, row, other) != Ordering::Greater,
+        None => true,
+    }
+}
+
+// The least head and its place.
+fn least_row(order: IterationOrder, heads: &[Option<RowEntry>]) -> Option<(usize, &RowEntry)>
+    ensures { found_row result ≡ best order heads.now }
+{
+    let mut found: Option<(usize, &RowEntry)> = None;
+    'heads: for i in (0..heads.len()).rev() {
+        if let Some(row) = &heads[i] {
+            if goes_ahead(order, row, &found) {
+                found = Some((i, row));
+            }
+        }
+    }
+    found
+}
+
+// The place of the least head.
+fn least(order: IterationOrder, heads: &[Option<RowEntry>]) -> Option<usize>
+    ensures { result ≡ option_map (λ p. p.0) (best order heads.now) }
+{
+    match least_row(order, heads) {
+        Some((place, _)) => Some(place),
+        None => None,
+    }
+}
+
+// Whether the least head is below a key.
+fn least_is_below(order: IterationOrder, heads: &[Option<RowEntry>], key: &[u8]) -> bool
+    ensures { result ≡ passes (is_below key.now) (best order heads.now) }
+{
+    match least_row(order, heads) {
+        Some((_, row)) => row.key.as_slice().cmp(key) == Ordering::Less,
+        None => false,
+    }
+}
+
+// Whether a row keeps back the least head.
+fn least_is_hidden(order: IterationOrder, heads: &[Option<RowEntry>], row: &RowEntry) -> bool
+    ensures { result ≡ passes (hides (row_of row.now)) (best order heads.now) }
+{
+    match least_row(order, heads) {
+        Some((_, other)) => hides(row, other),
+        None => false,
+    }
+}
+
+// Takes the least head, and its source's next row in its place.
+fn take_least<T: RowSource>(
+    alloc: Global,
+    order: IterationOrder,
+    sources: &mut Vec<T>,
+    heads: &mut Vec<Option<RowEntry>>,
+) -> Result<Option<RowEntry>, SlateDBError>
+    requires taken { AllTaken heads.old.items (map T.state sources.old.items) }
+    requires sound { AllByRecursion T.sound sources.old.items }
+    ensures ok { IfOk result (Takes order false heads.old.items (map T.state sources.old.items) heads.new.items (map T.state sources.new.items)) }
+    ensures err { IfErr result (CanFail (are_whole (map T.state sources.old.items))) }
+    ensures sound { AllByRecursion T.sound sources.new.items }
+{
+    let Some(place) = least(order, heads) else {
+        return Ok(None);
+    };
+    let head = sources[place].next_row(alloc)?;
+    Ok(mem::replace(&mut heads[place], head))
+}
+
+// A source's first row.
+fn first_row<T: RowSource>(alloc: Global, source: &mut T) -> Result<Option<RowEntry>, SlateDBError>
+    requires sound { T.sound source.old }
+    requires alive { (T.state source.old).failed ≡ false }
+    ensures ok { IfOk result (Steps (T.state source.old) (T.state source.new)) }
+    ensures err { IfErr result (CanFail (T.state source.old).whole) }
+    ensures sound { T.sound source.new }
+{
+    source.init_source(alloc)?;
+    source.next_row(alloc)
+}
+
+// Takes the first row of each source.
+fn take_heads<T: RowSource>(
+    alloc: Global,
+    sources: &mut Vec<T>,
+    heads: &mut Vec<Option<RowEntry>>,
+) -> Result<(), SlateDBError>
+    requires none { heads.old.items ≡ [] }
+    requires alive { NoneFailed (map T.state sources.old.items) }
+    requires sound { AllByRecursion T.sound sources.old.items }
+    ensures ok { OnOk result (Begins (map T.state sources.old.items) heads.new.items (map T.state sources.new.items)) }
+    ensures err { IfErr result (CanFail (are_whole (map T.state sources.old.items))) }
+    ensures sound { AllByRecursion T.sound sources.new.items }
+{
+    'sources: for i in 0..sources.len() {
+        let head = first_row(alloc, &mut sources[i])?;
+        heads.push(head)?;
+    }
+    Ok(())
+}
+
+// Drops the least head, and answers its bytes.
+fn drop_least<T: RowSource>(
+    alloc: Global,
+    order: IterationOrder,
+    sources: &mut Vec<T>,
+    heads: &mut Vec<Option<RowEntry>>,
+) -> Result<u64, SlateDBError>
+    requires taken { AllTaken heads.old.items (map T.state sources.old.items) }
+    requires sound { AllByRecursion T.sound sources.old.items }
+    ensures ok { IfOk result (λ _. Drops order heads.old.items (map T.state sources.old.items) heads.new.items (map T.state sources.new.items)) }
+    ensures bytes { IfOk result (λ bytes. bytes ≡ first_bytes (merged_left order heads.old.items (map T.state sources.old.items))) }
+    ensures err { IfErr result (CanFail (are_whole (map T.state sources.old.items))) }
+    ensures sound { AllByRecursion T.sound sources.new.items }
+{
+    match take_least(alloc, order, sources, heads)? {
+        Some(row) => Ok(row_bytes(&row)),
+        None => Ok(0),
+    }
+}
+
+// Drops the rows below a key.
+fn skip_below<T: RowSource>(
+    alloc: Global,
+    order: IterationOrder,
+    sources: &mut Vec<T>,
+    heads: &mut Vec<Option<RowEntry>>,
+    key: &[u8],
+) -> Result<(), SlateDBError>
+    requires taken { AllTaken heads.old.items (map T.state sources.old.items) }
+    requires sound { AllByRecursion T.sound sources.old.items }
+    ensures ok { OnOk result (Skips order (is_below key.now) heads.old.items (map T.state sources.old.items) heads.new.items (map T.state sources.new.items)) }
+    ensures err { IfErr result (CanFail (are_whole (map T.state sources.old.items))) }
+    ensures sound { AllByRecursion T.sound sources.new.items }
+{
+    'below: while least_is_below(order, heads, key) {
+        drop_least(alloc, order, sources, heads)?;
+    }
+    Ok(())
+}
+
+// Drops the rows that a row keeps back, and adds their bytes to a count.
+fn skip_hidden<T: RowSource>(
+    alloc: Global,
+    order: IterationOrder,
+    sources: &mut Vec<T>,
+    heads: &mut Vec<Option<RowEntry>>,
+    row: &RowEntry,
+    processed: u64,
+) -> Result<u64, SlateDBError>
+    requires taken { AllTaken heads.old.items (map T.state sources.old.items) }
+    requires sound { AllByRecursion T.sound sources.old.items }
+    ensures ok { IfOk result (λ _. Skips order (hides (row_of row.now)) heads.old.items (map T.state sources.old.items) heads.new.items (map T.state sources.new.items)) }
+    ensures bytes { IfOk result (λ count. count ≡ counted processed (kept_back (row_of row.now) (merged_left order heads.old.items (map T.state sources.old.items)))) }
+    ensures err { IfErr result (CanFail (are_whole (map T.state sources.old.items))) }
+    ensures sound { AllByRecursion T.sound sources.new.items }
+{
+    let mut count = processed;
+    'hidden: while least_is_hidden(order, heads, row) {
+        let bytes = drop_least(alloc, order, sources, heads)?;
+        count = count.saturating_add(bytes);
+    }
+    Ok(count)
+}
+
+// Takes the next row that is given, and with it those that it keeps back. All their bytes are added to the count.
+fn take_given<T: RowSource>(
+    alloc: Global,
+    order: IterationOrder,
+    dedup: bool,
+    sources: &mut Vec<T>,
+    heads: &mut Vec<Option<RowEntry>>,
+    processed: &mut u64,
+) -> Result<Option<RowEntry>, SlateDBError>
+    requires taken { AllTaken heads.old.items (map T.state sources.old.items) }
+    requires sound { AllByRecursion T.sound sources.old.items }
+    ensures ok { IfOk result (Takes order dedup heads.old.items (map T.state sources.old.items) heads.new.items (map T.state sources.new.items)) }
+    ensures bytes { IfOk result (λ _. processed.new ≡ counted processed.old (taken_at_once dedup (merged_left order heads.old.items (map T.state sources.old.items)))) }
+    ensures err { IfErr result (CanFail (are_whole (map T.state sources.old.items))) }
+    ensures sound { AllByRecursion T.sound sources.new.items }
+{
+    let Some(row) = take_least(alloc, order, sources, heads)? else {
+        return Ok(None);
+    };
+    let count = processed.saturating_add(row_bytes(&row));
+    if !dedup {
+        *processed = count;
+        return Ok(Some(row));
+    }
+    *processed = skip_hidden(alloc, order, sources, heads, &row, count)?;
+    Ok(Some(row))
+}
+
+// Marks a failure, and hands on its cause.
+fn fail(failed: &mut bool, error: SlateDBError) -> SlateDBError
+    ensures marked { failed.new ≡ true }
+    ensures cause { result ≡ error }
+{
+    *failed = true;
+    error
+}
+
+/// The rows of several iterators, always the least first, and of alike rows that of the earlier iterator.
+#[derive(Drop)]
+pub struct MergeIterator<T: RowEntryIterator> {
+    sources: Vec<T>,
+    // The next row of each source, once they are initialised.
+    heads: Vec<Option<RowEntry>>,
+    order: IterationOrder,
+    dedup: bool,
+    initialised: bool,
+    failed: bool,
+    processed: u64,
+}
+
+impl<T: RowEntryIterator> MergeIterator<T> {
+    /// The ascending merge of these iterators, with dedup.
+    pub fn new(alloc: Global, iterators: Vec<T>) -> Self
+        requires sound { AllByRecursion T.sound iterators.items }
+        requires alive { NoneFailed (map T.state iterators.items) }
+        ensures rows { state_of T.state result ≡ starting in_order.Ascending (map T.state iterators.items) }
+        ensures all { merge_of T.state result ≡ merged in_order.Ascending (rows_left (map T.state iterators.items)) }
+        ensures sound { IsSound T.sound T.state result }
+    {
+        MergeIterator::new_with_order(alloc, iterators, IterationOrder::Ascending)
+    }
+
+    /// The merge of these iterators in an order, with dedup. One that is descending may be sought only where one key is left.
+    pub fn new_with_order(alloc: Global, iterators: Vec<T>, order: IterationOrder) -> Self
+        requires sound { AllByRecursion T.sound iterators.items }
+        requires alive { NoneFailed (map T.state iterators.items) }
+        ensures rows { state_of T.state result ≡ starting order (map T.state iterators.items) }
+        ensures all { merge_of T.state result ≡ merged order (rows_left (map T.state iterators.items)) }
+        ensures sound { IsSound T.sound T.state result }
+    {
+        MergeIterator {
+            sources: iterators,
+            heads: Vec::new(alloc),
+            order,
+            dedup: true,
+            initialised: false,
+            failed: false,
+            processed: 0,
+        }
+    }
+
+    /// The same merge, with or without dedup: whether a row that is no operand keeps back the rows of its key behind it.
+    pub fn with_dedup(self, dedup: bool) -> Self
+        requires { IsSound T.sound T.state self }
+        ensures rows { state_of T.state result ≡ record (state_of T.state self) { rows = given dedup (merge_of T.state self) } }
+        ensures all { merge_of T.state result ≡ merge_of T.state self }
+        ensures dedup { result.dedup ≡ dedup }
+        ensures processed { result.processed ≡ self.processed }
+        ensures sound { IsSound T.sound T.state result }
+    {
+        MergeIterator { dedup, ..self }
+    }
+}
+
+impl<T: RowEntryIterator> RowEntryIterator for MergeIterator<T> {
+    ghost state = { state_of T.state };
+
+    ghost sound = { IsSound T.sound T.state };
+
+    fn init(&mut self, alloc: Global) -> Result<(), SlateDBError>
+        requires { IsSound T.sound T.state self.old }
+        ensures init { Inits (state_of T.state self.old) (state_of T.state self.new) result }
+        ensures sound { IsSound T.sound T.state self.new }
+        ensures processed { self.new.processed ≡ self.old.processed }
+    {
+        if self.failed {
+            return Err(SlateDBError::IteratorFailed);
+        }
+        if self.initialised {
+            return Ok(());
+        }
+        match take_heads(alloc, &mut self.sources, &mut self.heads) {
+            Ok(()) => {
+                self.initialised = true;
+                Ok(())
+            }
+            Err(error) => Err(fail(&mut self.failed, error)),
+        }
+    }
+
+    fn next(&mut self, alloc: Global) -> Result<Option<RowEntry>, SlateDBError>
+        requires { IsSound T.sound T.state self.old }
+        ensures next { Nexts (state_of T.state self.old) (state_of T.state self.new) result }
+        ensures sound { IsSound T.sound T.state self.new }
+        ensures processed { IfOk result (λ _. self.new.processed ≡ counted self.old.processed (taken_at_once self.old.dedup (merge_of T.state self.old))) }
+    {
+        if self.failed {
+            return Err(SlateDBError::IteratorFailed);
+        }
+        if !self.initialised {
+            return Err(SlateDBError::IteratorNotInitialized);
+        }
+        let order = self.order;
+        let dedup = self.dedup;
+        match take_given(
+            alloc,
+            order,
+            dedup,
+            &mut self.sources,
+            &mut self.heads,
+            &mut self.processed,
+        ) {
+            Ok(row) => Ok(row),
+            Err(error) => Err(fail(&mut self.failed, error)),
+        }
+    }
+
+    fn seek(&mut self, alloc: Global, next_key: &[u8]) -> Result<(), SlateDBError>
+        requires sound { IsSound T.sound T.state self.old }
+        requires rising { AreRising (state_of T.state self.old).rows }
+        ensures seek { Seeks next_key.now (state_of T.state self.old) (state_of T.state self.new) result }
+        ensures sound { IsSound T.sound T.state self.new }
+        ensures processed { self.new.processed ≡ self.old.processed }
+    {
+        if self.failed {
+            return Err(SlateDBError::IteratorFailed);
+        }
+        if !self.initialised {
+            return Err(SlateDBError::IteratorNotInitialized);
+        }
+        let order = self.order;
+        match skip_below(alloc, order, &mut self.sources, &mut self.heads, next_key) {
+            Ok(()) => Ok(()),
+            Err(error) => Err(fail(&mut self.failed, error)),
+        }
+    }
+}
+
+impl<T: RowEntryIterator> TrackedRowEntryIterator for MergeIterator<T> {
+    ghost processed = { λ m. m.processed };
+
+    fn bytes_processed(&self) -> u64 {
+        self.processed
+    }
+}
+
+/// The ascending merge without dedup of strictly ordered rows is strictly ordered, and has all rows, where no two have key and sequence in common.
+pub fn merges_sort()
+    ensures { MergesSort }
+{}
+
+/// The ascending merge of iterators whose rows rise may be sought, with dedup or without.
+pub fn merges_rise()
+    ensures { MergesRise }
+{}

@@ -1,0 +1,122 @@
+//! Iterators taken up again behind a cursor.
+
+ghost use Rattle.std.specs.Prelude.{◌≡◌, true, false, IfOk, IfErr};
+ghost use Rattle.std.specs.Option.{option_copied};
+ghost use Rattle.fleet_rows.specs.Row.{row_of};
+ghost use Rattle.fleet_iter.specs.Iteration.{CanFail, AreRising, without_first};
+ghost use Rattle.fleet_iter.specs.Peek.{ahead, HasBegun};
+ghost use Rattle.fleet_iter.specs.Resume.{is_written, rows_behind, ResumesBehind};
+ghost use Rattle.fleet_iter.specs.ResumeState.{state_of, IsSound};
+
+use crate::{PeekingIterator, RowEntryIterator, RowSource, TrackedRowEntryIterator};
+use bytes::Bytes;
+use fleet_rows::{RowEntry, SlateDBError};
+use std::alloc::Global;
+
+// Whether a row has a key, and a sequence that is not below one.
+fn is_written(row: &RowEntry, key: &Bytes, seq: u64) -> bool
+    ensures { result ≡ is_written (key.now, seq) (row_of row.now) }
+{
+    row.key == *key && seq <= row.seq
+}
+
+// The first row left that does not stand written.
+fn first_unwritten<T: RowSource>(
+    alloc: Global,
+    source: &mut T,
+    key: &Bytes,
+    seq: u64,
+) -> Result<Option<RowEntry>, SlateDBError>
+    requires sound { T.sound source.old }
+    requires alive { (T.state source.old).failed ≡ false }
+    requires initialised { (T.state source.old).initialised ≡ true }
+    ensures rows { IfOk result (λ row. ahead row (T.state source.new) ≡ record (T.state source.old) { rows = without_first (is_written (key.now, seq)) (T.state source.old).rows }) }
+    ensures begun { IfOk result (λ row. HasBegun row (T.state source.new)) }
+    ensures err { IfErr result (CanFail (T.state source.old).whole) }
+    ensures sound { T.sound source.new }
+{
+    'rows: while let Some(row) = source.next_row(alloc)? {
+        if !is_written(&row, key, seq) {
+            return Ok(Some(row));
+        }
+    }
+    Ok(None)
+}
+
+/// An iterator taken up again behind a cursor, which is the key and sequence of the row that was written last.
+#[derive(Drop)]
+pub struct ResumingIterator<T: RowEntryIterator> {
+    inner: PeekingIterator<T>,
+    start: Option<(Bytes, u64)>,
+}
+
+impl<T: RowEntryIterator> ResumingIterator<T> {
+    /// The rows of an iterator from the cursor's key on, without those of that key whose sequence is not below the cursor's.
+    pub fn new(
+        alloc: Global,
+        iterator: T,
+        resume_cursor: Option<(Bytes, u64)>,
+    ) -> Result<Self, SlateDBError>
+        requires sound { T.sound iterator }
+        requires alive { (T.state iterator).failed ≡ false }
+        requires initialised { (T.state iterator).initialised ≡ true }
+        requires rising { AreRising (T.state iterator).rows }
+        ensures rows { IfOk result (λ r. state_of T.state r ≡ record (T.state iterator) { rows = rows_behind resume_cursor (T.state iterator).rows }) }
+        ensures start { IfOk result (λ r. r.start ≡ resume_cursor) }
+        ensures sound { IfOk result (λ r. IsSound T.sound T.state r) }
+        ensures err { IfErr result (CanFail (T.state iterator).whole) }
+    {
+        let mut source = iterator;
+        let mut peeked = None;
+        if let Some((key, seq)) = &resume_cursor {
+            source.seek_row(alloc, key.as_slice())?;
+            peeked = first_unwritten(alloc, &mut source, key, *seq)?;
+        }
+        let inner = PeekingIterator {
+            inner: source,
+            peeked,
+        };
+        Ok(ResumingIterator {
+            inner,
+            start: resume_cursor,
+        })
+    }
+
+    /// The cursor.
+    pub fn start(&self) -> Option<&(Bytes, u64)>
+        ensures { option_copied result ≡ self.now.start }
+    {
+        self.start.as_ref()
+    }
+}
+
+impl<T: RowEntryIterator> RowEntryIterator for ResumingIterator<T> {
+    ghost state = { state_of T.state };
+
+    ghost sound = { IsSound T.sound T.state };
+
+    fn init(&mut self, alloc: Global) -> Result<(), SlateDBError> {
+        self.inner.init(alloc)
+    }
+
+    fn next(&mut self, alloc: Global) -> Result<Option<RowEntry>, SlateDBError> {
+        self.inner.next(alloc)
+    }
+
+    fn seek(&mut self, alloc: Global, next_key: &[u8]) -> Result<(), SlateDBError> {
+        self.inner.seek(alloc, next_key)
+    }
+}
+
+impl<T: TrackedRowEntryIterator> TrackedRowEntryIterator for ResumingIterator<T> {
+    ghost processed = { λ a. T.processed a.inner.inner };
+
+    fn bytes_processed(&self) -> u64 {
+        self.inner.bytes_processed()
+    }
+}
+
+/// Ordered rows behind a cursor are exactly those that do not stand written.
+pub fn resumes_behind()
+    ensures { ResumesBehind }
+{}

@@ -1,0 +1,26 @@
+//! Iterators that count the bytes of their rows.
+
+ghost use Rattle.std.specs.Prelude.{◌≡◌, ℕ};
+ghost use Rattle.fleet_rows.specs.Row.{row_of};
+ghost use Rattle.fleet_iter.specs.Tracked.{row_bytes};
+
+use crate::RowEntryIterator;
+use fleet_rows::RowEntry;
+
+/// An iterator that counts the lengths of keys and values: of the rows that the list or the merge at the bottom has given, and
+/// of those that its dedup kept back. Rows that a seek drops do not count.
+pub trait TrackedRowEntryIterator: RowEntryIterator {
+    /// The bytes counted so far.
+    ghost processed: { Self → ℕ };
+
+    /// The bytes counted so far, at most `u64::MAX`.
+    fn bytes_processed(&self) -> u64
+        ensures { result ≡ processed self.now };
+}
+
+// The lengths of key and value.
+pub(crate) fn row_bytes(row: &RowEntry) -> u64
+    ensures { result ≡ row_bytes (row_of row.now) }
+{
+    (row.key.len() as u64).saturating_add(row.value.len() as u64)
+}

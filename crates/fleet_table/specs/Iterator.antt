@@ -1,0 +1,12 @@
+-- What a table's iterator has left.
+use Rattle.std.specs.Prelude.{List, Bool, true}
+use Rattle.row_model.specs.Rows.{Row}
+use Rattle.fleet_iter.specs.Iteration.{IteratorState}
+
+pub record RowsLeft : Type 0 where
+  pub left : List Row
+  pub broken : Bool
+
+-- it needs no init, and only want of memory fails it
+abbrev pub state_of : RowsLeft → IteratorState
+state_of t = record { rows = t.left; initialised = true; failed = t.broken; whole = true }
