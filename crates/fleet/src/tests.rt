@@ -11,10 +11,40 @@ const FLUSH_AND_READ: &str =
 
 const REPLIES: &str = "ok\nvalue 7631\nnone\nnotretained 3 0\nnone\n";
 
+const ONE_JOB: &str = "start coordinator 1\n\
+     start worker 1\n\
+     flush 1 - 0 0 61:v:7631:3:-:-,61:v:7630:1:-:-,62:t:-:2:-:-\n\
+     flush 2 - 3 0 62:v:7a:4:-:-\n\
+     submit - 0 l1\n\
+     poll 1\n\
+     claim 1\n\
+     finish 1 1\n\
+     poll 1\n\
+     dump - r0\n\
+     read - 61 3 0\n\
+     read - 62 4 0\n\
+     read - 62 3 0\n\
+     read - 61 2 0\n";
+
+const JOB_REPLIES: &str = "ok epoch 1\n\
+     ok\n\
+     ok\n\
+     ok\n\
+     ok job 1\n\
+     ok freed - done - lost - added - dropped - open 1 moved - drained - bad -\n\
+     ok claimed 1.1:- stopped -\n\
+     ok t1\n\
+     ok freed - done 1 lost - added - dropped - open - moved - drained - bad -\n\
+     ok 61:v:7631:3:-:-\n\
+     value 7631\n\
+     value 7a\n\
+     none\n\
+     notretained 3 0\n";
+
 /// Keeps the first bytes that it takes, and asks for no memory.
 #[derive(Drop)]
 struct ShortSink {
-    bytes: [u8; 64],
+    bytes: [u8; 512],
     len: usize,
     taken: u64,
 }
@@ -38,19 +68,22 @@ impl Sink for ShortSink {
 /// Where a growth is refused, on whatever way, the status is 6 and whole replies stand. With ample memory it is 0.
 #[test]
 fn memory_ends_between_replies(rt: HostRuntime) -> Result<(), Fail> {
-    let Ok(mut fleet) = Fleet::new(rt.alloc()) else {
-        return Ok(());
-    };
-    let mut source = SafeSource::new(FLUSH_AND_READ.as_bytes());
-    let mut sink = ShortSink {
-        bytes: [0; 64],
-        len: 0,
-        taken: 0,
-    };
-    let status = fleet_main(rt.alloc(), &["run"], &mut source, &mut fleet, &mut sink);
-    let written = &sink.bytes[..sink.len.min(sink.bytes.len())];
-    assert!(rt; REPLIES.as_bytes().starts_with(written));
-    assert!(rt; written.is_empty() || written.ends_with(b"\n"));
-    assert_eq!(rt; status, if written == REPLIES.as_bytes() { 0 } else { 6 });
+    let rows: [(&str, &str); 2] = [(FLUSH_AND_READ, REPLIES), (ONE_JOB, JOB_REPLIES)];
+    for (script, replies) in rows {
+        let Ok(mut fleet) = Fleet::new(rt.alloc()) else {
+            continue;
+        };
+        let mut source = SafeSource::new(script.as_bytes());
+        let mut sink = ShortSink {
+            bytes: [0; 512],
+            len: 0,
+            taken: 0,
+        };
+        let status = fleet_main(rt.alloc(), &["run"], &mut source, &mut fleet, &mut sink);
+        let written = &sink.bytes[..sink.len.min(sink.bytes.len())];
+        assert!(rt; replies.as_bytes().starts_with(written));
+        assert!(rt; written.is_empty() || written.ends_with(b"\n"));
+        assert_eq!(rt; status, if written == replies.as_bytes() { 0 } else { 6 });
+    }
     Ok(())
 }

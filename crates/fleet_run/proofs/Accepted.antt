@@ -12,8 +12,7 @@ use Rattle.fleet_rows.specs.declared.row.RowEntry.{RowEntry}
 use Rattle.fleet_table.specs.Table.{IsTable}
 use Rattle.fleet_table.proofs.Ordered.{ordered_of_test}
 use Rattle.script_model.specs.Flushes.{is_above}
-use Rattle.script_model.specs.Grammars.{IsPlain}
-use Rattle.fleet_run.specs.FleetView.{FleetView, AreFlushes, IsFlushAbove, newest_name, newest_seq}
+use Rattle.fleet_run.specs.FleetView.{FleetView}
 use Rattle.fleet_run.specs.Serve.{fault_alone, fault_against, flush_fault}
 
 all_of_test : {A : Type 0} (p : A → Bool) (xs : List A) → list_all p xs ≡ true → AllByRecursion (λ x. p x ≡ true) xs
@@ -26,43 +25,35 @@ all_of_test p (x ∷ xs) h = by (p x) refl (all_of_test p xs) h
 
 -- a flush that breaks no rule by itself
 pub record IsSoundAlone (fleet : FleetView) (name : ℕ) (rows : List Row) : Type 0 where
-  pub named : newest_name fleet.flushes < name
+  pub named : fleet.last_name < name
   pub ordered : IsStrictlyOrdered rows
 
-sound_alone : (fleet : FleetView) (name : ℕ) (rows : List Row) → fault_alone fleet name rows ≡ None → IsSoundAlone fleet name rows
-sound_alone fleet name rows h = by (nat_le name (newest_name fleet.flushes)) (are_ordered rows) refl refl h
+pub sound_alone : (fleet : FleetView) (name : ℕ) (rows : List Row) → fault_alone fleet name rows ≡ None → IsSoundAlone fleet name rows
+sound_alone fleet name rows h = by (nat_le name fleet.last_name) (are_ordered rows) refl refl h
   where
-    by : (b o : Bool) → nat_le name (newest_name fleet.flushes) ≡ b → are_ordered rows ≡ o → cond b (Some (codes "name")) (cond (not o) (Some (codes "order")) None) ≡ None → IsSoundAlone fleet name rows
+    by : (b o : Bool) → nat_le name fleet.last_name ≡ b → are_ordered rows ≡ o → cond b (Some (codes "name")) (cond (not o) (Some (codes "order")) None) ≡ None → IsSoundAlone fleet name rows
     by true o is os h = absurd (cc h)
     by false true is os h = record { named = grind (arith, nat_tests, is); ordered = ordered_of_test rows os }
     by false false is os h = absurd (cc h)
 
-rows_newer : (fleet : FleetView) (floor : ℕ) (tick : ℤ) (rows : List Row) → fault_against fleet floor tick rows ≡ None → AllByRecursion (λ r. is_above (newest_seq fleet.flushes) r.seq ≡ true) rows
+pub rows_newer : (fleet : FleetView) (floor : ℕ) (tick : ℤ) (rows : List Row) → fault_against fleet floor tick rows ≡ None → AllByRecursion (λ r. is_above fleet.last_seq r.seq ≡ true) rows
 rows_newer fleet floor tick rows h = by (list_all newer rows) refl h
   where
     newer : Row → Bool
-    newer r = is_above (newest_seq fleet.flushes) r.seq
+    newer r = is_above fleet.last_seq r.seq
 
     by : (b : Bool) → list_all newer rows ≡ b → cond (not b) (Some (codes "sequence")) (cond (nat_lt floor fleet.floor) (Some (codes "floor")) (cond (int_lt tick fleet.tick) (Some (codes "tick")) None)) ≡ None
         → AllByRecursion (λ r. newer r ≡ true) rows
     by true is h = all_of_test newer rows is
     by false is h = absurd (cc h)
 
-none_first : {A : Type 0} (a b : Option A) → option_or a b ≡ None → a ≡ None
+pub none_first : {A : Type 0} (a b : Option A) → option_or a b ≡ None → a ≡ None
 none_first None b h = refl
 none_first (Some x) b h = absurd (cc h)
 
-none_second : {A : Type 0} (a b : Option A) → option_or a b ≡ None → b ≡ None
+pub none_second : {A : Type 0} (a b : Option A) → option_or a b ≡ None → b ≡ None
 none_second None b h = h
 none_second (Some x) b h = absurd (cc h)
-
--- it may stand above the others
-pub stands_above : (fleet : FleetView) (name floor : ℕ) (tick : ℤ) (rows : List Row) → AreFlushes fleet.flushes → AllByRecursion IsPlain rows → flush_fault fleet name floor tick rows ≡ None → AreFlushes ((name, rows) ∷ fleet.flushes)
-stands_above fleet name floor tick rows sound plain h =
-    let alone = sound_alone fleet name rows (none_first (fault_alone fleet name rows) (fault_against fleet floor tick rows) h) in
-    let newer = rows_newer fleet floor tick rows (none_second (fault_alone fleet name rows) (fault_against fleet floor tick rows) h) in
-    let flush : IsFlushAbove fleet.flushes (name, rows) = record { named = alone.named; ordered = alone.ordered; plain = plain; newer = newer } in
-    (flush, sound)
 
 content_in_bounds : (content : Content) → IsContent content → content_len content < 2 ^ 32
 content_in_bounds (Value bytes) h = h.1

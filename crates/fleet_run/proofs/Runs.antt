@@ -1,72 +1,113 @@
 -- A script as it runs, line after line.
-use Rattle.std.proofs.Common.{◌≡◌, refl, sym, ap, ◌∙◌, ℕ, ◌+◌, List, [], ◌∷◌, ◌++◌, length, None, append_assoc, append-nil, ◌≤◌, arith}
+use Rattle.std.proofs.Common.{◌≡◌, refl, sym, ap, ◌∙◌, subst, ℕ, ◌+◌, List, [], ◌∷◌, ◌++◌, length, None, append_assoc, append-nil, ◌≤◌, arith}
 use Rattle.std.specs.List.{concat}
 use Rattle.std.proofs.lemmas.List.Concat.{flat_map-append}
 use Rattle.std.proofs.lemmas.List.Folds.{concat-append}
 use Rattle.row_model.specs.Fold.{Operator}
-use Rattle.script_model.specs.Script.{Line, AreLines, IsScript, script_text, spelt}
-use Rattle.script_model.specs.Grammars.{first_grammar}
+use Rattle.script_model.specs.Script.{Line, FlushRows, IsInBounds, AreLines, IsScript, script_text, spelt}
+use Rattle.script_model.specs.Grammars.{job_grammar}
 use Rattle.script_model.specs.States.{fresh_state}
 use Rattle.script_model.specs.Defaults.{default_options, with_quiet_scheduler}
+use Rattle.script_model.specs.Follows.{LineStep, ScriptRun}
 use Rattle.script_model.proofs.Runs.{run-more}
-use Rattle.fleet_run.specs.FleetView.{FleetView, fresh_fleet, AreFlushes}
-use Rattle.fleet_run.specs.Holds.{Holds}
-use Rattle.fleet_run.specs.Serve.{reply_to, fleet_after}
+use Rattle.fleet_run.specs.FleetView.{FleetView, fresh_fleet}
+use Rattle.fleet_run.specs.Holds.{held, Holds, state_of}
+use Rattle.fleet_run.specs.Serve.{IsServed, reply_to, fleet_after}
 use Rattle.fleet_run.specs.Outside.{SinkView, Took, TookShort, TookNothing}
 use Rattle.fleet_run.specs.Served.{Ran, RanButTheEnd, RunsUpToFault, RunsFront, Served, ServedUpToFault, ServedFront}
-use Rattle.fleet_run.proofs.Steps.{line_serves, LineServes}
+use Rattle.fleet_run.proofs.Steps.{AreStarted, LineServes, line_serves, started_more}
 use Rattle.fleet_run.proofs.Written.{took_none, took_more, took_kept}
 
 -- these lines were run so far
 pub record SoFar (merge : Operator) (lines : List Line) (fleet : FleetView) (old new : SinkView) : Type 0 where
   pub ran : Ran merge lines fleet old new
-  pub no_fault : ran.last.fault ≡ None
+  pub last : ran.last ≡ state_of fleet ran.last.store
+  pub started : AreStarted lines fleet
 
-fresh_holds : Holds fresh_fleet (fresh_state default_options).store
-fresh_holds = record { trees = refl; floor = refl; tick = refl; tables = tt; none_above = tt; named = refl }
+-- a line in bounds brings what a fleet serves
+served_in_bounds : (line : Line) → IsInBounds line → IsServed line
+served_in_bounds (FlushRows name segment floor tick rows) (named, prefix, low, at, some, are) = (some, are)
+served_in_bounds _ bounds = tt
+
+fresh_holds : Holds fresh_fleet (held (fresh_state default_options).store)
+fresh_holds = record {
+  made = [];
+  watermark = None;
+  trees = refl;
+  floor = refl;
+  tick = refl;
+  runs = refl;
+  falling = tt;
+  flushes = tt;
+  newest = refl;
+  last = refl;
+  small = omega arith;
+  kept = tt;
+  tables = tt;
+  used = tt;
+  named = refl;
+  jobs_drawn = refl;
+  tables_drawn = refl;
+  records = (refl, refl);
+  jobs = record { are = refl; rising = tt; below = tt };
+  opened = tt;
+  idle = λ _. refl;
+}
 
 pub so_far_none : (merge : Operator) (sink : SinkView) → SoFar merge [] fresh_fleet sink sink
 so_far_none merge sink = record {
   ran = record { answers = []; last = fresh_state default_options; run = refl; holds = fresh_holds; took = took_none sink };
-  no_fault = refl;
+  last = refl;
+  started = record { coordinator = refl; worker = refl };
 }
 
 concat-one : (answers : List (List ℕ)) (answer : List ℕ) → concat (answers ++ answer ∷ []) ≡ concat answers ++ answer
 concat-one answers answer = concat-append answers (answer ∷ []) ∙ ap (λ l. concat answers ++ l) (append-nil answer)
 
 served_next : (merge : Operator) (lines : List Line) (line : Line) (fleet : FleetView) (old mid : SinkView) (so_far : SoFar merge lines fleet old mid)
-    → first_grammar lines line → AreFlushes fleet.flushes → LineServes merge (1 + length lines) line fleet so_far.ran.last
-served_next merge lines line fleet old mid so_far fits sound = line_serves merge (1 + length lines) lines line fleet so_far.ran.last fits sound so_far.ran.holds so_far.no_fault
+    → job_grammar lines line → LineServes merge (1 + length lines) line fleet so_far.ran.last.store
+served_next merge lines line fleet old mid so_far fits =
+    line_serves merge (1 + length lines) lines line fleet so_far.ran.last.store fits (served_in_bounds line fits.0) so_far.started so_far.ran.holds
+
+run_next : (merge : Operator) (lines : List Line) (line : Line) (fleet : FleetView) (old mid : SinkView) (so_far : SoFar merge lines fleet old mid)
+    (next : LineServes merge (1 + length lines) line fleet so_far.ran.last.store)
+    → ScriptRun (with_quiet_scheduler merge) 1 (fresh_state default_options) (lines ++ line ∷ []) (so_far.ran.answers ++ reply_to line fleet ∷ []) (state_of (fleet_after line fleet) next.left)
+run_next merge lines line fleet old mid so_far next =
+    let ran = so_far.ran in
+    let inputs = with_quiet_scheduler merge in
+    let new = state_of (fleet_after line fleet) next.left in
+    run-more inputs 1 (fresh_state default_options) lines ran.answers ran.last line (reply_to line fleet) new ran.run
+    (subst (λ s. LineStep inputs (1 + length lines) s line (reply_to line fleet) new) (sym so_far.last) next.step)
 
 pub so_far_more : (merge : Operator) (lines : List Line) (line : Line) (fleet : FleetView) (old mid new : SinkView) → SoFar merge lines fleet old mid
-    → first_grammar lines line → AreFlushes fleet.flushes → Took (reply_to line fleet) mid new → SoFar merge (lines ++ line ∷ []) (fleet_after line fleet) old new
-so_far_more merge lines line fleet old mid new so_far fits sound took =
+    → job_grammar lines line → Took (reply_to line fleet) mid new → SoFar merge (lines ++ line ∷ []) (fleet_after line fleet) old new
+so_far_more merge lines line fleet old mid new so_far fits took =
     let ran = so_far.ran in
     let answer = reply_to line fleet in
-    let next = served_next merge lines line fleet old mid so_far fits sound in
+    let next = served_next merge lines line fleet old mid so_far fits in
     record {
       ran = record {
         answers = ran.answers ++ answer ∷ [];
-        last = next.new;
-        run = run-more (with_quiet_scheduler merge) 1 (fresh_state default_options) lines ran.answers ran.last line answer next.new ran.run next.step;
+        last = state_of (fleet_after line fleet) next.left;
+        run = run_next merge lines line fleet old mid so_far next;
         holds = next.holds;
         took = rw (concat-one ran.answers answer) (took_more old mid new (concat ran.answers) answer ran.took took);
       };
-      no_fault = next.no_fault;
+      last = refl;
+      started = started_more lines line fleet so_far.started;
     }
 
 -- of the reply to one more line a front was written
 pub so_far_part : (merge : Operator) (lines : List Line) (line : Line) (fleet : FleetView) (old mid new : SinkView) → SoFar merge lines fleet old mid
-    → first_grammar lines line → AreFlushes fleet.flushes → TookShort (reply_to line fleet) mid new → RanButTheEnd merge (lines ++ line ∷ []) (fleet_after line fleet) old new
-so_far_part merge lines line fleet old mid new so_far fits sound short =
+    → job_grammar lines line → TookShort (reply_to line fleet) mid new → RanButTheEnd merge (lines ++ line ∷ []) (fleet_after line fleet) old new
+so_far_part merge lines line fleet old mid new so_far fits short =
     let ran = so_far.ran in
-    let answer = reply_to line fleet in
-    let next = served_next merge lines line fleet old mid so_far fits sound in
+    let next = served_next merge lines line fleet old mid so_far fits in
     record {
       answers = ran.answers;
-      answer = answer;
-      last = next.new;
-      run = run-more (with_quiet_scheduler merge) 1 (fresh_state default_options) lines ran.answers ran.last line answer next.new ran.run next.step;
+      answer = reply_to line fleet;
+      last = state_of (fleet_after line fleet) next.left;
+      run = run_next merge lines line fleet old mid so_far next;
       holds = next.holds;
       front = short.front;
       end = short.end;
@@ -83,7 +124,7 @@ so_far_kept merge lines fleet old mid new so_far kept =
 
 -- ---- texts
 
-pub served : (merge : Operator) (text : List ℕ) (lines : List Line) (fleet : FleetView) (old new : SinkView) → IsScript first_grammar text lines → Ran merge lines fleet old new → Served merge text fleet old new
+pub served : (merge : Operator) (text : List ℕ) (lines : List Line) (fleet : FleetView) (old new : SinkView) → IsScript job_grammar text lines → Ran merge lines fleet old new → Served merge text fleet old new
 served merge text lines fleet old new script ran = record {
   written = concat ran.answers;
   store = ran.last.store;
@@ -92,16 +133,16 @@ served merge text lines fleet old new script ran = record {
   took = ran.took;
 }
 
-each_front : (before xs ys : List Line) → AreLines first_grammar before (xs ++ ys) → AreLines first_grammar before xs
+each_front : (before xs ys : List Line) → AreLines job_grammar before (xs ++ ys) → AreLines job_grammar before xs
 each_front before [] ys h = tt
 each_front before (x ∷ xs) ys h = (h.0, each_front (before ++ x ∷ []) xs ys h.1)
 
-pub served_up_to_fault : (merge : Operator) (text : List ℕ) (lines : List Line) (fleet : FleetView) (old new : SinkView) → IsScript first_grammar text lines → RunsUpToFault merge lines fleet old new → ServedUpToFault merge text fleet old new
+pub served_up_to_fault : (merge : Operator) (text : List ℕ) (lines : List Line) (fleet : FleetView) (old new : SinkView) → IsScript job_grammar text lines → RunsUpToFault merge lines fleet old new → ServedUpToFault merge text fleet old new
 served_up_to_fault merge text lines fleet old new script runs = record { lines = lines; script = script; runs = runs }
 
-pub served_front : (merge : Operator) (text : List ℕ) (lines : List Line) (fleet : FleetView) (old new : SinkView) → IsScript first_grammar text lines → RunsFront merge lines fleet old new → ServedFront merge text fleet old new
+pub served_front : (merge : Operator) (text : List ℕ) (lines : List Line) (fleet : FleetView) (old new : SinkView) → IsScript job_grammar text lines → RunsFront merge lines fleet old new → ServedFront merge text fleet old new
 served_front merge text lines fleet old new script runs =
-    let each : AreLines first_grammar [] (runs.run ++ runs.left) = rw runs.parts at script.each in
+    let each : AreLines job_grammar [] (runs.run ++ runs.left) = rw runs.parts at script.each in
     record {
       lines = runs.run;
       rest = script_text runs.left;
@@ -120,33 +161,33 @@ served_nothing merge text sink = record { lines = []; rest = text; whole = refl;
 pub record RunSoFar (all left : List Line) (fleet : FleetView) (old new : SinkView) : Type 0 where
   pub run : List Line
   pub parts : all ≡ run ++ left
-  pub each : AreLines first_grammar run left
+  pub each : AreLines job_grammar run left
   pub ran : (merge : Operator) → SoFar merge run fleet old new
   pub never_fall : old.faults ≤ new.faults
 
-pub run_none : (all : List Line) (sink : SinkView) → AreLines first_grammar [] all → RunSoFar all all fresh_fleet sink sink
+pub run_none : (all : List Line) (sink : SinkView) → AreLines job_grammar [] all → RunSoFar all all fresh_fleet sink sink
 run_none all sink each = record { run = []; parts = refl; each = each; ran = λ merge. so_far_none merge sink; never_fall = omega arith }
 
-pub run_more : (all : List Line) (line : Line) (left : List Line) (fleet after : FleetView) (old mid new : SinkView) → RunSoFar all (line ∷ left) fleet old mid → AreFlushes fleet.flushes
+pub run_more : (all : List Line) (line : Line) (left : List Line) (fleet after : FleetView) (old mid new : SinkView) → RunSoFar all (line ∷ left) fleet old mid
     → after ≡ fleet_after line fleet → Took (reply_to line fleet) mid new → mid.faults ≤ new.faults → RunSoFar all left after old new
-run_more all line left fleet after old mid new so_far sound is took fell = record {
+run_more all line left fleet after old mid new so_far is took fell = record {
   run = so_far.run ++ line ∷ [];
   parts = so_far.parts ∙ sym (append_assoc so_far.run (line ∷ []) left);
   each = so_far.each.1;
-  ran = λ merge. rw is (so_far_more merge so_far.run line fleet old mid new (so_far.ran merge) so_far.each.0 sound took);
+  ran = λ merge. rw is (so_far_more merge so_far.run line fleet old mid new (so_far.ran merge) so_far.each.0 took);
   never_fall = omega (arith, so_far.never_fall, fell);
 }
 
 pub run_all : (all : List Line) (fleet : FleetView) (old new : SinkView) → RunSoFar all [] fleet old new → (merge : Operator) → Ran merge all fleet old new
 run_all all fleet old new so_far merge = rw (so_far.parts ∙ append-nil so_far.run) (so_far.ran merge).ran
 
-pub run_part : (all : List Line) (line : Line) (left : List Line) (fleet after : FleetView) (old mid new : SinkView) → RunSoFar all (line ∷ left) fleet old mid → AreFlushes fleet.flushes
+pub run_part : (all : List Line) (line : Line) (left : List Line) (fleet after : FleetView) (old mid new : SinkView) → RunSoFar all (line ∷ left) fleet old mid
     → after ≡ fleet_after line fleet → TookShort (reply_to line fleet) mid new → (merge : Operator) → RunsUpToFault merge all after old new
-run_part all line left fleet after old mid new so_far sound is short merge = record {
+run_part all line left fleet after old mid new so_far is short merge = record {
   run = so_far.run ++ line ∷ [];
   left = left;
   parts = so_far.parts ∙ sym (append_assoc so_far.run (line ∷ []) left);
-  ran = rw is (so_far_part merge so_far.run line fleet old mid new (so_far.ran merge) so_far.each.0 sound short);
+  ran = rw is (so_far_part merge so_far.run line fleet old mid new (so_far.ran merge) so_far.each.0 short);
 }
 
 pub run_kept : (all left : List Line) (fleet after : FleetView) (old mid new : SinkView) → RunSoFar all left fleet old mid → after ≡ fleet → TookNothing mid new → (merge : Operator) → RunsFront merge all after old new

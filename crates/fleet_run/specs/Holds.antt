@@ -1,26 +1,210 @@
 -- When a fleet holds what a store of the model has.
-use Rattle.std.specs.Prelude.{◌≡◌, ℕ, ◌≤◌, List, [], ◌∷◌, map, None}
+use Rattle.std.specs.Prelude.{◌≡◌, ◌⊎◌, ℕ, ◌+◌, ◌^◌, ◌==◌, find, ◌<◌, ◌≤◌, Bool, true, false, List, [], ◌∷◌, ◌++◌, map, filter, flat_map, Option, Some, None, ⊤}
 use Rattle.std.specs.List.{AllByRecursion}
+use Rattle.row_model.specs.Lists.{Pairs}
 use Rattle.row_model.specs.Rows.{Row}
-use Rattle.fleet_model.specs.Nodes.{Tables, table_rows, Node, L0, Segment}
+use Rattle.row_model.specs.Settings.{Settings}
+use Rattle.fleet_fold.specs.Retention.{kept_of_keys}
+use Rattle.fleet_model.specs.Nodes.{Tables, Node, L0, Run, Segment}
+use Rattle.fleet_model.specs.Jobs.{JobSpec, Job, Jobs, Scheduled, Running, Compacted, is_active, ids}
+use Rattle.fleet_model.specs.Records.{new_job, firsts}
+use Rattle.fleet_model.specs.Parties.{Parties, LiveCoordinator, LiveWorker, Attempt}
+use Rattle.fleet_model.specs.Store.{Manifest, Records, Store, jobs_in}
 use Rattle.script_model.specs.Flushes.{last_name}
-use Rattle.fleet_model.specs.Store.{Store}
-use Rattle.fleet_run.specs.FleetView.{FleetView, newest_name, newest_seq}
+use Rattle.script_model.specs.States.{State}
+use Rattle.script_model.specs.Defaults.{default_options}
+use Rattle.fleet_run.specs.declared.jobs.AskedJob.{AskedJob}
+use Rattle.fleet_run.specs.Jobs.{Stage, Waits, Runs, Wrote, OpenJob, attempt_of}
+use Rattle.fleet_run.specs.FleetView.{FleetView, AreFlushes, newest_name, newest_seq}
+
+-- what a store holds. Of its history, the highest name used
+pub record Held : Type 0 where
+  pub manifest : Manifest
+  pub records : Option Records
+  pub tables : Tables
+  pub jobs_drawn : ℕ
+  pub tables_drawn : ℕ
+  pub name : ℕ
+
+abbrev pub held : Store → Held
+held store = record {
+  manifest = store.manifest;
+  records = store.records;
+  tables = store.tables;
+  jobs_drawn = store.jobs_drawn;
+  tables_drawn = store.tables_drawn;
+  name = last_name store.history;
+}
+
+-- ---- the tree
 
 -- a flush as a node of a tree
 abbrev pub node_of : ℕ × List Row → Node
 node_of flush = record { name = L0 flush.0; flushes = flush.0 ∷ []; pieces = flush.0 ∷ [] }
 
--- the root tree, of which no job took anything yet
-abbrev pub root_of : Tables → Segment
-root_of flushes = record { prefix = []; tree = map node_of flushes; last_seq = newest_seq flushes; watermark = None }
+-- a run, with the flush that it was made of
+pub record MadeRun : Type 0 where
+  pub id : ℕ
+  pub tables : Tables
+  pub flush : ℕ × List Row
 
--- The fleet has the trees, the floor, the tick and the tables of the store. It keeps no history: of that it has the
--- name of the newest flush.
-pub record Holds (fleet : FleetView) (store : Store) : Type 0 where
-  pub trees : store.manifest.trees ≡ root_of fleet.flushes ∷ []
+abbrev pub run_of : MadeRun → ℕ × Tables
+run_of m = (m.id, m.tables)
+
+abbrev pub run_node : MadeRun → Node
+run_node m = record { name = Run m.id; flushes = m.flush.0 ∷ []; pieces = firsts m.tables }
+
+abbrev pub root_of : FleetView → List MadeRun → Option ℕ → Segment
+root_of fleet made watermark = record { prefix = []; tree = map node_of fleet.flushes ++ map run_node made; last_seq = fleet.last_seq; watermark = watermark }
+
+abbrev pub made_of : List MadeRun → Tables
+made_of made = map (λ m. m.flush) made
+
+-- all flushes, also those that runs were made of
+abbrev pub all_flushes : FleetView → List MadeRun → Tables
+all_flushes fleet made = fleet.flushes ++ made_of made
+
+abbrev pub rows_in_tables : Tables → List Row
+rows_in_tables tables = flat_map (λ table. table.1) tables
+
+-- these rows are what a job kept of a flush, under a floor that is not above that of reads; it took the flush for the oldest
+-- one only where it is
+pub record IsKept (floor : ℕ) (IsOldest : Type 0) (flush rows : List Row) : Type 0 where
+  pub settings : Settings
+  pub low : settings.floor ≤ floor
+  pub oldest : settings.last_run ≡ true → IsOldest
+  pub are : rows ≡ kept_of_keys settings flush
+
+-- so are the rows of each run
+abbrev pub AreKept : ℕ → List MadeRun → Type 0
+AreKept floor [] = ⊤
+AreKept floor (m ∷ older) = IsKept floor (older ≡ []) m.flush.1 (rows_in_tables m.tables) × AreKept floor older
+
+-- run ids fall
+abbrev pub AreFalling : List MadeRun → Type 0
+AreFalling made = Pairs (λ m older. older.id < m.id) made
+
+-- ---- jobs
+
+abbrev pub spec_of : AskedJob → JobSpec
+spec_of job = record { segment = []; sources = L0 job.source ∷ []; destination = Some job.destination }
+
+abbrev pub asked_job : AskedJob → Job
+asked_job job = new_job (job.id, spec_of job)
+
+abbrev pub opened_job : AskedJob → Job
+opened_job job = record (asked_job job) { status = Scheduled; source_tables = job.source ∷ [] }
+
+abbrev pub job_at : AskedJob → Stage → Job
+job_at job Waits = opened_job job
+job_at job (Runs settings) = record (opened_job job) { status = Running; lease = Some (record { worker = 1; heartbeat = 0 }); attempt = 1 }
+job_at job (Wrote tables) = record (opened_job job) { status = Compacted; lease = Some (record { worker = 1; heartbeat = 0 }); attempt = 1; outputs = firsts tables ∷ [] }
+
+abbrev pub open_jobs : Option OpenJob → Jobs
+open_jobs None = []
+open_jobs (Some o) = job_at o.job o.stage ∷ []
+
+abbrev pub active_jobs : FleetView → Jobs
+active_jobs fleet = open_jobs fleet.opened ++ map asked_job fleet.asked
+
+-- these of the jobs are active, and the ids rise up to a number
+pub record JobsAre (active : Jobs) (drawn : ℕ) (jobs : Jobs) : Type 0 where
+  pub are : filter is_active jobs ≡ active
+  pub rising : Pairs (λ a b. a < b) (ids jobs)
+  pub below : AllByRecursion (λ id. id ≤ drawn) (ids jobs)
+
+-- the records are there from the coordinator's start on
+abbrev pub AreRecords : Bool → Manifest → Option Records → Type 0
+AreRecords false manifest records = (manifest.epoch ≡ 0) × (records ≡ None)
+AreRecords true manifest None = ⊥
+AreRecords true manifest (Some records) = (manifest.epoch ≡ 1) × (records.epoch ≡ 1)
+
+abbrev pub StageFits : FleetView → ℕ × List Row → Stage → Type 0
+StageFits fleet flush Waits = ⊤
+StageFits fleet flush (Runs settings) = (settings.floor ≤ fleet.floor) × (settings.last_run ≡ true → fleet.runs ≡ [])
+StageFits fleet flush (Wrote tables) = IsKept fleet.floor (fleet.runs ≡ []) flush.1 (rows_in_tables tables)
+
+abbrev pub stage_tables : Stage → Tables
+stage_tables Waits = []
+stage_tables (Runs settings) = []
+stage_tables (Wrote tables) = tables
+
+-- the opened job takes the oldest flush, and makes a run above all others
+pub record OpenStands (fleet : FleetView) (o : OpenJob) : Type 0 where
+  pub newer : Tables
+  pub flush : ℕ × List Row
+  pub source : fleet.flushes ≡ newer ++ flush ∷ []
+  pub named : flush.0 ≡ o.job.source
+  pub above : AllByRecursion (λ run. run.0 < o.job.destination) fleet.runs
+  pub stage : StageFits fleet flush o.stage
+
+abbrev pub IfOpen : FleetView → Option OpenJob → Type 0
+IfOpen fleet None = ⊤
+IfOpen fleet (Some o) = OpenStands fleet o
+
+abbrev pub open_tables : Option OpenJob → Tables
+open_tables None = []
+open_tables (Some o) = stage_tables o.stage
+
+-- the tables that are in the tree, that runs were made of, and that a job wrote
+abbrev pub known_tables : FleetView → List MadeRun → Tables
+known_tables fleet made = all_flushes fleet made ++ flat_map (λ m. m.tables) made ++ open_tables fleet.opened
+
+-- the table is the one that is found under its id
+abbrev pub IsStored : Tables → ℕ × List Row → Type 0
+IsStored stored table = find (λ other. other.0 == table.0) stored ≡ Some table
+
+-- the id of a flush's table, or of one that was drawn
+abbrev pub IsUsed : FleetView → ℕ × List Row → Type 0
+IsUsed fleet table = (table.0 ≤ fleet.last_name) ⊎ ((2 ^ 79 < table.0) × (table.0 ≤ 2 ^ 79 + fleet.tables_drawn))
+
+abbrev pub attempts_at : AskedJob → Stage → List Attempt
+attempts_at job Waits = []
+attempts_at job (Runs settings) = attempt_of job settings ∷ []
+attempts_at job (Wrote tables) = []
+
+abbrev pub attempts_by : Option OpenJob → List Attempt
+attempts_by None = []
+attempts_by (Some o) = attempts_at o.job o.stage
+
+-- The fleet has the trees, the floor, the tick, the active jobs and the named tables of the store, and the numbers that were
+-- drawn. It keeps no history: of that it has the highest name used.
+pub record Holds (fleet : FleetView) (store : Held) : Type 0 where
+  pub made : List MadeRun
+  pub watermark : Option ℕ
+  pub trees : store.manifest.trees ≡ root_of fleet made watermark ∷ []
   pub floor : store.manifest.floor ≡ fleet.floor
   pub tick : store.manifest.tick ≡ fleet.tick
-  pub tables : AllByRecursion (λ flush. table_rows store.tables flush.0 ≡ flush.1) fleet.flushes
-  pub none_above : AllByRecursion (λ held. held.0 ≤ newest_name fleet.flushes) store.tables
-  pub named : last_name store.history ≡ newest_name fleet.flushes
+  pub runs : fleet.runs ≡ map run_of made
+  pub falling : AreFalling made
+  pub flushes : AreFlushes (all_flushes fleet made)
+  pub newest : fleet.last_name ≡ newest_name (all_flushes fleet made)
+  pub last : fleet.last_seq ≡ newest_seq (all_flushes fleet made)
+  pub small : fleet.last_name < 2 ^ 79
+  pub kept : AreKept fleet.floor made
+  pub tables : AllByRecursion (IsStored store.tables) (known_tables fleet made)
+  pub used : AllByRecursion (IsUsed fleet) store.tables
+  pub named : store.name ≡ fleet.last_name
+  pub jobs_drawn : store.jobs_drawn ≡ fleet.jobs_drawn
+  pub tables_drawn : store.tables_drawn ≡ fleet.tables_drawn
+  pub records : AreRecords fleet.coordinator store.manifest store.records
+  pub jobs : JobsAre (active_jobs fleet) fleet.jobs_drawn (jobs_in store.records)
+  pub opened : IfOpen fleet fleet.opened
+  pub idle : fleet.worker ≡ false → attempts_by fleet.opened ≡ []
+
+-- ---- parties
+
+abbrev pub coordinators : Bool → List LiveCoordinator
+coordinators false = []
+coordinators true = record { number = 1; epoch = 1 } ∷ []
+
+abbrev pub workers : Bool → List Attempt → List LiveWorker
+workers false attempts = []
+workers true attempts = record { number = 1; attempts = attempts } ∷ []
+
+abbrev pub parties_of : FleetView → Parties
+parties_of fleet = record { coordinators = coordinators fleet.coordinator; workers = workers fleet.worker (attempts_by fleet.opened) }
+
+-- the state of a script that runs on a fleet with such a store
+abbrev pub state_of : FleetView → Store → State
+state_of fleet store = record { options = default_options; moment = 0; store = store; parties = parties_of fleet; fault = None }

@@ -1,6 +1,8 @@
 pub mod Outside
 pub mod Memory
 pub mod Safe
+pub mod Jobs
+pub mod Outputs
 pub mod FleetView
 pub mod Serve
 pub mod Kinds

@@ -4,7 +4,7 @@ use Rattle.std.specs.List.{list_any}
 use Rattle.std.specs.Io.KnownBytes.{Consumes, IsAtEnd}
 use Rattle.row_model.specs.Fold.{Operator}
 use Rattle.script_model.specs.Script.{IsBadAt}
-use Rattle.script_model.specs.Grammars.{first_grammar}
+use Rattle.script_model.specs.Grammars.{job_grammar}
 use Rattle.fleet_run.specs.FleetView.{FleetView}
 use Rattle.fleet_run.specs.Outside.{SourceView, SinkView}
 use Rattle.fleet_run.specs.Served.{Served, ServedUpToFault, ServedFront}
@@ -38,7 +38,7 @@ pub record HasBadLine (source_old source_new : SourceView) : Type 0 where
   pub text : List ℕ
   pub read : ReadWhole text source_old source_new
   pub number : ℕ
-  pub bad : IsBadAt first_grammar text number
+  pub bad : IsBadAt job_grammar text number
 
 -- 5: what the source gave to its end is a script; a front of its replies was written
 pub record RunsUpTo (fleet : FleetView) (source_old source_new : SourceView) (sink_old sink_new : SinkView) : Type 0 where

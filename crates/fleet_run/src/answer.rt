@@ -1,14 +1,18 @@
 //! The replies to lines, as they are printed.
 
-ghost use Rattle.std.specs.Prelude.{◌≡◌, IfOk, IsOkUnless, option_map};
+ghost use Rattle.std.specs.Prelude.{◌≡◌, ◌∷◌, ◌++◌, [], IfOk, option_map, codes};
 ghost use Rattle.std.specs.Option.{option_copied};
-ghost use Rattle.fleet_rows.specs.Row.{row_of};
+ghost use Rattle.fleet_rows.specs.Row.{row_of, rows_of};
+ghost use Rattle.script_model.specs.Words.{rows_text};
 ghost use Rattle.script_model.specs.Flushes.{bad_flush};
-ghost use Rattle.script_model.specs.Replies.{ok, read_reply, not_retained};
-ghost use Rattle.fleet_run.specs.Serve.{value_of};
+ghost use Rattle.script_model.specs.Effects.{no_such_party};
+ghost use Rattle.script_model.specs.Replies.{reply, ok, read_reply, not_retained, jobs_text, ranges_text, claim_reply, absent};
+ghost use Rattle.fleet_run.specs.Jobs.{judged_of};
+ghost use Rattle.fleet_run.specs.Serve.{value_of, started, polled_reply};
 ghost use Rattle.fleet_run.specs.Kinds.{kind_of};
 
-use fleet_rows::{RowEntry, SlateDBError, ValueDeletable};
+use crate::jobs::Judged;
+use fleet_rows::{JobList, RowEntry, SlateDBError, ValueDeletable};
 use fleet_text::Reply;
 use std::alloc::Global;
 
@@ -83,6 +87,110 @@ pub(crate) fn below_floor(alloc: Global, floor: u64, tick: i64) -> Result<Reply,
     reply.number(floor)?;
     reply.word(" ")?;
     reply.signed(tick)?;
+    reply.word("\n")?;
+    Ok(reply)
+}
+
+/// A reply of these words and a newline.
+fn words(alloc: Global, text: &str) -> Result<Reply, SlateDBError>
+    ensures { IfOk result (λ reply. reply ≡ text.now) }
+{
+    let mut reply = Reply::new(alloc);
+    reply.word(text)?;
+    Ok(reply)
+}
+
+pub(crate) fn no_such_party(alloc: Global) -> Result<Reply, SlateDBError>
+    ensures { IfOk result (λ reply. reply ≡ no_such_party) }
+{
+    words(alloc, "nosuchparty\n")
+}
+
+pub(crate) fn no_records(alloc: Global) -> Result<Reply, SlateDBError>
+    ensures { IfOk result (λ answer. answer ≡ reply (codes "invaliddbstate" ∷ [])) }
+{
+    words(alloc, "invaliddbstate\n")
+}
+
+/// A coordinator began, with the first epoch.
+pub(crate) fn started(alloc: Global) -> Result<Reply, SlateDBError>
+    ensures { IfOk result (λ reply. reply ≡ started) }
+{
+    let mut reply = Reply::new(alloc);
+    reply.word("ok epoch ")?;
+    reply.number(1)?;
+    reply.word("\n")?;
+    Ok(reply)
+}
+
+pub(crate) fn absent(alloc: Global) -> Result<Reply, SlateDBError>
+    ensures { IfOk result (λ reply. reply ≡ absent) }
+{
+    words(alloc, "ok absent\n")
+}
+
+/// A job was submitted.
+pub(crate) fn submitted(alloc: Global, job: &JobList) -> Result<Reply, SlateDBError>
+    ensures { IfOk result (λ answer. answer ≡ reply (codes "ok" ∷ codes "job" ∷ jobs_text job.now ∷ [])) }
+{
+    let mut reply = Reply::new(alloc);
+    reply.word("ok job ")?;
+    reply.jobs(job)?;
+    reply.word("\n")?;
+    Ok(reply)
+}
+
+/// What a poll did.
+pub(crate) fn polled(alloc: Global, done: &JobList, judged: &Judged) -> Result<Reply, SlateDBError>
+    ensures { IfOk result (λ reply. reply ≡ polled_reply done.now (judged_of judged.now)) }
+{
+    let mut reply = Reply::new(alloc);
+    reply.word("ok freed - done ")?;
+    reply.jobs(done)?;
+    reply.word(" lost - added - dropped - open ")?;
+    reply.jobs(&judged.opened)?;
+    reply.word(" moved - drained - bad ")?;
+    reply.rules(&judged.refused)?;
+    reply.word("\n")?;
+    Ok(reply)
+}
+
+/// A job was claimed for the first time: no range has a table yet.
+pub(crate) fn claimed(alloc: Global, job: &JobList) -> Result<Reply, SlateDBError>
+    ensures { IfOk result (λ answer. answer ≡ reply (codes "ok" ∷ codes "claimed" ∷ (jobs_text job.now ++ codes ".1:-") ∷ codes "stopped" ∷ codes "-" ∷ [])) }
+{
+    let mut reply = Reply::new(alloc);
+    reply.word("ok claimed ")?;
+    reply.jobs(job)?;
+    reply.word(".1:- stopped -\n")?;
+    Ok(reply)
+}
+
+/// No job was claimed.
+pub(crate) fn claimed_none(alloc: Global) -> Result<Reply, SlateDBError>
+    ensures { IfOk result (λ reply. reply ≡ claim_reply [] []) }
+{
+    words(alloc, "ok claimed - stopped -\n")
+}
+
+/// A job is finished, with the tables of its one range.
+pub(crate) fn finished(alloc: Global, tables: &JobList) -> Result<Reply, SlateDBError>
+    ensures { IfOk result (λ answer. answer ≡ reply (codes "ok" ∷ ranges_text (tables.now ∷ []) ∷ [])) }
+{
+    let mut reply = Reply::new(alloc);
+    reply.word("ok ")?;
+    reply.table_names(tables)?;
+    reply.word("\n")?;
+    Ok(reply)
+}
+
+/// The rows of a node.
+pub(crate) fn rows(alloc: Global, rows: &[RowEntry]) -> Result<Reply, SlateDBError>
+    ensures { IfOk result (λ answer. answer ≡ reply (codes "ok" ∷ rows_text (rows_of rows.now) ∷ [])) }
+{
+    let mut reply = Reply::new(alloc);
+    reply.word("ok ")?;
+    reply.rows(rows)?;
     reply.word("\n")?;
     Ok(reply)
 }

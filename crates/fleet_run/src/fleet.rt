@@ -1,20 +1,21 @@
 //! The fleet that a script runs on.
 
-ghost use Rattle.std.specs.Prelude.{◌≡◌, ◌<◌, IfOk, OnOk, OnErr, IsOkUnless, length, option_map, [], ◌∷◌, None, fold};
+ghost use Rattle.std.specs.Prelude.{◌≡◌, ◌<◌, IfOk, OnOk, OnErr, IsOkUnless, length, option_map, [], None, fold};
 ghost use Rattle.std.specs.Option.{option_copied};
 ghost use Rattle.std.specs.List.{list_all, AllByRecursion};
 ghost use Rattle.row_model.specs.Bounds.{AreRows};
 ghost use Rattle.fleet_rows.specs.Row.{row_of, rows_of};
 ghost use Rattle.fleet_text.specs.Lines.{line_of};
 ghost use Rattle.script_model.specs.Flushes.{is_above};
-ghost use Rattle.script_model.specs.Grammars.{first_grammar, IsPlain};
 ghost use Rattle.script_model.specs.Replies.{ok};
-ghost use Rattle.fleet_model.specs.Trees.{greater_seq};
-ghost use Rattle.fleet_run.specs.FleetView.{fresh_fleet, AreFlushes, newest_name};
-ghost use Rattle.fleet_run.specs.Serve.{flush_fault, flush_reply, after_flush, key_reply, newest_row, reply_to, fleet_after};
+ghost use Rattle.fleet_model.specs.Trees.{greater_seq, greatest_seq};
+ghost use Rattle.fleet_run.specs.FleetView.{fresh_fleet};
+ghost use Rattle.fleet_run.specs.Serve.{flush_fault, flush_reply, after_flush, with_flush, key_reply, reply_to, fleet_after, IsServed};
 ghost use Rattle.fleet_run.specs.Kinds.{kind_of};
 
 use crate::answer::{self, FlushFault};
+use crate::jobs::{AskedJob, OpenJob};
+use crate::tables::{Run, Table, id_of_number, newest_in, newest_in_runs};
 use fleet_rows::{RowEntry, SlateDBError};
 use fleet_table::{TableData, are_strictly_ordered};
 use fleet_text::{Line, Reply};
@@ -22,42 +23,51 @@ use std::alloc::Global;
 use std::collections::VecDeque;
 use std::marker::Model;
 
-/// A flushed table under its name.
-#[derive(Debug, Drop)]
-struct Flush {
-    name: u64,
-    table: TableData,
-}
-
-impl Model for Flush {
-    ghost use Rattle.std.specs.Prelude.{ℕ, List};
-    ghost use Rattle.row_model.specs.Rows.{Row};
-
-    ghost Value = { ℕ × List Row };
-
-    ghost view = { λ f. (f.name, f.table) };
-}
-
-/// The flushed tables of the root tree, the floor and the tick. A fleet is fresh until its first script.
+/// The tables of the root tree, the jobs on their way, the floor and the tick. A fleet is fresh until its first script.
 #[derive(Debug, Drop)]
 pub struct Fleet {
-    /// Newest first.
-    flushes: VecDeque<Flush>,
+    /// The flushes that no job took yet, newest first.
+    pub(crate) flushes: VecDeque<Table>,
+    /// The runs, newest first.
+    pub(crate) runs: VecDeque<Run>,
+    /// The newest flush's name, 0 where there was none.
+    pub(crate) last_name: u64,
     /// The greatest flushed sequence.
-    last_seq: Option<u64>,
-    floor: u64,
-    tick: i64,
+    pub(crate) last_seq: Option<u64>,
+    pub(crate) floor: u64,
+    pub(crate) tick: i64,
+    /// Whether the coordinator is live, and so whether there are job records.
+    pub(crate) coordinator: bool,
+    pub(crate) worker: bool,
+    /// How many ids were drawn for jobs, and for tables.
+    pub(crate) jobs_drawn: u64,
+    pub(crate) tables_drawn: u64,
+    /// The jobs that were submitted, and that no poll looked at yet.
+    pub(crate) asked: Vec<AskedJob>,
+    pub(crate) opened: Option<OpenJob>,
 }
 
 impl Model for Fleet {
-    ghost use Rattle.std.specs.Prelude.{◌≡◌};
-    ghost use Rattle.fleet_run.specs.FleetView.{FleetView, AreFlushes, newest_seq};
+    ghost use Rattle.std.specs.Prelude.{option_map};
+    ghost use Rattle.fleet_run.specs.Jobs.{open_of};
+    ghost use Rattle.fleet_run.specs.FleetView.{FleetView};
 
     ghost Value = { FleetView };
 
-    ghost view = { λ f. record { flushes = f.flushes.items; floor = f.floor; tick = f.tick } };
-
-    ghost invariant = { λ f. AreFlushes f.flushes.items × (f.last_seq ≡ newest_seq f.flushes.items) };
+    ghost view = { λ f. record {
+      flushes = f.flushes.items;
+      runs = f.runs.items;
+      last_name = f.last_name;
+      last_seq = f.last_seq;
+      floor = f.floor;
+      tick = f.tick;
+      coordinator = f.coordinator;
+      worker = f.worker;
+      jobs_drawn = f.jobs_drawn;
+      tables_drawn = f.tables_drawn;
+      asked = f.asked.items;
+      opened = option_map open_of f.opened;
+    } };
 }
 
 impl Fleet {
@@ -67,9 +77,17 @@ impl Fleet {
     {
         Ok(Fleet {
             flushes: VecDeque::new(alloc),
+            runs: VecDeque::new(alloc),
+            last_name: 0,
             last_seq: None,
             floor: 0,
             tick: i64::MIN,
+            coordinator: false,
+            worker: false,
+            jobs_drawn: 0,
+            tables_drawn: 0,
+            asked: Vec::new(alloc),
+            opened: None,
         })
     }
 
@@ -77,7 +95,7 @@ impl Fleet {
     fn flush_fault(&self, name: u64, floor: u64, tick: i64, rows: &[RowEntry]) -> Option<FlushFault>
         ensures { option_map kind_of result ≡ flush_fault self.now name floor tick (rows_of rows.now) }
     {
-        if name <= newest_name(&self.flushes) {
+        if name <= self.last_name {
             return Some(FlushFault::Name);
         }
         if !are_strictly_ordered(rows) {
@@ -105,7 +123,6 @@ impl Fleet {
     ) -> Result<Reply, SlateDBError>
         requires some { 0 < length rows.items }
         requires rows { AreRows (rows_of rows.items) }
-        requires plain { AllByRecursion IsPlain (rows_of rows.items) }
         ensures reply { IfOk result (λ reply. reply ≡ flush_reply (flush_fault self.old name floor tick (rows_of rows.items))) }
         ensures ok { OnOk result (self.new ≡ after_flush self.old name floor tick (rows_of rows.items) (flush_fault self.old name floor tick (rows_of rows.items))) }
         ensures err { OnErr result (self.new ≡ self.old) }
@@ -128,15 +145,16 @@ impl Fleet {
         requires accepted { flush_fault self.old name floor tick (rows_of rows.items) ≡ None }
         requires some { 0 < length rows.items }
         requires rows { AreRows (rows_of rows.items) }
-        requires plain { AllByRecursion IsPlain (rows_of rows.items) }
         ensures reply { IfOk result (λ reply. reply ≡ ok) }
-        ensures ok { OnOk result (self.new ≡ record { flushes = (name, rows_of rows.items) ∷ self.old.flushes; floor = floor; tick = tick }) }
+        ensures ok { OnOk result (self.new ≡ with_flush self.old name floor tick (rows_of rows.items)) }
         ensures err { OnErr result (self.new ≡ self.old) }
     {
         let reply = answer::done(alloc)?;
         let last_seq = greatest_seq(self.last_seq, rows.as_slice());
-        let table = TableData::from_rows(rows)?;
-        self.flushes.push_front(Flush { name, table })?;
+        let data = TableData::from_rows(rows)?;
+        let id = id_of_number(name);
+        self.flushes.push_front(Table { id, data })?;
+        self.last_name = name;
         self.last_seq = last_seq;
         self.floor = floor;
         self.tick = tick;
@@ -149,20 +167,20 @@ impl Fleet {
         if seq < self.floor || now < self.tick {
             return answer::below_floor(alloc, self.floor, self.tick);
         }
-        answer::value(alloc, newest_in(&self.flushes, key, seq))
+        let row = newest_in(&self.flushes, key, seq).or(newest_in_runs(&self.runs, key, seq));
+        answer::value(alloc, row)
     }
 
     /// Runs one line, and answers its reply. All memory that this takes is taken before the fleet changes.
     pub(crate) fn serve(&mut self, alloc: Global, line: Line) -> Result<Reply, SlateDBError>
-        requires { first_grammar [] (line_of line) }
+        requires { IsServed (line_of line) }
         ensures reply { IfOk result (λ reply. reply ≡ reply_to (line_of line) self.old) }
         ensures ok { OnOk result (self.new ≡ fleet_after (line_of line) self.old) }
         ensures err { OnErr result (self.new ≡ self.old) }
-        ensures sound { AreFlushes self.old.flushes }
     {
-        // A look at a field, by which the type's invariant is known here.
-        let _ = &self.flushes;
         match line {
+            Line::StartCoordinator { number: _ } => self.start_coordinator(alloc),
+            Line::StartWorker { number: _ } => self.start_worker(alloc),
             Line::Flush {
                 name,
                 segment: _,
@@ -176,17 +194,16 @@ impl Fleet {
                 seq,
                 now,
             } => self.read(alloc, key.as_slice(), seq, now),
+            Line::Submit {
+                segment: _,
+                destination,
+                source,
+            } => self.submit(alloc, source, destination),
+            Line::Poll { coordinator: _ } => self.poll(alloc),
+            Line::Claim { worker: _ } => self.claim(alloc),
+            Line::Finish { worker: _, job } => self.finish(alloc, job),
+            Line::Dump { segment: _, node } => self.dump(alloc, node),
         }
-    }
-}
-
-/// The name of the newest flush, or 0.
-fn newest_name(flushes: &VecDeque<Flush>) -> u64
-    ensures { result ≡ newest_name flushes.now.items }
-{
-    match flushes.front() {
-        Some(flush) => flush.name,
-        None => 0,
     }
 }
 
@@ -214,6 +231,12 @@ fn is_above(last_seq: Option<u64>, row: &RowEntry) -> bool
 
 /// The greatest sequence that was flushed, with these rows.
 fn greatest_seq(last_seq: Option<u64>, rows: &[RowEntry]) -> Option<u64>
+    ensures { result ≡ greatest_seq last_seq (rows_of rows.now) }
+{
+    greatest_of(last_seq, rows)
+}
+
+fn greatest_of(last_seq: Option<u64>, rows: &[RowEntry]) -> Option<u64>
     ensures { result ≡ fold (λ last row. greater_seq last row.seq) last_seq rows.now }
 {
     rows.iter().fold(last_seq, greater_seq)
@@ -226,17 +249,4 @@ fn greater_seq(last_seq: Option<u64>, row: &RowEntry) -> Option<u64>
         None => Some(row.seq),
         Some(last) => Some(last.max(row.seq)),
     }
-}
-
-/// The newest row of a key whose sequence is at most `seq`, in flushes of which the newest stands first.
-fn newest_in<'a>(flushes: &'a VecDeque<Flush>, key: &[u8], seq: u64) -> Option<&'a RowEntry>
-    ensures { option_map row_of (option_copied result) ≡ newest_row flushes.now.items key.now seq }
-{
-    for i in 0..flushes.len() {
-        let newest = flushes[i].table.newest_at(key, seq);
-        if newest.is_some() {
-            return newest;
-        }
-    }
-    None
 }

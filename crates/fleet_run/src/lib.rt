@@ -3,11 +3,15 @@
 
 mod answer;
 mod fleet;
+mod jobs;
 mod memory;
+mod outputs;
 mod outside;
 mod program;
 mod safe;
 mod script;
+mod tables;
+mod work;
 
 pub use fleet::Fleet;
 pub use memory::{MemSink, MemSource};

@@ -4,7 +4,7 @@ ghost use Rattle.std.specs.Prelude.{◌≡◌, ◌≢◌, ℕ, ◌+◌, ◌<◌,
 ghost use Rattle.std.specs.Io.KnownBytes.{Consumes};
 ghost use Rattle.script_model.specs.Script.{IsScript};
 ghost use Rattle.script_model.specs.Script as model;
-ghost use Rattle.script_model.specs.Grammars.{first_grammar};
+ghost use Rattle.script_model.specs.Grammars.{job_grammar};
 ghost use Rattle.fleet_run.specs.FleetView.{fresh_fleet};
 ghost use Rattle.fleet_run.specs.Outside.{Rose, TookNothing};
 ghost use Rattle.fleet_run.specs.Program.{ReadWhole, ReadFront, IsStatus, RunsNothing, RunsScript, HasBadLine, RunsUpTo, RunsFirst, longest};
@@ -104,7 +104,7 @@ pub fn fleet_main<S: Source, K: Sink>(
     ensures left_fresh { RunsNothing result → fleet.new ≡ fleet.old }
 
     // A script that is not too long is run, unless the source or the sink fails, or memory runs out.
-    ensures complete { (text : List ℕ) (lines : List model.Line) → IsScript first_grammar text lines → length text ≤ longest → (S.told source.old).left ≡ Some text
+    ensures complete { (text : List ℕ) (lines : List model.Line) → IsScript job_grammar text lines → length text ≤ longest → (S.told source.old).left ≡ Some text
         → (result ≡ 0) ⊎ (result ≡ 2) ⊎ (result ≡ 4) ⊎ (result ≡ 5) ⊎ (result ≡ 6) }
 {
     if !is_run(words) {

@@ -4,11 +4,11 @@ ghost use Rattle.std.specs.Prelude.{◌≡◌, ℕ, ◌≤◌, [], List, Err, On
 ghost use Rattle.row_model.specs.Fold.{Operator};
 ghost use Rattle.script_model.specs.Script.{AreLines, IsScript, IsBadAt};
 ghost use Rattle.script_model.specs.Script as model;
-ghost use Rattle.script_model.specs.Grammars.{first_grammar};
+ghost use Rattle.script_model.specs.Grammars.{job_grammar};
 ghost use Rattle.fleet_text.specs.Lines.{line_of, lines_of};
-ghost use Rattle.fleet_run.specs.FleetView.{fresh_fleet, AreFlushes};
+ghost use Rattle.fleet_run.specs.FleetView.{fresh_fleet};
 ghost use Rattle.fleet_run.specs.Outside.{Rose, Took, TookShort, TookNothing};
-ghost use Rattle.fleet_run.specs.Serve.{reply_to, fleet_after};
+ghost use Rattle.fleet_run.specs.Serve.{reply_to, fleet_after, IsServed};
 ghost use Rattle.fleet_run.specs.Served.{Served, ServedUpToFault, ServedFront, Ran, RunsUpToFault, RunsFront};
 ghost use Rattle.fleet_run.specs.Errors.{IsScriptError, as_fleet_error};
 ghost use Rattle.fleet_run.specs.declared.script.FleetError.TheVariants.{BadLine, WriteFault, Memory};
@@ -75,8 +75,7 @@ fn run_line<K: Sink>(
     fleet: &mut Fleet,
     sink: &mut K,
 ) -> Result<(), FleetError>
-    requires { first_grammar [] (line_of line) }
-    ensures sound { AreFlushes fleet.old.flushes }
+    requires { IsServed (line_of line) }
     ensures state { OnOk result (fleet.new ≡ fleet_after (line_of line) fleet.old) }
     ensures took { OnOk result (Took (reply_to (line_of line) fleet.old) (K.told sink.old) (K.told sink.new)) }
     ensures rose { result ≡ Err WriteFault → Rose (K.told sink.old).faults (K.told sink.new).faults }
@@ -101,7 +100,7 @@ fn run_lines<K: Sink>(
     sink: &mut K,
 ) -> Result<(), FleetError>
     requires fresh { fleet.old ≡ fresh_fleet }
-    requires grammar { AreLines first_grammar [] (lines_of lines) }
+    requires grammar { AreLines job_grammar [] (lines_of lines) }
     ensures ran { OnOk result ((merge : Operator) → Ran merge (lines_of lines) fleet.new (K.told sink.old) (K.told sink.new)) }
     ensures rose { result ≡ Err WriteFault → Rose (K.told sink.old).faults (K.told sink.new).faults }
     ensures fault { result ≡ Err WriteFault → (merge : Operator) → RunsUpToFault merge (lines_of lines) fleet.new (K.told sink.old) (K.told sink.new) }
@@ -130,8 +129,8 @@ pub fn run_script<K: Sink>(
     ensures served { OnOk result ((merge : Operator) → Served merge text.now fleet.new (K.told sink.old) (K.told sink.new)) }
 
     // The first line outside the grammar is named, and nothing was run or written.
-    ensures bad_line { (n : ℕ) → result ≡ Err (BadLine n) → IsBadAt first_grammar text.now n }
-    ensures bad_line_exact { (n : ℕ) → IsBadAt first_grammar text.now n → (result ≡ Err (BadLine n)) ⊎ (result ≡ Err Memory) }
+    ensures bad_line { (n : ℕ) → result ≡ Err (BadLine n) → IsBadAt job_grammar text.now n }
+    ensures bad_line_exact { (n : ℕ) → IsBadAt job_grammar text.now n → (result ≡ Err (BadLine n)) ⊎ (result ≡ Err Memory) }
     ensures bad_line_state { (n : ℕ) → result ≡ Err (BadLine n) → fleet.new ≡ fleet.old }
     ensures bad_line_took { (n : ℕ) → result ≡ Err (BadLine n) → TookNothing (K.told sink.old) (K.told sink.new) }
 
@@ -142,7 +141,7 @@ pub fn run_script<K: Sink>(
     // Whole replies to the first lines were written.
     ensures memory { result ≡ Err Memory → (merge : Operator) → ServedFront merge text.now fleet.new (K.told sink.old) (K.told sink.new) }
 
-    ensures valid { (lines : List model.Line) → IsScript first_grammar text.now lines → IfErr result (λ e. (e ≡ WriteFault) ⊎ (e ≡ Memory)) }
+    ensures valid { (lines : List model.Line) → IsScript job_grammar text.now lines → IfErr result (λ e. (e ≡ WriteFault) ⊎ (e ≡ Memory)) }
     ensures only { IfErr result IsScriptError }
     ensures never_fall { (K.told sink.old).faults ≤ (K.told sink.new).faults }
 {

@@ -4,3 +4,5 @@ pub mod Lines
 pub mod Fields
 pub mod Rows
 pub mod First
+pub mod Joined
+pub mod Places

@@ -4,8 +4,8 @@ use Rattle.std.specs.List.{AllByRecursion, join_with_byte}
 use Rattle.row_model.specs.Rows.{Row, Content, is_merge}
 use Rattle.row_model.specs.Bounds.{AreBytes, IsContent, IsRow, AreRows}
 use Rattle.script_model.specs.Words.{bytes_text, kind_text, content_text, stamp_text}
-use Rattle.script_model.specs.Script.{Line, words}
-use Rattle.script_model.specs.Grammars.{IsPlain, first_grammar}
+use Rattle.script_model.specs.Script.{Line, words, IsInBounds}
+use Rattle.script_model.specs.Grammars.{IsPlain, IsOfOneJob}
 
 -- What was read of a text: a value that fits and is spelt so, or nothing where no value that fits is.
 abbrev pub Reads : {A B : Type 0} → (A → B) → (A → Type 0) → B → Option A → Type 0
@@ -26,21 +26,22 @@ IsRoot segment = segment ≡ []
 abbrev pub content_words : Content → List (List ℕ)
 content_words content = kind_text content ∷ content_text content ∷ []
 
-abbrev pub IsFirstContent : Content → Type 0
-IsFirstContent content = IsContent content × (is_merge content ≡ false)
+abbrev pub IsPlainContent : Content → Type 0
+IsPlainContent content = IsContent content × (is_merge content ≡ false)
 
 abbrev pub row_words : Row → List (List ℕ)
 row_words r = bytes_text r.key ∷ kind_text r.content ∷ content_text r.content ∷ decimal r.seq ∷ stamp_text r.created ∷ stamp_text r.expires ∷ []
 
--- rows and lines of the first path
-abbrev pub IsFirstRow : Row → Type 0
-IsFirstRow r = IsRow r × IsPlain r
+-- rows of values and tombstones without stamps
+abbrev pub IsPlainRow : Row → Type 0
+IsPlainRow r = IsRow r × IsPlain r
 
-abbrev pub AreFirstRows : List Row → Type 0
-AreFirstRows rows = (0 < length rows) × AreRows rows × AllByRecursion IsPlain rows
+abbrev pub ArePlainRows : List Row → Type 0
+ArePlainRows rows = (0 < length rows) × AreRows rows × AllByRecursion IsPlain rows
 
-abbrev pub IsFirstLine : Line → Type 0
-IsFirstLine line = first_grammar [] line
+-- a line that may stand somewhere in a script of one job after the other
+abbrev pub IsJobLine : Line → Type 0
+IsJobLine line = IsInBounds line × IsOfOneJob line
 
 -- a line without its newline
 abbrev pub line_text : Line → List ℕ

@@ -1,20 +1,24 @@
 //! The lines of a script.
 
-ghost use Rattle.std.specs.Prelude.{◌≡◌, ◌∷◌, [], IfOk, IsOkUnless, codes};
-ghost use Rattle.std.specs.List.{join_with_byte};
-ghost use Rattle.script_model.specs.Script.{words};
+ghost use Rattle.std.specs.Prelude.{◌≡◌, IfOk, IsOkUnless};
 ghost use Rattle.fleet_text.specs.Lines.{line_of};
-ghost use Rattle.fleet_text.specs.Reading.{ReadsAs, IsFirstLine, line_text};
 
-use crate::row::rows_at;
-use crate::word::{is_word, key_of, name_of, number_of, parts, root_of, signed_of};
+use crate::node::NodeName;
 use bytes::Bytes;
 use fleet_rows::{Copies, ListOf, RowEntry, SlateDBError};
-use std::alloc::{AllocError, Global};
+use std::alloc::AllocError;
 
 /// One line of a script.
 #[derive(Debug, Drop, PartialEq)]
 pub enum Line {
+    /// A coordinator begins.
+    StartCoordinator {
+        number: u64,
+    },
+    /// A worker begins.
+    StartWorker {
+        number: u64,
+    },
     /// A flush of these rows into a segment's tree.
     Flush {
         name: u64,
@@ -30,6 +34,30 @@ pub enum Line {
         seq: u64,
         now: i64,
     },
+    /// A job that makes a sorted run of one flush.
+    Submit {
+        segment: Bytes,
+        destination: u32,
+        source: u64,
+    },
+    /// A coordinator takes up what is stored.
+    Poll {
+        coordinator: u64,
+    },
+    /// A worker takes the jobs that wait.
+    Claim {
+        worker: u64,
+    },
+    /// A worker writes a job's tables.
+    Finish {
+        worker: u64,
+        job: u64,
+    },
+    /// The rows of a node are asked for.
+    Dump {
+        segment: Bytes,
+        node: NodeName,
+    },
 }
 
 impl Line {
@@ -39,6 +67,8 @@ impl Line {
         ensures memory { IsOkUnless result SlateDBError.Memory }
     {
         match self {
+            Line::StartCoordinator { number } => Ok(Line::StartCoordinator { number: *number }),
+            Line::StartWorker { number } => Ok(Line::StartWorker { number: *number }),
             Line::Flush {
                 name,
                 segment,
@@ -63,6 +93,27 @@ impl Line {
                 seq: *seq,
                 now: *now,
             }),
+            Line::Submit {
+                segment,
+                destination,
+                source,
+            } => Ok(Line::Submit {
+                segment: segment.clone()?,
+                destination: *destination,
+                source: *source,
+            }),
+            Line::Poll { coordinator } => Ok(Line::Poll {
+                coordinator: *coordinator,
+            }),
+            Line::Claim { worker } => Ok(Line::Claim { worker: *worker }),
+            Line::Finish { worker, job } => Ok(Line::Finish {
+                worker: *worker,
+                job: *job,
+            }),
+            Line::Dump { segment, node } => Ok(Line::Dump {
+                segment: segment.clone()?,
+                node: *node,
+            }),
         }
     }
 }
@@ -79,80 +130,3 @@ fn copied_rows(rows: &Vec<RowEntry>) -> Result<Vec<RowEntry>, AllocError>
 
 /// The lines of a script in order.
 pub type LineList = ListOf<Line>;
-
-fn flush_from(
-    alloc: Global,
-    name: &[u8],
-    segment: &[u8],
-    floor: &[u8],
-    tick: &[u8],
-    rows: &[u8],
-) -> Result<Option<Line>, AllocError>
-    ensures { IfOk result (ReadsAs line_of words IsFirstLine (codes "flush" ∷ name.now ∷ segment.now ∷ floor.now ∷ tick.now ∷ rows.now ∷ [])) }
-{
-    let Some(name) = name_of(name) else {
-        return Ok(None);
-    };
-    let Some(segment) = root_of(segment) else {
-        return Ok(None);
-    };
-    let Some(floor) = number_of(floor) else {
-        return Ok(None);
-    };
-    let Some(tick) = signed_of(tick) else {
-        return Ok(None);
-    };
-    let Some(rows) = rows_at(alloc, rows)? else {
-        return Ok(None);
-    };
-    Ok(Some(Line::Flush {
-        name,
-        segment,
-        floor,
-        tick,
-        rows,
-    }))
-}
-
-fn read_from(
-    alloc: Global,
-    segment: &[u8],
-    key: &[u8],
-    seq: &[u8],
-    now: &[u8],
-) -> Result<Option<Line>, AllocError>
-    ensures { IfOk result (ReadsAs line_of words IsFirstLine (codes "read" ∷ segment.now ∷ key.now ∷ seq.now ∷ now.now ∷ [])) }
-{
-    let Some(segment) = root_of(segment) else {
-        return Ok(None);
-    };
-    let Some(seq) = number_of(seq) else {
-        return Ok(None);
-    };
-    let Some(now) = signed_of(now) else {
-        return Ok(None);
-    };
-    let Some(key) = key_of(alloc, key)? else {
-        return Ok(None);
-    };
-    Ok(Some(Line::Read {
-        segment,
-        key,
-        seq,
-        now,
-    }))
-}
-
-/// A line without its newline.
-pub fn line_at(alloc: Global, text: &[u8]) -> Result<Option<Line>, AllocError>
-    ensures { IfOk result (ReadsAs line_of line_text IsFirstLine text.now) }
-{
-    let words = parts(alloc, text, b' ')?;
-    if words.len() == 6 && is_word(words[0], "flush") {
-        return flush_from(alloc, words[1], words[2], words[3], words[4], words[5]);
-    }
-    if words.len() == 5 && is_word(words[0], "read") {
-        return read_from(alloc, words[1], words[2], words[3], words[4]);
-    }
-    Ok(None)
-}

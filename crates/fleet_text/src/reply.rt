@@ -4,9 +4,14 @@ ghost use Rattle.std.specs.Prelude.{◌≡◌, ◌++◌, [], OnOk, OnErr, IsOkUn
 ghost use Rattle.std.specs.Cmp.{partial_equiv_from_equiv};
 ghost use Rattle.std.specs.Cmp.Lexicographic.{pointwise, nat_list_eq_equiv};
 ghost use Rattle.std.specs.Fmt.{signed_decimal};
-ghost use Rattle.script_model.specs.Words.{bytes_text};
+ghost use Rattle.fleet_rows.specs.Row.{rows_of};
+ghost use Rattle.script_model.specs.Replies as replies;
+ghost use Rattle.script_model.specs.Words as words;
+ghost use Rattle.fleet_text.specs.Places.{places_text};
 
-use fleet_rows::SlateDBError;
+use crate::lists::{jobs_text, places_with_rules, rows_text, rules_text, tables_text};
+use crate::texts::bytes_text;
+use fleet_rows::{JobList, PlaceList, RowEntry, RuleList, SlateDBError};
 use std::alloc::Global;
 use std::marker::Model;
 
@@ -71,14 +76,61 @@ impl Reply {
 
     /// Appends bytes in lower-case hex, or `-` where there are none.
     pub fn hex(&mut self, bytes: &[u8]) -> Result<(), SlateDBError>
-        ensures ok { OnOk result (self.new ≡ self.old ++ bytes_text bytes.now) }
+        ensures ok { OnOk result (self.new ≡ self.old ++ words.bytes_text bytes.now) }
         ensures err { OnErr result (self.new ≡ self.old) }
         ensures memory { IsOkUnless result SlateDBError.Memory }
     {
-        if bytes.is_empty() {
-            return self.word("-");
-        }
-        let text = hex::encode(*self.bytes.allocator(), bytes)?;
+        let text = bytes_text(*self.bytes.allocator(), bytes)?;
+        self.word(text.as_str())
+    }
+
+    /// Appends jobs by their numbers.
+    pub fn jobs(&mut self, jobs: &JobList) -> Result<(), SlateDBError>
+        ensures ok { OnOk result (self.new ≡ self.old ++ replies.jobs_text jobs.now) }
+        ensures err { OnErr result (self.new ≡ self.old) }
+        ensures memory { IsOkUnless result SlateDBError.Memory }
+    {
+        let text = jobs_text(*self.bytes.allocator(), jobs.as_slice())?;
+        self.word(text.as_str())
+    }
+
+    /// Appends jobs, each with the rule that it failed.
+    pub fn rules(&mut self, rules: &RuleList) -> Result<(), SlateDBError>
+        ensures ok { OnOk result (self.new ≡ self.old ++ replies.rules_text rules.now) }
+        ensures err { OnErr result (self.new ≡ self.old) }
+        ensures memory { IsOkUnless result SlateDBError.Memory }
+    {
+        let text = rules_text(*self.bytes.allocator(), rules.as_slice())?;
+        self.word(text.as_str())
+    }
+
+    /// Appends places, each with the rule that its proposal failed.
+    pub fn places(&mut self, places: &PlaceList) -> Result<(), SlateDBError>
+        ensures ok { OnOk result (self.new ≡ self.old ++ places_text places.now) }
+        ensures err { OnErr result (self.new ≡ self.old) }
+        ensures memory { IsOkUnless result SlateDBError.Memory }
+    {
+        let text = places_with_rules(*self.bytes.allocator(), places.as_slice())?;
+        self.word(text.as_str())
+    }
+
+    /// Appends rows of every kind, with their stamps.
+    pub fn rows(&mut self, rows: &[RowEntry]) -> Result<(), SlateDBError>
+        ensures ok { OnOk result (self.new ≡ self.old ++ words.rows_text (rows_of rows.now)) }
+        ensures err { OnErr result (self.new ≡ self.old) }
+        ensures memory { IsOkUnless result SlateDBError.Memory }
+    {
+        let text = rows_text(*self.bytes.allocator(), rows)?;
+        self.word(text.as_str())
+    }
+
+    /// Appends tables: a drawn one by `t` and its number, a flush's by `l` and its name.
+    pub fn table_names(&mut self, tables: &JobList) -> Result<(), SlateDBError>
+        ensures ok { OnOk result (self.new ≡ self.old ++ replies.tables_text tables.now) }
+        ensures err { OnErr result (self.new ≡ self.old) }
+        ensures memory { IsOkUnless result SlateDBError.Memory }
+    {
+        let text = tables_text(*self.bytes.allocator(), tables.as_slice())?;
         self.word(text.as_str())
     }
 }

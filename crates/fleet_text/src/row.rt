@@ -3,14 +3,14 @@
 ghost use Rattle.std.specs.Prelude.{◌≡◌, [], ◌∷◌, length, IfOk};
 ghost use Rattle.fleet_rows.specs.Row.{content_of, row_of, rows_of};
 ghost use Rattle.script_model.specs.Words.{row_text, rows_text};
-ghost use Rattle.fleet_text.specs.Reading.{ReadsAs, content_words, row_words, IsFirstContent, IsFirstRow, AreFirstRows};
+ghost use Rattle.fleet_text.specs.Reading.{ReadsAs, content_words, row_words, IsPlainContent, IsPlainRow, ArePlainRows};
 
 use crate::word::{is_word, key_of, number_of, parts, value_bytes_of};
 use fleet_rows::{RowEntry, ValueDeletable};
 use std::alloc::{AllocError, Global};
 
 fn value_of(alloc: Global, kind: &[u8], word: &[u8]) -> Result<Option<ValueDeletable>, AllocError>
-    ensures { IfOk result (ReadsAs content_of content_words IsFirstContent (kind.now ∷ word.now ∷ [])) }
+    ensures { IfOk result (ReadsAs content_of content_words IsPlainContent (kind.now ∷ word.now ∷ [])) }
 {
     if is_word(kind, "v") {
         let Some(bytes) = value_bytes_of(alloc, word)? else {
@@ -32,7 +32,7 @@ fn row_from(
     value: &[u8],
     seq: &[u8],
 ) -> Result<Option<RowEntry>, AllocError>
-    ensures { IfOk result (ReadsAs row_of row_words IsFirstRow (key.now ∷ kind.now ∷ value.now ∷ seq.now ∷ (45 ∷ []) ∷ (45 ∷ []) ∷ [])) }
+    ensures { IfOk result (ReadsAs row_of row_words IsPlainRow (key.now ∷ kind.now ∷ value.now ∷ seq.now ∷ (45 ∷ []) ∷ (45 ∷ []) ∷ [])) }
 {
     let Some(seq) = number_of(seq) else {
         return Ok(None);
@@ -47,7 +47,7 @@ fn row_from(
 }
 
 fn row_at(alloc: Global, word: &[u8]) -> Result<Option<RowEntry>, AllocError>
-    ensures { IfOk result (ReadsAs row_of row_text IsFirstRow word.now) }
+    ensures { IfOk result (ReadsAs row_of row_text IsPlainRow word.now) }
 {
     let fields = parts(alloc, word, b':')?;
     if fields.len() != 6 || !is_word(fields[4], "-") || !is_word(fields[5], "-") {
@@ -58,7 +58,7 @@ fn row_at(alloc: Global, word: &[u8]) -> Result<Option<RowEntry>, AllocError>
 
 /// One row or more, with commas between them.
 pub fn rows_at(alloc: Global, word: &[u8]) -> Result<Option<Vec<RowEntry>>, AllocError>
-    ensures { IfOk result (ReadsAs (λ rows. rows_of rows.items) rows_text AreFirstRows word.now) }
+    ensures { IfOk result (ReadsAs (λ rows. rows_of rows.items) rows_text ArePlainRows word.now) }
 {
     let fields = parts(alloc, word, b',')?;
     let mut rows = Vec::new(alloc);

@@ -3,36 +3,45 @@
 ghost use Rattle.std.specs.Prelude.{◌≡◌, ℕ, ◌+◌, List, length, IfOk, Err, ◌⊎◌, IfErr};
 ghost use Rattle.script_model.specs.Script.{IsScript, IsBadAt};
 ghost use Rattle.script_model.specs.Script as model;
-ghost use Rattle.script_model.specs.Grammars.{first_grammar};
-ghost use Rattle.fleet_text.specs.Lines.{lines_of};
+ghost use Rattle.script_model.specs.Grammars.{job_grammar};
+ghost use Rattle.fleet_text.specs.Lines.{line_of, lines_of};
+ghost use Rattle.fleet_text.specs.Reading.{ReadsAs, line_text};
+ghost use Rattle.fleet_text.specs.Starts.{MayFollow};
 
 use crate::TextError;
-use crate::line::{Line, LineList, line_at};
+use crate::forms::line_at;
+use crate::line::{Line, LineList};
+use crate::started::Started;
 use crate::word::cut;
-use std::alloc::Global;
+use std::alloc::{AllocError, Global};
 
 /// The lines of a script, or the number of the first line that is none.
 pub fn read_script(alloc: Global, text: &[u8]) -> Result<LineList, TextError>
-    ensures found { IfOk result (λ lines. IsScript first_grammar text.now (lines_of lines)) }
-    ensures bad { (n : ℕ) → result ≡ Err (TextError.BadLine n) → IsBadAt first_grammar text.now n }
+    ensures found { IfOk result (λ lines. IsScript job_grammar text.now (lines_of lines)) }
+    ensures bad { (n : ℕ) → result ≡ Err (TextError.BadLine n) → IsBadAt job_grammar text.now n }
     // Where a line is the first outside the grammar it is named, unless memory runs out.
-    ensures exact { (n : ℕ) → IsBadAt first_grammar text.now n → (result ≡ Err (TextError.BadLine n)) ⊎ (result ≡ Err TextError.Memory) }
+    ensures exact { (n : ℕ) → IsBadAt job_grammar text.now n → (result ≡ Err (TextError.BadLine n)) ⊎ (result ≡ Err TextError.Memory) }
     // A script is read, unless memory runs out.
-    ensures valid { (lines : List model.Line) → IsScript first_grammar text.now lines → IfErr result (λ e. e ≡ TextError.Memory) }
+    ensures valid { (lines : List model.Line) → IsScript job_grammar text.now lines → IfErr result (λ e. e ≡ TextError.Memory) }
 {
     read_lines(alloc, text)
 }
 
 fn read_lines(alloc: Global, text: &[u8]) -> Result<LineList, TextError>
-    ensures found { IfOk result (λ lines. IsScript first_grammar text.now (lines_of lines)) }
-    ensures bad { (n : ℕ) → result ≡ Err (TextError.BadLine n) → IsBadAt first_grammar text.now n }
+    ensures found { IfOk result (λ lines. IsScript job_grammar text.now (lines_of lines)) }
+    ensures bad { (n : ℕ) → result ≡ Err (TextError.BadLine n) → IsBadAt job_grammar text.now n }
 {
     let mut lines = Vec::new(alloc);
+    let mut started = Started {
+        coordinator: false,
+        worker: false,
+    };
     let mut rest = text;
     'lines: while let Some((front, behind)) = cut(rest, b'\n') {
-        let Some(line) = line_at(alloc, front)? else {
+        let Some(line) = line_after(alloc, front, started)? else {
             return Err(bad_after(&lines));
         };
+        started = started.with(&line);
         lines.push(line)?;
         rest = behind;
     }
@@ -40,6 +49,19 @@ fn read_lines(alloc: Global, text: &[u8]) -> Result<LineList, TextError>
         return Err(bad_after(&lines));
     }
     Ok(LineList::from_vec(lines))
+}
+
+/// A line that starts no party a second time.
+fn line_after(alloc: Global, text: &[u8], started: Started) -> Result<Option<Line>, AllocError>
+    ensures { IfOk result (ReadsAs line_of line_text (MayFollow started) text.now) }
+{
+    let Some(line) = line_at(alloc, text)? else {
+        return Ok(None);
+    };
+    if started.is_again(&line) {
+        return Ok(None);
+    }
+    Ok(Some(line))
 }
 
 /// The line behind these is bad.

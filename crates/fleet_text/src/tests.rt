@@ -1,6 +1,6 @@
 use super::*;
 use bytes::Bytes;
-use fleet_rows::{RowEntry, ValueDeletable};
+use fleet_rows::{JobList, PlaceList, RowEntry, RuleList, Ulid, ValueDeletable};
 use std::alloc::Global;
 use std::test::*;
 
@@ -65,23 +65,100 @@ const BAD: [(&str, u64); 44] = [
     ("flush 1 - 0 0 61:v:00:1:-:-:-\n", 1),
 ];
 
+const GOOD_JOBS: [&str; 13] = [
+    "start coordinator 1\n",
+    "start worker 1\nstart coordinator 1\n",
+    "submit - 0 l1\n",
+    "submit - 4294967295 l1099511627775\n",
+    "poll 1\npoll 1\n",
+    "claim 1\nclaim 1\n",
+    "finish 1 1\n",
+    "finish 1 18446744073709551615\n",
+    "dump - l1\n",
+    "dump - l1099511627775\n",
+    "dump - r0\n",
+    "dump - r4294967295\n",
+    "start coordinator 1\nsubmit - 1 l1\npoll 1\nread - 61 1 0\n",
+];
+
+const BAD_JOBS: [(&str, u64); 48] = [
+    ("start coordinator 2\n", 1),
+    ("start worker 0\n", 1),
+    ("start worker 01\n", 1),
+    ("start worker\n", 1),
+    ("start 1\n", 1),
+    ("start party 1\n", 1),
+    ("start worker 1 1\n", 1),
+    ("start coordinator 1\nstart coordinator 1\n", 2),
+    ("start worker 1\npoll 1\nstart worker 1\n", 3),
+    (
+        "start worker 1\nstart coordinator 1\nstart coordinator 1\n",
+        3,
+    ),
+    ("submit - 4294967296 l1\n", 1),
+    ("submit - 01 l1\n", 1),
+    ("submit - l1\n", 1),
+    ("submit 61 1 l1\n", 1),
+    ("submit - 1 l0\n", 1),
+    ("submit - 1 l01\n", 1),
+    ("submit - 1 l1099511627776\n", 1),
+    ("submit - 1 r0\n", 1),
+    ("submit - 1 l1,l2\n", 1),
+    ("submit - 1 -\n", 1),
+    ("submit - 1 l\n", 1),
+    ("submit - 1 1\n", 1),
+    ("poll 2\n", 1),
+    ("poll 0\n", 1),
+    ("poll\n", 1),
+    ("poll 1 1\n", 1),
+    ("claim 2\n", 1),
+    ("claim 01\n", 1),
+    ("claim -\n", 1),
+    ("finish 1 0\n", 1),
+    ("finish 2 1\n", 1),
+    ("finish 1 01\n", 1),
+    ("finish 1\n", 1),
+    ("finish 1 18446744073709551616\n", 1),
+    ("dump - l0\n", 1),
+    ("dump - l1099511627776\n", 1),
+    ("dump - r4294967296\n", 1),
+    ("dump - r01\n", 1),
+    ("dump - r\n", 1),
+    ("dump - x1\n", 1),
+    ("dump - 1\n", 1),
+    ("dump - -\n", 1),
+    ("dump 61 r0\n", 1),
+    ("dump r0\n", 1),
+    ("stop worker 1\n", 1),
+    ("heartbeat 1\n", 1),
+    ("tables - l1\n", 1),
+    ("trees\n", 1),
+];
+
+fn bad_line(alloc: Global, text: &str) -> u64 {
+    match read_script(alloc, text.as_bytes()) {
+        Err(TextError::BadLine(n)) => n,
+        _ => 0,
+    }
+}
+
 #[test]
 fn good_lines(rt: HostRuntime) {
     for text in GOOD {
-        let read = read_script(rt.alloc(), text.as_bytes());
-        assert!(rt; read.is_ok(), "{text}");
+        assert!(rt; read_script(rt.alloc(), text.as_bytes()).is_ok(), "{text}");
+    }
+    for text in GOOD_JOBS {
+        assert!(rt; read_script(rt.alloc(), text.as_bytes()).is_ok(), "{text}");
     }
 }
 
 #[test]
 fn bad_lines(rt: HostRuntime) {
     for (text, line) in BAD {
-        let read = read_script(rt.alloc(), text.as_bytes());
-        let bad = match read {
-            Err(TextError::BadLine(n)) => n,
-            _ => 0,
-        };
-        assert_eq!(rt; bad, line, "{text}");
+        assert_eq!(rt; bad_line(rt.alloc(), text), line, "{text}");
+    }
+    for (text, line) in BAD_JOBS {
+        assert_eq!(rt; bad_line(rt.alloc(), text), line, "{text}");
     }
 }
 
@@ -120,6 +197,39 @@ fn fields(rt: HostRuntime) -> Result<(), Fail> {
 }
 
 #[test]
+fn job_fields(rt: HostRuntime) -> Result<(), Fail> {
+    let alloc = rt.alloc();
+    let text =
+        b"start coordinator 1\nstart worker 1\nsubmit - 4 l7\npoll 1\nclaim 1\nfinish 1 8\ndump - l9\ndump - r3\n";
+    let wanted = [
+        Line::StartCoordinator { number: 1 },
+        Line::StartWorker { number: 1 },
+        Line::Submit {
+            segment: Bytes::new(),
+            destination: 4,
+            source: 7,
+        },
+        Line::Poll { coordinator: 1 },
+        Line::Claim { worker: 1 },
+        Line::Finish { worker: 1, job: 8 },
+        Line::Dump {
+            segment: Bytes::new(),
+            node: NodeName::L0(9),
+        },
+        Line::Dump {
+            segment: Bytes::new(),
+            node: NodeName::Run(3),
+        },
+    ];
+    let lines = read_script(alloc, text)?;
+    assert_eq!(rt; lines.as_slice(), wanted.as_slice());
+    for line in &wanted {
+        assert_eq!(rt; line.clone()?, *line);
+    }
+    Ok(())
+}
+
+#[test]
 fn numbers(rt: HostRuntime) {
     assert_eq!(rt; number_of(b"0"), Some(0));
     assert_eq!(rt; number_of(b"18446744073709551615"), Some(u64::MAX));
@@ -145,6 +255,79 @@ fn replies(rt: HostRuntime) -> Result<(), Fail> {
     let printed = b"notretained 18446744073709551615 -9223372036854775808 -00fa\n";
     assert_eq!(rt; reply.as_slice(), printed.as_slice());
     assert!(rt; reply == reply);
+    Ok(())
+}
+
+#[test]
+fn jobs_and_tables(rt: HostRuntime) -> Result<(), Fail> {
+    let mut jobs = JobList::new(rt.alloc());
+    let mut reply = Reply::new(rt.alloc());
+    reply.jobs(&jobs)?;
+    reply.table_names(&jobs)?;
+    jobs.push(Ulid::from_parts(0, 7))?;
+    reply.word(" ")?;
+    reply.jobs(&jobs)?;
+    reply.word(" ")?;
+    reply.table_names(&jobs)?;
+    jobs.push(Ulid::from_parts(1_700, (1 << 79) + 3))?;
+    reply.word(" ")?;
+    reply.jobs(&jobs)?;
+    reply.word(" ")?;
+    reply.table_names(&jobs)?;
+    let printed = b"-- 7 l7 7,604462909807314587353091 l7,t3";
+    assert_eq!(rt; reply.as_slice(), printed.as_slice());
+    Ok(())
+}
+
+#[test]
+fn rules_and_places(rt: HostRuntime) -> Result<(), Fail> {
+    let mut rules = RuleList::new(rt.alloc());
+    let mut places = PlaceList::new(rt.alloc());
+    let mut reply = Reply::new(rt.alloc());
+    reply.rules(&rules)?;
+    reply.places(&places)?;
+    rules.push((Ulid::from_parts(1_700, 3), 6))?;
+    places.push((1, 9))?;
+    reply.word(" ")?;
+    reply.rules(&rules)?;
+    reply.word(" ")?;
+    reply.places(&places)?;
+    rules.push((Ulid::from_parts(0, 4), 12))?;
+    places.push((u64::MAX, 255))?;
+    reply.word(" ")?;
+    reply.rules(&rules)?;
+    reply.word(" ")?;
+    reply.places(&places)?;
+    let printed = b"-- 3:6 1:9 3:6,4:12 1:9,18446744073709551615:255";
+    assert_eq!(rt; reply.as_slice(), printed.as_slice());
+    Ok(())
+}
+
+#[test]
+fn rows(rt: HostRuntime) -> Result<(), Fail> {
+    let alloc = rt.alloc();
+    let mut reply = Reply::new(alloc);
+    reply.rows(&[])?;
+    let mut set = row(
+        alloc,
+        ValueDeletable::Value(Bytes::copy_from_slice(alloc, b"z")?),
+        2,
+    )?;
+    let mut deleted = row(alloc, ValueDeletable::Tombstone, 1)?;
+    reply.word(" ")?;
+    reply.rows(&[set.clone()?])?;
+    reply.word(" ")?;
+    reply.rows(&[set.clone()?, deleted.clone()?])?;
+    set.create_ts = Some(5);
+    set.expire_ts = Some(i64::MIN);
+    deleted.create_ts = Some(-1);
+    let mut operand = row(alloc, ValueDeletable::Merge(Bytes::new()), 0)?;
+    operand.expire_ts = Some(0);
+    reply.word(" ")?;
+    reply.rows(&[set, operand, deleted])?;
+    let printed =
+        b"- 61:v:7a:2:-:- 61:v:7a:2:-:-,61:t:-:1:-:- 61:v:7a:2:5:-9223372036854775808,61:m:-:0:-:0,61:t:-:1:-1:-";
+    assert_eq!(rt; reply.as_slice(), printed.as_slice());
     Ok(())
 }
 

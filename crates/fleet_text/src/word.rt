@@ -1,6 +1,6 @@
 //! The words of a line.
 
-ghost use Rattle.std.specs.Prelude.{◌≡◌, ◌≢◌, ◌++◌, ◌∷◌, [], MatchOption, All, ◌<◌, ◌^◌, ◌↔◌, IsTrue, IfOk, map, decimal};
+ghost use Rattle.std.specs.Prelude.{◌≡◌, ◌≢◌, ◌++◌, ◌∷◌, [], MatchOption, All, ◌<◌, ◌≤◌, ◌^◌, ◌↔◌, IsTrue, IfOk, map, decimal};
 ghost use Rattle.std.specs.Fmt.{signed_decimal};
 ghost use Rattle.std.specs.List.{slice_split, list_all};
 ghost use Rattle.row_model.specs.Bounds.{AreBytes, IsKey, IsStamp};
@@ -142,4 +142,26 @@ pub fn name_of(word: &[u8]) -> Option<u64>
         return None;
     }
     Some(name)
+}
+
+/// The number 1.
+pub fn one_of(word: &[u8]) -> Option<u64>
+    ensures { Reads decimal (λ n. n ≡ 1) word.now result }
+{
+    if is_word(word, "1") { Some(1) } else { None }
+}
+
+/// The id of a sorted run.
+pub fn run_of(word: &[u8]) -> Option<u32>
+    ensures { Reads decimal (λ n. n < 2 ^ 32) word.now result }
+{
+    u32::try_from(number_of(word)?).ok()
+}
+
+/// The number of a job, from 1.
+pub fn job_of(word: &[u8]) -> Option<u64>
+    ensures { Reads decimal (λ n. (1 ≤ n) × (n < 2 ^ 64)) word.now result }
+{
+    let job = number_of(word)?;
+    if job == 0 { None } else { Some(job) }
 }

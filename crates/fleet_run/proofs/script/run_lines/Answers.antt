@@ -15,7 +15,7 @@ pub lines-preserved : goal.lines-preserved
 lines-preserved g c =
     let so_far = rw c.in-Some.ensures.items at c.lines.invariant in
     let ran = c.in_ok-run_line.ensures in
-    run_more _ (line_of c.in-Some.line) _ _ _ _ _ _ so_far c.run_line.ensures.sound ran.state ran.took c.run_line.ensures.never_fall
+    run_more _ (line_of c.in-Some.line) _ _ _ _ _ _ so_far ran.state ran.took c.run_line.ensures.never_fall
 
 pub returns-in_err-run_line-clause-fault : goal.returns-in_err-run_line-clause-fault
 returns-in_err-run_line-clause-fault g c = λ e merge.
@@ -25,7 +25,7 @@ returns-in_err-run_line-clause-fault g c = λ e merge.
     let failed = ap (λ x. Err x) why in
     let fault = c.in_err-run_line.ensures in
     let so_far = rw c.in-Some.ensures.items at c.lines.invariant in
-    rw are at (run_part _ (line_of c.in-Some.line) _ _ _ _ _ _ so_far c.run_line.ensures.sound (fault.fault_state failed) (fault.fault_took failed) merge)
+    rw are at (run_part _ (line_of c.in-Some.line) _ _ _ _ _ _ so_far (fault.fault_state failed) (fault.fault_took failed) merge)
 
 pub returns-in_err-run_line-clause-memory : goal.returns-in_err-run_line-clause-memory
 returns-in_err-run_line-clause-memory g c = λ e merge.

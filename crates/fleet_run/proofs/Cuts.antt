@@ -1,0 +1,56 @@
+-- Rows cut into tables, row after row.
+use Rattle.std.proofs.Common.{◌≡◌, refl, ap, sym, ◌∙◌, ℕ, ◌+◌, List, [], ◌∷◌, ◌++◌, Bool, true, false, append_assoc}
+use Rattle.std.specs.Prelude.{nat_lt, if◌then◌else◌}
+use Rattle.std.proofs.lemmas.List.{map-append}
+use Rattle.row_model.specs.Rows.{Row}
+use Rattle.row_model.specs.Sizes.{estimated_size}
+use Rattle.row_model.specs.Tables.{with_row, cut_from}
+use Rattle.fleet_rows.specs.Row.{row_of, rows_of}
+use Rattle.fleet_rows.specs.declared.row.RowEntry.{RowEntry}
+
+-- rows of a table that is not full yet, in front of the cut of the rows behind them
+abbrev pub behind : List Row → List (List Row) → List (List Row)
+behind [] tables = tables
+behind (r ∷ front) [] = (r ∷ front) ∷ []
+behind (r ∷ front) (table ∷ tables) = ((r ∷ front) ++ table) ∷ tables
+
+-- a list of rows with one more is not empty
+behind-snoc : (front : List Row) (r : Row) (tables : List (List Row)) (first : List Row) → behind (front ++ r ∷ []) (first ∷ tables) ≡ ((front ++ r ∷ []) ++ first) ∷ tables
+behind-snoc [] r tables first = refl
+behind-snoc (o ∷ front) r tables first = refl
+
+behind-none : (front : List Row) (r : Row) → behind (front ++ r ∷ []) [] ≡ (front ++ r ∷ []) ∷ []
+behind-none [] r = refl
+behind-none (o ∷ front) r = refl
+
+behind-first : (front first : List Row) (tables : List (List Row)) (r : Row) → behind front ((r ∷ first) ∷ tables) ≡ (front ++ r ∷ first) ∷ tables
+behind-first [] first tables r = refl
+behind-first (o ∷ front) first tables r = refl
+
+-- a row that fills its table ends it
+pub cut_full : (size filled : ℕ) (front : List Row) (r : Row) (rest : List Row) → nat_lt size (filled + estimated_size r) ≡ true
+    → behind front (cut_from size filled (r ∷ rest)) ≡ (front ++ r ∷ []) ∷ cut_from size 0 rest
+cut_full size filled front r rest full =
+    ap (λ b. behind front (with_row b r (cut_from size (if b then 0 else filled + estimated_size r) rest))) full ∙ behind-first front [] (cut_from size 0 rest) r
+
+-- and another row comes to those before it
+pub cut_more : (size filled : ℕ) (front : List Row) (r : Row) (rest : List Row) → nat_lt size (filled + estimated_size r) ≡ false
+    → behind front (cut_from size filled (r ∷ rest)) ≡ behind (front ++ r ∷ []) (cut_from size (filled + estimated_size r) rest)
+cut_more size filled front r rest room =
+    ap (λ b. behind front (with_row b r (cut_from size (if b then 0 else filled + estimated_size r) rest))) room ∙ by (cut_from size (filled + estimated_size r) rest)
+  where
+    by : (tables : List (List Row)) → behind front (with_row false r tables) ≡ behind (front ++ r ∷ []) tables
+    by [] = behind-first front [] [] r ∙ sym (behind-none front r)
+    by (first ∷ tables) = behind-first front first tables r ∙ ap (λ rows. rows ∷ tables) (sym (append_assoc front (r ∷ []) first)) ∙ sym (behind-snoc front r tables first)
+
+-- the same of rows as the program has them
+pub more_gathered : (size filled n : ℕ) (made whole : List (List Row)) (front more rest left : List RowEntry) (row : RowEntry) (full : Bool) → rest ≡ row ∷ left → more ≡ front ++ row ∷ []
+    → full ≡ nat_lt size (filled + estimated_size (row_of row)) → full ≡ false → n ≡ estimated_size (row_of row)
+    → made ++ behind (rows_of front) (cut_from size filled (rows_of rest)) ≡ whole
+    → made ++ behind (rows_of more) (cut_from size (filled + n) (rows_of left)) ≡ whole
+more_gathered size filled n made whole front more rest left row full first last test room count so_far =
+    let behind_now : List RowEntry → ℕ → List (List Row) = λ entries size_of. made ++ behind (rows_of entries) (cut_from size (filled + size_of) (rows_of left)) in
+    ap (λ entries. behind_now entries n) last ∙ ap (behind_now (front ++ row ∷ [])) count
+    ∙ ap (λ rows. made ++ behind rows (cut_from size (filled + estimated_size (row_of row)) (rows_of left))) (map-append row_of front (row ∷ []))
+    ∙ ap (λ tables. made ++ tables) (sym (cut_more size filled (rows_of front) (row_of row) (rows_of left) (sym test ∙ room)))
+    ∙ ap (λ entries. made ++ behind (rows_of front) (cut_from size filled (rows_of entries))) (sym first) ∙ so_far

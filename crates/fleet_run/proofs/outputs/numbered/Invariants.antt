@@ -1,0 +1,15 @@
+use Rattle.std.proofs.Common.{◌≡◌, ◌++◌, length}
+use Rattle.std.specs.List.{AllByRecursion}
+use Rattle.fleet_table.specs.Table.{IsTable}
+use Rattle.fleet_run.specs.Serve.{numbered}
+use Rattle.fleet_run.specs.Outputs.{all_rows_of}
+use Rattle.fleet_run.proofs.outputs.numbered.Given as goal
+
+abbrev pub invariant-rows : goal.invariant-rows
+invariant-rows l = record {
+  each : AllByRecursion IsTable (all_rows_of l.rest.items);
+  parts : l.tables.items ++ numbered l.number (all_rows_of l.rest.items) ≡ numbered l.drawn (all_rows_of l.initial.rest.items);
+}
+
+abbrev pub decreases-rows : goal.decreases-rows
+decreases-rows l = length l.rest.items

@@ -1,0 +1,126 @@
+//! The tables that a job writes of a flush.
+
+ghost use Rattle.std.specs.Prelude.{◌≡◌, ◌+◌, nat_lt, IfOk};
+ghost use Rattle.std.specs.List.{AllByRecursion};
+ghost use Rattle.row_model.specs.Bounds.{IsInBounds};
+ghost use Rattle.row_model.specs.Sizes.{estimated_size};
+ghost use Rattle.row_model.specs.Tables.{cut_tables};
+ghost use Rattle.fleet_fold.specs.Retention.{kept_of_keys, IsReadable};
+ghost use Rattle.fleet_rows.specs.Row.{row_of, rows_of};
+ghost use Rattle.fleet_rows.specs.Settings.{settings_of};
+ghost use Rattle.fleet_table.specs.Table.{IsTable};
+ghost use Rattle.fleet_run.specs.Serve.{numbered};
+ghost use Rattle.fleet_run.specs.Outputs.{all_rows_of, table_size};
+
+use crate::tables::Table;
+use fleet_fold::RetentionIterator;
+use fleet_iter::{RowEntryIterator, RowSource, ordered_rows_rise};
+use fleet_rows::{ListOf, RowEntry, Settings, SlateDBError, Ulid};
+use fleet_table::TableData;
+use std::alloc::Global;
+use std::collections::VecDeque;
+use std::mem;
+
+/// A table ends with the row with which its rows first exceed so many bytes.
+const TABLE_SIZE: usize = 268_435_456;
+
+/// The first number of a drawn table: numbers below it are those of flushes and jobs.
+const FIRST_DRAWN: u128 = 1 << 79;
+
+/// All rows that an iterator has left.
+fn rows_left<T: RowSource>(alloc: Global, source: &mut T) -> Result<Vec<RowEntry>, SlateDBError>
+    requires sound { T.sound source.old }
+    requires readable { IsReadable (T.state source.old) }
+    ensures { IfOk result (λ rows. rows_of rows.items ≡ (T.state source.old).rows) }
+{
+    let mut rows = Vec::new(alloc);
+    'rows: while let Some(row) = source.next_row(alloc)? {
+        rows.push(row)?;
+    }
+    Ok(rows)
+}
+
+/// What a job keeps of a table's rows.
+fn kept_rows(
+    alloc: Global,
+    settings: Settings,
+    table: &TableData,
+) -> Result<Vec<RowEntry>, SlateDBError>
+    ensures rows { IfOk result (λ rows. rows_of rows.items ≡ kept_of_keys (settings_of settings) table.now) }
+    ensures table { IsTable table.now }
+{
+    ordered_rows_rise();
+    let _rows = table.as_slice();
+    let mut iterator = RetentionIterator::new(alloc, table.iter(), settings);
+    iterator.init(alloc)?;
+    rows_left(alloc, &mut iterator)
+}
+
+/// Whether a row exceeds the size of a table that is filled so far.
+fn is_full(filled: usize, row: &RowEntry) -> bool
+    requires { IsInBounds (row_of row.now) }
+    ensures { result ≡ nat_lt table_size (filled + estimated_size (row_of row.now)) }
+{
+    filled > TABLE_SIZE || row.estimated_size() > TABLE_SIZE - filled
+}
+
+/// Rows cut into the rows of tables.
+fn cut(alloc: Global, rows: Vec<RowEntry>) -> Result<VecDeque<ListOf<RowEntry>>, SlateDBError>
+    requires { AllByRecursion IsInBounds (rows_of rows.items) }
+    ensures { IfOk result (λ tables. all_rows_of tables.items ≡ cut_tables table_size (rows_of rows.items)) }
+{
+    let mut tables = VecDeque::new(alloc);
+    let mut open = Vec::new(alloc);
+    let mut filled = 0;
+    let mut rest = VecDeque::from_vec(rows);
+    'rows: while let Some(row) = rest.pop_front() {
+        let full = is_full(filled, &row);
+        let size = row.estimated_size();
+        open.push(row)?;
+        if full {
+            tables.push_back(ListOf::from_vec(mem::replace(&mut open, Vec::new(alloc))))?;
+            filled = 0;
+        } else {
+            filled += size;
+        }
+    }
+    if !open.is_empty() {
+        tables.push_back(ListOf::from_vec(open))?;
+    }
+    Ok(tables)
+}
+
+/// Tables of these rows, under ids that follow those drawn before, at moment 0.
+fn numbered(
+    alloc: Global,
+    drawn: u64,
+    rows: VecDeque<ListOf<RowEntry>>,
+) -> Result<VecDeque<Table>, SlateDBError>
+    requires { AllByRecursion IsTable (all_rows_of rows.items) }
+    ensures { IfOk result (λ tables. tables.items ≡ numbered drawn (all_rows_of rows.items)) }
+{
+    let mut tables = VecDeque::new(alloc);
+    let mut number = drawn;
+    let mut rest = rows;
+    'rows: while let Some(rows) = rest.pop_front() {
+        number = number.checked_add(1).ok_or(SlateDBError::Memory)?;
+        let id = Ulid::from_parts(0, FIRST_DRAWN + number as u128);
+        let data = TableData::from_rows(rows.into_vec())?;
+        tables.push_back(Table { id, data })?;
+    }
+    Ok(tables)
+}
+
+/// The tables that a job writes of a flush's table.
+pub fn outputs(
+    alloc: Global,
+    drawn: u64,
+    settings: Settings,
+    table: &TableData,
+) -> Result<VecDeque<Table>, SlateDBError>
+    ensures { IfOk result (λ tables. tables.items ≡ numbered drawn (cut_tables table_size (kept_of_keys (settings_of settings) table.now))) }
+{
+    let rows = kept_rows(alloc, settings, table)?;
+    let rows = cut(alloc, rows)?;
+    numbered(alloc, drawn, rows)
+}

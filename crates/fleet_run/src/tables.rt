@@ -1,0 +1,147 @@
+//! Tables under their ids, and runs of them.
+
+ghost use Rattle.std.specs.Prelude.{◌≡◌, ◌==◌, ◌++◌, option_map, find, flat_map, IfOk, OnOk};
+ghost use Rattle.std.specs.Option.{option_copied};
+ghost use Rattle.fleet_rows.specs.Row.{row_of, rows_of};
+ghost use Rattle.fleet_model.specs.Records.{firsts};
+ghost use Rattle.fleet_run.specs.Serve.{newest_row, run_tables};
+
+use fleet_rows::{RowEntry, SlateDBError, Ulid};
+use fleet_table::TableData;
+use std::alloc::{AllocError, Global};
+use std::collections::VecDeque;
+use std::marker::Model;
+
+/// A table under its id. That of a flush is the flush's name, at moment 0.
+#[derive(Debug, Drop)]
+pub struct Table {
+    pub id: Ulid,
+    pub data: TableData,
+}
+
+impl Model for Table {
+    ghost use Rattle.std.specs.Prelude.{ℕ, List};
+    ghost use Rattle.row_model.specs.Rows.{Row};
+
+    ghost Value = { ℕ × List Row };
+
+    ghost view = { λ t. (t.id, t.data) };
+}
+
+/// A sorted run: its tables, one after the other.
+#[derive(Debug, Drop)]
+pub struct Run {
+    pub id: u32,
+    pub tables: VecDeque<Table>,
+}
+
+impl Model for Run {
+    ghost use Rattle.std.specs.Prelude.{ℕ};
+    ghost use Rattle.fleet_model.specs.Nodes.{Tables};
+
+    ghost Value = { ℕ × Tables };
+
+    ghost view = { λ r. (r.id, r.tables.items) };
+}
+
+/// The id of this number at moment 0: that of a flush is its name, and that of a job its number.
+pub fn id_of_number(number: u64) -> Ulid
+    ensures { result ≡ number }
+{
+    Ulid::from_parts(0, number as u128)
+}
+
+/// The newest row of a key whose sequence is at most `seq`, in tables of which the newest stands first.
+pub fn newest_in<'a>(tables: &'a VecDeque<Table>, key: &[u8], seq: u64) -> Option<&'a RowEntry>
+    ensures { option_map row_of (option_copied result) ≡ newest_row tables.now.items key.now seq }
+{
+    for i in 0..tables.len() {
+        let newest = tables[i].data.newest_at(key, seq);
+        if newest.is_some() {
+            return newest;
+        }
+    }
+    None
+}
+
+/// The same in runs of which the newest stands first.
+pub fn newest_in_runs<'a>(runs: &'a VecDeque<Run>, key: &[u8], seq: u64) -> Option<&'a RowEntry>
+    ensures { option_map row_of (option_copied result) ≡ newest_row (run_tables runs.now.items) key.now seq }
+{
+    for i in 0..runs.len() {
+        let newest = newest_in(&runs[i].tables, key, seq);
+        if newest.is_some() {
+            return newest;
+        }
+    }
+    None
+}
+
+/// The table of an id among others.
+pub fn table_of(tables: &VecDeque<Table>, id: Ulid) -> Option<&TableData>
+    ensures { option_copied result ≡ option_map (λ table. table.1) (find (λ table. table.0 == id) tables.now.items) }
+{
+    for i in 0..tables.len() {
+        if tables[i].id == id {
+            return Some(&tables[i].data);
+        }
+    }
+    None
+}
+
+/// The tables of a run among others.
+pub fn tables_of(runs: &VecDeque<Run>, id: u32) -> Option<&VecDeque<Table>>
+    ensures { option_map (λ tables. tables.items) (option_copied result) ≡ option_map (λ run. run.1) (find (λ run. run.0 == id) runs.now.items) }
+{
+    for i in 0..runs.len() {
+        if runs[i].id == id {
+            return Some(&runs[i].tables);
+        }
+    }
+    None
+}
+
+/// The ids of tables.
+pub fn ids_of(alloc: Global, tables: &VecDeque<Table>) -> Result<Vec<Ulid>, AllocError>
+    ensures { IfOk result (λ ids. ids.items ≡ firsts tables.now.items) }
+{
+    let mut ids = Vec::new(alloc);
+    for i in 0..tables.len() {
+        ids.push(tables[i].id)?;
+    }
+    Ok(ids)
+}
+
+/// The ids of runs.
+pub fn run_ids_of(alloc: Global, runs: &VecDeque<Run>) -> Result<Vec<u32>, AllocError>
+    ensures { IfOk result (λ ids. ids.items ≡ firsts runs.now.items) }
+{
+    let mut ids = Vec::new(alloc);
+    for i in 0..runs.len() {
+        ids.push(runs[i].id)?;
+    }
+    Ok(ids)
+}
+
+/// Copies of the rows of tables, one table after the other.
+pub fn rows_of_tables(
+    alloc: Global,
+    tables: &VecDeque<Table>,
+) -> Result<Vec<RowEntry>, SlateDBError>
+    ensures { IfOk result (λ rows. rows_of rows.items ≡ flat_map (λ table. table.1) tables.now.items) }
+{
+    let mut rows = Vec::new(alloc);
+    for i in 0..tables.len() {
+        append_copies(&mut rows, tables[i].data.as_slice())?;
+    }
+    Ok(rows)
+}
+
+fn append_copies(rows: &mut Vec<RowEntry>, more: &[RowEntry]) -> Result<(), SlateDBError>
+    ensures { OnOk result (rows.new.items ≡ rows.old.items ++ more.now) }
+{
+    'more: for row in more {
+        rows.push(row.clone()?)?;
+    }
+    Ok(())
+}

@@ -1,0 +1,14 @@
+-- Which line starts a party a second time.
+use Rattle.std.specs.Prelude.{◌≡◌, Bool, false}
+use Rattle.script_model.specs.Script.{Line, StartCoordinator, StartWorker}
+use Rattle.fleet_text.specs.declared.started.Started.{Started}
+use Rattle.fleet_text.specs.Reading.{IsJobLine}
+
+abbrev pub starts_again : Started → Line → Bool
+starts_again started (StartCoordinator n) = started.coordinator
+starts_again started (StartWorker n) = started.worker
+starts_again started _ = false
+
+-- a line that may stand where these parties are started
+abbrev pub MayFollow : Started → Line → Type 0
+MayFollow started line = IsJobLine line × (starts_again started line ≡ false)

@@ -1,0 +1,43 @@
+//! Nodes of a tree as a script names them.
+
+ghost use Rattle.std.specs.Prelude.{◌≡◌, ◌≢◌, ◌++◌, ◌∷◌, [], ℕ, List, MatchOption, codes, decimal};
+ghost use Rattle.script_model.specs.Bounds.{IsName, IsNode};
+ghost use Rattle.script_model.specs.Words.{node_text};
+ghost use Rattle.fleet_text.specs.Lines.{node_of};
+ghost use Rattle.fleet_text.specs.Reading.{Reads, ReadsAs};
+
+use crate::word::{name_of, run_of};
+
+/// A flush by its name, or a sorted run by its id.
+#[derive(Clone, Copy, Debug, PartialEq, Eq)]
+pub enum NodeName {
+    L0(u64),
+    Run(u32),
+}
+
+/// What stands behind this letter.
+fn behind(word: &[u8], letter: u8) -> Option<&[u8]>
+    ensures { MatchOption result ((rest : List ℕ) → word.now ≢ letter ∷ rest) (λ rest. word.now ≡ letter ∷ rest.now) }
+{
+    if word.is_empty() || word[0] != letter {
+        return None;
+    }
+    Some(&word[1..])
+}
+
+/// The name of a flush, behind `l`.
+pub fn source_of(word: &[u8]) -> Option<u64>
+    ensures { Reads (λ name. codes "l" ++ decimal name) IsName word.now result }
+{
+    name_of(behind(word, b'l')?)
+}
+
+/// A flush, or a run behind `r`.
+pub fn node_at(word: &[u8]) -> Option<NodeName>
+    ensures { ReadsAs node_of node_text IsNode word.now result }
+{
+    if let Some(id) = behind(word, b'r') {
+        return Some(NodeName::Run(run_of(id)?));
+    }
+    Some(NodeName::L0(source_of(word)?))
+}

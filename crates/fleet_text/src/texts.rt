@@ -1,0 +1,120 @@
+//! What replies list, each as it is printed.
+
+ghost use Rattle.std.specs.Prelude.{◌≡◌, ◌++◌, ℕ, IfOk, decimal, string_bytes};
+ghost use Rattle.fleet_model.specs.Jobs as jobs;
+ghost use Rattle.fleet_rows.specs.Row.{content_of, row_of};
+ghost use Rattle.script_model.specs.Replies as replies;
+ghost use Rattle.script_model.specs.Words as words;
+ghost use Rattle.fleet_text.specs.Places as places;
+
+use fleet_rows::{RowEntry, Ulid, ValueDeletable};
+use std::alloc::{AllocError, Global};
+
+/// Bytes in lower-case hex, or `-` where there are none.
+pub fn bytes_text(alloc: Global, bytes: &[u8]) -> Result<String, AllocError>
+    ensures { IfOk result (λ text. string_bytes text ≡ words.bytes_text bytes.now) }
+{
+    if bytes.is_empty() {
+        return String::from_str(alloc, "-");
+    }
+    hex::encode(alloc, bytes)
+}
+
+/// A job by its number.
+pub fn job_text(alloc: Global, job: Ulid) -> Result<String, AllocError>
+    ensures { IfOk result (λ text. string_bytes text ≡ decimal (jobs.number_of job)) }
+{
+    job.number().to_string(alloc)
+}
+
+/// A job and the rule that it failed.
+pub fn rule_text(alloc: Global, job: Ulid, rule: u8) -> Result<String, AllocError>
+    ensures { IfOk result (λ text. string_bytes text ≡ replies.rule_text (job, rule)) }
+{
+    let mut text = job_text(alloc, job)?;
+    text.push_str(":")?;
+    text.push_str(rule.to_string(alloc)?.as_str())?;
+    Ok(text)
+}
+
+/// A place and the rule that its proposal failed.
+pub fn place_text(alloc: Global, place: u64, rule: u8) -> Result<String, AllocError>
+    ensures { IfOk result (λ text. string_bytes text ≡ places.place_text (place, rule)) }
+{
+    let mut text = place.to_string(alloc)?;
+    text.push_str(":")?;
+    text.push_str(rule.to_string(alloc)?.as_str())?;
+    Ok(text)
+}
+
+/// The number below the first that is drawn for a table.
+const TABLES: u128 = 1 << 79;
+
+/// A table that was drawn by `t` and its number, a flush's by `l` and its name.
+pub fn table_text(alloc: Global, table: Ulid) -> Result<String, AllocError>
+    ensures { IfOk result (λ text. string_bytes text ≡ replies.table_text table) }
+{
+    let number = table.number();
+    if number >= TABLES {
+        return lettered(alloc, "t", number - TABLES);
+    }
+    // The id of a flush's table is the flush's name.
+    lettered(alloc, "l", table.moment_ms() as u128 * (1 << 80) + number)
+}
+
+fn lettered(alloc: Global, letter: &str, number: u128) -> Result<String, AllocError>
+    ensures { IfOk result (λ text. string_bytes text ≡ letter.now ++ decimal number) }
+{
+    let mut text = String::from_str(alloc, letter)?;
+    text.push_str(number.to_string(alloc)?.as_str())?;
+    Ok(text)
+}
+
+fn kind_text(value: &ValueDeletable) -> &'static str
+    ensures { result.now ≡ words.kind_text (content_of value.now) }
+{
+    match value {
+        ValueDeletable::Value(_) => "v",
+        ValueDeletable::Merge(_) => "m",
+        ValueDeletable::Tombstone => "t",
+    }
+}
+
+fn content_text(alloc: Global, value: &ValueDeletable) -> Result<String, AllocError>
+    ensures { IfOk result (λ text. string_bytes text ≡ words.content_text (content_of value.now)) }
+{
+    match value {
+        ValueDeletable::Value(bytes) | ValueDeletable::Merge(bytes) => bytes_text(alloc, bytes),
+        ValueDeletable::Tombstone => String::from_str(alloc, "-"),
+    }
+}
+
+/// A stamp, or `-` where there is none.
+fn stamp_text(alloc: Global, stamp: Option<i64>) -> Result<String, AllocError>
+    ensures { IfOk result (λ text. string_bytes text ≡ words.stamp_text stamp) }
+{
+    match stamp {
+        Some(stamp) => stamp.to_string(alloc),
+        None => String::from_str(alloc, "-"),
+    }
+}
+
+/// A row's fields with colons between them.
+pub fn row_text(alloc: Global, row: &RowEntry) -> Result<String, AllocError>
+    ensures { IfOk result (λ text. string_bytes text ≡ words.row_text (row_of row.now)) }
+{
+    let key = bytes_text(alloc, &row.key)?;
+    let value = content_text(alloc, &row.value)?;
+    let seq = row.seq.to_string(alloc)?;
+    let created = stamp_text(alloc, row.create_ts)?;
+    let expires = stamp_text(alloc, row.expire_ts)?;
+    let fields = [
+        key.as_str(),
+        kind_text(&row.value),
+        value.as_str(),
+        seq.as_str(),
+        created.as_str(),
+        expires.as_str(),
+    ];
+    fields.join(alloc, ":")
+}
