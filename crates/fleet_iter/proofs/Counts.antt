@@ -1,15 +1,34 @@
 -- The bytes of the rows that a merge takes.
-use Rattle.std.proofs.Common.{◌≡◌, ◌∙◌, sym, refl, ap, ℕ, ◌+◌, List, [], ◌∷◌, Option, Some, None, true, false, cond}
+use Rattle.std.proofs.Common.{◌≡◌, ◌∙◌, sym, refl, ap, ℕ, ◌+◌, List, [], ◌∷◌, ◌++◌, Option, Some, None, Bool, true, false, cond}
 use Rattle.row_model.specs.Rows.{Row}
 use Rattle.row_model.specs.Sizes.{saturated}
 use Rattle.fleet_rows.specs.Row.{row_of}
 use Rattle.fleet_rows.specs.declared.row.RowEntry.{RowEntry}
 use Rattle.std.proofs.Math.ListN.{set}
-use Rattle.fleet_iter.specs.Iteration.{IteratorState, behind_first}
+use Rattle.fleet_iter.specs.Iteration.{IteratorState, behind_first, without_first}
 use Rattle.fleet_iter.specs.declared.iterator.IterationOrder.{IterationOrder}
-use Rattle.fleet_iter.specs.Merge.{best, passes, hides, merged, lists, rows_left, merged_left, AllTaken, Drops}
-use Rattle.fleet_iter.specs.Tracked.{row_bytes, first_bytes, counted, kept_back}
+use Rattle.fleet_iter.specs.Merge.{best, passes, hides, merged, lists, rows_left, merged_left, AllTaken, Takes, Drops, Skips}
+use Rattle.fleet_iter.specs.Tracked.{row_bytes, first_bytes, counted, kept_back, taken_at_once}
 use Rattle.fleet_iter.proofs.Merges.{first_left, none_left, takes_head}
+
+-- the rows that a row keeps back, and the others
+split : (r : Row) (rows : List Row) → rows ≡ kept_back r rows ++ without_first (hides r) rows
+split r [] = refl
+split r (q ∷ rows) = by (hides r q) (split r rows)
+  where
+    by : (b : Bool) → rows ≡ kept_back r rows ++ without_first (hides r) rows → q ∷ rows ≡ cond b (q ∷ kept_back r rows) [] ++ cond b (without_first (hides r) rows) (q ∷ rows)
+    by true rest = ap (λ (w : List Row). q ∷ w) rest
+    by false rest = refl
+
+-- all that one `next` takes stood in front of what is left
+pub takes_in_front : (order : IterationOrder) (hs hs1 hs' : List (Option RowEntry)) (ss ss1 ss' : List IteratorState) (x : RowEntry) → Takes order false hs ss hs1 ss1 (Some x) → Skips order (hides (row_of x)) hs1 ss1 hs' ss'
+    → merged_left order hs ss ≡ taken_at_once true (merged_left order hs ss) ++ merged_left order hs' ss'
+takes_in_front order hs hs1 hs' ss ss1 ss' x t s =
+    let m = merged_left order hs1 ss1 in
+    let r = row_of x in
+    t.rows
+    ∙ (ap (λ (w : List Row). r ∷ w) (split r m ∙ ap (λ (w : List Row). kept_back r m ++ w) (sym s.rows))
+    ∙ sym (ap (λ (w : List Row). taken_at_once true w ++ merged_left order hs' ss') t.rows))
 
 -- a row that is kept back is dropped, and counts
 pub counts_step : (order : IterationOrder) (row : Row) (hs hs' : List (Option RowEntry)) (ss ss' : List IteratorState) (count bytes more : ℕ) → AllTaken hs ss → passes (hides row) (best order hs) ≡ true → Drops order hs ss hs' ss'

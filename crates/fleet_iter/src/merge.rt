@@ -1,11 +1,11 @@
 //! The rows of several iterators, in order.
 
-ghost use Rattle.std.specs.Prelude.{◌≡◌, map, true, false, [], IfOk, IfErr, OnOk};
+ghost use Rattle.std.specs.Prelude.{◌≡◌, ◌++◌, map, true, false, [], IfOk, IfErr, OnOk};
 ghost use Rattle.std.specs.Option.{option_map};
 ghost use Rattle.std.specs.List.{AllByRecursion};
 ghost use Rattle.row_laws.specs.Keys.{is_below};
 ghost use Rattle.fleet_rows.specs.Row.{row_of};
-ghost use Rattle.fleet_iter.specs.Iteration.{IteratorState, Inits, Nexts, Seeks, CanFail, AreRising};
+ghost use Rattle.fleet_iter.specs.Iteration.{IteratorState, Inits, Nexts, Seeks, CanFail, AreRising, from_key};
 ghost use Rattle.fleet_iter.specs.declared.iterator.IterationOrder.TheVariants as in_order;
 ghost use Rattle.fleet_iter.specs.Merge.{keys_in, cmp_in, hides, best, found_row, goes_ahead, passes, AllTaken, Takes, Drops, Steps, Skips, Begins, NoneFailed, starting, merged, merged_left, rows_left, given, are_whole, MergesSort, MergesRise};
 ghost use Rattle.fleet_iter.specs.Tracked.{row_bytes, first_bytes, kept_back, counted, taken_at_once};
@@ -225,6 +225,7 @@ fn take_given<T: RowSource>(
     requires taken { AllTaken heads.old.items (map T.state sources.old.items) }
     requires sound { AllByRecursion T.sound sources.old.items }
     ensures ok { IfOk result (Takes order dedup heads.old.items (map T.state sources.old.items) heads.new.items (map T.state sources.new.items)) }
+    ensures all { IfOk result (λ _. merged_left order heads.old.items (map T.state sources.old.items) ≡ taken_at_once dedup (merged_left order heads.old.items (map T.state sources.old.items)) ++ merged_left order heads.new.items (map T.state sources.new.items)) }
     ensures bytes { IfOk result (λ _. processed.new ≡ counted processed.old (taken_at_once dedup (merged_left order heads.old.items (map T.state sources.old.items)))) }
     ensures err { IfErr result (CanFail (are_whole (map T.state sources.old.items))) }
     ensures sound { AllByRecursion T.sound sources.new.items }
@@ -270,6 +271,8 @@ impl<T: RowEntryIterator> MergeIterator<T> {
         requires alive { NoneFailed (map T.state iterators.items) }
         ensures rows { state_of T.state result ≡ starting in_order.Ascending (map T.state iterators.items) }
         ensures all { merge_of T.state result ≡ merged in_order.Ascending (rows_left (map T.state iterators.items)) }
+        ensures dedup { result.dedup ≡ true }
+        ensures processed { result.processed ≡ 0 }
         ensures sound { IsSound T.sound T.state result }
     {
         MergeIterator::new_with_order(alloc, iterators, IterationOrder::Ascending)
@@ -281,6 +284,8 @@ impl<T: RowEntryIterator> MergeIterator<T> {
         requires alive { NoneFailed (map T.state iterators.items) }
         ensures rows { state_of T.state result ≡ starting order (map T.state iterators.items) }
         ensures all { merge_of T.state result ≡ merged order (rows_left (map T.state iterators.items)) }
+        ensures dedup { result.dedup ≡ true }
+        ensures processed { result.processed ≡ 0 }
         ensures sound { IsSound T.sound T.state result }
     {
         MergeIterator {
@@ -315,7 +320,9 @@ impl<T: RowEntryIterator> RowEntryIterator for MergeIterator<T> {
     fn init(&mut self, alloc: Global) -> Result<(), SlateDBError>
         requires { IsSound T.sound T.state self.old }
         ensures init { Inits (state_of T.state self.old) (state_of T.state self.new) result }
+        ensures all { OnOk result (merge_of T.state self.new ≡ merge_of T.state self.old) }
         ensures sound { IsSound T.sound T.state self.new }
+        ensures dedup { self.new.dedup ≡ self.old.dedup }
         ensures processed { self.new.processed ≡ self.old.processed }
     {
         if self.failed {
@@ -336,7 +343,9 @@ impl<T: RowEntryIterator> RowEntryIterator for MergeIterator<T> {
     fn next(&mut self, alloc: Global) -> Result<Option<RowEntry>, SlateDBError>
         requires { IsSound T.sound T.state self.old }
         ensures next { Nexts (state_of T.state self.old) (state_of T.state self.new) result }
+        ensures all { IfOk result (λ _. merge_of T.state self.old ≡ taken_at_once self.old.dedup (merge_of T.state self.old) ++ merge_of T.state self.new) }
         ensures sound { IsSound T.sound T.state self.new }
+        ensures dedup { self.new.dedup ≡ self.old.dedup }
         ensures processed { IfOk result (λ _. self.new.processed ≡ counted self.old.processed (taken_at_once self.old.dedup (merge_of T.state self.old))) }
     {
         if self.failed {
@@ -364,7 +373,9 @@ impl<T: RowEntryIterator> RowEntryIterator for MergeIterator<T> {
         requires sound { IsSound T.sound T.state self.old }
         requires rising { AreRising (state_of T.state self.old).rows }
         ensures seek { Seeks next_key.now (state_of T.state self.old) (state_of T.state self.new) result }
+        ensures all { OnOk result (merge_of T.state self.new ≡ from_key next_key.now (merge_of T.state self.old)) }
         ensures sound { IsSound T.sound T.state self.new }
+        ensures dedup { self.new.dedup ≡ self.old.dedup }
         ensures processed { self.new.processed ≡ self.old.processed }
     {
         if self.failed {

@@ -31,9 +31,7 @@ impl<T: RowEntryIterator> PeekingIterator<T> {
             peeked: None,
         }
     }
-}
 
-impl<T: RowEntryIterator> PeekingIterator<T> {
     /// The next row, which stays the next one. While it is held no contract tells what the iterator has left: a caller that
     /// goes on takes `look_ahead` and `peeked`.
     pub fn peek(&mut self, alloc: Global) -> Result<Option<&RowEntry>, SlateDBError>
