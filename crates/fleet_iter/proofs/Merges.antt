@@ -10,7 +10,7 @@ use Rattle.fleet_rows.specs.declared.row.RowEntry.{RowEntry}
 use Rattle.fleet_rows.specs.declared.errors.SlateDBError.{SlateDBError}
 use Rattle.fleet_iter.specs.Iteration.{IteratorState, Nexts, NextAnswers, CanFail, behind_first, without_first}
 use Rattle.fleet_iter.specs.declared.iterator.IterationOrder.{IterationOrder}
-use Rattle.fleet_iter.specs.Merge.{best, choose, goes_first, goes_ahead, passes, merged, merge_two, merge_into, merged_left, lists, rows_left, AllTaken, IsTaken, are_whole, Steps, Takes, Drops, AllBegun}
+use Rattle.fleet_iter.specs.Merge.{best, choose, goes_first, goes_ahead, passes, merged, merge_two, merge_into, merged_left, lists, rows_left, AllTaken, IsTaken, are_whole, some_failed, Steps, Takes, Drops, AllBegun}
 
 -- a place counted from further in front
 abbrev pub shifted : ℕ → Option (ℕ × RowEntry) → Option (ℕ × RowEntry)
@@ -252,6 +252,19 @@ pub refused : (g : Option RowEntry) (ss : List IteratorState) (k : ℕ) (s t : I
 refused g ss k s t e lt is a n =
     let cause = (n.answers (clean g s a) (begun g s a)).cause in
     record { initialised = cause.initialised; alive = cause.alive; memory = λ all. cause.memory (one_whole ss k s lt is all) }
+
+-- a source that refuses has failed
+pub refusal_marks : (g : Option RowEntry) (s t : IteratorState) (e : SlateDBError) → IsTaken g s → Nexts s t (Err e) → t.failed ≡ true
+refusal_marks g s t e a n = (n.answers (clean g s a) (begun g s a)).failed
+
+pub fails_at : (ss : List IteratorState) (k : ℕ) (t : IteratorState) → k < length ss → t.failed ≡ true → some_failed (set ss k t) ≡ true
+fails_at [] k t lt failed = absurd (omega arith)
+fails_at (s ∷ ss) zero t lt failed = ap (λ b. cond b true (some_failed ss)) failed
+fails_at (s ∷ ss) (suc k) t lt failed = by s.failed (fails_at ss k t (omega arith) failed)
+  where
+    by : (b : Bool) → some_failed (set ss k t) ≡ true → cond b true (some_failed (set ss k t)) ≡ true
+    by true rest = refl
+    by false rest = rest
 
 -- ---- what holds of each source
 

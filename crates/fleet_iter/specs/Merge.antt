@@ -1,5 +1,5 @@
 -- The merge of lists of rows: always the least head, and of alike heads the earlier list's.
-use Rattle.std.specs.Prelude.{◌≡◌, ℕ, ◌+◌, List, [], ◌∷◌, ◌++◌, Option, Some, None, Bool, true, false, not, ◌&&◌, ⊤, map, flat_map, if◌then◌else◌}
+use Rattle.std.specs.Prelude.{◌≡◌, ◌≢◌, ℕ, ◌+◌, List, [], ◌∷◌, ◌++◌, Option, Some, None, Bool, true, false, not, ◌&&◌, ⊤, map, flat_map, if◌then◌else◌}
 use Rattle.std.specs.Option.{option_to_list}
 use Rattle.std.specs.Borrow.{Bor}
 use Rattle.std.specs.declared.cmp.Ordering.{Ordering}
@@ -10,6 +10,8 @@ use Rattle.row_laws.specs.Sources.{merged_rows}
 use Rattle.std.specs.List.{AllByRecursion}
 use Rattle.fleet_rows.specs.Row.{row_of, rows_of}
 use Rattle.fleet_rows.specs.declared.row.RowEntry.{RowEntry}
+use Rattle.fleet_rows.specs.declared.errors.SlateDBError.{SlateDBError}
+use Rattle.fleet_rows.specs.declared.errors.SlateDBError.TheVariants.{Memory}
 use Rattle.fleet_iter.specs.Iteration.{IteratorState, AreRising, behind_first, without_first}
 use Rattle.fleet_iter.specs.declared.iterator.IterationOrder.{IterationOrder}
 use Rattle.fleet_iter.specs.declared.iterator.IterationOrder.TheVariants.{Ascending, Descending}
@@ -132,6 +134,15 @@ pub record Drops (order : IterationOrder) (hs : List (Option RowEntry)) (ss : Li
 abbrev pub NoneFailed : List IteratorState → Type 0
 NoneFailed [] = ⊤
 NoneFailed (s ∷ ss) = (s.failed ≡ false) × NoneFailed ss
+
+-- whether one of them has failed
+abbrev pub some_failed : List IteratorState → Bool
+some_failed [] = false
+some_failed (s ∷ ss) = if s.failed then true else some_failed ss
+
+-- an error, unless it is want of memory, is that of a source which failed by it
+abbrev pub IsHandedOn : List IteratorState → SlateDBError → Type 0
+IsHandedOn ss e = e ≢ Memory → some_failed ss ≡ true
 
 -- the first rows of the first sources were taken, and none has failed
 abbrev pub AllBegun : List (Option RowEntry) → List IteratorState → Type 0

@@ -7,7 +7,7 @@ ghost use Rattle.row_laws.specs.Keys.{is_below};
 ghost use Rattle.fleet_rows.specs.Row.{row_of};
 ghost use Rattle.fleet_iter.specs.Iteration.{IteratorState, Inits, Nexts, Seeks, CanFail, AreRising, from_key};
 ghost use Rattle.fleet_iter.specs.declared.iterator.IterationOrder.TheVariants as in_order;
-ghost use Rattle.fleet_iter.specs.Merge.{keys_in, cmp_in, hides, best, found_row, goes_ahead, passes, AllTaken, Takes, Drops, Steps, Skips, Begins, NoneFailed, starting, merged, merged_left, rows_left, given, are_whole, MergesSort, MergesRise};
+ghost use Rattle.fleet_iter.specs.Merge.{keys_in, cmp_in, hides, best, found_row, goes_ahead, passes, AllTaken, Takes, Drops, Steps, Skips, Begins, NoneFailed, IsHandedOn, starting, merged, merged_left, rows_left, given, are_whole, MergesSort, MergesRise};
 ghost use Rattle.fleet_iter.specs.Tracked.{row_bytes, first_bytes, kept_back, counted, taken_at_once};
 ghost use Rattle.fleet_iter.specs.MergeState.{state_of, merge_of, IsSound};
 
@@ -108,6 +108,7 @@ fn take_least<T: RowSource>(
     requires sound { AllByRecursion T.sound sources.old.items }
     ensures ok { IfOk result (Takes order false heads.old.items (map T.state sources.old.items) heads.new.items (map T.state sources.new.items)) }
     ensures err { IfErr result (CanFail (are_whole (map T.state sources.old.items))) }
+    ensures handed { IfErr result (IsHandedOn (map T.state sources.new.items)) }
     ensures sound { AllByRecursion T.sound sources.new.items }
 {
     let Some(place) = least(order, heads) else {
@@ -123,6 +124,7 @@ fn first_row<T: RowSource>(alloc: Global, source: &mut T) -> Result<Option<RowEn
     requires alive { (T.state source.old).failed ≡ false }
     ensures ok { IfOk result (Steps (T.state source.old) (T.state source.new)) }
     ensures err { IfErr result (CanFail (T.state source.old).whole) }
+    ensures handed { IfErr result (λ _. (T.state source.new).failed ≡ true) }
     ensures sound { T.sound source.new }
 {
     source.init_source(alloc)?;
@@ -140,6 +142,7 @@ fn take_heads<T: RowSource>(
     requires sound { AllByRecursion T.sound sources.old.items }
     ensures ok { OnOk result (Begins (map T.state sources.old.items) heads.new.items (map T.state sources.new.items)) }
     ensures err { IfErr result (CanFail (are_whole (map T.state sources.old.items))) }
+    ensures handed { IfErr result (IsHandedOn (map T.state sources.new.items)) }
     ensures sound { AllByRecursion T.sound sources.new.items }
 {
     'sources: for i in 0..sources.len() {
@@ -161,6 +164,7 @@ fn drop_least<T: RowSource>(
     ensures ok { IfOk result (λ _. Drops order heads.old.items (map T.state sources.old.items) heads.new.items (map T.state sources.new.items)) }
     ensures bytes { IfOk result (λ bytes. bytes ≡ first_bytes (merged_left order heads.old.items (map T.state sources.old.items))) }
     ensures err { IfErr result (CanFail (are_whole (map T.state sources.old.items))) }
+    ensures handed { IfErr result (IsHandedOn (map T.state sources.new.items)) }
     ensures sound { AllByRecursion T.sound sources.new.items }
 {
     match take_least(alloc, order, sources, heads)? {
@@ -181,6 +185,7 @@ fn skip_below<T: RowSource>(
     requires sound { AllByRecursion T.sound sources.old.items }
     ensures ok { OnOk result (Skips order (is_below key.now) heads.old.items (map T.state sources.old.items) heads.new.items (map T.state sources.new.items)) }
     ensures err { IfErr result (CanFail (are_whole (map T.state sources.old.items))) }
+    ensures handed { IfErr result (IsHandedOn (map T.state sources.new.items)) }
     ensures sound { AllByRecursion T.sound sources.new.items }
 {
     'below: while least_is_below(order, heads, key) {
@@ -203,6 +208,7 @@ fn skip_hidden<T: RowSource>(
     ensures ok { IfOk result (λ _. Skips order (hides (row_of row.now)) heads.old.items (map T.state sources.old.items) heads.new.items (map T.state sources.new.items)) }
     ensures bytes { IfOk result (λ count. count ≡ counted processed (kept_back (row_of row.now) (merged_left order heads.old.items (map T.state sources.old.items)))) }
     ensures err { IfErr result (CanFail (are_whole (map T.state sources.old.items))) }
+    ensures handed { IfErr result (IsHandedOn (map T.state sources.new.items)) }
     ensures sound { AllByRecursion T.sound sources.new.items }
 {
     let mut count = processed;
@@ -227,7 +233,9 @@ fn take_given<T: RowSource>(
     ensures ok { IfOk result (Takes order dedup heads.old.items (map T.state sources.old.items) heads.new.items (map T.state sources.new.items)) }
     ensures all { IfOk result (λ _. merged_left order heads.old.items (map T.state sources.old.items) ≡ taken_at_once dedup (merged_left order heads.old.items (map T.state sources.old.items)) ++ merged_left order heads.new.items (map T.state sources.new.items)) }
     ensures bytes { IfOk result (λ _. processed.new ≡ counted processed.old (taken_at_once dedup (merged_left order heads.old.items (map T.state sources.old.items)))) }
+    ensures unchanged { IfErr result (λ _. processed.new ≡ processed.old) }
     ensures err { IfErr result (CanFail (are_whole (map T.state sources.old.items))) }
+    ensures handed { IfErr result (IsHandedOn (map T.state sources.new.items)) }
     ensures sound { AllByRecursion T.sound sources.new.items }
 {
     let Some(row) = take_least(alloc, order, sources, heads)? else {
@@ -321,6 +329,8 @@ impl<T: RowEntryIterator> RowEntryIterator for MergeIterator<T> {
         requires { IsSound T.sound T.state self.old }
         ensures init { Inits (state_of T.state self.old) (state_of T.state self.new) result }
         ensures all { OnOk result (merge_of T.state self.new ≡ merge_of T.state self.old) }
+        ensures handed { self.old.failed ≡ false → IfErr result (IsHandedOn (map T.state self.new.sources.items)) }
+        ensures idle { self.old.failed ≡ true → self.new ≡ self.old }
         ensures sound { IsSound T.sound T.state self.new }
         ensures dedup { self.new.dedup ≡ self.old.dedup }
         ensures processed { self.new.processed ≡ self.old.processed }
@@ -347,6 +357,10 @@ impl<T: RowEntryIterator> RowEntryIterator for MergeIterator<T> {
         ensures sound { IsSound T.sound T.state self.new }
         ensures dedup { self.new.dedup ≡ self.old.dedup }
         ensures processed { IfOk result (λ _. self.new.processed ≡ counted self.old.processed (taken_at_once self.old.dedup (merge_of T.state self.old))) }
+        ensures unprocessed { IfErr result (λ _. self.new.processed ≡ self.old.processed) }
+        ensures handed { self.old.failed ≡ false → self.old.initialised ≡ true → IfErr result (IsHandedOn (map T.state self.new.sources.items)) }
+        ensures idle { self.old.failed ≡ true → self.new ≡ self.old }
+        ensures early { self.old.initialised ≡ false → self.new ≡ self.old }
     {
         if self.failed {
             return Err(SlateDBError::IteratorFailed);
@@ -374,6 +388,9 @@ impl<T: RowEntryIterator> RowEntryIterator for MergeIterator<T> {
         requires rising { AreRising (state_of T.state self.old).rows }
         ensures seek { Seeks next_key.now (state_of T.state self.old) (state_of T.state self.new) result }
         ensures all { OnOk result (merge_of T.state self.new ≡ from_key next_key.now (merge_of T.state self.old)) }
+        ensures handed { self.old.failed ≡ false → self.old.initialised ≡ true → IfErr result (IsHandedOn (map T.state self.new.sources.items)) }
+        ensures idle { self.old.failed ≡ true → self.new ≡ self.old }
+        ensures early { self.old.initialised ≡ false → self.new ≡ self.old }
         ensures sound { IsSound T.sound T.state self.new }
         ensures dedup { self.new.dedup ≡ self.old.dedup }
         ensures processed { self.new.processed ≡ self.old.processed }

@@ -240,6 +240,13 @@ fn merges_as_the_rust_crate(rt: HostRuntime) -> Result<(), Fail> {
             1,
         ),
         (
+            "61:m:3030:9:-:10,61:m:30:8:-:5,61:m:32:3:-:5,64:m:-:5:2:5",
+            false,
+            "",
+            "61:m:3030:9:-:10,61:m:30:8:-:5,61:m:32:3:-:5,64:m:-:5:2:5",
+            8,
+        ),
+        (
             "62:t:-:16:2:4,62:t:-:14:1:10,62:v:-:1:-:10,6464:t:-:10:1:-|63:v:-:9:2:-,6464:v:3031:5:1:10",
             true,
             "",
@@ -268,9 +275,23 @@ fn merges_as_the_rust_crate(rt: HostRuntime) -> Result<(), Fail> {
             5,
         ),
         (
+            "-|-|61:v:3231:12:7:11",
+            false,
+            "6161",
+            "-",
+            0,
+        ),
+        (
             "6161:t:-:8:7:-9223372036854775808,6262:m:3132:9:-:-3,6262:m:3131:2:7:-3|6161:m:3131:5:-:-,6262:m:30:25:-:-",
             true,
             "63",
+            "-",
+            0,
+        ),
+        (
+            "-|61:m:3031:4:2:-,61:m:3132:1:2:-|-",
+            true,
+            "6161",
             "-",
             0,
         ),
@@ -287,6 +308,13 @@ fn merges_as_the_rust_crate(rt: HostRuntime) -> Result<(), Fail> {
             "",
             "6161:v:32:16:1:10",
             23,
+        ),
+        (
+            "6161:v:3230:33:7:-,6161:v:3031:19:1:10,6161:v:3032:18:-:11,6161:v:31:14:7:4,6161:v:-:8:-:-|6161:v:3130:23:2:-,6161:v:-:0:1:10",
+            false,
+            "62",
+            "-",
+            0,
         ),
         (
             "62:m:32:0:1:-,63:m:-:4:7:-,64:v:31:7:1:-|-|61:m:3131:3:-:-",
@@ -314,6 +342,30 @@ fn merges_as_the_rust_crate(rt: HostRuntime) -> Result<(), Fail> {
             29,
         ),
         (
+            "62:m:31:0:1:10,61:m:30:5:7:5",
+            true,
+            "62:m:31:0:1:10,61:m:30:5:7:5",
+            4,
+        ),
+        (
+            "6464:v:31:4:7:-,6363:v:-:16:-:-|-|-",
+            false,
+            "6464:v:31:4:7:-,6363:v:-:16:-:-",
+            5,
+        ),
+        (
+            "-|62:m:31:4:7:5",
+            false,
+            "62:m:31:4:7:5",
+            2,
+        ),
+        (
+            "64:m:-:33:1:-3,64:m:31:32:2:-3,64:t:-:22:7:-3,64:m:30:19:1:-3,64:m:31:5:1:-3,63:m:3232:27:1:9223372036854775807,63:m:3132:3:-:-,62:m:-:28:1:-,62:t:-:24:2:-3,62:m:30:12:7:-3,6161:m:-:15:2:-3",
+            false,
+            "64:m:-:33:1:-3,64:m:31:32:2:-3,64:t:-:22:7:-3,64:m:30:19:1:-3,64:m:31:5:1:-3,63:m:3232:27:1:9223372036854775807,63:m:3132:3:-:-,62:m:-:28:1:-,62:t:-:24:2:-3,62:m:30:12:7:-3,6161:m:-:15:2:-3",
+            20,
+        ),
+        (
             "61:v:3030:2:-:10|61:v:-:5:2:10|61:v:32:9:1:-|61:v:-:7:2:-",
             false,
             "61:v:32:9:1:-,61:v:-:7:2:-,61:v:-:5:2:10,61:v:3030:2:-:10",
@@ -326,6 +378,12 @@ fn merges_as_the_rust_crate(rt: HostRuntime) -> Result<(), Fail> {
             5,
         ),
         (
+            "6262:m:30:17:-:5,6262:m:32:6:1:10,61:m:30:2:1:5,61:m:3132:1:1:10|61:m:-:15:-:5,61:m:-:11:7:5",
+            false,
+            "6262:m:30:17:-:5,6262:m:32:6:1:10,61:m:-:15:-:5,61:m:-:11:7:5,61:m:30:2:1:5,61:m:3132:1:1:10",
+            13,
+        ),
+        (
             "61:m:-:0:-:9223372036854775807|-|-|6363:m:-:7:1:-3,6363:m:30:5:7:-9223372036854775808,6262:v:3032:9:-:-9223372036854775808",
             false,
             "6363:m:-:7:1:-3,6363:m:30:5:7:-9223372036854775808,6262:v:3032:9:-:-9223372036854775808,61:m:-:0:-:9223372036854775807",
@@ -336,6 +394,12 @@ fn merges_as_the_rust_crate(rt: HostRuntime) -> Result<(), Fail> {
             false,
             "6262:v:-:16:1:11,6262:v:30:7:7:11,6262:v:30:3:2:11,61:v:32:13:7:10,61:m:-:0:2:-",
             11,
+        ),
+        (
+            "6363:m:32:11:7:10,6262:m:-:13:2:-,61:m:31:14:7:-,61:v:-:6:1:-,61:m:32:5:7:-,61:m:3132:0:2:10",
+            false,
+            "6363:m:32:11:7:10,6262:m:-:13:2:-,61:m:31:14:7:-,61:v:-:6:1:-,61:m:32:5:7:-,61:m:3132:0:2:10",
+            13,
         ),
         (
             "6161:m:32:33:1:-,6161:m:-:31:-:9223372036854775807,6161:m:32:30:-:-9223372036854775808,6161:m:32:29:-:-9223372036854775808,6161:t:-:27:-:9223372036854775807,6161:m:30:25:-:-,6161:m:-:24:2:-3,6161:m:31:21:-:-3,6161:t:-:19:7:-,6161:m:32:17:7:-9223372036854775808,6161:m:30:14:7:9223372036854775807,6161:m:-:9:2:-3,6161:m:30:4:2:-,6161:t:-:0:2:9223372036854775807",
@@ -385,7 +449,7 @@ fn resumes_as_told(rt: HostRuntime) -> Result<(), Fail> {
             "61:m:32:29:2:-,61:m:3231:26:-:-,61:m:30:7:1:-",
         ),
         (
-            "61:m:3230:30:2:-,61:m:-:29:1:-,61:t:-:21:1:-,61:m:-:17:-:-,61:t:-:14:7:-,61:t:-:10:2:-,61:m:32:8:7:-,61:m:-:3:7:-,61:m:-:0:2:-,62:m:31:25:2:-,62:m:-:19:-:-,62:t:-:9:1:-|61:m:31:16:7:-,61:m:30:15:-:-,61:m:31:5:-:-,62:m:30:13:-:-",
+            "-|61:m:3230:30:2:-,61:m:-:29:1:-,61:t:-:21:1:-,61:m:-:17:-:-,61:t:-:14:7:-,61:t:-:10:2:-,61:m:32:8:7:-,61:m:-:3:7:-,61:m:-:0:2:-,62:m:31:25:2:-,62:m:-:19:-:-,62:t:-:9:1:-|61:m:31:16:7:-,61:m:30:15:-:-,61:m:31:5:-:-,62:m:30:13:-:-",
             "62",
             25,
             "62:m:-:19:-:-,62:m:30:13:-:-,62:t:-:9:1:-",
@@ -395,6 +459,12 @@ fn resumes_as_told(rt: HostRuntime) -> Result<(), Fail> {
             "61",
             16,
             "63:m:3131:3:2:10",
+        ),
+        (
+            "-|61:t:-:7:2:-3,6363:m:3230:3:2:-3|61:t:-:8:-:-9223372036854775808|6363:m:-:0:1:-",
+            "6363",
+            0,
+            "-",
         ),
         (
             "61:m:31:2:-:10|61:t:-:29:7:-,61:t:-:12:-:-|61:v:32:15:7:-",
@@ -409,10 +479,52 @@ fn resumes_as_told(rt: HostRuntime) -> Result<(), Fail> {
             "6161:v:3132:13:-:-,6161:v:3232:9:-:-,6161:v:30:7:2:-,6161:v:30:4:2:10,6161:v:3230:0:-:10",
         ),
         (
+            "62:m:31:1:7:9223372036854775807|61:v:-:2:1:-3|61:m:30:9:2:9223372036854775807|-",
+            "62",
+            1,
+            "-",
+        ),
+        (
             "61:v:31:16:-:11,61:v:31:4:1:-|61:v:3032:18:-:-,61:v:32:10:1:-",
             "61",
             16,
             "61:v:32:10:1:-,61:v:31:4:1:-",
+        ),
+        (
+            "-|61:t:-:5:1:-",
+            "61",
+            5,
+            "-",
+        ),
+        (
+            "61:v:-:14:1:-",
+            "61",
+            14,
+            "-",
+        ),
+        (
+            "61:v:3230:14:2:-,61:v:-:12:2:-,61:v:-:3:2:10,61:v:-:1:7:-,61:v:30:0:-:10",
+            "61",
+            0,
+            "-",
+        ),
+        (
+            "-|6161:m:3032:2:-:5,62:m:3030:3:7:10|-",
+            "62",
+            3,
+            "-",
+        ),
+        (
+            "-|-|62:v:3030:4:2:10",
+            "62",
+            4,
+            "-",
+        ),
+        (
+            "61:v:30:2:7:-,62:v:-:12:7:-|-",
+            "62",
+            12,
+            "-",
         ),
     ];
     for (told, key, seq, wanted) in cases {
@@ -461,9 +573,11 @@ fn looks_as_told(rt: HostRuntime) -> Result<(), Fail> {
         assert!(rt; are_rising(&rows));
         assert_eq!(rt; looks(alloc, rows, from)?, wanted, "{from}");
     }
-    let mut last = PeekingIterator::new(ListIterator::new(rows(alloc, "a:v:-:4")?));
-    let shown = last.peek(alloc)?.map(|row| row.seq);
-    assert_eq!(rt; shown, Some(4));
+    let mut list = PeekingIterator::new(ListIterator::new(rows(alloc, "a:v:-:4,a:v:-:3")?));
+    let first = list.peek(alloc)?.map(|row| row.seq);
+    let second = list.peek(alloc)?.map(|row| row.seq);
+    let next = list.next(alloc)?.map(|row| row.seq);
+    assert_eq!(rt; (first, second, next), (Some(4), Some(4), Some(4)));
     Ok(())
 }
 
@@ -499,7 +613,7 @@ fn merges_boxed_kinds(rt: HostRuntime) -> Result<(), Fail> {
     let older = ListIterator::new(rows(alloc, "b:v:1:1,c:t:-:5")?);
     let newer = ListIterator::new(rows(alloc, "b:m:3:7")?);
     let older: Box<dyn RowEntryIterator> = Box::new(alloc, older)?;
-    let newer: Box<dyn RowEntryIterator> = Box::new(alloc, newer)?;
+    let newer: Box<dyn RowEntryIterator> = Box::new(alloc, PeekingIterator::new(newer))?;
     let merge: Box<dyn RowEntryIterator> = Box::new(alloc, merge(alloc, "a:t:-:3|b:m:2:4")?)?;
     let merged = merged_three(alloc, older, newer, merge)?;
     assert_eq!(rt;
@@ -592,11 +706,11 @@ fn fails<T: RowEntryIterator>(alloc: Global, iterator: T) -> Result<(u64, bool),
     Err(SlateDBError::InvalidDBState)
 }
 
-fn failing(alloc: Global) -> Result<FailingIterator, SlateDBError>
+fn failing(alloc: Global, told: &str) -> Result<FailingIterator, SlateDBError>
     ensures alive { IfOk result (λ iterator. iterator.failed ≡ false) }
     ensures rising { IfOk result (λ iterator. AreRising (rows_of (reverse iterator.rows.items))) }
 {
-    let mut rows = rows(alloc, "a:m:-:3,a:v:-:2,b:v:-:1")?;
+    let mut rows = rows(alloc, told)?;
     if !are_rising(&rows) {
         return Err(SlateDBError::InvalidDBState);
     }
@@ -610,13 +724,15 @@ fn failing(alloc: Global) -> Result<FailingIterator, SlateDBError>
 #[test]
 fn fails_in_mid_stream(rt: HostRuntime) -> Result<(), Fail> {
     let alloc = rt.alloc();
-    assert_eq!(rt; fails(alloc, failing(alloc)?)?, (3, true));
-    let peeking = PeekingIterator::new(failing(alloc)?);
+    let told = "a:m:-:3,a:v:-:2,b:v:-:1";
+    assert_eq!(rt; fails(alloc, failing(alloc, told)?)?, (3, true));
+    let peeking = PeekingIterator::new(failing(alloc, told)?);
     assert_eq!(rt; fails(alloc, peeking)?, (3, true));
-    let resuming = ResumingIterator::new(alloc, failing(alloc)?, None)?;
+    let resuming = ResumingIterator::new(alloc, failing(alloc, told)?, None)?;
     assert_eq!(rt; fails(alloc, resuming)?, (3, true));
     let mut sources = Vec::new(alloc);
-    sources.push(failing(alloc)?)?;
+    sources.push(failing(alloc, told)?)?;
+    sources.push(failing(alloc, "b:v:-:7,c:v:-:8,d:v:-:9")?)?;
     assert_eq!(rt;
         fails(alloc, MergeIterator::new(alloc, sources))?,
         (2, true)

@@ -5,8 +5,8 @@ use Rattle.std.proofs.lemmas.List.{map-set, length-map, length-append}
 use Rattle.std.proofs.Math.ListN.{get_or-map, set, length-set}
 use Rattle.fleet_rows.specs.declared.row.RowEntry.{RowEntry}
 use Rattle.fleet_iter.specs.Iteration.{IteratorState, CanFail}
-use Rattle.fleet_iter.specs.Merge.{AllBegun, lists, rows_left, are_whole}
-use Rattle.fleet_iter.proofs.Merges.{alive_at, begin_more, all_begun, one_fails, all_set}
+use Rattle.fleet_iter.specs.Merge.{AllBegun, lists, rows_left, are_whole, some_failed}
+use Rattle.fleet_iter.proofs.Merges.{alive_at, begin_more, all_begun, one_fails, fails_at, all_set}
 use Rattle.fleet_iter.proofs.merge.take_heads.Goals as goal
 
 pub first_row-requires-clause-alive : goal.first_row-requires-clause-alive
@@ -36,6 +36,19 @@ returns-in_err-head-clause-err g c =
     let e = c.in_err-head.field-0.0 in
     let p = err_from_is_err_and c.from_residual.result c.from_residual.ensures.1 in
     rw (p.1, p.2) (subst (λ b. CanFail b e) c.sources.invariant.whole (one_fails ss k s e lt is c.in_err-head.ensures.err))
+
+pub returns-in_err-head-clause-handed : goal.returns-in_err-head-clause-handed
+returns-in_err-head-clause-handed g c =
+    let f = g.T.RowSource.state in
+    let xs = c.sources.sources.items in
+    let ss = map f xs in
+    let k = c.sources.i in
+    let y = c.first_row.new.source in
+    let d : length ss ≡ length xs = length-map _ _ in
+    let n : length xs ≡ length c.args.sources.now.items = c.sources.invariant.size in
+    let lt : k < length ss = omega (arith, d, n) in
+    let p = err_from_is_err_and c.from_residual.result c.from_residual.ensures.1 in
+    rw (p.1, p.2) (λ _. ap some_failed (map-set f xs k y) ∙ fails_at ss k (f y) lt c.in_err-head.ensures.handed)
 
 pub sources-preserved : goal.sources-preserved
 sources-preserved g c =

@@ -4,11 +4,11 @@ use Rattle.std.specs.Option.{option_map}
 use Rattle.std.proofs.lemmas.Result.{err_from_is_err_and}
 use Rattle.std.proofs.lemmas.List.{map-set, length-map}
 use Rattle.std.proofs.Math.ListN.{get_or-map, set}
-use Rattle.fleet_iter.specs.Merge.{Takes, best}
+use Rattle.fleet_iter.specs.Merge.{Takes, best, some_failed}
 use Rattle.fleet_iter.specs.Iteration.{IteratorState}
 use Rattle.fleet_iter.specs.declared.iterator.IterationOrder.{IterationOrder}
 use Rattle.fleet_rows.specs.declared.row.RowEntry.{RowEntry}
-use Rattle.fleet_iter.proofs.Merges.{placed, placed_none, same_count, best_within, taken_at, refused, takes_none, takes_all, takes_head, steps_of, all_at}
+use Rattle.fleet_iter.proofs.Merges.{placed, placed_none, same_count, best_within, taken_at, refused, refusal_marks, fails_at, takes_none, takes_all, takes_head, steps_of, all_at}
 use Rattle.fleet_iter.proofs.merge.take_least.Goals as goal
 
 place_of : (order : IterationOrder) (hs ms : List (Option RowEntry)) (r : Option ℕ) (k : ℕ) → r ≡ Some k → r ≡ option_map (λ p. p.0) (best order ms) → ms ≡ hs → Some k ≡ option_map (λ p. p.0) (best order hs)
@@ -62,6 +62,25 @@ returns-in_err-head-clause-err g c =
     let t = taken_at hs ss c.requires.taken k lt s is in
     let p = err_from_is_err_and c.from_residual.result c.from_residual.ensures.1 in
     rw (p.1, p.2) (refused t.0 ss k s (f c.next_row.new.self) c.in_err-head.field-0.0 lt is t.1 c.in_err-head.ensures.next)
+
+pub returns-in_err-head-clause-handed : goal.returns-in_err-head-clause-handed
+returns-in_err-head-clause-handed g c =
+    let hs = c.args.heads.now.items in
+    let f = g.T.RowSource.state in
+    let xs = c.args.sources.now.items in
+    let ss = map f xs in
+    let k = c.in-Some.place in
+    let q = placed (best c.args.order hs) k (place_of c.args.order hs _ _ _ c.in-Some.is c.least.ensures c.deref.ensures.value) in
+    let a : k < length hs = best_within c.args.order hs k q.0 q.1 in
+    let b : length hs ≡ length ss = same_count hs ss c.requires.taken in
+    let lt : k < length ss = omega (arith, a, b) in
+    let s = f c.index_mut.result.now in
+    let is : s ≡ get_or ss k s = ap f c.index_mut.ensures.value ∙ sym (get_or-map f xs k c.index_mut.result.now) in
+    let t = taken_at hs ss c.requires.taken k lt s is in
+    let y = c.next_row.new.self in
+    let marked = fails_at ss k (f y) lt (refusal_marks t.0 s (f y) c.in_err-head.field-0.0 t.1 c.in_err-head.ensures.next) in
+    let p = err_from_is_err_and c.from_residual.result c.from_residual.ensures.1 in
+    rw (p.1, p.2) (λ _. ap some_failed (map-set f xs k y) ∙ marked)
 
 pub returns-clause-ok : goal.returns-clause-ok
 returns-clause-ok g c =
