@@ -7,3 +7,4 @@ pub mod Lists
 pub mod Peeks
 pub mod Resumes
 pub mod Counts
+pub mod Seeks

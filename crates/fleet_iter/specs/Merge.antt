@@ -1,13 +1,14 @@
 -- The merge of lists of rows: always the least head, and of alike heads the earlier list's.
 use Rattle.std.specs.Prelude.{◌≡◌, ◌≢◌, ℕ, ◌+◌, List, [], ◌∷◌, ◌++◌, Option, Some, None, Bool, true, false, not, ◌&&◌, ⊤, map, flat_map, if◌then◌else◌}
-use Rattle.std.specs.Option.{option_to_list}
+use Rattle.std.specs.Option.{option_to_list, option_map}
 use Rattle.std.specs.Borrow.{Bor}
 use Rattle.std.specs.declared.cmp.Ordering.{Ordering}
 use Rattle.std.specs.Ordering.{is_gt, nat_cmp, ordering_then}
 use Rattle.row_model.specs.Rows.{Row, key_cmp, same_key, is_operand, IsStrictlyOrdered}
+use Rattle.row_laws.specs.Keys.{is_below}
 use Rattle.row_laws.specs.Merges.{AreApart}
 use Rattle.row_laws.specs.Sources.{merged_rows}
-use Rattle.std.specs.List.{AllByRecursion}
+use Rattle.std.specs.List.{AllByRecursion, slice_get}
 use Rattle.fleet_rows.specs.Row.{row_of, rows_of}
 use Rattle.fleet_rows.specs.declared.row.RowEntry.{RowEntry}
 use Rattle.fleet_rows.specs.declared.errors.SlateDBError.{SlateDBError}
@@ -130,6 +131,14 @@ pub record Drops (order : IterationOrder) (hs : List (Option RowEntry)) (ss : Li
   pub rows : merged_left order hs' ss' ≡ behind_first (merged_left order hs ss)
   pub taken : AllTaken hs' ss'
   pub whole : are_whole ss' ≡ are_whole ss
+
+-- only at the place of the least head do heads and sources change
+abbrev pub OthersStay : {T : Type 0} → Option (ℕ × RowEntry) → List (Option RowEntry) → List T → List (Option RowEntry) → List T → Type 0
+OthersStay found hs xs hs' xs' = (place : ℕ) → option_map (λ p. p.0) found ≢ Some place → (slice_get hs' place ≡ slice_get hs place) × (slice_get xs' place ≡ slice_get xs place)
+
+-- a source whose head is not below a key is left as it is, and its head stays
+abbrev pub LeavesFrom : {T : Type 0} → List ℕ → List (Option RowEntry) → List T → List (Option RowEntry) → List T → Type 0
+LeavesFrom key hs xs hs' xs' = (place : ℕ) (x : RowEntry) → slice_get hs place ≡ Some (Some x) → is_below key (row_of x) ≡ false → (slice_get hs' place ≡ Some (Some x)) × (slice_get xs' place ≡ slice_get xs place)
 
 abbrev pub NoneFailed : List IteratorState → Type 0
 NoneFailed [] = ⊤

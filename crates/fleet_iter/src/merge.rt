@@ -7,7 +7,7 @@ ghost use Rattle.row_laws.specs.Keys.{is_below};
 ghost use Rattle.fleet_rows.specs.Row.{row_of};
 ghost use Rattle.fleet_iter.specs.Iteration.{IteratorState, Inits, Nexts, Seeks, CanFail, AreRising, from_key};
 ghost use Rattle.fleet_iter.specs.declared.iterator.IterationOrder.TheVariants as in_order;
-ghost use Rattle.fleet_iter.specs.Merge.{keys_in, cmp_in, hides, best, found_row, goes_ahead, passes, AllTaken, Takes, Drops, Steps, Skips, Begins, NoneFailed, IsHandedOn, starting, merged, merged_left, rows_left, given, are_whole, MergesSort, MergesRise};
+ghost use Rattle.fleet_iter.specs.Merge.{keys_in, cmp_in, hides, best, found_row, goes_ahead, passes, AllTaken, Takes, Drops, Steps, Skips, Begins, OthersStay, LeavesFrom, NoneFailed, IsHandedOn, starting, merged, merged_left, rows_left, given, are_whole, MergesSort, MergesRise};
 ghost use Rattle.fleet_iter.specs.Tracked.{row_bytes, first_bytes, kept_back, counted, taken_at_once};
 ghost use Rattle.fleet_iter.specs.MergeState.{state_of, merge_of, IsSound};
 
@@ -107,6 +107,7 @@ fn take_least<T: RowSource>(
     requires taken { AllTaken heads.old.items (map T.state sources.old.items) }
     requires sound { AllByRecursion T.sound sources.old.items }
     ensures ok { IfOk result (Takes order false heads.old.items (map T.state sources.old.items) heads.new.items (map T.state sources.new.items)) }
+    ensures others { IfOk result (λ _. OthersStay (best order heads.old.items) heads.old.items sources.old.items heads.new.items sources.new.items) }
     ensures err { IfErr result (CanFail (are_whole (map T.state sources.old.items))) }
     ensures handed { IfErr result (IsHandedOn (map T.state sources.new.items)) }
     ensures sound { AllByRecursion T.sound sources.new.items }
@@ -162,6 +163,7 @@ fn drop_least<T: RowSource>(
     requires taken { AllTaken heads.old.items (map T.state sources.old.items) }
     requires sound { AllByRecursion T.sound sources.old.items }
     ensures ok { IfOk result (λ _. Drops order heads.old.items (map T.state sources.old.items) heads.new.items (map T.state sources.new.items)) }
+    ensures others { IfOk result (λ _. OthersStay (best order heads.old.items) heads.old.items sources.old.items heads.new.items sources.new.items) }
     ensures bytes { IfOk result (λ bytes. bytes ≡ first_bytes (merged_left order heads.old.items (map T.state sources.old.items))) }
     ensures err { IfErr result (CanFail (are_whole (map T.state sources.old.items))) }
     ensures handed { IfErr result (IsHandedOn (map T.state sources.new.items)) }
@@ -184,6 +186,7 @@ fn skip_below<T: RowSource>(
     requires taken { AllTaken heads.old.items (map T.state sources.old.items) }
     requires sound { AllByRecursion T.sound sources.old.items }
     ensures ok { OnOk result (Skips order (is_below key.now) heads.old.items (map T.state sources.old.items) heads.new.items (map T.state sources.new.items)) }
+    ensures leaves { OnOk result (LeavesFrom key.now heads.old.items sources.old.items heads.new.items sources.new.items) }
     ensures err { IfErr result (CanFail (are_whole (map T.state sources.old.items))) }
     ensures handed { IfErr result (IsHandedOn (map T.state sources.new.items)) }
     ensures sound { AllByRecursion T.sound sources.new.items }
@@ -388,6 +391,7 @@ impl<T: RowEntryIterator> RowEntryIterator for MergeIterator<T> {
         requires rising { AreRising (state_of T.state self.old).rows }
         ensures seek { Seeks next_key.now (state_of T.state self.old) (state_of T.state self.new) result }
         ensures all { OnOk result (merge_of T.state self.new ≡ from_key next_key.now (merge_of T.state self.old)) }
+        ensures leaves { OnOk result (LeavesFrom next_key.now self.old.heads.items self.old.sources.items self.new.heads.items self.new.sources.items) }
         ensures handed { self.old.failed ≡ false → self.old.initialised ≡ true → IfErr result (IsHandedOn (map T.state self.new.sources.items)) }
         ensures idle { self.old.failed ≡ true → self.new ≡ self.old }
         ensures early { self.old.initialised ≡ false → self.new ≡ self.old }
