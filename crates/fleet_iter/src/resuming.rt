@@ -3,7 +3,7 @@
 ghost use Rattle.std.specs.Prelude.{◌≡◌, true, false, IfOk, IfErr};
 ghost use Rattle.std.specs.Option.{option_copied};
 ghost use Rattle.fleet_rows.specs.Row.{row_of};
-ghost use Rattle.fleet_iter.specs.Iteration.{CanFail, AreRising, without_first};
+ghost use Rattle.fleet_iter.specs.Iteration.{Inits, Nexts, Seeks, CanFail, AreRising, without_first};
 ghost use Rattle.fleet_iter.specs.Peek.{ahead, HasBegun};
 ghost use Rattle.fleet_iter.specs.Resume.{is_written, rows_behind, ResumesBehind};
 ghost use Rattle.fleet_iter.specs.ResumeState.{state_of, IsSound};
@@ -95,15 +95,31 @@ impl<T: RowEntryIterator> RowEntryIterator for ResumingIterator<T> {
 
     ghost sound = { IsSound T.sound T.state };
 
-    fn init(&mut self, alloc: Global) -> Result<(), SlateDBError> {
+    fn init(&mut self, alloc: Global) -> Result<(), SlateDBError>
+        requires { IsSound T.sound T.state self.old }
+        ensures init { Inits (state_of T.state self.old) (state_of T.state self.new) result }
+        ensures start { self.new.start ≡ self.old.start }
+        ensures sound { IsSound T.sound T.state self.new }
+    {
         self.inner.init(alloc)
     }
 
-    fn next(&mut self, alloc: Global) -> Result<Option<RowEntry>, SlateDBError> {
+    fn next(&mut self, alloc: Global) -> Result<Option<RowEntry>, SlateDBError>
+        requires { IsSound T.sound T.state self.old }
+        ensures next { Nexts (state_of T.state self.old) (state_of T.state self.new) result }
+        ensures start { self.new.start ≡ self.old.start }
+        ensures sound { IsSound T.sound T.state self.new }
+    {
         self.inner.next(alloc)
     }
 
-    fn seek(&mut self, alloc: Global, next_key: &[u8]) -> Result<(), SlateDBError> {
+    fn seek(&mut self, alloc: Global, next_key: &[u8]) -> Result<(), SlateDBError>
+        requires sound { IsSound T.sound T.state self.old }
+        requires rising { AreRising (state_of T.state self.old).rows }
+        ensures seek { Seeks next_key.now (state_of T.state self.old) (state_of T.state self.new) result }
+        ensures start { self.new.start ≡ self.old.start }
+        ensures sound { IsSound T.sound T.state self.new }
+    {
         self.inner.seek(alloc, next_key)
     }
 }
