@@ -43,7 +43,7 @@ second : (a b : Bool) → a && b ≡ true → b ≡ true
 second true b h = h
 second false b h = absurd (cc h)
 
-hides_key : (r q : Row) → hides r q ≡ true → r.key ≡ q.key
+pub hides_key : (r q : Row) → hides r q ≡ true → r.key ≡ q.key
 hides_key r q h = (bytes_eq-Decides r.key q.key).0 (second (not (is_operand r)) (same_key r q) h)
 
 below_key : (key : List ℕ) (r q : Row) → r.key ≡ q.key → is_below key r ≡ is_below key q

@@ -8,3 +8,5 @@ pub mod Peeks
 pub mod Resumes
 pub mod Counts
 pub mod Seeks
+pub mod SoughtMerges
+pub mod Sought

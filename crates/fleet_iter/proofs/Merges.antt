@@ -171,11 +171,11 @@ takes_all order hs ss a k x e s t h is st =
 pub takes_none : (order : IterationOrder) → (hs : List (Option RowEntry)) (ss : List IteratorState) → AllTaken hs ss → best order hs ≡ None → Takes order false hs ss hs ss None
 takes_none order hs ss a e = record { rows = refl; taken = a; whole = refl; ends = λ q. none_left order hs ss a e }
 
-clean : (g : Option RowEntry) (s : IteratorState) → IsTaken g s → s.failed ≡ false
+pub clean : (g : Option RowEntry) (s : IteratorState) → IsTaken g s → s.failed ≡ false
 clean None s a = a.0
 clean (Some x) s a = a.0
 
-begun : (g : Option RowEntry) (s : IteratorState) → IsTaken g s → s.initialised ≡ true
+pub begun : (g : Option RowEntry) (s : IteratorState) → IsTaken g s → s.initialised ≡ true
 begun None s a = a.1
 begun (Some x) s a = a.1
 

@@ -13,7 +13,7 @@ use Rattle.fleet_iter.specs.Merge.{merge_two, merge_into, merged, goes_first, hi
 use Rattle.fleet_iter.proofs.RisingRows.{not_after_too}
 use Rattle.fleet_iter.proofs.MergedRows.{all_into, all_merged}
 
-abbrev IsUpTo : Row → Row → Type 0
+abbrev pub IsUpTo : Row → Row → Type 0
 IsUpTo r q = is_gt (key_cmp r.key q.key) ≡ false
 
 first_is_up : (r q : Row) → goes_first Ascending r q ≡ true → IsUpTo r q
@@ -32,7 +32,7 @@ other_is_up r q h = ap is_gt (nat_list_cmp_total.antisymm q.key r.key) ∙ by (k
     by Equal p h = refl
     by Greater p h = refl
 
-up_to_all : (r q : Row) (rows : List Row) → IsUpTo r q → AllByRecursion (IsUpTo q) rows → AllByRecursion (IsUpTo r) rows
+pub up_to_all : (r q : Row) (rows : List Row) → IsUpTo r q → AllByRecursion (IsUpTo q) rows → AllByRecursion (IsUpTo r) rows
 up_to_all r q rows h all = all_weaken (IsUpTo q) (IsUpTo r) (λ x after. not_after_too r q x h after) rows all
 
 rising_into : (x : Row) (xs ys : List Row) → AllByRecursion (IsUpTo x) xs → ((zs : List Row) → AreRising zs → AreRising (merge_two Ascending xs zs)) → AreRising ys → AreRising (merge_into Ascending x (merge_two Ascending xs) ys)

@@ -1,6 +1,6 @@
 -- The merge of lists of rows: always the least head, and of alike heads the earlier list's.
 use Rattle.std.specs.Prelude.{◌≡◌, ◌≢◌, ℕ, ◌+◌, List, [], ◌∷◌, ◌++◌, Option, Some, None, Bool, true, false, not, ◌&&◌, ⊤, map, flat_map, if◌then◌else◌}
-use Rattle.std.specs.Option.{option_to_list, option_map}
+use Rattle.std.specs.Option.{option_to_list}
 use Rattle.std.specs.Borrow.{Bor}
 use Rattle.std.specs.declared.cmp.Ordering.{Ordering}
 use Rattle.std.specs.Ordering.{is_gt, nat_cmp, ordering_then}
@@ -99,6 +99,11 @@ abbrev pub passes : (Row → Bool) → Option (ℕ × RowEntry) → Bool
 passes test None = false
 passes test (Some p) = test (row_of p.1)
 
+-- whether a head, if there is one, passes a test
+abbrev pub head_passes : (Row → Bool) → Option RowEntry → Bool
+head_passes test None = false
+head_passes test (Some x) = test (row_of x)
+
 -- a source whose first row was taken; none is only where it has ended
 abbrev pub IsTaken : Option RowEntry → IteratorState → Type 0
 IsTaken (Some x) s = (s.failed ≡ false) × (s.initialised ≡ true)
@@ -131,10 +136,6 @@ pub record Drops (order : IterationOrder) (hs : List (Option RowEntry)) (ss : Li
   pub rows : merged_left order hs' ss' ≡ behind_first (merged_left order hs ss)
   pub taken : AllTaken hs' ss'
   pub whole : are_whole ss' ≡ are_whole ss
-
--- only at the place of the least head do heads and sources change
-abbrev pub OthersStay : {T : Type 0} → Option (ℕ × RowEntry) → List (Option RowEntry) → List T → List (Option RowEntry) → List T → Type 0
-OthersStay found hs xs hs' xs' = (place : ℕ) → option_map (λ p. p.0) found ≢ Some place → (slice_get hs' place ≡ slice_get hs place) × (slice_get xs' place ≡ slice_get xs place)
 
 -- a source whose head is not below a key is left as it is, and its head stays
 abbrev pub LeavesFrom : {T : Type 0} → List ℕ → List (Option RowEntry) → List T → List (Option RowEntry) → List T → Type 0

@@ -7,7 +7,7 @@ ghost use Rattle.row_laws.specs.Keys.{is_below};
 ghost use Rattle.fleet_rows.specs.Row.{row_of};
 ghost use Rattle.fleet_iter.specs.Iteration.{IteratorState, Inits, Nexts, Seeks, CanFail, AreRising, from_key};
 ghost use Rattle.fleet_iter.specs.declared.iterator.IterationOrder.TheVariants as in_order;
-ghost use Rattle.fleet_iter.specs.Merge.{keys_in, cmp_in, hides, best, found_row, goes_ahead, passes, AllTaken, Takes, Drops, Steps, Skips, Begins, OthersStay, LeavesFrom, NoneFailed, IsHandedOn, starting, merged, merged_left, rows_left, given, are_whole, MergesSort, MergesRise};
+ghost use Rattle.fleet_iter.specs.Merge.{keys_in, cmp_in, hides, best, found_row, goes_ahead, passes, head_passes, AllTaken, Takes, Drops, Steps, Skips, Begins, LeavesFrom, NoneFailed, IsHandedOn, starting, merged, merged_left, rows_left, given, are_whole, MergesSort, MergesRise};
 ghost use Rattle.fleet_iter.specs.Tracked.{row_bytes, first_bytes, kept_back, counted, taken_at_once};
 ghost use Rattle.fleet_iter.specs.MergeState.{state_of, merge_of, IsSound};
 
@@ -77,16 +77,6 @@ fn least(order: IterationOrder, heads: &[Option<RowEntry>]) -> Option<usize>
     }
 }
 
-// Whether the least head is below a key.
-fn least_is_below(order: IterationOrder, heads: &[Option<RowEntry>], key: &[u8]) -> bool
-    ensures { result ≡ passes (is_below key.now) (best order heads.now) }
-{
-    match least_row(order, heads) {
-        Some((_, row)) => row.key.as_slice().cmp(key) == Ordering::Less,
-        None => false,
-    }
-}
-
 // Whether a row keeps back the least head.
 fn least_is_hidden(order: IterationOrder, heads: &[Option<RowEntry>], row: &RowEntry) -> bool
     ensures { result ≡ passes (hides (row_of row.now)) (best order heads.now) }
@@ -107,7 +97,6 @@ fn take_least<T: RowSource>(
     requires taken { AllTaken heads.old.items (map T.state sources.old.items) }
     requires sound { AllByRecursion T.sound sources.old.items }
     ensures ok { IfOk result (Takes order false heads.old.items (map T.state sources.old.items) heads.new.items (map T.state sources.new.items)) }
-    ensures others { IfOk result (λ _. OthersStay (best order heads.old.items) heads.old.items sources.old.items heads.new.items sources.new.items) }
     ensures err { IfErr result (CanFail (are_whole (map T.state sources.old.items))) }
     ensures handed { IfErr result (IsHandedOn (map T.state sources.new.items)) }
     ensures sound { AllByRecursion T.sound sources.new.items }
@@ -163,7 +152,6 @@ fn drop_least<T: RowSource>(
     requires taken { AllTaken heads.old.items (map T.state sources.old.items) }
     requires sound { AllByRecursion T.sound sources.old.items }
     ensures ok { IfOk result (λ _. Drops order heads.old.items (map T.state sources.old.items) heads.new.items (map T.state sources.new.items)) }
-    ensures others { IfOk result (λ _. OthersStay (best order heads.old.items) heads.old.items sources.old.items heads.new.items sources.new.items) }
     ensures bytes { IfOk result (λ bytes. bytes ≡ first_bytes (merged_left order heads.old.items (map T.state sources.old.items))) }
     ensures err { IfErr result (CanFail (are_whole (map T.state sources.old.items))) }
     ensures handed { IfErr result (IsHandedOn (map T.state sources.new.items)) }
@@ -175,7 +163,36 @@ fn drop_least<T: RowSource>(
     }
 }
 
-// Drops the rows below a key.
+// Whether a head is below a key.
+fn is_head_below(head: &Option<RowEntry>, key: &[u8]) -> bool
+    ensures { result ≡ head_passes (is_below key.now) head.now }
+{
+    match head {
+        Some(row) => row.key.as_slice().cmp(key) == Ordering::Less,
+        None => false,
+    }
+}
+
+// A source's first row that is not below a key.
+fn first_from<T: RowSource>(
+    alloc: Global,
+    source: &mut T,
+    key: &[u8],
+) -> Result<Option<RowEntry>, SlateDBError>
+    requires sound { T.sound source.old }
+    requires alive { (T.state source.old).failed ≡ false }
+    requires initialised { (T.state source.old).initialised ≡ true }
+    requires rising { AreRising (T.state source.old).rows }
+    ensures ok { IfOk result (Steps (record (T.state source.old) { rows = from_key key.now (T.state source.old).rows }) (T.state source.new)) }
+    ensures err { IfErr result (CanFail (T.state source.old).whole) }
+    ensures handed { IfErr result (λ _. (T.state source.new).failed ≡ true) }
+    ensures sound { T.sound source.new }
+{
+    source.seek_row(alloc, key)?;
+    source.next_row(alloc)
+}
+
+// Drops the rows below a key, by a seek of each source whose head is below it.
 fn skip_below<T: RowSource>(
     alloc: Global,
     order: IterationOrder,
@@ -184,6 +201,7 @@ fn skip_below<T: RowSource>(
     key: &[u8],
 ) -> Result<(), SlateDBError>
     requires taken { AllTaken heads.old.items (map T.state sources.old.items) }
+    requires rising { AreRising (merged_left order heads.old.items (map T.state sources.old.items)) }
     requires sound { AllByRecursion T.sound sources.old.items }
     ensures ok { OnOk result (Skips order (is_below key.now) heads.old.items (map T.state sources.old.items) heads.new.items (map T.state sources.new.items)) }
     ensures leaves { OnOk result (LeavesFrom key.now heads.old.items sources.old.items heads.new.items sources.new.items) }
@@ -191,8 +209,12 @@ fn skip_below<T: RowSource>(
     ensures handed { IfErr result (IsHandedOn (map T.state sources.new.items)) }
     ensures sound { AllByRecursion T.sound sources.new.items }
 {
-    'below: while least_is_below(order, heads, key) {
-        drop_least(alloc, order, sources, heads)?;
+    'sources: for i in 0..sources.len() {
+        if !is_head_below(&heads[i], key) {
+            continue;
+        }
+        let head = first_from(alloc, &mut sources[i], key)?;
+        drop(mem::replace(&mut heads[i], head));
     }
     Ok(())
 }

@@ -1,39 +1,196 @@
-use Rattle.std.proofs.Common.{◌≡◌, ◌∙◌, sym, ap, List, Option, true, false}
+use Rattle.std.proofs.Common.{◌≡◌, ◌∙◌, ◌<◌, ◌+◌, sym, ap, subst, length, arith, Option, get_or, List, suc, add-one, ℕ, true, false}
 use Rattle.std.specs.Prelude.{map}
-use Rattle.fleet_rows.specs.declared.row.RowEntry.{RowEntry}
+use Rattle.std.proofs.lemmas.Result.{err_from_is_err_and}
+use Rattle.std.proofs.lemmas.List.{map-set, length-map}
+use Rattle.std.proofs.Math.ListN.{get_or-map, set, length-set}
 use Rattle.row_laws.specs.Keys.{is_below}
-use Rattle.fleet_iter.specs.Merge.{best, passes}
-use Rattle.fleet_iter.proofs.Merges.{skip_step, skip_end}
+use Rattle.fleet_rows.specs.declared.row.RowEntry.{RowEntry}
+use Rattle.fleet_iter.specs.Iteration.{IteratorState, CanFail}
+use Rattle.fleet_iter.specs.Merge.{head_passes, LeavesFrom, lists, rows_left, some_failed}
+use Rattle.fleet_iter.proofs.Merges.{same_count, clean, begun, one_fails, fails_at, all_set}
+use Rattle.fleet_iter.proofs.Dedup.{from_key_skipped}
 use Rattle.fleet_iter.proofs.Seeks.{leaves_step}
+use Rattle.fleet_iter.proofs.Sought.{Sought, head_taken, source_rises, sought_step, sought_left, sought_merge, sources_counted}
 use Rattle.fleet_iter.proofs.merge.skip_below.Goals as goal
 
-pub below-preserved : goal.below-preserved
-below-preserved g c =
+pub index-requires : goal.index-requires
+index-requires g c =
     let f = g.T.RowSource.state in
-    let hs = c.below.heads.items in
-    let ss = map f c.below.sources.items in
-    let test = is_below c.args.key.now in
-    let is : passes test (best c.args.order hs) ≡ true = ap (λ (w : List (Option RowEntry)). passes test (best c.args.order w)) (sym c.deref.ensures.value) ∙ sym c.below-test.ensures in
-    let d = c.in_ok-drop_least.ensures.ok in
-    let s = skip_step c.args.order test hs c.drop_least.new.heads.items ss (map f c.drop_least.new.sources.items) c.below.invariant.taken is d in
-    record { sound = c.in_ok-drop_least.ensures.sound; taken = d.taken; rows = sym s.0 ∙ c.below.invariant.rows; whole = d.whole ∙ c.below.invariant.whole; leaves = leaves_step c.args.order c.args.key.now c.args.heads.now.items hs c.drop_least.new.heads.items ss c.args.sources.now.items c.below.sources.items c.drop_least.new.sources.items c.below.invariant.taken is c.in_ok-drop_least.ensures.others c.below.invariant.leaves }
+    let xs = c.sources.sources.items in
+    let hs = c.sources.heads.items in
+    let ss = map f xs in
+    let k = c.sources.i in
+    let d : length ss ≡ length xs = length-map _ _ in
+    let n : length xs ≡ length c.args.sources.now.items = c.sources.invariant.size in
+    let b : length hs ≡ length ss = same_count hs ss c.sources.invariant.so_far.taken in
+    omega (arith, d, n, b)
 
-pub below-smaller : goal.below-smaller
-below-smaller g c =
+pub first_from-requires-clause-alive : goal.first_from-requires-clause-alive
+first_from-requires-clause-alive g c =
     let f = g.T.RowSource.state in
-    let hs = c.below.heads.items in
-    let ss = map f c.below.sources.items in
-    let test = is_below c.args.key.now in
-    let is : passes test (best c.args.order hs) ≡ true = ap (λ (w : List (Option RowEntry)). passes test (best c.args.order w)) (sym c.deref.ensures.value) ∙ sym c.below-test.ensures in
-    let d = c.in_ok-drop_least.ensures.ok in
-    let s = skip_step c.args.order test hs c.drop_least.new.heads.items ss (map f c.drop_least.new.sources.items) c.below.invariant.taken is d in
-    s.1
+    let xs = c.sources.sources.items in
+    let hs = c.sources.heads.items in
+    let ss = map f xs in
+    let k = c.sources.i in
+    let d : length ss ≡ length xs = length-map _ _ in
+    let n : length xs ≡ length c.args.sources.now.items = c.sources.invariant.size in
+    let lt : k < length ss = omega (arith, d, n) in
+    let h = c.index.result.now in
+    let s = f c.index_mut.result.now in
+    let is : s ≡ get_or ss k s = ap f c.index_mut.ensures.value ∙ sym (get_or-map f xs k c.index_mut.result.now) in
+    clean h s (head_taken hs ss c.sources.invariant.so_far.taken k h s lt c.index.ensures is)
+
+pub first_from-requires-clause-initialised : goal.first_from-requires-clause-initialised
+first_from-requires-clause-initialised g c =
+    let f = g.T.RowSource.state in
+    let xs = c.sources.sources.items in
+    let hs = c.sources.heads.items in
+    let ss = map f xs in
+    let k = c.sources.i in
+    let d : length ss ≡ length xs = length-map _ _ in
+    let n : length xs ≡ length c.args.sources.now.items = c.sources.invariant.size in
+    let lt : k < length ss = omega (arith, d, n) in
+    let h = c.index.result.now in
+    let s = f c.index_mut.result.now in
+    let is : s ≡ get_or ss k s = ap f c.index_mut.ensures.value ∙ sym (get_or-map f xs k c.index_mut.result.now) in
+    begun h s (head_taken hs ss c.sources.invariant.so_far.taken k h s lt c.index.ensures is)
+
+pub first_from-requires-clause-rising : goal.first_from-requires-clause-rising
+first_from-requires-clause-rising g c =
+    let f = g.T.RowSource.state in
+    let xs = c.sources.sources.items in
+    let hs = c.sources.heads.items in
+    let ss = map f xs in
+    let k = c.sources.i in
+    let d : length ss ≡ length xs = length-map _ _ in
+    let n : length xs ≡ length c.args.sources.now.items = c.sources.invariant.size in
+    let lt : k < length ss = omega (arith, d, n) in
+    let h = c.index.result.now in
+    let s = f c.index_mut.result.now in
+    let is : s ≡ get_or ss k s = ap f c.index_mut.ensures.value ∙ sym (get_or-map f xs k c.index_mut.result.now) in
+    let old = map f c.args.sources.now.items in
+    let ls = lists c.args.heads.now.items (rows_left old) in
+    source_rises c.args.order c.args.key.now k ls hs ss old h s lt c.requires.rising c.sources.invariant.so_far c.index.ensures is
+
+pub returns-in_err-head-clause-err : goal.returns-in_err-head-clause-err
+returns-in_err-head-clause-err g c =
+    let f = g.T.RowSource.state in
+    let xs = c.sources.sources.items in
+    let hs = c.sources.heads.items in
+    let ss = map f xs in
+    let k = c.sources.i in
+    let d : length ss ≡ length xs = length-map _ _ in
+    let n : length xs ≡ length c.args.sources.now.items = c.sources.invariant.size in
+    let lt : k < length ss = omega (arith, d, n) in
+    let h = c.index.result.now in
+    let s = f c.index_mut.result.now in
+    let is : s ≡ get_or ss k s = ap f c.index_mut.ensures.value ∙ sym (get_or-map f xs k c.index_mut.result.now) in
+    let e = c.in_err-head.field-0.0 in
+    let p = err_from_is_err_and c.from_residual.result c.from_residual.ensures.1 in
+    rw (p.1, p.2) (subst (λ b. CanFail b e) c.sources.invariant.so_far.whole (one_fails ss k s e lt is c.in_err-head.ensures.err))
+
+pub returns-in_err-head-clause-handed : goal.returns-in_err-head-clause-handed
+returns-in_err-head-clause-handed g c =
+    let f = g.T.RowSource.state in
+    let xs = c.sources.sources.items in
+    let hs = c.sources.heads.items in
+    let ss = map f xs in
+    let k = c.sources.i in
+    let d : length ss ≡ length xs = length-map _ _ in
+    let n : length xs ≡ length c.args.sources.now.items = c.sources.invariant.size in
+    let lt : k < length ss = omega (arith, d, n) in
+    let y = c.first_from.new.source in
+    let p = err_from_is_err_and c.from_residual.result c.from_residual.ensures.1 in
+    rw (p.1, p.2) (λ _. ap some_failed (map-set f xs k y) ∙ fails_at ss k (f y) lt c.in_err-head.ensures.handed)
+
+pub index_mut-requires-in-sources : goal.index_mut-requires-in-sources
+index_mut-requires-in-sources g c =
+    let f = g.T.RowSource.state in
+    let xs = c.sources.sources.items in
+    let hs = c.sources.heads.items in
+    let ss = map f xs in
+    let k = c.sources.i in
+    let d : length ss ≡ length xs = length-map _ _ in
+    let n : length xs ≡ length c.args.sources.now.items = c.sources.invariant.size in
+    let b : length hs ≡ length ss = same_count hs ss c.sources.invariant.so_far.taken in
+    omega (arith, d, n, b)
+
+pub sources-preserved-then-not-is_head_below : goal.sources-preserved-then-not-is_head_below
+sources-preserved-then-not-is_head_below g c =
+    let f = g.T.RowSource.state in
+    let xs = c.sources.sources.items in
+    let hs = c.sources.heads.items in
+    let ss = map f xs in
+    let k = c.sources.i in
+    let d : length ss ≡ length xs = length-map _ _ in
+    let n : length xs ≡ length c.args.sources.now.items = c.sources.invariant.size in
+    let lt : k < length ss = omega (arith, d, n) in
+    let h = c.index.result.now in
+    let key = c.args.key.now in
+    let old = map f c.args.sources.now.items in
+    let ls = lists c.args.heads.now.items (rows_left old) in
+    let count : length ls ≡ length old = sources_counted c.args.heads.now.items old c.requires.taken in
+    let all : length old ≡ length c.args.sources.now.items = length-map _ _ in
+    let within : k < length ls = omega (arith, d, n, count, all) in
+    let low : head_passes (is_below key) h ≡ false = sym c.if-not-is_head_below.ensures in
+    let A : ℕ → _ = λ i. Sought key i ls hs ss old in
+    record {
+      sound = c.sources.invariant.sound;
+      size = n;
+      so_far = subst A (sym (add-one k)) (sought_left key k ls hs ss old h within lt c.sources.invariant.so_far c.index.ensures low);
+      leaves = c.sources.invariant.leaves;
+    }
+
+pub sources-preserved : goal.sources-preserved
+sources-preserved g c =
+    let f = g.T.RowSource.state in
+    let xs = c.sources.sources.items in
+    let hs = c.sources.heads.items in
+    let ss = map f xs in
+    let k = c.sources.i in
+    let d : length ss ≡ length xs = length-map _ _ in
+    let n : length xs ≡ length c.args.sources.now.items = c.sources.invariant.size in
+    let lt : k < length ss = omega (arith, d, n) in
+    let h = c.index.result.now in
+    let s = f c.index_mut.result.now in
+    let is : s ≡ get_or ss k s = ap f c.index_mut.ensures.value ∙ sym (get_or-map f xs k c.index_mut.result.now) in
+    let old = map f c.args.sources.now.items in
+    let ls = lists c.args.heads.now.items (rows_left old) in
+    let key = c.args.key.now in
+    let y = c.first_from.new.source in
+    let head = c.in_ok-head.head in
+    let high : head_passes (is_below key) h ≡ true = sym c.if-not-is_head_below.ensures in
+    let count : length ls ≡ length old = sources_counted c.args.heads.now.items old c.requires.taken in
+    let all : length old ≡ length c.args.sources.now.items = length-map _ _ in
+    let within : k < length ls = omega (arith, d, n, count, all) in
+    let step : Sought key (suc k) ls (set hs k head) (set ss k (f y)) old = sought_step key k ls hs ss old h head s (f y) within lt c.sources.invariant.so_far c.index.ensures is high c.in_ok-head.ensures.ok in
+    let A : ℕ → _ = λ i. Sought key i ls (set hs k head) (set ss k (f y)) old in
+    let B : List IteratorState → _ = λ w. Sought key (k + 1) ls (set hs k head) w old in
+    let D : Option RowEntry → _ = λ w. Sought key (k + 1) ls (set hs k w) (map f (set xs k y)) old in
+    let L : Option RowEntry → _ = λ w. LeavesFrom key c.args.heads.now.items c.args.sources.now.items (set hs k w) (set xs k y) in
+    record {
+      sound = all_set g.T.RowSource.sound xs k y c.in_ok-head.ensures.sound c.sources.invariant.sound;
+      size = length-set xs k y ∙ n;
+      so_far = subst D (sym c.replace.ensures.after) (subst B (sym (map-set f xs k y)) (subst A (sym (add-one k)) step));
+      leaves = subst L (sym c.replace.ensures.after) (leaves_step key c.args.heads.now.items hs c.args.sources.now.items xs k h head y c.index.ensures high c.sources.invariant.leaves);
+    }
 
 pub returns-clause-ok : goal.returns-clause-ok
 returns-clause-ok g c =
     let f = g.T.RowSource.state in
-    let hs = c.below.heads.items in
-    let ss = map f c.below.sources.items in
-    let test = is_below c.args.key.now in
-    let is : passes test (best c.args.order hs) ≡ false = ap (λ (w : List (Option RowEntry)). passes test (best c.args.order w)) (sym c.deref.ensures.value) ∙ sym c.below-test.ensures in
-    record { rows = skip_end c.args.order test hs ss c.below.invariant.taken is ∙ c.below.invariant.rows; taken = c.below.invariant.taken; whole = c.below.invariant.whole }
+    let xs = c.sources.sources.items in
+    let hs = c.sources.heads.items in
+    let ss = map f xs in
+    let k = c.sources.i in
+    let d : length ss ≡ length xs = length-map _ _ in
+    let n : length xs ≡ length c.args.sources.now.items = c.sources.invariant.size in
+    let old = map f c.args.sources.now.items in
+    let ls = lists c.args.heads.now.items (rows_left old) in
+    let count : length ls ≡ length old = sources_counted c.args.heads.now.items old c.requires.taken in
+    let all : length old ≡ length c.args.sources.now.items = length-map _ _ in
+    let so_far = c.sources.invariant.so_far in
+    record {
+      rows = sought_merge c.args.order c.args.key.now k ls hs ss old (omega (arith, d, n, count, all)) c.requires.rising so_far ∙ from_key_skipped c.args.key.now _;
+      taken = so_far.taken;
+      whole = so_far.whole;
+    }

@@ -4,12 +4,11 @@ use Rattle.std.specs.Option.{option_map}
 use Rattle.std.proofs.lemmas.Result.{err_from_is_err_and}
 use Rattle.std.proofs.lemmas.List.{map-set, length-map}
 use Rattle.std.proofs.Math.ListN.{get_or-map, set}
-use Rattle.fleet_iter.specs.Merge.{Takes, OthersStay, best, some_failed}
+use Rattle.fleet_iter.specs.Merge.{Takes, best, some_failed}
 use Rattle.fleet_iter.specs.Iteration.{IteratorState}
 use Rattle.fleet_iter.specs.declared.iterator.IterationOrder.{IterationOrder}
 use Rattle.fleet_rows.specs.declared.row.RowEntry.{RowEntry}
 use Rattle.fleet_iter.proofs.Merges.{placed, placed_none, same_count, best_within, taken_at, refused, refusal_marks, fails_at, takes_none, takes_all, takes_head, steps_of, all_at}
-use Rattle.fleet_iter.proofs.Seeks.{others_stay}
 use Rattle.fleet_iter.proofs.merge.take_least.Goals as goal
 
 place_of : (order : IterationOrder) (hs ms : List (Option RowEntry)) (r : Option ℕ) (k : ℕ) → r ≡ Some k → r ≡ option_map (λ p. p.0) (best order ms) → ms ≡ hs → Some k ≡ option_map (λ p. p.0) (best order hs)
@@ -104,12 +103,3 @@ returns-clause-ok g c =
     let B : List IteratorState → _ = λ w. Takes c.args.order false hs ss (set hs k c.in_ok-head.head) w c.replace.result in
     let D : Option RowEntry → _ = λ h. Takes c.args.order false hs ss (set hs k h) (map f (set xs k c.next_row.new.self)) c.replace.result in
     subst D (sym c.replace.ensures.after) (subst B (sym (map-set f xs k c.next_row.new.self)) (subst A row whole))
-
-pub returns-clause-others : goal.returns-clause-others
-returns-clause-others g c =
-    let hs = c.args.heads.now.items in
-    let xs = c.args.sources.now.items in
-    let k = c.in-Some.place in
-    let y = c.next_row.new.self in
-    let A : Option RowEntry → _ = λ h. OthersStay (best c.args.order hs) hs xs (set hs k h) (set xs k y) in
-    subst A (sym c.replace.ensures.after) (others_stay (best c.args.order hs) k hs xs c.in_ok-head.head y (place_of c.args.order hs _ _ _ c.in-Some.is c.least.ensures c.deref.ensures.value))

@@ -2,7 +2,14 @@ use Rattle.std.proofs.Common.{◌∙◌, sym}
 use Rattle.std.specs.Prelude.{map}
 use Rattle.fleet_iter.specs.Merge.{merged_left}
 use Rattle.fleet_iter.proofs.Dedup.{seeks, from_key_skipped}
+use Rattle.fleet_iter.proofs.SoughtMerges.{rising_given}
 use Rattle.fleet_iter.proofs.merge.MergeIteratorRowEntryIterator.seek.Goals as goal
+
+pub skip_below-requires-clause-rising : goal.skip_below-requires-clause-rising
+skip_below-requires-clause-rising g c =
+    let f = g.T.RowEntryIterator.state in
+    let old = c.args.self.now in
+    rising_given old.dedup (merged_left old.order old.heads.items (map f old.sources.items)) c.requires.rising
 
 pub returns-in-Ok-clause-seek : goal.returns-in-Ok-clause-seek
 returns-in-Ok-clause-seek g c =
