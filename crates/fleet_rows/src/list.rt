@@ -1,6 +1,6 @@
 //! Lists that contracts see as lists.
 
-ghost use Rattle.std.specs.Prelude.{◌≡◌, ◌↔◌, ◌++◌, [], ◌∷◌, length, slice_get, IsTrue, OnOk, OnErr, IfOk, IsOkUnless};
+ghost use Rattle.std.specs.Prelude.{◌≡◌, ◌↔◌, ◌≤◌, ◌<◌, ◌++◌, [], ◌∷◌, drop, length, slice_get, slice_set, take, IsTrue, OnOk, OnErr, IfOk, IsOkUnless};
 ghost use Rattle.std.specs.Option.{option_copied};
 ghost use Rattle.std.specs.Cmp.Lexicographic.{pointwise, lists_per, lists_equiv};
 
@@ -57,6 +57,24 @@ impl<T: Drop> ListOf<T> {
         ensures memory { IsOkUnless result SlateDBError.Memory }
     {
         Ok(self.items.push(item)?)
+    }
+
+    /// Puts an item before the one at this place, counted from 0, or at the end. Where memory is wanted, the item is dropped.
+    pub fn insert(&mut self, place: u64, item: T) -> Result<(), SlateDBError>
+        requires { place ≤ length self.old }
+        ensures ok { OnOk result (self.new ≡ take place self.old ++ item ∷ drop place self.old) }
+        ensures err { OnErr result (self.new ≡ self.old) }
+        ensures memory { IsOkUnless result SlateDBError.Memory }
+    {
+        Ok(self.items.insert(place as usize, item)?)
+    }
+
+    /// Puts an item in the place of another, counted from 0, which is dropped.
+    pub fn replace(&mut self, place: u64, item: T)
+        requires { place < length self.old }
+        ensures { self.new ≡ slice_set self.old place item }
+    {
+        self.items[place as usize] = item;
     }
 
     /// How many items there are.

@@ -1,3 +1,7 @@
 pub mod Order
 pub mod Table
 pub mod Iterator
+pub mod Lists
+pub mod Views
+pub mod Sizes
+pub mod Trees

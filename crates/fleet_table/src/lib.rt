@@ -1,13 +1,27 @@
-//! Tables: rows in strict order that never change.
+//! Tables, and the trees that name them.
 #![tactic(auto)]
 
+mod block;
+mod handle;
 mod iterator;
+mod list;
+mod manifest;
 mod order;
+mod run;
 mod table;
+mod tree;
+mod view;
 
+pub use block::BlockMeta;
+pub use handle::SsTableHandle;
 pub use iterator::TableIterator;
+pub use list::{BlockList, RunList, SegmentList, SharedList, TableList, ViewList};
+pub use manifest::{Manifest, ManifestCore, VersionedManifest};
 pub use order::{are_in_bounds, are_strictly_ordered};
+pub use run::SortedRun;
 pub use table::TableData;
+pub use tree::{LsmTreeState, merge_from_writer};
+pub use view::SsTableView;
 
 #[cfg(test)]
 mod tests;

@@ -1,0 +1,83 @@
+//! The tree of a segment.
+
+ghost use Rattle.std.specs.Prelude.{◌≡◌, ◌==◌, [], length, None, not, take_while, IfOk, IsOkUnless};
+ghost use Rattle.fleet_table.specs.Trees.{empty_tree, from_writer, newer_than};
+
+use crate::{RunList, SsTableView, ViewList};
+use fleet_rows::{Copies, SlateDBError, Ulid};
+use std::alloc::{AllocError, Global};
+
+/// What a segment stores. Contracts see the lists, and `specs/Trees` how they are nodes of a tree.
+#[derive(Clone, Debug, Drop, PartialEq, Eq)]
+pub struct LsmTreeState {
+    /// The flushes that no job took yet, newest first.
+    pub l0: ViewList,
+    /// The runs, by falling id.
+    pub compacted: RunList,
+    /// The newest flush that a job took or dropped, where one did: flushes from it on are not to come to the tree again.
+    pub last_compacted_l0_sst_view_id: Option<Ulid>,
+    /// The greatest sequence of the flushes.
+    pub last_seq: Option<u64>,
+}
+
+impl LsmTreeState {
+    /// The tree of a segment without flushes.
+    pub fn new(alloc: Global) -> LsmTreeState
+        ensures { result ≡ empty_tree }
+    {
+        LsmTreeState {
+            l0: ViewList::new(alloc),
+            compacted: RunList::new(alloc),
+            last_compacted_l0_sst_view_id: None,
+            last_seq: None,
+        }
+    }
+
+    /// A copy.
+    pub fn clone(&self) -> Result<LsmTreeState, SlateDBError>
+        ensures copy { IfOk result (λ copy. copy ≡ self.now) }
+        ensures memory { IsOkUnless result SlateDBError.Memory }
+    {
+        Ok(Clone::clone(self)?)
+    }
+}
+
+impl Copies for LsmTreeState {
+    fn copied(&self) -> Result<LsmTreeState, AllocError> {
+        Clone::clone(self)
+    }
+}
+
+/// The tree of a compactor with what its writer flushed meanwhile: the remote's flushes before the local watermark, and the local
+/// runs.
+pub fn merge_from_writer(
+    local: &LsmTreeState,
+    remote: &LsmTreeState,
+) -> Result<LsmTreeState, SlateDBError>
+    ensures tree { IfOk result (λ tree. tree ≡ from_writer local.now remote.now) }
+    ensures memory { IsOkUnless result SlateDBError.Memory }
+{
+    Ok(LsmTreeState {
+        l0: newer_than(local.last_compacted_l0_sst_view_id, &remote.l0)?,
+        compacted: local.compacted.clone()?,
+        last_compacted_l0_sst_view_id: local.last_compacted_l0_sst_view_id,
+        last_seq: remote.last_seq,
+    })
+}
+
+/// The views before the one of this id, or all where there is none of it.
+fn newer_than(watermark: Option<Ulid>, views: &ViewList) -> Result<ViewList, SlateDBError>
+    ensures views { IfOk result (λ newer. newer ≡ newer_than watermark views.now) }
+    ensures memory { IsOkUnless result SlateDBError.Memory }
+{
+    let Some(mark) = watermark else {
+        return views.clone();
+    };
+    views.first(newer_count(views.as_slice(), mark) as u64)
+}
+
+fn newer_count(views: &[SsTableView], mark: Ulid) -> usize
+    ensures { result ≡ length (take_while (λ view. not (view.id == mark)) views.now) }
+{
+    views.iter().take_while(|view| view.id != mark).count()
+}
