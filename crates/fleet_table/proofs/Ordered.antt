@@ -1,15 +1,17 @@
--- The order of rows by neighbours, and rows before a place.
-use Rattle.std.proofs.Common.{◌≡◌, refl, sym, ◌∙◌, ap, ℕ, zero, suc, ◌<◌, ◌≤◌, ◌+◌, cond, List, [], ◌∷◌, length, ◌&&◌, Bool, true, false, IsTrue, arith, rules}
-use Rattle.std.specs.Prelude.{slice_index_or, MatchBool, None}
+-- The order of rows by neighbours, and rows before a place among ordered rows.
+use Rattle.std.proofs.Common.{◌≡◌, refl, sym, ◌∙◌, ap, ℕ, zero, suc, ◌<◌, ◌≤◌, ◌+◌, cond, List, [], ◌∷◌, ◌++◌, length, take, drop, ◌&&◌, Bool, true, false, IsTrue, arith, rules}
+use Rattle.std.specs.Prelude.{slice_index_or, MatchBool, None, filter, not}
 use Rattle.std.specs.List.{AllByRecursion, AllWithin, HoldsAt, prefix_len}
 use Rattle.std.specs.List.Sorted.{IsStrictlySortedBy, IsPartitionedBy, IsPartitionPoint}
 use Rattle.std.specs.declared.cmp.Ordering.TheVariants.{Less}
 use Rattle.std.specs.Ordering.{is_lt}
 use Rattle.row_model.specs.Rows.{Row, Tombstone, row_cmp, are_ordered, IsStrictlyOrdered}
 use Rattle.std.proofs.lemmas.List.Sums.{prefix_len_is}
+use Rattle.std.proofs.lemmas.List.{take_at, drop_at, take-map, drop-map}
 use Rattle.std.proofs.lemmas.List.Elements.{All-from_all_within, recursion_from_All}
 use Rattle.row_laws.proofs.Order.{row_total}
-use Rattle.row_laws.proofs.ApartRows.{lt_is}
+use Rattle.row_laws.proofs.ApartRows.{lt_is, filter_none}
+use Rattle.row_laws.proofs.KeyRows.{none_from, split_by}
 use Rattle.row_laws.proofs.Elements.{all_weaken}
 use Rattle.fleet_rows.specs.declared.row.RowEntry.{RowEntry}
 use Rattle.fleet_rows.specs.Row.{row_of, rows_of}
@@ -73,32 +75,54 @@ all_decided P rows true within =
     ((λ _. all_rows P rows (recursion_from_All Q rows (All-from_all_within Q rows within))), λ _. search rules)
 all_decided P rows false fails = ((λ h. absurd (search rules)), λ h. absurd (some_fails P rows fails h))
 
+-- ---- rows that pass a test which earlier rows pass with later ones
+
+module _ (p : Row → Bool) (closed : (r q : Row) → row_cmp r q ≡ Less → p q ≡ true → p r ≡ true) where
+  pub partitioned : (rows : List RowEntry) → IsStrictlyOrdered (rows_of rows) → IsPartitionedBy (λ r. p (row_of r)) rows
+  unfolding IsStrictlySortedBy
+  partitioned [] ordered i j d le lt h = absurd (omega arith)
+  partitioned (r ∷ rows) ordered zero zero d le lt h = h
+  partitioned (r ∷ rows) ordered zero (suc j) d le lt h = closed (row_of r) (row_of (slice_index_or rows j d)) (holds_at (λ q. row_cmp (row_of r) q ≡ Less) rows j d (omega arith) ordered.0) h
+  partitioned (r ∷ rows) ordered (suc i) zero d le lt h = absurd (omega arith)
+  partitioned (r ∷ rows) ordered (suc i) (suc j) d le lt h = partitioned rows ordered.1 i j d (omega arith) (omega arith) h
+
+  prefix-mapped : (rows : List RowEntry) → prefix_len p (rows_of rows) ≡ prefix_len (λ r. p (row_of r)) rows
+  prefix-mapped [] = refl
+  prefix-mapped (r ∷ rows) = ap (λ n. cond (p (row_of r)) (1 + n) 0) (prefix-mapped rows)
+
+  -- where they end is how many there are
+  pub place_is : (rows : List RowEntry) (i : ℕ) → i ≤ length rows → IsPartitionPoint (λ r. p (row_of r) ≡ true) (λ r. p (row_of r) ≡ false) rows i → i ≡ prefix_len p (rows_of rows)
+  place_is [] i within ends = omega arith
+  place_is (r ∷ rows) i within ends =
+      sym (prefix-mapped (r ∷ rows) ∙ prefix_len_is (λ q. p (row_of q)) (r ∷ rows) i r within (λ k low. ends.0 k r (omega arith) low) (λ low. ends.1 i r (omega arith) low))
+
+  prefix_filter : (rows : List Row) → IsStrictlyOrdered rows → prefix_len p rows ≡ length (filter p rows)
+  unfolding IsStrictlySortedBy
+  prefix_filter [] ordered = refl
+  prefix_filter (r ∷ rows) ordered = by (p r) refl (prefix_filter rows ordered.1)
+    where
+      by : (b : Bool) → p r ≡ b → prefix_len p rows ≡ length (filter p rows) → cond b (1 + prefix_len p rows) 0 ≡ length (cond b (r ∷ filter p rows) (filter p rows))
+      by true e rest = grind (arith, rest)
+      by false e rest = sym (ap length (filter_none p rows (none_from p closed r rows e ordered.0)))
+
+  module _ (rows : List RowEntry) (ordered : IsStrictlyOrdered (rows_of rows)) (i : ℕ) (at : i ≡ prefix_len p (rows_of rows)) where
+    split : filter p (rows_of rows) ++ filter (λ r. not (p r)) (rows_of rows) ≡ rows_of rows
+    split = split_by p closed (rows_of rows) ordered
+
+    count : length (filter p (rows_of rows)) ≡ i
+    count = sym (at ∙ prefix_filter (rows_of rows) ordered)
+
+    pub rows_to : rows_of (take i rows) ≡ filter p (rows_of rows)
+    rows_to = sym (take-map row_of i rows) ∙ ap (take i) (sym split) ∙ take_at (filter p (rows_of rows)) (filter (λ r. not (p r)) (rows_of rows)) i count
+
+    pub rows_behind : rows_of (drop i rows) ≡ filter (λ r. not (p r)) (rows_of rows)
+    rows_behind = sym (drop-map row_of i rows) ∙ ap (drop i) (sym split) ∙ drop_at (filter p (rows_of rows)) (filter (λ r. not (p r)) (rows_of rows)) i count
+
 -- ---- rows before a place
 
 abbrev place_row : List ℕ → ℕ → Row
 place_row key seq = record { key = key; content = Tombstone; seq = seq; created = None; expires = None }
 
-before_too : (key : List ℕ) (seq : ℕ) (r q : Row) → row_cmp r q ≡ Less → is_before key seq q ≡ true → is_before key seq r ≡ true
-before_too key seq r q before h = ap is_lt (row_total.trans r q (place_row key seq) before (lt_is (row_cmp q (place_row key seq)) h))
-
 -- an earlier row of ordered rows is before each place that a later one is before
-pub before_place : (key : List ℕ) (seq : ℕ) (rows : List RowEntry) → IsStrictlyOrdered (rows_of rows) → IsPartitionedBy (λ r. is_before key seq (row_of r)) rows
-unfolding IsStrictlySortedBy
-before_place key seq [] ordered i j d le lt h = absurd (omega arith)
-before_place key seq (r ∷ rows) ordered zero zero d le lt h = h
-before_place key seq (r ∷ rows) ordered zero (suc j) d le lt h = before_too key seq (row_of r) (row_of (slice_index_or rows j d)) (holds_at (λ q. row_cmp (row_of r) q ≡ Less) rows j d (omega arith) ordered.0) h
-before_place key seq (r ∷ rows) ordered (suc i) zero d le lt h = absurd (omega arith)
-before_place key seq (r ∷ rows) ordered (suc i) (suc j) d le lt h = before_place key seq rows ordered.1 i j d (omega arith) (omega arith) h
-
-prefix-mapped : (p : Row → Bool) (rows : List RowEntry) → prefix_len p (rows_of rows) ≡ prefix_len (λ r. p (row_of r)) rows
-prefix-mapped p [] = refl
-prefix-mapped p (r ∷ rows) = ap (λ n. cond (p (row_of r)) (1 + n) 0) (prefix-mapped p rows)
-
--- where they end is how many there are
-pub before_count : (key : List ℕ) (seq : ℕ) (rows : List RowEntry) (i : ℕ) → i ≤ length rows
-    → IsPartitionPoint (λ r. is_before key seq (row_of r) ≡ true) (λ r. is_before key seq (row_of r) ≡ false) rows i
-    → i ≡ prefix_len (is_before key seq) (rows_of rows)
-before_count key seq [] i within ends = omega arith
-before_count key seq (r ∷ rows) i within ends =
-    sym (prefix-mapped (is_before key seq) (r ∷ rows)
-    ∙ prefix_len_is (λ q. is_before key seq (row_of q)) (r ∷ rows) i r within (λ k low. ends.0 k r (omega arith) low) (λ low. ends.1 i r (omega arith) low))
+pub before_too : (key : List ℕ) (seq : ℕ) (r q : Row) → row_cmp r q ≡ Less → is_before key seq q ≡ true → is_before key seq r ≡ true
+before_too key seq r q before h = ap is_lt (row_total.trans r q (place_row key seq) before (lt_is (row_cmp q (place_row key seq)) h))

@@ -5,4 +5,5 @@ pub mod Lists
 pub mod Handles
 pub mod Views
 pub mod Sizes
+pub mod Run
 pub mod Trees

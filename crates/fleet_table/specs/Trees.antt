@@ -1,5 +1,8 @@
 -- Trees as a program keeps them, and how they are the model's trees.
-use Rattle.std.specs.Prelude.{ℕ, ◌==◌, ◌++◌, not, take_while, List, [], ◌∷◌, map, Option, Some, None}
+use Rattle.std.specs.Prelude.{ℕ, Bool, true, false, ◌==◌, ◌++◌, not, take_while, List, [], ◌∷◌, map, Option, Some, None, bytes_eq, if◌then◌else◌}
+use Rattle.std.specs.Borrow.{Bor}
+use Rattle.std.specs.Ordering.{is_lt}
+use Rattle.row_model.specs.Rows.{key_cmp}
 use Rattle.fleet_model.specs.Nodes.{Node, L0, Run, Tree, Segment, Trees}
 use Rattle.fleet_table.specs.Views.{View}
 use Rattle.fleet_table.specs.declared.run.SortedRun.{SortedRun}
@@ -26,6 +29,22 @@ from_writer local remote = record {
 abbrev pub trees_with_prefix : ManifestCore → List (List ℕ × LsmTreeState)
 trees_with_prefix core = ([], core.tree) ∷ core.segments
 
+-- a flush in front of a tree
+abbrev pub flushed_on : View → ℕ → LsmTreeState → LsmTreeState
+flushed_on view seq t = record t { l0 = view ∷ t.l0; last_seq = Some seq }
+
+-- a flush comes to the front of its segment's tree, which is made where there is none
+abbrev pub flushed : List ℕ → View → ℕ → List (List ℕ × LsmTreeState) → List (List ℕ × LsmTreeState)
+flushed prefix view seq [] = (prefix, flushed_on view seq empty_tree) ∷ []
+flushed prefix view seq (s ∷ trees) =
+    if bytes_eq prefix s.0 then (prefix, flushed_on view seq s.1) ∷ trees
+    else (if is_lt (key_cmp prefix s.0) then (prefix, flushed_on view seq empty_tree) ∷ s ∷ trees else s ∷ flushed prefix view seq trees)
+
+-- the tree of a segment where it has this prefix, and whether it does
+abbrev pub tree_or_empty : List ℕ → Option (List ℕ × LsmTreeState) → Bool × LsmTreeState
+tree_or_empty prefix None = (false, empty_tree)
+tree_or_empty prefix (Some s) = if bytes_eq prefix s.0 then (true, s.1) else (false, empty_tree)
+
 -- The model's trees. Which flushes went into a run is not kept by a program, so it is given.
 module _ (flushes : ℕ → List ℕ) where
   abbrev pub flush_node : View → Node
@@ -42,3 +61,8 @@ module _ (flushes : ℕ → List ℕ) where
 
   abbrev pub trees_of : ManifestCore → Trees
   trees_of core = map segment_of (trees_with_prefix core)
+
+-- the root, where it is still to come
+abbrev pub root_tree : Option (Bor LsmTreeState) → List LsmTreeState
+root_tree None = []
+root_tree (Some root) = root.now ∷ []

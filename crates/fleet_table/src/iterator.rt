@@ -1,11 +1,10 @@
 //! The rows of a table, one after the other.
 
-ghost use Rattle.std.specs.Prelude.{◌≡◌, ⊤, false};
+ghost use Rattle.std.specs.Prelude.{◌≡◌, ◌↔◌, ⊤, false, [], IsTrue};
 ghost use Rattle.fleet_iter.specs.Iteration.{from_key};
 ghost use Rattle.fleet_rows.specs.Row.{rows_of};
 ghost use Rattle.fleet_table.specs.Iterator.{state_of};
 
-use crate::TableData;
 use fleet_iter::RowEntryIterator;
 use fleet_rows::{RowEntry, SlateDBError};
 use std::alloc::Global;
@@ -28,15 +27,36 @@ impl<'a> Model for TableIterator<'a> {
     ghost view = { λ t. record { left = rows_of t.rows.now; broken = t.failed } };
 }
 
-impl TableData {
-    /// All rows of the table.
-    pub fn iter(&self) -> TableIterator<'_>
-        ensures { result ≡ record { left = self.now; broken = false } }
+impl<'a> TableIterator<'a> {
+    pub(crate) fn new(rows: &'a [RowEntry]) -> TableIterator<'a>
+        ensures { result ≡ record { left = rows_of rows.now; broken = false } }
     {
         TableIterator {
-            rows: self.as_slice(),
+            rows,
             failed: false,
         }
+    }
+}
+
+impl TableIterator<'_> {
+    pub(crate) fn has_failed(&self) -> bool
+        ensures { result ≡ self.now.broken }
+    {
+        self.failed
+    }
+
+    /// Whether no row is left, and none was kept back by want of memory.
+    pub(crate) fn has_ended(&self) -> bool
+        ensures { IsTrue result ↔ ((self.now.left ≡ []) × (self.now.broken ≡ false)) }
+    {
+        self.rows.is_empty() && !self.failed
+    }
+
+    /// Drops the rows below a key.
+    pub(crate) fn skip_to(&mut self, key: &[u8])
+        ensures { self.new ≡ record self.old { left = from_key key.now self.old.left } }
+    {
+        self.rows = rows_from(self.rows, key);
     }
 }
 
@@ -75,7 +95,7 @@ impl RowEntryIterator for TableIterator<'_> {
         if self.failed {
             return Err(SlateDBError::IteratorFailed);
         }
-        self.rows = rows_from(self.rows, next_key);
+        self.skip_to(next_key);
         Ok(())
     }
 }

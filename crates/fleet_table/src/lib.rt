@@ -2,14 +2,17 @@
 #![tactic(auto)]
 
 mod block;
+mod cutting;
 mod handle;
 mod iterator;
 mod list;
 mod manifest;
 mod order;
 mod run;
+mod run_data;
 mod table;
 mod tree;
+mod trees;
 mod view;
 
 pub use block::BlockMeta;
@@ -19,8 +22,10 @@ pub use list::{BlockList, RunList, SegmentList, SharedList, TableList, ViewList}
 pub use manifest::{Manifest, ManifestCore, VersionedManifest};
 pub use order::{are_in_bounds, are_strictly_ordered};
 pub use run::SortedRun;
+pub use run_data::{RunData, RunIterator};
 pub use table::TableData;
 pub use tree::{LsmTreeState, merge_from_writer};
+pub use trees::{Trees, TreesWithPrefix};
 pub use view::SsTableView;
 
 #[cfg(test)]

@@ -1,10 +1,13 @@
 //! Manifests: the trees of all segments, the floor and the tick.
 
-ghost use Rattle.std.specs.Prelude.{◌≡◌, ◌∷◌, option_map, find, bytes_eq, IfOk, IsOkUnless, OnOk, OnErr};
+ghost use Rattle.std.specs.Prelude.{◌≡◌, [], ◌∷◌, length, map, option_map, find, take_while, bytes_eq, IfOk, IsOkUnless, OnOk, OnErr};
 ghost use Rattle.std.specs.Option.{option_copied};
-ghost use Rattle.fleet_table.specs.Trees.{trees_with_prefix};
+ghost use Rattle.std.specs.List.{prefix_len};
+ghost use Rattle.std.specs.Ordering.{is_lt};
+ghost use Rattle.row_model.specs.Rows.{key_cmp};
+ghost use Rattle.fleet_table.specs.Trees.{flushed, tree_or_empty, trees_with_prefix};
 
-use crate::{LsmTreeState, SegmentList, SsTableView};
+use crate::{LsmTreeState, SegmentList, SsTableView, Trees, TreesWithPrefix};
 use bytes::Bytes;
 use fleet_rows::{Copies, SlateDBError};
 use std::alloc::{AllocError, Global};
@@ -33,6 +36,50 @@ impl ManifestCore {
         Some(&found.1)
     }
 
+    /// The trees, the root first and then by rising prefix.
+    pub fn trees(&self) -> Trees<'_>
+        ensures { result ≡ map (λ s. s.1) (trees_with_prefix self.now) }
+    {
+        Trees::new(&self.tree, self.segments.as_slice())
+    }
+
+    /// The trees with the prefixes of their segments. The root's prefix is empty.
+    pub fn trees_with_prefix(&self) -> TreesWithPrefix<'_>
+        ensures { result ≡ trees_with_prefix self.now }
+    {
+        TreesWithPrefix::new(&self.tree, self.segments.as_slice())
+    }
+
+    /// Puts a flush in front of its segment's tree, and sets the floor and the tick. `last_seq` is the greatest sequence of the
+    /// flushes with this one.
+    pub fn add_flush(
+        &mut self,
+        alloc: Global,
+        segment: &Bytes,
+        view: SsTableView,
+        last_seq: u64,
+        floor: u64,
+        tick: i64,
+    ) -> Result<(), SlateDBError>
+        ensures trees { OnOk result (trees_with_prefix self.new ≡ flushed segment.now view last_seq (trees_with_prefix self.old)) }
+        ensures floor { OnOk result (self.new.recent_snapshot_min_seq ≡ floor) }
+        ensures tick { OnOk result (self.new.last_l0_clock_tick ≡ tick) }
+        ensures err { OnErr result (self.new ≡ self.old) }
+        ensures memory { IsOkUnless result SlateDBError.Memory }
+    {
+        flush_tree(
+            alloc,
+            &mut self.tree,
+            &mut self.segments,
+            segment,
+            view,
+            last_seq,
+        )?;
+        self.recent_snapshot_min_seq = floor;
+        self.last_l0_clock_tick = tick;
+        Ok(())
+    }
+
     /// A copy, which shares the lists of the trees.
     pub fn clone(&self) -> Result<ManifestCore, SlateDBError>
         ensures copy { IfOk result (λ copy. copy ≡ self.now) }
@@ -50,6 +97,82 @@ fn found<'a>(
     ensures { option_copied result ≡ find (λ s. bytes_eq prefix.now s.0) segments.now }
 {
     segments.iter().find(|s| prefix == s.0.as_slice())
+}
+
+/// Puts a flush in front of the tree of its segment.
+fn flush_tree(
+    alloc: Global,
+    root: &mut LsmTreeState,
+    segments: &mut SegmentList,
+    prefix: &Bytes,
+    view: SsTableView,
+    last_seq: u64,
+) -> Result<(), SlateDBError>
+    ensures ok { OnOk result (([], root.new) ∷ segments.new ≡ flushed prefix.now view last_seq (([], root.old) ∷ segments.old)) }
+    ensures root { OnErr result (root.new ≡ root.old) }
+    ensures segments { OnErr result (segments.new ≡ segments.old) }
+    ensures memory { IsOkUnless result SlateDBError.Memory }
+{
+    if prefix.is_empty() {
+        root.add_l0(view, last_seq)
+    } else {
+        flush_segment(alloc, segments, prefix, view, last_seq)
+    }
+}
+
+/// Puts a flush in front of the tree of a segment other than the root.
+fn flush_segment(
+    alloc: Global,
+    segments: &mut SegmentList,
+    prefix: &Bytes,
+    view: SsTableView,
+    last_seq: u64,
+) -> Result<(), SlateDBError>
+    ensures ok { OnOk result (segments.new ≡ flushed prefix.now view last_seq segments.old) }
+    ensures err { OnErr result (segments.new ≡ segments.old) }
+    ensures memory { IsOkUnless result SlateDBError.Memory }
+{
+    let wanted = prefix.as_slice();
+    let place = segments_below(segments.as_slice(), wanted);
+    let (is_there, mut tree) = tree_or_empty(alloc, segments.get(place), wanted)?;
+    tree.add_l0(view, last_seq)?;
+    let segment = (prefix.clone()?, tree);
+    if is_there {
+        segments.replace(place, segment)
+    } else {
+        segments.insert(place, segment)
+    }
+}
+
+/// The tree of a segment where it has this prefix, and else an empty one.
+fn tree_or_empty(
+    alloc: Global,
+    segment: Option<&(Bytes, LsmTreeState)>,
+    prefix: &[u8],
+) -> Result<(bool, LsmTreeState), SlateDBError>
+    ensures tree { IfOk result (λ found. found ≡ tree_or_empty prefix.now (option_copied segment.entry)) }
+    ensures memory { IsOkUnless result SlateDBError.Memory }
+{
+    match segment {
+        Some(segment) if prefix == segment.0.as_slice() => Ok((true, segment.1.clone()?)),
+        _ => Ok((false, LsmTreeState::new(alloc))),
+    }
+}
+
+/// How many segments have a lesser prefix.
+fn segments_below(segments: &[(Bytes, LsmTreeState)], prefix: &[u8]) -> u64
+    ensures { result ≡ prefix_len (λ s. is_lt (key_cmp s.0 prefix.now)) segments.now }
+{
+    prefixes_below(segments, prefix) as u64
+}
+
+fn prefixes_below(segments: &[(Bytes, LsmTreeState)], prefix: &[u8]) -> usize
+    ensures { result ≡ length (take_while (λ s. is_lt (key_cmp s.0 prefix.now)) segments.now) }
+{
+    segments
+        .iter()
+        .take_while(|s| s.0.as_slice().cmp(prefix).is_lt())
+        .count()
 }
 
 /// A manifest, with the epoch of the coordinator that may put it.

@@ -1,7 +1,7 @@
 //! The tree of a segment.
 
-ghost use Rattle.std.specs.Prelude.{◌≡◌, ◌==◌, [], length, None, not, take_while, IfOk, IsOkUnless};
-ghost use Rattle.fleet_table.specs.Trees.{empty_tree, from_writer, newer_than};
+ghost use Rattle.std.specs.Prelude.{◌≡◌, ◌==◌, [], length, None, not, take_while, IfOk, IsOkUnless, OnErr, OnOk};
+ghost use Rattle.fleet_table.specs.Trees.{empty_tree, flushed_on, from_writer, newer_than};
 
 use crate::{RunList, SsTableView, ViewList};
 use fleet_rows::{Copies, SlateDBError, Ulid};
@@ -31,6 +31,17 @@ impl LsmTreeState {
             last_compacted_l0_sst_view_id: None,
             last_seq: None,
         }
+    }
+
+    /// Puts a flush in front, whose greatest sequence is `last_seq`.
+    pub(crate) fn add_l0(&mut self, view: SsTableView, last_seq: u64) -> Result<(), SlateDBError>
+        ensures ok { OnOk result (self.new ≡ flushed_on view last_seq self.old) }
+        ensures err { OnErr result (self.new ≡ self.old) }
+        ensures memory { IsOkUnless result SlateDBError.Memory }
+    {
+        self.l0.insert(0, view)?;
+        self.last_seq = Some(last_seq);
+        Ok(())
     }
 
     /// A copy.

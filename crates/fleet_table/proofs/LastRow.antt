@@ -1,0 +1,32 @@
+-- The last of some rows.
+use Rattle.std.proofs.Common.{◌≡◌, ◌≢◌, refl, ◌∙◌, ap, ℕ, ◌-◌, ◌+◌, List, [], ◌∷◌, length, arith}
+use Rattle.std.specs.Prelude.{slice_index_or}
+use Rattle.row_model.specs.Rows.{Row}
+use Rattle.fleet_model.specs.Handles.{seq_of_last}
+use Rattle.fleet_model.specs.Trees.{last_key}
+use Rattle.fleet_rows.specs.declared.row.RowEntry.{RowEntry}
+use Rattle.fleet_rows.specs.Row.{rows_of}
+
+at_next : (r q : RowEntry) (rows : List RowEntry) (d : RowEntry) → slice_index_or (r ∷ q ∷ rows) (length (q ∷ rows)) d ≡ slice_index_or (q ∷ rows) (length rows) d
+at_next r q rows d = refl
+
+key_from : (key : List ℕ) (r : RowEntry) (rows : List RowEntry) (d : RowEntry) → (slice_index_or (r ∷ rows) (length rows) d).key ≡ last_key key (rows_of (r ∷ rows))
+key_from key r [] d = refl
+key_from key r (q ∷ rows) d = ap (λ x. x.key) (at_next r q rows d) ∙ key_from r.key q rows d
+
+seq_from : (seq : ℕ) (r : RowEntry) (rows : List RowEntry) (d : RowEntry) → (slice_index_or (r ∷ rows) (length rows) d).seq ≡ seq_of_last seq (rows_of (r ∷ rows))
+seq_from seq r [] d = refl
+seq_from seq r (q ∷ rows) d = ap (λ x. x.seq) (at_next r q rows d) ∙ seq_from r.seq q rows d
+
+behind : (r : RowEntry) (rows : List RowEntry) (last : RowEntry) → last ≡ slice_index_or (r ∷ rows) (length (r ∷ rows) - 1) last → last ≡ slice_index_or (r ∷ rows) (length rows) last
+behind r rows last is =
+    let place : length (r ∷ rows) - 1 ≡ length rows = omega arith in
+    is ∙ ap (λ i. slice_index_or (r ∷ rows) i last) place
+
+pub key_at : (rows : List RowEntry) (last : RowEntry) → rows ≢ [] → last ≡ slice_index_or rows (length rows - 1) last → last.key ≡ last_key [] (rows_of rows)
+key_at [] last some is = absurd (some refl)
+key_at (r ∷ rows) last some is = ap (λ x. x.key) (behind r rows last is) ∙ key_from [] r rows last
+
+pub seq_at : (rows : List RowEntry) (last : RowEntry) → rows ≢ [] → last ≡ slice_index_or rows (length rows - 1) last → last.seq ≡ seq_of_last 0 (rows_of rows)
+seq_at [] last some is = absurd (some refl)
+seq_at (r ∷ rows) last some is = ap (λ x. x.seq) (behind r rows last is) ∙ seq_from 0 r rows last
