@@ -151,7 +151,7 @@ impl Fleet {
     {
         let reply = answer::done(alloc)?;
         let last_seq = greatest_seq(self.last_seq, rows.as_slice());
-        let data = TableData::from_rows(rows)?;
+        let data = TableData::from_rows(alloc, rows)?;
         let id = id_of_number(name);
         self.flushes.push_front(Table { id, data })?;
         self.last_name = name;

@@ -1,6 +1,6 @@
 //! The tables that a job writes of a flush.
 
-ghost use Rattle.std.specs.Prelude.{◌≡◌, ◌+◌, nat_lt, IfOk};
+ghost use Rattle.std.specs.Prelude.{◌≡◌, ◌+◌, false, nat_lt, IfOk};
 ghost use Rattle.std.specs.List.{AllByRecursion};
 ghost use Rattle.row_model.specs.Bounds.{IsInBounds};
 ghost use Rattle.row_model.specs.Sizes.{estimated_size};
@@ -15,8 +15,9 @@ ghost use Rattle.fleet_run.specs.Outputs.{all_rows_of, table_size};
 use crate::tables::Table;
 use fleet_fold::RetentionIterator;
 use fleet_iter::{RowEntryIterator, RowSource, ordered_rows_rise};
+use fleet_range::BytesRange;
 use fleet_rows::{ListOf, RowEntry, Settings, SlateDBError, Ulid};
-use fleet_table::TableData;
+use fleet_table::{TableData, TableIterator};
 use std::alloc::Global;
 use std::collections::VecDeque;
 use std::mem;
@@ -40,6 +41,13 @@ fn rows_left<T: RowSource>(alloc: Global, source: &mut T) -> Result<Vec<RowEntry
     Ok(rows)
 }
 
+/// All rows of a table.
+fn all_rows(table: &TableData) -> TableIterator<'_>
+    ensures { result ≡ record { left = table.now; broken = false } }
+{
+    table.iter(&BytesRange::unbounded())
+}
+
 /// What a job keeps of a table's rows.
 fn kept_rows(
     alloc: Global,
@@ -51,7 +59,7 @@ fn kept_rows(
 {
     ordered_rows_rise();
     let _rows = table.as_slice();
-    let mut iterator = RetentionIterator::new(alloc, table.iter(), settings);
+    let mut iterator = RetentionIterator::new(alloc, all_rows(table), settings);
     iterator.init(alloc)?;
     rows_left(alloc, &mut iterator)
 }
@@ -105,7 +113,7 @@ fn numbered(
     'rows: while let Some(rows) = rest.pop_front() {
         number = number.checked_add(1).ok_or(SlateDBError::Memory)?;
         let id = Ulid::from_parts(0, FIRST_DRAWN + number as u128);
-        let data = TableData::from_rows(rows.into_vec())?;
+        let data = TableData::from_rows(alloc, rows.into_vec())?;
         tables.push_back(Table { id, data })?;
     }
     Ok(tables)

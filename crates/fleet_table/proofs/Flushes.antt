@@ -1,6 +1,6 @@
 -- Where a flush finds its segment's tree, or makes it.
-use Rattle.std.proofs.Common.{◌≡◌, ◌≢◌, refl, sym, ◌∙◌, ap, subst, ℕ, suc, ◌+◌, List, [], ◌∷◌, ◌++◌, take, drop, Bool, true, false, cond, Option, Some, None, length, arith}
-use Rattle.std.specs.Prelude.{bytes_eq, ◌==◌, slice_get, slice_set, if◌then◌else◌}
+use Rattle.std.proofs.Common.{◌≡◌, ◌≢◌, refl, sym, ◌∙◌, ap, ℕ, suc, ◌+◌, List, [], ◌∷◌, ◌++◌, take, drop, Bool, true, false, cond, Option, length, arith}
+use Rattle.std.specs.Prelude.{bytes_eq, ◌==◌, slice_get, slice_set}
 use Rattle.std.specs.List.{prefix_len}
 use Rattle.std.specs.Ordering.{is_lt, ordering_reverse}
 use Rattle.std.specs.declared.cmp.Ordering.{Ordering}

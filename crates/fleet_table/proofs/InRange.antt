@@ -1,11 +1,11 @@
 -- The rows of a range among ordered rows: behind those before its start, those not behind its end.
-use Rattle.std.proofs.Common.{◌≡◌, refl, sym, ◌∙◌, ap, List, [], ◌∷◌, ◌&&◌, Bool, true, false, cond, ℕ, arith}
+use Rattle.std.proofs.Common.{◌≡◌, refl, sym, ◌∙◌, ap, List, [], ◌∷◌, ◌&&◌, Bool, true, false, cond, ℕ}
 use Rattle.std.specs.Prelude.{filter, not}
 use Rattle.std.specs.declared.cmp.Ordering.{Ordering}
 use Rattle.std.specs.declared.cmp.Ordering.TheVariants.{Less, Equal, Greater}
 use Rattle.std.specs.Ordering.{is_lt, is_gt, ordering_reverse}
 use Rattle.row_model.specs.Rows.{Row, key_cmp, row_cmp}
-use Rattle.row_model.specs.Ranges.{Bound, Range, Unbounded, Included, Excluded, is_after_start, is_before_end, is_in_range, rows_in}
+use Rattle.row_model.specs.Ranges.{Bound, Range, Unbounded, Included, Excluded, is_after_start, is_before_end, rows_in}
 use Rattle.row_laws.proofs.ApartRows.{below_too}
 use Rattle.std.proofs.lemmas.Cmp.{nat_list_cmp_total}
 use Rattle.row_laws.proofs.KeyRows.{up_to, up_to_too}

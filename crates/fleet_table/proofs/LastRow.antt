@@ -1,7 +1,6 @@
 -- The last of some rows.
-use Rattle.std.proofs.Common.{◌≡◌, ◌≢◌, refl, ◌∙◌, ap, ℕ, ◌-◌, ◌+◌, List, [], ◌∷◌, length, arith}
+use Rattle.std.proofs.Common.{◌≡◌, ◌≢◌, refl, ◌∙◌, ap, ℕ, ◌-◌, List, [], ◌∷◌, length, arith}
 use Rattle.std.specs.Prelude.{slice_index_or}
-use Rattle.row_model.specs.Rows.{Row}
 use Rattle.fleet_model.specs.Handles.{seq_of_last}
 use Rattle.fleet_model.specs.Trees.{last_key}
 use Rattle.fleet_rows.specs.declared.row.RowEntry.{RowEntry}

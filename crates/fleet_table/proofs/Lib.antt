@@ -6,3 +6,4 @@ pub mod BlockCuts
 pub mod LastRow
 pub mod Flushes
 pub mod SoughtRows
+pub mod ModelFlushes

@@ -70,12 +70,13 @@ module _ (key : List ℕ) (range : Range) where
       → new ≡ from_key key (rows_in range table) → IsSought new (take (length later - 1) (drop 1 later)) all
   sought_next left new later table d all sought none some is taken =
       let rest = take (length later - 1) (drop 1 later) in
-      let first = sought_first new (rows_in range table) rest taken in
-      (first.0,
-       first.1
-       ∙ ap (λ tables. from_key key (rows_of_tables range tables)) (sym (rest_is later table d some is))
-       ∙ ap (λ rows. from_key key (rows ++ rows_of_tables range later)) (sym none)
-       ∙ sought.1)
+      let first = sought_first new (rows_in range table) rest taken in (
+        first.0,
+        first.1
+            ∙ ap (λ tables. from_key key (rows_of_tables range tables)) (sym (rest_is later table d some is))
+            ∙ ap (λ rows. from_key key (rows ++ rows_of_tables range later)) (sym none)
+            ∙ sought.1,
+      )
 
   pub sought_last : (left : List Row) (later : List (List Row)) (all : List Row) → IsSought left later all → left ≢ [] → left ++ rows_of_tables range later ≡ from_key key all
   sought_last left later all sought some = sym (sought_all key left (rows_of_tables range later) some sought.0) ∙ sought.1

@@ -7,3 +7,4 @@ pub mod Views
 pub mod Sizes
 pub mod Run
 pub mod Trees
+pub mod Laws

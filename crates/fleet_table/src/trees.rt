@@ -25,10 +25,7 @@ impl<'a> Model for Trees<'a> {
 }
 
 impl<'a> Trees<'a> {
-    pub(crate) fn new(
-        root: &'a LsmTreeState,
-        segments: &'a [(Bytes, LsmTreeState)],
-    ) -> Trees<'a>
+    pub(crate) fn new(root: &'a LsmTreeState, segments: &'a [(Bytes, LsmTreeState)]) -> Trees<'a>
         ensures { result ≡ root.now ∷ map (λ s. s.1) segments.now }
     {
         Trees {

@@ -25,7 +25,7 @@ returns-then-is_there-clause-ok c =
     let at = c.segments_below-place.ensures ∙ ap (place_in c.as_slice-wanted.result.now view seq) c.as_slice.ensures ∙ ap (λ k. place_in k view seq segments) c.as_slice-wanted.ensures in
     let found = c.in_ok-is_there.ensures.tree ∙ ap (λ k. tree_or_empty k (option_copied c.get.result)) c.as_slice-wanted.ensures in
     let put = put_is prefix view seq segments place c.in_ok-is_there.is_there c.in_ok-is_there.tree tree (option_copied c.get.result) c.in_ok-clone.field-0
-        at c.get.ensures found c.in_ok-add_l0.ensures.ok c.in_ok-clone.ensures.cases in
+    at c.get.ensures found c.in_ok-add_l0.ensures.ok c.in_ok-clone.ensures.cases in
     on_ok_weaker c.replace.result (λ e. e ∙ sym (ap (λ there. put_at prefix view seq there place (c.in_ok-clone.field-0, tree) segments) c.if-is_there.true) ∙ put) c.replace.ensures.ok
 
 pub returns-else-is_there-clause-ok : goal.returns-else-is_there-clause-ok
@@ -39,5 +39,5 @@ returns-else-is_there-clause-ok c =
     let at = c.segments_below-place.ensures ∙ ap (place_in c.as_slice-wanted.result.now view seq) c.as_slice.ensures ∙ ap (λ k. place_in k view seq segments) c.as_slice-wanted.ensures in
     let found = c.in_ok-is_there.ensures.tree ∙ ap (λ k. tree_or_empty k (option_copied c.get.result)) c.as_slice-wanted.ensures in
     let put = put_is prefix view seq segments place c.in_ok-is_there.is_there c.in_ok-is_there.tree tree (option_copied c.get.result) c.in_ok-clone.field-0
-        at c.get.ensures found c.in_ok-add_l0.ensures.ok c.in_ok-clone.ensures.cases in
+    at c.get.ensures found c.in_ok-add_l0.ensures.ok c.in_ok-clone.ensures.cases in
     on_ok_weaker c.insert.result (λ e. e ∙ sym (ap (λ there. put_at prefix view seq there place (c.in_ok-clone.field-0, tree) segments) c.if-is_there.false) ∙ put) c.insert.ensures.ok

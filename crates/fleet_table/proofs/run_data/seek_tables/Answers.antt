@@ -19,7 +19,7 @@ tables-preserved c =
     let ended = c.has_ended.ensures.0 (subst IsTrue (sym c.tables-test.true) (search rules)) in
     let taken = ap (λ t. t.left) c.skip_to-in-tables.ensures ∙ ap (λ t. from_key key t.left) c.iter.ensures in
     let sought = sought_next key range c.tables.current.left c.skip_to-in-tables.new.self.left c.tables.later.now c.table-item.result c.table-item.result all
-        (c.tables.invariant.0, c.tables.invariant.1) ended.0 c.in-len1-up.len_at_least c.table-item.is taken in
+    (c.tables.invariant.0, c.tables.invariant.1) ended.0 c.in-len1-up.len_at_least c.table-item.is taken in
     (sought.0, sought.1, ap (λ t. t.broken) c.skip_to-in-tables.ensures ∙ ap (λ t. t.broken) c.iter.ensures)
 
 pub returns-after-tables-clause-rows : goal.returns-after-tables-clause-rows
