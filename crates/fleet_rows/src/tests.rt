@@ -84,6 +84,11 @@ fn lists(rt: HostRuntime) -> Result<(), Fail> {
         (5, (1 << 79) + 1, 6)
     );
     is_send_and_sync(lists);
+    let mut numbers = ListOf::from_vec(vec![in alloc; 1u64, 2, 4]?);
+    numbers.insert(2, 3)?;
+    numbers.insert(4, 6)?;
+    numbers.replace(4, 5);
+    assert_eq!(rt; numbers.as_slice(), [1, 2, 3, 4, 5].as_slice());
     Ok(())
 }
 

@@ -1,8 +1,15 @@
--- The last of some rows.
-use Rattle.std.proofs.Common.{◌≡◌, ◌≢◌, refl, ◌∙◌, ap, ℕ, ◌-◌, List, [], ◌∷◌, length, arith}
+-- The last of some rows, and the first.
+use Rattle.std.proofs.Common.{◌≡◌, ◌≢◌, refl, ◌∙◌, ap, ℕ, ◌-◌, ◌+◌, List, [], ◌∷◌, length, true, arith}
 use Rattle.std.specs.Prelude.{slice_index_or}
+use Rattle.std.specs.List.{AllByRecursion}
+use Rattle.std.specs.List.Sorted.{IsStrictlySortedBy}
+use Rattle.std.specs.declared.cmp.Ordering.{Ordering}
+use Rattle.std.specs.declared.cmp.Ordering.TheVariants.{Less, Equal, Greater}
+use Rattle.std.specs.Ordering.{is_le, nat_cmp, ordering_then}
+use Rattle.row_model.specs.Rows.{Row, key_cmp, row_cmp, IsStrictlyOrdered}
+use Rattle.row_laws.proofs.KeyRows.{key_alike}
 use Rattle.fleet_model.specs.Handles.{seq_of_last}
-use Rattle.fleet_model.specs.Trees.{last_key}
+use Rattle.fleet_model.specs.Trees.{first_key, last_key}
 use Rattle.fleet_rows.specs.declared.row.RowEntry.{RowEntry}
 use Rattle.fleet_rows.specs.Row.{rows_of}
 
@@ -29,3 +36,21 @@ key_at (r ∷ rows) last some is = ap (λ x. x.key) (behind r rows last is) ∙ 
 pub seq_at : (rows : List RowEntry) (last : RowEntry) → rows ≢ [] → last ≡ slice_index_or rows (length rows - 1) last → last.seq ≡ seq_of_last 0 (rows_of rows)
 seq_at [] last some is = absurd (some refl)
 seq_at (r ∷ rows) last some is = ap (λ x. x.seq) (behind r rows last is) ∙ seq_from 0 r rows last
+
+not_above : (r q : Row) → row_cmp r q ≡ Less → is_le (key_cmp r.key q.key) ≡ true
+not_above r q = by (key_cmp r.key q.key)
+  where
+    by : (o : Ordering) → ordering_then o (nat_cmp q.seq r.seq) ≡ Less → is_le o ≡ true
+    by Less h = refl
+    by Equal h = refl
+    by Greater h = absurd (cc h)
+
+up_to_last : (r : Row) (key : List ℕ) (rows : List Row) → is_le (key_cmp r.key key) ≡ true → AllByRecursion (λ q. row_cmp r q ≡ Less) rows → is_le (key_cmp r.key (last_key key rows)) ≡ true
+up_to_last r key [] h after = h
+up_to_last r key (q ∷ rows) h after = up_to_last r q.key rows (not_above r q after.0) after.1
+
+-- the first key is at most the last
+pub first_up_to_last : (rows : List Row) → rows ≢ [] → IsStrictlyOrdered rows → is_le (key_cmp (first_key rows) (last_key [] rows)) ≡ true
+unfolding IsStrictlySortedBy
+first_up_to_last [] some ordered = absurd (some refl)
+first_up_to_last (r ∷ rows) some ordered = up_to_last r r.key rows (ap is_le (key_alike r.key)) ordered.0

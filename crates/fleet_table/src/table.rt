@@ -1,12 +1,13 @@
 //! A table is its rows.
 
-ghost use Rattle.std.specs.Prelude.{◌≡◌, ◌≢◌, false, [], length, IfOk, IsOkUnless, option_map, slice_get};
+ghost use Rattle.std.specs.Prelude.{◌≡◌, ◌≢◌, false, true, [], length, IfOk, IsOkUnless, option_map, slice_get};
 ghost use Rattle.std.specs.Option.{option_copied};
+ghost use Rattle.std.specs.Ordering.{is_le};
 ghost use Rattle.std.specs.List.{AllByRecursion};
 ghost use Rattle.row_model.specs.Bounds.{IsInBounds};
 ghost use Rattle.row_model.specs.Ranges.{rows_in};
 ghost use Rattle.row_model.specs.Read.{seen_at};
-ghost use Rattle.row_model.specs.Rows.{rows_of_key, IsStrictlyOrdered};
+ghost use Rattle.row_model.specs.Rows.{key_cmp, rows_of_key, IsStrictlyOrdered};
 ghost use Rattle.row_model.specs.Sizes.{blocks};
 ghost use Rattle.fleet_model.specs.Handles.{describe, seq_of_last};
 ghost use Rattle.fleet_model.specs.Trees.{first_key, last_key};
@@ -102,10 +103,13 @@ impl TableData {
     /// The table's description under this id.
     pub fn describe(&self, id: Ulid) -> Result<SsTableHandle, SlateDBError>
         ensures handle { IfOk result (λ handle. handle_of handle ≡ describe id self.now) }
+        // So that a view can be made of it.
+        ensures keys { IfOk result (λ handle. is_le (key_cmp handle.first_key handle.last_key) ≡ true) }
         ensures memory { IsOkUnless result SlateDBError.Memory }
     {
-        let first = first_of(self.rows.as_slice());
-        let last = last_of(self.rows.as_slice());
+        let rows = self.rows.as_slice();
+        let first = first_of(rows);
+        let last = last_of(rows);
         Ok(SsTableHandle {
             id,
             first_key: first.key.clone()?,

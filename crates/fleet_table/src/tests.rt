@@ -62,10 +62,8 @@ fn seqs<T: RowEntryIterator>(alloc: Global, source: T) -> Result<Vec<u64>, Slate
 }
 
 fn view(alloc: Global, id: u64, told: &[Row]) -> Result<SsTableView, Fail> {
-    let handle = described(alloc, told, id)?;
-    if handle.first_key > handle.last_key {
-        return Err(Fail::from("keys that rise"));
-    }
+    let table = table(alloc, told)?;
+    let handle = table.describe(Ulid::from_parts(0, id as u128))?;
     Ok(SsTableView::identity(handle)?)
 }
 
