@@ -1,0 +1,6 @@
+pub mod Strides
+pub mod Sorting
+pub mod Sums
+pub mod Cuts
+pub mod Inputs
+pub mod Described

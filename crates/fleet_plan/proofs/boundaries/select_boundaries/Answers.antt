@@ -1,0 +1,29 @@
+use Rattle.std.proofs.Common.{◌≡◌, ◌∙◌, sym, subst, List, ℕ}
+use Rattle.std.specs.List.Sorted.{IsStrictlySortedBy}
+use Rattle.std.proofs.lemmas.Result.{IfOk-weaker}
+use Rattle.row_model.specs.Ranges.{Unbounded, ranges_from}
+use Rattle.row_model.specs.Rows.{key_cmp}
+use Rattle.row_laws.specs.Turns.{AreCut}
+use Rattle.fleet_plan.specs.Anchors.{anchors_of}
+use Rattle.fleet_plan.specs.Boundaries.{HoldEveryKeyOnce, ranges_of}
+use Rattle.fleet_plan.proofs.Cuts.{boundaries_rise, every_key_once}
+use Rattle.fleet_plan.proofs.boundaries.select_boundaries.Goals as goal
+
+pub ranges_between-requires : goal.ranges_between-requires
+ranges_between-requires c =
+    let rises = boundaries_rise (anchors_of c.args.anchors.items) c.args.max_subcompactions c.args.min_range_bytes in
+    subst (IsStrictlySortedBy key_cmp) (sym (c.deref.ensures.value ∙ c.in_ok-keys.ensures)) rises
+
+pub returns-clause-rising : goal.returns-clause-rising
+returns-clause-rising c =
+    let keys : List (List ℕ) = c.deref.result.now in
+    let rises = subst (IsStrictlySortedBy key_cmp) (sym (c.deref.ensures.value ∙ c.in_ok-keys.ensures)) (boundaries_rise (anchors_of c.args.anchors.items) c.args.max_subcompactions c.args.min_range_bytes) in
+    IfOk-weaker c.ranges_between.result (λ ranges. ranges_of ranges.items ≡ ranges_from Unbounded keys) (λ ranges. AreCut (ranges_of ranges.items))
+    (λ ranges are. record { keys = keys; rising = rises; are = are }) c.ranges_between.ensures.ranges
+
+pub returns-clause-every_key : goal.returns-clause-every_key
+returns-clause-every_key c =
+    let keys : List (List ℕ) = c.deref.result.now in
+    let rises = subst (IsStrictlySortedBy key_cmp) (sym (c.deref.ensures.value ∙ c.in_ok-keys.ensures)) (boundaries_rise (anchors_of c.args.anchors.items) c.args.max_subcompactions c.args.min_range_bytes) in
+    IfOk-weaker c.ranges_between.result (λ ranges. ranges_of ranges.items ≡ ranges_from Unbounded keys) (λ ranges. HoldEveryKeyOnce (ranges_of ranges.items))
+    (λ ranges are. subst HoldEveryKeyOnce (sym are) (every_key_once keys rises)) c.ranges_between.ensures.ranges

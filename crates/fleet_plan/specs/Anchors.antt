@@ -1,0 +1,16 @@
+-- Anchors as a program keeps them, seen as the model's.
+use Rattle.std.specs.Prelude.{ℕ, List, [], ◌∷◌, map}
+use Rattle.row_model.specs.Sizes.{Block}
+use Rattle.row_model.specs.Plan as model
+use Rattle.fleet_plan.specs.declared.anchor.Anchor.{Anchor}
+
+abbrev pub anchor_of : Anchor → model.Anchor
+anchor_of anchor = record { key = anchor.key; bytes = anchor.bytes }
+
+abbrev pub anchors_of : List Anchor → List model.Anchor
+anchors_of anchors = map anchor_of anchors
+
+-- where what is before these blocks ends: at the first of them, or at the end of all
+abbrev pub end_of : ℕ → List Block → ℕ
+end_of end [] = end
+end_of end (b ∷ bs) = b.offset

@@ -1,0 +1,4 @@
+pub mod Parts
+pub mod Anchors
+pub mod Boundaries
+pub mod Plans

@@ -1,0 +1,87 @@
+//! The ranges for a job over tables of which descriptions are kept.
+
+ghost use Rattle.std.specs.Prelude.{◌≡◌, ◌++◌, [], List, flat_map, map, max, IfOk, IsOkUnless, OnOk};
+ghost use Rattle.row_model.specs.Plan.{planned};
+ghost use Rattle.row_model.specs.Rows.{Row};
+ghost use Rattle.row_laws.specs.Turns.{AreCut};
+ghost use Rattle.fleet_table.specs.Views.{View};
+ghost use Rattle.fleet_plan.specs.Anchors.{anchors_of};
+ghost use Rattle.fleet_plan.specs.Boundaries.{HoldEveryKeyOnce, ranges_of};
+ghost use Rattle.fleet_plan.specs.Plans.{AreOfRows, greatest_view_size, planned_of, view_anchors, views_of};
+
+use crate::{Anchor, MAX_ANCHORS_PER_SST, sample_anchors, select_boundaries};
+use fleet_range::BytesRange;
+use fleet_rows::SlateDBError;
+use fleet_table::{SortedRun, SsTableView};
+use std::alloc::Global;
+
+/// The ranges of keys for the parts of a job over these flushes and runs, at most so many. Each but the last is meant to have
+/// the bytes of the greatest table at least. For one part the tables are not looked at.
+pub fn plan_subcompaction_ranges(
+    alloc: Global,
+    l0: &[SsTableView],
+    runs: &[SortedRun],
+    max_subcompactions: u64,
+) -> Result<Vec<BytesRange>, SlateDBError>
+    ensures ranges { IfOk result (λ ranges. ranges_of ranges.items ≡ planned_of max_subcompactions (views_of l0.now runs.now)) }
+    // Of tables with known rows these are the ranges of the definitions.
+    ensures planned { IfOk result (λ ranges. (rows : View → List Row) → AreOfRows rows (views_of l0.now runs.now) → ranges_of ranges.items ≡ planned max_subcompactions (map rows (views_of l0.now runs.now))) }
+    // They follow each other at rising keys.
+    ensures rising { IfOk result (λ ranges. AreCut (ranges_of ranges.items)) }
+    ensures every_key { IfOk result (λ ranges. HoldEveryKeyOnce (ranges_of ranges.items)) }
+    ensures memory { IsOkUnless result SlateDBError.Memory }
+{
+    if max_subcompactions <= 1 {
+        return select_boundaries(alloc, Vec::new(alloc), max_subcompactions, 0);
+    }
+    let mut inputs = Inputs::new(alloc);
+    inputs.add(alloc, l0)?;
+    'runs: for run in runs {
+        inputs.add(alloc, run.sst_views())?;
+    }
+    select_boundaries(
+        alloc,
+        inputs.anchors,
+        max_subcompactions,
+        inputs.greatest_size,
+    )
+}
+
+/// What is known of tables for a plan.
+#[derive(Drop)]
+struct Inputs {
+    anchors: Vec<Anchor>,
+    greatest_size: u64,
+}
+
+impl Inputs {
+    fn new(alloc: Global) -> Inputs
+        ensures anchors { result.anchors.items ≡ [] }
+        ensures greatest_size { result.greatest_size ≡ 0 }
+    {
+        Inputs {
+            anchors: Vec::new(alloc),
+            greatest_size: 0,
+        }
+    }
+
+    fn add(&mut self, alloc: Global, views: &[SsTableView]) -> Result<(), SlateDBError>
+        ensures anchors { OnOk result (anchors_of self.new.anchors.items ≡ anchors_of self.old.anchors.items ++ flat_map view_anchors views.now) }
+        ensures greatest_size { OnOk result (self.new.greatest_size ≡ max self.old.greatest_size (greatest_view_size views.now)) }
+        ensures memory { IsOkUnless result SlateDBError.Memory }
+    {
+        'views: for view in views {
+            let size = view.estimate_size();
+            let mut anchors = sample_anchors(
+                alloc,
+                view.sst.blocks.as_slice(),
+                size,
+                MAX_ANCHORS_PER_SST,
+                view.compacted_effective_range(),
+            )?;
+            self.anchors.append(&mut anchors)?;
+            self.greatest_size = self.greatest_size.max(size);
+        }
+        Ok(())
+    }
+}

@@ -1,0 +1,94 @@
+//! One range of a job.
+
+ghost use Rattle.std.specs.Prelude.{◌≡◌, [], IfOk, IsOkUnless};
+ghost use Rattle.row_model.specs.Lists.{IsPrefixOf};
+
+use fleet_range::BytesRange;
+use fleet_rows::{Copies, SlateDBError};
+use fleet_table::{SsTableHandle, TableList};
+use std::alloc::{AllocError, Global};
+use std::marker::Model;
+
+/// The keys of a job that are made together, and the tables that were written of them so far. Contracts see both.
+#[derive(Debug, Drop, PartialEq, Eq)]
+pub struct Subcompaction {
+    range: BytesRange,
+    output_ssts: TableList,
+}
+
+impl Model for Subcompaction {
+    ghost use Rattle.fleet_plan.specs.Parts.{Part};
+
+    ghost Value = { Part };
+
+    ghost view = { λ s. record { range = s.range; output_ssts = s.output_ssts } };
+
+    ghost inverse = { λ v. record { range = v.range; output_ssts = v.output_ssts } };
+}
+
+impl Subcompaction {
+    /// A range of which no table is written yet.
+    pub fn new(alloc: Global, range: BytesRange) -> Subcompaction
+        ensures { result ≡ record { range = range; output_ssts = [] } }
+    {
+        Subcompaction {
+            range,
+            output_ssts: TableList::new(alloc),
+        }
+    }
+
+    /// The same range with these tables.
+    pub fn with_output_ssts(self, output_ssts: TableList) -> Subcompaction
+        ensures { result ≡ record { range = self.range; output_ssts = output_ssts } }
+    {
+        let Subcompaction { range, .. } = self;
+        Subcompaction { range, output_ssts }
+    }
+
+    /// The keys.
+    pub fn range(&self) -> &BytesRange
+        ensures { result.now ≡ self.now.range }
+    {
+        &self.range
+    }
+
+    /// The tables that were written so far, by rising key.
+    pub fn output_ssts(&self) -> &[SsTableHandle]
+        ensures { result.now ≡ self.now.output_ssts }
+    {
+        self.output_ssts.as_slice()
+    }
+
+    /// Puts a longer list of tables in the place of the one that begins it.
+    pub fn set_output_ssts(&mut self, output_ssts: TableList)
+        requires { IsPrefixOf self.old.output_ssts output_ssts }
+        ensures { self.new ≡ record { range = self.old.range; output_ssts = output_ssts } }
+    {
+        self.output_ssts = output_ssts;
+    }
+
+    /// A copy, which shares the list of tables.
+    pub fn clone(&self) -> Result<Subcompaction, SlateDBError>
+        ensures copy { IfOk result (λ copy. copy ≡ self.now) }
+        ensures memory { IsOkUnless result SlateDBError.Memory }
+    {
+        Ok(Clone::clone(self)?)
+    }
+}
+
+impl Clone for Subcompaction {
+    ghost is_clone = { λ s copy. copy ≡ s };
+
+    fn clone(&self) -> Result<Subcompaction, AllocError> {
+        Ok(Subcompaction {
+            range: Clone::clone(&self.range)?,
+            output_ssts: Clone::clone(&self.output_ssts)?,
+        })
+    }
+}
+
+impl Copies for Subcompaction {
+    fn copied(&self) -> Result<Subcompaction, AllocError> {
+        Clone::clone(self)
+    }
+}
