@@ -1,5 +1,5 @@
 -- The keys at which ranges begin: they rise, and each key lies in one of the ranges.
-use Rattle.std.proofs.Common.{◌≡◌, refl, sym, ◌∙◌, ap, subst, ℕ, ◌+◌, ◌/◌, cond, Bool, true, false, not, ◌&&◌, List, [], ◌∷◌, ◌++◌, length, arith}
+use Rattle.std.proofs.Common.{◌≡◌, ◌<◌, ◌≤◌, refl, sym, ◌∙◌, ap, subst, ℕ, ◌+◌, ◌/◌, cond, Bool, true, false, not, ◌&&◌, List, [], ◌∷◌, ◌++◌, length, arith}
 use Rattle.std.specs.Prelude.{◌||◌, ◌==◌, nat_le, nat_lt, max, sum_by, filter}
 use Rattle.std.specs.List.Sorted.{IsStrictlySortedBy}
 use Rattle.std.specs.declared.cmp.Ordering.{Ordering}
@@ -8,12 +8,13 @@ use Rattle.std.specs.declared.ops.Bound.{Bound}
 use Rattle.std.specs.declared.ops.Bound.TheVariants.{Included, Excluded, Unbounded}
 use Rattle.std.specs.Ordering.{is_lt, is_gt, ordering_reverse}
 use Rattle.std.proofs.lemmas.Cmp.{nat_list_cmp_total}
+use Rattle.std.proofs.lemmas.Grind.{common_steps}
 use Rattle.std.proofs.lemmas.List.{append_assoc, map-append}
 use Rattle.row_model.specs.Rows.{key_cmp}
 use Rattle.row_model.specs.Ranges.{Range, is_after_start, is_in_range, ranges_from}
 use Rattle.row_model.specs.Ranges as model
 use Rattle.row_model.specs.Sizes.{saturated}
-use Rattle.row_model.specs.Plan.{Anchor, anchors_by_key, cut_anchors, cuts, select_boundaries, smallest_key}
+use Rattle.row_model.specs.Plan.{Anchor, anchors_by_key, cut_anchors, cuts, smallest_key}
 use Rattle.row_laws.proofs.ApartRows.{lt_is}
 use Rattle.row_laws.proofs.Elements.{all_weaken}
 use Rattle.fleet_range.specs.Keys.{model_bound, range_of}
@@ -25,6 +26,22 @@ abbrev pub RiseFrom : Bound (List ℕ) → List (List ℕ) → Type 0
 RiseFrom Unbounded keys = IsStrictlySortedBy key_cmp keys
 RiseFrom (Included key) keys = IsStrictlySortedBy key_cmp (key ∷ keys)
 RiseFrom (Excluded key) keys = ⊥
+
+-- there are none, or the cuts of some target
+either : (P : List (List ℕ) → Type 0) (anchors : List Anchor) (most least : ℕ) → P [] → ((target : ℕ) → 0 < most → P (cut_anchors most target (anchors_by_key anchors))) → P (boundary_keys anchors most least)
+either P anchors most least none some = by (nat_le most 1) (target == 0) (nat_le total target) refl
+  where
+    total : ℕ
+    total = saturated (sum_by (λ (a : Anchor). a.bytes) anchors)
+
+    target : ℕ
+    target = max (total / most) least
+
+    by : (one empty small : Bool) → nat_le most 1 ≡ one → P (cond (one || empty || small) [] (cut_anchors most target (anchors_by_key anchors)))
+    by true empty small e = none
+    by false true small e = none
+    by false false true e = none
+    by false false false e = some target (grind (arith, common_steps))
 
 -- ---- they rise
 
@@ -48,34 +65,37 @@ cut_rises most target standing before threshold last (a ∷ anchors) =
 
 pub boundaries_rise : (anchors : List Anchor) (most least : ℕ) → IsStrictlySortedBy key_cmp (boundary_keys anchors most least)
 unfolding IsStrictlySortedBy
-boundaries_rise anchors most least = by (nat_le most 1 || target == 0 || nat_le total target)
+boundaries_rise anchors most least = either (IsStrictlySortedBy key_cmp) anchors most least tt (λ target room. (cut_rises most target 0 0 target (smallest_key (anchors_by_key anchors)) (anchors_by_key anchors)).1)
+
+-- ---- there are at most so many
+
+cuts_few : (most target standing before threshold : ℕ) (last : List ℕ) (anchors : List Anchor) → standing < most → standing + length (cuts most target standing before threshold last anchors) < most
+cuts_few most target standing before threshold last [] room = omega (arith, room)
+cuts_few most target standing before threshold last (a ∷ anchors) room =
+    by (nat_le threshold before) (nat_lt (standing + 1) most) (is_lt (key_cmp last a.key)) _ _
+    (λ e. cuts_few most target (standing + 1) (saturated (before + a.bytes)) (saturated (threshold + target)) a.key anchors (grind (arith, common_steps)))
+    (cuts_few most target standing (saturated (before + a.bytes)) threshold last anchors room)
   where
-    total : ℕ
-    total = saturated (sum_by (λ (a : Anchor). a.bytes) anchors)
+    by : (reached more above : Bool) (opened same : List (List ℕ)) → (more ≡ true → standing + 1 + length opened < most) → standing + length same < most
+        → standing + length (cond (reached && more && above) (a.key ∷ opened) same) < most
+    by true true true opened same new old =
+        let fits = new refl in
+        omega (arith, fits)
+    by true true false opened same new old = old
+    by true false above opened same new old = old
+    by false more above opened same new old = old
 
-    target : ℕ
-    target = max (total / most) least
+ranges_count : (start : model.Bound) (keys : List (List ℕ)) → length (ranges_from start keys) ≡ length keys + 1
+ranges_count start [] = refl
+ranges_count start (key ∷ keys) =
+    let rest = ranges_count (model.Included key) keys in
+    omega (arith, rest)
 
-    by : (b : Bool) → IsStrictlySortedBy key_cmp (cond b [] (cut_anchors most target (anchors_by_key anchors)))
-    by true = tt
-    by false = (cut_rises most target 0 0 target (smallest_key (anchors_by_key anchors)) (anchors_by_key anchors)).1
-
--- the definition's ranges are those between these keys
-pub boundaries_are : (anchors : List Anchor) (most least : ℕ) → ranges_from model.Unbounded (boundary_keys anchors most least) ≡ select_boundaries anchors most least
-boundaries_are anchors most least = by (nat_le most 1 || target == 0 || nat_le total target)
-  where
-    total : ℕ
-    total = saturated (sum_by (λ (a : Anchor). a.bytes) anchors)
-
-    target : ℕ
-    target = max (total / most) least
-
-    keys : List (List ℕ)
-    keys = cut_anchors most target (anchors_by_key anchors)
-
-    by : (b : Bool) → ranges_from model.Unbounded (cond b [] keys) ≡ cond b (ranges_from model.Unbounded []) (ranges_from model.Unbounded keys)
-    by true = refl
-    by false = refl
+pub few_ranges : (anchors : List Anchor) (most least : ℕ) → length (ranges_from model.Unbounded (boundary_keys anchors most least)) ≤ max most 1
+few_ranges anchors most least = either (λ keys. length (ranges_from model.Unbounded keys) ≤ max most 1) anchors most least (omega arith) (λ target room.
+    let few = cuts_few most target 0 0 target (smallest_key (anchors_by_key anchors)) (anchors_by_key anchors) room in
+    let count = ranges_count model.Unbounded (cut_anchors most target (anchors_by_key anchors)) in
+    omega (arith, few, count))
 
 -- ---- each key lies in one of the ranges
 

@@ -1,6 +1,6 @@
 //! Where keys are cut so that each range has about as many bytes.
 
-ghost use Rattle.std.specs.Prelude.{◌≡◌, ◌+◌, sum_by, IfOk, IsOkUnless};
+ghost use Rattle.std.specs.Prelude.{◌≡◌, ◌≤◌, ◌+◌, length, max, sum_by, IfOk, IsOkUnless};
 ghost use Rattle.std.specs.List.Sorted.{IsStrictlySortedBy};
 ghost use Rattle.row_model.specs.Plan.{anchors_by_key, cut_anchors, select_boundaries};
 ghost use Rattle.row_model.specs.Ranges.{Unbounded, ranges_from};
@@ -17,8 +17,8 @@ use fleet_rows::SlateDBError;
 use std::alloc::{AllocError, Global};
 use std::ops::Bound;
 
-/// The ranges of keys for the parts of a job, at most so many. Each is meant to have an equal share of the anchors' bytes, and
-/// `min_range_bytes` at least; the last one may have fewer.
+/// The ranges of keys for the parts of a job. Each is meant to have an equal share of the anchors' bytes, and `min_range_bytes` at
+/// least; the last one may have fewer.
 pub fn select_boundaries(
     alloc: Global,
     anchors: Vec<Anchor>,
@@ -26,6 +26,7 @@ pub fn select_boundaries(
     min_range_bytes: u64,
 ) -> Result<Vec<BytesRange>, SlateDBError>
     ensures ranges { IfOk result (λ ranges. ranges_of ranges.items ≡ select_boundaries (anchors_of anchors.items) max_subcompactions min_range_bytes) }
+    ensures at_most { IfOk result (λ ranges. length ranges.items ≤ max max_subcompactions 1) }
     // They follow each other at rising keys.
     ensures rising { IfOk result (λ ranges. AreCut (ranges_of ranges.items)) }
     ensures every_key { IfOk result (λ ranges. HoldEveryKeyOnce (ranges_of ranges.items)) }

@@ -1,6 +1,6 @@
 //! The ranges for a job over tables of which descriptions are kept.
 
-ghost use Rattle.std.specs.Prelude.{◌≡◌, ◌++◌, [], List, flat_map, map, max, IfOk, IsOkUnless, OnOk};
+ghost use Rattle.std.specs.Prelude.{◌≡◌, ◌≤◌, ◌++◌, [], List, flat_map, length, map, max, IfOk, IsOkUnless, OnOk};
 ghost use Rattle.row_model.specs.Plan.{planned};
 ghost use Rattle.row_model.specs.Rows.{Row};
 ghost use Rattle.row_laws.specs.Turns.{AreCut};
@@ -15,8 +15,8 @@ use fleet_rows::SlateDBError;
 use fleet_table::{SortedRun, SsTableView};
 use std::alloc::Global;
 
-/// The ranges of keys for the parts of a job over these flushes and runs, at most so many. Each but the last is meant to have
-/// the bytes of the greatest table at least. For one part the tables are not looked at.
+/// The ranges of keys for the parts of a job over these flushes and runs. Each but the last is meant to have the bytes of the
+/// greatest table at least. For one part the tables are not looked at.
 pub fn plan_subcompaction_ranges(
     alloc: Global,
     l0: &[SsTableView],
@@ -26,6 +26,7 @@ pub fn plan_subcompaction_ranges(
     ensures ranges { IfOk result (λ ranges. ranges_of ranges.items ≡ planned_of max_subcompactions (views_of l0.now runs.now)) }
     // Of tables with known rows these are the ranges of the definitions.
     ensures planned { IfOk result (λ ranges. (rows : View → List Row) → AreOfRows rows (views_of l0.now runs.now) → ranges_of ranges.items ≡ planned max_subcompactions (map rows (views_of l0.now runs.now))) }
+    ensures at_most { IfOk result (λ ranges. length ranges.items ≤ max max_subcompactions 1) }
     // They follow each other at rising keys.
     ensures rising { IfOk result (λ ranges. AreCut (ranges_of ranges.items)) }
     ensures every_key { IfOk result (λ ranges. HoldEveryKeyOnce (ranges_of ranges.items)) }
