@@ -5,7 +5,7 @@ use crate::{
     are_strictly_ordered, merge_from_writer,
 };
 use bytes::Bytes;
-use fleet_iter::RowEntryIterator;
+use fleet_iter::{RowEntryIterator, ordered_rows_rise};
 use fleet_range::BytesRange;
 use fleet_rows::{RowEntry, SlateDBError, Ulid, ValueDeletable};
 use std::alloc::Global;
@@ -138,6 +138,47 @@ fn reads_ranges_of_a_run(rt: HostRuntime) -> Result<(), Fail> {
         assert_eq!(rt; given.as_slice(), wanted, "from {start:?} to {end:?}");
     }
     assert_eq!(rt; run.tables().len(), 3);
+    Ok(())
+}
+
+#[test]
+fn reads_versions_over_tables(rt: HostRuntime) -> Result<(), Fail> {
+    let alloc = rt.alloc();
+    let whole = table(alloc, &VERSIONS)?;
+    assert_eq!(rt;
+        table_seqs(alloc, &whole, b"*", b"*")?.as_slice(),
+        [5, 4, 3, 2, 1].as_slice()
+    );
+    let run = run(alloc, &[&VERSIONS[..2], &VERSIONS[2..3]])?;
+    assert_eq!(rt;
+        run_seqs(alloc, &run, b"*", b"*")?.as_slice(),
+        [5, 4, 3].as_slice()
+    );
+    Ok(())
+}
+
+// The rows of a run of one table from a key on.
+fn sought(alloc: Global, told: &[Row], key: &[u8]) -> Result<Vec<u64>, Fail> {
+    ordered_rows_rise();
+    let table = table(alloc, told)?;
+    let _rows = table.as_slice();
+    let mut run = RunData::new(alloc);
+    run.push(table)?;
+    let all = BytesRange::unbounded();
+    let mut rows = RunIterator::new(&run, &all);
+    rows.seek(alloc, key)?;
+    Ok(seqs(alloc, rows)?)
+}
+
+#[test]
+fn seeks_in_a_run(rt: HostRuntime) -> Result<(), Fail> {
+    let alloc = rt.alloc();
+    assert_eq!(rt;
+        sought(alloc, &KEYS, b"c")?.as_slice(),
+        [9, 4, 1].as_slice()
+    );
+    assert_eq!(rt; sought(alloc, &KEYS, b"d")?.as_slice(), [1].as_slice());
+    assert!(rt; sought(alloc, &KEYS, b"f")?.is_empty());
     Ok(())
 }
 
