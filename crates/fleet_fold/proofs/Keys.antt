@@ -178,11 +178,3 @@ module _ (key : List ℕ) where
           → (if c then from_key key (xs ++ ys) else x ∷ (xs ++ ys)) ≡ (if c then from_key key xs else x ∷ xs) ++ ys
       by true e rest = rest e
       by false e rest = refl
-
-  pub rising_rest : (rows : List Row) → AreRising rows → AreRising (from_key key rows)
-  rising_rest [] rising = tt
-  rising_rest (r ∷ rows) rising = by (is_below key r) (rising_rest rows rising.1)
-    where
-      by : (c : Bool) → AreRising (from_key key rows) → AreRising (if c then from_key key rows else r ∷ rows)
-      by true rest = rest
-      by false rest = rising

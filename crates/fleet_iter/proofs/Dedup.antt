@@ -1,14 +1,17 @@
 -- Rows that are kept back, and rows that a seek drops.
-use Rattle.std.proofs.Common.{◌≡◌, ◌∙◌, sym, refl, ap, ℕ, List, [], ◌∷◌, ◌&&◌, not, Option, Some, None, Ok, Bool, true, false, cond}
+use Rattle.std.proofs.Common.{◌≡◌, ◌∙◌, sym, refl, ap, subst, ℕ, List, [], ◌∷◌, ◌&&◌, not, Option, Some, None, Ok, Bool, true, false, cond}
 use Rattle.std.specs.Ordering.{is_lt}
 use Rattle.std.proofs.lemmas.Slice.Eq.{bytes_eq-Decides}
 use Rattle.row_model.specs.Rows.{Row, key_cmp, same_key, is_operand}
 use Rattle.row_laws.specs.Keys.{is_below}
 use Rattle.fleet_rows.specs.Row.{row_of}
 use Rattle.fleet_rows.specs.declared.row.RowEntry.{RowEntry}
-use Rattle.fleet_iter.specs.Iteration.{IteratorState, from_key, Seeks, without_first}
+use Rattle.fleet_iter.specs.Iteration.{IteratorState, AreRising, from_key, Moves, Seeks, without_first}
 use Rattle.fleet_iter.specs.declared.iterator.IterationOrder.{IterationOrder}
-use Rattle.fleet_iter.specs.Merge.{hides, given_behind, deduplicated, given, merged_left, Takes, Skips, merging}
+use Rattle.fleet_iter.specs.declared.iterator.IterationOrder.TheVariants.{Ascending, Descending}
+use Rattle.fleet_iter.proofs.RisingRows.{moves_on}
+use Rattle.fleet_iter.proofs.RisingMerges.{rising_given_too}
+use Rattle.fleet_iter.specs.Merge.{hides, given_behind, deduplicated, given, merged_left, are_whole, is_told, Takes, Skips, SkipsTo, merging}
 
 -- what a row keeps back is skipped, and from there on all goes as from a first row
 pub given_behind_skipped : (r : Row) (rows : List Row) → given_behind r rows ≡ deduplicated (without_first (hides r) rows)
@@ -85,12 +88,28 @@ seek_given true key rows = ap deduplicated (sym (from_key_skipped key rows)) ∙
 seek_given false key rows = sym (from_key_skipped key rows)
 
 -- what a seek leaves
-pub seeks : (key : List ℕ) (order : IterationOrder) (dedup initialised failed : Bool) (hs hs' : List (Option RowEntry)) (ss ss' : List IteratorState) → initialised ≡ true → failed ≡ false → Skips order (is_below key) hs ss hs' ss'
-    → Seeks key (merging order dedup initialised failed hs ss) (merging order dedup initialised failed hs' ss') (Ok tt)
-seeks key order dedup initialised failed hs hs' ss ss' begun alive s =
-    let rows : given dedup (merged_left order hs' ss') ≡ from_key key (given dedup (merged_left order hs ss)) = ap (given dedup) s.rows ∙ seek_given dedup key (merged_left order hs ss) in
-    record {
-      failed = λ h. let clash : true ≡ false = sym h ∙ alive in absurd (cc clash);
-      uninitialised = λ _ h. let clash : true ≡ false = sym begun ∙ h in absurd (cc clash);
-      answers = λ _ _. cc (rows, s.whole);
-    }
+module _ (key : List ℕ) (dedup initialised failed : Bool) (hs hs' : List (Option RowEntry)) (ss ss' : List IteratorState) where
+  abbrev state : IterationOrder → List (Option RowEntry) → List IteratorState → IteratorState
+  state order heads sources = merging order dedup initialised failed heads sources
+
+  told : (order : IterationOrder) → Skips order (is_below key) hs ss hs' ss' → state order hs' ss' ≡ record (state order hs ss) { rows = from_key key (state order hs ss).rows }
+  told order s =
+      let rows : given dedup (merged_left order hs' ss') ≡ from_key key (given dedup (merged_left order hs ss)) = ap (given dedup) s.rows ∙ seek_given dedup key (merged_left order hs ss) in
+      cc (rows, s.whole)
+
+  moves : (order : IterationOrder) (whole : Bool) → are_whole ss ≡ whole → AreRising (state order hs ss).rows → SkipsTo (is_told order whole) order key hs ss hs' ss' → Moves (are_whole ss) key (state order hs ss) (state order hs' ss')
+  moves Ascending true e rising s = moves_on key (state Ascending hs ss) (state Ascending hs' ss') rising (told Ascending s)
+  moves Ascending false e rising s = subst (λ b. Moves b key (state Ascending hs ss) (state Ascending hs' ss')) (sym e) (record { initialised = refl; failed = refl; rising = rising_given_too dedup (merged_left Ascending hs' ss') s.1 })
+  moves Descending whole e rising s = moves_on key (state Descending hs ss) (state Descending hs' ss') rising (told Descending s)
+
+  pub seeks : (order : IterationOrder) → initialised ≡ true → failed ≡ false → AreRising (state order hs ss).rows → SkipsTo (is_told order (are_whole ss)) order key hs ss hs' ss' → Seeks key (state order hs ss) (state order hs' ss') (Ok tt)
+  seeks order begun alive rising s = record {
+    failed = λ h. let clash : true ≡ false = sym h ∙ alive in absurd (cc clash);
+    uninitialised = λ _ h. let clash : true ≡ false = sym begun ∙ h in absurd (cc clash);
+    answers = λ _ _. moves order (are_whole ss) refl rising s;
+  }
+
+  -- of a whole merge all rows are told
+  pub seeks_all : (order : IterationOrder) → are_whole ss ≡ true → SkipsTo (is_told order (are_whole ss)) order key hs ss hs' ss' → merged_left order hs' ss' ≡ from_key key (merged_left order hs ss)
+  seeks_all Ascending e s = (subst (λ b. SkipsTo b Ascending key hs ss hs' ss') e s).rows ∙ sym (from_key_skipped key (merged_left Ascending hs ss))
+  seeks_all Descending e s = s.rows ∙ sym (from_key_skipped key (merged_left Descending hs ss))

@@ -235,7 +235,7 @@ taken_at (h ∷ hs) (r ∷ ss) a zero lt s is = (h, subst (IsTaken h) (sym is) a
 taken_at (h ∷ hs) (r ∷ ss) a (suc k) lt s is = taken_at hs ss a.1 k (omega arith) s is
 
 -- all are whole where one is, so what a source refuses with, a merge may
-one_whole : (ss : List IteratorState) (k : ℕ) (s : IteratorState) → k < length ss → s ≡ get_or ss k s → are_whole ss ≡ true → s.whole ≡ true
+pub one_whole : (ss : List IteratorState) (k : ℕ) (s : IteratorState) → k < length ss → s ≡ get_or ss k s → are_whole ss ≡ true → s.whole ≡ true
 one_whole [] k s lt is all = absurd (omega arith)
 one_whole (r ∷ ss) zero s lt is all = ap (λ (z : IteratorState). z.whole) is ∙ first r.whole all
   where

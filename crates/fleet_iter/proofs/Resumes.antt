@@ -1,5 +1,5 @@
 -- Ordered rows behind a cursor.
-use Rattle.std.proofs.Common.{◌≡◌, ◌∙◌, sym, refl, ap, ℕ, ◌<◌, ◌≤◌, List, [], ◌∷◌, ◌&&◌, not, Bool, true, false, cond, arith}
+use Rattle.std.proofs.Common.{◌≡◌, ◌∙◌, sym, refl, ap, subst, Some, ℕ, ◌<◌, ◌≤◌, List, [], ◌∷◌, ◌&&◌, not, Bool, true, false, cond, Option, arith}
 use Rattle.std.specs.Prelude.{filter, bytes_eq, nat_le}
 use Rattle.std.specs.List.{AllByRecursion}
 use Rattle.std.specs.List.Sorted.{IsStrictlySortedBy}
@@ -16,8 +16,9 @@ use Rattle.row_laws.specs.Resume.{Cursor}
 use Rattle.row_laws.proofs.ApartRows.{below_too, false_or, filter_all, passes, ordered_filter}
 use Rattle.row_laws.proofs.Elements.{all_weaken}
 use Rattle.row_laws.proofs.KeyRows.{exact}
-use Rattle.fleet_iter.specs.Iteration.{from_key, without_first}
-use Rattle.fleet_iter.specs.Resume.{is_written, ResumesBehind}
+use Rattle.fleet_iter.specs.Iteration.{IteratorState, AreRising, Moves, from_key, without_first}
+use Rattle.fleet_iter.specs.Resume.{is_written, Resumes, ResumesBehind}
+use Rattle.fleet_iter.proofs.RisingRows.{rising_without}
 use Rattle.fleet_iter.proofs.Dedup.{from_key_skipped}
 
 -- each row that passes has only such before it
@@ -81,3 +82,15 @@ resumes_behind c rows ordered =
     let from : from_key c.0 rows ≡ filter (is_from c.0) rows = from_key_skipped c.0 rows ∙ first_are_filtered (is_below c.0) rows (below_first c.0 rows ordered) in
     ap (without_first (is_written c)) from
     ∙ first_are_filtered (is_written c) (filter (is_from c.0) rows) (written_first c (filter (is_from c.0) rows) (ordered_filter (is_from c.0) rows ordered) (passes (is_from c.0) rows))
+
+-- what is left behind a cursor, of rows that were sought
+pub resumes : (whole : Bool) (c : Cursor) (old sought new : IteratorState) → Moves whole c.0 old sought → new ≡ record sought { rows = without_first (is_written c) sought.rows } → Resumes whole (Some c) old new
+resumes true c old sought new m e = e ∙ ap (λ (s : IteratorState). record s { rows = without_first (is_written c) s.rows }) m
+resumes false c old sought new m e = record {
+  initialised = ap (λ (s : IteratorState). s.initialised) e ∙ m.initialised;
+  failed = ap (λ (s : IteratorState). s.failed) e ∙ m.failed;
+  rising = subst AreRising (sym (ap (λ (s : IteratorState). s.rows) e)) (rising_without (is_written c) sought.rows m.rising);
+}
+
+pub resumes_at : (whole : Bool) (cursor : Option Cursor) (c : Cursor) (key : List ℕ) (old sought new : IteratorState) → cursor ≡ Some c → key ≡ c.0 → Moves whole key old sought → new ≡ record sought { rows = without_first (is_written c) sought.rows } → Resumes whole cursor old new
+resumes_at whole cursor c key old sought new is same m e = subst (λ w. Resumes whole w old new) (sym is) (resumes whole c old sought new (subst (λ (w : List ℕ). Moves whole w old sought) same m) e)

@@ -9,7 +9,7 @@ use Rattle.row_model.specs.Rows.{Row, key_cmp}
 use Rattle.row_laws.proofs.Elements.{all_weaken}
 use Rattle.fleet_iter.specs.Iteration.{AreRising}
 use Rattle.fleet_iter.specs.declared.iterator.IterationOrder.TheVariants.{Ascending}
-use Rattle.fleet_iter.specs.Merge.{merge_two, merge_into, merged, goes_first, hides, given_behind, deduplicated, MergesRise}
+use Rattle.fleet_iter.specs.Merge.{merge_two, merge_into, merged, goes_first, hides, given_behind, deduplicated, given, MergesRise}
 use Rattle.fleet_iter.proofs.RisingRows.{not_after_too}
 use Rattle.fleet_iter.proofs.MergedRows.{all_into, all_merged}
 
@@ -51,7 +51,7 @@ rising_two : (xs ys : List Row) → AreRising xs → AreRising ys → AreRising 
 rising_two [] ys h g = g
 rising_two (x ∷ xs) ys h g = rising_into x xs ys h.0 (λ zs k. rising_two xs zs h.1 k) g
 
-rising_merged : (ls : List (List Row)) → AllByRecursion AreRising ls → AreRising (merged Ascending ls)
+pub rising_merged : (ls : List (List Row)) → AllByRecursion AreRising ls → AreRising (merged Ascending ls)
 rising_merged [] h = tt
 rising_merged (rows ∷ ls) h = rising_two rows (merged Ascending ls) h.0 (rising_merged ls h.1)
 
@@ -75,6 +75,9 @@ rising_deduplicated : (rows : List Row) → AreRising rows → AreRising (dedupl
 rising_deduplicated [] h = tt
 rising_deduplicated (r ∷ rows) h = (all_behind (IsUpTo r) r rows h.0, rising_behind r rows h.1)
 
+pub rising_given_too : (dedup : Bool) (rows : List Row) → AreRising rows → AreRising (given dedup rows)
+rising_given_too true rows h = rising_deduplicated rows h
+rising_given_too false rows h = h
+
 pub merges_rise : MergesRise
-merges_rise true ls h = rising_deduplicated (merged Ascending ls) (rising_merged ls h)
-merges_rise false ls h = rising_merged ls h
+merges_rise dedup ls h = rising_given_too dedup (merged Ascending ls) (rising_merged ls h)

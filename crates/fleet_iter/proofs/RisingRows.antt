@@ -1,5 +1,6 @@
 -- Rising rows by neighbours.
-use Rattle.std.proofs.Common.{◌≡◌, refl, sym, ◌∙◌, ap, ◌<◌, List, [], ◌∷◌, length, ◌&&◌, not, Bool, true, false, IsTrue, arith, rules}
+use Rattle.std.proofs.Common.{◌≡◌, refl, sym, ◌∙◌, ap, subst, ◌<◌, ℕ, List, [], ◌∷◌, length, ◌&&◌, not, Bool, true, false, cond, IsTrue, arith, rules}
+use Rattle.row_laws.specs.Keys.{is_below}
 use Rattle.std.specs.List.Sorted.{IsStrictlySortedBy}
 use Rattle.std.specs.declared.cmp.Ordering.{Ordering}
 use Rattle.std.specs.declared.cmp.Ordering.TheVariants.{Less, Equal, Greater}
@@ -10,7 +11,7 @@ use Rattle.row_model.specs.Rows.{Row, key_cmp, row_cmp}
 use Rattle.row_laws.proofs.Elements.{all_weaken}
 use Rattle.fleet_rows.specs.declared.row.RowEntry.{RowEntry}
 use Rattle.fleet_rows.specs.Row.{rows_of}
-use Rattle.fleet_iter.specs.Iteration.{AreRising, OrderedRowsRise, are_rising}
+use Rattle.fleet_iter.specs.Iteration.{IteratorState, AreRising, OrderedRowsRise, are_rising, from_key, without_first, Moves}
 
 pub not_after : (o p : Ordering) → ordering_then o p ≡ Less → is_gt o ≡ false
 not_after Less p h = refl
@@ -60,3 +61,38 @@ pub rising_short : (rows : List RowEntry) → length rows < 2 → are_rising (ro
 rising_short [] h = refl
 rising_short (r ∷ []) h = refl
 rising_short (r ∷ q ∷ rows) h = absurd (omega arith)
+
+-- rows from a key on rise
+pub rising_from : (key : List ℕ) (rows : List Row) → AreRising rows → AreRising (from_key key rows)
+rising_from key [] h = tt
+rising_from key (r ∷ rows) h = by (is_below key r) (rising_from key rows h.1)
+  where
+    by : (b : Bool) → AreRising (from_key key rows) → AreRising (cond b (from_key key rows) (r ∷ rows))
+    by true rest = rest
+    by false rest = h
+
+-- what a seek drops is told
+pub moves_on : (key : List ℕ) (s t : IteratorState) → AreRising s.rows → t ≡ record s { rows = from_key key s.rows } → Moves s.whole key s t
+moves_on key s t rising e = by s.whole
+  where
+    by : (b : Bool) → Moves b key s t
+    by true = e
+    by false = record { initialised = ap (λ (z : IteratorState). z.initialised) e; failed = ap (λ (z : IteratorState). z.failed) e; rising = subst AreRising (sym (ap (λ (z : IteratorState). z.rows) e)) (rising_from key s.rows rising) }
+
+-- and so do those behind the first that pass a test
+pub rising_without : (test : Row → Bool) (rows : List Row) → AreRising rows → AreRising (without_first test rows)
+rising_without test [] h = tt
+rising_without test (r ∷ rows) h = by (test r) (rising_without test rows h.1)
+  where
+    by : (b : Bool) → AreRising (without_first test rows) → AreRising (cond b (without_first test rows) (r ∷ rows))
+    by true rest = rest
+    by false rest = h
+
+-- after a seek an iterator has not failed, and its rows rise
+pub moves_alive : (key : List ℕ) (s t : IteratorState) (whole : Bool) → Moves whole key s t → t.failed ≡ s.failed
+moves_alive key s t true m = ap (λ (z : IteratorState). z.failed) m
+moves_alive key s t false m = m.failed
+
+pub moves_rising : (key : List ℕ) (s t : IteratorState) (whole : Bool) → Moves whole key s t → AreRising s.rows → AreRising t.rows
+moves_rising key s t true m h = subst AreRising (sym (ap (λ (z : IteratorState). z.rows) m)) (rising_from key s.rows h)
+moves_rising key s t false m h = m.rising

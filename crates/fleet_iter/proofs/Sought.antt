@@ -1,5 +1,5 @@
 -- Sources of a merge that are sought, one after the other.
-use Rattle.std.proofs.Common.{◌≡◌, ◌∙◌, ◌<◌, ◌≤◌, sym, refl, ap, subst, ℕ, List, [], ◌∷◌, ◌++◌, suc, zero, map, length, Option, Some, None, true, false, cond, get_or, arith}
+use Rattle.std.proofs.Common.{◌≡◌, ◌∙◌, ◌<◌, ◌≤◌, sym, refl, ap, subst, ℕ, List, [], ◌∷◌, ◌++◌, suc, zero, map, length, Option, Some, None, Bool, true, false, cond, get_or, arith}
 use Rattle.std.specs.Option.{option_to_list}
 use Rattle.std.proofs.Math.ListN.{set}
 use Rattle.std.proofs.lemmas.List.{set-get_or}
@@ -9,8 +9,13 @@ use Rattle.fleet_rows.specs.Row.{row_of, rows_of}
 use Rattle.fleet_rows.specs.declared.row.RowEntry.{RowEntry}
 use Rattle.std.specs.List.{AllByRecursion}
 use Rattle.fleet_iter.specs.Iteration.{IteratorState, AreRising, from_key}
+use Rattle.fleet_iter.proofs.Merges.{one_whole}
+use Rattle.fleet_iter.proofs.RisingRows.{rising_from}
+use Rattle.fleet_iter.proofs.RisingMerges.{rising_merged}
+use Rattle.fleet_iter.proofs.Dedup.{from_key_skipped}
 use Rattle.fleet_iter.specs.declared.iterator.IterationOrder.{IterationOrder}
-use Rattle.fleet_iter.specs.Merge.{head_passes, merged, lists, rows_left, merged_left, AllTaken, IsTaken, Steps, are_whole}
+use Rattle.fleet_iter.specs.declared.iterator.IterationOrder.TheVariants.{Ascending, Descending}
+use Rattle.fleet_iter.specs.Merge.{head_passes, merged, lists, rows_left, merged_left, AllTaken, IsTaken, Steps, StepsFrom, SkipsTo, is_told, are_whole}
 use Rattle.fleet_iter.proofs.SoughtMerges.{parts_rise, seek_merged}
 
 -- the first lists are sought
@@ -79,29 +84,72 @@ head_taken (g ∷ hs) (r ∷ ss) a (suc i) h s lt e f = head_taken hs ss a.1 i h
 
 -- ---- a step
 
-pub record Sought (key : List ℕ) (i : ℕ) (ls : List (List Row)) (hs : List (Option RowEntry)) (ss old : List IteratorState) : Type 0 where
-  pub rows : lists hs (rows_left ss) ≡ sought key i ls
+pub record Sought (order : IterationOrder) (key : List ℕ) (i : ℕ) (ls : List (List Row)) (hs : List (Option RowEntry)) (ss old : List IteratorState) : Type 0 where
+  pub rows : is_told order (are_whole old) ≡ true → lists hs (rows_left ss) ≡ sought key i ls
+  pub rising : AllByRecursion AreRising (lists hs (rows_left ss))
   pub taken : AllTaken hs ss
-  pub whole : are_whole ss ≡ are_whole old
+  pub whole : is_told order (are_whole old) ≡ true → are_whole ss ≡ are_whole old
 
--- the head is below the key: the source is sought
-pub sought_step : (key : List ℕ) (i : ℕ) (ls : List (List Row)) (hs : List (Option RowEntry)) (ss old : List IteratorState) (g h : Option RowEntry) (s t : IteratorState) → i < length ls → i < length ss → Sought key i ls hs ss old
-    → g ≡ get_or hs i g → s ≡ get_or ss i s → head_passes (is_below key) g ≡ true → Steps (record s { rows = from_key key s.rows }) t h → Sought key (suc i) ls (set hs i h) (set ss i t) old
-sought_step key i ls hs ss old g h s t lt lt2 k e f low st = by g refl low
+-- what is whole stays whole
+pub stays_whole : (order : IterationOrder) (key : List ℕ) (i : ℕ) (ls : List (List Row)) (hs : List (Option RowEntry)) (ss old : List IteratorState) → Sought order key i ls hs ss old → are_whole old ≡ true → are_whole ss ≡ true
+stays_whole Ascending key i ls hs ss old k all = k.whole all ∙ all
+stays_whole Descending key i ls hs ss old k all = k.whole refl ∙ all
+
+one_told : (order : IterationOrder) (key : List ℕ) (i : ℕ) (ls : List (List Row)) (hs : List (Option RowEntry)) (ss old : List IteratorState) (s : IteratorState) → i < length ss → s ≡ get_or ss i s → Sought order key i ls hs ss old
+    → is_told order (are_whole old) ≡ true → is_told order s.whole ≡ true
+one_told Ascending key i ls hs ss old s lt f k all = one_whole ss i s lt f (k.whole all ∙ all)
+one_told Descending key i ls hs ss old s lt f k all = refl
+
+rising_at : (i : ℕ) (ls : List (List Row)) → AllByRecursion AreRising ls → AreRising (get_or ls i [])
+rising_at i [] all = tt
+rising_at zero (l ∷ ls) all = all.0
+rising_at (suc i) (l ∷ ls) all = rising_at i ls all.1
+
+rising_set : (i : ℕ) (ls : List (List Row)) (l : List Row) → AreRising l → AllByRecursion AreRising ls → AllByRecursion AreRising (set ls i l)
+rising_set i [] l r all = tt
+rising_set zero (x ∷ ls) l r all = (r, all.1)
+rising_set (suc i) (x ∷ ls) l r all = (all.0, rising_set i ls l r all.1)
+
+-- a source may be sought
+pub source_rises : (order : IterationOrder) (key : List ℕ) (i : ℕ) (ls : List (List Row)) (hs : List (Option RowEntry)) (ss old : List IteratorState) (g : Option RowEntry) (s : IteratorState) → i < length ss → Sought order key i ls hs ss old
+    → g ≡ get_or hs i g → s ≡ get_or ss i s → AreRising s.rows
+source_rises order key i ls hs ss old g s lt k e f = by g (subst AreRising (lists_at hs ss k.taken i g s lt e f) (rising_at i (lists hs (rows_left ss)) k.rising))
   where
-    here : get_or ls i [] ≡ rows_of (option_to_list g) ++ s.rows
-    here = sym (sought_at key i ls) ∙ (ap (λ (w : List (List Row)). get_or w i []) (sym k.rows) ∙ lists_at hs ss k.taken i g s lt2 e f)
+    by : (w : Option RowEntry) → AreRising (rows_of (option_to_list w) ++ s.rows) → AreRising s.rows
+    by None r = r
+    by (Some x) r = r.1
 
-    by : (w : Option RowEntry) → g ≡ w → head_passes (is_below key) w ≡ true → Sought key (suc i) ls (set hs i h) (set ss i t) old
-    by None is low = absurd (cc low)
-    by (Some x) is low =
-        let all : get_or ls i [] ≡ row_of x ∷ s.rows = here ∙ ap (λ (w : Option RowEntry). rows_of (option_to_list w) ++ s.rows) is in
-        let left : from_key key (get_or ls i []) ≡ rows_of (option_to_list h) ++ t.rows = ap (from_key key) all ∙ (ap (λ c. cond c (from_key key s.rows) (row_of x ∷ s.rows)) low ∙ st.0) in
-        record {
-          rows = lists_set hs ss k.taken i h t ∙ (ap (λ (w : List Row). set (lists hs (rows_left ss)) i w) (sym left) ∙ (ap (λ (w : List (List Row)). set w i (from_key key (get_or ls i []))) k.rows ∙ sym (sought_more key i ls lt)));
-          taken = taken_set hs ss k.taken i h t st.1;
-          whole = whole_set ss i s t f st.2 ∙ k.whole;
-        }
+step_rises : (told : Bool) (key : List ℕ) (s t : IteratorState) (h : Option RowEntry) → AreRising s.rows → StepsFrom told key s t h → AreRising (rows_of (option_to_list h) ++ t.rows)
+step_rises true key s t h rising st = subst AreRising st.0 (rising_from key s.rows rising)
+step_rises false key s t h rising st = st.1
+
+step_taken : (told : Bool) (key : List ℕ) (s t : IteratorState) (h : Option RowEntry) → StepsFrom told key s t h → IsTaken h t
+step_taken true key s t h st = st.1
+step_taken false key s t h st = st.0
+
+-- the head is below the key: the source goes on to the key
+pub sought_step : (order : IterationOrder) (key : List ℕ) (i : ℕ) (ls : List (List Row)) (hs : List (Option RowEntry)) (ss old : List IteratorState) (g h : Option RowEntry) (s t : IteratorState) → i < length ls → i < length ss → Sought order key i ls hs ss old
+    → g ≡ get_or hs i g → s ≡ get_or ss i s → head_passes (is_below key) g ≡ true → StepsFrom (is_told order s.whole) key s t h → Sought order key (suc i) ls (set hs i h) (set ss i t) old
+sought_step order key i ls hs ss old g h s t lt lt2 k e f low st = record {
+  rows = λ told. rows told (subst (λ b. StepsFrom b key s t h) (one_told order key i ls hs ss old s lt2 f k told) st);
+  rising = subst (AllByRecursion AreRising) (sym (lists_set hs ss k.taken i h t))
+      (rising_set i (lists hs (rows_left ss)) (rows_of (option_to_list h) ++ t.rows) (step_rises (is_told order s.whole) key s t h (source_rises order key i ls hs ss old g s lt2 k e f) st) k.rising);
+  taken = taken_set hs ss k.taken i h t (step_taken (is_told order s.whole) key s t h st);
+  whole = λ told. let exact : Steps (record s { rows = from_key key s.rows }) t h = subst (λ b. StepsFrom b key s t h) (one_told order key i ls hs ss old s lt2 f k told) st in whole_set ss i s t f exact.2 ∙ k.whole told;
+}
+  where
+    rows : is_told order (are_whole old) ≡ true → Steps (record s { rows = from_key key s.rows }) t h → lists (set hs i h) (rows_left (set ss i t)) ≡ sought key (suc i) ls
+    rows told exact = by g refl low
+      where
+        here : get_or ls i [] ≡ rows_of (option_to_list g) ++ s.rows
+        here = sym (sought_at key i ls) ∙ (ap (λ (w : List (List Row)). get_or w i []) (sym (k.rows told)) ∙ lists_at hs ss k.taken i g s lt2 e f)
+
+        by : (w : Option RowEntry) → g ≡ w → head_passes (is_below key) w ≡ true → lists (set hs i h) (rows_left (set ss i t)) ≡ sought key (suc i) ls
+        by None is low = absurd (cc low)
+        by (Some x) is low =
+            let all : get_or ls i [] ≡ row_of x ∷ s.rows = here ∙ ap (λ (w : Option RowEntry). rows_of (option_to_list w) ++ s.rows) is in
+            let left : from_key key (get_or ls i []) ≡ rows_of (option_to_list h) ++ t.rows = ap (from_key key) all ∙ (ap (λ c. cond c (from_key key s.rows) (row_of x ∷ s.rows)) low ∙ exact.0) in
+            lists_set hs ss k.taken i h t ∙ (ap (λ (w : List Row). set (lists hs (rows_left ss)) i w) (sym left) ∙ (ap (λ (w : List (List Row)). set w i (from_key key (get_or ls i []))) (k.rows told) ∙ sym (sought_more key i ls lt)))
 
 -- what stands at a place
 state_at : (ss : List IteratorState) (i : ℕ) → i < length ss → (s : IteratorState) × (s ≡ get_or ss i s)
@@ -110,42 +158,44 @@ state_at (r ∷ ss) zero lt = (r, refl)
 state_at (r ∷ ss) (suc i) lt = state_at ss i (omega arith)
 
 -- the head is not: the source is left
-pub sought_left : (key : List ℕ) (i : ℕ) (ls : List (List Row)) (hs : List (Option RowEntry)) (ss old : List IteratorState) (g : Option RowEntry) → i < length ls → i < length ss → Sought key i ls hs ss old
-    → g ≡ get_or hs i g → head_passes (is_below key) g ≡ false → Sought key (suc i) ls hs ss old
-sought_left key i ls hs ss old g lt lt2 k e high =
-    let at = state_at ss i lt2 in
-    let here : get_or ls i [] ≡ rows_of (option_to_list g) ++ at.0.rows = sym (sought_at key i ls) ∙ (ap (λ (w : List (List Row)). get_or w i []) (sym k.rows) ∙ lists_at hs ss k.taken i g at.0 lt2 e at.1) in
-    let same : from_key key (get_or ls i []) ≡ get_or ls i [] = ap (from_key key) here ∙ (by at.0 g (head_taken hs ss k.taken i g at.0 lt2 e at.1) high ∙ sym here) in
-    record {
-      rows = k.rows ∙ sym (sought_more key i ls lt ∙ (ap (λ (w : List Row). set (sought key i ls) i w) (same ∙ sym (sought_at key i ls)) ∙ set-get_or (sought key i ls) i []));
-      taken = k.taken;
-      whole = k.whole;
-    }
+pub sought_left : (order : IterationOrder) (key : List ℕ) (i : ℕ) (ls : List (List Row)) (hs : List (Option RowEntry)) (ss old : List IteratorState) (g : Option RowEntry) → i < length ls → i < length ss → Sought order key i ls hs ss old
+    → g ≡ get_or hs i g → head_passes (is_below key) g ≡ false → Sought order key (suc i) ls hs ss old
+sought_left order key i ls hs ss old g lt lt2 k e high = record {
+  rows = λ told. k.rows told ∙ sym (sought_more key i ls lt ∙ (ap (λ (w : List Row). set (sought key i ls) i w) (same told ∙ sym (sought_at key i ls)) ∙ set-get_or (sought key i ls) i []));
+  rising = k.rising;
+  taken = k.taken;
+  whole = k.whole;
+}
   where
     by : (s : IteratorState) (w : Option RowEntry) → IsTaken w s → head_passes (is_below key) w ≡ false → from_key key (rows_of (option_to_list w) ++ s.rows) ≡ rows_of (option_to_list w) ++ s.rows
     by s None a high = ap (from_key key) a.2 ∙ sym a.2
     by s (Some x) a high = ap (λ c. cond c (from_key key s.rows) (row_of x ∷ s.rows)) high
 
--- all sources were sought
-pub sought_merge : (order : IterationOrder) (key : List ℕ) (n : ℕ) (ls : List (List Row)) (hs : List (Option RowEntry)) (ss old : List IteratorState) → length ls ≤ n → AreRising (merged order ls) → Sought key n ls hs ss old → merged_left order hs ss ≡ from_key key (merged order ls)
-sought_merge order key n ls hs ss old le rising k = ap (merged order) (k.rows ∙ sought_all key n ls le) ∙ seek_merged order key ls rising
+    same : is_told order (are_whole old) ≡ true → from_key key (get_or ls i []) ≡ get_or ls i []
+    same told =
+        let at = state_at ss i lt2 in
+        let here : get_or ls i [] ≡ rows_of (option_to_list g) ++ at.0.rows = sym (sought_at key i ls) ∙ (ap (λ (w : List (List Row)). get_or w i []) (sym (k.rows told)) ∙ lists_at hs ss k.taken i g at.0 lt2 e at.1) in
+        ap (from_key key) here ∙ (by at.0 g (head_taken hs ss k.taken i g at.0 lt2 e at.1) high ∙ sym here)
 
--- ---- a source may be sought
-
-rising_at : (i : ℕ) (ls : List (List Row)) → AllByRecursion AreRising ls → AreRising (get_or ls i [])
-rising_at i [] all = tt
-rising_at zero (l ∷ ls) all = all.0
-rising_at (suc i) (l ∷ ls) all = rising_at i ls all.1
-
-pub source_rises : (order : IterationOrder) (key : List ℕ) (i : ℕ) (ls : List (List Row)) (hs : List (Option RowEntry)) (ss old : List IteratorState) (g : Option RowEntry) (s : IteratorState) → i < length ss → AreRising (merged order ls) → Sought key i ls hs ss old
-    → g ≡ get_or hs i g → s ≡ get_or ss i s → AreRising s.rows
-source_rises order key i ls hs ss old g s lt rising k e f =
-    let here : get_or ls i [] ≡ rows_of (option_to_list g) ++ s.rows = sym (sought_at key i ls) ∙ (ap (λ (w : List (List Row)). get_or w i []) (sym k.rows) ∙ lists_at hs ss k.taken i g s lt e f) in
-    by g (subst AreRising here (rising_at i ls (parts_rise order ls rising)))
+-- all sources went on
+pub sought_merge : (order : IterationOrder) (key : List ℕ) (n : ℕ) (hs0 hs : List (Option RowEntry)) (ss old : List IteratorState) → length (lists hs0 (rows_left old)) ≤ n → AreRising (merged_left order hs0 old) → Sought order key n (lists hs0 (rows_left old)) hs ss old
+    → SkipsTo (is_told order (are_whole old)) order key hs0 old hs ss
+sought_merge order key n hs0 hs ss old le rising k = by (is_told order (are_whole old)) refl
   where
-    by : (w : Option RowEntry) → AreRising (rows_of (option_to_list w) ++ s.rows) → AreRising s.rows
-    by None r = r
-    by (Some x) r = r.1
+    in_order : (order : IterationOrder) → is_told order (are_whole old) ≡ false → AreRising (merged_left order hs ss)
+    in_order Ascending e = rising_merged (lists hs (rows_left ss)) k.rising
+    in_order Descending e = absurd (cc e)
+
+    by : (b : Bool) → is_told order (are_whole old) ≡ b → SkipsTo b order key hs0 old hs ss
+    by true e = record {
+      rows = ap (merged order) (k.rows e ∙ sought_all key n (lists hs0 (rows_left old)) le) ∙ (seek_merged order key (lists hs0 (rows_left old)) rising ∙ from_key_skipped key (merged_left order hs0 old));
+      taken = k.taken;
+      whole = k.whole e;
+    }
+    by false e = (k.taken, in_order order e)
+
+pub sought_none : (order : IterationOrder) (key : List ℕ) (hs : List (Option RowEntry)) (ss : List IteratorState) → AllTaken hs ss → AreRising (merged_left order hs ss) → Sought order key 0 (lists hs (rows_left ss)) hs ss ss
+sought_none order key hs ss taken rising = record { rows = λ _. refl; rising = parts_rise order (lists hs (rows_left ss)) rising; taken = taken; whole = λ _. refl }
 
 pub sources_counted : (hs : List (Option RowEntry)) (ss : List IteratorState) → AllTaken hs ss → length (lists hs (rows_left ss)) ≡ length ss
 sources_counted hs ss a = lists_count hs ss a

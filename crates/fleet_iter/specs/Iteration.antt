@@ -93,8 +93,19 @@ are_rising (r ∷ q ∷ rows) = not (is_gt (key_cmp r.key q.key)) && are_rising 
 abbrev pub OrderedRowsRise : Type 0
 OrderedRowsRise = (rows : List Row) → IsStrictlyOrdered rows → AreRising rows
 
+-- rows that may not all be given were passed: which are left is not told
+pub record Passes (old new : IteratorState) : Type 0 where
+  pub initialised : new.initialised ≡ old.initialised
+  pub failed : new.failed ≡ old.failed
+  pub rising : AreRising new.rows
+
+-- the rows below a key are dropped; by the flag, one that is not whole may pass rows that it would have refused
+abbrev pub Moves : Bool → List ℕ → IteratorState → IteratorState → Type 0
+Moves true key old new = new ≡ record old { rows = from_key key old.rows }
+Moves false key old new = Passes old new
+
 abbrev pub SeekAnswers : List ℕ → IteratorState → IteratorState → Result (Unit {0}) SlateDBError → Type 0
-SeekAnswers key old new (Ok done) = new ≡ record old { rows = from_key key old.rows }
+SeekAnswers key old new (Ok done) = Moves old.whole key old new
 SeekAnswers key old new (Err e) = Fails old new e
 
 pub record Seeks (key : List ℕ) (old new : IteratorState) (result : Result (Unit {0}) SlateDBError) : Type 0 where

@@ -13,7 +13,7 @@ use Rattle.fleet_rows.specs.Row.{row_of, rows_of}
 use Rattle.fleet_rows.specs.declared.row.RowEntry.{RowEntry}
 use Rattle.fleet_rows.specs.declared.errors.SlateDBError.{SlateDBError}
 use Rattle.fleet_rows.specs.declared.errors.SlateDBError.TheVariants.{Memory}
-use Rattle.fleet_iter.specs.Iteration.{IteratorState, AreRising, behind_first, without_first}
+use Rattle.fleet_iter.specs.Iteration.{IteratorState, AreRising, behind_first, from_key, without_first}
 use Rattle.fleet_iter.specs.declared.iterator.IterationOrder.{IterationOrder}
 use Rattle.fleet_iter.specs.declared.iterator.IterationOrder.TheVariants.{Ascending, Descending}
 
@@ -124,6 +124,16 @@ are_whole (s ∷ ss) = if s.whole then are_whole ss else false
 abbrev pub Steps : IteratorState → IteratorState → Option RowEntry → Type 0
 Steps s t h = (s.rows ≡ rows_of (option_to_list h) ++ t.rows) × IsTaken h t × (t.whole ≡ s.whole)
 
+-- whether it is told what a seek of a source leaves: in descending order the source is read on in place of being sought
+abbrev pub is_told : IterationOrder → Bool → Bool
+is_told Ascending whole = whole
+is_told Descending whole = true
+
+-- a source's next head from a key on; where it is not told which rows are left, they rise
+abbrev pub StepsFrom : Bool → List ℕ → IteratorState → IteratorState → Option RowEntry → Type 0
+StepsFrom true key s t h = Steps (record s { rows = from_key key s.rows }) t h
+StepsFrom false key s t h = IsTaken h t × AreRising (rows_of (option_to_list h) ++ t.rows)
+
 -- the first row that is given is taken, and with it the rows that it keeps back
 pub record Takes (order : IterationOrder) (dedup : Bool) (hs : List (Option RowEntry)) (ss : List IteratorState) (hs' : List (Option RowEntry)) (ss' : List IteratorState) (o : Option RowEntry) : Type 0 where
   pub rows : given dedup (merged_left order hs ss) ≡ rows_of (option_to_list o) ++ given dedup (merged_left order hs' ss')
@@ -171,6 +181,11 @@ pub record Skips (order : IterationOrder) (test : Row → Bool) (hs : List (Opti
   pub rows : merged_left order hs' ss' ≡ without_first test (merged_left order hs ss)
   pub taken : AllTaken hs' ss'
   pub whole : are_whole ss' ≡ are_whole ss
+
+-- the rows below a key are dropped; where it is not told which are left, they rise
+abbrev pub SkipsTo : Bool → IterationOrder → List ℕ → List (Option RowEntry) → List IteratorState → List (Option RowEntry) → List IteratorState → Type 0
+SkipsTo true order key hs ss hs' ss' = Skips order (is_below key) hs ss hs' ss'
+SkipsTo false order key hs ss hs' ss' = AllTaken hs' ss' × AreRising (merged_left order hs' ss')
 
 -- a merge's flags, heads and sources fit
 abbrev pub Fits : Bool → Bool → List (Option RowEntry) → List IteratorState → Type 0

@@ -1,9 +1,9 @@
 -- Rows taken up again behind a cursor, the key and sequence of the row that was written last.
-use Rattle.std.specs.Prelude.{◌≡◌, nat_le, ◌&&◌, bytes_eq, List, filter, Bool, Option, Some, None}
+use Rattle.std.specs.Prelude.{◌≡◌, nat_le, ◌&&◌, bytes_eq, List, filter, Bool, true, false, Option, Some, None}
 use Rattle.row_model.specs.Rows.{Row, IsStrictlyOrdered}
 use Rattle.row_laws.specs.Keys.{is_from}
 use Rattle.row_laws.specs.Resume.{Cursor, is_unwritten}
-use Rattle.fleet_iter.specs.Iteration.{from_key, without_first}
+use Rattle.fleet_iter.specs.Iteration.{IteratorState, Passes, from_key, without_first}
 
 -- a row of the cursor's key whose sequence is not below the cursor's
 abbrev pub is_written : Cursor → Row → Bool
@@ -13,6 +13,12 @@ is_written cursor r = bytes_eq r.key cursor.0 && nat_le cursor.1 r.seq
 abbrev pub rows_behind : Option Cursor → List Row → List Row
 rows_behind None rows = rows
 rows_behind (Some cursor) rows = without_first (is_written cursor) (from_key cursor.0 rows)
+
+-- what an iterator has left behind a cursor; by the flag, one that is not whole may have passed rows that it would have refused
+abbrev pub Resumes : Bool → Option Cursor → IteratorState → IteratorState → Type 0
+Resumes true cursor old new = new ≡ record old { rows = rows_behind cursor old.rows }
+Resumes false None old new = new ≡ old
+Resumes false (Some cursor) old new = Passes old new
 
 -- Of ordered rows these are exactly those of the cursor's key and later ones that do not stand written.
 abbrev pub ResumesBehind : Type 0

@@ -34,7 +34,7 @@ pub trait RowEntryIterator: Send + Sync + Drop {
         ensures next { Nexts (state self.old) (state self.new) result }
         ensures sound { sound self.new };
 
-    /// Drops the rows below a key.
+    /// Drops the rows below a key. An iterator that may refuse at a row may pass it here: then it is not told which rows are left.
     fn seek(&mut self, alloc: Global, next_key: &[u8]) -> Result<(), SlateDBError>
         requires sound { sound self.old }
         requires rising { AreRising (state self.old).rows }

@@ -7,7 +7,7 @@ ghost use Rattle.row_laws.specs.Keys.{is_below};
 ghost use Rattle.fleet_rows.specs.Row.{row_of};
 ghost use Rattle.fleet_iter.specs.Iteration.{IteratorState, Inits, Nexts, Seeks, CanFail, AreRising, from_key};
 ghost use Rattle.fleet_iter.specs.declared.iterator.IterationOrder.TheVariants as in_order;
-ghost use Rattle.fleet_iter.specs.Merge.{keys_in, cmp_in, hides, best, found_row, goes_ahead, passes, head_passes, AllTaken, Takes, Drops, Steps, Skips, Begins, LeavesFrom, NoneFailed, IsHandedOn, starting, merged, merged_left, rows_left, given, are_whole, MergesSort, MergesRise};
+ghost use Rattle.fleet_iter.specs.Merge.{keys_in, cmp_in, hides, best, found_row, goes_ahead, passes, head_passes, AllTaken, Takes, Drops, Steps, Skips, SkipsTo, StepsFrom, is_told, Begins, LeavesFrom, NoneFailed, IsHandedOn, starting, merged, merged_left, rows_left, given, are_whole, MergesSort, MergesRise};
 ghost use Rattle.fleet_iter.specs.Tracked.{row_bytes, first_bytes, kept_back, counted, taken_at_once};
 ghost use Rattle.fleet_iter.specs.MergeState.{state_of, merge_of, IsSound};
 
@@ -173,8 +173,8 @@ fn is_head_below(head: &Option<RowEntry>, key: &[u8]) -> bool
     }
 }
 
-// A source's first row that is not below a key.
-fn first_from<T: RowSource>(
+// A source's first row that is not below a key, by a seek.
+fn first_sought<T: RowSource>(
     alloc: Global,
     source: &mut T,
     key: &[u8],
@@ -183,7 +183,7 @@ fn first_from<T: RowSource>(
     requires alive { (T.state source.old).failed ≡ false }
     requires initialised { (T.state source.old).initialised ≡ true }
     requires rising { AreRising (T.state source.old).rows }
-    ensures ok { IfOk result (Steps (record (T.state source.old) { rows = from_key key.now (T.state source.old).rows }) (T.state source.new)) }
+    ensures ok { IfOk result (StepsFrom (T.state source.old).whole key.now (T.state source.old) (T.state source.new)) }
     ensures err { IfErr result (CanFail (T.state source.old).whole) }
     ensures handed { IfErr result (λ _. (T.state source.new).failed ≡ true) }
     ensures sound { T.sound source.new }
@@ -192,7 +192,52 @@ fn first_from<T: RowSource>(
     source.next_row(alloc)
 }
 
-// Drops the rows below a key, by a seek of each source whose head is below it.
+// The same, row by row.
+fn first_read<T: RowSource>(
+    alloc: Global,
+    source: &mut T,
+    key: &[u8],
+) -> Result<Option<RowEntry>, SlateDBError>
+    requires sound { T.sound source.old }
+    requires alive { (T.state source.old).failed ≡ false }
+    requires initialised { (T.state source.old).initialised ≡ true }
+    ensures ok { IfOk result (Steps (record (T.state source.old) { rows = from_key key.now (T.state source.old).rows }) (T.state source.new)) }
+    ensures err { IfErr result (CanFail (T.state source.old).whole) }
+    ensures handed { IfErr result (λ _. (T.state source.new).failed ≡ true) }
+    ensures sound { T.sound source.new }
+{
+    'rows: while let Some(row) = source.next_row(alloc)? {
+        if row.key.as_slice().cmp(key) != Ordering::Less {
+            return Ok(Some(row));
+        }
+    }
+    Ok(None)
+}
+
+// A source's first row that is not below a key. In descending order it is not sought, since a source that passes rows which
+// it would have refused may leave rows that do not rise in the merge.
+fn first_from<T: RowSource>(
+    alloc: Global,
+    order: IterationOrder,
+    source: &mut T,
+    key: &[u8],
+) -> Result<Option<RowEntry>, SlateDBError>
+    requires sound { T.sound source.old }
+    requires alive { (T.state source.old).failed ≡ false }
+    requires initialised { (T.state source.old).initialised ≡ true }
+    requires rising { AreRising (T.state source.old).rows }
+    ensures ok { IfOk result (StepsFrom (is_told order (T.state source.old).whole) key.now (T.state source.old) (T.state source.new)) }
+    ensures err { IfErr result (CanFail (T.state source.old).whole) }
+    ensures handed { IfErr result (λ _. (T.state source.new).failed ≡ true) }
+    ensures sound { T.sound source.new }
+{
+    match order {
+        IterationOrder::Ascending => first_sought(alloc, source, key),
+        IterationOrder::Descending => first_read(alloc, source, key),
+    }
+}
+
+// Drops the rows below a key, by a step of each source whose head is below it.
 fn skip_below<T: RowSource>(
     alloc: Global,
     order: IterationOrder,
@@ -203,7 +248,7 @@ fn skip_below<T: RowSource>(
     requires taken { AllTaken heads.old.items (map T.state sources.old.items) }
     requires rising { AreRising (merged_left order heads.old.items (map T.state sources.old.items)) }
     requires sound { AllByRecursion T.sound sources.old.items }
-    ensures ok { OnOk result (Skips order (is_below key.now) heads.old.items (map T.state sources.old.items) heads.new.items (map T.state sources.new.items)) }
+    ensures ok { OnOk result (SkipsTo (is_told order (are_whole (map T.state sources.old.items))) order key.now heads.old.items (map T.state sources.old.items) heads.new.items (map T.state sources.new.items)) }
     ensures leaves { OnOk result (LeavesFrom key.now heads.old.items sources.old.items heads.new.items sources.new.items) }
     ensures err { IfErr result (CanFail (are_whole (map T.state sources.old.items))) }
     ensures handed { IfErr result (IsHandedOn (map T.state sources.new.items)) }
@@ -213,7 +258,7 @@ fn skip_below<T: RowSource>(
         if !is_head_below(&heads[i], key) {
             continue;
         }
-        let head = first_from(alloc, &mut sources[i], key)?;
+        let head = first_from(alloc, order, &mut sources[i], key)?;
         drop(mem::replace(&mut heads[i], head));
     }
     Ok(())
@@ -412,7 +457,7 @@ impl<T: RowEntryIterator> RowEntryIterator for MergeIterator<T> {
         requires sound { IsSound T.sound T.state self.old }
         requires rising { AreRising (state_of T.state self.old).rows }
         ensures seek { Seeks next_key.now (state_of T.state self.old) (state_of T.state self.new) result }
-        ensures all { OnOk result (merge_of T.state self.new ≡ from_key next_key.now (merge_of T.state self.old)) }
+        ensures all { (state_of T.state self.old).whole ≡ true → OnOk result (merge_of T.state self.new ≡ from_key next_key.now (merge_of T.state self.old)) }
         ensures leaves { OnOk result (LeavesFrom next_key.now self.old.heads.items self.old.sources.items self.new.heads.items self.new.sources.items) }
         ensures handed { self.old.failed ≡ false → self.old.initialised ≡ true → IfErr result (IsHandedOn (map T.state self.new.sources.items)) }
         ensures idle { self.old.failed ≡ true → self.new ≡ self.old }

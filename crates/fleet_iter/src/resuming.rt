@@ -5,7 +5,7 @@ ghost use Rattle.std.specs.Option.{option_copied};
 ghost use Rattle.fleet_rows.specs.Row.{row_of};
 ghost use Rattle.fleet_iter.specs.Iteration.{Inits, Nexts, Seeks, CanFail, AreRising, without_first};
 ghost use Rattle.fleet_iter.specs.Peek.{ahead, HasBegun};
-ghost use Rattle.fleet_iter.specs.Resume.{is_written, rows_behind, ResumesBehind};
+ghost use Rattle.fleet_iter.specs.Resume.{is_written, Resumes, ResumesBehind};
 ghost use Rattle.fleet_iter.specs.ResumeState.{state_of, IsSound};
 
 use crate::{PeekingIterator, RowEntryIterator, RowSource, TrackedRowEntryIterator};
@@ -43,6 +43,31 @@ fn first_unwritten<T: RowSource>(
     Ok(None)
 }
 
+// The first row left behind a cursor, where there is one.
+fn first_behind<T: RowSource>(
+    alloc: Global,
+    source: &mut T,
+    cursor: &Option<(Bytes, u64)>,
+) -> Result<Option<RowEntry>, SlateDBError>
+    requires sound { T.sound source.old }
+    requires alive { (T.state source.old).failed ≡ false }
+    requires initialised { (T.state source.old).initialised ≡ true }
+    requires rising { AreRising (T.state source.old).rows }
+    ensures rows { IfOk result (λ row. Resumes (T.state source.old).whole cursor.now (T.state source.old) (ahead row (T.state source.new))) }
+    ensures begun { IfOk result (λ row. HasBegun row (T.state source.new)) }
+    ensures err { IfErr result (CanFail (T.state source.old).whole) }
+    ensures sound { T.sound source.new }
+{
+    match cursor {
+        Some((key, seq)) => {
+            source.seek_row(alloc, key.as_slice())?;
+            let row = first_unwritten(alloc, source, key, *seq)?;
+            Ok(row)
+        }
+        None => Ok(None),
+    }
+}
+
 /// An iterator taken up again behind a cursor, which is the key and sequence of the row that was written last.
 #[derive(Drop)]
 pub struct ResumingIterator<T: RowEntryIterator> {
@@ -61,17 +86,13 @@ impl<T: RowEntryIterator> ResumingIterator<T> {
         requires alive { (T.state iterator).failed ≡ false }
         requires initialised { (T.state iterator).initialised ≡ true }
         requires rising { AreRising (T.state iterator).rows }
-        ensures rows { IfOk result (λ r. state_of T.state r ≡ record (T.state iterator) { rows = rows_behind resume_cursor (T.state iterator).rows }) }
+        ensures rows { IfOk result (λ r. Resumes (T.state iterator).whole resume_cursor (T.state iterator) (state_of T.state r)) }
         ensures start { IfOk result (λ r. r.start ≡ resume_cursor) }
         ensures sound { IfOk result (λ r. IsSound T.sound T.state r) }
         ensures err { IfErr result (CanFail (T.state iterator).whole) }
     {
         let mut source = iterator;
-        let mut peeked = None;
-        if let Some((key, seq)) = &resume_cursor {
-            source.seek_row(alloc, key.as_slice())?;
-            peeked = first_unwritten(alloc, &mut source, key, *seq)?;
-        }
+        let peeked = first_behind(alloc, &mut source, &resume_cursor)?;
         let inner = PeekingIterator {
             inner: source,
             peeked,

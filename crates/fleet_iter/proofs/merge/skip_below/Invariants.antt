@@ -13,6 +13,6 @@ invariant-sources g l =
     record {
       sound : AllByRecursion g.T.RowSource.sound l.sources.items;
       size : length l.sources.items ≡ length l.fn.sources.items;
-      so_far : Sought l.key l.i (lists l.fn.heads.items (rows_left old)) l.heads.items ss old;
+      so_far : Sought l.order l.key l.i (lists l.fn.heads.items (rows_left old)) l.heads.items ss old;
       leaves : LeavesFrom l.key l.fn.heads.items l.fn.sources.items l.heads.items l.sources.items;
     }

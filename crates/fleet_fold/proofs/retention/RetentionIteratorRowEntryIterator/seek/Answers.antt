@@ -15,7 +15,7 @@ returns-then-not-is_empty-clause-seek g c =
     let alive : c.args.self.now.failed ≡ false = search rules in
     let some : c.drop_below.new.buffer.items ≡ [] → ⊥ = λ e. grind (arith, common_steps, e) in
     in_buffer c.args.next_key.now (settings_of c.args.self.now.settings) c.args.self.now.failed alive (reverse c.args.self.now.buffer.items) (reverse c.drop_below.new.buffer.items) c.args.self.now.ahead (g.T.RowEntryIterator.state c.args.self.now.inner)
-    (known _ _ _ _ alive c.requires.sound.1) c.drop_below.ensures (λ e. some (turned_empty c.drop_below.new.buffer.items e))
+    (known _ _ _ _ alive c.requires.sound.1) c.drop_below.ensures (λ e. some (turned_empty c.drop_below.new.buffer.items e)) c.requires.rising
 
 pub returns-then-is_some-clause-seek : goal.returns-then-is_some-clause-seek
 returns-then-is_some-clause-seek g c =
@@ -23,7 +23,7 @@ returns-then-is_some-clause-seek g c =
     let none : c.drop_below.new.buffer.items ≡ [] = grind (arith, common_steps) in
     let some : c.drop_if_below.new.ahead ≡ None → ⊥ = λ e. grind (arith, common_steps, e) in
     at_ahead c.args.next_key.now (settings_of c.args.self.now.settings) c.args.self.now.failed alive (reverse c.args.self.now.buffer.items) (reverse c.drop_below.new.buffer.items) c.args.self.now.ahead c.drop_if_below.new.ahead (g.T.RowEntryIterator.state c.args.self.now.inner)
-    (known _ _ _ _ alive c.requires.sound.1) c.drop_below.ensures (ap (λ (w : List RowEntry). reverse w) none) c.drop_if_below.ensures some
+    (known _ _ _ _ alive c.requires.sound.1) c.drop_below.ensures (ap (λ (w : List RowEntry). reverse w) none) c.drop_if_below.ensures some c.requires.rising
 
 pub returns-in-Ok-clause-seek : goal.returns-in-Ok-clause-seek
 returns-in-Ok-clause-seek g c =
@@ -31,7 +31,7 @@ returns-in-Ok-clause-seek g c =
     let none : c.drop_below.new.buffer.items ≡ [] = grind (arith, common_steps) in
     let gone : c.drop_if_below.new.ahead ≡ None = grind (arith, common_steps) in
     in_inner c.args.next_key.now (settings_of c.args.self.now.settings) c.args.self.now.failed alive (reverse c.args.self.now.buffer.items) (reverse c.drop_below.new.buffer.items) c.args.self.now.ahead c.drop_if_below.new.ahead (g.T.RowEntryIterator.state c.args.self.now.inner) (g.T.RowEntryIterator.state c.seek.new.self)
-    (known _ _ _ _ alive c.requires.sound.1) c.drop_below.ensures (ap (λ (w : List RowEntry). reverse w) none) c.drop_if_below.ensures gone c.in-Ok.ensures.seek
+    (known _ _ _ _ alive c.requires.sound.1) c.drop_below.ensures (ap (λ (w : List RowEntry). reverse w) none) c.drop_if_below.ensures gone c.requires.rising c.in-Ok.ensures.seek
 
 pub returns-in-Ok-clause-sound : goal.returns-in-Ok-clause-sound
 returns-in-Ok-clause-sound g c =

@@ -1,7 +1,6 @@
-use Rattle.std.proofs.Common.{◌∙◌, sym}
 use Rattle.std.specs.Prelude.{map}
 use Rattle.fleet_iter.specs.Merge.{merged_left}
-use Rattle.fleet_iter.proofs.Dedup.{seeks, from_key_skipped}
+use Rattle.fleet_iter.proofs.Dedup.{seeks, seeks_all}
 use Rattle.fleet_iter.proofs.SoughtMerges.{rising_given}
 use Rattle.fleet_iter.proofs.merge.MergeIteratorRowEntryIterator.seek.Goals as goal
 
@@ -15,10 +14,10 @@ pub returns-in-Ok-clause-seek : goal.returns-in-Ok-clause-seek
 returns-in-Ok-clause-seek g c =
     let f = g.T.RowEntryIterator.state in
     let old = c.args.self.now in
-    seeks c.args.next_key.now old.order old.dedup old.initialised old.failed old.heads.items c.skip_below.new.heads.items (map f old.sources.items) (map f c.skip_below.new.sources.items) c.if-not-self.false c.if-self.false c.in-Ok.ensures.ok
+    seeks c.args.next_key.now old.dedup old.initialised old.failed old.heads.items c.skip_below.new.heads.items (map f old.sources.items) (map f c.skip_below.new.sources.items) old.order c.if-not-self.false c.if-self.false c.requires.rising c.in-Ok.ensures.ok
 
 pub returns-in-Ok-clause-all : goal.returns-in-Ok-clause-all
-returns-in-Ok-clause-all g c =
+returns-in-Ok-clause-all g c whole =
     let f = g.T.RowEntryIterator.state in
     let old = c.args.self.now in
-    c.in-Ok.ensures.ok.rows ∙ sym (from_key_skipped c.args.next_key.now (merged_left old.order old.heads.items (map f old.sources.items)))
+    seeks_all c.args.next_key.now old.dedup old.initialised old.failed old.heads.items c.skip_below.new.heads.items (map f old.sources.items) (map f c.skip_below.new.sources.items) old.order whole c.in-Ok.ensures.ok

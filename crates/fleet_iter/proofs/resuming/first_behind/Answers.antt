@@ -1,0 +1,10 @@
+use Rattle.std.proofs.Common.{rules}
+use Rattle.fleet_iter.proofs.Resumes.{resumes_at}
+use Rattle.fleet_iter.proofs.resuming.first_behind.Goals as goal
+
+pub returns-in_ok-row-in-Some-clause-rows : goal.returns-in_ok-row-in-Some-clause-rows
+returns-in_ok-row-in-Some-clause-rows g c =
+    let f = g.T.RowSource.state in
+    let old = f c.args.source.now in
+    let moves = c.in_ok-seek_row-in-Some.ensures.seek.answers c.requires.alive c.requires.initialised in
+    resumes_at old.whole c.args.cursor.now _ c.as_slice.result.now old (f c.seek_row.new.self) _ (search rules) (search rules) moves c.in_ok-row-in-Some.ensures.rows
