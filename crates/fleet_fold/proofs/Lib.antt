@@ -1,5 +1,7 @@
 pub mod AllKept
+pub mod Folds
 pub mod KeptRows
 pub mod Keys
+pub mod Plain
 pub mod Rising
 pub mod Seeks

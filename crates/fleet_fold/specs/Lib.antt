@@ -1,2 +1,4 @@
+pub mod Operator
+pub mod Required
 pub mod Retention
 pub mod State

@@ -19,7 +19,7 @@ fn is_expired(row: &RowEntry, tick: i64) -> bool
     }
 }
 
-fn is_operand(row: &RowEntry) -> bool
+pub(crate) fn is_operand(row: &RowEntry) -> bool
     ensures { result ≡ is_operand (row_of row.now) }
 {
     match &row.value {

@@ -2,10 +2,10 @@
 ghost use Rattle.std.specs.Prelude.{◌≡◌, ⊤, [], false, true, OnOk, IfOk};
 ghost use Rattle.fleet_iter.specs.Iteration.{AreRising};
 
-use crate::RetentionIterator;
+use crate::{AppendOperator, MergeOperator, MergeOperatorRequiredIterator, RetentionIterator};
 use bytes::Bytes;
 use fleet_iter::{ListIterator, RowEntryIterator, are_rising};
-use fleet_rows::{RowEntry, Settings, SlateDBError, ValueDeletable};
+use fleet_rows::{MergeOperatorError, RowEntry, Settings, SlateDBError, ValueDeletable};
 use std::alloc::Global;
 use std::test::Fail;
 
@@ -287,11 +287,12 @@ impl RowEntryIterator for Failing {
         }
     }
 
-    fn seek(&mut self, alloc: Global, next_key: &[u8]) -> Result<(), SlateDBError> {
+    fn seek(&mut self, _alloc: Global, _next_key: &[u8]) -> Result<(), SlateDBError> {
         if self.failed {
             return Err(SlateDBError::IteratorFailed);
         }
-        self.list.seek(alloc, next_key)
+        self.failed = true;
+        Err(SlateDBError::StoreFault)
     }
 }
 
@@ -299,6 +300,7 @@ impl RowEntryIterator for Failing {
 fn refusal<A: Drop>(answer: Result<A, SlateDBError>) -> Option<&'static str> {
     match answer {
         Ok(_) => None,
+        Err(SlateDBError::MergeOperatorMissing) => Some("MergeOperatorMissing"),
         Err(SlateDBError::StoreFault) => Some("StoreFault"),
         Err(SlateDBError::IteratorFailed) => Some("IteratorFailed"),
         Err(_) => Some("another"),
@@ -340,5 +342,83 @@ fn keeps_rows_of_a_boxed_iterator(rt: HostRuntime) -> Result<(), Fail> {
     kept.init(alloc)?;
     let kept = given(alloc, &mut kept)?;
     assert_eq!(rt; kept, rows(alloc, Some("a:t:-:4:-:-,a:v:v1:2:-:-"))?);
+    Ok(())
+}
+
+// A batch merged by an operator, through the bound.
+fn joined<O: MergeOperator>(
+    alloc: Global,
+    operator: &O,
+    existing: Option<&str>,
+    operands: &[&str],
+) -> Result<Bytes, MergeOperatorError> {
+    let key = Bytes::copy_from_slice(alloc, b"k")?;
+    let existing = match existing {
+        Some(text) => Some(Bytes::copy_from_slice(alloc, text.as_bytes())?),
+        None => None,
+    };
+    let mut batch = Vec::new(alloc);
+    for operand in operands {
+        batch.push(Bytes::copy_from_slice(alloc, operand.as_bytes())?)?;
+    }
+    operator.merge_batch(alloc, &key, existing, &batch)
+}
+
+#[test]
+fn joins_operands(rt: HostRuntime) -> Result<(), Fail> {
+    let alloc = rt.alloc();
+    let append = AppendOperator;
+    let empty = joined(alloc, &append, None, &[]);
+    assert!(rt; matches!(empty, Err(MergeOperatorError::EmptyBatch)));
+    assert_eq!(rt;
+        joined(alloc, &append, None, &["a", "b"])?.as_slice(),
+        b"ab".as_slice()
+    );
+    assert_eq!(rt;
+        joined(alloc, &append, Some("a"), &["b"])?.as_slice(),
+        b"ab".as_slice()
+    );
+    assert_eq!(rt;
+        joined(alloc, &append, Some("a"), &[])?.as_slice(),
+        b"a".as_slice()
+    );
+    Ok(())
+}
+
+// Whether an operand is refused behind some rows, and the iterator then has failed.
+fn misses(alloc: Global, told: &str, taken: usize) -> Result<bool, SlateDBError> {
+    let mut plain = MergeOperatorRequiredIterator::new(list(alloc, Some(told))?);
+    plain.init(alloc)?;
+    'taken: for _ in 0..taken {
+        skip(alloc, &mut plain)?;
+    }
+    let missed = refusal(plain.next(alloc)) == Some("MergeOperatorMissing");
+    Ok(missed && refusal(plain.next(alloc)) == Some("IteratorFailed"))
+}
+
+#[test]
+fn misses_an_operator_at_an_operand(rt: HostRuntime) -> Result<(), Fail> {
+    let alloc = rt.alloc();
+    let cases = [
+        ("a:m:2:1:-:-", 0, true),
+        ("a:v:1:2:-:-,a:m:2:1:-:-", 0, false),
+        ("a:v:1:2:-:-,a:m:2:1:-:-", 1, true),
+        ("a:t:-:2:-:-,b:v:2:1:-:-", 1, false),
+    ];
+    for (told, taken, missed) in cases {
+        assert_eq!(rt; misses(alloc, told, taken)?, missed, "{told} {taken}");
+    }
+    Ok(())
+}
+
+#[test]
+fn seeks_past_an_operand(rt: HostRuntime) -> Result<(), Fail> {
+    let alloc = rt.alloc();
+    let rows = list(alloc, Some("a:m:1:2:-:-,b:v:2:1:-:-"))?;
+    let mut plain = MergeOperatorRequiredIterator::new(rows);
+    plain.init(alloc)?;
+    plain.seek(alloc, b"b".as_slice())?;
+    assert_eq!(rt; plain.next(alloc)?.map(|row| row.seq), Some(1));
+    assert!(rt; plain.next(alloc)?.is_none());
     Ok(())
 }

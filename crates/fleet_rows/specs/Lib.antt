@@ -1,3 +1,4 @@
 pub mod Row
 pub mod Errors
 pub mod Settings
+pub mod KeyValue

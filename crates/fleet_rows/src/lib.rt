@@ -3,6 +3,7 @@
 
 mod copies;
 mod errors;
+mod key_value;
 mod list;
 mod row;
 mod settings;
@@ -11,6 +12,7 @@ mod ulid;
 
 pub use copies::Copies;
 pub use errors::{CompactionFilterError, MergeOperatorError, SlateDBError};
+pub use key_value::KeyValue;
 pub use list::{JobList, ListOf, PlaceList, RuleList};
 pub use row::{RowEntry, ValueDeletable};
 pub use settings::Settings;

@@ -1,7 +1,7 @@
 // What no clause says: that calls succeed where there is memory, what is printed, and sizes known from elsewhere.
 use crate::{
-    CompactionFilterError, Copies, ListOf, MergeOperatorError, RowEntry, SlateDBError, Text, Ulid,
-    ValueDeletable,
+    CompactionFilterError, Copies, KeyValue, ListOf, MergeOperatorError, RowEntry, SlateDBError,
+    Text, Ulid, ValueDeletable,
 };
 use bytes::Bytes;
 use std::alloc::Global;
@@ -59,6 +59,23 @@ fn copies(rt: HostRuntime) -> Result<(), Fail> {
     assert_eq!(rt; set.value.copied()?, set.value);
     is_send_and_sync(set);
     is_send_and_sync(words);
+    Ok(())
+}
+
+#[test]
+fn holds_a_value(rt: HostRuntime) -> Result<(), Fail> {
+    let alloc = rt.alloc();
+    let mut stamped = row(alloc, val(alloc)?)?;
+    stamped.create_ts = Some(5);
+    let held = KeyValue::from_row(row(alloc, val(alloc)?)?).ok_or("a value")?;
+    assert_eq!(rt;
+        (held.value.as_slice(), held.create_ts),
+        (b"val".as_slice(), 0)
+    );
+    let later = KeyValue::from_row(stamped).ok_or("a value")?;
+    assert!(rt; held < later);
+    assert_eq!(rt; held.clone()?, held);
+    assert!(rt; KeyValue::from_row(row(alloc, ValueDeletable::Tombstone)?).is_none());
     Ok(())
 }
 
