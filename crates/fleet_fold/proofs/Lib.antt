@@ -1,4 +1,5 @@
 pub mod AllKept
+pub mod Filters
 pub mod Folds
 pub mod KeptRows
 pub mod Keys

@@ -1,3 +1,5 @@
+pub mod Filter
+pub mod FilterState
 pub mod Operator
 pub mod Required
 pub mod Retention

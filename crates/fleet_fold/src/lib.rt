@@ -1,16 +1,25 @@
-//! What a compaction does to the rows of a key: operators that merge operands, and retention.
+//! What a compaction does to the rows of a key: operators that merge operands, retention, and filters.
 #![tactic(auto)]
 
 mod append;
+mod filter;
+mod filtering;
 mod kept;
 mod operator;
 mod required;
 mod retention;
 
 pub use append::AppendOperator;
+pub use filter::{
+    CompactionFilter, CompactionFilterDecision, CompactionFilterSupplier, CompactionJobContext,
+    RowFilter,
+};
+pub use filtering::CompactionFilterIterator;
 pub use operator::{BatchMerger, MERGE_OPERATOR_OPERANDS, MergeOperator};
 pub use required::MergeOperatorRequiredIterator;
 pub use retention::RetentionIterator;
 
+#[cfg(test)]
+mod filter_tests;
 #[cfg(test)]
 mod tests;
