@@ -16,4 +16,4 @@ looks s t r h = record {
     by : (r : Result (Option RowEntry) SlateDBError) → PeekAnswers s t r → LookAnswers s r
     by (Ok None) e = (e.rows, e.whole)
     by (Ok (Some x)) e = e.first
-    by (Err e) f = f.cause
+    by (Err e) f = (f.cause, f.known)

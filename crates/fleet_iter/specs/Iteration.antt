@@ -14,6 +14,7 @@ pub record IteratorState : Type 0 where
   pub initialised : Bool
   pub failed : Bool
   pub whole : Bool  -- nothing but want of memory can keep it from giving all of them
+  pub refusal : Option SlateDBError  -- the refusal that stands behind the rows, where it is known; one that is not whole and of which none is known may refuse before they are all given
 
 -- none of its calls has failed it
 pub record IsAlive (s : IteratorState) : Type 0 where
@@ -29,6 +30,16 @@ pub record CanFail (whole : Bool) (e : SlateDBError) : Type 0 where
 pub record Fails (old new : IteratorState) (e : SlateDBError) : Type 0 where
   pub failed : new.failed ≡ true
   pub cause : CanFail old.whole e
+
+-- where the refusal behind the rows is known, that one comes, and only when no row is left, or memory is wanting
+abbrev pub IsKnown : IteratorState → SlateDBError → Type 0
+IsKnown s e = (behind : SlateDBError) → s.refusal ≡ Some behind → e ≢ Memory → (s.rows ≡ []) × (e ≡ behind)
+
+-- a refusal of the next row
+pub record NextFails (old new : IteratorState) (e : SlateDBError) : Type 0 where
+  pub failed : new.failed ≡ true
+  pub cause : CanFail old.whole e
+  pub known : IsKnown old e
 
 -- a failed iterator says so, and stays as it is
 pub record StaysFailed (A : Type 0) (old new : IteratorState) (result : Result A SlateDBError) : Type 0 where
@@ -57,7 +68,7 @@ pub record Ends (old new : IteratorState) : Type 0 where
 abbrev pub NextAnswers : IteratorState → IteratorState → Result (Option RowEntry) SlateDBError → Type 0
 NextAnswers old new (Ok None) = Ends old new
 NextAnswers old new (Ok (Some row)) = old ≡ record new { rows = row_of row ∷ new.rows }
-NextAnswers old new (Err e) = Fails old new e
+NextAnswers old new (Err e) = NextFails old new e
 
 pub record Nexts (old new : IteratorState) (result : Result (Option RowEntry) SlateDBError) : Type 0 where
   pub failed : old.failed ≡ true → StaysFailed (Option RowEntry) old new result

@@ -195,11 +195,11 @@ Fits false false hs ss = (hs ≡ []) × NoneFailed ss
 
 abbrev pub merging : IterationOrder → Bool → Bool → Bool → List (Option RowEntry) → List IteratorState → IteratorState
 merging order dedup initialised failed hs ss =
-    record { rows = given dedup (merged_left order hs ss); initialised = initialised; failed = failed; whole = are_whole ss }
+    record { rows = given dedup (merged_left order hs ss); initialised = initialised; failed = failed; whole = are_whole ss; refusal = None }
 
 -- a merge with dedup that is not initialised
 abbrev pub starting : IterationOrder → List IteratorState → IteratorState
-starting order ss = record { rows = deduplicated (merged order (rows_left ss)); initialised = false; failed = false; whole = are_whole ss }
+starting order ss = record { rows = deduplicated (merged order (rows_left ss)); initialised = false; failed = false; whole = are_whole ss; refusal = None }
 
 -- The ascending merge of ordered lists, of which no two have a row with key and sequence in common, has all their rows in order.
 abbrev pub MergesSort : Type 0

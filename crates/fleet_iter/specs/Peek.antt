@@ -6,7 +6,7 @@ use Rattle.fleet_rows.specs.Row.{row_of, rows_of}
 use Rattle.fleet_rows.specs.declared.row.RowEntry.{RowEntry}
 use Rattle.fleet_rows.specs.declared.errors.SlateDBError.{SlateDBError}
 use Rattle.fleet_rows.specs.declared.errors.SlateDBError.TheVariants.{IteratorNotInitialized, IteratorFailed}
-use Rattle.fleet_iter.specs.Iteration.{IteratorState, CanFail, Fails, Ends, StaysFailed, StaysUninitialised, behind_first}
+use Rattle.fleet_iter.specs.Iteration.{IteratorState, CanFail, IsKnown, NextFails, Ends, StaysFailed, StaysUninitialised, behind_first}
 
 -- what is left behind a row that was read ahead
 abbrev pub ahead : Option RowEntry → IteratorState → IteratorState
@@ -25,7 +25,7 @@ pub record Shows (row : RowEntry) (old new : IteratorState) : Type 0 where
 abbrev pub PeekAnswers : IteratorState → IteratorState → Result (Option RowEntry) SlateDBError → Type 0
 PeekAnswers old new (Ok None) = Ends old new
 PeekAnswers old new (Ok (Some row)) = Shows row old new
-PeekAnswers old new (Err e) = Fails old new e
+PeekAnswers old new (Err e) = NextFails old new e
 
 pub record Peeks (old new : IteratorState) (result : Result (Option RowEntry) SlateDBError) : Type 0 where
   pub failed : old.failed ≡ true → StaysFailed (Option RowEntry) old new result
@@ -36,7 +36,7 @@ pub record Peeks (old new : IteratorState) (result : Result (Option RowEntry) Sl
 abbrev pub LookAnswers : IteratorState → Result (Option RowEntry) SlateDBError → Type 0
 LookAnswers s (Ok None) = (s.rows ≡ []) × (s.whole ≡ true)
 LookAnswers s (Ok (Some row)) = s.rows ≡ row_of row ∷ behind_first s.rows
-LookAnswers s (Err e) = CanFail s.whole e
+LookAnswers s (Err e) = CanFail s.whole e × IsKnown s e
 
 pub record Looks (s : IteratorState) (result : Result (Option RowEntry) SlateDBError) : Type 0 where
   pub failed : s.failed ≡ true → result ≡ Err IteratorFailed

@@ -16,7 +16,9 @@ pub enum IterationOrder {
 /// Rows, one after the other. An answer that is an error, other than `IteratorNotInitialized`, fails the iterator, and it is
 /// made anew.
 pub trait RowEntryIterator: Send + Sync + Drop {
-    /// The rows left, whether it was initialised, whether it failed, and whether nothing but want of memory may fail it.
+    /// The rows left, whether it was initialised, whether it failed, whether nothing but want of memory may fail it, and the
+    /// refusal that stands behind the rows, where it is known: but for want of memory, `next` gives them all before it refuses,
+    /// and then with that one.
     ghost state: { Self → IteratorState };
 
     /// What holds inside it: so it is made, and so each call leaves it.

@@ -390,7 +390,10 @@ struct FailingIterator {
 }
 
 impl RowEntryIterator for FailingIterator {
-    ghost state = { λ f. record { rows = rows_of (reverse f.rows.items); initialised = true; failed = f.failed; whole = false } };
+    ghost use Rattle.std.specs.Prelude.{Some};
+    ghost use Rattle.fleet_rows.specs.declared.errors.SlateDBError.TheVariants.{StoreFault};
+
+    ghost state = { λ f. record { rows = rows_of (reverse f.rows.items); initialised = true; failed = f.failed; whole = false; refusal = Some StoreFault } };
 
     ghost sound = { λ _. ⊤ };
 

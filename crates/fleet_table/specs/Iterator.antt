@@ -1,5 +1,5 @@
 -- What a table's iterator has left.
-use Rattle.std.specs.Prelude.{List, Bool, true}
+use Rattle.std.specs.Prelude.{List, Bool, None, true}
 use Rattle.row_model.specs.Rows.{Row}
 use Rattle.fleet_iter.specs.Iteration.{IteratorState}
 
@@ -9,4 +9,4 @@ pub record RowsLeft : Type 0 where
 
 -- it needs no init, and only want of memory fails it
 abbrev pub state_of : RowsLeft → IteratorState
-state_of t = record { rows = t.left; initialised = true; failed = t.broken; whole = true }
+state_of t = record { rows = t.left; initialised = true; failed = t.broken; whole = true; refusal = None }

@@ -12,6 +12,7 @@ invariant-rows g l =
       alive : now.failed ≡ false;
       initialised : now.initialised ≡ true;
       whole : now.whole ≡ first.whole;
+      refusal : now.refusal ≡ first.refusal;
       rows : without_first (is_written (l.key, l.seq)) now.rows ≡ without_first (is_written (l.key, l.seq)) first.rows;
     }
 
