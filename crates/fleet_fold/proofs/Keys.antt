@@ -1,10 +1,11 @@
 -- Rows key after key: the first key's, and what a seek leaves.
-use Rattle.std.proofs.Common.{◌≡◌, ◌∙◌, sym, refl, ap, ℕ, ℤ, List, [], ◌∷◌, ◌++◌, Bool, true, false, cond, Option, None}
+use Rattle.std.proofs.Common.{◌≡◌, ◌≢◌, ◌∙◌, sym, refl, ap, subst, ℕ, ℤ, List, [], ◌∷◌, ◌++◌, Bool, true, false, cond, Option, None, append-nil}
 use Rattle.std.specs.Prelude.{flat_map, if◌then◌else◌, bytes_eq}
 use Rattle.std.specs.List.{AllByRecursion}
 use Rattle.std.specs.Ordering.{is_lt, is_gt}
+use Rattle.std.proofs.lemmas.List.{append_assoc}
 use Rattle.std.proofs.lemmas.Slice.Eq.{bytes_eq-Decides}
-use Rattle.row_model.specs.Chunks.{Chunk, elements, chunk_by}
+use Rattle.row_model.specs.Chunks.{Chunk, elements, chunk_by, put_before}
 use Rattle.row_model.specs.Rows.{Row, Tombstone, same_key, key_cmp, is_expired}
 use Rattle.row_model.specs.Settings.{Settings}
 use Rattle.row_model.specs.KeptRows.{kept_rows, as_tombstone_if_expired}
@@ -16,10 +17,12 @@ use Rattle.std.specs.declared.cmp.Ordering.{Ordering}
 use Rattle.std.specs.declared.cmp.Ordering.TheVariants.{Less, Equal, Greater}
 use Rattle.std.proofs.lemmas.Cmp.{nat_list_cmp_total}
 use Rattle.std.proofs.lemmas.Grind.{flat_map-append}
-use Rattle.fleet_iter.specs.Iteration.{IteratorState, AreRising, from_key}
+use Rattle.fleet_iter.specs.Iteration.{IteratorState, AreRising, CanFail, from_key}
 use Rattle.fleet_rows.specs.Row.{rows_of}
 use Rattle.fleet_rows.specs.declared.row.RowEntry.{RowEntry}
-use Rattle.fleet_fold.specs.Retention.{kept_of_keys, HaveOneKey, AreEndedBy, from_ahead, ReadsKey}
+use Rattle.fleet_rows.specs.declared.errors.SlateDBError.{SlateDBError}
+use Rattle.fleet_rows.specs.declared.errors.SlateDBError.TheVariants.{Memory}
+use Rattle.fleet_fold.specs.Retention.{kept_of, kept_of_keys, front, kept_given, HaveOneKey, AreEndedBy, from_ahead, ReadsKey, RefusesKey, RefusesFill}
 use Rattle.fleet_fold.proofs.AllKept.{all_kept}
 
 same : (a b : Row) → same_key a b ≡ true → a.key ≡ b.key
@@ -51,6 +54,45 @@ first_key settings (r ∷ rows) later alike ended =
     let own : same_key r r ≡ true = (bytes_eq-Decides r.key r.key).1 refl in
     ap (λ (gs : List (Chunk Row)). flat_map (λ g. kept_rows settings (elements g)) gs) (chunk_is_walked Row same_key r rows later (joined r r rows own alike) (loose r r rows later own alike ended))
 
+-- ---- the keys whose rows are all there
+
+-- what stands before a list's last element stays before it
+front-more : (c : Chunk Row) (q : Row) (gs : List (Chunk Row)) → front (c ∷ put_before same_key q gs) ≡ c ∷ front (put_before same_key q gs)
+front-more c q [] = refl
+front-more c q (g ∷ gs) = by (same_key q g.0)
+  where
+    by : (b : Bool) → front (c ∷ cond b ((q, g.0 ∷ g.1) ∷ gs) ((q, []) ∷ g ∷ gs)) ≡ c ∷ front (cond b ((q, g.0 ∷ g.1) ∷ gs) ((q, []) ∷ g ∷ gs))
+    by true = refl
+    by false = refl
+
+first_chunk : (r : Row) (rows later : List Row) → HaveOneKey (r ∷ rows) → AreEndedBy (r ∷ rows) later → chunk_by same_key (r ∷ (rows ++ later)) ≡ (r, rows) ∷ chunk_by same_key later
+first_chunk r rows later alike ended =
+    let own : same_key r r ≡ true = (bytes_eq-Decides r.key r.key).1 refl in
+    chunk_is_walked Row same_key r rows later (joined r r rows own alike) (loose r r rows later own alike ended)
+
+-- the first key's rows, and then those of the others
+pub first_given : (settings : Settings) (whole : Bool) (rows later : List Row) → HaveOneKey rows → AreEndedBy rows later → (later ≡ [] → whole ≡ true)
+    → kept_given settings whole (rows ++ later) ≡ kept_rows settings rows ++ kept_given settings whole later
+first_given settings true rows later alike ended all = first_key settings rows later alike ended
+first_given settings false [] later alike ended all = ap (λ (w : List Row). w ++ kept_given settings false later) (sym (none_kept settings))
+first_given settings false (r ∷ rows) [] alike ended all = let clash : false ≡ true = all refl in absurd (cc clash)
+first_given settings false (r ∷ rows) (q ∷ later) alike ended all =
+    ap (λ (gs : List (Chunk Row)). kept_of settings (front gs)) (first_chunk r rows (q ∷ later) alike ended) ∙ ap (kept_of settings) (front-more (r, rows) q (chunk_by same_key later))
+
+-- where a refusal may stand behind rows of one key, none of them is kept
+pub none_given : (settings : Settings) (rows : List Row) → HaveOneKey rows → kept_given settings false rows ≡ []
+none_given settings [] alike = refl
+none_given settings (r ∷ rows) alike =
+    ap (λ (w : List Row). kept_given settings false (r ∷ w)) (sym (append-nil rows)) ∙ ap (λ (gs : List (Chunk Row)). kept_of settings (front gs)) (first_chunk r rows [] alike tt)
+
+-- rows that are kept of all keys but the last begin those of all
+pub front_begins : (settings : Settings) (gs : List (Chunk Row)) → (rest : List Row) × (kept_of settings (front gs) ++ rest ≡ kept_of settings gs)
+front_begins settings [] = ([], refl)
+front_begins settings (g ∷ []) = (kept_of settings (g ∷ []), refl)
+front_begins settings (g ∷ (h ∷ gs)) =
+    let (rest, is) = front_begins settings (h ∷ gs) in
+    (rest, append_assoc (kept_rows settings (elements g)) (kept_of settings (front (h ∷ gs))) rest ∙ ap (λ (w : List Row). kept_rows settings (elements g) ++ w) is)
+
 pub all_back : (P : Row → Type 0) (xs ys : List Row) → AllByRecursion P (xs ++ ys) → AllByRecursion P ys
 all_back P [] ys h = h
 all_back P (x ∷ xs) ys h = all_back P xs ys h.1
@@ -61,13 +103,26 @@ rising_back [] ys h = h
 rising_back (x ∷ xs) ys h = rising_back xs ys h.1
 
 -- a key is read and kept
-pub key_kept : (settings : Settings) (ahead later : Option RowEntry) (old new : IteratorState) (rows kept turned : List RowEntry) → ReadsKey ahead old rows later new
+pub key_kept : (settings : Settings) (whole : Bool) (ahead later : Option RowEntry) (old new : IteratorState) (rows kept turned : List RowEntry) → ReadsKey ahead old rows later new → new.whole ≡ whole
     → rows_of kept ≡ kept_rows settings (rows_of rows) → turned ≡ kept
-    → kept_of_keys settings (from_ahead ahead old) ≡ rows_of turned ++ kept_of_keys settings (from_ahead later new)
-key_kept settings ahead later old new rows kept turned h is back =
-    ap (kept_of_keys settings) h.parts
-    ∙ (first_key settings (rows_of rows) (from_ahead later new) h.alike h.ended
-    ∙ ap (λ (w : List Row). w ++ kept_of_keys settings (from_ahead later new)) (sym is ∙ ap (λ (w : List RowEntry). rows_of w) (sym back)))
+    → kept_given settings whole (from_ahead ahead old) ≡ rows_of turned ++ kept_given settings whole (from_ahead later new)
+key_kept settings whole ahead later old new rows kept turned h same is back =
+    ap (kept_given settings whole) h.parts
+    ∙ (first_given settings whole (rows_of rows) (from_ahead later new) h.alike h.ended (λ none. sym same ∙ h.all none)
+    ∙ ap (λ (w : List Row). w ++ kept_given settings whole (from_ahead later new)) (sym is ∙ ap (λ (w : List RowEntry). rows_of w) (sym back)))
+
+-- reading is refused before any row is kept
+pub fill_refused : (settings : Settings) (buffer left : List RowEntry) (ahead later : Option RowEntry) (old s : IteratorState) (e : SlateDBError) → RefusesKey later s e → s.whole ≡ old.whole → s.refusal ≡ old.refusal
+    → rows_of buffer ++ kept_given settings old.whole (from_ahead ahead old) ≡ rows_of left ++ kept_given settings old.whole (from_ahead later s) → left ≡ [] → RefusesFill settings buffer ahead old e
+fill_refused settings buffer left ahead later old s e refuses whole refusal so_far empty = record {
+  cause = subst (λ (w : Bool). CanFail w e) whole refuses.cause;
+  known = λ behind is other. let (alike, same) = refuses.known behind (refusal ∙ is) other in
+      (so_far ∙ (ap (λ (w : List RowEntry). rows_of w ++ kept_given settings old.whole (from_ahead later s)) empty ∙ by old.whole refl other alike), same);
+}
+  where
+    by : (w : Bool) → old.whole ≡ w → e ≢ Memory → HaveOneKey (from_ahead later s) → kept_given settings w (from_ahead later s) ≡ []
+    by true is other alike = absurd (other (refuses.cause.memory (whole ∙ is)))
+    by false is other alike = none_given settings (from_ahead later s) alike
 
 -- ---- what a seek leaves
 

@@ -1,6 +1,14 @@
 pub mod AllKept
 pub mod Filters
+pub mod FoldRefusals
+pub mod FoldedRows
+pub mod FoldedSeeks
 pub mod Folds
+pub mod GroupBatches
+pub mod GroupCloses
+pub mod GroupRows
+pub mod GroupSteps
+pub mod Joining
 pub mod KeptRows
 pub mod Keys
 pub mod Plain

@@ -1,7 +1,8 @@
 -- What a seek leaves of rows without operands.
-use Rattle.std.proofs.Common.{◌≡◌, ◌∙◌, sym, refl, ap, subst, ℕ, List, [], ◌∷◌, ◌&&◌, not, Bool, true, false, cond, Ok}
+use Rattle.std.proofs.Common.{◌≡◌, ◌∙◌, sym, refl, ap, subst, ℕ, List, [], ◌∷◌, ◌&&◌, not, Bool, true, false, cond, if◌then◌else◌, Some, None, Ok}
 use Rattle.std.specs.List.{AllByRecursion}
 use Rattle.row_model.specs.Rows.{Row, is_operand}
+use Rattle.fleet_rows.specs.declared.errors.SlateDBError.TheVariants.{MergeOperatorMissing}
 use Rattle.fleet_iter.specs.Iteration.{IteratorState, AreRising, Moves, Seeks, from_key}
 use Rattle.row_laws.specs.Keys.{is_below}
 use Rattle.fleet_iter.proofs.RisingMerges.{IsUpTo}
@@ -58,7 +59,9 @@ module _ (key : List ℕ) (inner after : IteratorState) (rising : AreRising inne
       let begun : after.initialised ≡ inner.initialised = ap (λ (s : IteratorState). s.initialised) m in
       let now : after.whole && not (has_operand after.rows) ≡ true = ap (λ b. b && not (has_operand after.rows)) (ap (λ (s : IteratorState). s.whole) m ∙ ew) ∙ ap not none in
       let whole : after.whole && not (has_operand after.rows) ≡ inner.whole && not (has_operand inner.rows) = now ∙ sym was in
-      subst (λ b. Moves b key A B) (sym was) (cc (rows, begun, whole))
+      let behind : (if after.whole && has_operand after.rows then Some MergeOperatorMissing else None) ≡ (if inner.whole && has_operand inner.rows then Some MergeOperatorMissing else None) =
+      ap (λ b. if b then Some MergeOperatorMissing else None) (ap (λ (s : IteratorState). s.whole && has_operand after.rows) m ∙ (ap (λ b. inner.whole && b) (none ∙ sym eo))) in
+      subst (λ b. Moves b key A B) (sym was) (cc (rows, begun, whole, behind))
   moved true ew true eo m =
       let was : inner.whole && not (has_operand inner.rows) ≡ false = ap (λ b. b && not (has_operand inner.rows)) ew ∙ ap not eo in
       subst (λ b. Moves b key A B) (sym was) (record { initialised = ap (λ (s : IteratorState). s.initialised) m; failed = refl; rising = rising_before after.rows (moves_rising key inner after true m rising) })

@@ -9,9 +9,9 @@ use Rattle.row_model.specs.Settings.{Settings}
 use Rattle.row_model.specs.KeptRows.{kept_rows, retention_walk, as_tombstone_if_expired, without_old_tombstones, before_old_tombstones}
 use Rattle.row_laws.proofs.KeptReads.{flat, flat-chunk_by}
 use Rattle.fleet_iter.specs.Iteration.{AreRising}
-use Rattle.fleet_fold.specs.Retention.{kept_of_keys}
+use Rattle.fleet_fold.specs.Retention.{kept_of_keys, kept_given}
 use Rattle.fleet_fold.proofs.AllKept.{all-both, all-walk, all-stripped, all_key_kept}
-use Rattle.fleet_fold.proofs.Keys.{all_back, rising_back}
+use Rattle.fleet_fold.proofs.Keys.{all_back, rising_back, front_begins}
 
 abbrev IsUpTo : Row → Row → Type 0
 IsUpTo r q = is_gt (key_cmp r.key q.key) ≡ false
@@ -108,3 +108,10 @@ module _ (settings : Settings) where
 
   pub kept_rise : (rows : List Row) → AreRising rows → AreRising (kept_of_keys settings rows)
   kept_rise rows h = rising-chunks (chunk_by same_key rows) (subst AreRising (sym (flat-chunk_by same_key rows)) h)
+
+  -- and so do those of all keys but the last
+  pub given_rise : (whole : Bool) (rows : List Row) → AreRising rows → AreRising (kept_given settings whole rows)
+  given_rise true rows h = kept_rise rows h
+  given_rise false rows h =
+      let (rest, is) = front_begins settings (chunk_by same_key rows) in
+      rising_front (kept_given settings false rows) rest (subst AreRising (sym is) (kept_rise rows h))

@@ -57,10 +57,10 @@ ends_well f = is_ok f.end
 
 -- what is left where a filter was closed, and where it was not
 abbrev pub filtering : Bool → Bool → Answers → Closing → IteratorState → IteratorState
-filtering failed true answers closing inner = record { rows = []; initialised = inner.initialised; failed = failed; whole = true }
+filtering failed true answers closing inner = record { rows = []; initialised = inner.initialised; failed = failed; whole = true; refusal = None }
 filtering failed false answers closing inner =
     let f = filtered answers closing inner.rows in
-    record { rows = f.rows; initialised = inner.initialised; failed = failed; whole = inner.whole && ends_well f }
+    record { rows = f.rows; initialised = inner.initialised; failed = failed; whole = inner.whole && ends_well f; refusal = None }
 
 -- the next row that is kept, or that the filter was closed
 abbrev pub Gives : Filtered → Bool → Option RowEntry → Filtered → Bool → IteratorState → Type 0

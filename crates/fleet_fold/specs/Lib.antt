@@ -1,5 +1,8 @@
 pub mod Filter
 pub mod FilterState
+pub mod Folded
+pub mod Groups
+pub mod Merging
 pub mod Operator
 pub mod Required
 pub mod Retention

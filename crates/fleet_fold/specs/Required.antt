@@ -1,5 +1,5 @@
 -- Rows without operands.
-use Rattle.std.specs.Prelude.{◌≡◌, List, [], ◌∷◌, Option, Bool, true, false, not, ◌&&◌, Result, Err, if◌then◌else◌, ⊤}
+use Rattle.std.specs.Prelude.{◌≡◌, List, [], ◌∷◌, Option, Some, None, Bool, true, false, not, ◌&&◌, Result, Err, if◌then◌else◌, ⊤}
 use Rattle.row_model.specs.Rows.{Row, is_operand}
 use Rattle.fleet_iter.specs.Iteration.{IteratorState, AreRising}
 use Rattle.fleet_rows.specs.declared.row.RowEntry.{RowEntry}
@@ -16,10 +16,10 @@ abbrev pub has_operand : List Row → Bool
 has_operand [] = false
 has_operand (r ∷ rows) = if is_operand r then true else has_operand rows
 
--- the rows that are given; an operand keeps back those behind it
+-- the rows that are given; an operand keeps back those behind it, and is refused
 abbrev pub without_operands : Bool → IteratorState → IteratorState
 without_operands failed inner =
-    record { rows = before_operand inner.rows; initialised = inner.initialised; failed = failed; whole = inner.whole && not (has_operand inner.rows) }
+    record { rows = before_operand inner.rows; initialised = inner.initialised; failed = failed; whole = inner.whole && not (has_operand inner.rows); refusal = if inner.whole && has_operand inner.rows then Some MergeOperatorMissing else None }
 
 -- what holds of the inner iterator until a call fails
 abbrev pub ReadsPlain : Bool → IteratorState → Type 0

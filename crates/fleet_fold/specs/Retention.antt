@@ -1,18 +1,36 @@
 -- What retention gives of rows that stand key after key.
-use Rattle.std.specs.Prelude.{◌≡◌, ℕ, ℤ, nat_le, not, ◌&&◌, Bool, true, false, List, [], ◌∷◌, ◌++◌, flat_map, Option, None, ⊤}
+use Rattle.std.specs.Prelude.{◌≡◌, ◌≢◌, ℕ, ℤ, nat_le, not, ◌&&◌, Bool, true, false, List, [], ◌∷◌, ◌++◌, flat_map, Option, Some, None, ⊤}
 use Rattle.std.specs.List.{AllByRecursion}
 use Rattle.std.specs.Option.{option_to_list}
-use Rattle.row_model.specs.Chunks.{elements, chunk_by}
+use Rattle.row_model.specs.Chunks.{Chunk, elements, chunk_by}
 use Rattle.row_model.specs.KeptRows.{kept_rows}
 use Rattle.row_model.specs.Rows.{Row, same_key, is_operand, is_expired}
 use Rattle.row_model.specs.Settings.{Settings}
-use Rattle.fleet_iter.specs.Iteration.{IteratorState, AreRising}
+use Rattle.fleet_iter.specs.Iteration.{IteratorState, AreRising, CanFail}
 use Rattle.fleet_rows.specs.Row.{rows_of}
 use Rattle.fleet_rows.specs.declared.row.RowEntry.{RowEntry}
+use Rattle.fleet_rows.specs.declared.errors.SlateDBError.{SlateDBError}
+use Rattle.fleet_rows.specs.declared.errors.SlateDBError.TheVariants.{Memory}
 
 -- the kept rows of each key in turn
+abbrev pub kept_of : Settings → List (Chunk Row) → List Row
+kept_of settings keys = flat_map (λ g. kept_rows settings (elements g)) keys
+
 abbrev pub kept_of_keys : Settings → List Row → List Row
-kept_of_keys settings rows = flat_map (λ g. kept_rows settings (elements g)) (chunk_by same_key rows)
+kept_of_keys settings rows = kept_of settings (chunk_by same_key rows)
+
+-- the keys whose rows are all there: where a refusal may stand behind the rows, all keys but the last one
+abbrev pub front : {A : Type 0} → List A → List A
+front [] = []
+front (x ∷ []) = []
+front (x ∷ (y ∷ xs)) = x ∷ front (y ∷ xs)
+
+abbrev pub keys_given : Bool → List Row → List (Chunk Row)
+keys_given true rows = chunk_by same_key rows
+keys_given false rows = front (chunk_by same_key rows)
+
+abbrev pub kept_given : Settings → Bool → List Row → List Row
+kept_given settings whole rows = kept_of settings (keys_given whole rows)
 
 -- the walk drops a row, and the walk ends with one
 abbrev pub is_dropped : ℤ → Row → Bool
@@ -52,21 +70,33 @@ pub record ReadsKey (ahead : Option RowEntry) (old : IteratorState) (rows : List
   pub ended : AreEndedBy (rows_of rows) (from_ahead later new)
   pub readable : IsReadable new
   pub whole : new.whole ≡ old.whole
-  pub all : rows ≡ [] → new.whole ≡ true
+  pub refusal : new.refusal ≡ old.refusal
+  pub all : from_ahead later new ≡ [] → new.whole ≡ true
+
+-- or reading is refused; by a refusal that is known behind all rows, which then are of one key
+pub record RefusesKey (ahead : Option RowEntry) (old : IteratorState) (e : SlateDBError) : Type 0 where
+  pub cause : CanFail old.whole e
+  pub known : (behind : SlateDBError) → old.refusal ≡ Some behind → e ≢ Memory → HaveOneKey (from_ahead ahead old) × (e ≡ behind)
 
 -- kept rows come into an empty buffer, unless nothing is left
 pub record Fills (settings : Settings) (buffer : List RowEntry) (ahead : Option RowEntry) (old : IteratorState) (filled : List RowEntry) (later : Option RowEntry) (new : IteratorState) : Type 0 where
-  pub rows : rows_of buffer ++ kept_of_keys settings (from_ahead ahead old) ≡ rows_of filled ++ kept_of_keys settings (from_ahead later new)
+  pub rows : rows_of buffer ++ kept_given settings old.whole (from_ahead ahead old) ≡ rows_of filled ++ kept_given settings old.whole (from_ahead later new)
   pub readable : IsReadable new
   pub whole : new.whole ≡ old.whole
+  pub refusal : new.refusal ≡ old.refusal
   pub ends : filled ≡ [] → from_ahead later new ≡ []
   pub all : filled ≡ [] → new.whole ≡ true
   pub rising : AreRising (from_ahead ahead old) → AreRising (from_ahead later new)
 
+-- or that is refused; by a refusal that is known behind all rows, of which then none is kept
+pub record RefusesFill (settings : Settings) (buffer : List RowEntry) (ahead : Option RowEntry) (old : IteratorState) (e : SlateDBError) : Type 0 where
+  pub cause : CanFail old.whole e
+  pub known : (behind : SlateDBError) → old.refusal ≡ Some behind → e ≢ Memory → (rows_of buffer ++ kept_given settings old.whole (from_ahead ahead old) ≡ []) × (e ≡ behind)
+
 -- the rows that retention has left: those that are kept already, and what it will keep of the others
 abbrev pub retained : Bool → Settings → List RowEntry → Option RowEntry → IteratorState → IteratorState
 retained failed settings buffer ahead inner =
-    record { rows = rows_of buffer ++ kept_of_keys settings (from_ahead ahead inner); initialised = inner.initialised; failed = failed; whole = inner.whole }
+    record { rows = rows_of buffer ++ kept_given settings inner.whole (from_ahead ahead inner); initialised = inner.initialised; failed = failed; whole = inner.whole; refusal = inner.refusal }
 
 -- what retention knows of its inner iterator, until it fails
 pub record ReadsOn (buffer : List RowEntry) (ahead : Option RowEntry) (inner : IteratorState) : Type 0 where

@@ -4,7 +4,10 @@
 mod append;
 mod filter;
 mod filtering;
+mod fold;
+mod group;
 mod kept;
+mod merging;
 mod operator;
 mod required;
 mod retention;
@@ -15,6 +18,7 @@ pub use filter::{
     RowFilter,
 };
 pub use filtering::CompactionFilterIterator;
+pub use merging::MergeOperatorIterator;
 pub use operator::{BatchMerger, MERGE_OPERATOR_OPERANDS, MergeOperator};
 pub use required::MergeOperatorRequiredIterator;
 pub use retention::RetentionIterator;

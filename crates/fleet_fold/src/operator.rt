@@ -69,12 +69,16 @@ pub trait BatchMerger {
         operands: &[Bytes],
     ) -> Result<Bytes, MergeOperatorError>
         ensures { AnswersBatch (fold_bytes (merged (settings self.now)) key.now existing_value operands.now) result };
+
+    ghost lawful: { (s : List ℕ) → IsLawful (merged s) };
 }
 
 impl<O: MergeOperator> BatchMerger for O {
     ghost settings = { O.settings };
 
     ghost merged = { O.merged };
+
+    ghost lawful = { O.lawful };
 
     fn merged_batch(
         &self,

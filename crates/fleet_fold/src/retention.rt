@@ -2,10 +2,10 @@
 
 ghost use Rattle.std.specs.Prelude.{◌≡◌, ◌++◌, reverse, false, [], None, OnOk, IfOk, IfErr};
 ghost use Rattle.std.specs.Option.{option_to_list};
-ghost use Rattle.fleet_iter.specs.Iteration.{IteratorState, CanFail, AreRising, from_key};
+ghost use Rattle.fleet_iter.specs.Iteration.{IteratorState, AreRising, from_key};
 ghost use Rattle.fleet_rows.specs.Row.{row_of, rows_of};
 ghost use Rattle.fleet_rows.specs.Settings.{settings_of};
-ghost use Rattle.fleet_fold.specs.Retention.{kept_of_keys, joins, IsReadable, ReadsKey, Fills};
+ghost use Rattle.fleet_fold.specs.Retention.{kept_given, joins, IsReadable, ReadsKey, RefusesKey, Fills, RefusesFill};
 ghost use Rattle.fleet_fold.specs.State.{state_of, IsSound};
 
 use crate::kept::kept_rows;
@@ -32,7 +32,7 @@ impl<T: RowEntryIterator> RetentionIterator<T> {
         requires sound { T.sound inner }
         requires alive { (T.state inner).failed ≡ false }
         requires rising { AreRising (T.state inner).rows }
-        ensures rows { state_of T.state result ≡ record (T.state inner) { rows = kept_of_keys (settings_of settings) (T.state inner).rows } }
+        ensures rows { state_of T.state result ≡ record (T.state inner) { rows = kept_given (settings_of settings) (T.state inner).whole (T.state inner).rows } }
         ensures sound { IsSound T.sound T.state result }
         ensures rising { AreRising (state_of T.state result).rows }
     {
@@ -64,7 +64,7 @@ fn read_key<T: RowSource>(
     requires sound { T.sound inner.old }
     requires readable { IsReadable (T.state inner.old) }
     ensures ok { IfOk result (λ rows. ReadsKey ahead.old (T.state inner.old) rows.items ahead.new (T.state inner.new)) }
-    ensures err { IfErr result (CanFail (T.state inner.old).whole) }
+    ensures err { IfErr result (RefusesKey ahead.old (T.state inner.old)) }
     ensures sound { T.sound inner.new }
 {
     let mut rows = Vec::new(alloc);
@@ -93,7 +93,7 @@ fn fill<T: RowSource>(
     requires sound { T.sound inner.old }
     requires readable { IsReadable (T.state inner.old) }
     ensures ok { OnOk result (Fills (settings_of settings) (reverse buffer.old.items) ahead.old (T.state inner.old) (reverse buffer.new.items) ahead.new (T.state inner.new)) }
-    ensures err { IfErr result (CanFail (T.state inner.old).whole) }
+    ensures err { IfErr result (RefusesFill (settings_of settings) (reverse buffer.old.items) ahead.old (T.state inner.old)) }
     ensures sound { T.sound inner.new }
 {
     'keys: while buffer.is_empty() {
@@ -120,7 +120,7 @@ fn drop_below(buffer: &mut Vec<RowEntry>, key: &[u8])
 }
 
 // Drops a row that is below a key.
-fn drop_if_below(ahead: &mut Option<RowEntry>, key: &[u8])
+pub(crate) fn drop_if_below(ahead: &mut Option<RowEntry>, key: &[u8])
     ensures { rows_of (option_to_list ahead.new) ≡ from_key key.now (rows_of (option_to_list ahead.old)) }
 {
     if let Some(row) = ahead

@@ -260,10 +260,11 @@ struct Failing {
 }
 
 impl RowEntryIterator for Failing {
-    ghost use Rattle.std.specs.Prelude.{⊤, false, true};
+    ghost use Rattle.std.specs.Prelude.{⊤, false, true, Some};
     ghost use Rattle.fleet_iter.specs.Iteration.{IteratorState};
+    ghost use Rattle.fleet_rows.specs.declared.errors.SlateDBError.TheVariants.{StoreFault};
 
-    ghost state = { λ f. record { rows = f.list.rows; initialised = true; failed = f.failed; whole = false } };
+    ghost state = { λ f. record { rows = f.list.rows; initialised = true; failed = f.failed; whole = false; refusal = Some StoreFault } };
 
     ghost sound = { λ _. ⊤ };
 

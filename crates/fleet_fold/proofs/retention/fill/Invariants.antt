@@ -3,7 +3,7 @@ use Rattle.std.specs.Prelude.{reverse}
 use Rattle.fleet_iter.specs.Iteration.{AreRising}
 use Rattle.fleet_rows.specs.Row.{rows_of}
 use Rattle.fleet_rows.specs.Settings.{settings_of}
-use Rattle.fleet_fold.specs.Retention.{from_ahead, kept_of_keys, IsReadable}
+use Rattle.fleet_fold.specs.Retention.{from_ahead, kept_given, IsReadable}
 use Rattle.fleet_fold.proofs.retention.fill.Given as goal
 
 abbrev pub invariant-keys : goal.invariant-keys
@@ -15,7 +15,8 @@ invariant-keys g l =
       sound : g.T.RowSource.sound l.inner;
       readable : IsReadable s;
       whole : s.whole ≡ old.whole;
-      rows : rows_of (reverse l.fn.buffer.items) ++ kept_of_keys settings (from_ahead l.fn.ahead old) ≡ rows_of (reverse l.buffer.items) ++ kept_of_keys settings (from_ahead l.ahead s);
+      refusal : s.refusal ≡ old.refusal;
+      rows : rows_of (reverse l.fn.buffer.items) ++ kept_given settings old.whole (from_ahead l.fn.ahead old) ≡ rows_of (reverse l.buffer.items) ++ kept_given settings old.whole (from_ahead l.ahead s);
       rising : AreRising (from_ahead l.fn.ahead old) → AreRising (from_ahead l.ahead s);
     }
 

@@ -4,12 +4,12 @@ use Rattle.fleet_iter.specs.Iteration.{AreRising}
 use Rattle.fleet_rows.specs.Row.{rows_of}
 use Rattle.fleet_rows.specs.declared.row.RowEntry.{RowEntry}
 use Rattle.fleet_rows.specs.Settings.{settings_of}
-use Rattle.fleet_fold.specs.Retention.{kept_of_keys}
-use Rattle.fleet_fold.proofs.Rising.{kept_rise}
+use Rattle.fleet_fold.specs.Retention.{kept_given}
+use Rattle.fleet_fold.proofs.Rising.{given_rise}
 use Rattle.fleet_fold.proofs.retention.RetentionIterator.new.Goals as goal
 
 pub returns-clause-rising : goal.returns-clause-rising
 returns-clause-rising g c =
     let settings = settings_of c.args.settings in
-    let rows = (g.T.RowEntryIterator.state c.args.inner).rows in
-    subst (λ (w : List RowEntry). AreRising (rows_of (reverse w) ++ kept_of_keys settings rows)) (sym c.new.ensures.items) (kept_rise settings rows c.requires.rising)
+    let inner = g.T.RowEntryIterator.state c.args.inner in
+    subst (λ (w : List RowEntry). AreRising (rows_of (reverse w) ++ kept_given settings inner.whole inner.rows)) (sym c.new.ensures.items) (given_rise settings inner.whole inner.rows c.requires.rising)

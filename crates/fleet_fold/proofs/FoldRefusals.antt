@@ -1,0 +1,136 @@
+-- What refuses the next of folded rows.
+use Rattle.std.proofs.Common.{◌≡◌, ◌≢◌, ◌∙◌, sym, refl, ap, ℕ, List, [], ◌∷◌, map, ◌&&◌, Bool, true, false, length, Option, Some, None, Ok, Err}
+use Rattle.std.specs.Prelude.{Result, if◌then◌else◌, reverse}
+use Rattle.std.specs.Option.{is_none}
+use Rattle.row_model.specs.Chunks.{Chunk}
+use Rattle.row_model.specs.Fold.{Operator, Outcome, Merged, Refused, fold_bytes}
+use Rattle.row_model.specs.FoldedRows.{group_operands, group_base, base_bytes}
+use Rattle.row_model.specs.Rows.{Row}
+use Rattle.row_laws.specs.Batches.{batches}
+use Rattle.fleet_iter.specs.Iteration.{IteratorState, Nexts, CanFail}
+use Rattle.fleet_rows.specs.declared.row.RowEntry.{RowEntry}
+use Rattle.fleet_rows.specs.declared.errors.MergeOperatorError.TheVariants.{EmptyBatch, Callback}
+use Rattle.fleet_rows.specs.declared.errors.SlateDBError.{SlateDBError}
+use Rattle.fleet_rows.specs.declared.errors.SlateDBError.TheVariants.{IteratorNotInitialized, IteratorFailed, MergeOperatorMissing, InvalidSequenceOrder, MergeOperator, CompactionFilter, InvalidCompaction, InvalidDBState, Fenced, StoreFault, NotOwner, Conflict, Generate, Memory}
+use Rattle.fleet_fold.specs.Folded.{Folded, opens, joining, last_above, in_order, answer_of, batch_answer, batch_len, one_more, all_answers, over_base, base_among, operands_in, group_answer, merged_group, row_of_answer, folded_behind, up_to_refusal, folded}
+use Rattle.fleet_fold.specs.Groups.{RefusesNext}
+use Rattle.fleet_fold.specs.Merging.{merging}
+use Rattle.fleet_fold.specs.Retention.{from_ahead}
+use Rattle.fleet_fold.specs.declared.group.GroupRule.{GroupRule}
+
+-- it is want of memory, or it is not
+memory_or : (e : SlateDBError) → (e ≢ Memory → ⊥) → e ≡ Memory
+memory_or IteratorNotInitialized h = absurd (h (λ is. cc is))
+memory_or IteratorFailed h = absurd (h (λ is. cc is))
+memory_or MergeOperatorMissing h = absurd (h (λ is. cc is))
+memory_or (InvalidSequenceOrder current_seq next_seq) h = absurd (h (λ is. cc is))
+memory_or (MergeOperator e) h = absurd (h (λ is. cc is))
+memory_or (CompactionFilter e) h = absurd (h (λ is. cc is))
+memory_or InvalidCompaction h = absurd (h (λ is. cc is))
+memory_or InvalidDBState h = absurd (h (λ is. cc is))
+memory_or (Fenced stored) h = absurd (h (λ is. cc is))
+memory_or StoreFault h = absurd (h (λ is. cc is))
+memory_or NotOwner h = absurd (h (λ is. cc is))
+memory_or (Conflict seen) h = absurd (h (λ is. cc is))
+memory_or (Generate message) h = absurd (h (λ is. cc is))
+memory_or Memory h = refl
+
+-- ---- what a fold refuses with says nothing of the iterator
+
+abbrev OfFold : SlateDBError → Type 0
+OfFold e = (e ≢ IteratorNotInitialized) × (e ≢ IteratorFailed)
+
+of_order : (seq next : ℕ) (e : SlateDBError) → InvalidSequenceOrder seq next ≡ e → OfFold e
+of_order seq next e is = ((λ h. let k = is ∙ h in cc k), (λ h. let k = is ∙ h in cc k))
+
+of_answer : (o : Option Outcome) (e : SlateDBError) → answer_of o ≡ Err e → OfFold e
+of_answer (Some (Merged bytes)) e h = absurd (cc h)
+of_answer (Some (Refused message)) e h = let is : MergeOperator (Callback message) ≡ e = cc in ((λ h. let k = is ∙ h in cc k), (λ h. let k = is ∙ h in cc k))
+of_answer None e h = let is : MergeOperator EmptyBatch ≡ e = cc in ((λ h. let k = is ∙ h in cc k), (λ h. let k = is ∙ h in cc k))
+
+of_ordered : (seq : ℕ) (late : Option ℕ) (o : Option Outcome) (e : SlateDBError) → in_order seq late (answer_of o) ≡ Err e → OfFold e
+of_ordered seq None o e h = of_answer o e h
+of_ordered seq (Some next) o e h = of_order seq next e (cc h)
+
+module _ (merge : Operator) where
+  of_batches : (first : Row) (bs : List (List Row)) (e : SlateDBError) → all_answers (map (batch_answer merge first) bs) ≡ Err e → OfFold e
+  of_batches first [] e h = absurd (cc h)
+  of_batches first (b ∷ bs) e h = by (batch_answer merge first b) refl (all_answers (map (batch_answer merge first) bs)) (of_batches first bs e) h
+    where
+      by : (answer : Result (List ℕ) SlateDBError) → batch_answer merge first b ≡ answer → (others : Result (List (List ℕ)) SlateDBError) → (others ≡ Err e → OfFold e) → one_more answer others ≡ Err e → OfFold e
+      by (Err x) is others rest h =
+          let same : x ≡ e = cc in
+          of_ordered first.seq (last_above first.seq b) (fold_bytes merge first.key None (group_operands b)) e (is ∙ ap Err same)
+      by (Ok bytes) is (Err x) rest h = rest h
+      by (Ok bytes) is (Ok results) rest h = absurd (cc h)
+
+  of_base : (first : Row) (base : List Row) (results : Result (List (List ℕ)) SlateDBError) (e : SlateDBError) → (results ≡ Err e → OfFold e) → over_base merge first base results ≡ Err e → OfFold e
+  of_base first base (Err x) e rest h = let same : x ≡ e = cc in rest (ap Err same)
+  of_base first base (Ok results) e rest h = of_ordered first.seq (last_above first.seq base) (fold_bytes merge first.key (base_bytes (group_base base)) (reverse results)) e h
+
+  of_group : (g : Chunk Row) (e : SlateDBError) → merged_group merge g ≡ Err e → OfFold e
+  of_group g e h =
+      let bs : List (List Row) = batches batch_len (g.0 ∷ operands_in g.1) in
+      of_base g.0 (base_among g.1) (all_answers (map (batch_answer merge g.0) bs)) e (of_batches g.0 bs e) (by (group_answer merge g) h)
+    where
+      by : (answer : Result (List ℕ) SlateDBError) → row_of_answer g answer ≡ Err e → answer ≡ Err e
+      by (Ok bytes) h = absurd (cc h)
+      by (Err x) h = let same : x ≡ e = cc in ap Err same
+
+  module _ (rule : GroupRule) where
+    of_first : (r : Row) (rows : List Row) (e : SlateDBError) (others : List (Result Row SlateDBError)) → folded_behind merge rule 0 (r ∷ rows) ≡ Err e ∷ others → OfFold e
+    of_first r rows e others h = by (opens rule r) h
+      where
+        head : (a b : Result Row SlateDBError) (xs ys : List (Result Row SlateDBError)) → ◌≡◌ {A = List (Result Row SlateDBError)} (a ∷ xs) (b ∷ ys) → a ≡ b
+        head a b xs ys h = cc h
+
+        by : (b : Bool) → (if b then merged_group merge (r, joining rule r rows) ∷ folded_behind merge rule (length (joining rule r rows)) rows else Ok r ∷ folded_behind merge rule 0 rows) ≡ Err e ∷ others → OfFold e
+        by true h = of_group (r, joining rule r rows) e (head _ (Err e) _ others h)
+        by false h = let clash : ◌≡◌ {A = Result Row SlateDBError} (Ok r) (Err e) = head (Ok r) (Err e) _ others h in absurd (cc clash)
+
+    -- an answer that is a refusal comes behind no row
+    refused : (rows : List Row) (e : SlateDBError) (others : List (Result Row SlateDBError)) → folded_behind merge rule 0 rows ≡ Err e ∷ others → folded merge rule rows ≡ record { rows = []; refusal = Some e }
+    refused rows e others h = ap up_to_refusal h
+
+    both : (a b : Bool) → a && b ≡ true → (a ≡ true) × (b ≡ true)
+    both true true h = (refl, refl)
+    both true false h = absurd (cc h)
+    both false b h = absurd (cc h)
+
+    pub next_refused : (merge' : Operator) (rule' : GroupRule) (failed : Bool) (ahead later : Option RowEntry) (inner read after : IteratorState) (first : Row) (e : SlateDBError) → failed ≡ false → from_ahead ahead inner ≡ first ∷ read.rows → inner.whole ≡ read.whole → inner.initialised ≡ true
+        → RefusesNext merge rule (first ∷ read.rows) read after e → Nexts (merging failed merge rule ahead inner) (merging true merge' rule' later after) (Err e)
+    next_refused merge' rule' failed ahead later inner read after first e alive rows whole begun refuses = record {
+      failed = λ q. let clash = sym alive ∙ q in absurd (cc clash);
+      uninitialised = λ _ i. let clash = sym begun ∙ i in absurd (cc clash);
+      answers = λ _ _. record { failed = refl; cause = by after.failed refl; known = λ behind is other. tell behind other (if_whole behind inner.whole refl is) after.failed refl };
+    }
+      where
+        told : folded merge rule (first ∷ read.rows) ≡ folded merge rule (from_ahead ahead inner)
+        told = ap (folded merge rule) (sym rows)
+
+        if_whole : (behind : SlateDBError) (w : Bool) → inner.whole ≡ w → (if w then (folded merge rule (from_ahead ahead inner)).refusal else None) ≡ Some behind
+            → (inner.whole ≡ true) × ((folded merge rule (from_ahead ahead inner)).refusal ≡ Some behind)
+        if_whole behind true e h = (e, h)
+        if_whole behind false e h = absurd (cc h)
+
+        tell : (behind : SlateDBError) → e ≢ Memory → (inner.whole ≡ true) × ((folded merge rule (from_ahead ahead inner)).refusal ≡ Some behind) → (b : Bool) → after.failed ≡ b → ((folded merge rule (from_ahead ahead inner)).rows ≡ []) × (e ≡ behind)
+        tell behind other (all, is) true was = absurd (other ((refuses.read was).memory (sym whole ∙ all)))
+        tell behind other (all, is) false was =
+            let (others, first_is) = refuses.merged was other in
+            let made = sym told ∙ refused (first ∷ read.rows) e others first_is in
+            let same : Some e ≡ Some behind = sym (ap (λ (f : Folded). f.refusal) made) ∙ is in
+            (ap (λ (f : Folded). f.rows) made, cc same)
+
+        by : (b : Bool) → after.failed ≡ b → CanFail (inner.whole && is_none (folded merge rule (from_ahead ahead inner)).refusal) e
+        by true was =
+            let h = refuses.read was in
+            record { initialised = h.initialised; alive = h.alive; memory = λ w. h.memory (sym whole ∙ (both inner.whole _ w).0) }
+        by false was =
+            let other : (e ≢ Memory) → OfFold e = λ not_memory. let (others, is) = refuses.merged was not_memory in of_first first read.rows e others is in
+            record {
+              initialised = λ is. (other (λ m. let k = sym is ∙ m in cc k)).0 is;
+              alive = λ is. (other (λ m. let k = sym is ∙ m in cc k)).1 is;
+              memory = λ w. memory_or e (λ not_memory. let (others, is) = refuses.merged was not_memory in
+                  let some : (folded merge rule (from_ahead ahead inner)).refusal ≡ Some e = ap (λ (f : Folded). f.refusal) (sym told ∙ refused (first ∷ read.rows) e others is) in
+                  let clash : false ≡ true = sym (ap is_none some) ∙ (both inner.whole _ w).1 in cc clash);
+            }

@@ -1,0 +1,99 @@
+-- Rows that join a group, one after the other.
+use Rattle.std.proofs.Common.{◌≡◌, ◌∙◌, sym, refl, ap, subst, ℕ, ℤ, List, [], ◌∷◌, ◌++◌, Bool, true, false, Option, Some, None}
+use Rattle.std.specs.Prelude.{if◌then◌else◌}
+use Rattle.std.proofs.lemmas.List.{append_assoc, append-nil}
+use Rattle.row_model.specs.Rows.{Row, is_operand}
+use Rattle.row_model.specs.Fold.{Operator}
+use Rattle.fleet_iter.specs.Iteration.{IteratorState, CanFail}
+use Rattle.fleet_rows.specs.Row.{row_of}
+use Rattle.fleet_rows.specs.declared.row.RowEntry.{RowEntry}
+use Rattle.fleet_rows.specs.declared.errors.SlateDBError.{SlateDBError}
+use Rattle.fleet_fold.specs.declared.group.Group.{Group}
+use Rattle.fleet_fold.specs.declared.group.GroupRule.{GroupRule}
+use Rattle.fleet_fold.specs.Folded.{joining, same_group, merged_group}
+use Rattle.fleet_fold.specs.Groups.{Gathers, Joins, JoinsSoFar, Adds, RefusesAdd, RefusesGroup}
+
+module _ (rule : GroupRule) (first : Row) where
+  joining_one : (q : Row) (rows : List Row) (joins operand : Bool) → same_group rule first.key first.expires q ≡ joins → is_operand q ≡ operand
+      → joining rule first (q ∷ rows) ≡ (if joins then q ∷ (if operand then joining rule first rows else []) else [])
+  joining_one q rows joins operand e o =
+      ap (λ (b : Bool). if b then q ∷ (if is_operand q then joining rule first rows else []) else []) e
+      ∙ ap (λ (b : Bool). if joins then q ∷ (if b then joining rule first rows else []) else []) o
+
+  joining_none : (q : Row) (rows : List Row) → same_group rule first.key first.expires q ≡ false → joining rule first (q ∷ rows) ≡ []
+  joining_none q rows e = ap (λ (b : Bool). if b then q ∷ (if is_operand q then joining rule first rows else []) else []) e
+
+module _ (merge : Operator) (rule : GroupRule) (first : Row) (old : IteratorState) where
+  -- nothing was taken yet
+  pub joins_nothing : (g : Group) → Gathers merge first [] g → JoinsSoFar merge rule first old g old
+  joins_nothing g h = record { taken = []; gathers = h; joined = refl; parts = refl }
+
+  -- the test of a row, at the group's first row
+  own_test : (g : Group) (taken : List Row) (q : Row) (b : Bool) → Gathers merge first taken g → same_group rule g.key g.stamp q ≡ b → same_group rule first.key first.expires q ≡ b
+  own_test g taken q b h is = ap (λ (k : List ℕ). same_group rule k first.expires q) (sym h.key) ∙ (ap (λ (s : Option ℤ). same_group rule g.key s q) (sym h.stamp) ∙ is)
+
+  -- one more operand joined
+  pub joins_operand : (g more : Group) (s new : IteratorState) (row : RowEntry) → s ≡ record new { rows = row_of row ∷ new.rows } → same_group rule g.key g.stamp (row_of row) ≡ true → is_operand (row_of row) ≡ true
+      → Adds merge g (row_of row) more → JoinsSoFar merge rule first old g s → JoinsSoFar merge rule first old more new
+  joins_operand g more s new row next takes operand adds h =
+      let q = row_of row in
+      let own = own_test g h.taken q true h.gathers takes in
+      record {
+        taken = h.taken ++ q ∷ [];
+        gathers = adds first h.taken h.gathers;
+        joined = h.joined ∙ (ap (λ (t : IteratorState). h.taken ++ joining rule first t.rows) next
+            ∙ (ap (λ (w : List Row). h.taken ++ w) (joining_one rule first q new.rows true true own operand) ∙ sym (append_assoc h.taken (q ∷ []) (joining rule first new.rows))));
+        parts = h.parts ∙ (ap (λ (t : IteratorState). h.taken ++ t.rows) next ∙ sym (append_assoc h.taken (q ∷ []) new.rows));
+      }
+
+  -- the next row does not join
+  pub joins_no_more : (g : Group) (s new : IteratorState) (row : RowEntry) → s ≡ record new { rows = row_of row ∷ new.rows } → same_group rule g.key g.stamp (row_of row) ≡ false
+      → JoinsSoFar merge rule first old g s → Joins merge rule first old None g (Some row) new
+  joins_no_more g s new row next takes h =
+      let q = row_of row in
+      let joined = h.joined ∙ (ap (λ (t : IteratorState). h.taken ++ joining rule first t.rows) next ∙ ap (λ (w : List Row). h.taken ++ w) (joining_none rule first q new.rows (own_test g h.taken q false h.gathers takes))) in
+      record {
+        taken = h.taken;
+        gathers = h.gathers;
+        joined = joined;
+        parts = h.parts ∙ (ap (λ (t : IteratorState). h.taken ++ t.rows) next ∙ ap (λ (w : List Row). w ++ (q ∷ new.rows)) (sym (joined ∙ append-nil h.taken)));
+      }
+
+  -- the next row is the base
+  pub joins_base : (g : Group) (s new : IteratorState) (row : RowEntry) → s ≡ record new { rows = row_of row ∷ new.rows } → same_group rule g.key g.stamp (row_of row) ≡ true → is_operand (row_of row) ≡ false
+      → JoinsSoFar merge rule first old g s → Joins merge rule first old (Some row) g None new
+  joins_base g s new row next takes plain h =
+      let q = row_of row in
+      let joined = h.joined ∙ (ap (λ (t : IteratorState). h.taken ++ joining rule first t.rows) next ∙ ap (λ (w : List Row). h.taken ++ w) (joining_one rule first q new.rows true false (own_test g h.taken q true h.gathers takes) plain)) in
+      record {
+        taken = h.taken;
+        gathers = h.gathers;
+        joined = joined;
+        parts = h.parts ∙ (ap (λ (t : IteratorState). h.taken ++ t.rows) next ∙ (sym (append_assoc h.taken (q ∷ []) new.rows) ∙ ap (λ (w : List Row). w ++ new.rows) (sym joined)));
+      }
+
+  -- no row is left
+  pub joins_all : (g : Group) (s : IteratorState) → s.rows ≡ [] → JoinsSoFar merge rule first old g s → Joins merge rule first old None g None s
+  joins_all g s none h =
+      let joined = h.joined ∙ ap (λ (w : List Row). h.taken ++ joining rule first w) none in
+      record { taken = h.taken; gathers = h.gathers; joined = joined; parts = h.parts ∙ ap (λ (w : List Row). w ++ s.rows) (sym (joined ∙ append-nil h.taken)) }
+
+  clash : {b : Bool} → b ≡ true → b ≡ false → ⊥
+  clash {b} h g = let e : true ≡ false = sym h ∙ g in cc e
+
+  -- the inner iterator failed
+  pub refuses_read : (s : IteratorState) (new : IteratorState) (e : SlateDBError) → s.whole ≡ old.whole → new.failed ≡ true → CanFail s.whole e → RefusesGroup merge rule first old new e
+  refuses_read s new e same failed h = record { read = λ _. subst (λ (w : Bool). CanFail w e) same h; merged = λ alive. absurd (clash failed alive) }
+
+  -- an operand was refused
+  pub refuses_operand : (g : Group) (s new : IteratorState) (row : RowEntry) (e : SlateDBError) → s ≡ record new { rows = row_of row ∷ new.rows } → same_group rule g.key g.stamp (row_of row) ≡ true → is_operand (row_of row) ≡ true → new.failed ≡ false
+      → JoinsSoFar merge rule first old g s → RefusesAdd merge g (row_of row) e → RefusesGroup merge rule first old new e
+  refuses_operand g s new row e next takes operand alive h refuses =
+      let q = row_of row in
+      let later = joining rule first new.rows in
+      let joined : joining rule first old.rows ≡ h.taken ++ q ∷ later =
+      h.joined ∙ (ap (λ (t : IteratorState). h.taken ++ joining rule first t.rows) next ∙ ap (λ (w : List Row). h.taken ++ w) (joining_one rule first q new.rows true true (own_test g h.taken q true h.gathers takes) operand)) in
+      record {
+        read = λ failed. absurd (clash failed alive);
+        merged = λ _ other. ap (λ (rows : List Row). merged_group merge (first, rows)) joined ∙ refuses first h.taken later h.gathers other;
+      }

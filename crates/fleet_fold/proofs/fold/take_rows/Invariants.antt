@@ -1,0 +1,21 @@
+use Rattle.std.proofs.Common.{◌≡◌, None, [], length}
+use Rattle.row_model.specs.Rows.{Row}
+use Rattle.fleet_fold.specs.Retention.{IsReadable}
+use Rattle.fleet_fold.specs.Groups.{Gathers, JoinsSoFar}
+use Rattle.fleet_fold.proofs.fold.take_rows.Given as goal
+
+abbrev pub invariant-rows : goal.invariant-rows
+invariant-rows g l =
+    let s = g.T.RowSource.state l.inner in
+    let old = g.T.RowSource.state l.fn.inner in
+    let merge = g.B.BatchMerger.merged (g.B.BatchMerger.settings l.operator) in
+    record {
+      sound : g.T.RowSource.sound l.inner;
+      readable : IsReadable s;
+      whole : s.whole ≡ old.whole;
+      none : l.ahead ≡ None;
+      so_far : (first : Row) → Gathers merge first [] l.fn.group → JoinsSoFar merge l.rule first old l.group s;
+    }
+
+abbrev pub decreases-rows : goal.decreases-rows
+decreases-rows g l = length (g.T.RowSource.state l.inner).rows

@@ -1,0 +1,177 @@
+-- A group of which some rows were taken, and the calls that take and merge them.
+use Rattle.std.specs.Prelude.{◌≡◌, ◌≢◌, ℕ, ◌≤◌, length, true, false, List, [], ◌∷◌, ◌++◌, Option, Some, None, reverse, map, Result, Ok, Err, ⊤}
+use Rattle.std.specs.List.{AllByRecursion}
+use Rattle.std.specs.Option.{option_or, option_to_list}
+use Rattle.row_model.specs.Fold.{Operator, fold_bytes}
+use Rattle.row_model.specs.FoldedRows.{greater_stamp, group_operands, greatest_created}
+use Rattle.row_model.specs.Rows.{Row, Content, is_operand}
+use Rattle.row_laws.specs.Batches.{batches}
+use Rattle.fleet_iter.specs.Iteration.{IteratorState, AreRising, CanFail}
+use Rattle.fleet_rows.specs.Row.{row_of, rows_of}
+use Rattle.fleet_rows.specs.declared.row.RowEntry.{RowEntry}
+use Rattle.fleet_rows.specs.declared.errors.SlateDBError.{SlateDBError}
+use Rattle.fleet_rows.specs.declared.errors.SlateDBError.TheVariants.{Memory}
+use Rattle.fleet_fold.specs.Retention.{from_ahead, IsReadable}
+use Rattle.fleet_fold.specs.Folded.{above, last_above, in_order, answer_of, batch_answer, batch_len, lesser_stamp, least_expiry, merged_group, joining, folded_behind}
+use Rattle.fleet_fold.specs.declared.group.Group.{Group}
+use Rattle.fleet_fold.specs.declared.group.GroupRule.{GroupRule}
+
+-- a call that answers so, unless memory is wanting
+abbrev pub RefusesAs : {A : Type 0} → Result A SlateDBError → SlateDBError → Type 0
+RefusesAs answer e = e ≢ Memory → answer ≡ Err e
+
+-- ---- the rows in a group
+
+-- It has a first row and operands behind it. Those of the full batches are merged, and at most so many are not.
+pub record GathersUpTo (most : ℕ) (merge : Operator) (first : Row) (taken : List Row) (g : Group) : Type 0 where
+  pub key : g.key ≡ first.key
+  pub seq : g.seq ≡ first.seq
+  pub stamp : g.stamp ≡ first.expires
+  pub created : g.created ≡ greatest_created (first ∷ taken)
+  pub expires : g.expires ≡ least_expiry (first ∷ taken)
+  pub operands : AllByRecursion (λ r. is_operand r ≡ true) (first ∷ taken)
+  pub done : List (List Row)
+  pub pending : List Row
+  pub plain : AllByRecursion (λ r. is_operand r ≡ true) pending
+  pub cut : (later : List Row) → batches batch_len (first ∷ (taken ++ later)) ≡ done ++ batches batch_len (pending ++ later)
+  pub folded : map (batch_answer merge first) done ≡ map Ok g.folded.items
+  pub batch : reverse g.batch.items ≡ group_operands pending
+  pub count : length g.batch.items ≡ length pending
+  pub late : g.late ≡ last_above first.seq pending
+  pub room : length pending ≤ most
+
+abbrev pub Gathers : Operator → Row → List Row → Group → Type 0
+Gathers merge first taken g = GathersUpTo 99 merge first taken g
+
+-- and all operands are merged
+pub record IsMerged (merge : Operator) (first : Row) (taken : List Row) (g : Group) : Type 0 where
+  pub key : g.key ≡ first.key
+  pub seq : g.seq ≡ first.seq
+  pub created : g.created ≡ greatest_created (first ∷ taken)
+  pub expires : g.expires ≡ least_expiry (first ∷ taken)
+  pub operands : AllByRecursion (λ r. is_operand r ≡ true) (first ∷ taken)
+  pub folded : map (batch_answer merge first) (batches batch_len (first ∷ taken)) ≡ map Ok g.folded.items
+  pub late : g.late ≡ None
+
+-- ---- what is done to a group
+
+-- a row is noted, which is not yet among the operands
+pub record Notes (old : Group) (r : Row) (new : Group) : Type 0 where
+  pub key : new.key ≡ old.key
+  pub seq : new.seq ≡ old.seq
+  pub stamp : new.stamp ≡ old.stamp
+  pub created : new.created ≡ greater_stamp old.created r.created
+  pub expires : new.expires ≡ lesser_stamp old.expires r.expires
+  pub late : new.late ≡ option_or (above old.seq r) old.late
+  pub batch : new.batch.items ≡ old.batch.items
+  pub folded : new.folded.items ≡ old.folded.items
+
+-- the answer of the operands that are not merged yet, if there are any
+abbrev pub pending_answer : Operator → Group → Result (List ℕ) SlateDBError
+pending_answer merge g = in_order g.seq g.late (answer_of (fold_bytes merge g.key None (reverse g.batch.items)))
+
+abbrev pub left_to_merge : Result (List ℕ) SlateDBError → List (List ℕ) → List (Result (List ℕ) SlateDBError)
+left_to_merge answer [] = []
+left_to_merge answer (x ∷ batch) = answer ∷ []
+
+-- they are merged into one
+pub record Flushes (merge : Operator) (old new : Group) : Type 0 where
+  pub key : new.key ≡ old.key
+  pub seq : new.seq ≡ old.seq
+  pub stamp : new.stamp ≡ old.stamp
+  pub created : new.created ≡ old.created
+  pub expires : new.expires ≡ old.expires
+  pub late : new.late ≡ old.late
+  pub in_order : old.batch.items ≢ [] → new.late ≡ None
+  pub batch : new.batch.items ≡ []
+  pub folded : map Ok new.folded.items ≡ map Ok old.folded.items ++ left_to_merge (pending_answer merge old) old.batch.items
+
+abbrev pub RefusesFlush : Operator → Group → SlateDBError → Type 0
+RefusesFlush merge g e = e ≢ Memory → left_to_merge (pending_answer merge g) g.batch.items ≡ Err e ∷ []
+
+-- and so they are where they fill a batch
+abbrev pub FlushesFull : Operator → Group → Group → Type 0
+FlushesFull merge old new = (first : Row) (taken : List Row) → GathersUpTo batch_len merge first taken old → Gathers merge first taken new
+
+abbrev pub RefusesFull : Operator → Group → SlateDBError → Type 0
+RefusesFull merge g e = (first : Row) (taken later : List Row) → GathersUpTo batch_len merge first taken g → RefusesAs (merged_group merge (first, taken ++ later)) e
+
+-- one more operand, which is not merged yet, and one that may fill a batch
+abbrev pub Pushes : Group → Row → Group → Type 0
+Pushes old r new = (merge : Operator) (first : Row) (taken : List Row) → Gathers merge first taken old → GathersUpTo batch_len merge first (taken ++ r ∷ []) new
+
+abbrev pub Adds : Operator → Group → Row → Group → Type 0
+Adds merge old r new = (first : Row) (taken : List Row) → Gathers merge first taken old → Gathers merge first (taken ++ r ∷ []) new
+
+abbrev pub RefusesAdd : Operator → Group → Row → SlateDBError → Type 0
+RefusesAdd merge g r e = (first : Row) (taken later : List Row) → Gathers merge first taken g → RefusesAs (merged_group merge (first, taken ++ r ∷ later)) e
+
+-- the row with a merged value
+abbrev pub with_value : Group → Content → Row
+with_value g content = record { key = g.key; content = content; seq = g.seq; created = g.created; expires = g.expires }
+
+-- a group becomes a row, over a base, if there is one
+abbrev pub Closes : Operator → Group → List Row → Row → Type 0
+Closes merge g base r = (first : Row) (taken : List Row) → Gathers merge first taken g → merged_group merge (first, taken ++ base) ≡ Ok r
+
+abbrev pub RefusesClose : Operator → Group → List Row → SlateDBError → Type 0
+RefusesClose merge g base e = (first : Row) (taken : List Row) → Gathers merge first taken g → RefusesAs (merged_group merge (first, taken ++ base)) e
+
+-- ---- a group and the rows of an iterator
+
+-- rows joined a group until one did not, or was the base
+pub record Joins (merge : Operator) (rule : GroupRule) (first : Row) (old : IteratorState) (base : Option RowEntry) (g : Group) (later : Option RowEntry) (new : IteratorState) : Type 0 where
+  pub taken : List Row
+  pub gathers : Gathers merge first taken g
+  pub joined : joining rule first old.rows ≡ taken ++ rows_of (option_to_list base)
+  pub parts : old.rows ≡ joining rule first old.rows ++ from_ahead later new
+
+-- and so far
+pub record JoinsSoFar (merge : Operator) (rule : GroupRule) (first : Row) (old : IteratorState) (g : Group) (new : IteratorState) : Type 0 where
+  pub taken : List Row
+  pub gathers : Gathers merge first taken g
+  pub joined : joining rule first old.rows ≡ taken ++ joining rule first new.rows
+  pub parts : old.rows ≡ taken ++ new.rows
+
+abbrev pub IsPlain : Option RowEntry → Type 0
+IsPlain None = ⊤
+IsPlain (Some row) = is_operand (row_of row) ≡ false
+
+pub record TakesRows (merge : Operator) (rule : GroupRule) (g : Group) (old : IteratorState) (base : Option RowEntry) (filled : Group) (later : Option RowEntry) (new : IteratorState) : Type 0 where
+  pub group : (first : Row) → Gathers merge first [] g → Joins merge rule first old base filled later new
+  pub plain : IsPlain base
+  pub readable : IsReadable new
+  pub whole : new.whole ≡ old.whole
+
+-- ---- refusals in the midst of reading
+
+-- the inner iterator failed, or answers were as refused
+pub record RefusesReading {A : Type 0} (answer : Result A SlateDBError) (old new : IteratorState) (e : SlateDBError) : Type 0 where
+  pub read : new.failed ≡ true → CanFail old.whole e
+  pub merged : new.failed ≡ false → RefusesAs answer e
+
+-- a group that a row opens
+abbrev pub RefusesGroup : Operator → GroupRule → Row → IteratorState → IteratorState → SlateDBError → Type 0
+RefusesGroup merge rule first old new e = RefusesReading (merged_group merge (first, joining rule first old.rows)) old new e
+
+abbrev pub RefusesRows : Operator → GroupRule → Group → IteratorState → IteratorState → SlateDBError → Type 0
+RefusesRows merge rule g old new e = (first : Row) → Gathers merge first [] g → RefusesGroup merge rule first old new e
+
+-- the group that a row opens is folded
+pub record FoldsGroup (merge : Operator) (rule : GroupRule) (first : Row) (old : IteratorState) (r : Row) (later : Option RowEntry) (new : IteratorState) : Type 0 where
+  pub group : merged_group merge (first, joining rule first old.rows) ≡ Ok r
+  pub parts : old.rows ≡ joining rule first old.rows ++ from_ahead later new
+  pub readable : IsReadable new
+  pub whole : new.whole ≡ old.whole
+
+-- the first row that is made of a row and those behind it
+pub record Folds (merge : Operator) (rule : GroupRule) (first : Row) (old : IteratorState) (r : Row) (later : Option RowEntry) (new : IteratorState) : Type 0 where
+  pub rows : folded_behind merge rule 0 (first ∷ old.rows) ≡ Ok r ∷ folded_behind merge rule 0 (from_ahead later new)
+  pub readable : IsReadable new
+  pub whole : new.whole ≡ old.whole
+  pub rising : AreRising old.rows → AreRising (from_ahead later new)
+
+-- what refuses the first answer of these rows
+pub record RefusesNext (merge : Operator) (rule : GroupRule) (rows : List Row) (old new : IteratorState) (e : SlateDBError) : Type 0 where
+  pub read : new.failed ≡ true → CanFail old.whole e
+  pub merged : new.failed ≡ false → e ≢ Memory → (others : List (Result Row SlateDBError)) × (folded_behind merge rule 0 rows ≡ Err e ∷ others)

@@ -1,0 +1,280 @@
+//! A group of operands that become one row.
+
+ghost use Rattle.std.specs.Prelude.{◌≡◌, [], ◌∷◌, true, false, Ok, IfOk, IfErr, OnOk, IsOkUnless};
+ghost use Rattle.row_model.specs.FoldedRows.{greater_stamp, same_stamp};
+ghost use Rattle.row_model.specs.Fold.{Operator, fold_bytes};
+ghost use Rattle.row_model.specs.Rows.{is_operand};
+ghost use Rattle.fleet_rows.specs.declared.errors.SlateDBError.TheVariants as SlateDBError;
+ghost use Rattle.fleet_rows.specs.Row.{bytes_of, content_of, row_of};
+ghost use Rattle.fleet_fold.specs.Folded.{lesser_stamp, same_group, opens, in_order, answer_of};
+ghost use Rattle.fleet_fold.specs.Groups.{RefusesAs, with_value, Gathers, Notes, Flushes, RefusesFlush, FlushesFull, RefusesFull, Pushes, Adds, RefusesAdd, Closes, RefusesClose};
+
+use crate::BatchMerger;
+use crate::kept::is_operand;
+use bytes::Bytes;
+use fleet_rows::{RowEntry, SlateDBError, ValueDeletable};
+use std::alloc::{AllocError, Global};
+
+/// As many operands are merged at a time.
+const BATCH_LEN: usize = 100;
+
+/// Which rows make a group.
+#[derive(Clone, Copy, Debug, PartialEq, Eq)]
+pub(crate) struct GroupRule {
+    /// Whether operands of different stamps are merged.
+    pub merge_different_expire_ts: bool,
+    /// Operands above this sequence stay.
+    pub snapshot_barrier_seq: Option<u64>,
+}
+
+// Whether a row opens a group.
+pub(crate) fn opens(rule: GroupRule, row: &RowEntry) -> bool
+    ensures { result ≡ opens rule (row_of row.now) }
+{
+    let within = match rule.snapshot_barrier_seq {
+        Some(barrier) => row.seq <= barrier,
+        None => true,
+    };
+    is_operand(row) && within
+}
+
+fn same_stamp(stamp: Option<i64>, other: Option<i64>) -> bool
+    ensures { result ≡ same_stamp stamp other }
+{
+    match (stamp, other) {
+        (None, None) => true,
+        (Some(stamp), Some(other)) => stamp <= other && other <= stamp,
+        _ => false,
+    }
+}
+
+fn greater_stamp(stamp: Option<i64>, other: Option<i64>) -> Option<i64>
+    ensures { result ≡ greater_stamp stamp other }
+{
+    match (stamp, other) {
+        (None, other) => other,
+        (Some(stamp), None) => Some(stamp),
+        (Some(stamp), Some(other)) => Some(if stamp <= other { other } else { stamp }),
+    }
+}
+
+fn lesser_stamp(stamp: Option<i64>, other: Option<i64>) -> Option<i64>
+    ensures { result ≡ lesser_stamp stamp other }
+{
+    match (stamp, other) {
+        (None, other) => other,
+        (Some(stamp), None) => Some(stamp),
+        (Some(stamp), Some(other)) => Some(if other <= stamp { other } else { stamp }),
+    }
+}
+
+// The bytes of a value or of an operand.
+fn into_bytes(value: ValueDeletable) -> Option<Bytes>
+    ensures { result ≡ bytes_of value }
+{
+    match value {
+        ValueDeletable::Value(bytes) => Some(bytes),
+        ValueDeletable::Merge(bytes) => Some(bytes),
+        ValueDeletable::Tombstone => None,
+    }
+}
+
+fn merge_batch<B: BatchMerger>(
+    alloc: Global,
+    operator: &B,
+    key: &Bytes,
+    existing_value: Option<Bytes>,
+    operands: &[Bytes],
+) -> Result<Bytes, SlateDBError>
+    ensures ok { IfOk result (λ bytes. answer_of (fold_bytes (B.merged (B.settings operator.now)) key.now existing_value operands.now) ≡ Ok bytes) }
+    ensures err { IfErr result (RefusesAs (answer_of (fold_bytes (B.merged (B.settings operator.now)) key.now existing_value operands.now))) }
+{
+    Ok(operator.merged_batch(alloc, key, existing_value, operands)?)
+}
+
+// A group of which some rows were taken.
+#[derive(Drop)]
+pub(crate) struct Group {
+    key: Bytes,
+    seq: u64,
+    // The first row's stamp of expiry.
+    stamp: Option<i64>,
+    created: Option<i64>,
+    expires: Option<i64>,
+    // The sequence of the last row that is above the first one's.
+    late: Option<u64>,
+    // The operands that are not merged yet, as they were found: newest first.
+    batch: Vec<Bytes>,
+    // The merged batches, as they were found.
+    folded: Vec<Bytes>,
+}
+
+impl Group {
+    /// The group that a row opens.
+    pub(crate) fn new(alloc: Global, row: RowEntry) -> Result<Group, SlateDBError>
+        requires operand { is_operand (row_of row) ≡ true }
+        ensures ok { IfOk result (λ group. (merge : Operator) → Gathers merge (row_of row) [] group) }
+        ensures memory { IsOkUnless result SlateDBError.Memory }
+    {
+        let RowEntry {
+            key,
+            value,
+            seq,
+            create_ts,
+            expire_ts,
+        } = row;
+        let mut batch = Vec::new(alloc);
+        if let Some(operand) = into_bytes(value) {
+            batch.push(operand)?;
+        }
+        Ok(Group {
+            key,
+            seq,
+            stamp: expire_ts,
+            created: create_ts,
+            expires: expire_ts,
+            late: None,
+            batch,
+            folded: Vec::new(alloc),
+        })
+    }
+
+    /// Whether a row belongs to the group.
+    pub(crate) fn takes(&self, rule: GroupRule, row: &RowEntry) -> bool
+        ensures { result ≡ same_group rule self.now.key self.now.stamp (row_of row.now) }
+    {
+        self.key == row.key
+            && (rule.merge_different_expire_ts || same_stamp(self.stamp, row.expire_ts))
+    }
+
+    // Takes note of a row's sequence and stamps.
+    fn note(&mut self, row: &RowEntry)
+        ensures { Notes self.old (row_of row.now) self.new }
+    {
+        self.created = greater_stamp(self.created, row.create_ts);
+        self.expires = lesser_stamp(self.expires, row.expire_ts);
+        if row.seq > self.seq {
+            self.late = Some(row.seq);
+        }
+    }
+
+    // Refuses rows whose sequence is above the first one's.
+    fn check(&self) -> Result<(), SlateDBError>
+        ensures { result ≡ in_order self.now.seq self.now.late (Ok tt) }
+    {
+        match self.late {
+            Some(next_seq) => Err(SlateDBError::InvalidSequenceOrder {
+                current_seq: self.seq,
+                next_seq,
+            }),
+            None => Ok(()),
+        }
+    }
+
+    // Merges the operands that are left.
+    fn flush<B: BatchMerger>(&mut self, alloc: Global, operator: &B) -> Result<(), SlateDBError>
+        ensures ok { OnOk result (Flushes (B.merged (B.settings operator.now)) self.old self.new) }
+        ensures err { IfErr result (RefusesFlush (B.merged (B.settings operator.now)) self.old) }
+    {
+        if self.batch.is_empty() {
+            return Ok(());
+        }
+        self.check()?;
+        self.batch.reverse();
+        let one = merge_batch(alloc, operator, &self.key, None, &self.batch)?;
+        self.batch.clear();
+        self.folded.push(one)?;
+        Ok(())
+    }
+
+    // Merges a batch that is full.
+    fn flush_if_full<B: BatchMerger>(
+        &mut self,
+        alloc: Global,
+        operator: &B,
+    ) -> Result<(), SlateDBError>
+        ensures ok { OnOk result (FlushesFull (B.merged (B.settings operator.now)) self.old self.new) }
+        ensures err { IfErr result (RefusesFull (B.merged (B.settings operator.now)) self.old) }
+    {
+        if self.batch.len() < BATCH_LEN {
+            return Ok(());
+        }
+        self.flush(alloc, operator)?;
+        Ok(())
+    }
+
+    // Takes an operand, which is not merged yet.
+    fn push(&mut self, row: RowEntry) -> Result<(), AllocError>
+        requires operand { is_operand (row_of row) ≡ true }
+        ensures { OnOk result (Pushes self.old (row_of row) self.new) }
+    {
+        self.note(&row);
+        match into_bytes(row.value) {
+            Some(operand) => {
+                self.batch.push(operand)?;
+                Ok(())
+            }
+            None => unreachable!(),
+        }
+    }
+
+    /// Takes one more operand.
+    pub(crate) fn add<B: BatchMerger>(
+        &mut self,
+        alloc: Global,
+        operator: &B,
+        row: RowEntry,
+    ) -> Result<(), SlateDBError>
+        requires operand { is_operand (row_of row) ≡ true }
+        ensures ok { OnOk result (Adds (B.merged (B.settings operator.now)) self.old (row_of row) self.new) }
+        ensures err { IfErr result (RefusesAdd (B.merged (B.settings operator.now)) self.old (row_of row)) }
+    {
+        self.push(row)?;
+        self.flush_if_full(alloc, operator)?;
+        Ok(())
+    }
+
+    // The row with a merged value.
+    fn into_row(self, value: ValueDeletable) -> RowEntry
+        ensures { row_of result ≡ with_value self (content_of value) }
+    {
+        RowEntry::new(self.key, value, self.seq, self.created, self.expires)
+    }
+
+    /// The row of a group without a base.
+    pub(crate) fn close<B: BatchMerger>(
+        self,
+        alloc: Global,
+        operator: &B,
+    ) -> Result<RowEntry, SlateDBError>
+        ensures ok { IfOk result (λ row. Closes (B.merged (B.settings operator.now)) self [] (row_of row)) }
+        ensures err { IfErr result (RefusesClose (B.merged (B.settings operator.now)) self []) }
+    {
+        let mut group = self;
+        group.flush(alloc, operator)?;
+        group.folded.reverse();
+        let bytes = merge_batch(alloc, operator, &group.key, None, &group.folded)?;
+        Ok(group.into_row(ValueDeletable::Merge(bytes)))
+    }
+
+    /// The row of a group over its base.
+    pub(crate) fn close_over<B: BatchMerger>(
+        self,
+        alloc: Global,
+        operator: &B,
+        base: RowEntry,
+    ) -> Result<RowEntry, SlateDBError>
+        requires base { is_operand (row_of base) ≡ false }
+        ensures ok { IfOk result (λ row. Closes (B.merged (B.settings operator.now)) self (row_of base ∷ []) (row_of row)) }
+        ensures err { IfErr result (RefusesClose (B.merged (B.settings operator.now)) self (row_of base ∷ [])) }
+    {
+        let mut group = self;
+        group.flush(alloc, operator)?;
+        group.note(&base);
+        group.check()?;
+        group.folded.reverse();
+        let existing = into_bytes(base.value);
+        let bytes = merge_batch(alloc, operator, &group.key, existing, &group.folded)?;
+        Ok(group.into_row(ValueDeletable::Value(bytes)))
+    }
+}
