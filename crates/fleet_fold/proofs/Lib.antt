@@ -8,6 +8,13 @@ pub mod GroupBatches
 pub mod GroupCloses
 pub mod GroupRows
 pub mod GroupSteps
+pub mod Jobs
+pub mod JobsBatches
+pub mod JobsBegun
+pub mod JobsChunks
+pub mod JobsGroups
+pub mod JobsLast
+pub mod JobsOfKey
 pub mod Joining
 pub mod KeptRows
 pub mod Keys

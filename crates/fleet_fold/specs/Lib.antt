@@ -2,6 +2,7 @@ pub mod Filter
 pub mod FilterState
 pub mod Folded
 pub mod Groups
+pub mod Jobs
 pub mod Merging
 pub mod Operator
 pub mod Required

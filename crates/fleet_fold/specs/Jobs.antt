@@ -1,0 +1,57 @@
+-- Folding rows, and then keeping some of each key's, makes a job's rows.
+use Rattle.std.specs.Prelude.{◌≡◌, ℕ, true, false, if◌then◌else◌, List, [], ◌∷◌, filter, flat_map, Option, Some, None}
+use Rattle.std.specs.List.{AllByRecursion}
+use Rattle.std.specs.Option.{is_none}
+use Rattle.std.specs.Ordering.{is_gt}
+use Rattle.row_model.specs.Chunks.{elements, chunk_by}
+use Rattle.row_model.specs.Fold.{Operator}
+use Rattle.row_model.specs.FoldedRows.{folded_rows}
+use Rattle.row_model.specs.JobRows.{job_rows}
+use Rattle.row_model.specs.KeptRows.{kept_rows}
+use Rattle.row_model.specs.Lists.{IsPrefixOf}
+use Rattle.row_model.specs.Rows.{Row, key_cmp, same_key, IsStrictlyOrdered}
+use Rattle.row_model.specs.Settings.{Settings}
+use Rattle.row_laws.specs.KeptReads.{AreOfKey}
+use Rattle.row_laws.specs.Keys.{is_below}
+use Rattle.row_laws.specs.Refusals.{RefusesIn}
+use Rattle.fleet_fold.specs.Folded.{Folded, folded}
+use Rattle.fleet_fold.specs.Retention.{kept_of_keys, kept_given}
+use Rattle.fleet_fold.specs.declared.group.GroupRule.{GroupRule}
+
+-- a job merges operands of one stamp, up to its floor
+abbrev pub job_rule : ℕ → GroupRule
+job_rule floor = record { merge_different_expire_ts = false; snapshot_barrier_seq = Some floor }
+
+-- all the rows; there are none where one is refused
+abbrev pub rows_if_whole : Folded → Option (List Row)
+rows_if_whole f = if is_none f.refusal then Some f.rows else None
+
+-- Of one key's rows these are the model's folded rows.
+abbrev pub FoldsOneKey : Operator → Type 0
+FoldsOneKey merge = (floor : ℕ) (key : List ℕ) (rows : List Row) → AreOfKey key rows → rows_if_whole (folded merge (job_rule floor) rows) ≡ folded_rows merge floor rows
+
+-- no fold refuses exactly where the job is whole, and then what retention keeps of the folded rows is the job's rows
+pub record MakesJob (merge : Operator) (settings : Settings) (rows : List Row) : Type 0 where
+  pub whole : is_none (folded merge (job_rule settings.floor) rows).refusal ≡ (job_rows merge settings rows).whole
+  pub kept : (job_rows merge settings rows).whole ≡ true → kept_of_keys settings (folded merge (job_rule settings.floor) rows).rows ≡ (job_rows merge settings rows).rows
+
+-- It is so of strictly ordered rows.
+abbrev pub FoldsMakeJobs : Operator → Type 0
+FoldsMakeJobs merge = (settings : Settings) (rows : List Row) → IsStrictlyOrdered rows → MakesJob merge settings rows
+
+-- ---- a job in which a fold refuses
+
+-- of a job that is whole or not
+pub record BeginsJob (merge : Operator) (settings : Settings) (rows : List Row) : Type 0 where
+  -- the last key that has folded rows may lack some, and what is kept of those before it begins the job's rows
+  pub begins : IsPrefixOf (kept_given settings false (folded merge (job_rule settings.floor) rows).rows) (job_rows merge settings rows).rows
+  -- no folded row is above a key in which a fold refuses
+  pub up_to : (key : List ℕ) → RefusesIn merge settings key rows → AllByRecursion (λ r. is_gt (key_cmp r.key key) ≡ false) (folded merge (job_rule settings.floor) rows).rows
+  -- where no fold refuses below a key, as below the first in which one does, all is kept that the job makes of the keys
+  -- before the last below it
+  pub reaches : (key : List ℕ) → (job_rows merge settings (filter (is_below key) rows)).whole ≡ true
+      → AllByRecursion (λ r. is_below key r ≡ true → IsPrefixOf (job_rows merge settings (filter (is_below r.key) rows)).rows (kept_given settings false (folded merge (job_rule settings.floor) rows).rows)) rows
+
+-- It is so of strictly ordered rows.
+abbrev pub FoldsBeginJobs : Operator → Type 0
+FoldsBeginJobs merge = (settings : Settings) (rows : List Row) → IsStrictlyOrdered rows → BeginsJob merge settings rows
