@@ -12,6 +12,7 @@ pub mod Jobs
 pub mod JobsBatches
 pub mod JobsBegun
 pub mod JobsChunks
+pub mod JobsGiven
 pub mod JobsGroups
 pub mod JobsLast
 pub mod JobsOfKey

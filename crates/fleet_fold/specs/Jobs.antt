@@ -1,5 +1,5 @@
 -- Folding rows, and then keeping some of each key's, makes a job's rows.
-use Rattle.std.specs.Prelude.{◌≡◌, ℕ, true, false, if◌then◌else◌, List, [], ◌∷◌, filter, flat_map, Option, Some, None}
+use Rattle.std.specs.Prelude.{◌≡◌, ℕ, ◌≤◌, ℤ, int_le, ◌++◌, true, false, if◌then◌else◌, List, [], ◌∷◌, filter, flat_map, Option, Some, None}
 use Rattle.std.specs.List.{AllByRecursion}
 use Rattle.std.specs.Option.{is_none}
 use Rattle.std.specs.Ordering.{is_gt}
@@ -9,8 +9,10 @@ use Rattle.row_model.specs.FoldedRows.{folded_rows}
 use Rattle.row_model.specs.JobRows.{job_rows}
 use Rattle.row_model.specs.KeptRows.{kept_rows}
 use Rattle.row_model.specs.Lists.{IsPrefixOf}
-use Rattle.row_model.specs.Rows.{Row, key_cmp, same_key, IsStrictlyOrdered}
+use Rattle.row_model.specs.Rows.{Row, key_cmp, rows_of_key, IsStrictlyOrdered}
+use Rattle.row_model.specs.Read.{read}
 use Rattle.row_model.specs.Settings.{Settings}
+use Rattle.fleet_iter.specs.Iteration.{IteratorState, AreRising}
 use Rattle.row_laws.specs.KeptReads.{AreOfKey}
 use Rattle.row_laws.specs.Keys.{is_below}
 use Rattle.row_laws.specs.Refusals.{RefusesIn}
@@ -55,3 +57,29 @@ pub record BeginsJob (merge : Operator) (settings : Settings) (rows : List Row) 
 -- It is so of strictly ordered rows.
 abbrev pub FoldsBeginJobs : Operator → Type 0
 FoldsBeginJobs merge = (settings : Settings) (rows : List Row) → IsStrictlyOrdered rows → BeginsJob merge settings rows
+
+-- ---- an iterator over a job's rows
+
+-- It gives the job's rows; and where a fold refuses, those of the keys before the last but one below it at least, and none but the job's.
+pub record GivesJob (merge : Operator) (settings : Settings) (rows : List Row) (s : IteratorState) : Type 0 where
+  pub whole : s.whole ≡ (job_rows merge settings rows).whole
+  pub all : s.whole ≡ true → s.rows ≡ (job_rows merge settings rows).rows
+  pub begins : IsPrefixOf s.rows (job_rows merge settings rows).rows
+  pub reaches : s.whole ≡ false → (key : List ℕ) → (job_rows merge settings (filter (is_below key) rows)).whole ≡ true
+      → AllByRecursion (λ r. is_below key r ≡ true → IsPrefixOf (job_rows merge settings (filter (is_below r.key) rows)).rows s.rows) rows
+  pub refusal : s.refusal ≡ (folded merge (job_rule settings.floor) rows).refusal
+
+-- All that it gives, where no fold refuses, reads as the rows do, key by key.
+abbrev pub KeepsReads : Operator → Settings → List Row → IteratorState → Type 0
+KeepsReads merge settings rows s = s.whole ≡ true → (key : List ℕ) (seq : ℕ) (now : ℤ) (above below : List Row) → settings.floor ≤ seq → int_le settings.tick now ≡ true → (settings.last_run ≡ true → below ≡ [])
+    → read merge key seq now (above ++ (rows_of_key key rows ++ below)) ≡ read merge key seq now (above ++ (rows_of_key key s.rows ++ below))
+
+-- It was not used yet.
+pub record IsReady (inner s : IteratorState) : Type 0 where
+  pub initialised : s.initialised ≡ inner.initialised
+  pub alive : s.failed ≡ false
+  pub rising : AreRising s.rows
+
+-- What gives a job's rows keeps reads.
+abbrev pub JobsKeepReads : Operator → Type 0
+JobsKeepReads merge = (settings : Settings) (rows : List Row) (s : IteratorState) → IsStrictlyOrdered rows → GivesJob merge settings rows s → KeepsReads merge settings rows s

@@ -6,7 +6,9 @@ mod filter;
 mod filtering;
 mod fold;
 mod group;
+mod job;
 mod kept;
+pub mod laws;
 mod merging;
 mod operator;
 mod required;
@@ -18,6 +20,7 @@ pub use filter::{
     RowFilter,
 };
 pub use filtering::CompactionFilterIterator;
+pub use job::{JobIterator, job_iterator};
 pub use merging::MergeOperatorIterator;
 pub use operator::{BatchMerger, MERGE_OPERATOR_OPERANDS, MergeOperator};
 pub use required::MergeOperatorRequiredIterator;

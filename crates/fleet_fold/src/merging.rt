@@ -26,6 +26,7 @@ pub struct MergeOperatorIterator<'o, O: MergeOperator, T: RowEntryIterator> {
 impl<'o, O: MergeOperator, T: RowEntryIterator> MergeOperatorIterator<'o, O, T> {
     /// The rows that `delegate` has left. An operand at or below the barrier, or any where there is none, opens a group. The
     /// operands of its key behind it join it, of any stamp or of the same one, and the first other row is its base.
+    #[tactic(auto, using(crate::proofs::FoldedSeeks::folded_rise))]
     pub fn new(
         operator: &'o O,
         delegate: T,
@@ -37,6 +38,7 @@ impl<'o, O: MergeOperator, T: RowEntryIterator> MergeOperatorIterator<'o, O, T> 
         requires rising { AreRising (T.state delegate).rows }
         ensures rows { state_of O.settings O.merged T.state result ≡ merging false (O.merged (O.settings operator.now)) (record { merge_different_expire_ts = merge_different_expire_ts; snapshot_barrier_seq = snapshot_barrier_seq }) None (T.state delegate) }
         ensures sound { IsSound T.sound T.state result }
+        ensures rising { AreRising (state_of O.settings O.merged T.state result).rows }
     {
         MergeOperatorIterator {
             operator,

@@ -1,0 +1,57 @@
+-- Retention of folded rows gives a job's rows, and keeps reads.
+use Rattle.std.proofs.Common.{◌≡◌, ◌∙◌, sym, refl, ap, subst, ℕ, if◌then◌else◌, List, [], ◌++◌, append-nil, ◌&&◌, Bool, true, false, Option, Some, None}
+use Rattle.std.specs.Prelude.{filter}
+use Rattle.std.specs.List.{AllByRecursion}
+use Rattle.std.specs.Option.{is_none}
+use Rattle.row_laws.specs.Keys.{is_below}
+use Rattle.row_model.specs.Fold.{Operator, IsLawful}
+use Rattle.row_model.specs.JobRows.{job_rows}
+use Rattle.row_model.specs.Lists.{IsPrefixOf}
+use Rattle.row_model.specs.Read.{read}
+use Rattle.row_model.specs.Rows.{Row, rows_of_key, IsStrictlyOrdered}
+use Rattle.row_model.specs.Settings.{Settings}
+use Rattle.row_laws.proofs.JobReads.{jobs_keep_reads}
+use Rattle.fleet_iter.specs.Iteration.{IteratorState}
+use Rattle.fleet_fold.specs.Folded.{folded}
+use Rattle.fleet_fold.specs.Jobs.{job_rule, GivesJob, MakesJob, BeginsJob, JobsKeepReads}
+use Rattle.fleet_fold.specs.Merging.{merging}
+use Rattle.fleet_fold.specs.Retention.{retained, kept_given}
+use Rattle.fleet_fold.proofs.Jobs.{folds_make_jobs}
+use Rattle.fleet_fold.proofs.JobsBegun.{folds_begin_jobs}
+
+module _ (merge : Operator) (lawful : IsLawful merge) (settings : Settings) (inner : IteratorState) (all : inner.whole ≡ true) (ordered : IsStrictlyOrdered inner.rows) where
+  abbrev S : IteratorState
+  S = retained false settings [] None (merging false merge (job_rule settings.floor) None inner)
+
+  makes : MakesJob merge settings inner.rows
+  makes = folds_make_jobs merge lawful settings inner.rows ordered
+
+  starts : BeginsJob merge settings inner.rows
+  starts = folds_begin_jobs merge lawful settings inner.rows ordered
+
+  whole : S.whole ≡ (job_rows merge settings inner.rows).whole
+  whole = ap (λ b. b && is_none (folded merge (job_rule settings.floor) inner.rows).refusal) all ∙ makes.whole
+
+  made : S.whole ≡ true → S.rows ≡ (job_rows merge settings inner.rows).rows
+  made is = ap (λ b. kept_given settings b (folded merge (job_rule settings.floor) inner.rows).rows) is ∙ makes.kept (sym whole ∙ is)
+
+  begins : (b : Bool) → S.whole ≡ b → IsPrefixOf S.rows (job_rows merge settings inner.rows).rows
+  begins true is = ([], append-nil S.rows ∙ made is)
+  begins false is = subst (λ b. IsPrefixOf (kept_given settings b (folded merge (job_rule settings.floor) inner.rows).rows) (job_rows merge settings inner.rows).rows) (sym is) starts.begins
+
+  pub gives_job : GivesJob merge settings inner.rows S
+  gives_job = record {
+    whole = whole;
+    all = made;
+    begins = begins S.whole refl;
+    reaches = λ is. subst
+        (λ (b : Bool). (key : List ℕ) → (job_rows merge settings (filter (is_below key) inner.rows)).whole ≡ true
+        → AllByRecursion (λ r. is_below key r ≡ true → IsPrefixOf (job_rows merge settings (filter (is_below r.key) inner.rows)).rows (kept_given settings b (folded merge (job_rule settings.floor) inner.rows).rows)) inner.rows)
+        (sym is) starts.reaches;
+    refusal = ap (λ b. if b then (folded merge (job_rule settings.floor) inner.rows).refusal else None) all;
+  }
+
+pub keeps_reads : (merge : Operator) → IsLawful merge → JobsKeepReads merge
+keeps_reads merge lawful settings rows s ordered gives is key seq now above below floor tick last =
+    jobs_keep_reads merge lawful settings rows ordered (sym gives.whole ∙ is) key seq now above below floor tick last
+    ∙ ap (λ (w : List Row). read merge key seq now (above ++ (rows_of_key key w ++ below))) (sym (gives.all is))
