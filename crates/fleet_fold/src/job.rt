@@ -22,7 +22,8 @@ fn is_lawful<B: BatchMerger>(_operator: &B)
 }
 
 /// The rows of the job of `rows`, which are those of its sources in order, such as a merge without dedup gives them. Where the
-/// operator refuses a fold, the rows before it are given key by key, up to one of the last two keys below, and then its refusal.
+/// operator refuses a fold, the rows of the keys below are given and then its refusal; those of the last key below are not,
+/// where the refused group is the first of its key, since retention ends a key when it has seen the next one.
 pub fn job_iterator<'o, O: MergeOperator, T: RowEntryIterator>(
     alloc: Global,
     operator: &'o O,

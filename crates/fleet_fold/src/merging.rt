@@ -25,7 +25,11 @@ pub struct MergeOperatorIterator<'o, O: MergeOperator, T: RowEntryIterator> {
 
 impl<'o, O: MergeOperator, T: RowEntryIterator> MergeOperatorIterator<'o, O, T> {
     /// The rows that `delegate` has left. An operand at or below the barrier, or any where there is none, opens a group. The
-    /// operands of its key behind it join it, of any stamp or of the same one, and the first other row is its base.
+    /// operands of its key behind it join it, of any stamp or of the same one, and the first other row is its base. Operands go
+    /// to the operator in batches of at most 100, and the results over the base's value: a lone operand is merged too. The row
+    /// that a group becomes has the first row's sequence, the greatest `create_ts` and the least `expire_ts`.
+    ///
+    /// A row whose sequence is above that of its group's first row is refused with `InvalidSequenceOrder`.
     #[tactic(auto, using(crate::proofs::FoldedSeeks::folded_rise))]
     pub fn new(
         operator: &'o O,
