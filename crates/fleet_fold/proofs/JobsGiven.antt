@@ -13,11 +13,13 @@ use Rattle.row_model.specs.Settings.{Settings}
 use Rattle.row_laws.proofs.JobReads.{jobs_keep_reads}
 use Rattle.fleet_iter.specs.Iteration.{IteratorState}
 use Rattle.fleet_fold.specs.Folded.{folded}
-use Rattle.fleet_fold.specs.Jobs.{job_rule, GivesJob, MakesJob, BeginsJob, JobsKeepReads}
+use Rattle.fleet_fold.specs.Jobs.{job_rule, IsOfOperator, GivesJob, MakesJob, BeginsJob, JobsKeepReads}
 use Rattle.fleet_fold.specs.Merging.{merging}
 use Rattle.fleet_fold.specs.Retention.{retained, kept_given}
 use Rattle.fleet_fold.proofs.Jobs.{folds_make_jobs}
 use Rattle.fleet_fold.proofs.JobsBegun.{folds_begin_jobs}
+use Rattle.fleet_fold.proofs.JobsRefused.{refuses_by_operator}
+use Rattle.fleet_rows.specs.declared.errors.SlateDBError.{SlateDBError}
 
 module _ (merge : Operator) (lawful : IsLawful merge) (settings : Settings) (inner : IteratorState) (all : inner.whole ≡ true) (ordered : IsStrictlyOrdered inner.rows) where
   abbrev S : IteratorState
@@ -39,6 +41,13 @@ module _ (merge : Operator) (lawful : IsLawful merge) (settings : Settings) (inn
   begins true is = ([], append-nil S.rows ∙ made is)
   begins false is = subst (λ b. IsPrefixOf (kept_given settings b (folded merge (job_rule settings.floor) inner.rows).rows) (job_rows merge settings inner.rows).rows) (sym is) starts.begins
 
+  told : (refusal : Option SlateDBError) → (folded merge (job_rule settings.floor) inner.rows).refusal ≡ refusal → S.whole ≡ false → (e : SlateDBError) × ((S.refusal ≡ Some e) × IsOfOperator merge inner.rows e)
+  told None none is =
+      let clash : true ≡ false = sym (ap (λ b. b && is_none (folded merge (job_rule settings.floor) inner.rows).refusal) all ∙ ap is_none none) ∙ is in
+      absurd (cc clash)
+  told (Some e) some is =
+      (e, (ap (λ b. if b then (folded merge (job_rule settings.floor) inner.rows).refusal else None) all ∙ some, refuses_by_operator merge settings.floor inner.rows e ordered some))
+
   pub gives_job : GivesJob merge settings inner.rows S
   gives_job = record {
     whole = whole;
@@ -48,7 +57,7 @@ module _ (merge : Operator) (lawful : IsLawful merge) (settings : Settings) (inn
         (λ (b : Bool). (key : List ℕ) → (job_rows merge settings (filter (is_below key) inner.rows)).whole ≡ true
         → AllByRecursion (λ r. is_below key r ≡ true → IsPrefixOf (job_rows merge settings (filter (is_below r.key) inner.rows)).rows (kept_given settings b (folded merge (job_rule settings.floor) inner.rows).rows)) inner.rows)
         (sym is) starts.reaches;
-    refusal = ap (λ b. if b then (folded merge (job_rule settings.floor) inner.rows).refusal else None) all;
+    refusal = λ is. told (folded merge (job_rule settings.floor) inner.rows).refusal refl is;
   }
 
 pub keeps_reads : (merge : Operator) → IsLawful merge → JobsKeepReads merge

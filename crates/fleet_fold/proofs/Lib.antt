@@ -16,6 +16,7 @@ pub mod JobsGiven
 pub mod JobsGroups
 pub mod JobsLast
 pub mod JobsOfKey
+pub mod JobsRefused
 pub mod Joining
 pub mod KeptRows
 pub mod Keys

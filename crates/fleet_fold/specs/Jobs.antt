@@ -1,13 +1,11 @@
 -- Folding rows, and then keeping some of each key's, makes a job's rows.
-use Rattle.std.specs.Prelude.{◌≡◌, ℕ, ◌≤◌, ℤ, int_le, ◌++◌, true, false, if◌then◌else◌, List, [], ◌∷◌, filter, flat_map, Option, Some, None}
+use Rattle.std.specs.Prelude.{◌≡◌, ◌≢◌, ℕ, ◌≤◌, ℤ, int_le, ◌++◌, true, false, if◌then◌else◌, List, [], filter, Option, Some, None}
 use Rattle.std.specs.List.{AllByRecursion}
 use Rattle.std.specs.Option.{is_none}
 use Rattle.std.specs.Ordering.{is_gt}
-use Rattle.row_model.specs.Chunks.{elements, chunk_by}
-use Rattle.row_model.specs.Fold.{Operator}
+use Rattle.row_model.specs.Fold.{Operator, Refused}
 use Rattle.row_model.specs.FoldedRows.{folded_rows}
 use Rattle.row_model.specs.JobRows.{job_rows}
-use Rattle.row_model.specs.KeptRows.{kept_rows}
 use Rattle.row_model.specs.Lists.{IsPrefixOf}
 use Rattle.row_model.specs.Rows.{Row, key_cmp, rows_of_key, IsStrictlyOrdered}
 use Rattle.row_model.specs.Read.{read}
@@ -16,6 +14,9 @@ use Rattle.fleet_iter.specs.Iteration.{IteratorState, AreRising}
 use Rattle.row_laws.specs.KeptReads.{AreOfKey}
 use Rattle.row_laws.specs.Keys.{is_below}
 use Rattle.row_laws.specs.Refusals.{RefusesIn}
+use Rattle.fleet_rows.specs.declared.errors.MergeOperatorError.TheVariants.{Callback}
+use Rattle.fleet_rows.specs.declared.errors.SlateDBError.{SlateDBError}
+use Rattle.fleet_rows.specs.declared.errors.SlateDBError.TheVariants.{MergeOperator}
 use Rattle.fleet_fold.specs.Folded.{Folded, folded}
 use Rattle.fleet_fold.specs.Retention.{kept_of_keys, kept_given}
 use Rattle.fleet_fold.specs.declared.group.GroupRule.{GroupRule}
@@ -58,16 +59,33 @@ pub record BeginsJob (merge : Operator) (settings : Settings) (rows : List Row) 
 abbrev pub FoldsBeginJobs : Operator → Type 0
 FoldsBeginJobs merge = (settings : Settings) (rows : List Row) → IsStrictlyOrdered rows → BeginsJob merge settings rows
 
+-- ---- what refuses a job
+
+-- an answer of the operator, when it was called for a key that some row has
+pub record IsOfOperator (merge : Operator) (rows : List Row) (e : SlateDBError) : Type 0 where
+  pub message : List ℕ
+  pub same : e ≡ MergeOperator (Callback message)
+  pub key : List ℕ
+  pub among : rows_of_key key rows ≢ []
+  pub existing : Option (List ℕ)
+  pub operand : List ℕ
+  pub refused : merge key existing operand ≡ Refused message
+
+-- Of strictly ordered rows nothing else refuses.
+abbrev pub RefusesByOperator : Operator → Type 0
+RefusesByOperator merge = (floor : ℕ) (rows : List Row) (e : SlateDBError) → IsStrictlyOrdered rows → (folded merge (job_rule floor) rows).refusal ≡ Some e → IsOfOperator merge rows e
+
 -- ---- an iterator over a job's rows
 
--- It gives the job's rows; and where a fold refuses, those of the keys before the last but one below it at least, and none but the job's.
+-- It gives the job's rows; and where a fold refuses, none but the job's, at least all of the keys before the last one below, and then what the
+-- operator refused with.
 pub record GivesJob (merge : Operator) (settings : Settings) (rows : List Row) (s : IteratorState) : Type 0 where
   pub whole : s.whole ≡ (job_rows merge settings rows).whole
   pub all : s.whole ≡ true → s.rows ≡ (job_rows merge settings rows).rows
   pub begins : IsPrefixOf s.rows (job_rows merge settings rows).rows
   pub reaches : s.whole ≡ false → (key : List ℕ) → (job_rows merge settings (filter (is_below key) rows)).whole ≡ true
       → AllByRecursion (λ r. is_below key r ≡ true → IsPrefixOf (job_rows merge settings (filter (is_below r.key) rows)).rows s.rows) rows
-  pub refusal : s.refusal ≡ (folded merge (job_rule settings.floor) rows).refusal
+  pub refusal : s.whole ≡ false → (e : SlateDBError) × ((s.refusal ≡ Some e) × IsOfOperator merge rows e)
 
 -- All that it gives, where no fold refuses, reads as the rows do, key by key.
 abbrev pub KeepsReads : Operator → Settings → List Row → IteratorState → Type 0

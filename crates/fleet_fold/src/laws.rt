@@ -1,7 +1,7 @@
 //! Laws on what the iterators of this crate make of rows. Each call has an empty body, and its clause is the law.
 
 ghost use Rattle.row_model.specs.Fold.{IsLawful, Operator};
-ghost use Rattle.fleet_fold.specs.Jobs.{FoldsOneKey, FoldsMakeJobs, FoldsBeginJobs, JobsKeepReads};
+ghost use Rattle.fleet_fold.specs.Jobs.{FoldsOneKey, FoldsMakeJobs, FoldsBeginJobs, JobsKeepReads, RefusesByOperator};
 
 /// Under a lawful operator, merging the operands of one key in batches, up to the floor and of one stamp, gives the model's folded
 /// rows, and refuses exactly where the model's fold does.
@@ -19,6 +19,12 @@ pub fn folds_make_jobs()
 /// on at least to the key before the last one below the refusing key.
 pub fn folds_begin_jobs()
     ensures { (merge : Operator) → IsLawful merge → FoldsBeginJobs merge }
+{}
+
+/// Of strictly ordered rows nothing refuses a fold but the operator: a refusal carries the message of a call of it, for a key that
+/// a row has.
+pub fn refuses_by_operator()
+    ensures { (merge : Operator) → RefusesByOperator merge }
 {}
 
 /// Under a lawful operator, an iterator that gives a whole job's rows gives rows that read as the job's sources do, from the

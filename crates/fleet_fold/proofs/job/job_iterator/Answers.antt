@@ -1,4 +1,4 @@
-use Rattle.std.proofs.Common.{◌≡◌, ◌∙◌, sym, ap, subst}
+use Rattle.std.proofs.Common.{◌∙◌, sym, ap, subst}
 use Rattle.fleet_iter.specs.Iteration.{IteratorState}
 use Rattle.fleet_rows.specs.Settings.{settings_of}
 use Rattle.fleet_fold.specs.Jobs.{GivesJob}
