@@ -1,0 +1,106 @@
+//! The rows that are merged.
+
+ghost use Rattle.std.specs.Prelude.{◌≤◌, IfOk};
+ghost use Rattle.std.specs.List.{AllByRecursion};
+ghost use Rattle.fleet_iter.specs.Iteration.{AreRising};
+
+use bytes::Bytes;
+use fleet_iter::{ListIterator, are_rising};
+use fleet_rows::{RowEntry, SlateDBError, ValueDeletable};
+use std::alloc::Global;
+
+/// How many sources there are.
+const SOURCES: u64 = 8;
+
+/// How many rows a key has, the last one perhaps fewer.
+const VERSIONS: u64 = 4;
+
+/// What is made: how many rows, and how many of 100 are operands.
+#[derive(Clone, Copy, Debug)]
+pub struct Load {
+    pub rows: u64,
+    pub operands: u64,
+}
+
+// The source in which a row lies. The rows of a key lie in two sources, in turn.
+fn source_of(row: u64) -> u64 {
+    let key = row / VERSIONS;
+    match row % 2 {
+        0 => key % SOURCES,
+        _ => (key + 1 + key / SOURCES % (SOURCES - 1)) % SOURCES,
+    }
+}
+
+// 16 bytes, which rise with the rows.
+fn key_of(alloc: Global, row: u64) -> Result<Bytes, SlateDBError> {
+    let key = row / VERSIONS;
+    let digits = format!(in alloc; "{key:016}")?;
+    Ok(Bytes::copy_from_slice(alloc, digits.as_bytes())?)
+}
+
+// 100 bytes, of a value or of an operand. As many of each 100 rows are operands as the load says, spread evenly.
+fn value_of(alloc: Global, load: Load, row: u64) -> Result<ValueDeletable, SlateDBError> {
+    let bytes = Bytes::copy_from_slice(alloc, &[b'v'; 100])?;
+    if row % 100 * 37 % 100 < load.operands {
+        Ok(ValueDeletable::Merge(bytes))
+    } else {
+        Ok(ValueDeletable::Value(bytes))
+    }
+}
+
+// A row. The sequences fall from the number of rows on.
+fn entry(alloc: Global, load: Load, row: u64) -> Result<RowEntry, SlateDBError>
+    requires { row ≤ load.rows }
+{
+    let key = key_of(alloc, row)?;
+    let value = value_of(alloc, load, row)?;
+    Ok(RowEntry::new(key, value, load.rows - row, None, None))
+}
+
+// The rows of a source.
+fn rows_of(alloc: Global, load: Load, source: u64) -> Result<Vec<RowEntry>, SlateDBError> {
+    let mut rows = Vec::new(alloc);
+    for row in 0..load.rows {
+        if source_of(row) == source {
+            rows.push(entry(alloc, load, row)?)?;
+        }
+    }
+    Ok(rows)
+}
+
+/// Sources whose rows rise, and how many rows they have.
+#[derive(Drop)]
+pub struct Sources {
+    pub lists: Vec<ListIterator>,
+    pub rows: u64,
+}
+
+impl Sources {
+    // Adds the rows of one more source.
+    fn add(&mut self, rows: Vec<RowEntry>) -> Result<(), SlateDBError>
+        requires { AllByRecursion (λ l. AreRising l.rows) self.old.lists.items }
+        ensures { AllByRecursion (λ l. AreRising l.rows) self.new.lists.items }
+    {
+        if !are_rising(&rows) {
+            return Err(SlateDBError::InvalidDBState);
+        }
+        let count = self.rows.saturating_add(rows.len() as u64);
+        self.lists.push(ListIterator::new(rows))?;
+        self.rows = count;
+        Ok(())
+    }
+}
+
+/// All sources.
+pub fn make_sources(alloc: Global, load: Load) -> Result<Sources, SlateDBError>
+    ensures { IfOk result (λ sources. AllByRecursion (λ l. AreRising l.rows) sources.lists.items) }
+{
+    let mut sources = Sources {
+        lists: Vec::new(alloc),
+        rows: 0,
+    };
+    'sources: for source in 0..SOURCES {
+        sources.add(rows_of(alloc, load, source)?)?;
+    }
+    Ok(sources)
+}

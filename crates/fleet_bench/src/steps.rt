@@ -1,0 +1,95 @@
+//! The steps that rows go through.
+
+ghost use Rattle.std.specs.Prelude.{◌≡◌, ⊤, false};
+ghost use Rattle.std.specs.List.{AllByRecursion};
+ghost use Rattle.fleet_iter.specs.Iteration.{AreRising, IsAlive};
+ghost use Rattle.fleet_iter.specs.List.{giving};
+ghost use Rattle.fleet_iter.specs.MergeState.{state_of, IsSound};
+
+use crate::sources::{Load, make_sources};
+use fleet_fold::{AppendOperator, MergeOperatorIterator, RetentionIterator};
+use fleet_iter::{ListIterator, MergeIterator, RowEntryIterator, merges_rise};
+use fleet_rows::{Settings, SlateDBError};
+use std::alloc::Global;
+
+/// How far rows go.
+#[derive(Clone, Copy, Debug, PartialEq, Eq)]
+pub enum Step {
+    /// They are made.
+    Rows,
+    /// They are merged.
+    Merge,
+    /// And their operands are folded.
+    Fold,
+    /// And those are kept that a job writes which makes the last run.
+    Job,
+}
+
+/// All steps.
+const STEPS: [Step; 4] = [Step::Rows, Step::Merge, Step::Fold, Step::Job];
+
+impl Step {
+    /// The word for it.
+    pub fn name(self) -> &'static str {
+        match self {
+            Step::Rows => "rows",
+            Step::Merge => "merge",
+            Step::Fold => "fold",
+            Step::Job => "job",
+        }
+    }
+
+    /// The step of a word.
+    pub fn named(word: &str) -> Option<Step> {
+        STEPS.iter().copied().find(|step| step.name() == word)
+    }
+}
+
+// How many rows an iterator gives.
+fn count_given<T: RowEntryIterator>(alloc: Global, iterator: T) -> Result<u64, SlateDBError>
+    requires { T.sound iterator }
+{
+    let mut source = iterator;
+    source.init(alloc)?;
+    'rows: for given in 0..u64::MAX {
+        if source.next(alloc)?.is_none() {
+            return Ok(given);
+        }
+    }
+    Ok(u64::MAX)
+}
+
+// The merge of lists whose rows rise, with all their rows.
+fn merge(alloc: Global, lists: Vec<ListIterator>) -> MergeIterator<ListIterator>
+    requires { AllByRecursion (λ l. AreRising l.rows) lists.items }
+    ensures sound { IsSound (λ _. ⊤) giving result }
+    ensures alive { IsAlive (state_of giving result) }
+    ensures rising { AreRising (state_of giving result).rows }
+{
+    merges_rise();
+    MergeIterator::new(alloc, lists).with_dedup(false)
+}
+
+/// How many rows were made, and how many were given behind a step.
+pub fn count(alloc: Global, load: Load, step: Step) -> Result<(u64, u64), SlateDBError> {
+    let sources = make_sources(alloc, load)?;
+    let rows = sources.rows;
+    if step == Step::Rows {
+        return Ok((rows, 0));
+    }
+    let merged = merge(alloc, sources.lists);
+    if step == Step::Merge {
+        return Ok((rows, count_given(alloc, merged)?));
+    }
+    let folded = MergeOperatorIterator::new(&AppendOperator, merged, false, Some(load.rows));
+    if step == Step::Fold {
+        return Ok((rows, count_given(alloc, folded)?));
+    }
+    let settings = Settings {
+        floor: load.rows,
+        tick: 0,
+        last_run: true,
+    };
+    let kept = RetentionIterator::new(alloc, folded, settings);
+    Ok((rows, count_given(alloc, kept)?))
+}
