@@ -8,3 +8,4 @@ pub mod Operator
 pub mod Required
 pub mod Retention
 pub mod State
+pub mod TestOperators

@@ -18,8 +18,7 @@ pub type JobIterator<'o, O, T> = RetentionIterator<MergeOperatorIterator<'o, O, 
 
 fn is_lawful<B: BatchMerger>(_operator: &B)
     ensures { IsLawful (B.merged (B.settings _operator.now)) }
-{
-}
+{}
 
 /// The rows of the job of `rows`, which are those of its sources in order, such as a merge without dedup gives them. Where the
 /// operator refuses a fold, the rows of the keys below are given and then its refusal; those of the last key below are not,

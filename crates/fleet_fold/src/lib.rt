@@ -29,4 +29,14 @@ pub use retention::RetentionIterator;
 #[cfg(test)]
 mod filter_tests;
 #[cfg(test)]
+mod job_cases;
+#[cfg(test)]
+mod job_tests;
+#[cfg(test)]
+mod merging_tests;
+#[cfg(test)]
+mod test_operators;
+#[cfg(test)]
+mod test_text;
+#[cfg(test)]
 mod tests;

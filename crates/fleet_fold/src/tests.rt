@@ -1,11 +1,12 @@
 // What no clause says: that calls succeed where there is memory, and retention as someone reads it.
-ghost use Rattle.std.specs.Prelude.{◌≡◌, ⊤, [], false, true, OnOk, IfOk};
+ghost use Rattle.std.specs.Prelude.{OnOk};
 ghost use Rattle.fleet_iter.specs.Iteration.{AreRising};
 
+use crate::test_text::{list, number, rows, stamp};
 use crate::{AppendOperator, MergeOperator, MergeOperatorRequiredIterator, RetentionIterator};
 use bytes::Bytes;
-use fleet_iter::{ListIterator, RowEntryIterator, are_rising};
-use fleet_rows::{MergeOperatorError, RowEntry, Settings, SlateDBError, ValueDeletable};
+use fleet_iter::{ListIterator, RowEntryIterator};
+use fleet_rows::{MergeOperatorError, RowEntry, Settings, SlateDBError};
 use std::alloc::Global;
 use std::test::Fail;
 
@@ -93,68 +94,10 @@ const TOLD: &str = "\
 8 4 1 - -
 4 11 0 - -
 1 11 0 - -
-0 5 1 - -";
-
-fn row(alloc: Global, text: &str) -> Result<RowEntry, SlateDBError> {
-    let mut fields = text.split(':');
-    let key = bytes(alloc, fields.next())?;
-    let kind = fields.next();
-    let value = bytes(alloc, fields.next())?;
-    let value = match kind {
-        Some("v") => ValueDeletable::Value(value),
-        Some("m") => ValueDeletable::Merge(value),
-        _ => ValueDeletable::Tombstone,
-    };
-    let seq = number(fields.next())?;
-    let created = stamp(fields.next());
-    let expires = stamp(fields.next());
-    Ok(RowEntry::new(key, value, seq, created, expires))
-}
-
-fn bytes(alloc: Global, field: Option<&str>) -> Result<Bytes, SlateDBError> {
-    match field {
-        Some("-") | None => Ok(Bytes::new()),
-        Some(text) => Ok(Bytes::copy_from_slice(alloc, text.as_bytes())?),
-    }
-}
-
-fn number(field: Option<&str>) -> Result<u64, SlateDBError> {
-    match field.map(|text| text.parse::<u64>()) {
-        Some(Ok(number)) => Ok(number),
-        _ => Err(SlateDBError::InvalidDBState),
-    }
-}
-
-fn stamp(field: Option<&str>) -> Option<i64> {
-    match field {
-        Some(text) => text.parse::<i64>().ok(),
-        None => None,
-    }
-}
-
-fn rows(alloc: Global, text: Option<&str>) -> Result<Vec<RowEntry>, SlateDBError> {
-    let mut rows = Vec::new(alloc);
-    match text {
-        Some("-") | None => {}
-        Some(text) => {
-            for part in text.split(',') {
-                rows.push(row(alloc, part)?)?;
-            }
-        }
-    }
-    Ok(rows)
-}
-
-// A list whose rows rise.
-fn list(alloc: Global, text: Option<&str>) -> Result<ListIterator, SlateDBError>
-    ensures { IfOk result (λ list. AreRising list.rows) }
-{
-    let rows = rows(alloc, text)?;
-    if !are_rising(&rows) {
-        return Err(SlateDBError::InvalidDBState);
-    }
-    Ok(ListIterator::new(rows))
-}
+0 5 1 - -
+40 5 1 a:m:1:22:1:-9223372036854775808,a:m:20:19:-:-,a:m:-:18:1:9223372036854775807,a:m:01:14:7:-,a:m:2:12:7:9223372036854775807,a:m:0:5:1:9223372036854775807,b:m:1:33:2:-,b:m:-:27:1:9223372036854775807,b:m:1:16:2:-3,b:m:0:13:7:-,b:m:20:4:7:- a:m:20:19:-:-,a:m:-:18:1:9223372036854775807,a:m:01:14:7:-,a:m:2:12:7:9223372036854775807,a:m:0:5:1:9223372036854775807,b:m:1:33:2:-,b:m:-:27:1:9223372036854775807,b:m:0:13:7:-,b:m:20:4:7:-
+8 10 0 a:v:1:33:7:-,a:v:2:27:1:-,a:v:10:26:1:-,a:v:02:25:-:-,a:v:1:23:7:-,a:v:0:22:-:-,a:v:-:20:2:-,a:m:1:12:-:-,a:m:2:11:1:-,a:v:0:8:7:-,a:v:0:7:1:-,a:v:12:1:2:-,b:m:10:30:1:-,b:v:1:18:7:-,b:m:22:6:-:-,b:m:00:0:-:- a:v:1:33:7:-,a:v:2:27:1:-,a:v:10:26:1:-,a:v:02:25:-:-,a:v:1:23:7:-,a:v:0:22:-:-,a:v:-:20:2:-,a:m:1:12:-:-,a:m:2:11:1:-,a:v:0:8:7:-,b:m:10:30:1:-,b:v:1:18:7:-,b:m:22:6:-:-,b:m:00:0:-:-
+0 5 0 - -";
 
 // The rows that an iterator gives.
 fn given<T: RowEntryIterator>(alloc: Global, source: &mut T) -> Result<Vec<RowEntry>, SlateDBError>
@@ -174,7 +117,7 @@ fn given<T: RowEntryIterator>(alloc: Global, source: &mut T) -> Result<Vec<RowEn
 fn case(alloc: Global, line: &str) -> Result<(Vec<RowEntry>, Vec<RowEntry>), SlateDBError> {
     let mut fields = line.split(' ');
     let floor = number(fields.next())?;
-    let tick = stamp(fields.next()).unwrap_or(0);
+    let tick = stamp(fields.next())?.unwrap_or(0);
     let last_run = fields.next() == Some("1");
     let settings = Settings {
         floor,
@@ -183,7 +126,10 @@ fn case(alloc: Global, line: &str) -> Result<(Vec<RowEntry>, Vec<RowEntry>), Sla
     };
     let mut kept = RetentionIterator::new(alloc, list(alloc, fields.next())?, settings);
     kept.init(alloc)?;
-    Ok((given(alloc, &mut kept)?, rows(alloc, fields.next())?))
+    Ok((
+        given(alloc, &mut kept)?,
+        rows(alloc, fields.next().unwrap_or("-"))?,
+    ))
 }
 
 #[test]
@@ -247,16 +193,16 @@ fn seeks_in_the_midst(rt: HostRuntime) -> Result<(), Fail> {
     ];
     for (taken, key, wanted) in cases {
         let left = sought(alloc, told, taken, key.as_bytes())?;
-        assert_eq!(rt; left, rows(alloc, Some(wanted))?, "{taken} {key}");
+        assert_eq!(rt; left, rows(alloc, wanted)?, "{taken} {key}");
     }
     Ok(())
 }
 
 // Gives the rows of a list, and then fails.
 #[derive(Drop)]
-struct Failing {
-    list: ListIterator,
-    failed: bool,
+pub(crate) struct Failing {
+    pub(crate) list: ListIterator,
+    pub(crate) failed: bool,
 }
 
 impl RowEntryIterator for Failing {
@@ -342,7 +288,7 @@ fn keeps_rows_of_a_boxed_iterator(rt: HostRuntime) -> Result<(), Fail> {
     let mut kept = RetentionIterator::new(alloc, boxed, settings);
     kept.init(alloc)?;
     let kept = given(alloc, &mut kept)?;
-    assert_eq!(rt; kept, rows(alloc, Some("a:t:-:4:-:-,a:v:v1:2:-:-"))?);
+    assert_eq!(rt; kept, rows(alloc, "a:t:-:4:-:-,a:v:v1:2:-:-")?);
     Ok(())
 }
 
