@@ -1,0 +1,6 @@
+pub mod Bounded
+pub mod Cuts
+pub mod Finished
+pub mod Made
+pub mod Opened
+pub mod Turns

@@ -1,0 +1,22 @@
+use Rattle.std.proofs.Common.{rules, ◌≢◌, ◌∙◌, [], arith}
+use Rattle.std.proofs.lemmas.Grind.{common_steps}
+use Rattle.row_model.specs.Tables.{cut_tables}
+use Rattle.fleet_exec.specs.Taking.{left_behind}
+use Rattle.fleet_exec.proofs.Cuts.{goes_on_behind, stays_bounded}
+use Rattle.fleet_exec.proofs.finish.take_tables.Goals as goal
+
+pub tables-preserved : goal.tables-preserved
+tables-preserved g c =
+    let f = g.T.RowSource.state in
+    let takes = c.in_ok-table.ensures.ok in
+    let s = f c.tables.source in
+    let new = f c.take_table.new.source in
+    let some : c.in_ok-table.table.items ≢ [] = λ e. grind (arith, common_steps, e) in
+    record {
+      sound = search rules;
+      readable = takes.readable;
+      whole = takes.whole ∙ c.tables.invariant.whole;
+      refusal = takes.refusal ∙ c.tables.invariant.refusal;
+      bounded = stays_bounded c.args.size c.args.cursor.now s new c.in_ok-table.table.items takes some c.tables.invariant.bounded;
+      tables = goes_on_behind c.args.size c.args.cursor.now s new c.in_ok-table.table.items takes some c.tables.tables c.push.new.self (cut_tables c.args.size (left_behind c.args.cursor.now (f c.args.source.now).rows)) c.tables.invariant.tables c.in_ok-push.ensures.ok;
+    }

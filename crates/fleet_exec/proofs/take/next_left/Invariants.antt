@@ -1,0 +1,19 @@
+use Rattle.std.proofs.Common.{◌≡◌, length}
+use Rattle.fleet_fold.specs.Retention.{IsReadable}
+use Rattle.fleet_exec.specs.Taking.{left_behind}
+use Rattle.fleet_exec.proofs.take.next_left.Given as goal
+
+abbrev pub invariant-rows : goal.invariant-rows
+invariant-rows g l =
+    let s = g.T.RowSource.state l.source in
+    let old = g.T.RowSource.state l.fn.source in
+    record {
+      sound : g.T.RowSource.sound l.source;
+      readable : IsReadable s;
+      whole : s.whole ≡ old.whole;
+      refusal : s.refusal ≡ old.refusal;
+      rows : left_behind l.cursor s.rows ≡ left_behind l.cursor old.rows;
+    }
+
+abbrev pub decreases-rows : goal.decreases-rows
+decreases-rows g l = length (g.T.RowSource.state l.source).rows

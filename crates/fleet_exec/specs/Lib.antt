@@ -1,0 +1,5 @@
+pub mod Cut
+pub mod Ranges
+pub mod Tables
+pub mod Taking
+pub mod Turns

@@ -1,0 +1,15 @@
+//! Ranges of a job, made of its sources: table by table, and taken up again behind any row.
+#![tactic(auto)]
+
+mod finish;
+mod gate;
+pub mod laws;
+mod open;
+mod range_job;
+mod tables;
+mod take;
+
+pub use finish::finish_ranges;
+pub use gate::{OpenGate, RangeGate};
+pub use range_job::{RangeJob, RangeTables, SourceSet};
+pub use tables::next_table;

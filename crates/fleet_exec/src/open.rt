@@ -1,0 +1,95 @@
+//! The rows of a range, from its cursor's key on.
+
+ghost use Rattle.std.specs.Prelude.{◌≡◌, map, ⊤, IfOk, IsOkUnless};
+ghost use Rattle.row_laws.specs.Sources.{merged_rows};
+ghost use Rattle.fleet_iter.specs.MergeState as merge;
+ghost use Rattle.fleet_range.specs.Keys.{range_of};
+ghost use Rattle.fleet_rows.specs.declared.errors.SlateDBError.TheVariants as SlateDBError;
+ghost use Rattle.fleet_rows.specs.Settings.{settings_of};
+ghost use Rattle.fleet_table.specs.Iterator.{state_of};
+ghost use Rattle.fleet_fold.specs.Jobs.{GivesJob};
+ghost use Rattle.fleet_fold.specs.Merging as merging;
+ghost use Rattle.fleet_fold.specs.Retention.{IsReadable};
+ghost use Rattle.fleet_fold.specs.State as retention;
+ghost use Rattle.fleet_exec.specs.Ranges.{AreSources, opened, ranged, rows_from, reading};
+
+use crate::RangeJob;
+use fleet_fold::{JobIterator, MergeOperator, job_iterator};
+use fleet_iter::{MergeIterator, RowEntryIterator, merges_sort, ordered_rows_rise};
+use fleet_range::BytesRange;
+use fleet_rows::SlateDBError;
+use fleet_table::{RunData, RunIterator};
+use std::alloc::Global;
+
+// The rows of each source that lie in a range.
+fn range_iterators<'s>(
+    alloc: Global,
+    sources: &'s [RunData],
+    range: &'s BytesRange,
+) -> Result<Vec<RunIterator<'s>>, SlateDBError>
+    ensures rows { IfOk result (λ iterators. map state_of iterators.items ≡ opened (range_of range.now) sources.now) }
+    ensures memory { IsOkUnless result SlateDBError.Memory }
+{
+    let mut iterators = Vec::with_capacity(alloc, sources.len())?;
+    'sources: for source in sources {
+        iterators.push(RunIterator::new(source, range))?;
+    }
+    Ok(iterators)
+}
+
+// The rows of all sources in a range.
+fn ready_merge<'s>(
+    alloc: Global,
+    sources: &'s [RunData],
+    range: &'s BytesRange,
+) -> Result<MergeIterator<RunIterator<'s>>, SlateDBError>
+    requires { AreSources sources.now }
+    ensures rows { IfOk result (λ rows. merge.state_of state_of rows ≡ reading (merged_rows (ranged (range_of range.now) sources.now))) }
+    ensures sound { IfOk result (λ rows. merge.IsSound (λ _. ⊤) state_of rows) }
+    ensures memory { IsOkUnless result SlateDBError.Memory }
+{
+    merges_sort();
+    let iterators = range_iterators(alloc, sources, range)?;
+    let mut rows = MergeIterator::new(alloc, iterators).with_dedup(false);
+    rows.init(alloc)?;
+    Ok(rows)
+}
+
+// And from its cursor's key on.
+pub(crate) fn merged_sources<'s>(
+    alloc: Global,
+    job: &'s RangeJob,
+    sources: &'s [RunData],
+) -> Result<MergeIterator<RunIterator<'s>>, SlateDBError>
+    requires { AreSources sources.now }
+    ensures rows { IfOk result (λ rows. merge.state_of state_of rows ≡ reading (rows_from (range_of job.now.range) job.now.cursor sources.now)) }
+    ensures sound { IfOk result (λ rows. merge.IsSound (λ _. ⊤) state_of rows) }
+    ensures memory { IsOkUnless result SlateDBError.Memory }
+{
+    ordered_rows_rise();
+    let mut rows = ready_merge(alloc, sources, &job.range)?;
+    match &job.cursor {
+        Some((key, _)) => {
+            rows.seek(alloc, key.as_slice())?;
+            Ok(rows)
+        }
+        None => Ok(rows),
+    }
+}
+
+/// What a job makes of a range, from its cursor's key on.
+pub(crate) fn open_range<'s, 'o, O: MergeOperator>(
+    alloc: Global,
+    job: &'s RangeJob,
+    sources: &'s [RunData],
+    operator: &'o O,
+) -> Result<JobIterator<'o, O, MergeIterator<RunIterator<'s>>>, SlateDBError>
+    requires { AreSources sources.now }
+    ensures job { IfOk result (λ rows. GivesJob (O.merged (O.settings operator.now)) (settings_of job.now.settings) (rows_from (range_of job.now.range) job.now.cursor sources.now) (retention.state_of (merging.state_of O.settings O.merged (merge.state_of state_of)) rows)) }
+    ensures readable { IfOk result (λ rows. IsReadable (retention.state_of (merging.state_of O.settings O.merged (merge.state_of state_of)) rows)) }
+    ensures sound { IfOk result (λ rows. retention.IsSound (merging.IsSound (merge.IsSound (λ _. ⊤) state_of) (merge.state_of state_of)) (merging.state_of O.settings O.merged (merge.state_of state_of)) rows) }
+    ensures memory { IsOkUnless result SlateDBError.Memory }
+{
+    let rows = merged_sources(alloc, job, sources)?;
+    Ok(job_iterator(alloc, operator, rows, job.settings))
+}
