@@ -13,3 +13,12 @@ pub use finish::finish_ranges;
 pub use gate::{OpenGate, RangeGate};
 pub use range_job::{RangeJob, RangeTables, SourceSet};
 pub use tables::next_table;
+
+#[cfg(test)]
+mod test_cases;
+#[cfg(test)]
+mod test_sources;
+#[cfg(test)]
+mod test_text;
+#[cfg(test)]
+mod tests;
