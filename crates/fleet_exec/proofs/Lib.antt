@@ -1,6 +1,7 @@
 pub mod Bounded
 pub mod Cuts
 pub mod Finished
+pub mod FinishedJob
 pub mod Made
 pub mod Opened
 pub mod Turns

@@ -11,7 +11,11 @@ use Rattle.row_laws.specs.Sources.{merged_rows}
 use Rattle.row_laws.specs.Turns.{AreCut}
 use Rattle.fleet_rows.specs.Row.{rows_of}
 use Rattle.fleet_rows.specs.declared.row.RowEntry.{RowEntry}
-use Rattle.fleet_exec.specs.Cut.{IsFinished}
+use Rattle.row_model.specs.Tables.{cut_tables}
+use Rattle.fleet_range.specs.Keys.{range_of}
+use Rattle.fleet_rows.specs.Settings.{settings_of}
+use Rattle.fleet_exec.specs.Cut.{IsFinished, AreFinished, made_of}
+use Rattle.fleet_exec.specs.declared.range_job.RangeJob.{RangeJob}
 use Rattle.fleet_exec.specs.Ranges.{AreSources, source_rows, left_of}
 use Rattle.fleet_exec.specs.Tables.{IsNextTable}
 
@@ -67,3 +71,33 @@ RangesMakeJob merge = (settings : Settings) (sources : List (List (List Row))) (
     → AreCut (map (λ turns. turns.range) ranges)
     → AllByRecursion (AreMade merge settings sources) ranges
     → job_rows merge settings (all_rows sources) ≡ record { rows = flat_map made_rows ranges; whole = true }
+
+-- ---- ranges that one call finishes
+
+-- a range that is finished from its cursor on, and the tables that were taken of it before
+pub record BegunRange : Type 0 where
+  pub job : RangeJob
+  pub sizes : List ℕ
+  pub taken : List (List RowEntry)
+
+pub record IsBegun (merge : Operator) (settings : Settings) (sources : List (List (List Row))) (begun : BegunRange) : Type 0 where
+  pub same : settings_of begun.job.settings ≡ settings
+  pub tables : AreTaken merge settings (range_of begun.job.range) sources None begun.sizes begun.taken
+  pub behind : begun.job.cursor ≡ cursor_after None (rows_of_all begun.taken)
+
+-- with what a call that cuts at this size finishes
+abbrev pub finished_at : Operator → List (List (List Row)) → ℕ → BegunRange → RangeTurns
+finished_at merge sources size begun =
+    record { range = range_of begun.job.range; sizes = begun.sizes; taken = begun.taken; cut_size = size; finished = cut_tables size (made_of merge sources begun.job).rows }
+
+pub record FinishedMakeJob (merge : Operator) (settings : Settings) (sources : List (List (List Row))) (size : ℕ) (begun : List BegunRange) (ranges : List (List (List Row))) : Type 0 where
+  pub given : ranges ≡ map (λ turns. turns.finished) (map (finished_at merge sources size) begun)
+  pub all : job_rows merge settings (all_rows sources) ≡ record { rows = flat_map made_rows (map (finished_at merge sources size) begun); whole = true }
+
+-- Where one call finishes the ranges of a plan, what was taken of each and what the call gives are all that the job makes.
+abbrev pub FinishMakesJob : Operator → Type 0
+FinishMakesJob merge = (settings : Settings) (sources : List (List (List Row))) (size : ℕ) (begun : List BegunRange) (ranges : List (List (List Row))) → AreSources sources
+    → AreCut (map (λ b. range_of b.job.range) begun)
+    → AllByRecursion (IsBegun merge settings sources) begun
+    → AreFinished merge sources size (map (λ b. b.job) begun) ranges
+    → FinishedMakeJob merge settings sources size begun ranges
