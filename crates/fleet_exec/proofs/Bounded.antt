@@ -1,8 +1,7 @@
 -- What a job makes of rows in bounds is in bounds, and so are the rows of a range.
-use Rattle.std.proofs.Common.{◌≡◌, ◌∙◌, sym, refl, ap, subst, ℕ, ℤ, ◌<◌, ◌^◌, List, [], ◌∷◌, ◌++◌, map, length, Bool, true, false, Option, Some, None, arith}
+use Rattle.std.proofs.Common.{◌≡◌, sym, refl, subst, ℕ, ℤ, ◌<◌, ◌^◌, List, [], ◌∷◌, map, length, Bool, true, false, Option, Some, None, arith}
 use Rattle.std.specs.Prelude.{flat_map, option_map, if◌then◌else◌, ⊤}
 use Rattle.std.specs.List.{AllByRecursion}
-use Rattle.std.proofs.lemmas.List.Elements.{filter-append}
 use Rattle.std.proofs.lemmas.Option.{same_Some}
 use Rattle.row_model.specs.Bounds.{IsInBounds}
 use Rattle.row_model.specs.Chunks.{Chunk, elements, chunk_by, put_before}
@@ -10,7 +9,7 @@ use Rattle.row_model.specs.Fold.{Operator, Outcome, Merged, Refused, merge_one, 
 use Rattle.row_model.specs.FoldedRows.{opens_group, takes_next, operand_groups, group_operands, group_base, base_in, base_bytes, content_of, group_content, group_row, greatest_created, folded_chunk, all_or_none, folded_rows}
 use Rattle.row_model.specs.JobRows.{JobRows, key_rows, before_refusal, joined_keys, job_rows}
 use Rattle.row_model.specs.KeptRows.{kept_rows, as_tombstone_if_expired}
-use Rattle.row_model.specs.Ranges.{Range, rows_in, is_in_range}
+use Rattle.row_model.specs.Ranges.{Range, is_in_range}
 use Rattle.row_model.specs.Rows.{Row, Content, Value, Merge, Tombstone, same_key, is_expired, sorted_rows}
 use Rattle.row_model.specs.Settings.{Settings}
 use Rattle.row_model.specs.Sizes.{content_len}
@@ -23,6 +22,7 @@ use Rattle.row_laws.proofs.Sources.{all_put}
 use Rattle.fleet_iter.specs.Iteration.{from_key}
 use Rattle.fleet_fold.proofs.AllKept.{all-both, all_key_kept, AllChunks}
 use Rattle.fleet_exec.specs.Ranges.{source_rows, ranged, rows_from}
+use Rattle.fleet_exec.proofs.Opened.{flat_in}
 
 abbrev AreInBounds : List Row → Type 0
 AreInBounds rows = AllByRecursion IsInBounds rows
@@ -147,11 +147,6 @@ job_bounds merge lawful settings rows h = keys_bounds merge lawful settings (chu
 
 -- ---- the rows of a range
 
-flat_ranged : (range : Range) (sources : List (List (List Row))) → flat_map (λ rows. rows) (ranged range sources) ≡ rows_in range (flat_map source_rows sources)
-flat_ranged range [] = refl
-flat_ranged range (tables ∷ sources) =
-    ap (λ (w : List Row). rows_in range (source_rows tables) ++ w) (flat_ranged range sources) ∙ sym (filter-append (λ r. is_in_range range r.key) (source_rows tables) (flat_map source_rows sources))
-
 sorted_bounds : (rows : List Row) → AreInBounds rows → AreInBounds (sorted_rows rows)
 sorted_bounds [] h = tt
 sorted_bounds (r ∷ rows) h = all_put IsInBounds r (sorted_rows rows) h.0 (sorted_bounds rows h.1)
@@ -167,7 +162,7 @@ from_bounds key (r ∷ rows) h = by (is_below key r) (from_bounds key rows h.1)
 merged_bounds : (range : Range) (sources : List (List (List Row))) → AreInBounds (flat_map source_rows sources) → AreInBounds (merged_rows (ranged range sources))
 merged_bounds range sources h =
     sorted_bounds (flat_map (λ rows. rows) (ranged range sources))
-    (subst AreInBounds (sym (flat_ranged range sources)) (all_filter IsInBounds (λ r. is_in_range range r.key) (flat_map source_rows sources) h))
+    (subst AreInBounds (sym (flat_in range sources)) (all_filter IsInBounds (λ r. is_in_range range r.key) (flat_map source_rows sources) h))
 
 -- and so are the rows of a range of sources in bounds, from a cursor's key on
 pub range_bounds : (range : Range) (cursor : Option Cursor) (sources : List (List (List Row))) → AllByRecursion IsInBounds (flat_map source_rows sources) → AllByRecursion IsInBounds (rows_from range cursor sources)

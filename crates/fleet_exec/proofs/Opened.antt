@@ -50,7 +50,7 @@ pairs_filter R p (r ∷ rows) h = by (p r) (pairs_filter R p rows h.1) (all_filt
     by true rest all = (all, rest)
     by false rest all = rest
 
-flat_in : (range : Range) (sources : List (List (List Row))) → flat_map (λ rows. rows) (ranged range sources) ≡ rows_in range (flat_map source_rows sources)
+pub flat_in : (range : Range) (sources : List (List (List Row))) → flat_map (λ rows. rows) (ranged range sources) ≡ rows_in range (flat_map source_rows sources)
 flat_in range [] = refl
 flat_in range (tables ∷ sources) =
     ap (λ (w : List Row). rows_in range (source_rows tables) ++ w) (flat_in range sources) ∙ sym (filter-append (λ r. is_in_range range r.key) (source_rows tables) (flat_map source_rows sources))
