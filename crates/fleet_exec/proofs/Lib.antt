@@ -4,4 +4,5 @@ pub mod Finished
 pub mod FinishedJob
 pub mod Made
 pub mod Opened
+pub mod SourceOrder
 pub mod Turns

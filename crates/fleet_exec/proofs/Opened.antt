@@ -60,8 +60,8 @@ apart_in range sources h = subst AreApart (sym (flat_in range sources)) (pairs_f
 
 module _ (range : Range) (sources : List (List (List Row))) (h : AreSources sources) where
   -- the merge has them in order
-  pub merged_in : MergesSort → merged Ascending (rows_left (opened range sources)) ≡ merged_rows (ranged range sources)
-  merged_in sort = ap (merged Ascending) (left_in range sources) ∙ sort (ranged range sources) (ordered_in range sources h.ordered) (apart_in range sources h.apart)
+  pub merged_in : MergesSort → merged Ascending (ranged range sources) ≡ merged_rows (ranged range sources)
+  merged_in sort = sort (ranged range sources) (ordered_in range sources h.ordered) (apart_in range sources h.apart)
 
   pub ordered : IsStrictlyOrdered (merged_rows (ranged range sources))
   ordered = apart_are_ordered (flat_map (λ rows. rows) (ranged range sources)) (apart_in range sources h.apart)
@@ -96,13 +96,13 @@ none_failed range (tables ∷ sources) = (refl, none_failed range sources)
 abbrev unready : List Row → IteratorState
 unready rows = record { rows = rows; initialised = false; failed = false; whole = true; refusal = None }
 
-pub starts : MergesSort → (range : Range) (sources : List (List (List Row))) (ss : List IteratorState) (m made : IteratorState) (rows : List Row) → AreSources sources → ss ≡ opened range sources
-    → m ≡ starting Ascending ss → rows ≡ merged Ascending (rows_left ss) → made ≡ record m { rows = rows } → made ≡ unready (merged_rows (ranged range sources))
-starts sort range sources ss m made rows h is begun all same =
+pub starts : (range : Range) (sources : List (List (List Row))) (ss : List IteratorState) (m made : IteratorState) (rows : List Row) → ss ≡ opened range sources
+    → m ≡ starting Ascending ss → rows ≡ merged Ascending (rows_left ss) → made ≡ record m { rows = rows } → made ≡ unready (merged Ascending (ranged range sources))
+starts range sources ss m made rows is begun all same =
     same
     ∙ (ap (λ (s : IteratorState). record s { rows = rows }) begun
-    ∙ (ap (λ (w : List Row). record (starting Ascending ss) { rows = w }) (all ∙ (ap (λ (w : List IteratorState). merged Ascending (rows_left w)) is ∙ merged_in range sources h sort))
-    ∙ ap (λ (b : Bool). record (unready (merged_rows (ranged range sources))) { whole = b }) (ap are_whole is ∙ all_whole range sources)))
+    ∙ (ap (λ (w : List Row). record (starting Ascending ss) { rows = w }) (all ∙ ap (λ (w : List IteratorState). merged Ascending (rows_left w)) is ∙ ap (merged Ascending) (left_in range sources))
+    ∙ ap (λ (b : Bool). record (unready (merged Ascending (ranged range sources))) { whole = b }) (ap are_whole is ∙ all_whole range sources)))
 
 -- a merge that is whole fails for want of memory alone
 pub init_memory : (s t : IteratorState) (e : SlateDBError) (rows : List Row) → s ≡ unready rows → Inits s t (Err e) → e ≡ Memory

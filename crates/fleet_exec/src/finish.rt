@@ -1,6 +1,6 @@
 //! All that is left of ranges.
 
-ghost use Rattle.std.specs.Prelude.{◌≡◌, ◌≤◌, ◌<◌, ◌+◌, ◌^◌, nat_lt, flat_map, length, true, IfOk, IfErr};
+ghost use Rattle.std.specs.Prelude.{◌≡◌, ◌≢◌, ◌≤◌, ◌<◌, ◌+◌, ◌^◌, [], nat_lt, flat_map, length, true, IfOk, IfErr};
 ghost use Rattle.std.specs.List.{AllByRecursion};
 ghost use Rattle.row_model.specs.Bounds.{IsInBounds};
 ghost use Rattle.row_model.specs.Fold.{IsLawful};
@@ -61,6 +61,14 @@ fn take_table<T: RowSource>(
     Ok(table)
 }
 
+// Tells a gate of the last of the tables that a range has given.
+fn tell_gate<G: RangeGate>(gate: &G, range: u32, tables: &RangeTables)
+    requires { tables.now ≢ [] }
+{
+    let count = u32::try_from(tables.tables().len()).unwrap_or(u32::MAX);
+    gate.given(range, count);
+}
+
 // All tables of a range. The gate is told of each.
 fn take_tables<T: RowSource, G: RangeGate>(
     alloc: Global,
@@ -78,15 +86,13 @@ fn take_tables<T: RowSource, G: RangeGate>(
     ensures err { IfErr result (RefusesAll (T.state source.old)) }
 {
     let mut tables = RangeTables::new(alloc);
-    let mut count: u32 = 0;
     'tables: loop {
         let table = take_table(alloc, source, cursor, size)?;
         if table.is_empty() {
             return Ok(tables);
         }
         tables.push(table)?;
-        count = count.saturating_add(1);
-        gate.given(number, count);
+        tell_gate(gate, number, &tables);
     }
 }
 

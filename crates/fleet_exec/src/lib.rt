@@ -6,12 +6,14 @@ mod gate;
 pub mod laws;
 mod open;
 mod range_job;
+mod sources;
 mod tables;
 mod take;
 
 pub use finish::finish_ranges;
 pub use gate::{OpenGate, RangeGate};
 pub use range_job::{RangeJob, RangeTables, SourceSet};
+pub use sources::are_sources;
 pub use tables::next_table;
 
 #[cfg(test)]

@@ -2,7 +2,9 @@
 
 ghost use Rattle.std.specs.Prelude.{◌≡◌, map, ⊤, IfOk, IsOkUnless};
 ghost use Rattle.row_laws.specs.Sources.{merged_rows};
+ghost use Rattle.fleet_iter.specs.Merge.{merged};
 ghost use Rattle.fleet_iter.specs.MergeState as merge;
+ghost use Rattle.fleet_iter.specs.declared.iterator.IterationOrder.TheVariants.{Ascending};
 ghost use Rattle.fleet_range.specs.Keys.{range_of};
 ghost use Rattle.fleet_rows.specs.declared.errors.SlateDBError.TheVariants as SlateDBError;
 ghost use Rattle.fleet_rows.specs.Settings.{settings_of};
@@ -37,7 +39,23 @@ fn range_iterators<'s>(
     Ok(iterators)
 }
 
-// The rows of all sources in a range.
+// The merge of all sources in a range.
+pub(crate) fn merged_in<'s>(
+    alloc: Global,
+    sources: &'s [RunData],
+    range: &'s BytesRange,
+) -> Result<MergeIterator<RunIterator<'s>>, SlateDBError>
+    ensures rows { IfOk result (λ rows. merge.state_of state_of rows ≡ reading (merged Ascending (ranged (range_of range.now) sources.now))) }
+    ensures sound { IfOk result (λ rows. merge.IsSound (λ _. ⊤) state_of rows) }
+    ensures memory { IsOkUnless result SlateDBError.Memory }
+{
+    let iterators = range_iterators(alloc, sources, range)?;
+    let mut rows = MergeIterator::new(alloc, iterators).with_dedup(false);
+    rows.init(alloc)?;
+    Ok(rows)
+}
+
+// Their rows in order.
 fn ready_merge<'s>(
     alloc: Global,
     sources: &'s [RunData],
@@ -49,10 +67,7 @@ fn ready_merge<'s>(
     ensures memory { IsOkUnless result SlateDBError.Memory }
 {
     merges_sort();
-    let iterators = range_iterators(alloc, sources, range)?;
-    let mut rows = MergeIterator::new(alloc, iterators).with_dedup(false);
-    rows.init(alloc)?;
-    Ok(rows)
+    Ok(merged_in(alloc, sources, range)?)
 }
 
 // And from its cursor's key on.

@@ -46,6 +46,19 @@ pub(crate) const RESUMED: &str = "\
 32 10 0 a:v:0:2:7:-,b:v:-:12:7:-|- 99 *,*,b,12 => ok -
 4 5 1 a:v:1:15:-:-,a:t:-:14:-:- 99 *,*,a,15 => ok -";
 
+/// Sources, and whether ranges may be made of them.
+pub(crate) const SOURCES: &str = "\
+- => true
+/- => true
+a:v:1:3:-:-|b:v:1:3:-:- => true
+a:v:1:4:-:-;a:v:1:3:-:- => true
+a:v:1:4:-:-;c:v:1:3:-:-/a:v:1:3:-:-|b:v:1:2:-:-;c:t:-:1:-:- => true
+a:v:1:3:-:-/a:t:-:3:-:- => false
+a:v:1:3:-:-;a:v:1:3:-:- => false
+a:v:1:3:-:-;a:v:1:4:-:- => false
+b:v:1:3:-:-;a:v:1:2:-:- => false
+a:v:1:4:-:-;c:v:1:3:-:-/b:v:1:2:-:-;a:v:1:1:-:- => false";
+
 /// All tables of ranges, for a size of tables; and of each table its range and its place, as the gate is told.
 pub(crate) const FINISHED: &str = "\
 0 0 0 a:v:5:5:-:-,a:v:4:4:-:-,a:v:3:3:-:-,a:v:2:2:-:-,a:v:1:1:-:- 15 *,*,-,- => ok a:v:5:5:-:-,a:v:4:4:-:-;a:v:3:3:-:-,a:v:2:2:-:-;a:v:1:1:-:- 111213

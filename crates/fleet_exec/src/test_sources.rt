@@ -1,22 +1,16 @@
 // Sources of jobs, and ranges, as tables of tests tell them. A source is its tables with ';' between them, and '-' where there are
 // none. Sources have '|' between them, and '/' before the runs. A range is its bounds, included (i), excluded (x) or none (*), and
 // the key and the sequence of its cursor, with ',' between them.
-ghost use Rattle.std.specs.Prelude.{◌≡◌, ◌≢◌, ◌++◌, flat_map, IsTrue, IfOk, OnOk};
-ghost use Rattle.std.specs.List.{AllByRecursion};
-ghost use Rattle.std.specs.declared.cmp.Ordering.TheVariants.{Equal};
-ghost use Rattle.row_model.specs.Rows.{row_cmp, IsStrictlyOrdered};
-ghost use Rattle.row_laws.specs.Merges.{AreApart};
-ghost use Rattle.fleet_rows.specs.Row.{row_of, rows_of};
-ghost use Rattle.fleet_exec.specs.Ranges.{AreSources, source_rows};
+ghost use Rattle.std.specs.Prelude.{IfOk};
+ghost use Rattle.fleet_exec.specs.Ranges.{AreSources};
 
 use crate::test_text::{bytes, number, rows, stamp};
-use crate::{RangeJob, SourceSet};
+use crate::{RangeJob, SourceSet, are_sources};
 use bytes::Bytes;
 use fleet_range::BytesRange;
-use fleet_rows::{RowEntry, Settings, SlateDBError};
+use fleet_rows::{Settings, SlateDBError};
 use fleet_table::{RunData, TableData, are_in_bounds, are_strictly_ordered};
 use std::alloc::Global;
-use std::cmp::Ordering;
 use std::ops::Bound;
 
 fn table(alloc: Global, text: &str) -> Result<TableData, SlateDBError> {
@@ -47,102 +41,8 @@ fn add_sources(alloc: Global, sources: &mut SourceSet, text: &str) -> Result<(),
     Ok(())
 }
 
-fn add_table(rows: &mut Vec<RowEntry>, table: &[RowEntry]) -> Result<(), SlateDBError>
-    ensures { OnOk result (rows_of rows.new.items ≡ rows_of rows.old.items ++ rows_of table.now) }
-{
-    'rows: for row in table {
-        rows.push(row.clone()?)?;
-    }
-    Ok(())
-}
-
-// The rows of a source, behind others.
-fn add_rows(rows: &mut Vec<RowEntry>, source: &RunData) -> Result<(), SlateDBError>
-    ensures { OnOk result (rows_of rows.new.items ≡ rows_of rows.old.items ++ source_rows source.now) }
-{
-    'tables: for table in source.tables() {
-        add_table(rows, table.as_slice())?;
-    }
-    Ok(())
-}
-
-// The rows of all sources.
-fn all_rows(alloc: Global, sources: &[RunData]) -> Result<Vec<RowEntry>, SlateDBError>
-    ensures { IfOk result (λ rows. rows_of rows.items ≡ flat_map source_rows sources.now) }
-{
-    let mut rows = Vec::new(alloc);
-    'sources: for source in sources {
-        add_rows(&mut rows, source)?;
-    }
-    Ok(rows)
-}
-
-// Whether two rows do not have key and sequence in common.
-fn are_two(row: &RowEntry, other: &RowEntry) -> bool
-    ensures { IsTrue result → row_cmp (row_of row.now) (row_of other.now) ≢ Equal }
-{
-    match row.key.as_slice().cmp(other.key.as_slice()) {
-        Ordering::Equal => row.seq != other.seq,
-        _ => true,
-    }
-}
-
-fn is_apart(row: &RowEntry, rows: &[RowEntry]) -> bool
-    ensures { IsTrue result → AllByRecursion (λ r. row_cmp (row_of row.now) r ≢ Equal) (rows_of rows.now) }
-{
-    'others: for other in rows {
-        if !are_two(row, other) {
-            return false;
-        }
-    }
-    true
-}
-
-fn are_apart(rows: &[RowEntry]) -> bool
-    ensures { IsTrue result → AreApart (rows_of rows.now) }
-{
-    let mut rest = rows;
-    'rest: while let [row, later @ ..] = rest {
-        if !is_apart(row, later) {
-            return false;
-        }
-        rest = later;
-    }
-    true
-}
-
-fn is_ordered(alloc: Global, source: &RunData) -> Result<bool, SlateDBError>
-    ensures { IfOk result (λ ordered. IsTrue ordered → IsStrictlyOrdered (source_rows source.now)) }
-{
-    let mut rows = Vec::new(alloc);
-    add_rows(&mut rows, source)?;
-    Ok(are_strictly_ordered(&rows))
-}
-
-fn are_ordered(alloc: Global, sources: &[RunData]) -> Result<bool, SlateDBError>
-    ensures { IfOk result (λ ordered. IsTrue ordered → AllByRecursion (λ tables. IsStrictlyOrdered (source_rows tables)) sources.now) }
-{
-    'sources: for source in sources {
-        if !is_ordered(alloc, source)? {
-            return Ok(false);
-        }
-    }
-    Ok(true)
-}
-
-// Whether each source is ordered, and no two rows have key and sequence in common.
-fn are_sources(alloc: Global, sources: &[RunData]) -> Result<bool, SlateDBError>
-    ensures { IfOk result (λ sound. IsTrue sound → AreSources sources.now) }
-{
-    let ordered = are_ordered(alloc, sources)?;
-    let rows = all_rows(alloc, sources)?;
-    Ok(ordered && are_apart(&rows))
-}
-
-/// The sources that a text tells.
-pub(crate) fn sources(alloc: Global, text: Option<&str>) -> Result<SourceSet, SlateDBError>
-    ensures { IfOk result (λ sources. AreSources sources) }
-{
+/// The sources that a text tells, whatever they are.
+pub(crate) fn told_sources(alloc: Global, text: Option<&str>) -> Result<SourceSet, SlateDBError> {
     let Some(text) = text else {
         return Err(SlateDBError::InvalidDBState);
     };
@@ -150,10 +50,19 @@ pub(crate) fn sources(alloc: Global, text: Option<&str>) -> Result<SourceSet, Sl
     'levels: for level in text.split('/') {
         add_sources(alloc, &mut sources, level)?;
     }
-    if !are_sources(alloc, sources.as_slice())? {
-        return Err(SlateDBError::InvalidDBState);
-    }
     Ok(sources)
+}
+
+/// The sources that a text tells, as ranges ask for them.
+pub(crate) fn sources(alloc: Global, text: Option<&str>) -> Result<SourceSet, SlateDBError>
+    ensures { IfOk result (λ sources. AreSources sources) }
+{
+    let sources = told_sources(alloc, text)?;
+    if are_sources(alloc, &sources)? {
+        Ok(sources)
+    } else {
+        Err(SlateDBError::InvalidDBState)
+    }
 }
 
 /// The floor, the tick, and whether the last run is written.

@@ -3,10 +3,10 @@ ghost use Rattle.std.specs.Prelude.{◌≡◌, ◌≤◌, ◌∷◌, []};
 ghost use Rattle.fleet_fold.specs.TestOperators.{is_accepted, lacks};
 ghost use Rattle.fleet_exec.specs.Ranges.{AreSources};
 
-use crate::test_cases::{FINISHED, NEXT, REFUSED, REFUSED_RANGES, RESUMED, VERSIONS};
-use crate::test_sources::{job, settings, sources};
+use crate::test_cases::{FINISHED, NEXT, REFUSED, REFUSED_RANGES, RESUMED, SOURCES, VERSIONS};
+use crate::test_sources::{job, settings, sources, told_sources};
 use crate::test_text::{halves, number, refusal, tell_rows};
-use crate::{RangeGate, RangeJob, RangeTables, SourceSet, finish_ranges, next_table};
+use crate::{RangeGate, RangeJob, RangeTables, SourceSet, are_sources, finish_ranges, next_table};
 use bytes::Bytes;
 use fleet_fold::{AppendOperator, MergeOperator};
 use fleet_rows::{MergeOperatorError, RowEntry, Settings, SlateDBError, Text};
@@ -178,6 +178,22 @@ fn ranges_told(
         }
     }
     Ok(told)
+}
+
+#[test]
+fn tells_whether_ranges_may_be_made(rt: HostRuntime) -> Result<(), Fail> {
+    let alloc = rt.alloc();
+    for line in SOURCES.split('\n') {
+        let (question, wanted) = halves(line)?;
+        let sources = told_sources(alloc, Some(question))?;
+        let came = if are_sources(alloc, &sources)? {
+            "true"
+        } else {
+            "false"
+        };
+        assert_eq!(rt; came, wanted, "{question}");
+    }
+    Ok(())
 }
 
 #[test]

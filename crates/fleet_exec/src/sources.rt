@@ -1,0 +1,57 @@
+//! Whether sources are as ranges ask.
+
+ghost use Rattle.std.specs.Prelude.{◌≡◌, ◌↔◌, IsTrue, IfOk, IfErr, IsOkUnless};
+ghost use Rattle.std.specs.Ordering.{is_lt};
+ghost use Rattle.row_model.specs.Rows.{row_cmp, are_ordered};
+ghost use Rattle.fleet_iter.specs.Iteration.{CanFail};
+ghost use Rattle.fleet_rows.specs.Row.{row_of};
+ghost use Rattle.fleet_rows.specs.declared.errors.SlateDBError.TheVariants as SlateDBError;
+ghost use Rattle.fleet_fold.specs.Retention.{IsReadable};
+ghost use Rattle.fleet_exec.specs.Ranges.{AreSources};
+
+use crate::SourceSet;
+use crate::open::merged_in;
+use fleet_iter::{RowSource, merges_sort};
+use fleet_range::BytesRange;
+use fleet_rows::{RowEntry, SlateDBError};
+use std::alloc::Global;
+
+// Whether a row stands before another: by a lesser key, or by a greater sequence.
+fn stands_before(row: &RowEntry, other: &RowEntry) -> bool
+    ensures { result ≡ is_lt (row_cmp (row_of row.now) (row_of other.now)) }
+{
+    let keys = row.key.as_slice().cmp(other.key.as_slice());
+    keys.then(other.seq.cmp(&row.seq)).is_lt()
+}
+
+// Whether each row stands before the next.
+fn stand_in_order<T: RowSource>(alloc: Global, source: &mut T) -> Result<bool, SlateDBError>
+    requires sound { T.sound source.old }
+    requires readable { IsReadable (T.state source.old) }
+    ensures ok { IfOk result (λ answer. answer ≡ are_ordered (T.state source.old).rows) }
+    ensures err { IfErr result (CanFail (T.state source.old).whole) }
+{
+    let Some(first) = source.next_row(alloc)? else {
+        return Ok(true);
+    };
+    let mut last = first;
+    'rows: while let Some(row) = source.next_row(alloc)? {
+        if !stands_before(&last, &row) {
+            return Ok(false);
+        }
+        last = row;
+    }
+    Ok(true)
+}
+
+/// Whether each source is strictly ordered, and no two rows have key and sequence in common: what `next_table` and `finish_ranges`
+/// ask of their sources. All rows are read once, as a merge gives them.
+pub fn are_sources(alloc: Global, sources: &SourceSet) -> Result<bool, SlateDBError>
+    ensures answer { IfOk result (λ answer. IsTrue answer ↔ AreSources sources.now) }
+    ensures memory { IsOkUnless result SlateDBError.Memory }
+{
+    merges_sort();
+    let all = BytesRange::unbounded();
+    let mut rows = merged_in(alloc, sources.as_slice(), &all)?;
+    Ok(stand_in_order(alloc, &mut rows)?)
+}
