@@ -1,7 +1,8 @@
 //! A program to measure with: `fleet_bench N P STEP` makes N rows in eight sources, P of 100 of them operands, takes them through
-//! the steps up to STEP (rows, merge, fold, job), and says how many were made and how many given.
+//! the steps up to STEP (rows, merge, fold, job; or tables, range, ranges), and says how many were made and how many given.
 #![tactic(auto)]
 
+mod ranges;
 mod sources;
 mod steps;
 

@@ -10,7 +10,7 @@ use fleet_rows::{RowEntry, SlateDBError, ValueDeletable};
 use std::alloc::Global;
 
 /// How many sources there are.
-const SOURCES: u64 = 8;
+pub const SOURCES: u64 = 8;
 
 /// How many rows a key has, the last one perhaps fewer.
 const VERSIONS: u64 = 4;
@@ -31,8 +31,8 @@ fn source_of(row: u64) -> u64 {
     }
 }
 
-// 16 bytes, which rise with the rows.
-fn key_of(alloc: Global, row: u64) -> Result<Bytes, SlateDBError> {
+/// The key of a row: 16 bytes, which rise with the rows.
+pub fn key_of(alloc: Global, row: u64) -> Result<Bytes, SlateDBError> {
     let key = row / VERSIONS;
     let digits = format!(in alloc; "{key:016}")?;
     Ok(Bytes::copy_from_slice(alloc, digits.as_bytes())?)
@@ -57,8 +57,8 @@ fn entry(alloc: Global, load: Load, row: u64) -> Result<RowEntry, SlateDBError>
     Ok(RowEntry::new(key, value, load.rows - row, None, None))
 }
 
-// The rows of a source.
-fn rows_of(alloc: Global, load: Load, source: u64) -> Result<Vec<RowEntry>, SlateDBError> {
+/// The rows of a source.
+pub fn rows_of(alloc: Global, load: Load, source: u64) -> Result<Vec<RowEntry>, SlateDBError> {
     let mut rows = Vec::new(alloc);
     for row in 0..load.rows {
         if source_of(row) == source {

@@ -6,6 +6,7 @@ ghost use Rattle.fleet_iter.specs.Iteration.{AreRising, IsAlive};
 ghost use Rattle.fleet_iter.specs.List.{giving};
 ghost use Rattle.fleet_iter.specs.MergeState.{state_of, IsSound};
 
+use crate::ranges::{count_finished, count_rows, make_runs};
 use crate::sources::{Load, make_sources};
 use fleet_fold::{AppendOperator, MergeOperatorIterator, RetentionIterator};
 use fleet_iter::{ListIterator, MergeIterator, RowEntryIterator, merges_rise};
@@ -23,10 +24,24 @@ pub enum Step {
     Fold,
     /// And those are kept that a job writes which makes the last run.
     Job,
+    /// They are put into tables, and tested.
+    Tables,
+    /// And one range of all keys is finished, as such a job does.
+    Range,
+    /// And four ranges are, instead.
+    Ranges,
 }
 
 /// All steps.
-const STEPS: [Step; 4] = [Step::Rows, Step::Merge, Step::Fold, Step::Job];
+const STEPS: [Step; 7] = [
+    Step::Rows,
+    Step::Merge,
+    Step::Fold,
+    Step::Job,
+    Step::Tables,
+    Step::Range,
+    Step::Ranges,
+];
 
 impl Step {
     /// The word for it.
@@ -36,6 +51,9 @@ impl Step {
             Step::Merge => "merge",
             Step::Fold => "fold",
             Step::Job => "job",
+            Step::Tables => "tables",
+            Step::Range => "range",
+            Step::Ranges => "ranges",
         }
     }
 
@@ -70,8 +88,17 @@ fn merge(alloc: Global, lists: Vec<ListIterator>) -> MergeIterator<ListIterator>
     MergeIterator::new(alloc, lists).with_dedup(false)
 }
 
-/// How many rows were made, and how many were given behind a step.
-pub fn count(alloc: Global, load: Load, step: Step) -> Result<(u64, u64), SlateDBError> {
+// What a job goes by that makes the last run.
+fn settings_of(load: Load) -> Settings {
+    Settings {
+        floor: load.rows,
+        tick: 0,
+        last_run: true,
+    }
+}
+
+// The steps of lists.
+fn count_listed(alloc: Global, load: Load, step: Step) -> Result<(u64, u64), SlateDBError> {
     let sources = make_sources(alloc, load)?;
     let rows = sources.rows;
     if step == Step::Rows {
@@ -85,11 +112,29 @@ pub fn count(alloc: Global, load: Load, step: Step) -> Result<(u64, u64), SlateD
     if step == Step::Fold {
         return Ok((rows, count_given(alloc, folded)?));
     }
-    let settings = Settings {
-        floor: load.rows,
-        tick: 0,
-        last_run: true,
-    };
-    let kept = RetentionIterator::new(alloc, folded, settings);
+    let kept = RetentionIterator::new(alloc, folded, settings_of(load));
     Ok((rows, count_given(alloc, kept)?))
+}
+
+// The steps of tables: so many ranges are finished.
+fn count_ranged(alloc: Global, load: Load, ranges: u64) -> Result<(u64, u64), SlateDBError> {
+    let runs = make_runs(alloc, load)?;
+    let rows = count_rows(&runs);
+    if ranges == 0 {
+        return Ok((rows, 0));
+    }
+    Ok((
+        rows,
+        count_finished(alloc, load, &runs, ranges, settings_of(load))?,
+    ))
+}
+
+/// How many rows were made, and how many were given behind a step.
+pub fn count(alloc: Global, load: Load, step: Step) -> Result<(u64, u64), SlateDBError> {
+    match step {
+        Step::Tables => count_ranged(alloc, load, 0),
+        Step::Range => count_ranged(alloc, load, 1),
+        Step::Ranges => count_ranged(alloc, load, 4),
+        _ => count_listed(alloc, load, step),
+    }
 }
