@@ -1,7 +1,8 @@
 -- A table that is filled row by row.
-use Rattle.std.proofs.Common.{◌≡◌, ◌≢◌, ◌∙◌, sym, refl, ap, subst, ℕ, ◌+◌, ◌<◌, List, [], ◌∷◌, ◌++◌, length, Bool, true, false, Option, append-nil, arith}
+use Rattle.std.proofs.Common.{◌≡◌, ◌≢◌, ◌∙◌, sym, refl, ap, subst, ℕ, ◌+◌, ◌<◌, List, [], ◌∷◌, ◌++◌, length, Bool, true, false, Option, Some, append-nil, arith}
 use Rattle.std.specs.Prelude.{flat_map, nat_lt, if◌then◌else◌}
 use Rattle.std.specs.List.{AllByRecursion}
+use Rattle.std.specs.Option.{option_to_list}
 use Rattle.std.proofs.lemmas.List.{append_assoc, map-append}
 use Rattle.row_model.specs.Bounds.{IsInBounds}
 use Rattle.row_laws.specs.Resume.{Cursor}
@@ -13,7 +14,16 @@ use Rattle.row_model.specs.Tables.{with_row, cut_from, cut_tables}
 use Rattle.fleet_rows.specs.Row.{row_of, rows_of}
 use Rattle.fleet_rows.specs.declared.row.RowEntry.{RowEntry}
 use Rattle.fleet_exec.specs.Cut.{open_with, before_tables, TakesTable}
-use Rattle.fleet_exec.specs.Taking.{left_behind}
+use Rattle.fleet_exec.specs.Taking.{left_behind, ReadsOn, Takes}
+
+-- a row that is taken is the first that is left
+pub first_left : (cursor : Option Cursor) (old new : IteratorState) (o : Option RowEntry) (row : RowEntry) → Takes 1 cursor old (option_to_list o) new → o ≡ Some row
+    → left_behind cursor old.rows ≡ row_of row ∷ left_behind cursor new.rows
+first_left cursor old new o row takes is = takes.rows ∙ ap (λ (o : Option RowEntry). rows_of (option_to_list o) ++ left_behind cursor new.rows) is
+
+-- reading, and reading on
+pub reads_further : {a b c : IteratorState} → ReadsOn a b → ReadsOn b c → ReadsOn a c
+reads_further first second = record { readable = second.readable; whole = second.whole ∙ first.whole; refusal = second.refusal ∙ first.refusal }
 
 open_snoc : (rows : List Row) (r : Row) (tables : List (List Row)) → open_with (rows ++ r ∷ []) tables ≡ open_with rows (with_row false r tables)
 open_snoc [] r tables = refl

@@ -12,11 +12,10 @@ use Rattle.fleet_rows.specs.declared.row.RowEntry.{RowEntry}
 use Rattle.fleet_rows.specs.declared.errors.SlateDBError.{SlateDBError}
 use Rattle.fleet_rows.specs.declared.errors.SlateDBError.TheVariants.{Memory}
 use Rattle.fleet_fold.specs.Jobs.{IsOfOperator}
-use Rattle.fleet_fold.specs.Retention.{IsReadable}
 use Rattle.fleet_range.specs.Keys.{range_of}
 use Rattle.fleet_rows.specs.Settings.{settings_of}
 use Rattle.fleet_exec.specs.Ranges.{left_of, rows_from}
-use Rattle.fleet_exec.specs.Taking.{left_behind}
+use Rattle.fleet_exec.specs.Taking.{left_behind, ReadsOn}
 use Rattle.fleet_exec.specs.declared.range_job.RangeJob.{RangeJob}
 
 -- rows put before tables, into the first of them
@@ -31,9 +30,7 @@ before_tables (r ∷ rows) tables = (r ∷ rows) ∷ tables
 
 pub record TakesTable (size : ℕ) (cursor : Option Cursor) (old : IteratorState) (table : List RowEntry) (new : IteratorState) : Type 0 where
   pub tables : cut_tables size (left_behind cursor old.rows) ≡ before_tables (rows_of table) (cut_tables size (left_behind cursor new.rows))
-  pub readable : IsReadable new
-  pub whole : new.whole ≡ old.whole
-  pub refusal : new.refusal ≡ old.refusal
+  pub reads : ReadsOn old new
   pub ends : table ≡ [] → old.whole ≡ true
 
 -- a refusal; where the one behind the rows is known it is that

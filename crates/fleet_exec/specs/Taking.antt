@@ -17,13 +17,17 @@ is_left (Some cursor) r = is_unwritten cursor r
 abbrev pub left_behind : Option Cursor → List Row → List Row
 left_behind cursor rows = filter (is_left cursor) rows
 
+-- what reading rows leaves as it is
+pub record ReadsOn (old new : IteratorState) : Type 0 where
+  pub readable : IsReadable new
+  pub whole : new.whole ≡ old.whole
+  pub refusal : new.refusal ≡ old.refusal
+
 -- the first rows that are left are taken, and more than so many are not asked for
 pub record Takes (most : ℕ) (cursor : Option Cursor) (old : IteratorState) (taken : List RowEntry) (new : IteratorState) : Type 0 where
   pub rows : left_behind cursor old.rows ≡ rows_of taken ++ left_behind cursor new.rows
   pub few : length taken ≤ most
-  pub readable : IsReadable new
-  pub whole : new.whole ≡ old.whole
-  pub refusal : new.refusal ≡ old.refusal
+  pub reads : ReadsOn old new
   pub ends : length taken < most → (new.rows ≡ []) × (old.whole ≡ true)
 
 -- or that is refused; by a refusal that is known only where fewer rows are left before it

@@ -3,9 +3,8 @@ use Rattle.std.specs.List.{AllByRecursion}
 use Rattle.row_model.specs.Bounds.{IsInBounds}
 use Rattle.row_model.specs.Tables.{cut_from, cut_tables}
 use Rattle.fleet_rows.specs.Row.{rows_of}
-use Rattle.fleet_fold.specs.Retention.{IsReadable}
 use Rattle.fleet_exec.specs.Cut.{open_with}
-use Rattle.fleet_exec.specs.Taking.{left_behind}
+use Rattle.fleet_exec.specs.Taking.{left_behind, ReadsOn}
 use Rattle.fleet_exec.proofs.finish.take_table.Given as goal
 
 abbrev pub invariant-rows : goal.invariant-rows
@@ -14,9 +13,7 @@ invariant-rows g l =
     let old = g.T.RowSource.state l.fn.source in
     record {
       sound : g.T.RowSource.sound l.source;
-      readable : IsReadable s;
-      whole : s.whole ≡ old.whole;
-      refusal : s.refusal ≡ old.refusal;
+      reads : ReadsOn old s;
       filled : l.filled ≤ l.size;
       bounded : AllByRecursion IsInBounds (left_behind l.cursor s.rows);
       tables : cut_tables l.size (left_behind l.cursor old.rows) ≡ open_with (rows_of l.table.items) (cut_from l.size l.filled (left_behind l.cursor s.rows));

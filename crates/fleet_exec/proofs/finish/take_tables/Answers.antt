@@ -1,8 +1,8 @@
-use Rattle.std.proofs.Common.{rules, ◌≢◌, ◌∙◌, [], arith}
+use Rattle.std.proofs.Common.{rules, ◌≢◌, [], arith}
 use Rattle.std.proofs.lemmas.Grind.{common_steps}
 use Rattle.row_model.specs.Tables.{cut_tables}
 use Rattle.fleet_exec.specs.Taking.{left_behind}
-use Rattle.fleet_exec.proofs.Cuts.{goes_on_behind, stays_bounded}
+use Rattle.fleet_exec.proofs.Cuts.{reads_further, goes_on_behind, stays_bounded}
 use Rattle.fleet_exec.proofs.finish.take_tables.Goals as goal
 
 pub tables-preserved : goal.tables-preserved
@@ -14,9 +14,7 @@ tables-preserved g c =
     let some : c.in_ok-table.table.items ≢ [] = λ e. grind (arith, common_steps, e) in
     record {
       sound = search rules;
-      readable = takes.readable;
-      whole = takes.whole ∙ c.tables.invariant.whole;
-      refusal = takes.refusal ∙ c.tables.invariant.refusal;
+      reads = reads_further c.tables.invariant.reads takes.reads;
       bounded = stays_bounded c.args.size c.args.cursor.now s new c.in_ok-table.table.items takes some c.tables.invariant.bounded;
       tables = goes_on_behind c.args.size c.args.cursor.now s new c.in_ok-table.table.items takes some c.tables.tables c.push.new.self (cut_tables c.args.size (left_behind c.args.cursor.now (f c.args.source.now).rows)) c.tables.invariant.tables c.in_ok-push.ensures.ok;
     }

@@ -2,8 +2,7 @@ use Rattle.std.proofs.Common.{◌≡◌, ◌++◌, length}
 use Rattle.std.specs.List.{AllByRecursion}
 use Rattle.row_model.specs.Bounds.{IsInBounds}
 use Rattle.row_model.specs.Tables.{cut_tables}
-use Rattle.fleet_fold.specs.Retention.{IsReadable}
-use Rattle.fleet_exec.specs.Taking.{left_behind}
+use Rattle.fleet_exec.specs.Taking.{left_behind, ReadsOn}
 use Rattle.fleet_exec.proofs.finish.take_tables.Given as goal
 
 abbrev pub invariant-tables : goal.invariant-tables
@@ -12,9 +11,7 @@ invariant-tables g l =
     let old = g.T.RowSource.state l.fn.source in
     record {
       sound : g.T.RowSource.sound l.source;
-      readable : IsReadable s;
-      whole : s.whole ≡ old.whole;
-      refusal : s.refusal ≡ old.refusal;
+      reads : ReadsOn old s;
       bounded : AllByRecursion IsInBounds (left_behind l.cursor s.rows);
       tables : cut_tables l.size (left_behind l.cursor old.rows) ≡ l.tables ++ cut_tables l.size (left_behind l.cursor s.rows);
     }

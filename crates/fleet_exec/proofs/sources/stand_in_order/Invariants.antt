@@ -1,7 +1,7 @@
 use Rattle.std.proofs.Common.{◌≡◌, ◌∷◌, length}
 use Rattle.row_model.specs.Rows.{are_ordered}
 use Rattle.fleet_rows.specs.Row.{row_of}
-use Rattle.fleet_fold.specs.Retention.{IsReadable}
+use Rattle.fleet_exec.specs.Taking.{ReadsOn}
 use Rattle.fleet_exec.proofs.sources.stand_in_order.Given as goal
 
 abbrev pub invariant-rows : goal.invariant-rows
@@ -10,8 +10,7 @@ invariant-rows g l =
     let old = g.T.RowSource.state l.fn.source in
     record {
       sound : g.T.RowSource.sound l.source;
-      readable : IsReadable s;
-      whole : s.whole ≡ old.whole;
+      reads : ReadsOn old s;
       rows : are_ordered old.rows ≡ are_ordered (row_of l.last ∷ s.rows);
     }
 

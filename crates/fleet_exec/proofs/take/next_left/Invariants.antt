@@ -1,6 +1,5 @@
 use Rattle.std.proofs.Common.{◌≡◌, length}
-use Rattle.fleet_fold.specs.Retention.{IsReadable}
-use Rattle.fleet_exec.specs.Taking.{left_behind}
+use Rattle.fleet_exec.specs.Taking.{left_behind, ReadsOn}
 use Rattle.fleet_exec.proofs.take.next_left.Given as goal
 
 abbrev pub invariant-rows : goal.invariant-rows
@@ -9,9 +8,7 @@ invariant-rows g l =
     let old = g.T.RowSource.state l.fn.source in
     record {
       sound : g.T.RowSource.sound l.source;
-      readable : IsReadable s;
-      whole : s.whole ≡ old.whole;
-      refusal : s.refusal ≡ old.refusal;
+      reads : ReadsOn old s;
       rows : left_behind l.cursor s.rows ≡ left_behind l.cursor old.rows;
     }
 

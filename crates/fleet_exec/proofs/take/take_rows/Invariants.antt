@@ -1,7 +1,6 @@
 use Rattle.std.proofs.Common.{◌≡◌, ◌≤◌, ◌++◌, ◌-◌, length}
 use Rattle.fleet_rows.specs.Row.{rows_of}
-use Rattle.fleet_fold.specs.Retention.{IsReadable}
-use Rattle.fleet_exec.specs.Taking.{left_behind}
+use Rattle.fleet_exec.specs.Taking.{left_behind, ReadsOn}
 use Rattle.fleet_exec.proofs.take.take_rows.Given as goal
 
 abbrev pub invariant-rows : goal.invariant-rows
@@ -10,9 +9,7 @@ invariant-rows g l =
     let old = g.T.RowSource.state l.fn.source in
     record {
       sound : g.T.RowSource.sound l.source;
-      readable : IsReadable s;
-      whole : s.whole ≡ old.whole;
-      refusal : s.refusal ≡ old.refusal;
+      reads : ReadsOn old s;
       few : length l.rows.items ≤ l.most;
       rows : left_behind l.cursor old.rows ≡ rows_of l.rows.items ++ left_behind l.cursor s.rows;
     }
