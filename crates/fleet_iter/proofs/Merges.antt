@@ -2,8 +2,9 @@
 use Rattle.std.proofs.Common.{◌≡◌, ◌∙◌, sym, refl, ap, subst, ℕ, ◌+◌, ◌<◌, List, [], ◌∷◌, ◌++◌, suc, zero, Ok, Err, Option, Some, None, Bool, true, false, cond, drop, drop-cons, add-one, get_or, length, arith, zero-add, add-zero, ◌-◌, ◌≤◌}
 use Rattle.std.specs.Option.{option_to_list, option_map}
 use Rattle.std.specs.List.{AllByRecursion}
-use Rattle.std.proofs.lemmas.List.{drop_all}
-use Rattle.std.proofs.Math.ListN.{set}
+use Rattle.std.specs.Prelude.{map}
+use Rattle.std.proofs.lemmas.List.{drop_all, length-map, map-set}
+use Rattle.std.proofs.Math.ListN.{get_or-map, set}
 use Rattle.row_model.specs.Rows.{Row}
 use Rattle.fleet_rows.specs.Row.{row_of, rows_of}
 use Rattle.fleet_rows.specs.declared.row.RowEntry.{RowEntry}
@@ -257,7 +258,7 @@ refused g ss k s t e lt is a n =
 pub refusal_marks : (g : Option RowEntry) (s t : IteratorState) (e : SlateDBError) → IsTaken g s → Nexts s t (Err e) → t.failed ≡ true
 refusal_marks g s t e a n = (n.answers (clean g s a) (begun g s a)).failed
 
-pub fails_at : (ss : List IteratorState) (k : ℕ) (t : IteratorState) → k < length ss → t.failed ≡ true → some_failed (set ss k t) ≡ true
+fails_at : (ss : List IteratorState) (k : ℕ) (t : IteratorState) → k < length ss → t.failed ≡ true → some_failed (set ss k t) ≡ true
 fails_at [] k t lt failed = absurd (omega arith)
 fails_at (s ∷ ss) zero t lt failed = ap (λ b. cond b true (some_failed ss)) failed
 fails_at (s ∷ ss) (suc k) t lt failed = by s.failed (fails_at ss k t (omega arith) failed)
@@ -265,6 +266,23 @@ fails_at (s ∷ ss) (suc k) t lt failed = by s.failed (fails_at ss k t (omega ar
     by : (b : Bool) → some_failed (set ss k t) ≡ true → cond b true (some_failed (set ss k t)) ≡ true
     by true rest = refl
     by false rest = rest
+
+-- ---- a source at its place
+
+-- its state
+pub state_at : {T : Type 0} (f : T → IteratorState) (xs : List T) (k : ℕ) (x : T) → x ≡ get_or xs k x → f x ≡ get_or (map f xs) k (f x)
+state_at f xs k x is = ap f is ∙ sym (get_or-map f xs k x)
+
+-- it is one of as many states, and one of as many heads
+pub state_within : {T : Type 0} (f : T → IteratorState) (xs all : List T) (k : ℕ) → length xs ≡ length all → k < length all → k < length (map f xs)
+state_within f xs all k same lt = let count : length (map f xs) ≡ length xs = length-map _ _ in omega (arith, count, same, lt)
+
+pub head_within : {T : Type 0} (f : T → IteratorState) (hs : List (Option RowEntry)) (xs all : List T) (k : ℕ) → AllTaken hs (map f xs) → length xs ≡ length all → k < length all → k < length hs
+head_within f hs xs all k taken same lt = let count = same_count hs (map f xs) taken in omega (arith, count, state_within f xs all k same lt)
+
+-- where it has failed, one has
+pub one_failed : {T : Type 0} (f : T → IteratorState) (xs : List T) (k : ℕ) (y : T) → k < length (map f xs) → (f y).failed ≡ true → some_failed (map f (set xs k y)) ≡ true
+one_failed f xs k y lt failed = ap some_failed (map-set f xs k y) ∙ fails_at (map f xs) k (f y) lt failed
 
 -- ---- what holds of each source
 

@@ -2,7 +2,7 @@
 use Rattle.std.proofs.Common.{◌≡◌, ◌∙◌, ◌<◌, ◌≤◌, sym, refl, ap, subst, ℕ, List, [], ◌∷◌, ◌++◌, suc, zero, map, length, Option, Some, None, Bool, true, false, cond, get_or, arith}
 use Rattle.std.specs.Option.{option_to_list}
 use Rattle.std.proofs.Math.ListN.{set}
-use Rattle.std.proofs.lemmas.List.{set-get_or}
+use Rattle.std.proofs.lemmas.List.{length-map, set-get_or}
 use Rattle.row_model.specs.Rows.{Row}
 use Rattle.row_laws.specs.Keys.{is_below}
 use Rattle.fleet_rows.specs.Row.{row_of, rows_of}
@@ -197,5 +197,15 @@ sought_merge order key n hs0 hs ss old le rising k = by (is_told order (are_whol
 pub sought_none : (order : IterationOrder) (key : List ℕ) (hs : List (Option RowEntry)) (ss : List IteratorState) → AllTaken hs ss → AreRising (merged_left order hs ss) → Sought order key 0 (lists hs (rows_left ss)) hs ss ss
 sought_none order key hs ss taken rising = record { rows = λ _. refl; rising = parts_rise order (lists hs (rows_left ss)) rising; taken = taken; whole = λ _. refl }
 
-pub sources_counted : (hs : List (Option RowEntry)) (ss : List IteratorState) → AllTaken hs ss → length (lists hs (rows_left ss)) ≡ length ss
-sources_counted hs ss a = lists_count hs ss a
+-- how many lists there are
+pub within_lists : {T : Type 0} (f : T → IteratorState) (hs : List (Option RowEntry)) (all : List T) (k : ℕ) → AllTaken hs (map f all) → k < length all → k < length (lists hs (rows_left (map f all)))
+within_lists f hs all k taken lt =
+    let count = lists_count hs (map f all) taken in
+    let as_many : length (map f all) ≡ length all = length-map _ _ in
+    omega (arith, count, as_many, lt)
+
+pub lists_within : {T : Type 0} (f : T → IteratorState) (hs : List (Option RowEntry)) (all : List T) (k : ℕ) → AllTaken hs (map f all) → length all ≤ k → length (lists hs (rows_left (map f all))) ≤ k
+lists_within f hs all k taken le =
+    let count = lists_count hs (map f all) taken in
+    let as_many : length (map f all) ≡ length all = length-map _ _ in
+    omega (arith, count, as_many, le)

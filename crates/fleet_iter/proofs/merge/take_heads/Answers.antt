@@ -1,54 +1,39 @@
-use Rattle.std.proofs.Common.{◌≡◌, ◌∙◌, ◌<◌, ◌++◌, ◌+◌, ◌∷◌, [], sym, ap, subst, length, arith, Option, get_or, List}
+use Rattle.std.proofs.Common.{◌≡◌, ◌∙◌, ◌++◌, ◌+◌, ◌∷◌, [], sym, ap, subst, length, arith, Option, List}
 use Rattle.std.specs.Prelude.{map}
 use Rattle.std.proofs.lemmas.Result.{err_from_is_err_and}
 use Rattle.std.proofs.lemmas.List.{map-set, length-map, length-append}
-use Rattle.std.proofs.Math.ListN.{get_or-map, set, length-set}
+use Rattle.std.proofs.Math.ListN.{set, length-set}
 use Rattle.fleet_rows.specs.declared.row.RowEntry.{RowEntry}
 use Rattle.fleet_iter.specs.Iteration.{IteratorState, CanFail}
-use Rattle.fleet_iter.specs.Merge.{AllBegun, lists, rows_left, are_whole, some_failed}
-use Rattle.fleet_iter.proofs.Merges.{alive_at, begin_more, all_begun, one_fails, fails_at, all_set}
+use Rattle.fleet_iter.specs.Merge.{AllBegun, lists, rows_left, are_whole}
+use Rattle.fleet_iter.proofs.Merges.{alive_at, begin_more, all_begun, one_fails, one_failed, state_at, state_within, all_set}
 use Rattle.fleet_iter.proofs.merge.take_heads.Goals as goal
 
 pub first_row-requires-clause-alive : goal.first_row-requires-clause-alive
 first_row-requires-clause-alive g c =
     let f = g.T.RowSource.state in
     let xs = c.sources.sources.items in
-    let ss = map f xs in
-    let k = c.sources.i in
-    let s = f c.index_mut.result.now in
-    let is : s ≡ get_or ss k s = ap f c.index_mut.ensures.value ∙ sym (get_or-map f xs k c.index_mut.result.now) in
-    let d : length ss ≡ length xs = length-map _ _ in
-    let n : length xs ≡ length c.args.sources.now.items = c.sources.invariant.size in
-    let lt : k < length ss = omega (arith, d, n) in
-    alive_at c.sources.heads.items ss k s c.sources.invariant.begun c.sources.invariant.count lt is
+    let x = c.index_mut.result.now in
+    alive_at c.sources.heads.items (map f xs) c.sources.i (f x) c.sources.invariant.begun c.sources.invariant.count
+    (state_within f xs c.args.sources.now.items c.sources.i c.sources.invariant.size (omega arith)) (state_at f xs c.sources.i x c.index_mut.ensures.value)
 
 pub returns-in_err-head-clause-err : goal.returns-in_err-head-clause-err
 returns-in_err-head-clause-err g c =
     let f = g.T.RowSource.state in
     let xs = c.sources.sources.items in
-    let ss = map f xs in
-    let k = c.sources.i in
-    let s = f c.index_mut.result.now in
-    let is : s ≡ get_or ss k s = ap f c.index_mut.ensures.value ∙ sym (get_or-map f xs k c.index_mut.result.now) in
-    let d : length ss ≡ length xs = length-map _ _ in
-    let n : length xs ≡ length c.args.sources.now.items = c.sources.invariant.size in
-    let lt : k < length ss = omega (arith, d, n) in
+    let x = c.index_mut.result.now in
     let e = c.in_err-head.field-0.0 in
     let p = err_from_is_err_and c.from_residual.result c.from_residual.ensures.1 in
-    rw (p.1, p.2) (subst (λ b. CanFail b e) c.sources.invariant.whole (one_fails ss k s e lt is c.in_err-head.ensures.err))
+    rw (p.1, p.2) (subst (λ b. CanFail b e) c.sources.invariant.whole (one_fails (map f xs) c.sources.i (f x) e
+    (state_within f xs c.args.sources.now.items c.sources.i c.sources.invariant.size (omega arith)) (state_at f xs c.sources.i x c.index_mut.ensures.value) c.in_err-head.ensures.err))
 
 pub returns-in_err-head-clause-handed : goal.returns-in_err-head-clause-handed
 returns-in_err-head-clause-handed g c =
     let f = g.T.RowSource.state in
     let xs = c.sources.sources.items in
-    let ss = map f xs in
-    let k = c.sources.i in
-    let y = c.first_row.new.source in
-    let d : length ss ≡ length xs = length-map _ _ in
-    let n : length xs ≡ length c.args.sources.now.items = c.sources.invariant.size in
-    let lt : k < length ss = omega (arith, d, n) in
     let p = err_from_is_err_and c.from_residual.result c.from_residual.ensures.1 in
-    rw (p.1, p.2) (λ _. ap some_failed (map-set f xs k y) ∙ fails_at ss k (f y) lt c.in_err-head.ensures.handed)
+    let within = state_within f xs c.args.sources.now.items c.sources.i c.sources.invariant.size (omega arith) in
+    rw (p.1, p.2) (λ _. one_failed f xs c.sources.i c.first_row.new.source within c.in_err-head.ensures.handed)
 
 pub sources-preserved : goal.sources-preserved
 sources-preserved g c =
@@ -59,22 +44,18 @@ sources-preserved g c =
     let k = c.sources.i in
     let y = c.first_row.new.source in
     let h = c.in_ok-head.head in
-    let s = f c.index_mut.result.now in
-    let is : s ≡ get_or ss k s = ap f c.index_mut.ensures.value ∙ sym (get_or-map f xs k c.index_mut.result.now) in
-    let d : length ss ≡ length xs = length-map _ _ in
-    let n : length xs ≡ length c.args.sources.now.items = c.sources.invariant.size in
-    let lt : k < length ss = omega (arith, d, n) in
-    let m = begin_more hs ss k s (f y) h c.sources.invariant.begun c.sources.invariant.count lt is c.in_ok-head.ensures.ok in
+    let x = c.index_mut.result.now in
+    let within = state_within f xs c.args.sources.now.items k c.sources.invariant.size (omega arith) in
+    let m = begin_more hs ss k (f x) (f y) h c.sources.invariant.begun c.sources.invariant.count within (state_at f xs k x c.index_mut.ensures.value) c.in_ok-head.ensures.ok in
     let pushed : c.push.new.self.items ≡ hs ++ h ∷ [] = c.in_ok-push.ensures.items in
     let moved : map f (set xs k y) ≡ set ss k (f y) = map-set f xs k y in
     let more : length c.push.new.self.items ≡ length (hs ++ h ∷ []) = ap length pushed in
     let most : length (hs ++ h ∷ []) ≡ length hs + length (h ∷ []) = length-append hs (h ∷ []) in
     let count : length hs ≡ k = c.sources.invariant.count in
-    let kept : length (set xs k y) ≡ length xs = length-set xs k y in
     record {
       sound = all_set g.T.RowSource.sound xs k y c.in_ok-head.ensures.sound c.sources.invariant.sound;
       count = omega (arith, more, most, count);
-      size = kept ∙ n;
+      size = length-set xs k y ∙ c.sources.invariant.size;
       begun = subst (λ (w : List (Option RowEntry)). AllBegun w (map f (set xs k y))) (sym pushed) (subst (λ (w : List IteratorState). AllBegun (hs ++ h ∷ []) w) (sym moved) m.begun);
       rows = ap (λ (w : List (Option RowEntry)). lists w (rows_left (map f (set xs k y)))) pushed ∙ (ap (λ (w : List IteratorState). lists (hs ++ h ∷ []) (rows_left w)) moved ∙ (m.rows ∙ c.sources.invariant.rows));
       whole = ap are_whole moved ∙ (m.whole ∙ c.sources.invariant.whole);
