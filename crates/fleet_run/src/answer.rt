@@ -1,7 +1,8 @@
 //! The replies to lines, as they are printed.
 
-ghost use Rattle.std.specs.Prelude.{◌≡◌, ◌∷◌, ◌++◌, [], IfOk, option_map, codes};
+ghost use Rattle.std.specs.Prelude.{◌≡◌, ◌∷◌, ◌++◌, [], IfOk, IsOkUnless, option_map, codes};
 ghost use Rattle.std.specs.Option.{option_copied};
+ghost use Rattle.fleet_rows.specs.declared.errors.SlateDBError.TheVariants as SlateDBError;
 ghost use Rattle.fleet_rows.specs.Row.{row_of, rows_of};
 ghost use Rattle.script_model.specs.Words.{rows_text};
 ghost use Rattle.script_model.specs.Flushes.{bad_flush};
@@ -41,7 +42,8 @@ impl FlushFault {
 }
 
 pub(crate) fn done(alloc: Global) -> Result<Reply, SlateDBError>
-    ensures { IfOk result (λ reply. reply ≡ ok) }
+    ensures reply { IfOk result (λ reply. reply ≡ ok) }
+    ensures memory { IsOkUnless result SlateDBError.Memory }
 {
     let mut reply = Reply::new(alloc);
     reply.word("ok\n")?;
@@ -49,7 +51,8 @@ pub(crate) fn done(alloc: Global) -> Result<Reply, SlateDBError>
 }
 
 pub(crate) fn refused_flush(alloc: Global, fault: FlushFault) -> Result<Reply, SlateDBError>
-    ensures { IfOk result (λ reply. reply ≡ bad_flush (kind_of fault)) }
+    ensures reply { IfOk result (λ reply. reply ≡ bad_flush (kind_of fault)) }
+    ensures memory { IsOkUnless result SlateDBError.Memory }
 {
     let mut reply = Reply::new(alloc);
     reply.word("badflush ")?;
@@ -60,7 +63,8 @@ pub(crate) fn refused_flush(alloc: Global, fault: FlushFault) -> Result<Reply, S
 
 /// The value of a row, where there is one and it has a value.
 pub(crate) fn value(alloc: Global, row: Option<&RowEntry>) -> Result<Reply, SlateDBError>
-    ensures { IfOk result (λ reply. reply ≡ read_reply (value_of (option_map row_of (option_copied row.entry)))) }
+    ensures reply { IfOk result (λ reply. reply ≡ read_reply (value_of (option_map row_of (option_copied row.entry)))) }
+    ensures memory { IsOkUnless result SlateDBError.Memory }
 {
     let mut reply = Reply::new(alloc);
     match row {
@@ -80,7 +84,8 @@ pub(crate) fn value(alloc: Global, row: Option<&RowEntry>) -> Result<Reply, Slat
 }
 
 pub(crate) fn below_floor(alloc: Global, floor: u64, tick: i64) -> Result<Reply, SlateDBError>
-    ensures { IfOk result (λ reply. reply ≡ not_retained floor tick) }
+    ensures reply { IfOk result (λ reply. reply ≡ not_retained floor tick) }
+    ensures memory { IsOkUnless result SlateDBError.Memory }
 {
     let mut reply = Reply::new(alloc);
     reply.word("notretained ")?;
@@ -93,7 +98,8 @@ pub(crate) fn below_floor(alloc: Global, floor: u64, tick: i64) -> Result<Reply,
 
 /// A reply of these words and a newline.
 fn words(alloc: Global, text: &str) -> Result<Reply, SlateDBError>
-    ensures { IfOk result (λ reply. reply ≡ text.now) }
+    ensures reply { IfOk result (λ reply. reply ≡ text.now) }
+    ensures memory { IsOkUnless result SlateDBError.Memory }
 {
     let mut reply = Reply::new(alloc);
     reply.word(text)?;
@@ -101,20 +107,23 @@ fn words(alloc: Global, text: &str) -> Result<Reply, SlateDBError>
 }
 
 pub(crate) fn no_such_party(alloc: Global) -> Result<Reply, SlateDBError>
-    ensures { IfOk result (λ reply. reply ≡ no_such_party) }
+    ensures reply { IfOk result (λ reply. reply ≡ no_such_party) }
+    ensures memory { IsOkUnless result SlateDBError.Memory }
 {
     words(alloc, "nosuchparty\n")
 }
 
 pub(crate) fn no_records(alloc: Global) -> Result<Reply, SlateDBError>
-    ensures { IfOk result (λ answer. answer ≡ reply (codes "invaliddbstate" ∷ [])) }
+    ensures reply { IfOk result (λ answer. answer ≡ reply (codes "invaliddbstate" ∷ [])) }
+    ensures memory { IsOkUnless result SlateDBError.Memory }
 {
     words(alloc, "invaliddbstate\n")
 }
 
 /// A coordinator began, with the first epoch.
 pub(crate) fn started(alloc: Global) -> Result<Reply, SlateDBError>
-    ensures { IfOk result (λ reply. reply ≡ started) }
+    ensures reply { IfOk result (λ reply. reply ≡ started) }
+    ensures memory { IsOkUnless result SlateDBError.Memory }
 {
     let mut reply = Reply::new(alloc);
     reply.word("ok epoch ")?;
@@ -124,14 +133,16 @@ pub(crate) fn started(alloc: Global) -> Result<Reply, SlateDBError>
 }
 
 pub(crate) fn absent(alloc: Global) -> Result<Reply, SlateDBError>
-    ensures { IfOk result (λ reply. reply ≡ absent) }
+    ensures reply { IfOk result (λ reply. reply ≡ absent) }
+    ensures memory { IsOkUnless result SlateDBError.Memory }
 {
     words(alloc, "ok absent\n")
 }
 
 /// A job was submitted.
 pub(crate) fn submitted(alloc: Global, job: &JobList) -> Result<Reply, SlateDBError>
-    ensures { IfOk result (λ answer. answer ≡ reply (codes "ok" ∷ codes "job" ∷ jobs_text job.now ∷ [])) }
+    ensures reply { IfOk result (λ answer. answer ≡ reply (codes "ok" ∷ codes "job" ∷ jobs_text job.now ∷ [])) }
+    ensures memory { IsOkUnless result SlateDBError.Memory }
 {
     let mut reply = Reply::new(alloc);
     reply.word("ok job ")?;
@@ -142,7 +153,8 @@ pub(crate) fn submitted(alloc: Global, job: &JobList) -> Result<Reply, SlateDBEr
 
 /// What a poll did.
 pub(crate) fn polled(alloc: Global, done: &JobList, judged: &Judged) -> Result<Reply, SlateDBError>
-    ensures { IfOk result (λ reply. reply ≡ polled_reply done.now (judged_of judged.now)) }
+    ensures reply { IfOk result (λ reply. reply ≡ polled_reply done.now (judged_of judged.now)) }
+    ensures memory { IsOkUnless result SlateDBError.Memory }
 {
     let mut reply = Reply::new(alloc);
     reply.word("ok freed - done ")?;
@@ -157,7 +169,8 @@ pub(crate) fn polled(alloc: Global, done: &JobList, judged: &Judged) -> Result<R
 
 /// A job was claimed for the first time: no range has a table yet.
 pub(crate) fn claimed(alloc: Global, job: &JobList) -> Result<Reply, SlateDBError>
-    ensures { IfOk result (λ answer. answer ≡ reply (codes "ok" ∷ codes "claimed" ∷ (jobs_text job.now ++ codes ".1:-") ∷ codes "stopped" ∷ codes "-" ∷ [])) }
+    ensures reply { IfOk result (λ answer. answer ≡ reply (codes "ok" ∷ codes "claimed" ∷ (jobs_text job.now ++ codes ".1:-") ∷ codes "stopped" ∷ codes "-" ∷ [])) }
+    ensures memory { IsOkUnless result SlateDBError.Memory }
 {
     let mut reply = Reply::new(alloc);
     reply.word("ok claimed ")?;
@@ -168,14 +181,16 @@ pub(crate) fn claimed(alloc: Global, job: &JobList) -> Result<Reply, SlateDBErro
 
 /// No job was claimed.
 pub(crate) fn claimed_none(alloc: Global) -> Result<Reply, SlateDBError>
-    ensures { IfOk result (λ reply. reply ≡ claim_reply [] []) }
+    ensures reply { IfOk result (λ reply. reply ≡ claim_reply [] []) }
+    ensures memory { IsOkUnless result SlateDBError.Memory }
 {
     words(alloc, "ok claimed - stopped -\n")
 }
 
 /// A job is finished, with the tables of its one range.
 pub(crate) fn finished(alloc: Global, tables: &JobList) -> Result<Reply, SlateDBError>
-    ensures { IfOk result (λ answer. answer ≡ reply (codes "ok" ∷ ranges_text (tables.now ∷ []) ∷ [])) }
+    ensures reply { IfOk result (λ answer. answer ≡ reply (codes "ok" ∷ ranges_text (tables.now ∷ []) ∷ [])) }
+    ensures memory { IsOkUnless result SlateDBError.Memory }
 {
     let mut reply = Reply::new(alloc);
     reply.word("ok ")?;
@@ -186,7 +201,8 @@ pub(crate) fn finished(alloc: Global, tables: &JobList) -> Result<Reply, SlateDB
 
 /// The rows of a node.
 pub(crate) fn rows(alloc: Global, rows: &[RowEntry]) -> Result<Reply, SlateDBError>
-    ensures { IfOk result (λ answer. answer ≡ reply (codes "ok" ∷ rows_text (rows_of rows.now) ∷ [])) }
+    ensures reply { IfOk result (λ answer. answer ≡ reply (codes "ok" ∷ rows_text (rows_of rows.now) ∷ [])) }
+    ensures memory { IsOkUnless result SlateDBError.Memory }
 {
     let mut reply = Reply::new(alloc);
     reply.word("ok ")?;

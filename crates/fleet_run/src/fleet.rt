@@ -4,6 +4,7 @@ ghost use Rattle.std.specs.Prelude.{◌≡◌, ◌<◌, IfOk, OnOk, OnErr, IsOkU
 ghost use Rattle.std.specs.Option.{option_copied};
 ghost use Rattle.std.specs.List.{list_all, AllByRecursion};
 ghost use Rattle.row_model.specs.Bounds.{AreRows};
+ghost use Rattle.fleet_rows.specs.declared.errors.SlateDBError.TheVariants as SlateDBError;
 ghost use Rattle.fleet_rows.specs.Row.{row_of, rows_of};
 ghost use Rattle.fleet_text.specs.Lines.{line_of};
 ghost use Rattle.script_model.specs.Flushes.{is_above};
@@ -126,6 +127,7 @@ impl Fleet {
         ensures reply { IfOk result (λ reply. reply ≡ flush_reply (flush_fault self.old name floor tick (rows_of rows.items))) }
         ensures ok { OnOk result (self.new ≡ after_flush self.old name floor tick (rows_of rows.items) (flush_fault self.old name floor tick (rows_of rows.items))) }
         ensures err { OnErr result (self.new ≡ self.old) }
+        ensures memory { IsOkUnless result SlateDBError.Memory }
     {
         match self.flush_fault(name, floor, tick, rows.as_slice()) {
             Some(fault) => answer::refused_flush(alloc, fault),
@@ -148,6 +150,7 @@ impl Fleet {
         ensures reply { IfOk result (λ reply. reply ≡ ok) }
         ensures ok { OnOk result (self.new ≡ with_flush self.old name floor tick (rows_of rows.items)) }
         ensures err { OnErr result (self.new ≡ self.old) }
+        ensures memory { IsOkUnless result SlateDBError.Memory }
     {
         let reply = answer::done(alloc)?;
         let last_seq = greatest_seq(self.last_seq, rows.as_slice());
@@ -162,7 +165,8 @@ impl Fleet {
     }
 
     fn read(&self, alloc: Global, key: &[u8], seq: u64, now: i64) -> Result<Reply, SlateDBError>
-        ensures { IfOk result (λ reply. reply ≡ key_reply self.now key.now seq now) }
+        ensures reply { IfOk result (λ reply. reply ≡ key_reply self.now key.now seq now) }
+        ensures memory { IsOkUnless result SlateDBError.Memory }
     {
         if seq < self.floor || now < self.tick {
             return answer::below_floor(alloc, self.floor, self.tick);
@@ -177,6 +181,7 @@ impl Fleet {
         ensures reply { IfOk result (λ reply. reply ≡ reply_to (line_of line) self.old) }
         ensures ok { OnOk result (self.new ≡ fleet_after (line_of line) self.old) }
         ensures err { OnErr result (self.new ≡ self.old) }
+        ensures memory { IsOkUnless result SlateDBError.Memory }
     {
         match line {
             Line::StartCoordinator { number: _ } => self.start_coordinator(alloc),

@@ -1,8 +1,9 @@
 //! Jobs of one flush each, and the rules that they are asked as they are opened.
 
-ghost use Rattle.std.specs.Prelude.{◌≡◌, ◌==◌, nat_lt, [], IfOk, OnOk};
+ghost use Rattle.std.specs.Prelude.{◌≡◌, ◌==◌, nat_lt, [], IfOk, IsOkUnless, OnOk};
 ghost use Rattle.std.specs.List.{list_any, list_all};
 ghost use Rattle.fleet_model.specs.Attempts.{is_last};
+ghost use Rattle.fleet_rows.specs.declared.errors.SlateDBError.TheVariants as SlateDBError;
 ghost use Rattle.fleet_run.specs.Jobs.{is_above_all, is_apart_from, failed_rule, judged_of, judge, judge_all};
 
 use crate::tables::Table;
@@ -127,7 +128,8 @@ fn judge(
     judged: &mut Judged,
     job: &AskedJob,
 ) -> Result<(), SlateDBError>
-    ensures { OnOk result (judged_of judged.new ≡ judge flushes.now runs.now (judged_of judged.old) job.now) }
+    ensures ok { OnOk result (judged_of judged.new ≡ judge flushes.now runs.now (judged_of judged.old) job.now) }
+    ensures memory { IsOkUnless result SlateDBError.Memory }
 {
     match failed_rule(flushes, runs, &judged.held, job) {
         None => {
@@ -147,7 +149,8 @@ pub fn judge_all(
     held: Option<AskedJob>,
     jobs: &[AskedJob],
 ) -> Result<Judged, SlateDBError>
-    ensures { IfOk result (λ judged. judged_of judged ≡ judge_all flushes.now runs.now (record { held = held; opened = []; refused = [] }) jobs.now) }
+    ensures judged { IfOk result (λ judged. judged_of judged ≡ judge_all flushes.now runs.now (record { held = held; opened = []; refused = [] }) jobs.now) }
+    ensures memory { IsOkUnless result SlateDBError.Memory }
 {
     let mut judged = Judged {
         held,

@@ -1,11 +1,13 @@
 //! The tables that a job writes of a flush.
 
-ghost use Rattle.std.specs.Prelude.{◌≡◌, ◌+◌, false, nat_lt, IfOk};
+ghost use Rattle.std.specs.Prelude.{◌≡◌, ◌+◌, false, nat_lt, IfOk, IfErr, IsOkUnless};
 ghost use Rattle.std.specs.List.{AllByRecursion};
 ghost use Rattle.row_model.specs.Bounds.{IsInBounds};
 ghost use Rattle.row_model.specs.Sizes.{estimated_size};
 ghost use Rattle.row_model.specs.Tables.{cut_tables};
 ghost use Rattle.fleet_fold.specs.Retention.{kept_of_keys, IsReadable};
+ghost use Rattle.fleet_iter.specs.Iteration.{CanFail};
+ghost use Rattle.fleet_rows.specs.declared.errors.SlateDBError.TheVariants as SlateDBError;
 ghost use Rattle.fleet_rows.specs.Row.{row_of, rows_of};
 ghost use Rattle.fleet_rows.specs.Settings.{settings_of};
 ghost use Rattle.fleet_table.specs.Table.{IsTable};
@@ -32,7 +34,8 @@ const FIRST_DRAWN: u128 = 1 << 79;
 fn rows_left<T: RowSource>(alloc: Global, source: &mut T) -> Result<Vec<RowEntry>, SlateDBError>
     requires sound { T.sound source.old }
     requires readable { IsReadable (T.state source.old) }
-    ensures { IfOk result (λ rows. rows_of rows.items ≡ (T.state source.old).rows) }
+    ensures rows { IfOk result (λ rows. rows_of rows.items ≡ (T.state source.old).rows) }
+    ensures err { IfErr result (CanFail (T.state source.old).whole) }
 {
     let mut rows = Vec::new(alloc);
     'rows: while let Some(row) = source.next_row(alloc)? {
@@ -56,6 +59,7 @@ fn kept_rows(
 ) -> Result<Vec<RowEntry>, SlateDBError>
     ensures rows { IfOk result (λ rows. rows_of rows.items ≡ kept_of_keys (settings_of settings) table.now) }
     ensures table { IsTable table.now }
+    ensures memory { IsOkUnless result SlateDBError.Memory }
 {
     ordered_rows_rise();
     let _rows = table.as_slice();
@@ -75,7 +79,8 @@ fn is_full(filled: usize, row: &RowEntry) -> bool
 /// Rows cut into the rows of tables.
 fn cut(alloc: Global, rows: Vec<RowEntry>) -> Result<VecDeque<ListOf<RowEntry>>, SlateDBError>
     requires { AllByRecursion IsInBounds (rows_of rows.items) }
-    ensures { IfOk result (λ tables. all_rows_of tables.items ≡ cut_tables table_size (rows_of rows.items)) }
+    ensures tables { IfOk result (λ tables. all_rows_of tables.items ≡ cut_tables table_size (rows_of rows.items)) }
+    ensures memory { IsOkUnless result SlateDBError.Memory }
 {
     let mut tables = VecDeque::new(alloc);
     let mut open = Vec::new(alloc);
@@ -105,7 +110,8 @@ fn numbered(
     rows: VecDeque<ListOf<RowEntry>>,
 ) -> Result<VecDeque<Table>, SlateDBError>
     requires { AllByRecursion IsTable (all_rows_of rows.items) }
-    ensures { IfOk result (λ tables. tables.items ≡ numbered drawn (all_rows_of rows.items)) }
+    ensures tables { IfOk result (λ tables. tables.items ≡ numbered drawn (all_rows_of rows.items)) }
+    ensures memory { IsOkUnless result SlateDBError.Memory }
 {
     let mut tables = VecDeque::new(alloc);
     let mut number = drawn;
@@ -126,7 +132,8 @@ pub fn outputs(
     settings: Settings,
     table: &TableData,
 ) -> Result<VecDeque<Table>, SlateDBError>
-    ensures { IfOk result (λ tables. tables.items ≡ numbered drawn (cut_tables table_size (kept_of_keys (settings_of settings) table.now))) }
+    ensures tables { IfOk result (λ tables. tables.items ≡ numbered drawn (cut_tables table_size (kept_of_keys (settings_of settings) table.now))) }
+    ensures memory { IsOkUnless result SlateDBError.Memory }
 {
     let rows = kept_rows(alloc, settings, table)?;
     let rows = cut(alloc, rows)?;

@@ -88,6 +88,8 @@ fn run_line<K: Sink>(
 {
     let reply = match fleet.serve(alloc, line) {
         Ok(reply) => reply,
+
+        // It fails for want of memory alone.
         Err(_) => return Err(FleetError::Memory),
     };
     write_all(sink, reply.as_slice())

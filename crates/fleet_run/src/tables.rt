@@ -1,7 +1,8 @@
 //! Tables under their ids, and runs of them.
 
-ghost use Rattle.std.specs.Prelude.{◌≡◌, ◌==◌, ◌++◌, option_map, find, flat_map, IfOk, OnOk};
+ghost use Rattle.std.specs.Prelude.{◌≡◌, ◌==◌, ◌++◌, option_map, find, flat_map, IfOk, IsOkUnless, OnOk};
 ghost use Rattle.std.specs.Option.{option_copied};
+ghost use Rattle.fleet_rows.specs.declared.errors.SlateDBError.TheVariants as SlateDBError;
 ghost use Rattle.fleet_rows.specs.Row.{row_of, rows_of};
 ghost use Rattle.fleet_model.specs.Records.{firsts};
 ghost use Rattle.fleet_run.specs.Serve.{newest_row, run_tables};
@@ -128,7 +129,8 @@ pub fn rows_of_tables(
     alloc: Global,
     tables: &VecDeque<Table>,
 ) -> Result<Vec<RowEntry>, SlateDBError>
-    ensures { IfOk result (λ rows. rows_of rows.items ≡ flat_map (λ table. table.1) tables.now.items) }
+    ensures rows { IfOk result (λ rows. rows_of rows.items ≡ flat_map (λ table. table.1) tables.now.items) }
+    ensures memory { IsOkUnless result SlateDBError.Memory }
 {
     let mut rows = Vec::new(alloc);
     for i in 0..tables.len() {
@@ -138,7 +140,8 @@ pub fn rows_of_tables(
 }
 
 fn append_copies(rows: &mut Vec<RowEntry>, more: &[RowEntry]) -> Result<(), SlateDBError>
-    ensures { OnOk result (rows.new.items ≡ rows.old.items ++ more.now) }
+    ensures ok { OnOk result (rows.new.items ≡ rows.old.items ++ more.now) }
+    ensures memory { IsOkUnless result SlateDBError.Memory }
 {
     'more: for row in more {
         rows.push(row.clone()?)?;

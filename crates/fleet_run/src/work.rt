@@ -1,10 +1,11 @@
 //! What a fleet's coordinator and worker do: jobs are submitted, opened, claimed, finished and committed.
 
-ghost use Rattle.std.specs.Prelude.{◌≡◌, ◌<◌, ◌∷◌, [], ◌-◌, IfOk, OnOk, OnErr, true, take, length, option_map};
+ghost use Rattle.std.specs.Prelude.{◌≡◌, ◌<◌, ◌∷◌, [], ◌-◌, IfOk, IsOkUnless, OnOk, OnErr, true, take, length, option_map};
 ghost use Rattle.std.specs.Option.{option_copied};
 ghost use Rattle.std.specs.VecDeque.{deque_len, deque_capacity};
 ghost use Rattle.script_model.specs.Replies.{ok};
 ghost use Rattle.fleet_model.specs.Records.{firsts};
+ghost use Rattle.fleet_rows.specs.declared.errors.SlateDBError.TheVariants as SlateDBError;
 ghost use Rattle.fleet_rows.specs.Settings.{settings_of};
 ghost use Rattle.fleet_text.specs.Lines.{node_of};
 ghost use Rattle.fleet_run.specs.Jobs.{open_of, stage_of, run_of, judged_of};
@@ -28,6 +29,7 @@ impl Fleet {
         ensures reply { IfOk result (λ reply. reply ≡ started) }
         ensures ok { OnOk result (self.new ≡ record self.old { coordinator = true }) }
         ensures err { OnErr result (self.new ≡ self.old) }
+        ensures memory { IsOkUnless result SlateDBError.Memory }
     {
         let reply = answer::started(alloc)?;
         self.coordinator = true;
@@ -38,6 +40,7 @@ impl Fleet {
         ensures reply { IfOk result (λ reply. reply ≡ ok) }
         ensures ok { OnOk result (self.new ≡ record self.old { worker = true }) }
         ensures err { OnErr result (self.new ≡ self.old) }
+        ensures memory { IsOkUnless result SlateDBError.Memory }
     {
         let reply = answer::done(alloc)?;
         self.worker = true;
@@ -54,6 +57,7 @@ impl Fleet {
         ensures reply { IfOk result (λ reply. reply ≡ submit_reply self.old) }
         ensures ok { OnOk result (self.new ≡ after_submit self.old source destination) }
         ensures err { OnErr result (self.new ≡ self.old) }
+        ensures memory { IsOkUnless result SlateDBError.Memory }
     {
         if !self.coordinator {
             return answer::no_records(alloc);
@@ -78,6 +82,7 @@ impl Fleet {
         ensures reply { IfOk result (λ reply. reply ≡ poll_answer self.old) }
         ensures ok { OnOk result (self.new ≡ after_poll self.old) }
         ensures err { OnErr result (self.new ≡ self.old) }
+        ensures memory { IsOkUnless result SlateDBError.Memory }
     {
         if !self.coordinator {
             return answer::no_such_party(alloc);
@@ -94,7 +99,8 @@ impl Fleet {
 
     /// What becomes of the jobs that were submitted, once the finished job is committed.
     fn judged(&self, alloc: Global) -> Result<Judged, SlateDBError>
-        ensures { IfOk result (λ j. judged_of j ≡ judged self.now) }
+        ensures judged { IfOk result (λ j. judged_of j ≡ judged self.now) }
+        ensures memory { IsOkUnless result SlateDBError.Memory }
     {
         let done = done_job(&self.opened);
         let flushes = flush_ids_left(alloc, &self.flushes, &done)?;
@@ -108,6 +114,7 @@ impl Fleet {
         ensures reply { IfOk result (λ reply. reply ≡ claim_answer self.old) }
         ensures ok { OnOk result (self.new ≡ after_claim self.old) }
         ensures err { OnErr result (self.new ≡ self.old) }
+        ensures memory { IsOkUnless result SlateDBError.Memory }
     {
         if !self.worker {
             return answer::no_such_party(alloc);
@@ -136,6 +143,7 @@ impl Fleet {
         ensures reply { IfOk result (λ reply. reply ≡ finish_answer self.old number) }
         ensures ok { OnOk result (self.new ≡ after_finish self.old number) }
         ensures err { OnErr result (self.new ≡ self.old) }
+        ensures memory { IsOkUnless result SlateDBError.Memory }
     {
         let Some((job, settings)) = self.run_by(number) else {
             return answer::no_such_party(alloc);
@@ -175,7 +183,8 @@ impl Fleet {
         source: Ulid,
         settings: Settings,
     ) -> Result<VecDeque<Table>, SlateDBError>
-        ensures { IfOk result (λ tables. tables.items ≡ written self.now source (settings_of settings)) }
+        ensures tables { IfOk result (λ tables. tables.items ≡ written self.now source (settings_of settings)) }
+        ensures memory { IsOkUnless result SlateDBError.Memory }
     {
         match table_of(&self.flushes, source) {
             Some(table) => outputs(alloc, self.tables_drawn, settings, table),
@@ -185,7 +194,8 @@ impl Fleet {
 
     /// Shows the rows of a node.
     pub(crate) fn dump(&self, alloc: Global, node: NodeName) -> Result<Reply, SlateDBError>
-        ensures { IfOk result (λ reply. reply ≡ dump_reply (node_rows_or_none self.now (node_of node))) }
+        ensures reply { IfOk result (λ reply. reply ≡ dump_reply (node_rows_or_none self.now (node_of node))) }
+        ensures memory { IsOkUnless result SlateDBError.Memory }
     {
         match node {
             NodeName::L0(name) => dump_table(alloc, table_of(&self.flushes, id_of_number(name))),
@@ -195,7 +205,8 @@ impl Fleet {
 }
 
 fn dump_table(alloc: Global, table: Option<&TableData>) -> Result<Reply, SlateDBError>
-    ensures { IfOk result (λ reply. reply ≡ dump_reply (option_copied table.entry)) }
+    ensures reply { IfOk result (λ reply. reply ≡ dump_reply (option_copied table.entry)) }
+    ensures memory { IsOkUnless result SlateDBError.Memory }
 {
     match table {
         Some(table) => answer::rows(alloc, table.as_slice()),
@@ -204,7 +215,8 @@ fn dump_table(alloc: Global, table: Option<&TableData>) -> Result<Reply, SlateDB
 }
 
 fn dump_run(alloc: Global, tables: Option<&VecDeque<Table>>) -> Result<Reply, SlateDBError>
-    ensures { IfOk result (λ reply. reply ≡ dump_reply (option_map rows_in (option_map (λ tables. tables.items) (option_copied tables.entry)))) }
+    ensures reply { IfOk result (λ reply. reply ≡ dump_reply (option_map rows_in (option_map (λ tables. tables.items) (option_copied tables.entry)))) }
+    ensures memory { IsOkUnless result SlateDBError.Memory }
 {
     match tables {
         Some(tables) => {
@@ -230,7 +242,8 @@ fn done_job(opened: &Option<OpenJob>) -> Option<AskedJob>
 }
 
 fn done_ids(alloc: Global, opened: &Option<OpenJob>) -> Result<JobList, SlateDBError>
-    ensures { IfOk result (λ ids. ids ≡ done_ids (done_job (option_map open_of opened.now))) }
+    ensures ids { IfOk result (λ ids. ids ≡ done_ids (done_job (option_map open_of opened.now))) }
+    ensures memory { IsOkUnless result SlateDBError.Memory }
 {
     let mut ids = JobList::new(alloc);
     if let Some(job) = done_job(opened) {
@@ -276,7 +289,8 @@ fn flush_ids_left(
     flushes: &VecDeque<Table>,
     done: &Option<AskedJob>,
 ) -> Result<Vec<Ulid>, SlateDBError>
-    ensures { IfOk result (λ ids. ids.items ≡ firsts (flushes_left flushes.now.items done.now)) }
+    ensures ids { IfOk result (λ ids. ids.items ≡ firsts (flushes_left flushes.now.items done.now)) }
+    ensures memory { IsOkUnless result SlateDBError.Memory }
 {
     let ids = ids_of(alloc, flushes)?;
     match done {
@@ -299,7 +313,8 @@ fn run_ids_after(
     runs: &VecDeque<Run>,
     done: &Option<AskedJob>,
 ) -> Result<Vec<u32>, SlateDBError>
-    ensures { IfOk result (λ ids. ids.items ≡ run_ids_after (firsts runs.now.items) done.now) }
+    ensures ids { IfOk result (λ ids. ids.items ≡ run_ids_after (firsts runs.now.items) done.now) }
+    ensures memory { IsOkUnless result SlateDBError.Memory }
 {
     let mut ids = run_ids_of(alloc, runs)?;
     if let Some(job) = done {

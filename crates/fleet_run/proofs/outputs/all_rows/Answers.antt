@@ -1,4 +1,4 @@
-use Rattle.std.proofs.Common.{◌≡◌, ◌∙◌, ap, false, List}
+use Rattle.std.proofs.Common.{◌∙◌, ap, false, List}
 use Rattle.row_laws.proofs.Ranges.{all_in}
 use Rattle.row_model.specs.Ranges.{rows_in}
 use Rattle.row_model.specs.Rows.{Row}

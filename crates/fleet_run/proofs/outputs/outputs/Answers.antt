@@ -14,4 +14,4 @@ cut-requires c = subst (AllByRecursion IsInBounds) (sym c.in_ok-rows.ensures.row
 pub numbered-requires : goal.numbered-requires
 numbered-requires c =
     let tables = outputs_are_tables table_size (settings_of c.args.settings) c.args.table.now c.in_ok-rows.ensures.table in
-    subst (AllByRecursion IsTable) (sym c.in_ok-rows-2.ensures) (subst (λ rows. AllByRecursion IsTable (cut_tables table_size rows)) (sym c.in_ok-rows.ensures.rows) tables)
+    subst (AllByRecursion IsTable) (sym c.in_ok-rows-2.ensures.tables) (subst (λ rows. AllByRecursion IsTable (cut_tables table_size rows)) (sym c.in_ok-rows.ensures.rows) tables)

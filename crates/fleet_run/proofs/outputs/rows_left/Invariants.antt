@@ -9,6 +9,7 @@ invariant-rows g l =
     record {
       sound : g.T.RowSource.sound l.source;
       readable : IsReadable s;
+      whole : s.whole ≡ (g.T.RowSource.state l.fn.source).whole;
       parts : (g.T.RowSource.state l.fn.source).rows ≡ rows_of l.rows.items ++ s.rows;
     }
 

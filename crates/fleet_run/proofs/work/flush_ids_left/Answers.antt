@@ -6,8 +6,8 @@ use Rattle.fleet_run.specs.declared.jobs.AskedJob.{AskedJob}
 use Rattle.fleet_run.specs.Serve.{flushes_left}
 use Rattle.fleet_run.proofs.work.flush_ids_left.Goals as goal
 
-pub returns-in-Some : goal.returns-in-Some
-returns-in-Some c =
+pub returns-in-Some-clause-ids : goal.returns-in-Some-clause-ids
+returns-in-Some-clause-ids c =
     let flushes = c.args.flushes.now.items in
     c.without_last.ensures
     ∙ ap (λ (ids : List ℕ). take (length ids - 1) ids) c.in_ok-ids.ensures
