@@ -1,15 +1,17 @@
 -- Merged rows stand in order exactly where each list does and no two rows of all have key and sequence in common.
-use Rattle.std.proofs.Common.{◌≡◌, ◌≢◌, ◌∙◌, sym, refl, ap, subst, List, [], ◌∷◌, ◌++◌, cond, Bool, true, false}
+use Rattle.std.proofs.Common.{◌≡◌, ◌≢◌, ◌∙◌, sym, ap, subst, List, [], ◌∷◌, ◌++◌, cond, Bool, true, false}
 use Rattle.std.specs.Prelude.{flat_map, IsTrue}
 use Rattle.std.specs.List.{AllByRecursion}
 use Rattle.std.specs.List.Sorted.{IsStrictlySortedBy}
 use Rattle.std.specs.declared.cmp.Ordering.TheVariants.{Less, Equal, Greater}
 use Rattle.std.specs.Ordering.{ordering_reverse}
-use Rattle.row_model.specs.Ranges.{all_keys, rows_in}
+use Rattle.row_model.specs.Ranges.{all_keys}
 use Rattle.row_model.specs.Rows.{Row, row_cmp, are_ordered, IsStrictlyOrdered}
 use Rattle.row_laws.specs.Merges.{AreApart}
 use Rattle.row_laws.proofs.Elements.{all_weaken}
 use Rattle.row_laws.proofs.Order.{row_total}
+use Rattle.row_laws.proofs.Ranges.{all_in}
+use Rattle.fleet_fold.proofs.JobsLast.{all_append}
 use Rattle.fleet_iter.specs.Merge.{merge_two, merged, goes_first, MergesSort}
 use Rattle.fleet_iter.specs.declared.iterator.IterationOrder.TheVariants.{Ascending}
 use Rattle.fleet_table.proofs.Ordered.{decided}
@@ -30,15 +32,11 @@ all_of_two P (x ∷ xs) (y ∷ ys) h = by (goes_first Ascending x y) h (all_of_t
     by true all left right = let parts = left all.1 in ((all.0, parts.0), parts.1)
     by false all left right = let parts = right all.1 in (parts.0, (all.0, parts.1))
 
-all_joined : (P : Row → Type 0) (xs ys : List Row) → AllByRecursion P xs → AllByRecursion P ys → AllByRecursion P (xs ++ ys)
-all_joined P [] ys h g = g
-all_joined P (x ∷ xs) ys h g = (h.0, all_joined P xs ys h.1 g)
-
 all_of_merged : (P : Row → Type 0) (lists : List (List Row)) → AllByRecursion P (merged Ascending lists) → AllByRecursion P (flat_map (λ rows. rows) lists)
 all_of_merged P [] h = tt
 all_of_merged P (rows ∷ lists) h =
     let parts = all_of_two P rows (merged Ascending lists) h in
-    all_joined P rows (flat_map (λ (w : List Row). w) lists) parts.0 (all_of_merged P lists parts.1)
+    all_append P rows (flat_map (λ (w : List Row). w) lists) parts.0 (all_of_merged P lists parts.1)
 
 -- ---- a merge in order
 
@@ -94,7 +92,7 @@ two_in_order (x ∷ xs) (y ∷ ys) h = by (goes_first Ascending x y) h (two_in_o
 
 apart_joined : (xs ys : List Row) → AreApart xs → AreApart ys → AllByRecursion (λ x. Apart x ys) xs → AreApart (xs ++ ys)
 apart_joined [] ys h g across = g
-apart_joined (x ∷ xs) ys h g across = (all_joined (λ q. row_cmp x q ≢ Equal) xs ys h.0 across.0, apart_joined xs ys h.1 g across.1)
+apart_joined (x ∷ xs) ys h g across = (all_append (λ q. row_cmp x q ≢ Equal) xs ys h.0 across.0, apart_joined xs ys h.1 g across.1)
 
 ordered_are_apart : (rows : List Row) → IsStrictlyOrdered rows → AreApart rows
 unfolding IsStrictlySortedBy
@@ -110,10 +108,6 @@ merged_in_order (rows ∷ lists) h =
     ((o.first, later.0), apart_joined rows all (ordered_are_apart rows o.first) later.1 (all_weaken (λ x. Apart x (merged Ascending lists)) (λ x. Apart x all) (λ x. all_of_merged (λ q. row_cmp x q ≢ Equal) lists) rows o.apart))
 
 -- ---- so the order of the merge of all rows tells whether they are sources
-
-all_in : (rows : List Row) → rows_in all_keys rows ≡ rows
-all_in [] = refl
-all_in (r ∷ rows) = ap (λ (w : List Row). r ∷ w) (all_in rows)
 
 all_mapped : (sources : List (List (List Row))) → AllByRecursion IsStrictlyOrdered (ranged all_keys sources) → AllByRecursion (λ tables. IsStrictlyOrdered (source_rows tables)) sources
 all_mapped [] h = tt

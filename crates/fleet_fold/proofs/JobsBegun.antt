@@ -31,6 +31,7 @@ use Rattle.fleet_fold.specs.Jobs.{job_rule, BeginsJob, FoldsBeginJobs}
 use Rattle.fleet_fold.specs.Retention.{kept_given}
 use Rattle.fleet_fold.specs.declared.group.GroupRule.{GroupRule}
 use Rattle.fleet_fold.proofs.Jobs.{apart_key, folded_ends, folded_on, here_keys, is_model, job_on, keys_job, later_keys, made_here, refused_here}
+use Rattle.fleet_fold.proofs.Keys.{all_back}
 use Rattle.fleet_fold.proofs.JobsChunks.{HaveOthers, AreWholeKeys, lesser, whole_keys}
 use Rattle.fleet_fold.proofs.JobsLast.{all_append, append_some, before_alone, before_on, both_begin, cons_some, folds_some, nothing_begins, same_begins, whole_chunk}
 
@@ -45,10 +46,6 @@ ordered_back : (xs ys : List Row) → IsStrictlyOrdered (xs ++ ys) → IsStrictl
 unfolding IsStrictlySortedBy
 ordered_back [] ys h = h
 ordered_back (x ∷ xs) ys h = ordered_back xs ys h.1
-
-all_later : (P : Row → Type 0) (xs ys : List Row) → AllByRecursion P (xs ++ ys) → AllByRecursion P ys
-all_later P [] ys h = h
-all_later P (x ∷ xs) ys h = all_later P xs ys h.1
 
 module _ (merge : Operator) (lawful : IsLawful merge) (settings : Settings) (g : Chunk Row) (gs : List (Chunk Row)) (whole : AreWholeKeys (g ∷ gs)) (ordered : IsStrictlyOrdered (elements g ++ flat gs)) where
   abbrev rule : GroupRule
@@ -79,7 +76,7 @@ module _ (merge : Operator) (lawful : IsLawful merge) (settings : Settings) (g :
 
   -- the first key is below the others
   under : AllByRecursion (λ q. is_below q.key g.0 ≡ true) (flat gs)
-  under = both (flat gs) (all_later (λ q. row_cmp g.0 q ≡ Less) g.1 (flat gs) after) whole.1
+  under = both (flat gs) (all_back (λ q. row_cmp g.0 q ≡ Less) g.1 (flat gs) after) whole.1
     where
       both : (qs : List Row) → AllByRecursion (λ q. row_cmp g.0 q ≡ Less) qs → HaveOthers g.0.key qs → AllByRecursion (λ q. is_below q.key g.0 ≡ true) qs
       both [] before others = tt

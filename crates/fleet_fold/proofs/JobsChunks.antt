@@ -16,6 +16,7 @@ use Rattle.row_laws.proofs.ApartRows.{apart_row, none_below}
 use Rattle.row_laws.proofs.Elements.{all_weaken}
 use Rattle.row_laws.proofs.KeptReads.{flat, flat-chunk_by}
 use Rattle.row_laws.proofs.KeyRows.{exact, key_alike}
+use Rattle.fleet_fold.proofs.Rising.{all_front}
 
 abbrev pub HaveOthers : List ℕ → List Row → Type 0
 HaveOthers key rows = AllByRecursion (λ q. bytes_eq key q.key ≡ false) rows
@@ -33,10 +34,6 @@ falls r q before alike =
 all_fall : (r : Row) (rows : List Row) → AllByRecursion (λ q. row_cmp r q ≡ Less) rows → AllByRecursion (λ q. q.key ≡ r.key) rows → AllByRecursion (λ q. q.seq < r.seq) rows
 all_fall r [] before keys = tt
 all_fall r (q ∷ rows) before keys = (falls r q before.0 (sym keys.0), all_fall r rows before.1 keys.1)
-
-all_front : (P : Row → Type 0) (xs ys : List Row) → AllByRecursion P (xs ++ ys) → AllByRecursion P xs
-all_front P [] ys h = tt
-all_front P (x ∷ xs) ys h = (h.0, all_front P xs ys h.1)
 
 -- a row of another key that stands before one has a lesser key
 pub lesser : (r q : Row) → row_cmp r q ≡ Less → same_key r q ≡ false → is_below q.key r ≡ true

@@ -160,7 +160,7 @@ merged_as (Some base) None = refl
 merged_as (Some base) (Some (Merged bytes)) = refl
 merged_as (Some base) (Some (Refused message)) = refl
 
-abbrev UpTo : ℕ → Row → Type 0
+abbrev pub UpTo : ℕ → Row → Type 0
 UpTo seq q = q.seq ≤ seq
 
 -- no row is above the first, so the order refuses nothing
@@ -169,7 +169,7 @@ none_above seq [] all = refl
 none_above seq (q ∷ rows) all =
     ap (λ (o : Option ℕ). option_or o (above seq q)) (none_above seq rows all.1) ∙ ap (λ (b : Bool). if b then None else Some q.seq) (le-leb q.seq seq all.0)
 
-ordered : {A : Type 0} (seq : ℕ) (rows : List Row) (answer : Result A SlateDBError) → AllByRecursion (UpTo seq) rows → in_order seq (last_above seq rows) answer ≡ answer
+pub ordered : {A : Type 0} (seq : ℕ) (rows : List Row) (answer : Result A SlateDBError) → AllByRecursion (UpTo seq) rows → in_order seq (last_above seq rows) answer ≡ answer
 ordered seq rows answer all = ap (λ (o : Option ℕ). in_order seq o answer) (none_above seq rows all)
 
 module _ (merge : Operator) (first : Row) where

@@ -4,10 +4,8 @@ use Rattle.std.specs.Prelude.{bytes_eq, nat_le, reverse, Result, if◌then◌els
 use Rattle.std.specs.Cmp.{ranked}
 use Rattle.std.specs.List.{AllByRecursion}
 use Rattle.std.specs.List.Sorted.{IsStrictlySortedBy}
-use Rattle.std.specs.Option.{option_or}
 use Rattle.std.specs.Ordering.{nat_cmp, ordering_then}
 use Rattle.std.specs.declared.cmp.Ordering.TheVariants.{Less}
-use Rattle.std.proofs.lemmas.Bool.{le-leb}
 use Rattle.std.proofs.lemmas.List.{reverse-append}
 use Rattle.std.proofs.lemmas.Slice.Eq.{bytes_eq-Decides}
 use Rattle.row_model.specs.Fold.{Operator, Outcome, Merged, Refused, merge_one, fold, fold_bytes}
@@ -21,23 +19,13 @@ use Rattle.row_laws.proofs.ReadOnto.{fold_bytes-snoc}
 use Rattle.fleet_rows.specs.declared.errors.MergeOperatorError.TheVariants.{Callback}
 use Rattle.fleet_rows.specs.declared.errors.SlateDBError.{SlateDBError}
 use Rattle.fleet_rows.specs.declared.errors.SlateDBError.TheVariants.{MergeOperator}
-use Rattle.fleet_fold.specs.Folded.{Folded, opens, is_within, same_group, joining, above, last_above, in_order, answer_of, batch_answer, batch_len, one_more, all_answers, over_base, base_among, operands_in, group_answer, merged_group, row_of_answer, folded_behind, before_refusal, up_to_refusal}
+use Rattle.fleet_fold.specs.Folded.{Folded, opens, is_within, same_group, joining, answer_of, batch_answer, batch_len, one_more, all_answers, over_base, base_among, operands_in, group_answer, merged_group, row_of_answer, folded_behind, before_refusal, up_to_refusal}
 use Rattle.fleet_fold.specs.Jobs.{job_rule, RefusesByOperator}
 use Rattle.fleet_fold.specs.declared.group.GroupRule.{GroupRule}
 use Rattle.fleet_fold.proofs.JobsBatches.{AllIn, batches_all}
+use Rattle.fleet_fold.proofs.JobsGroups.{UpTo, ordered}
 
 -- ---- no row of a group is above its first
-
-abbrev UpTo : ℕ → Row → Type 0
-UpTo seq q = q.seq ≤ seq
-
-none_above : (seq : ℕ) (rows : List Row) → AllByRecursion (UpTo seq) rows → last_above seq rows ≡ None
-none_above seq [] all = refl
-none_above seq (q ∷ rows) all =
-    ap (λ (o : Option ℕ). option_or o (above seq q)) (none_above seq rows all.1) ∙ ap (λ (b : Bool). if b then None else Some q.seq) (le-leb q.seq seq all.0)
-
-ordered : {A : Type 0} (seq : ℕ) (rows : List Row) (answer : Result A SlateDBError) → AllByRecursion (UpTo seq) rows → in_order seq (last_above seq rows) answer ≡ answer
-ordered seq rows answer all = ap (λ (o : Option ℕ). in_order seq o answer) (none_above seq rows all)
 
 falls : (r q : Row) → row_cmp r q ≡ Less → r.key ≡ q.key → q.seq ≤ r.seq
 falls r q before alike =

@@ -11,6 +11,7 @@ use Rattle.row_model.specs.Settings.{Settings}
 use Rattle.row_model.specs.Tables.{cut_tables}
 use Rattle.row_laws.proofs.Elements.{all_weaken}
 use Rattle.row_laws.proofs.Merges.{ordered_stay}
+use Rattle.row_laws.proofs.Ranges.{all_in}
 use Rattle.row_laws.proofs.Tables.{cut_flat}
 use Rattle.fleet_fold.specs.Retention.{kept_of_keys}
 use Rattle.fleet_model.specs.Nodes.{Tables, table_rows}
@@ -38,7 +39,7 @@ use Rattle.fleet_run.proofs.Calls.{all_held}
 use Rattle.fleet_run.proofs.ClaimLine.{records_left}
 use Rattle.fleet_run.proofs.FlushLine.{still_stored, new_stored}
 use Rattle.fleet_run.proofs.JobLists.{found_active, one_changed, trimmed_are}
-use Rattle.fleet_run.proofs.PlainJobs.{job_plain, all_in_range}
+use Rattle.fleet_run.proofs.PlainJobs.{job_plain}
 use Rattle.fleet_run.proofs.PutTables.{same_numbers, numbered_length, numbered_rows, numbered_drawn, numbered_stored, after_puts, puts_held, puts_succeed}
 use Rattle.fleet_run.proofs.ReadLine.{stored_rows}
 use Rattle.fleet_run.proofs.Serves.{Serves, serves_by}
@@ -129,7 +130,7 @@ module _ (merge : Operator) (number : ℕ) (fleet : FleetView) (store : Store) (
     makes : left_in (with_quiet_scheduler merge) s attempt (all_keys, []) ≡ record { rows = kept; whole = true }
     makes =
         ap (λ rows. let all : JobRows = job_rows merge settings (rows_in all_keys rows) in record { rows = all.rows; whole = all.whole }) source_is
-        ∙ ap (λ rows. job_rows merge settings rows) (all_in_range stands.flush.1)
+        ∙ ap (λ rows. job_rows merge settings rows) (all_in stands.flush.1)
         ∙ job_plain merge settings stands.flush.1 flush_is.plain
 
     written_is : written fleet job.source settings ≡ tables

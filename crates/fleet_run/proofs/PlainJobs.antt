@@ -11,7 +11,6 @@ use Rattle.row_model.specs.Fold.{Operator, Outcome}
 use Rattle.row_model.specs.FoldedRows.{same_stamp, opens_group, takes_next, operand_groups, folded_chunk, group_row, all_or_none, cons_both, folded_rows}
 use Rattle.row_model.specs.JobRows.{job_rows, key_rows, joined_keys, before_refusal}
 use Rattle.row_model.specs.KeptRows.{kept_rows, retention_walk, without_old_tombstones, as_tombstone_if_expired}
-use Rattle.row_model.specs.Ranges.{all_keys, rows_in}
 use Rattle.row_model.specs.Read.{seen_at}
 use Rattle.row_model.specs.Settings.{Settings}
 use Rattle.row_laws.proofs.KeyRows.{job_rows-of_key}
@@ -124,9 +123,3 @@ kept_reads settings s rows older low oldest h =
         → onto append [] s settings.tick older (cond last (without_old_tombstones walk) walk) ≡ onto append [] s settings.tick older rows
     by true none same = subst (λ e. onto append [] s settings.tick e (without_old_tombstones walk) ≡ onto append [] s settings.tick e walk) (sym (none refl)) (onto-without_old_tombstones append [] s settings.tick walk) ∙ same
     by false none same = same
-
--- ---- the one range
-
-pub all_in_range : (rows : List Row) → rows_in all_keys rows ≡ rows
-all_in_range [] = refl
-all_in_range (r ∷ rows) = ap (λ rs. r ∷ rs) (all_in_range rows)
