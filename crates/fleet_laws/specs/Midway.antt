@@ -1,53 +1,62 @@
--- A fleet in the midst of a job: a worker took the job, wrote the first two of three versions of a key into a table, and
--- published that table with a heartbeat.
+-- A fleet is in the midst of a job, and its store keeps what was readable within 1,000 ms. A flush came at moment 0. A
+-- worker took the job at moment 500, wrote the first two of three versions of a key into a table, and published that
+-- table with a heartbeat. The floor is 4, and the cut is 2, which is below the flush's least sequence: so the third
+-- version stays.
 use Rattle.std.specs.Prelude.{ℕ, ◌+◌, ◌^◌, List, [], ◌∷◌, true, pos, Some, None}
 use Rattle.row_model.specs.Rows.{Row, Value}
 use Rattle.row_model.specs.Ranges.{all_keys}
 use Rattle.fleet_model.specs.Nodes.{L0, Tables}
-use Rattle.fleet_model.specs.Jobs.{Job, Running, Context, JobSpec}
+use Rattle.fleet_model.specs.Jobs.{Job, Running, Context, JobSpec, Two}
 use Rattle.fleet_model.specs.History.{Entry, Worker, PutRecords, Beat, Done, Party, Writer, Submitter, Coordinator, Event, Answer, PutManifest, Flush, ManifestEpoch, RecordsEpoch, Submit, Polled, PollChange, Claim, GetManifest, Plan}
 use Rattle.fleet_model.specs.Store.{Store}
 use Rattle.fleet_model.specs.Parties.{Parties}
 
--- a version of the key "a", with one byte
+-- A version of the key "a" has one byte.
 abbrev pub version : ℕ → ℕ → Row
 version byte seq = record { key = 0x61 ∷ []; content = Value (byte ∷ []); seq = seq; created = None; expires = None }
 
--- the table that the worker drew and put
+-- The worker drew this id and put this table.
 abbrev pub drawn : ℕ
 drawn = 2 ^ 79 + 1
 
+-- The flush's table and the worker's were put.
 abbrev pub tables : Tables
 tables = (1, version 0x35 5 ∷ version 0x34 4 ∷ version 0x33 3 ∷ []) ∷ (drawn, version 0x35 5 ∷ version 0x34 4 ∷ []) ∷ []
 
+-- The worker published this context.
 abbrev pub context : Context
-context = record { settings = record { floor = 0; tick = pos 0; last_run = true }; ranges = (all_keys, drawn ∷ []) ∷ [] }
+context = record { settings = record { floor = 4; tick = pos 0; last_run = true; cut = 2 }; has_cut = true; ranges = (all_keys, drawn ∷ []) ∷ [] }
 
+-- The job makes the run 0 of the flush.
 abbrev pub spec : JobSpec
 spec = record { segment = []; sources = L0 1 ∷ []; destination = Some 0 }
 
+-- The job is Running.
 abbrev pub job : Job
 job = record {
   id = 1;
   spec = spec;
   status = Running;
-  lease = Some (record { worker = 1; heartbeat = 0 });
+  lease = Some (record { worker = 1; heartbeat = 500 });
   attempt = 1;
   source_tables = 1 ∷ [];
   context = Some context;
   outputs = [];
+  kept_cut = None;
 }
 
+-- An entry has these parts.
 abbrev pub entry : ℕ → Party → Event → Answer → Entry
 entry line party event answer = record { line = line; party = party; event = event; answer = answer }
 
+-- The poll opened the job.
 abbrev pub opened : PollChange
 opened = record { freed = []; completed = []; failed = []; added = []; scheduled = 1 ∷ [] }
 
--- the puts of the history, the get behind the claim, and its plan of one range
+-- The history has all puts of the manifest and of the records, the get after the claim, and the plan of one range.
 abbrev pub history : List Entry
 history =
-    entry 1 Writer (PutManifest (Flush 1 [] 0 (pos 0))) (Done 2)
+    entry 1 Writer (PutManifest (Flush 1 [] 4 (pos 0))) (Done 2)
     ∷ entry 2 (Coordinator 1) (PutManifest (ManifestEpoch 1)) (Done 3)
     ∷ entry 2 (Coordinator 1) (PutRecords (RecordsEpoch 1)) (Done 1)
     ∷ entry 4 Submitter (PutRecords (Submit ((1, spec) ∷ []))) (Done 2)
@@ -58,18 +67,29 @@ history =
     ∷ entry 8 (Worker 1) (PutRecords (Beat 1 ((1, 1) ∷ []))) (Done 5)
     ∷ []
 
+-- The store is written out, with its history.
 abbrev pub midway_store : Store
 midway_store = record {
-  manifest = record { version = 3; epoch = 1; trees = record { prefix = []; tree = record { name = L0 1; flushes = 1 ∷ []; pieces = 1 ∷ [] } ∷ []; last_seq = Some 5; watermark = None } ∷ []; floor = 0; tick = pos 0 };
+  manifest = record {
+    version = 3;
+    epoch = 1;
+    trees = record { prefix = []; tree = record { name = L0 1; flushes = 1 ∷ []; pieces = 1 ∷ [] } ∷ []; last_seq = Some 5; watermark = None } ∷ [];
+    floor = 4;
+    tick = pos 0;
+    tracker = record { least_seq = 3; moment = 0 } ∷ [];
+    horizon = 0;
+  };
   records = Some (record { version = 5; epoch = 1; jobs = job ∷ [] });
   tables = tables;
+  deleted = [];
   jobs_drawn = 1;
   tables_drawn = 1;
   history = history;
 }
 
+-- One coordinator and one worker are live.
 abbrev pub midway_parties : Parties
 midway_parties = record {
   coordinators = record { number = 1; epoch = 1 } ∷ [];
-  workers = record { number = 1; attempts = record { job = 1; number = 1; sources = 1 ∷ []; context = context } ∷ [] } ∷ [];
+  workers = record { number = 1; release = Two; attempts = record { job = 1; number = 1; sources = 1 ∷ []; context = context } ∷ [] } ∷ [];
 }

@@ -1,6 +1,6 @@
--- That a store answers reads as if it still had every flush, and that rows of one key may be put in place of others with
--- no read changed.
-use Rattle.std.specs.Prelude.{ℕ, Bool, true, false, List, ◌++◌}
+-- A store answers reads as if it still had every flush. Rows of one key may be put in place of others with no read
+-- changed.
+use Rattle.std.specs.Prelude.{ℕ, ◌≤◌, int_le, IsTrue, Bool, true, false, List, ◌++◌}
 use Rattle.row_model.specs.Rows.{Row}
 use Rattle.row_model.specs.Fold.{Operator}
 use Rattle.fleet_model.specs.Store.{Manifest, Store}
@@ -8,14 +8,18 @@ use Rattle.fleet_model.specs.ReadsFit.{SameReads}
 use Rattle.fleet_model.specs.Invariant.{StoreInvariant}
 use Rattle.fleet_model.specs.Reads.{StoredReadsAgree}
 
--- Newer and older rows may be replaced each by themselves; a replacement may be replaced again; and what may be
--- replaced above older rows may be where there are none.
+-- Newer and older rows of a key may each be replaced. A replacement may be replaced again. Rows that may be replaced
+-- above older rows may also be replaced where nothing is older. And what may be replaced may still be replaced once the
+-- horizon or the tick has risen.
 pub record ReplacementsAddUp (merge : Operator) (manifest : Manifest) (key : List ℕ) : Type 0 where
   pub side_by_side : (oldest : Bool) (newer newer' older older' : List Row) → SameReads merge manifest false key newer newer' → SameReads merge manifest oldest key older older'
       → SameReads merge manifest oldest key (newer ++ older) (newer' ++ older')
   pub in_turn : (oldest : Bool) (a b c : List Row) → SameReads merge manifest oldest key a b → SameReads merge manifest oldest key b c → SameReads merge manifest oldest key a c
   pub as_oldest : (a b : List Row) → SameReads merge manifest false key a b → SameReads merge manifest true key a b
+  pub later_on : (oldest : Bool) (later : Manifest) (a b : List Row) → manifest.horizon ≤ later.horizon → IsTrue (int_le manifest.tick later.tick)
+      → SameReads merge manifest oldest key a b → SameReads merge later oldest key a b
 
--- In a store that meets the invariant, reads over what its nodes hold answer as reads over all that was flushed into them.
+-- In a store that meets the invariant, reads over what its nodes hold answer as reads over all that was flushed into
+-- them.
 abbrev pub StoresAnswerReads : Operator → Type 0
 StoresAnswerReads merge = (store : Store) → StoreInvariant merge store → StoredReadsAgree merge store

@@ -1,5 +1,5 @@
-//! Laws on the fleet: each call has an empty body, and its clause is a law about the stored objects, the calls of a store
-//! or an attempt's own words.
+//! Laws on the fleet: each call has an empty body, and its clause is a law about the stored objects, the calls of a
+//! store or an attempt's own words.
 #![tactic(auto)]
 
 ghost use Rattle.std.specs.Prelude.{ℕ, List};
@@ -8,11 +8,14 @@ ghost use Rattle.row_model.specs.Fold.{Operator};
 ghost use Rattle.fleet_model.specs.History.{Party};
 ghost use Rattle.fleet_model.specs.Invariant.{FleetInvariant};
 ghost use Rattle.fleet_model.specs.Store.{Manifest, Store};
-ghost use Rattle.fleet_laws.specs.Begins.{FreshFleetFits};
+ghost use Rattle.fleet_laws.specs.Begins.{FreshFleetFits, nobody};
+ghost use Rattle.fleet_laws.specs.Cuts.{CutsAreLow, MidwayCuts};
 ghost use Rattle.fleet_laws.specs.Faults.{OldPutsAreLost};
 ghost use Rattle.fleet_laws.specs.Midway.{midway_parties, midway_store};
 ghost use Rattle.fleet_laws.specs.Outputs.{OutputsMakeWhatIsLeft};
 ghost use Rattle.fleet_laws.specs.Reads.{ReplacementsAddUp, StoresAnswerReads};
+ghost use Rattle.fleet_laws.specs.Sweeps.{SweepIsExact};
+ghost use Rattle.fleet_laws.specs.Swept.{Sweeps, swept_store};
 
 /// A fresh store with no live party meets the invariant of the fleet, so it holds before the first line of a script.
 pub fn fresh_fleet_fits()
@@ -26,20 +29,20 @@ pub fn midway_fits()
     ensures { FleetInvariant append midway_store midway_parties }
 {}
 
-/// Replacements that change no read add up: of the newer rows of a key and of the older ones, and one after the other.
-/// This is why many nodes may become one, node by node.
+/// Replacements of rows that change no read add up: newer and older rows of a key may both be replaced, and a
+/// replacement may be replaced again. This is why many nodes may become one, node by node.
 pub fn replacements_add_up()
     ensures { (merge : Operator) (manifest : Manifest) (key : List ℕ) → ReplacementsAddUp merge manifest key }
 {}
 
-/// A store that meets the invariant answers every read, from its floor and tick on, as if all rows that were ever flushed
-/// into its nodes still stood there: what compactions have dropped is seen by no read.
+/// A store that meets the invariant answers every read, from its horizon and tick on, as if all rows that were ever
+/// flushed into its nodes still stood there: what compactions have dropped is seen by no read.
 pub fn stores_answer_reads()
     ensures { (merge : Operator) → StoresAnswerReads merge }
 {}
 
-/// A put of a version that is no longer stored changes nothing where a fault strikes it, and the history says Lost, also
-/// where the fault lets puts stand.
+/// A put of a version that is no longer stored changes nothing where a fault strikes it, and the history says Lost,
+/// also where the fault lets puts stand.
 pub fn old_puts_are_lost()
     ensures { (line : ℕ) (party : Party) (version : ℕ) (store : Store) → OldPutsAreLost line party version store }
 {}
@@ -48,4 +51,24 @@ pub fn old_puts_are_lost()
 /// the last noted row is exactly what the attempt has left to write.
 pub fn outputs_make_what_is_left()
     ensures { (merge : Operator) → OutputsMakeWhatIsLeft merge }
+{}
+
+/// A claim's cut is at most the floor, whatever the release of its worker. Under a retention it is also below every
+/// flush that came within the retention, so that what could be read before that flush can be read still.
+pub fn cuts_are_low()
+    ensures low { (manifest : Manifest) (moment retention : ℕ) → CutsAreLow manifest moment retention }
+    ensures midway { MidwayCuts }
+{}
+
+/// A sweep deletes exactly the held tables that no node of a tree names, that no active job names in its context or its
+/// outputs, and that are not pinned.
+pub fn sweeps_are_exact()
+    ensures { (pins : List ℕ) (store : Store) → SweepIsExact pins store }
+{}
+
+/// The fleet of `midway_fits` meets the invariant later too: its job's run has been joined, the put of the records was
+/// lost, and a sweep has deleted the flush's table. Before the join a sweep finds nothing to delete.
+pub fn swept_fits()
+    ensures fits { FleetInvariant append swept_store nobody }
+    ensures sweeps { Sweeps }
 {}

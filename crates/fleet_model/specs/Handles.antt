@@ -1,26 +1,28 @@
--- A handle: what is told of a table without its rows.
+-- A handle tells of a table what is known without its rows.
 use Rattle.std.specs.Prelude.{◌≡◌, ℕ, IsTrue, List, [], ◌∷◌, ◌++◌, map, flat_map, length, Option, Some, None}
 use Rattle.std.specs.List.{concat, AllByRecursion}
 use Rattle.row_model.specs.Rows.{Row}
 use Rattle.row_model.specs.Sizes.{Block, blocks, table_size}
-use Rattle.fleet_model.specs.Nodes.{Tables, table_rows, is_held, Segment, Trees}
+use Rattle.fleet_model.specs.Nodes.{Tables, table_rows, is_among, Segment, Trees}
 use Rattle.fleet_model.specs.Jobs.{Context, Job, Jobs}
 use Rattle.fleet_model.specs.Trees.{first_key, last_key}
 
+-- A handle has the keys at both ends of a table, the sequence of its last row, its sizes and its blocks.
 pub record Handle : Type 0 where
   pub id : ℕ
   pub first_key : List ℕ
   pub last_key : List ℕ
   pub last_seq : ℕ  -- of the last row
-  pub rows : ℕ
-  pub size : ℕ
+  pub rows : ℕ  -- how many rows it has
+  pub size : ℕ  -- the sum of its rows' estimated sizes, in bytes
   pub blocks : List Block
 
+-- The last row has this sequence.
 abbrev pub seq_of_last : ℕ → List Row → ℕ
 seq_of_last seq [] = seq
 seq_of_last seq (r ∷ rows) = seq_of_last r.seq rows
 
--- the handle of a table of these rows
+-- A table of these rows has this handle.
 abbrev pub describe : ℕ → List Row → Handle
 describe id rows = record {
   id = id;
@@ -32,26 +34,31 @@ describe id rows = record {
   blocks = blocks rows;
 }
 
+-- These tables have these handles.
 abbrev pub described : Tables → List ℕ → List Handle
 described tables ids = map (λ id. describe id (table_rows tables id)) ids
 
+-- A context names the tables noted for its ranges.
 abbrev pub context_tables : Option Context → List ℕ
 context_tables None = []
 context_tables (Some context) = flat_map (λ range. range.1) context.ranges
 
--- the tables that the nodes name, and those that jobs name in contexts and outputs
+-- A tree names the tables of its nodes.
 abbrev pub tree_tables : Segment → List ℕ
 tree_tables s = flat_map (λ node. node.pieces) s.tree
 
+-- A job names tables in its context and in its outputs.
 abbrev pub job_tables : Job → List ℕ
 job_tables job = context_tables job.context ++ concat job.outputs
 
+-- Trees and jobs name these tables.
 abbrev pub named_tables : Trees → Jobs → List ℕ
 named_tables trees jobs = flat_map tree_tables trees ++ flat_map job_tables jobs
 
--- a handle that a program holds is that of a held table
+-- This handle is the one that a table of these has.
 abbrev pub HandleFits : Tables → Handle → Type 0
-HandleFits tables h = IsTrue (is_held tables h.id) × (h ≡ describe h.id (table_rows tables h.id))
+HandleFits tables h = IsTrue (is_among tables h.id) × (h ≡ describe h.id (table_rows tables h.id))
 
+-- Each of these handles is the one that a table of these has.
 abbrev pub HandlesFit : Tables → List Handle → Type 0
 HandlesFit tables handles = AllByRecursion (HandleFits tables) handles

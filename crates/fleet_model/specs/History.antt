@@ -1,36 +1,38 @@
--- The one history of a store: each call of it, by whom, and how it was answered.
+-- The history of a store tells each call, by whom it was made and how it was answered.
 use Rattle.std.specs.Prelude.{ℕ, ℤ, Bool, true, false, List}
 use Rattle.fleet_model.specs.Jobs.{JobSpec}
 use Rattle.row_model.specs.Ranges.{Range}
 
--- who calls the store
+-- These parties call the store: a writer that flushes, whoever submits jobs, coordinators, workers, and a sweeper.
 pub data Party : Type 0 where
   Writer : Party
   Submitter : Party
   Coordinator : (number : ℕ) → Party
   Worker : (number : ℕ) → Party
+  Sweeper : Party
 
--- what a commit does to the trees, by the id of the job
+-- A commit takes steps on the trees, each for the job of this id.
 pub data Step : Type 0 where
   Join : (job : ℕ) → Step
   Move : (job : ℕ) → Step
   Drain : (job : ℕ) → Step
 
--- why a manifest is put
+-- A manifest is put for a new epoch, for a flush, or for a commit.
 pub data ManifestChange : Type 0 where
   ManifestEpoch : (epoch : ℕ) → ManifestChange
   Flush : (name : ℕ) → (segment : List ℕ) → (floor : ℕ) → (tick : ℤ) → ManifestChange
   Commit : (steps : List Step) → ManifestChange
 
--- what a poll changes of the records, each job by its id
+-- A poll changes the records of these jobs, each by its id.
 pub record PollChange : Type 0 where
-  pub freed : List ℕ
-  pub completed : List ℕ
-  pub failed : List ℕ
-  pub added : List (ℕ × JobSpec)
-  pub scheduled : List ℕ
+  pub freed : List ℕ  -- Running jobs that wait for a worker again
+  pub completed : List ℕ  -- jobs that were committed, moved or drained
+  pub failed : List ℕ  -- jobs that a gate refused
+  pub added : List (ℕ × JobSpec)  -- jobs that the scheduler proposed, under new ids
+  pub scheduled : List ℕ  -- jobs that were opened and wait for a worker
 
--- why records are put. An attempt is named by its job and its number
+-- Records are put for a new epoch, for new jobs, or for jobs that a worker or a poll changes. An attempt is named by
+-- its job and its number.
 pub data RecordChange : Type 0 where
   RecordsEpoch : (epoch : ℕ) → RecordChange
   Submit : (specs : List (ℕ × JobSpec)) → RecordChange
@@ -40,7 +42,9 @@ pub data RecordChange : Type 0 where
   Release : (worker : ℕ) → (attempts : List (ℕ × ℕ)) → RecordChange
   Polled : (change : PollChange) → RecordChange
 
--- A call of the store. The last three are notes: the ranges that an attempt begins with, and a party that comes or goes
+-- An event is a call of the store. PutTable has the number of the table's rows, and ListTables the number of the held
+-- tables. Plan, Start and Kill are notes: of the ranges that an attempt begins with, of a party that comes, and of one
+-- that goes.
 pub data Event : Type 0 where
   GetManifest : Event
   GetRecords : Event
@@ -53,9 +57,12 @@ pub data Event : Type 0 where
   Plan : (job attempt : ℕ) → (ranges : List Range) → Event
   Start : (party : Party) → Event
   Kill : (party : Party) → Event
+  ListTables : (count : ℕ) → Event
+  DeleteTable : (table : ℕ) → Event
 
--- Done has the version got or put, and 0 where there is none. Lost and Stands are faults: a put that is
--- Lost changed nothing, and one that Stands did
+-- Done has the version got or put, and 0 where there is none. Absent tells that there are no records, or that a table
+-- is not held. Conflict has the stored version, which a put was not for. Lost and Stands are faults: a put that is Lost
+-- changed nothing, and one that Stands did.
 pub data Answer : Type 0 where
   Done : (version : ℕ) → Answer
   Absent : Answer
@@ -63,13 +70,14 @@ pub data Answer : Type 0 where
   Lost : Answer
   Stands : Answer
 
+-- An entry has the line of the script, the party, the event and its answer.
 pub record Entry : Type 0 where
-  pub line : ℕ
+  pub line : ℕ  -- counted from 1, and 0 outside a script
   pub party : Party
   pub event : Event
   pub answer : Answer
 
--- whether a put of this answer stood; it is asked of puts alone
+-- A put with this answer stood. Only puts are asked this.
 abbrev pub stood : Answer → Bool
 stood (Done version) = true
 stood Absent = false
@@ -77,7 +85,7 @@ stood (Conflict version) = false
 stood Lost = false
 stood Stands = true
 
--- a get or a put, which a fault may strike; a draw and a note are neither
+-- A fault may strike gets and puts. A list counts as a get, and a deletion as a put. A draw and a note are neither.
 abbrev pub is_get_or_put : Event → Bool
 is_get_or_put (DrawJob job) = false
 is_get_or_put (DrawTable table) = false

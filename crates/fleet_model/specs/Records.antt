@@ -1,66 +1,82 @@
--- What each change of the job records makes of the jobs.
+-- A change of the job records makes new jobs of the old ones.
 use Rattle.std.specs.Prelude.{ℕ, ◌+◌, List, [], ◌∷◌, map, Option, Some, None}
 use Rattle.fleet_model.specs.Jobs.{JobSpec, Job, Jobs, Context, Submitted, Scheduled, Running, Compacted, Completed, Failed, changed, put_job, trimmed}
 use Rattle.fleet_model.specs.History.{RecordChange, RecordsEpoch, Submit, Claim, Beat, Finish, Release, Polled, PollChange}
 
--- what a change takes that the history does not record: the moment, the contexts that a beat publishes, and the
--- tables of the sources as a job is opened
+-- A change takes what the history does not record: the moment, the contexts that a heartbeat publishes, the cut that a
+-- finish keeps, and the tables of the sources as a job is opened.
 pub record Unrecorded : Type 0 where
   pub moment : ℕ
   pub published : ℕ → Option Context
+  pub kept_cut : Option ℕ
   pub tables_of : JobSpec → List ℕ
 
+-- No context is published.
 abbrev pub no_contexts : ℕ → Option Context
 no_contexts job = None
 
+-- The first parts of pairs are taken.
 abbrev pub firsts : {A : Type 0} → List (ℕ × A) → List ℕ
 firsts pairs = map (λ p. p.0) pairs
 
--- a job as it is submitted or added
+-- A submitted or added job has this record.
 abbrev pub new_job : ℕ × JobSpec → Job
-new_job p = record { id = p.0; spec = p.1; status = Submitted; lease = None; attempt = 0; source_tables = []; context = None; outputs = [] }
+new_job p = record { id = p.0; spec = p.1; status = Submitted; lease = None; attempt = 0; source_tables = []; context = None; outputs = []; kept_cut = None }
 
+-- New jobs come to the others.
 abbrev pub with_new : List (ℕ × JobSpec) → Jobs → Jobs
 with_new [] jobs = jobs
 with_new (p ∷ specs) jobs = with_new specs (put_job (new_job p) jobs)
 
+-- A claimed job is Running, and its attempt is raised by one.
 abbrev pub claimed_by : ℕ → ℕ → Job → Job
 claimed_by worker moment job = record job { status = Running; lease = Some (record { worker = worker; heartbeat = moment }); attempt = job.attempt + 1 }
 
+-- A heartbeat renews the lease and publishes the context.
 abbrev pub beaten_by : ℕ → Unrecorded → Job → Job
 beaten_by worker unrecorded job = record job { lease = Some (record { worker = worker; heartbeat = unrecorded.moment }); context = unrecorded.published job.id }
 
-abbrev pub finished_by : ℕ → ℕ → List (List ℕ) → Job → Job
-finished_by worker moment outputs job = record job { status = Compacted; lease = Some (record { worker = worker; heartbeat = moment }); context = None; outputs = outputs }
+-- A finished attempt leaves its job Compacted, with outputs and without a context.
+abbrev pub finished_by : ℕ → Unrecorded → List (List ℕ) → Job → Job
+finished_by worker unrecorded outputs job = record job {
+  status = Compacted;
+  lease = Some (record { worker = worker; heartbeat = unrecorded.moment });
+  context = None;
+  outputs = outputs;
+  kept_cut = unrecorded.kept_cut;
+}
 
--- waits for a worker again, and keeps its context
+-- A freed or released job waits for a worker again, and keeps its context.
 abbrev pub to_waiting : Job → Job
 to_waiting job = record job { status = Scheduled; lease = None }
 
+-- An opened job keeps the tables of its sources.
 abbrev pub to_scheduled : (JobSpec → List ℕ) → Job → Job
 to_scheduled tables_of job = record job { status = Scheduled; source_tables = tables_of job.spec; context = None }
 
+-- A committed, moved or drained job is Completed.
 abbrev pub to_completed : Job → Job
 to_completed job = record job { status = Completed }
 
+-- A failed job has no context.
 abbrev pub to_failed : Job → Job
 to_failed job = record job { status = Failed; context = None }
 
--- the jobs that a poll adds come first, since it may open or end them at once
+-- The jobs that a poll adds come first, since it may open or end them at once.
 abbrev pub after_poll : Unrecorded → PollChange → Jobs → Jobs
 after_poll unrecorded change jobs =
     changed to_failed change.failed (changed to_completed change.completed (changed (to_scheduled unrecorded.tables_of) change.scheduled (changed to_waiting change.freed (with_new change.added jobs))))
 
--- the jobs after a change, the finished ones not yet dropped
+-- A change leaves these jobs. The finished ones are not dropped yet.
 abbrev pub after_change : Unrecorded → RecordChange → Jobs → Jobs
 after_change unrecorded (RecordsEpoch epoch) jobs = jobs
 after_change unrecorded (Submit specs) jobs = with_new specs jobs
 after_change unrecorded (Claim worker attempts) jobs = changed (claimed_by worker unrecorded.moment) (firsts attempts) jobs
 after_change unrecorded (Beat worker attempts) jobs = changed (beaten_by worker unrecorded) (firsts attempts) jobs
-after_change unrecorded (Finish worker job attempt outputs) jobs = changed (finished_by worker unrecorded.moment outputs) (job ∷ []) jobs
+after_change unrecorded (Finish worker job attempt outputs) jobs = changed (finished_by worker unrecorded outputs) (job ∷ []) jobs
 after_change unrecorded (Release worker attempts) jobs = changed to_waiting (firsts attempts) jobs
 after_change unrecorded (Polled change) jobs = after_poll unrecorded change jobs
 
--- the jobs after a put that stood
+-- A put that stood leaves these jobs.
 abbrev pub jobs_after : Unrecorded → RecordChange → Jobs → Jobs
 jobs_after unrecorded change jobs = trimmed (after_change unrecorded change jobs)

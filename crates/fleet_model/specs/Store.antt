@@ -1,52 +1,87 @@
--- What is stored: the manifest, the job records, the tables, the numbers drawn so far and the history.
-use Rattle.std.specs.Prelude.{ℕ, ◌-◌, ◌^◌, ℤ, negsuc, List, [], ◌∷◌, Option, Some, None}
-use Rattle.fleet_model.specs.Nodes.{Tables, Trees}
-use Rattle.fleet_model.specs.Jobs.{Jobs}
+-- A store has the manifest, the job records, the tables, the numbers drawn so far and the history. Some of its tables
+-- are still held.
+use Rattle.std.specs.Prelude.{ℕ, ◌-◌, ◌^◌, ◌==◌, ℤ, negsuc, Bool, not, IsTrue, if◌then◌else◌, List, [], ◌∷◌, filter, Option, Some, None}
+use Rattle.std.specs.List.{list_all}
+use Rattle.fleet_model.specs.Nodes.{Tables, is_among, Trees}
+use Rattle.fleet_model.specs.Jobs.{Jobs, contains}
 use Rattle.fleet_model.specs.Trees.{empty_segment}
 use Rattle.fleet_model.specs.History.{Entry}
+use Rattle.fleet_model.specs.Tracker.{Tracked, cut_before}
 
--- the trees, the floor below which no snapshot reads, and the moment by which rows expire
+-- A manifest has the trees, the floor below which no snapshot reads, the moment by which rows expire, the flushes
+-- within the retention, and the horizon. Reads are answered from the horizon and the tick on.
 pub record Manifest : Type 0 where
-  pub version : ℕ
-  pub epoch : ℕ
+  pub version : ℕ  -- rises by one at each put
+  pub epoch : ℕ  -- of the newest coordinator
   pub trees : Trees
   pub floor : ℕ
-  pub tick : ℤ
+  pub tick : ℤ  -- in milliseconds
+  pub tracker : List Tracked
+  pub horizon : ℕ
 
+-- The job records are one object.
 pub record Records : Type 0 where
-  pub version : ℕ
-  pub epoch : ℕ
+  pub version : ℕ  -- rises by one at each put
+  pub epoch : ℕ  -- of the last coordinator that put it here
   pub jobs : Jobs
 
+-- Each table that was ever put stays among the tables, so that what was flushed can be told. A sweep deletes some, and
+-- these are held no more.
 pub record Store : Type 0 where
   pub manifest : Manifest
   pub records : Option Records
   pub tables : Tables
-  pub jobs_drawn : ℕ  -- how many ids were drawn for jobs, and for tables
-  pub tables_drawn : ℕ
+  pub deleted : List ℕ
+  pub jobs_drawn : ℕ  -- how many ids were drawn for jobs
+  pub tables_drawn : ℕ  -- how many ids were drawn for tables
   pub history : List Entry
 
--- the least number of 64 signed bits
+-- No signed number of 64 bits is less.
 abbrev pub least_tick : ℤ
 least_tick = negsuc (2 ^ 63 - 1)
 
+-- A fresh store has an empty root tree and no job records.
 abbrev pub fresh_store : Store
 fresh_store = record {
-  manifest = record { version = 1; epoch = 0; trees = empty_segment [] ∷ []; floor = 0; tick = least_tick };
+  manifest = record { version = 1; epoch = 0; trees = empty_segment [] ∷ []; floor = 0; tick = least_tick; tracker = []; horizon = 0 };
   records = None;
   tables = [];
+  deleted = [];
   jobs_drawn = 0;
   tables_drawn = 0;
   history = [];
 }
 
+-- Where no records are stored there are no jobs.
 abbrev pub jobs_in : Option Records → Jobs
 jobs_in None = []
 jobs_in (Some records) = records.jobs
 
+-- The jobs of the stored records are the stored jobs.
 abbrev pub stored_jobs : Store → Jobs
 stored_jobs store = jobs_in store.records
 
+-- Records that are not there have epoch 0.
 abbrev pub records_epoch : Option Records → ℕ
 records_epoch None = 0
 records_epoch (Some records) = records.epoch
+
+-- The tables that were put and not deleted are held.
+abbrev pub held_tables : Store → Tables
+held_tables store = filter (λ table. not (contains store.deleted table.0)) store.tables
+
+-- A table of this id is held.
+abbrev pub is_held : Store → ℕ → Bool
+is_held store table = is_among (held_tables store) table
+
+-- These tables are all held.
+abbrev pub AreHeld : Store → List ℕ → Type 0
+AreHeld store named = IsTrue (list_all (is_held store) named)
+
+-- These tables were all put, whether they are held or not.
+abbrev pub WerePut : Store → List ℕ → Type 0
+WerePut store named = IsTrue (list_all (is_among store.tables) named)
+
+-- A compaction that begins at this moment keeps all reads from the cut on. Without a retention the cut is the floor.
+abbrev pub cut_at : Manifest → (moment retention : ℕ) → ℕ
+cut_at manifest moment retention = if retention == 0 then manifest.floor else cut_before manifest.floor moment retention manifest.tracker

@@ -1,12 +1,13 @@
--- Two words about lists: a relation between every two elements, and the beginning of a list.
+-- Two relations are defined for lists of any elements: one between every two elements of a list, and one between a list
+-- and how it begins.
 use Rattle.std.specs.Prelude.{◌≡◌, List, [], ◌∷◌, ◌++◌, ⊤}
 use Rattle.std.specs.List.{AllByRecursion}
 
--- the relation holds between each element and each later one
+-- The relation holds between each element and each later one.
 abbrev pub Pairs : {A : Type 0} → (A → A → Type 0) → List A → Type 0
 Pairs R [] = ⊤
 Pairs R (x ∷ xs) = AllByRecursion (R x) xs × Pairs R xs
 
--- the first list is how the second one begins
+-- The second list begins with the first.
 abbrev pub IsPrefixOf : {A : Type 0} → List A → List A → Type 0
 IsPrefixOf {A} xs ys = (rest : List A) × (xs ++ rest ≡ ys)

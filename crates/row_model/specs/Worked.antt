@@ -1,5 +1,5 @@
--- The definitions on small examples: what is made of some rows and what they read as, how tables and blocks are cut, and
--- how keys are cut into ranges.
+-- Small examples show the definitions: what is made of some rows and how they read, how rows are cut into tables and
+-- blocks, and how keys are cut into ranges.
 use Rattle.std.specs.Prelude.{◌≡◌, ℕ, ◌^◌, ℤ, pos, Bool, true, false, List, [], ◌∷◌, map, length, Option, Some, None, codes}
 use Rattle.row_model.specs.Rows.{Row, Content, Value, Merge, Tombstone}
 use Rattle.row_model.specs.Fold.{Merged}
@@ -14,12 +14,17 @@ use Rattle.row_model.specs.Sizes.{Block, blocks, encoded_size, estimated_size, t
 use Rattle.row_model.specs.Tables.{cut_tables}
 use Rattle.row_model.specs.Plan.{Anchor, select_boundaries, sample_anchors}
 
--- a row of the key "a"
+-- A row has the key "a".
 abbrev pub a_row : Content → ℕ → Option ℤ → Row
 a_row content seq expires = record { key = codes "a"; content = content; seq = seq; created = None; expires = expires }
 
+-- These settings have the floor as their cut.
 abbrev pub settings : ℕ → ℤ → Bool → Settings
-settings floor tick last_run = record { floor = floor; tick = tick; last_run = last_run }
+settings cut tick last_run = record { floor = cut; tick = tick; last_run = last_run; cut = cut }
+
+-- These settings may have a cut below the floor, so that more versions are kept.
+abbrev pub settings_under : ℕ → ℕ → Settings
+settings_under floor cut = record { floor = floor; tick = pos 0; last_run = true; cut = cut }
 
 -- ---- a tombstone above two values
 
@@ -29,7 +34,7 @@ versions = a_row Tombstone 4 None ∷ a_row (Value (codes "v1")) 2 None ∷ a_ro
 abbrev pub kept_versions : List Row
 kept_versions = a_row Tombstone 4 None ∷ a_row (Value (codes "v1")) 2 None ∷ []
 
--- Under the floor 3 the oldest version goes, and reads from the floor on answer as before.
+-- Under the cut 3 the oldest version goes, and reads from the cut on answer as before.
 pub record OldVersionsGo : Type 0 where
   pub made : job_rows append (settings 3 (pos 0) true) versions ≡ record { rows = kept_versions; whole = true }
   pub made_above_a_run : kept_rows (settings 3 (pos 0) false) versions ≡ kept_versions
@@ -38,10 +43,17 @@ pub record OldVersionsGo : Type 0 where
   pub read_at_4 : read append (codes "a") 4 (pos 0) versions ≡ None
   pub kept_at_4 : read append (codes "a") 4 (pos 0) kept_versions ≡ None
 
--- A tombstone goes into the last run alone, and only where nothing older than it is kept.
+-- A tombstone goes in the last run alone, and only where nothing older than it is kept.
 pub record OldTombstonesGo : Type 0 where
   pub above_a_run : kept_rows (settings 4 (pos 0) false) versions ≡ a_row Tombstone 4 None ∷ []
   pub in_the_last_run : kept_rows (settings 4 (pos 0) true) versions ≡ []
+
+-- Under the floor 4 nothing is left where the cut is 4 too. Where it is 2, what was read from 2 on is kept.
+pub record TheCutKeepsVersions : Type 0 where
+  pub at_the_floor : job_rows append (settings_under 4 4) versions ≡ record { rows = []; whole = true }
+  pub below_the_floor : job_rows append (settings_under 4 2) versions ≡ record { rows = kept_versions; whole = true }
+  pub read_at_2 : read append (codes "a") 2 (pos 0) versions ≡ Some (Merged (codes "v1"))
+  pub kept_at_2 : read append (codes "a") 2 (pos 0) kept_versions ≡ Some (Merged (codes "v1"))
 
 -- ---- operands
 
@@ -68,30 +80,31 @@ pub record FoldedAndThenExpired : Type 0 where
 abbrev pub three_operands : List Row
 three_operands = a_row (Merge (codes "3")) 3 None ∷ a_row (Merge (codes "2")) 2 None ∷ a_row (Merge (codes "1")) 1 None ∷ []
 
--- Operands above the floor are not folded.
-pub record TheFloorKeepsOperands : Type 0 where
+-- Operands above the cut are not folded, also where they are at or below the floor.
+pub record TheCutKeepsOperands : Type 0 where
   pub at_3 : folded_rows append 3 three_operands ≡ Some (a_row (Merge (codes "123")) 3 None ∷ [])
   pub at_2 : folded_rows append 2 three_operands ≡ Some (a_row (Merge (codes "3")) 3 None ∷ a_row (Merge (codes "12")) 2 None ∷ [])
   pub at_0 : folded_rows append 0 three_operands ≡ Some three_operands
+  pub below_the_floor : job_rows append (settings_under 3 2) three_operands ≡ record { rows = a_row (Merge (codes "3")) 3 None ∷ a_row (Merge (codes "12")) 2 None ∷ []; whole = true }
 
 -- ---- sizes, blocks and tables
 
 abbrev pub sized : Content → Option ℤ → Row
 sized content created = record { key = codes "hello"; content = content; seq = 0; created = created; expires = None }
 
--- with 0, 2 and 4 bytes of the key shared
+-- Rows are written with 0, 2 and 4 bytes of their key shared.
 pub record RowsHaveSizes : Type 0 where
   pub tombstone : map (encoded_size (sized Tombstone None)) (0 ∷ 2 ∷ 4 ∷ []) ≡ 18 ∷ 16 ∷ 14 ∷ []
   pub value : map (encoded_size (sized (Value (codes "val")) None)) (0 ∷ 2 ∷ 4 ∷ []) ≡ 25 ∷ 23 ∷ 21 ∷ []
   pub estimated : estimated_size (sized (Value (codes "val")) None) ≡ 16
   pub stamped : estimated_size (sized (Value (codes "val")) (Some (pos 7))) ≡ 24
 
--- five rows of ten bytes each
+-- These are five rows of ten bytes each.
 abbrev pub five_versions : List Row
 five_versions = a_row (Value (codes "5")) 5 None ∷ a_row (Value (codes "4")) 4 None ∷ a_row (Value (codes "3")) 3 None ∷ a_row (Value (codes "2")) 2 None ∷ a_row (Value (codes "1")) 1 None ∷ []
 
--- They make one block. Cut at 15 bytes they make tables of two, two and one rows: a table ends with the row with which
--- it exceeds the size.
+-- The five rows make one block. Cut at 15 bytes they make tables of two, two and one rows: a table ends with the row
+-- with which it exceeds the size.
 pub record TablesAreCut : Type 0 where
   pub bytes : table_size five_versions ≡ 50
   pub one_block : blocks five_versions ≡ record { first_key = codes "a"; offset = 0 } ∷ []
@@ -114,12 +127,13 @@ between m n = record { from = Included (key m); to = Excluded (key n) }
 abbrev pub from : ℕ → Range
 from n = record { from = Included (key n); to = Unbounded }
 
--- Cuts come where a share of all bytes is reached, and never inside a key. There is one range where all bytes are no more
--- than the least that a range may have. Sums of bytes stop at 2^64 - 1.
+-- Cuts come where one more share of all bytes is reached, and never inside a key, so that a range may be small after a
+-- large one. There is one range where all bytes are no more than the least share. Sums of bytes stop at 2^64 - 1.
 pub record KeysAreCut : Type 0 where
   pub even : select_boundaries (anchor 0 100 ∷ anchor 10 100 ∷ anchor 20 100 ∷ anchor 30 100 ∷ []) 4 1 ≡ below 10 ∷ between 10 20 ∷ between 20 30 ∷ from 30 ∷ []
   pub one_key_thrice : select_boundaries (anchor 0 400 ∷ anchor 0 400 ∷ anchor 0 400 ∷ anchor 10 400 ∷ anchor 20 400 ∷ []) 4 1 ≡ below 10 ∷ between 10 20 ∷ from 20 ∷ []
   pub heavy_first : select_boundaries (anchor 0 1000 ∷ anchor 10 10 ∷ anchor 20 10 ∷ anchor 30 10 ∷ anchor 40 10 ∷ []) 2 1 ≡ below 10 ∷ from 10 ∷ []
+  pub small_behind_heavy : select_boundaries (anchor 0 1000 ∷ anchor 10 10 ∷ anchor 20 10 ∷ []) 3 100 ≡ below 10 ∷ between 10 20 ∷ from 20 ∷ []
   pub too_small : select_boundaries (anchor 0 100 ∷ anchor 10 100 ∷ []) 4 1000 ≡ all_keys ∷ []
   pub huge : select_boundaries (anchor 0 (2 ^ 63) ∷ anchor 10 (2 ^ 63) ∷ anchor 20 (2 ^ 63) ∷ []) 2 1 ≡ below 10 ∷ from 10 ∷ []
 
@@ -129,7 +143,7 @@ block n offset = record { first_key = key n; offset = offset }
 abbrev pub four_blocks : List Block
 four_blocks = block 0 0 ∷ block 10 100 ∷ block 20 200 ∷ block 30 300 ∷ []
 
--- An anchor has a block's first key and its bytes. Those outside the range are left out, and blocks are grouped where
+-- An anchor has a block's first key and its bytes. Anchors outside the range are left out, and blocks are grouped where
 -- there may be fewer anchors than blocks.
 pub record AnchorsAreSampled : Type 0 where
   pub in_a_range : sample_anchors four_blocks 400 4 (between 10 30) ≡ anchor 10 100 ∷ anchor 20 100 ∷ []

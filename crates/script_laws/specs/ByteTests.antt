@@ -1,10 +1,10 @@
--- Tests of a byte.
+-- These tests tell bytes apart.
 use Rattle.std.specs.Prelude.{ℕ, Bool, ◌==◌, ◌&&◌, ◌||◌, nat_le}
 
--- a hexadecimal digit in lower case
+-- The byte is a hexadecimal digit in lower case.
 abbrev pub is_lower_digit : ℕ → Bool
 is_lower_digit c = (nat_le 48 c && nat_le c 57) || (nat_le 97 c && nat_le c 102)
 
--- the byte at which a text is cut
+-- The byte is the one at which a text is cut.
 abbrev pub is_byte : ℕ → ℕ → Bool
 is_byte cut byte = byte == cut

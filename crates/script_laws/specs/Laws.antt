@@ -1,20 +1,20 @@
--- What a text says of the script that it is.
+-- A text tells the script that it is.
 use Rattle.std.specs.Prelude.{◌≡◌, ℕ, List}
 use Rattle.std.specs.List.{AllByRecursion}
 use Rattle.script_model.specs.Script.{Line, IsInBounds, script_text, Grammar, IsScript, IsBadAt}
 
--- lines in bounds that are spelt alike are alike
+-- Two lists of lines in bounds that are spelt alike are one list.
 abbrev pub TextIsOneScript : Type 0
 TextIsOneScript = (lines others : List Line) → AllByRecursion IsInBounds lines → AllByRecursion IsInBounds others → script_text lines ≡ script_text others → lines ≡ others
 
--- each line that the grammar lets stand is in bounds
+-- Each line that the grammar lets stand is in bounds.
 abbrev pub IsBounded : Grammar → Type 0
 IsBounded grammar = (before : List Line) (line : Line) → grammar before line → IsInBounds line
 
--- a text that is a script has no bad line
+-- A text that is a script has no bad line.
 abbrev pub ScriptHasNoBadLine : Grammar → Type 0
 ScriptHasNoBadLine grammar = (text : List ℕ) (lines : List Line) (n : ℕ) → IsScript grammar text lines → IsBadAt grammar text n → ⊥
 
--- two bad lines of a text are one
+-- Where lines m and n are both the first bad one of a text, they are one line.
 abbrev pub BadLineIsOne : Grammar → Type 0
 BadLineIsOne grammar = (text : List ℕ) (m n : ℕ) → IsBadAt grammar text m → IsBadAt grammar text n → m ≡ n

@@ -1,32 +1,35 @@
--- Which lines a script may have: all of them, or those of one job after the other on the root tree: flushes and reads of values
+-- A script may have all lines, or only those of one job after the other on the root tree: flushes and reads of values
 -- and tombstones without stamps, one coordinator, one worker, and jobs of one flush each.
-use Rattle.std.specs.Prelude.{◌≡◌, ℕ, false, List, [], ◌∷◌, None, Bool, true, ⊤}
+use Rattle.std.specs.Prelude.{◌≡◌, false, List, [], ◌∷◌, None, Bool, true, ⊤}
 use Rattle.std.specs.List.{AllByRecursion, list_any}
 use Rattle.row_model.specs.Rows.{Row, is_operand}
 use Rattle.fleet_model.specs.Nodes.{NodeName, L0}
 use Rattle.script_model.specs.Script.{Options, Line, StartCoordinator, StartWorker, FlushRows, ReadKey, SubmitJob, Poll, ClaimJobs, FinishJob, Dump, IsInBounds, Grammar}
 
+-- The line sets the options.
 abbrev pub is_options : Line → Bool
-is_options (Options timeout concurrent slots ranges table_size moves) = true
+is_options (Options timeout concurrent slots ranges table_size moves retention) = true
 is_options _ = false
 
--- all lines; options may stand as the first line only
+-- Every kind of line that is defined here may stand. Options may stand as the first line only.
 abbrev pub full_grammar : Grammar
 full_grammar before line = IsInBounds line × (is_options line ≡ true → before ≡ [])
 
+-- The row is a value or a tombstone, and has no stamp.
 pub record IsPlain (r : Row) : Type 0 where
   pub no_operand : is_operand r ≡ false
   pub created : r.created ≡ None
   pub expires : r.expires ≡ None
 
+-- There is one source, and it is a flush.
 abbrev pub IsOneFlush : List NodeName → Type 0
 IsOneFlush (L0 name ∷ []) = ⊤
 IsOneFlush _ = ⊥
 
--- the root's lines, of coordinator 1 and worker 1
+-- The line names no segment but the root, no coordinator but 1, and no worker but 1.
 abbrev pub IsOfOneJob : Line → Type 0
 IsOfOneJob (StartCoordinator n) = n ≡ 1
-IsOfOneJob (StartWorker n) = n ≡ 1
+IsOfOneJob (StartWorker n release) = (n ≡ 1) × (release ≡ None)
 IsOfOneJob (FlushRows name segment floor tick rows) = (segment ≡ []) × AllByRecursion IsPlain rows
 IsOfOneJob (ReadKey segment key seq now) = segment ≡ []
 IsOfOneJob (SubmitJob segment destination sources) = (segment ≡ []) × IsOneFlush sources
@@ -36,19 +39,22 @@ IsOfOneJob (FinishJob n job) = n ≡ 1
 IsOfOneJob (Dump segment node) = segment ≡ []
 IsOfOneJob _ = ⊥
 
+-- The line starts a coordinator.
 abbrev pub starts_coordinator : Line → Bool
 starts_coordinator (StartCoordinator n) = true
 starts_coordinator _ = false
 
+-- The line starts a worker.
 abbrev pub starts_worker : Line → Bool
-starts_worker (StartWorker n) = true
+starts_worker (StartWorker n release) = true
 starts_worker _ = false
 
--- each party is started once
+-- No party is started twice.
 abbrev pub IsNoSecondStart : List Line → Line → Type 0
 IsNoSecondStart before (StartCoordinator n) = list_any starts_coordinator before ≡ false
-IsNoSecondStart before (StartWorker n) = list_any starts_worker before ≡ false
+IsNoSecondStart before (StartWorker n release) = list_any starts_worker before ≡ false
 IsNoSecondStart before _ = ⊤
 
+-- Lines of the root, of one coordinator and of one worker may stand, and each party is started once.
 abbrev pub job_grammar : Grammar
 job_grammar before line = IsInBounds line × IsOfOneJob line × IsNoSecondStart before line

@@ -1,50 +1,52 @@
--- The lines that start and end parties.
-use Rattle.std.specs.Prelude.{ℕ, ◌+◌, Bool, true, false, max, List, [], ◌∷◌, ◌++◌, is_some, codes, decimal}
-use Rattle.fleet_model.specs.History.{Party, Coordinator, Worker, GetManifest, GetRecords, Start, Kill, ManifestEpoch, RecordsEpoch}
-use Rattle.fleet_model.specs.Store.{Store, stored_jobs, records_epoch}
-use Rattle.fleet_model.specs.Parties.{coordinator_with, worker_with, without_coordinator, without_worker, with_coordinator, with_worker}
-use Rattle.fleet_model.specs.Exchanges.{Exchange, PutsManifest, PutsRecords, records_version}
+-- These lines start and end parties.
+use Rattle.std.specs.Prelude.{ℕ, ◌==◌, Bool, true, false, if◌then◌else◌, List, [], ◌∷◌, ◌++◌, Option, Some, None, is_some, codes, decimal}
+use Rattle.fleet_model.specs.Jobs.{Release, One, Two}
+use Rattle.fleet_model.specs.History.{Party, Coordinator, Worker, Event, Start, Kill}
+use Rattle.fleet_model.specs.Parties.{Parties, coordinator_with, worker_with, without_coordinator, without_worker, with_coordinator, with_worker}
+use Rattle.step_model.specs.Course.{Ends, calls_each}
+use Rattle.step_model.specs.StepEnds.{StepEnd, Reports}
+use Rattle.step_model.specs.PollSteps.{start}
 use Rattle.script_model.specs.Replies.{reply, ok}
-use Rattle.script_model.specs.Effects.{only_replies, call, no_such_party, if_some, Effect}
+use Rattle.script_model.specs.LineRuns.{LineCourse, no_such_party, if_some, noted_line, line_end}
 use Rattle.script_model.specs.States.{State}
 
--- a live party of the name is killed first
-abbrev pub killed_first : Bool → Party → List Exchange
-killed_first true party = call (Kill party) ∷ []
+-- A live party of the name is killed first.
+abbrev pub killed_first : Bool → Party → List Event
+killed_first true party = Kill party ∷ []
 killed_first false party = []
 
-abbrev pub next_epoch : Store → ℕ
-next_epoch store = max store.manifest.epoch (records_epoch store.records) + 1
+-- A start that put its epoch is noted.
+abbrev pub start_notes : ℕ → StepEnd ℕ → List Event
+start_notes n (Reports epoch) = Start (Coordinator n) ∷ []
+start_notes n _ = []
 
-unfoldable pub start_coordinator : ℕ → State → Effect
+-- A coordinator does its first step, and is live from then on.
+abbrev pub start_coordinator : ℕ → State → LineCourse
 start_coordinator n s =
-    let epoch = next_epoch s.store in
     let others = without_coordinator n s.parties in
-    record {
-      party = Coordinator n;
-      calls = killed_first (is_some (coordinator_with n s.parties)) (Coordinator n)
-          ++ call GetManifest ∷ call GetRecords
-          ∷ PutsManifest s.store.manifest.version (ManifestEpoch epoch) (record s.store.manifest { epoch = epoch })
-          ∷ PutsRecords (records_version s.store.records) (RecordsEpoch epoch) epoch (stored_jobs s.store)
-          ∷ call GetManifest ∷ call GetRecords ∷ call (Start (Coordinator n)) ∷ [];
-      reply = reply (codes "ok" ∷ codes "epoch" ∷ decimal epoch ∷ []);
-      parties = with_coordinator (record { number = n; epoch = epoch }) s.parties;
-      struck = others;
-    }
+    noted_line (Coordinator n) (calls_each (killed_first (is_some (coordinator_with n s.parties)) (Coordinator n)) start) (start_notes n)
+    (line_end (λ epoch. reply (codes "ok" ∷ codes "epoch" ∷ decimal epoch ∷ [])) (λ epoch. with_coordinator (record { number = n; epoch = epoch }) s.parties) others)
+    others
 
-unfoldable pub start_worker : ℕ → State → Effect
-start_worker n s = record {
-  party = Worker n;
-  calls = killed_first (is_some (worker_with n s.parties)) (Worker n) ++ call (Start (Worker n)) ∷ [];
-  reply = ok;
-  parties = with_worker (record { number = n; attempts = [] }) s.parties;
-  struck = s.parties;
-}
+-- The line makes these notes, and leaves these parties live.
+abbrev pub only_notes : Party → List Event → State → Parties → LineCourse
+only_notes party notes s parties = record { party = party; course = calls_each notes (Ends (record { reply = ok; parties = parties })); struck = s.parties }
 
-unfoldable pub end_coordinator : ℕ → State → Effect
-end_coordinator n s = if_some (coordinator_with n s.parties) (only_replies (Coordinator n) s no_such_party) (λ c.
-    record { party = Coordinator n; calls = call (Kill (Coordinator n)) ∷ []; reply = ok; parties = without_coordinator n s.parties; struck = s.parties })
+-- A worker that is started without a release is of the second one.
+abbrev pub release_of : Option ℕ → Release
+release_of None = Two
+release_of (Some release) = if release == 1 then One else Two
 
-unfoldable pub kill_worker : ℕ → State → Effect
-kill_worker n s = if_some (worker_with n s.parties) (only_replies (Worker n) s no_such_party) (λ w.
-    record { party = Worker n; calls = call (Kill (Worker n)) ∷ []; reply = ok; parties = without_worker n s.parties; struck = s.parties })
+-- A worker starts with no attempt.
+abbrev pub start_worker : ℕ → Option ℕ → State → LineCourse
+start_worker n release s =
+    only_notes (Worker n) (killed_first (is_some (worker_with n s.parties)) (Worker n) ++ Start (Worker n) ∷ []) s
+    (with_worker (record { number = n; release = release_of release; attempts = [] }) s.parties)
+
+-- A coordinator that is killed or stopped leaves the stored objects as they are.
+abbrev pub end_coordinator : ℕ → State → LineCourse
+end_coordinator n s = if_some (coordinator_with n s.parties) (no_such_party s) (λ c. only_notes (Coordinator n) (Kill (Coordinator n) ∷ []) s (without_coordinator n s.parties))
+
+-- A worker that is killed leaves the stored objects as they are.
+abbrev pub kill_worker : ℕ → State → LineCourse
+kill_worker n s = if_some (worker_with n s.parties) (no_such_party s) (λ w. only_notes (Worker n) (Kill (Worker n) ∷ []) s (without_worker n s.parties))

@@ -1,77 +1,58 @@
--- The lines by which a worker claims jobs, sends heartbeats and stops.
-use Rattle.std.specs.Prelude.{ℕ, List, [], ◌∷◌, ◌++◌, map, filter, flat_map, Option, Some, None, codes}
-use Rattle.fleet_model.specs.Jobs.{Job, ids, Context}
-use Rattle.fleet_model.specs.History.{Worker, GetManifest, GetRecords, Plan, Kill, Claim, Beat, Release}
-use Rattle.fleet_model.specs.Records.{Unrecorded}
-use Rattle.fleet_model.specs.Store.{stored_jobs}
-use Rattle.fleet_model.specs.Parties.{Attempt, LiveWorker, Parties, worker_with, without_worker, with_worker, attempt_at, attempt_jobs, without_attempts, with_attempts, named, live_attempts, not_owned, is_live}
-use Rattle.fleet_model.specs.Trees.{tables_now}
-use Rattle.fleet_model.specs.Claims.{stopped_jobs, claimed_jobs, claimed_attempt}
-use Rattle.fleet_model.specs.Exchanges.{Exchange}
-use Rattle.script_model.specs.Replies.{reply, jobs_text, claim_reply, beat_reply}
-use Rattle.script_model.specs.Effects.{only_replies, plain, if_any, call, no_such_party, if_some, Effect, puts_change}
-use Rattle.script_model.specs.States.{State}
+-- With these lines a worker claims jobs, sends heartbeats, writes tables, finishes jobs and stops.
+use Rattle.std.specs.Prelude.{ℕ, List, [], ◌∷◌, Option, codes}
+use Rattle.row_model.specs.Ranges.{Range}
+use Rattle.fleet_model.specs.History.{Worker, Kill}
+use Rattle.fleet_model.specs.Parties.{Attempt, LiveWorker, Parties, worker_with, without_worker, with_worker, without_attempts}
+use Rattle.step_model.specs.Course.{Course}
+use Rattle.step_model.specs.StepEnds.{StepEnd}
+use Rattle.step_model.specs.ClaimSteps.{WorkerOptions, claim}
+use Rattle.step_model.specs.BeatSteps.{heartbeat, release_all}
+use Rattle.step_model.specs.OutputSteps.{output, finish}
+use Rattle.script_model.specs.Replies.{reply, jobs_text, claim_reply, beat_reply, output_reply, ranges_text}
+use Rattle.script_model.specs.LineRuns.{LineCourse, no_such_party, if_some, step_line, noted_line, line_end}
+use Rattle.script_model.specs.States.{Inputs, State, FleetOptions}
 
-abbrev pub with_worker_attempts : LiveWorker → List Attempt → Parties → Parties
-with_worker_attempts w attempts parties = with_worker (record w { attempts = attempts }) parties
+-- The line is done where its worker is live.
+abbrev pub at_worker : ℕ → State → (LiveWorker → LineCourse) → LineCourse
+at_worker n s act = if_some (worker_with n s.parties) (no_such_party s) act
 
--- a line of a worker, which a fault ends
-abbrev pub worker_effect : LiveWorker → State → List Exchange → List ℕ → List Attempt → Effect
-worker_effect w s calls answer attempts = record {
-  party = Worker w.number;
-  calls = calls;
-  reply = answer;
-  parties = with_worker_attempts w attempts s.parties;
-  struck = without_worker w.number s.parties;
-}
+-- A worker goes by these of the options.
+abbrev pub worker_options : FleetOptions → WorkerOptions
+worker_options o = record { slots = o.slots; most_ranges = o.ranges; table_size = o.table_size; retention = o.retention }
 
-abbrev pub at_worker : ℕ → State → (LiveWorker → Effect) → Effect
-at_worker n s act = if_some (worker_with n s.parties) (only_replies (Worker n) s no_such_party) act
+-- The worker runs these attempts from then on.
+abbrev pub running : LiveWorker → State → List Attempt → Parties
+running w s attempts = with_worker (record w { attempts = attempts }) s.parties
 
--- a job without a published context is planned now, and its ranges are noted
-abbrev pub planned_note : Job → Attempt → List Exchange
-planned_note job a = if_some job.context (call (Plan a.job a.number (map (λ r. r.0) a.context.ranges)) ∷ []) (λ context. [])
+-- After a step its worker runs the attempts that the step reports. After a refusal it runs these. Where a call is
+-- struck, it is no longer live.
+abbrev pub worker_line : {A : Type 0} → LiveWorker → State → Course (StepEnd A) → (A → List ℕ) → (A → List Attempt) → List Attempt → LineCourse
+worker_line w s step told reported refused = step_line (Worker w.number) step (line_end told (λ report. running w s (reported report)) (running w s refused)) (without_worker w.number s.parties)
 
-unfoldable pub claim : ℕ → State → Effect
-claim n s = at_worker n s (λ w.
-    let jobs = stored_jobs s.store in
-    let claimed = claimed_jobs s.options.slots w jobs in
-    let stopped = ids (stopped_jobs w jobs) in
-    let of_job : Job → Attempt = claimed_attempt s.store.manifest s.options.ranges s.store.tables in
-    let new = map of_job claimed in
-    worker_effect w s
-    (call GetRecords ∷ if_any new (puts_change s (plain s) (Claim n (named new)) ∷ call GetManifest ∷ flat_map (λ job. planned_note job (of_job job)) claimed))
-    (claim_reply new stopped)
-    (with_attempts new (without_attempts stopped w.attempts)))
+-- A worker claims jobs.
+abbrev pub claim_line : ℕ → State → LineCourse
+claim_line n s = at_worker n s (λ w. worker_line w s (claim (worker_options s.options) s.moment w) (λ r. claim_reply r.begun r.stopped) (λ r. r.attempts) w.attempts)
 
-abbrev pub published_by : List Attempt → ℕ → Option Context
-published_by attempts job = if_some (attempt_at job attempts) None (λ a. Some a.context)
+-- A worker sends a heartbeat.
+abbrev pub heartbeat_line : ℕ → State → LineCourse
+heartbeat_line n s = at_worker n s (λ w. worker_line w s (heartbeat s.moment w) (λ r. beat_reply r.beat r.not_owner) (λ r. r.attempts) w.attempts)
 
-unfoldable pub heartbeat : ℕ → State → Effect
-heartbeat n s = at_worker n s (λ w.
-    let live = live_attempts (stored_jobs s.store) w in
-    let lost = not_owned (stored_jobs s.store) w in
-    let unrecorded : Unrecorded = record { moment = s.moment; published = published_by live; tables_of = tables_now s.store.manifest.trees } in
-    worker_effect w s
-    (if_any w.attempts (call GetRecords ∷ if_any live (puts_change s unrecorded (Beat n (named live)) ∷ [])))
-    (beat_reply (attempt_jobs live) (attempt_jobs lost))
-    live)
-
--- the records are got, and the live attempts, if there are any, given back
-abbrev pub release_calls : State → ℕ → List Attempt → List Exchange
-release_calls s n live = call GetRecords ∷ if_any live (puts_change s (plain s) (Release n (named live)) ∷ [])
-
-unfoldable pub stop_worker : ℕ → State → Effect
+-- A worker that stops gives its live attempts back.
+abbrev pub stop_worker : ℕ → State → LineCourse
 stop_worker n s = at_worker n s (λ w.
-    let live = live_attempts (stored_jobs s.store) w in
-    record {
-      party = Worker n;
-      calls = if_any w.attempts (release_calls s n live) ++ call (Kill (Worker n)) ∷ [];
-      reply = reply (codes "ok" ∷ codes "released" ∷ jobs_text (attempt_jobs live) ∷ []);
-      parties = without_worker n s.parties;
-      struck = without_worker n s.parties;
-    })
+    let others = without_worker n s.parties in
+    noted_line (Worker n) (release_all w) (λ end. Kill (Worker n) ∷ []) (line_end (λ jobs. reply (codes "ok" ∷ codes "released" ∷ jobs_text jobs ∷ [])) (λ jobs. others) others) others)
 
--- the attempt, where it is live
-abbrev pub live_among : State → LiveWorker → Attempt → List Attempt
-live_among s w a = filter (is_live (stored_jobs s.store) w.number) (a ∷ [])
+-- These attempts are left to the worker without that one.
+abbrev pub dropped : LiveWorker → Attempt → List Attempt
+dropped w a = without_attempts (a.job ∷ []) w.attempts
+
+-- The worker writes the next rows of a range, or the operator refuses with this message.
+abbrev pub output_line : Inputs → State → LiveWorker → Attempt → ℕ → Range × List ℕ → ℕ → Option (List ℕ) → LineCourse
+output_line inputs s w a place range rows refusal =
+    worker_line w s (output inputs.merge s.store.tables s.moment w a place range rows refusal) (λ r. output_reply r.table) (λ r. r.attempts) (dropped w a)
+
+-- The worker writes all that is left of each range and ends the job, or the operator refuses with this message.
+abbrev pub finish_line : Inputs → State → LiveWorker → Attempt → Option (List ℕ) → LineCourse
+finish_line inputs s w a refusal =
+    worker_line w s (finish inputs.merge s.store.tables (worker_options s.options) s.moment w a refusal) (λ r. reply (codes "ok" ∷ ranges_text r.outputs ∷ [])) (λ r. r.attempts) (dropped w a)

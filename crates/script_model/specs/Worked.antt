@@ -1,4 +1,4 @@
--- A script as it is typed, each line with the reply that it is given, and what it is that a fleet gives these replies.
+-- A worked script is a conversation: each line as it is typed, with the reply that it is given.
 use Rattle.std.specs.Prelude.{◌≡◌, ℕ, List, [], ◌∷◌, ◌++◌, map}
 use Rattle.std.specs.List.{concat}
 use Rattle.script_model.specs.Script.{Line, IsScript}
@@ -7,17 +7,19 @@ use Rattle.script_model.specs.States.{Inputs, State, fresh_state}
 use Rattle.script_model.specs.Defaults.{default_options}
 use Rattle.script_model.specs.Follows.{ScriptRun}
 
--- each line and its reply, without their newlines
+-- Each line stands with its reply, without their newlines.
 abbrev pub Conversation : Type 0
 Conversation = List (List ℕ × List ℕ)
 
+-- A newline follows the text.
 abbrev pub newline : List ℕ → List ℕ
 newline text = text ++ 10 ∷ []
 
--- the text that is typed
+-- The lines are typed, one after the other.
 abbrev pub typed : Conversation → List ℕ
 typed conversation = concat (map (λ said. newline said.0) conversation)
 
+-- These replies are given.
 abbrev pub replies : Conversation → List (List ℕ)
 replies conversation = map (λ said. newline said.1) conversation
 
@@ -28,7 +30,7 @@ pub record MayReply (inputs : Inputs) (conversation : Conversation) : Type 0 whe
   pub last : State
   pub run : ScriptRun inputs 1 (fresh_state default_options) lines (replies conversation) last
 
--- And it can give no others.
+-- What is typed is a script, and a fresh fleet with the default options gives exactly these replies.
 pub record MustReply (inputs : Inputs) (conversation : Conversation) : Type 0 where
   pub may : MayReply inputs conversation
   pub only : (answers : List (List ℕ)) (end : State) → ScriptRun inputs 1 (fresh_state default_options) may.lines answers end → answers ≡ replies conversation

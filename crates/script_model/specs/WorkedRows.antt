@@ -1,9 +1,9 @@
--- What rows read as, before and after they are compacted, and which flushes are refused.
+-- These scripts show how rows read before and after they are compacted, and which flushes are refused.
 use Rattle.std.specs.Prelude.{[], ◌∷◌, codes}
 use Rattle.script_model.specs.Worked.{Conversation}
 
--- A tombstone above two values is compacted into the last run under the floor 3: reads from the floor on answer as before, the
--- oldest version is gone, and a read below the floor is refused.
+-- A tombstone above two values is compacted into the last run under the floor 3: reads from the floor on answer as
+-- before, the oldest version is gone, and a read below the horizon is refused.
 abbrev pub deleted_key : Conversation
 deleted_key =
     (codes "flush 1 - 3 0 61:t:-:4:-:-,61:v:7631:2:-:-,61:v:7630:1:-:-", codes "ok")
@@ -80,7 +80,7 @@ no_resurrection =
     ∷ (codes "full 73", codes "invalidcompaction")
     ∷ []
 
--- Each reason for which a flush is refused, and a read of a moment below the tick.
+-- A flush is refused for each reason that there is, and a read of a moment below the tick is refused.
 abbrev pub refused_flushes : Conversation
 refused_flushes =
     (codes "flush 5 - 3 7 62:v:76:9:-:-", codes "ok")
@@ -91,7 +91,7 @@ refused_flushes =
     ∷ (codes "flush 6 - 2 7 62:v:76:10:-:-", codes "badflush floor")
     ∷ (codes "flush 6 - 3 6 62:v:76:10:-:-", codes "badflush tick")
     ∷ (codes "flush 6 - 3 7 62:v:76:10:-:-", codes "ok")
-    ∷ (codes "read - 62 9 6", codes "notretained 3 7")
+    ∷ (codes "read - 62 9 6", codes "notretained 0 7")
     ∷ []
 
 -- A flush whose answer is a fault uses its name up, whether its put of the manifest is lost or stands.

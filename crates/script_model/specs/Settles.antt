@@ -1,0 +1,80 @@
+-- A settle line runs a fleet until nothing is left to do, in rounds of a poll, a claim and finishes. Each of these is
+-- done as a line of its own would do it.
+use Rattle.std.specs.Prelude.{◌≡◌, ℕ, zero, suc, ◌+◌, Bool, true, false, ◌&&◌, nat_eq, List, [], ◌∷◌, map, Option, Some, is_some, codes, decimal}
+use Rattle.std.specs.List.{list_any, starts_with}
+use Rattle.fleet_model.specs.Jobs.{number_of, is_active}
+use Rattle.fleet_model.specs.History.{Coordinator, Event, PutRecords, Polled}
+use Rattle.fleet_model.specs.Gates.{is_nonempty}
+use Rattle.fleet_model.specs.Store.{stored_jobs}
+use Rattle.fleet_model.specs.Parties.{coordinator_with, worker_with, attempt_jobs}
+use Rattle.step_model.specs.Entries.{last_event}
+use Rattle.script_model.specs.Script.{Line, Poll, ClaimJobs, FinishJob}
+use Rattle.script_model.specs.Replies.{reply}
+use Rattle.script_model.specs.States.{Inputs, State}
+use Rattle.script_model.specs.LineRuns.{if_some}
+use Rattle.script_model.specs.LineSteps.{OneCourse}
+
+-- A reply that begins with ok refuses nothing.
+abbrev pub is_ok : List ℕ → Bool
+is_ok answer = starts_with nat_eq answer (codes "ok")
+
+-- A settle line asks that its coordinator and its worker are live.
+abbrev pub are_live : ℕ → ℕ → State → Bool
+are_live coordinator worker s = is_some (coordinator_with coordinator s.parties) && is_some (worker_with worker s.parties)
+
+-- A stored job is active.
+abbrev pub has_active : State → Bool
+has_active s = list_any is_active (stored_jobs s.store)
+
+-- The put of a poll names new jobs.
+abbrev pub is_adding : Option Event → Bool
+is_adding (Some (PutRecords (Polled change))) = is_nonempty change.added
+is_adding _ = false
+
+-- The last thing that the coordinator did was a put of the records that names new jobs. So the poll that led to this
+-- state added a job.
+abbrev pub has_added : ℕ → State → Bool
+has_added coordinator s = is_adding (last_event (Coordinator coordinator) s.store.history)
+
+-- The worker runs the jobs of these numbers, in the order of their ids.
+abbrev pub jobs_run : ℕ → State → List ℕ
+jobs_run worker s = if_some (worker_with worker s.parties) [] (λ w. map number_of (attempt_jobs w.attempts))
+
+-- The reply of a line that settled names the round.
+abbrev pub settled : ℕ → List ℕ
+settled round = reply (codes "ok" ∷ codes "settled" ∷ decimal round ∷ [])
+
+-- The reply of a line that took all its rounds names their number.
+abbrev pub all_taken : ℕ → List ℕ
+all_taken rounds = reply (codes "ok" ∷ codes "rounds" ∷ decimal rounds ∷ [])
+
+-- A refusal of a step is the line's reply and ends it. After any other reply the rest follows.
+abbrev pub EndsOr : Bool → List ℕ → State → List ℕ → State → Type 0 → Type 0
+EndsOr true told behind answer new rest = rest
+EndsOr false told behind answer new rest = (answer ≡ told) × (new ≡ behind)
+
+-- A step does what a line of its own would do, and the rest follows from the state after it.
+pub record Step (inputs : Inputs) (number : ℕ) (line : Line) (old : State) (answer : List ℕ) (new : State) (Rest : State → Type 0) : Type 0 where
+  pub told : List ℕ
+  pub behind : State
+  pub does : OneCourse inputs number old line told behind
+  pub rest : EndsOr (is_ok told) told behind answer new (Rest behind)
+
+-- The jobs are finished one after the other.
+abbrev pub Finishes : Inputs → ℕ → ℕ → List ℕ → State → List ℕ → State → (State → Type 0) → Type 0
+Finishes inputs number worker [] s answer new Rest = Rest s
+Finishes inputs number worker (job ∷ jobs) s answer new Rest = Step inputs number (FinishJob worker job) s answer new (λ behind. Finishes inputs number worker jobs behind answer new Rest)
+
+-- After the poll of a round the worker claims jobs and finishes what it runs, where a job is active. Where none is, the
+-- line is settled if the poll added no job, and else the next round follows.
+abbrev pub BehindPoll : (active added : Bool) → Inputs → ℕ → ℕ → ℕ → State → List ℕ → State → (State → Type 0) → Type 0
+BehindPoll true added inputs number worker round s answer new Next = Step inputs number (ClaimJobs worker) s answer new (λ claimed. Finishes inputs number worker (jobs_run worker claimed) claimed answer new Next)
+BehindPoll false true inputs number worker round s answer new Next = Next s
+BehindPoll false false inputs number worker round s answer new Next = (answer ≡ settled round) × (new ≡ s)
+
+-- The rounds that are left follow those that were taken. Where none is left, the line replies how many were taken.
+abbrev pub Rounds : Inputs → ℕ → ℕ → ℕ → (left taken : ℕ) → State → List ℕ → State → Type 0
+Rounds inputs number coordinator worker zero taken s answer new = (answer ≡ all_taken taken) × (new ≡ s)
+Rounds inputs number coordinator worker (suc left) taken s answer new =
+    Step inputs number (Poll coordinator) s answer new (λ behind.
+    BehindPoll (has_active behind) (has_added coordinator behind) inputs number worker (taken + 1) behind answer new (λ next. Rounds inputs number coordinator worker left (taken + 1) next answer new))

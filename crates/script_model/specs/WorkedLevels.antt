@@ -1,0 +1,112 @@
+-- These scripts show how a fleet with a levelled scheduler settles.
+use Rattle.std.specs.Prelude.{◌≡◌, ℕ, true, false, List, [], ◌∷◌, map, codes, Some, None}
+use Rattle.fleet_model.specs.Nodes.{Run, Node}
+use Rattle.fleet_model.specs.Jobs.{JobSpec}
+use Rattle.fleet_model.specs.Store.{fresh_store}
+use Rattle.fleet_model.specs.Handles.{Handle}
+use Rattle.fleet_model.specs.Scheduler.{View}
+use Rattle.fleet_model.specs.Levels.{LevelOptions, level_picks, is_within}
+use Rattle.script_model.specs.Worked.{Conversation}
+
+-- The newest run may have 20 bytes, the next one 40, and so on; the last one has no limit.
+abbrev pub levels : LevelOptions
+levels = record { l0_trigger = 2; base = 20; ratio = 2 }
+
+-- A run, given by its id and its size, has one table of that size.
+abbrev pub run_of_one : ℕ × ℕ → Node
+run_of_one run = record { name = Run run.0; flushes = []; pieces = run.0 ∷ [] }
+
+-- The table of a run of one table has this handle.
+abbrev pub handle_of_one : ℕ × ℕ → Handle
+handle_of_one run = record { id = run.0; first_key = codes "a"; last_key = codes "a"; last_seq = 1; rows = 1; size = run.1; blocks = [] }
+
+-- A scheduler is shown these runs of the root, newest first, and no jobs.
+abbrev pub view_of_runs : List (ℕ × ℕ) → View
+view_of_runs runs = record {
+  manifest = record fresh_store.manifest { trees = record { prefix = []; tree = map run_of_one runs; last_seq = None; watermark = None } ∷ [] };
+  records_version = 1;
+  records_epoch = 1;
+  jobs = [];
+  handles = map handle_of_one runs;
+}
+
+-- A job takes one run into the next.
+abbrev pub pair_job : ℕ → ℕ → JobSpec
+pair_job run next = record { segment = []; sources = Run run ∷ Run next ∷ []; destination = Some next }
+
+-- Two of these runs are above their sizes.
+abbrev pub runs_above : List (ℕ × ℕ)
+runs_above = (3, 50) ∷ (2, 10) ∷ (1, 100) ∷ (0, 5) ∷ []
+
+-- Each of these runs is within its size.
+abbrev pub runs_within : List (ℕ × ℕ)
+runs_within = (3, 20) ∷ (2, 40) ∷ (1, 80) ∷ (0, 500) ∷ []
+
+-- Two of four runs are above their sizes and each goes into the next one; where all are within them nothing is picked.
+pub record LevelsArePicked : Type 0 where
+  pub pairs : level_picks levels 4 (view_of_runs runs_above) ≡ pair_job 3 2 ∷ pair_job 1 0 ∷ []
+  pub one_slot : level_picks levels 1 (view_of_runs runs_above) ≡ pair_job 3 2 ∷ []
+  pub nothing : level_picks levels 4 (view_of_runs runs_within) ≡ []
+  pub above : is_within levels (map handle_of_one runs_above) (map run_of_one runs_above) ≡ false
+  pub within : is_within levels (map handle_of_one runs_within) (map run_of_one runs_within) ≡ true
+
+-- Flushes are compacted until a poll finds nothing to do. A settle line of one round, whose poll adds a job, does not
+-- settle, and the next one does.
+abbrev pub settled_levels : Conversation
+settled_levels =
+    (codes "flush 1 - 0 0 61:v:31:1:-:-", codes "ok")
+    ∷ (codes "flush 2 - 0 0 61:v:32:2:-:-", codes "ok")
+    ∷ (codes "start coordinator 1", codes "ok epoch 1")
+    ∷ (codes "start worker 1", codes "ok")
+    ∷ (codes "settle 1 1 10", codes "ok settled 2")
+    ∷ (codes "trees", codes "ok -:r0")
+    ∷ (codes "flush 3 - 0 0 61:v:33:3:-:-", codes "ok")
+    ∷ (codes "flush 4 - 0 0 62:v:34:4:-:-", codes "ok")
+    ∷ (codes "poll 1", codes "ok freed - done - lost - added 2 dropped - open 2 moved - drained - bad -")
+    ∷ (codes "claim 1", codes "ok claimed 2.1:-|- stopped -")
+    ∷ (codes "finish 1 2", codes "ok t2|t3")
+    ∷ (codes "poll 1", codes "ok freed - done 2 lost - added - dropped - open - moved - drained - bad -")
+    ∷ (codes "flush 5 - 0 0 61:v:35:5:-:-", codes "ok")
+    ∷ (codes "poll 1", codes "ok freed - done - lost - added - dropped - open - moved - drained - bad -")
+    ∷ (codes "flush 6 - 0 0 61:v:36:6:-:-", codes "ok")
+    ∷ (codes "settle 1 1 1", codes "ok rounds 1")
+    ∷ (codes "settle 1 1 1", codes "ok settled 1")
+    ∷ (codes "trees", codes "ok -:r1,r0")
+    ∷ []
+
+-- A round whose poll moves a job at once does not settle, since that poll added a job.
+abbrev pub settled_moves : Conversation
+settled_moves =
+    (codes "options 60000 4 4 4 268435456 1", codes "ok")
+    ∷ (codes "flush 1 - 0 0 61:v:31:1:-:-", codes "ok")
+    ∷ (codes "flush 2 - 0 0 62:v:32:2:-:-", codes "ok")
+    ∷ (codes "start coordinator 1", codes "ok epoch 1")
+    ∷ (codes "start worker 1", codes "ok")
+    ∷ (codes "settle 1 1 1", codes "ok rounds 1")
+    ∷ (codes "settle 1 1 1", codes "ok settled 1")
+    ∷ (codes "trees", codes "ok -:r0")
+    ∷ []
+
+-- A claim that is struck ends a settle line with storefault, and its worker is no longer live. Once the job is stale, a
+-- new worker finishes it in a later settle line.
+abbrev pub struck_settle : Conversation
+struck_settle =
+    (codes "flush 1 - 0 0 61:v:31:1:-:-", codes "ok")
+    ∷ (codes "flush 2 - 0 0 61:v:32:2:-:-", codes "ok")
+    ∷ (codes "start coordinator 1", codes "ok epoch 1")
+    ∷ (codes "start worker 1", codes "ok")
+    ∷ (codes "fault 6 lost", codes "ok")
+    ∷ (codes "settle 1 1 10", codes "storefault")
+    ∷ (codes "jobs", codes "ok 1:running:1:w1:-")
+    ∷ (codes "settle 1 1 10", codes "nosuchparty")
+    ∷ (codes "start worker 1", codes "ok")
+    ∷ (codes "clock 60001", codes "ok")
+    ∷ (codes "settle 1 1 10", codes "ok settled 2")
+    ∷ (codes "trees", codes "ok -:r0")
+    ∷ []
+
+-- A settle line whose parties are not live is refused.
+abbrev pub settled_by_nobody : Conversation
+settled_by_nobody =
+    (codes "settle 1 1 1", codes "nosuchparty")
+    ∷ []

@@ -1,0 +1,91 @@
+-- A worker claims jobs by this step.
+use Rattle.std.specs.Prelude.{ℕ, zero, suc, ◌+◌, not, ◌&&◌, Bool, List, [], ◌∷◌, map, filter, flat_map, Option, Some, None, bytes_eq}
+use Rattle.std.specs.List.{list_all}
+use Rattle.fleet_model.specs.Nodes.{names_contain, names, tree_at}
+use Rattle.fleet_model.specs.Jobs.{Context, Job, Jobs, ids}
+use Rattle.fleet_model.specs.History.{Event, GetManifest, Plan, Claim}
+use Rattle.fleet_model.specs.Store.{Manifest, Records}
+use Rattle.fleet_model.specs.Trees.{source_pieces}
+use Rattle.fleet_model.specs.Records.{Unrecorded, no_contexts, jobs_after}
+use Rattle.fleet_model.specs.Attempts.{ClaimInput}
+use Rattle.fleet_model.specs.Parties.{Attempt, LiveWorker, without_attempts, with_attempts}
+use Rattle.fleet_model.specs.Claims.{stopped_jobs, claimed_jobs, claimed_attempt}
+use Rattle.fleet_model.specs.Exchanges.{Plain}
+use Rattle.step_model.specs.Course.{Course, Ends, Calls, gets_records, calls_each, puts_records}
+use Rattle.step_model.specs.StepEnds.{StepEnd, Reports, GivesUp, most_refused}
+
+-- A worker goes by these options.
+pub record WorkerOptions : Type 0 where
+  pub slots : ℕ  -- the most attempts that it runs
+  pub most_ranges : ℕ  -- of a job
+  pub table_size : ℕ  -- a table ends with the row with which it exceeds this, in bytes
+  pub retention : ℕ  -- in milliseconds
+
+-- A change of the records takes a moment, and nothing else that the history does not tell.
+abbrev pub at_moment : ℕ → Unrecorded
+at_moment moment = record { moment = moment; published = no_contexts; kept_cut = None; tables_of = λ spec. [] }
+
+-- A claim reports the attempts that it began, the jobs that it stopped, the jobs that it claimed and did not start, and
+-- the attempts that the worker runs now.
+pub record Claimed : Type 0 where
+  pub begun : List Attempt
+  pub stopped : List ℕ
+  pub released : List ℕ
+  pub attempts : List Attempt
+
+-- The job's sources stand in the manifest with the tables that the job keeps.
+abbrev pub can_start : Manifest → Job → Bool
+can_start manifest job =
+    let tree = tree_at job.spec.segment manifest.trees in
+    list_all (names_contain (names tree)) job.spec.sources && bytes_eq (source_pieces job.spec.sources tree) job.source_tables
+
+-- A job without a context is planned as it starts, and its ranges are noted.
+abbrev pub plan_of : ClaimInput → Job → List Event
+plan_of input job = by (claimed_attempt input job) job.context
+  where
+    by : Attempt → Option Context → List Event
+    by a None = Plan a.job a.number (map (λ range. range.0) a.context.ranges) ∷ []
+    by a (Some context) = []
+
+-- The claimed jobs start under the manifest that is got after the put.
+abbrev pub starts_claimed : ClaimInput → LiveWorker → Jobs → List ℕ → Course (StepEnd Claimed)
+starts_claimed input w claimed stopped =
+    let started = filter (can_start input.manifest) claimed in
+    let begun = map (claimed_attempt input) started in
+    calls_each (flat_map (plan_of input) started) (Ends (Reports (record {
+      begun = begun;
+      stopped = stopped;
+      released = ids (filter (λ job. not (can_start input.manifest job)) claimed);
+      attempts = with_attempts begun (without_attempts stopped w.attempts);
+    })))
+
+-- Claimed jobs, if there are any, are put, and start after a get of the manifest.
+abbrev pub claim_of : WorkerOptions → ℕ → LiveWorker → Records → Jobs → List ℕ → (ℕ → Course (StepEnd Claimed)) → Course (StepEnd Claimed)
+claim_of options moment w got [] stopped again = Ends (Reports (record { begun = []; stopped = stopped; released = []; attempts = without_attempts stopped w.attempts }))
+claim_of options moment w got (job ∷ jobs) stopped again =
+    let change = Claim w.number (map (λ job. (job.id, job.attempt + 1)) (job ∷ jobs)) in
+    puts_records got change got.epoch (jobs_after (at_moment moment) change got.jobs)
+    (Calls (Plain GetManifest) (λ met. starts_claimed (record {
+      release = w.release;
+      manifest = met.manifest;
+      moment = moment;
+      retention = options.retention;
+      most = options.most_ranges;
+      tables = met.tables;
+    }) w (job ∷ jobs) stopped))
+    again
+
+-- A claim goes by the records that it got; without records it takes nothing.
+abbrev pub claim_by : WorkerOptions → ℕ → LiveWorker → Option Records → (ℕ → Course (StepEnd Claimed)) → Course (StepEnd Claimed)
+claim_by options moment w None again = Ends (Reports (record { begun = []; stopped = []; released = []; attempts = w.attempts }))
+claim_by options moment w (Some got) again = claim_of options moment w got (claimed_jobs options.slots w got.jobs) (ids (stopped_jobs w got.jobs)) again
+
+-- A claim may be refused so many times more.
+abbrev pub claims_from : WorkerOptions → ℕ → LiveWorker → ℕ → ℕ → Course (StepEnd Claimed)
+claims_from options moment w zero seen = Ends (GivesUp seen)
+claims_from options moment w (suc left) seen = gets_records (λ got. claim_by options moment w got (claims_from options moment w left))
+
+-- A claim takes waiting jobs up to the free slots, stops those that wait though the worker runs them, and starts what
+-- it took.
+unfoldable pub claim : WorkerOptions → ℕ → LiveWorker → Course (StepEnd Claimed)
+claim options moment w = claims_from options moment w most_refused 0

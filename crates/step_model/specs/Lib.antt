@@ -1,0 +1,13 @@
+pub mod Entries
+pub mod Merging
+pub mod Course
+pub mod Alone
+pub mod StepEnds
+pub mod ClaimSteps
+pub mod BeatSteps
+pub mod OutputSteps
+pub mod SubmitSteps
+pub mod PollSteps
+pub mod FlushSteps
+pub mod SweepSteps
+pub mod Worked

@@ -1,0 +1,110 @@
+-- A worker writes one table of a job, and finishes a job, by these steps.
+use Rattle.std.specs.Prelude.{ℕ, zero, suc, ◌-◌, ◌==◌, Bool, true, false, ◌&&◌, if◌then◌else◌, List, [], ◌∷◌, ◌++◌, map, filter, take, Option, Some, None}
+use Rattle.row_model.specs.Rows.{Row}
+use Rattle.row_model.specs.Fold.{Operator}
+use Rattle.row_model.specs.Ranges.{Range, is_after_start, is_before_end}
+use Rattle.row_model.specs.Tables.{cut_tables}
+use Rattle.fleet_model.specs.Nodes.{Tables, table_rows}
+use Rattle.fleet_model.specs.History.{Event, GetTable, Finish}
+use Rattle.fleet_model.specs.Store.{Records}
+use Rattle.fleet_model.specs.Trees.{first_key, last_key}
+use Rattle.fleet_model.specs.Records.{Unrecorded, no_contexts, jobs_after}
+use Rattle.fleet_model.specs.Attempts.{rows_left, finish_cut}
+use Rattle.fleet_model.specs.Parties.{Attempt, LiveWorker, without_attempts, put_attempt, is_live}
+use Rattle.step_model.specs.Course.{Course, Ends, gets_records, calls_each, puts_table, puts_ranges, puts_records}
+use Rattle.step_model.specs.StepEnds.{StepEnd, Reports, GivesUp, NotOwner, OperatorRefuses, most_refused}
+use Rattle.step_model.specs.ClaimSteps.{WorkerOptions}
+use Rattle.step_model.specs.BeatSteps.{releases_from}
+
+-- ---- one table
+
+-- A table from its first to its last key meets the range.
+abbrev pub meets : Tables → Range → ℕ → Bool
+meets tables range table = let rows = table_rows tables table in is_before_end range.to (first_key rows) && is_after_start range.from (last_key [] rows)
+
+-- A table is noted for a range, which is counted from 1.
+abbrev pub noted_at : ℕ → ℕ → List (Range × List ℕ) → List (Range × List ℕ)
+noted_at range table [] = []
+noted_at range table (r ∷ ranges) = if range == 1 then (r.0, r.1 ++ table ∷ []) ∷ ranges else r ∷ noted_at (range - 1) table ranges
+
+-- The attempt goes on with one more table noted.
+abbrev pub with_noted : ℕ → ℕ → Attempt → List Attempt → List Attempt
+with_noted range table a attempts = put_attempt (record a { context = record a.context { ranges = noted_at range table a.context.ranges } }) (without_attempts (a.job ∷ []) attempts)
+
+-- Each of these tables is got.
+abbrev pub gets_tables : List ℕ → List Event
+gets_tables tables = map (λ table. GetTable table) tables
+
+-- An output reports the table that it put, with its rows, or that nothing was left. It also reports the attempts that
+-- the worker runs now.
+pub record Written : Type 0 where
+  pub table : Option (ℕ × List Row)
+  pub attempts : List Attempt
+
+-- Rows, if there are any, are put as a table, which is noted.
+abbrev pub writes : ℕ → LiveWorker → Attempt → ℕ → List Row → Course (StepEnd Written)
+writes moment w a place [] = Ends (Reports (record { table = None; attempts = w.attempts }))
+writes moment w a place (r ∷ rows) = puts_table moment (r ∷ rows) (λ table. Ends (Reports (record { table = Some (table, r ∷ rows); attempts = with_noted place table a w.attempts })))
+
+-- Where the operator refused a fold, the attempt is given back where it is live, and the step answers with the message.
+abbrev pub gives_back : {A : Type 0} → LiveWorker → Attempt → List ℕ → Course (StepEnd A)
+gives_back w a message = releases_from w (a ∷ []) (λ released. Ends (OperatorRefuses message)) most_refused 0
+
+-- An output writes, or gives the attempt back where the operator refused.
+abbrev pub writes_or_gives_back : Operator → ℕ → LiveWorker → Attempt → ℕ → Range × List ℕ → ℕ → Option (List ℕ) → Tables → Course (StepEnd Written)
+writes_or_gives_back merge moment w a place range rows None tables = writes moment w a place (take rows (rows_left merge tables a.context.settings a.sources range).rows)
+writes_or_gives_back merge moment w a place range rows (Some message) tables = gives_back w a message
+
+-- An output gets the source tables that meet its range, and puts the next rows as a table. It is given the store's
+-- tables as the step begins, and, where the operator refuses a fold, the message of that.
+unfoldable pub output : Operator → Tables → ℕ → LiveWorker → Attempt → ℕ → Range × List ℕ → ℕ → Option (List ℕ) → Course (StepEnd Written)
+output merge tables moment w a place range rows refusal =
+    calls_each (gets_tables (filter (meets tables range.0) a.sources)) (writes_or_gives_back merge moment w a place range rows refusal tables)
+
+-- ---- finishes
+
+-- A finish reports the tables of each range, and the attempts that the worker runs now.
+pub record FinishedJob : Type 0 where
+  pub outputs : List (List ℕ)
+  pub attempts : List Attempt
+
+-- The tables of each range are those noted and those put now.
+abbrev pub all_outputs : List (Range × List ℕ) → List (List ℕ) → List (List ℕ)
+all_outputs [] new = []
+all_outputs (r ∷ ranges) [] = r.1 ∷ all_outputs ranges []
+all_outputs (r ∷ ranges) (tables ∷ new) = (r.1 ++ tables) ∷ all_outputs ranges new
+
+-- The job is put as finished where the attempt is live.
+abbrev pub ends_job : ℕ → LiveWorker → Attempt → List (List ℕ) → Records → Bool → (ℕ → Course (StepEnd FinishedJob)) → Course (StepEnd FinishedJob)
+ends_job moment w a outputs got false again = Ends NotOwner
+ends_job moment w a outputs got true again =
+    let change = Finish w.number a.job a.number outputs in
+    let unrecorded : Unrecorded = record { moment = moment; published = no_contexts; kept_cut = finish_cut w.release a.context; tables_of = λ spec. [] } in
+    puts_records got change got.epoch (jobs_after unrecorded change got.jobs)
+    (Ends (Reports (record { outputs = outputs; attempts = without_attempts (a.job ∷ []) w.attempts })))
+    again
+
+-- An end of a job goes by the records that it got.
+abbrev pub ends_job_by : ℕ → LiveWorker → Attempt → List (List ℕ) → Option Records → (ℕ → Course (StepEnd FinishedJob)) → Course (StepEnd FinishedJob)
+ends_job_by moment w a outputs None again = Ends NotOwner
+ends_job_by moment w a outputs (Some got) again = ends_job moment w a outputs got (is_live got.jobs w.number a) again
+
+-- An end of a job may be refused so many times more.
+abbrev pub ends_from : ℕ → LiveWorker → Attempt → List (List ℕ) → ℕ → ℕ → Course (StepEnd FinishedJob)
+ends_from moment w a outputs zero seen = Ends (GivesUp seen)
+ends_from moment w a outputs (suc left) seen = gets_records (λ got. ends_job_by moment w a outputs got (ends_from moment w a outputs left))
+
+-- A job of which all tables are put is ended, where the attempt is live.
+unfoldable pub end_job : ℕ → LiveWorker → Attempt → List (List ℕ) → Course (StepEnd FinishedJob)
+end_job moment w a outputs = ends_from moment w a outputs most_refused 0
+
+-- A finish puts what is left and ends the job, or gives the attempt back where the operator refused.
+abbrev pub finish_or_give_back : Operator → WorkerOptions → ℕ → LiveWorker → Attempt → Option (List ℕ) → Tables → Course (StepEnd FinishedJob)
+finish_or_give_back merge options moment w a None tables =
+    puts_ranges moment (map (λ range. cut_tables options.table_size (rows_left merge tables a.context.settings a.sources range).rows) a.context.ranges)
+    (λ new. end_job moment w a (all_outputs a.context.ranges new))
+finish_or_give_back merge options moment w a (Some message) tables = gives_back w a message
+
+-- A finish gets the source tables, puts all that is left of each range, and ends the job.
+unfoldable pub finish : Operator → Tables → WorkerOptions → ℕ → LiveWorker → Attempt → Option (List ℕ) → Course (StepEnd FinishedJob)
+finish merge tables options moment w a refusal = calls_each (gets_tables a.sources) (finish_or_give_back merge options moment w a refusal tables)

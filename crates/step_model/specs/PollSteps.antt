@@ -1,0 +1,131 @@
+-- A coordinator starts and polls by these steps.
+use Rattle.std.specs.Prelude.{ℕ, zero, suc, ◌+◌, ◌==◌, Bool, ◌&&◌, nat_lt, max, if◌then◌else◌, List, [], Option, Some, None, bytes_eq}
+use Rattle.std.specs.Cmp.Lexicographic.{pointwise}
+use Rattle.fleet_model.specs.Nodes.{Node, Segment, Tables, name_eq}
+use Rattle.fleet_model.specs.Jobs.{JobSpec, Jobs, trimmed}
+use Rattle.fleet_model.specs.History.{GetRecords, ManifestEpoch, Commit, RecordsEpoch, Polled}
+use Rattle.fleet_model.specs.Store.{Manifest, Records, jobs_in, records_epoch}
+use Rattle.fleet_model.specs.Scheduler.{Scheduler}
+use Rattle.fleet_model.specs.PollStates.{PollOptions, PollInput, PollState, begun}
+use Rattle.fleet_model.specs.Polls.{free_stale, commit_finished, proposals, committed, add_drawn, open_submitted, change_of, is_nothing}
+use Rattle.fleet_model.specs.Exchanges.{Plain, PutsRecords, records_version}
+use Rattle.step_model.specs.Course.{Course, Ends, Calls, gets_manifest, gets_records, draws_jobs, puts_manifest, puts_records}
+use Rattle.step_model.specs.StepEnds.{StepEnd, Reports, GivesUp, Fenced, most_refused}
+use Rattle.step_model.specs.Merging.{merged_jobs}
+
+-- ---- start
+
+-- The next epoch is above both stored ones.
+abbrev pub epoch_above : Manifest → Option Records → ℕ
+epoch_above manifest records = max manifest.epoch (records_epoch records) + 1
+
+-- A step goes on unless a stored epoch is above the coordinator's. Then the coordinator is fenced.
+abbrev pub unless_fenced : {A : Type 0} → ℕ → ℕ → Course (StepEnd A) → Course (StepEnd A)
+unless_fenced epoch stored next = if nat_lt epoch stored then Ends (Fenced stored) else next
+
+-- Both objects are got again, so that the coordinator holds them as they are. An epoch above its own ends the start.
+abbrev pub holds_at_start : ℕ → Course (StepEnd ℕ)
+holds_at_start epoch = gets_manifest (λ manifest. gets_records (λ records. unless_fenced epoch (max manifest.epoch (records_epoch records)) (Ends (Reports epoch))))
+
+-- Records that are not there have version 0, epoch 0 and no jobs.
+abbrev pub records_or_none : Option Records → Records
+records_or_none None = record { version = 0; epoch = 0; jobs = [] }
+records_or_none (Some records) = records
+
+-- Where there are no records, a put of them is for version 0.
+abbrev pub puts_epoch : Option Records → ℕ → Course (StepEnd ℕ) → (ℕ → Course (StepEnd ℕ)) → Course (StepEnd ℕ)
+puts_epoch records epoch next again =
+    Calls (PutsRecords (records_version records) (RecordsEpoch epoch) epoch (trimmed (jobs_in records))) (λ met. if records_version records == records_version met.records then next else again (records_version met.records))
+
+-- A start may be refused so many times more, at both puts together.
+abbrev pub starts_from : ℕ → ℕ → Course (StepEnd ℕ)
+starts_from zero seen = Ends (GivesUp seen)
+starts_from (suc left) seen = gets_manifest (λ manifest. gets_records (λ records.
+    let epoch = epoch_above manifest records in
+    puts_manifest manifest.version (ManifestEpoch epoch) (record manifest { epoch = epoch }) (puts_epoch records epoch (holds_at_start epoch) (starts_from left)) (starts_from left)))
+
+-- A coordinator puts an epoch above both stored ones, into the manifest and then into the records, and reports it.
+unfoldable pub start : Course (StepEnd ℕ)
+start = starts_from most_refused 0
+
+-- ---- polls
+
+-- A poll goes by the coordinator's epoch, its options and its moment, and asks the scheduler.
+pub record PollAsk : Type 0 where
+  pub epoch : ℕ
+  pub options : PollOptions
+  pub scheduler : Scheduler
+  pub moment : ℕ  -- in milliseconds
+  pub commits_only : Bool  -- the poll takes its second step alone
+
+-- Two nodes have the same name, flushes and tables.
+abbrev pub node_eq : Node → Node → Bool
+node_eq a b = name_eq a.name b.name && bytes_eq a.flushes b.flushes && bytes_eq a.pieces b.pieces
+
+-- Two segments have the same nodes.
+abbrev pub same_tree : Segment → Segment → Bool
+same_tree a b = pointwise node_eq a.tree b.tree
+
+-- The poll reached the trees and the horizon that it got.
+abbrev pub is_unchanged : Manifest → PollState → Bool
+is_unchanged manifest p = pointwise same_tree manifest.trees p.trees && (manifest.horizon == p.horizon)
+
+-- A poll goes by what it got.
+abbrev pub input_of : PollAsk → Tables → Manifest → Records → PollInput
+input_of ask tables manifest records = record { options = ask.options; scheduler = ask.scheduler; tables = tables; manifest = manifest; records = records; moment = ask.moment }
+
+-- The first steps of a poll free and commit.
+abbrev pub freed_and_committed : PollInput → PollState
+freed_and_committed input = commit_finished input (free_stale input (begun input.manifest.trees input.manifest.horizon input.records.jobs))
+
+-- A poll that commits alone neither frees, adds nor opens.
+abbrev pub first_steps : PollAsk → PollInput → PollState
+first_steps ask input = if ask.commits_only then committed input else freed_and_committed input
+
+-- The scheduler's first proposals up to the capacity become jobs.
+abbrev pub proposed : PollAsk → PollInput → PollState → List JobSpec
+proposed ask input p = if ask.commits_only then [] else proposals input p
+
+-- The last steps of a poll add the proposals and open what was submitted.
+abbrev pub last_steps : PollAsk → PollInput → List (ℕ × JobSpec) → PollState → PollState
+last_steps ask input drawn p = if ask.commits_only then p else open_submitted input (add_drawn 1 drawn p)
+
+-- After a refused put of the records the newer ones are merged into the poll's jobs. A job that the poll freed is then
+-- as the newer records have it, and so the poll frees none.
+abbrev pub merged_into : PollState → Jobs → PollState
+merged_into p jobs = record p { jobs = merged_jobs p.jobs jobs; freed = [] }
+
+-- The records are put where the poll changed jobs. The put may be refused so many times more.
+abbrev pub puts_polled : ℕ → PollState → Records → ℕ → ℕ → Course (StepEnd PollState)
+puts_polled epoch p got zero seen = Ends (GivesUp seen)
+puts_polled epoch p got (suc left) seen =
+    if is_nothing (change_of p) then Ends (Reports p)
+    else puts_records got (Polled (change_of p)) got.epoch (trimmed p.jobs) (Ends (Reports p)) (λ seen.
+    if left == 0 then Ends (GivesUp seen) else gets_records (λ newer.
+    let got = records_or_none newer in
+    unless_fenced epoch got.epoch (puts_polled epoch (merged_into p got.jobs) got left seen)))
+
+-- Where the poll changed the manifest, that is put first, and the records are put after it. A refused put of the
+-- manifest begins the poll again. One that stood begins the count of refused puts again.
+abbrev pub puts_trees : ℕ → PollState → Manifest → Records → ℕ → ℕ → (ℕ → Course (StepEnd PollState)) → Course (StepEnd PollState)
+puts_trees epoch p manifest got left seen again =
+    if is_unchanged manifest p then puts_polled epoch p got left seen
+    else puts_manifest manifest.version (Commit p.steps) (record manifest { trees = p.trees; horizon = p.horizon }) (puts_polled epoch p got most_refused 0) again
+
+-- After the gets an id is drawn for each proposal.
+abbrev pub polls_over : PollAsk → Tables → Manifest → Records → ℕ → ℕ → (ℕ → Course (StepEnd PollState)) → Course (StepEnd PollState)
+polls_over ask tables manifest got left seen again =
+    let input = input_of ask tables manifest got in
+    let p = first_steps ask input in
+    draws_jobs ask.moment (proposed ask input p) (λ drawn. puts_trees ask.epoch (last_steps ask input drawn p) manifest got left seen again)
+
+-- A poll may be refused so many times more.
+abbrev pub polls_from : PollAsk → ℕ → ℕ → Course (StepEnd PollState)
+polls_from ask zero seen = Ends (GivesUp seen)
+polls_from ask (suc left) seen = gets_manifest (λ manifest. unless_fenced ask.epoch manifest.epoch (Calls (Plain GetRecords) (λ met.
+    let got = records_or_none met.records in
+    unless_fenced ask.epoch got.epoch (polls_over ask met.tables manifest got (suc left) seen (polls_from ask left)))))
+
+-- A poll of a coordinator reports what it reached, and how.
+unfoldable pub poll : PollAsk → Course (StepEnd PollState)
+poll ask = polls_from ask most_refused 0

@@ -1,0 +1,84 @@
+-- Steps are run over a store that nobody else calls. It is shown which calls they make, and how these are answered.
+use Rattle.std.specs.Prelude.{◌≡◌, ℕ, true, false, List, [], ◌∷◌, map, Option, Some, None}
+use Rattle.fleet_model.specs.Nodes.{Run}
+use Rattle.fleet_model.specs.Jobs.{Job, Compacted}
+use Rattle.fleet_model.specs.History.{Coordinator, Event, GetManifest, GetRecords, PutManifest, PutRecords, ManifestEpoch, Commit, Join, RecordsEpoch, Polled, Answer, Done, Absent, Stands}
+use Rattle.fleet_model.specs.Store.{Store, fresh_store}
+use Rattle.fleet_model.specs.Scheduler.{default_generate}
+use Rattle.fleet_model.specs.PollStates.{PollState}
+use Rattle.fleet_model.specs.Exchanges.{Fault}
+use Rattle.step_model.specs.StepEnds.{StepEnd, Reports, Fenced}
+use Rattle.step_model.specs.Alone.{AloneEnd, run_alone}
+use Rattle.step_model.specs.PollSteps.{PollAsk, start, poll}
+
+-- The history tells each call with its answer.
+abbrev pub calls_in : Store → List (Event × Answer)
+calls_in store = map (λ entry. (entry.event, entry.answer)) store.history
+
+-- A coordinator starts over a fresh store, where there are no records yet.
+abbrev pub started : AloneEnd (StepEnd ℕ)
+started = run_alone 1 (Coordinator 1) start None fresh_store
+
+-- A start gets both objects, puts its epoch into both, and gets them again.
+pub record Starts (run : AloneEnd (StepEnd ℕ)) : Type 0 where
+  pub calls : calls_in run.store
+      ≡ (GetManifest, Done 1) ∷ (GetRecords, Absent) ∷ (PutManifest (ManifestEpoch 1), Done 2) ∷ (PutRecords (RecordsEpoch 1), Done 1) ∷ (GetManifest, Done 2) ∷ (GetRecords, Done 1) ∷ []
+  pub answer : run.answer ≡ Some (Reports 1)
+
+-- This job compacted an empty run into itself, and waits for its commit.
+abbrev pub finished_job : Job
+finished_job = record {
+  id = 1;
+  spec = record { segment = []; sources = Run 0 ∷ []; destination = Some 0 };
+  status = Compacted;
+  lease = Some (record { worker = 1; heartbeat = 0 });
+  attempt = 1;
+  source_tables = [];
+  context = None;
+  outputs = [] ∷ [];
+  kept_cut = Some 5;
+}
+
+-- A store has that run and that job.
+abbrev pub waiting_store : Store
+waiting_store = record fresh_store {
+  manifest = record fresh_store.manifest {
+    version = 3;
+    epoch = 1;
+    trees = record { prefix = []; tree = record { name = Run 0; flushes = []; pieces = [] } ∷ []; last_seq = None; watermark = None } ∷ [];
+    floor = 5;
+  };
+  records = Some (record { version = 2; epoch = 1; jobs = finished_job ∷ [] });
+}
+
+-- A coordinator of this epoch polls, and its scheduler proposes nothing.
+abbrev pub ask_of : ℕ → PollAsk
+ask_of epoch = record {
+  epoch = epoch;
+  options = record { timeout = 60000; concurrent = 4; moves = false };
+  scheduler = record { propose = λ view. []; validate = λ view spec. true; generate = default_generate };
+  moment = 0;
+  commits_only = false;
+}
+
+-- The poll of a coordinator of this epoch is run over that store.
+abbrev pub polled : ℕ → Option Fault → AloneEnd (StepEnd PollState)
+polled epoch fault = run_alone 1 (Coordinator 1) (poll (ask_of epoch)) fault waiting_store
+
+-- A commit of the waiting job puts the manifest, since the horizon rises though the tree stays, and then the records.
+pub record Commits (run : AloneEnd (StepEnd PollState)) : Type 0 where
+  pub calls : calls_in run.store
+      ≡ (GetManifest, Done 3) ∷ (GetRecords, Done 2) ∷ (PutManifest (Commit (Join 1 ∷ [])), Done 4)
+      ∷ (PutRecords (Polled (record { freed = []; completed = 1 ∷ []; failed = []; added = []; scheduled = [] })), Done 3) ∷ []
+  pub horizon : run.store.manifest.horizon ≡ 5
+
+-- A coordinator of an older epoch is fenced after its first get.
+pub record Fences (run : AloneEnd (StepEnd PollState)) : Type 0 where
+  pub calls : calls_in run.store ≡ (GetManifest, Done 3) ∷ []
+  pub answer : run.answer ≡ Some (Fenced 1)
+
+-- A commit whose third call is struck ends there, and what the call put stands.
+pub record StopsStruck (run : AloneEnd (StepEnd PollState)) : Type 0 where
+  pub calls : calls_in run.store ≡ (GetManifest, Done 3) ∷ (GetRecords, Done 2) ∷ (PutManifest (Commit (Join 1 ∷ [])), Stands) ∷ []
+  pub horizon : run.store.manifest.horizon ≡ 5
+  pub answer : run.answer ≡ None
