@@ -94,6 +94,7 @@ fn settings_of(load: Load) -> Settings {
         floor: load.rows,
         tick: 0,
         last_run: true,
+        cut: load.rows,
     }
 }
 

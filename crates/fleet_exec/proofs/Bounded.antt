@@ -110,28 +110,28 @@ module _ (merge : Operator) (lawful : IsLawful merge) where
       let row : IsInBounds (record g.0 { content = content; created = greatest_created (elements g) }) = record { key = h.0.key; content = content_short (group_base rows) answer content folds made } in
       subst IsInBounds same row
 
-  folded_chunk_bounds : (floor : ℕ) (g : Chunk Row) (x : Row) → AreInBounds (elements g) → folded_chunk merge floor g ≡ Some x → IsInBounds x
-  folded_chunk_bounds floor g x h is = by (opens_group floor g.0) is
+  folded_chunk_bounds : (cut : ℕ) (g : Chunk Row) (x : Row) → AreInBounds (elements g) → folded_chunk merge cut g ≡ Some x → IsInBounds x
+  folded_chunk_bounds cut g x h is = by (opens_group cut g.0) is
     where
       by : (b : Bool) → (if b then group_row merge g else Some g.0) ≡ Some x → IsInBounds x
       by true is = group_bounds g x h is
       by false is = subst IsInBounds (same_Some _ _ is) h.0
 
-  groups_bounds : (floor : ℕ) (gs : List (Chunk Row)) (rows : List Row) → Chunks gs → all_or_none (map (folded_chunk merge floor) gs) ≡ Some rows → AreInBounds rows
-  groups_bounds floor [] rows h is = subst AreInBounds (same_Some _ _ is) tt
-  groups_bounds floor (g ∷ gs) rows h is =
-      let (x, xs, first, later, whole) = both_there (folded_chunk merge floor g) (all_or_none (map (folded_chunk merge floor) gs)) rows is in
-      subst AreInBounds whole (folded_chunk_bounds floor g x h.0 first, groups_bounds floor gs xs h.1 later)
+  groups_bounds : (cut : ℕ) (gs : List (Chunk Row)) (rows : List Row) → Chunks gs → all_or_none (map (folded_chunk merge cut) gs) ≡ Some rows → AreInBounds rows
+  groups_bounds cut [] rows h is = subst AreInBounds (same_Some _ _ is) tt
+  groups_bounds cut (g ∷ gs) rows h is =
+      let (x, xs, first, later, whole) = both_there (folded_chunk merge cut g) (all_or_none (map (folded_chunk merge cut) gs)) rows is in
+      subst AreInBounds whole (folded_chunk_bounds cut g x h.0 first, groups_bounds cut gs xs h.1 later)
 
-  folded_bounds : (floor : ℕ) (rows folded : List Row) → AreInBounds rows → folded_rows merge floor rows ≡ Some folded → AreInBounds folded
-  folded_bounds floor rows folded h is = groups_bounds floor (operand_groups floor rows) folded (chunk_bounds (takes_next floor) rows h) is
+  folded_bounds : (cut : ℕ) (rows folded : List Row) → AreInBounds rows → folded_rows merge cut rows ≡ Some folded → AreInBounds folded
+  folded_bounds cut rows folded h is = groups_bounds cut (operand_groups cut rows) folded (chunk_bounds (takes_next cut) rows h) is
 
   -- ---- key after key
 
   key_bounds : (settings : Settings) (rows kept : List Row) → AreInBounds rows → key_rows merge settings rows ≡ Some kept → AreInBounds kept
   key_bounds settings rows kept h is =
-      let (folded, made, same) = mapped_there (kept_rows settings) (folded_rows merge settings.floor rows) kept is in
-      subst AreInBounds same (all_key_kept IsInBounds bounds_stay settings folded (folded_bounds settings.floor rows folded h made))
+      let (folded, made, same) = mapped_there (kept_rows settings) (folded_rows merge settings.cut rows) kept is in
+      subst AreInBounds same (all_key_kept IsInBounds bounds_stay settings folded (folded_bounds settings.cut rows folded h made))
 
   keys_bounds : (settings : Settings) (gs : List (Chunk Row)) → Chunks gs → AreInBounds (joined_keys (map (λ g. key_rows merge settings (elements g)) gs)).rows
   keys_bounds settings [] h = tt

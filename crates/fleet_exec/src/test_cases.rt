@@ -1,6 +1,6 @@
 // Jobs and what becomes of them: the floor, the tick, whether the last run is written (0 or 1), the sources, a number, and ranges
-// with their cursors. Where they are not of a few rows alone, sources and rows are those of the Rust crate slatedb 0.16.0, cut into
-// tables and ranges.
+// with their cursors. A job's floor here is its cut. Where they are not of a few rows alone, sources and rows are those of the Rust
+// crate slatedb 0.16.0, cut into tables and ranges.
 
 /// Five versions of a key, of 10 bytes each.
 pub(crate) const VERSIONS: &str = "\

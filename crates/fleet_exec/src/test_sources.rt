@@ -65,7 +65,7 @@ pub(crate) fn sources(alloc: Global, text: Option<&str>) -> Result<SourceSet, Sl
     }
 }
 
-/// The floor, the tick, and whether the last run is written.
+/// The floor, which is the cut too, the tick, and whether the last run is written.
 pub(crate) fn settings(
     floor: Option<&str>,
     tick: Option<&str>,
@@ -80,6 +80,7 @@ pub(crate) fn settings(
         floor,
         tick,
         last_run,
+        cut: floor,
     })
 }
 

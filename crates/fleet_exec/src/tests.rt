@@ -267,6 +267,7 @@ fn taken(alloc: Global, pattern: u64) -> Result<String, SlateDBError> {
         floor: 0,
         tick: 0,
         last_run: false,
+        cut: 0,
     };
     let sources = sources(alloc, Some(VERSIONS))?;
     let mut job = job(alloc, settings, Some("*,*,-,-"))?;

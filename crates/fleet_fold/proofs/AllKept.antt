@@ -5,21 +5,20 @@ use Rattle.std.specs.List.{AllByRecursion}
 use Rattle.row_model.specs.Chunks.{Chunk, elements, chunk_by, put_before}
 use Rattle.row_model.specs.Rows.{Row, same_key, is_operand, is_expired, is_tombstone}
 use Rattle.row_model.specs.Settings.{Settings}
-use Rattle.row_model.specs.KeptRows.{kept_rows, retention_walk, as_tombstone_if_expired, without_old_tombstones, before_old_tombstones}
-use Rattle.fleet_fold.specs.Retention.{kept_of_keys}
+use Rattle.row_model.specs.KeptRows.{kept_rows, kept_of_keys, retention_walk, as_tombstone_if_expired, without_old_tombstones, before_old_tombstones}
 
 module _ (P : Row → Type 0) (keeps : (tick : ℤ) (r : Row) → P r → P (as_tombstone_if_expired tick r)) where
   pub all-both : (xs ys : List Row) → AllByRecursion P xs → AllByRecursion P ys → AllByRecursion P (xs ++ ys)
   all-both [] ys h g = g
   all-both (x ∷ xs) ys h g = (h.0, all-both xs ys h.1 g)
 
-  pub all-walk : (floor : ℕ) (tick : ℤ) (rows : List Row) → AllByRecursion P rows → AllByRecursion P (retention_walk floor tick rows)
-  all-walk floor tick [] h = tt
-  all-walk floor tick (r ∷ rows) h = by (is_operand r) (is_expired r tick) (nat_le r.seq floor) (all-walk floor tick rows h.1)
+  pub all-walk : (cut : ℕ) (tick : ℤ) (rows : List Row) → AllByRecursion P rows → AllByRecursion P (retention_walk cut tick rows)
+  all-walk cut tick [] h = tt
+  all-walk cut tick (r ∷ rows) h = by (is_operand r) (is_expired r tick) (nat_le r.seq cut) (all-walk cut tick rows h.1)
     where
-      by : (operand expired ends : Bool) → AllByRecursion P (retention_walk floor tick rows)
-          → AllByRecursion P (if operand then (if expired then retention_walk floor tick rows else r ∷ retention_walk floor tick rows)
-          else (if ends then as_tombstone_if_expired tick r ∷ [] else as_tombstone_if_expired tick r ∷ retention_walk floor tick rows))
+      by : (operand expired ends : Bool) → AllByRecursion P (retention_walk cut tick rows)
+          → AllByRecursion P (if operand then (if expired then retention_walk cut tick rows else r ∷ retention_walk cut tick rows)
+          else (if ends then as_tombstone_if_expired tick r ∷ [] else as_tombstone_if_expired tick r ∷ retention_walk cut tick rows))
       by true true ends rest = rest
       by true false ends rest = (h.0, rest)
       by false expired true rest = (keeps tick r h.0, tt)
@@ -38,11 +37,11 @@ module _ (P : Row → Type 0) (keeps : (tick : ℤ) (r : Row) → P r → P (as_
       by (q ∷ rest) g = (h.0, g)
 
   pub all_key_kept : (settings : Settings) (rows : List Row) → AllByRecursion P rows → AllByRecursion P (kept_rows settings rows)
-  all_key_kept settings rows h = by settings.last_run (all-walk settings.floor settings.tick rows h)
+  all_key_kept settings rows h = by settings.last_run (all-walk settings.cut settings.tick rows h)
     where
-      by : (last : Bool) → AllByRecursion P (retention_walk settings.floor settings.tick rows)
-          → AllByRecursion P (if last then without_old_tombstones (retention_walk settings.floor settings.tick rows) else retention_walk settings.floor settings.tick rows)
-      by true walk = all-stripped (retention_walk settings.floor settings.tick rows) walk
+      by : (last : Bool) → AllByRecursion P (retention_walk settings.cut settings.tick rows)
+          → AllByRecursion P (if last then without_old_tombstones (retention_walk settings.cut settings.tick rows) else retention_walk settings.cut settings.tick rows)
+      by true walk = all-stripped (retention_walk settings.cut settings.tick rows) walk
       by false walk = walk
 
   abbrev pub AllChunks : List (Chunk Row) → Type 0

@@ -10,7 +10,7 @@ use Rattle.row_model.specs.Chunks.{Chunk, elements, chunk_by}
 use Rattle.row_model.specs.Fold.{Operator, IsLawful}
 use Rattle.row_model.specs.FoldedRows.{folded_rows, same_stamp}
 use Rattle.row_model.specs.JobRows.{JobRows, key_rows, joined_keys, job_rows}
-use Rattle.row_model.specs.KeptRows.{kept_rows}
+use Rattle.row_model.specs.KeptRows.{kept_rows, kept_of_keys}
 use Rattle.row_model.specs.Rows.{Row, same_key, is_operand}
 use Rattle.row_model.specs.Settings.{Settings}
 use Rattle.row_laws.proofs.ApartRows.{chunk_by-append}
@@ -19,7 +19,7 @@ use Rattle.row_laws.proofs.KeptReads.{flat, flat-chunk_by}
 use Rattle.fleet_rows.specs.declared.errors.SlateDBError.{SlateDBError}
 use Rattle.fleet_fold.specs.Folded.{Folded, opens, same_group, joining, group_answer, row_of_answer, merged_group, merged_row, folded_behind, before_refusal, up_to_refusal, folded}
 use Rattle.fleet_fold.specs.Jobs.{job_rule, rows_if_whole, FoldsMakeJobs}
-use Rattle.fleet_fold.specs.Retention.{HaveOneKey, AreEndedBy, kept_of_keys}
+use Rattle.fleet_fold.specs.Retention.{HaveOneKey, AreEndedBy}
 use Rattle.fleet_fold.specs.declared.group.GroupRule.{GroupRule}
 use Rattle.fleet_fold.proofs.JobsChunks.{HaveOthers, AreWholeKeys, whole_keys}
 use Rattle.fleet_fold.proofs.JobsOfKey.{folds_one_key}
@@ -152,13 +152,13 @@ job_of rows whole = record { rows = rows; whole = whole }
 
 module _ (merge : Operator) (lawful : IsLawful merge) (settings : Settings) (g : Chunk Row) (gs : List (Chunk Row)) (whole : AreWholeKeys (g ∷ gs)) where
   abbrev here : Folded
-  here = folded merge (job_rule settings.floor) (elements g)
+  here = folded merge (job_rule settings.cut) (elements g)
 
   abbrev later : Folded
-  later = folded merge (job_rule settings.floor) (flat gs)
+  later = folded merge (job_rule settings.cut) (flat gs)
 
-  pub is_model : rows_if_whole here ≡ folded_rows merge settings.floor (elements g)
-  is_model = folds_one_key merge lawful settings.floor g.0.key (elements g) whole.0
+  pub is_model : rows_if_whole here ≡ folded_rows merge settings.cut (elements g)
+  is_model = folds_one_key merge lawful settings.cut g.0.key (elements g) whole.0
 
   apart : AreApart (elements g) (flat gs)
   apart = apart_key g.0.key (elements g) (flat gs) whole.0.keys whole.1
@@ -170,8 +170,8 @@ module _ (merge : Operator) (lawful : IsLawful merge) (settings : Settings) (g :
   pub job_on : here.refusal ≡ None → keys_job merge settings (g ∷ gs) ≡ job_of (kept_rows settings here.rows ++ (keys_job merge settings gs).rows) (keys_job merge settings gs).whole
   job_on none = ap (λ (k : Option (List Row)). joined_keys (k ∷ map (λ g. key_rows merge settings (elements g)) gs)) (made_here none)
 
-  pub folded_on : here.refusal ≡ None → folded merge (job_rule settings.floor) (elements g ++ flat gs) ≡ folded_of (here.rows ++ later.rows) later.refusal
-  folded_on none = folded-append merge (job_rule settings.floor) (elements g) (flat gs) apart none
+  pub folded_on : here.refusal ≡ None → folded merge (job_rule settings.cut) (elements g ++ flat gs) ≡ folded_of (here.rows ++ later.rows) later.refusal
+  folded_on none = folded-append merge (job_rule settings.cut) (elements g) (flat gs) apart none
 
   -- one in which a fold refuses
   pub refused_here : (e : SlateDBError) → here.refusal ≡ Some e → key_rows merge settings (elements g) ≡ None
@@ -180,14 +180,14 @@ module _ (merge : Operator) (lawful : IsLawful merge) (settings : Settings) (g :
   pub job_ends : (e : SlateDBError) → here.refusal ≡ Some e → keys_job merge settings (g ∷ gs) ≡ job_of [] false
   job_ends e some = ap (λ (k : Option (List Row)). joined_keys (k ∷ map (λ g. key_rows merge settings (elements g)) gs)) (refused_here e some)
 
-  pub folded_ends : (e : SlateDBError) → here.refusal ≡ Some e → folded merge (job_rule settings.floor) (elements g ++ flat gs) ≡ here
-  folded_ends e some = folded-refused merge (job_rule settings.floor) (elements g) (flat gs) apart e some
+  pub folded_ends : (e : SlateDBError) → here.refusal ≡ Some e → folded merge (job_rule settings.cut) (elements g ++ flat gs) ≡ here
+  folded_ends e some = folded-refused merge (job_rule settings.cut) (elements g) (flat gs) apart e some
 
   pub here_keys : AllByRecursion (λ r. r.key ≡ g.0.key) here.rows
-  here_keys = folded_keys merge (job_rule settings.floor) (λ k. k ≡ g.0.key) (elements g) whole.0.keys
+  here_keys = folded_keys merge (job_rule settings.cut) (λ k. k ≡ g.0.key) (elements g) whole.0.keys
 
   pub later_keys : HaveOthers g.0.key later.rows
-  later_keys = folded_keys merge (job_rule settings.floor) (λ k. bytes_eq g.0.key k ≡ false) (flat gs) whole.1
+  later_keys = folded_keys merge (job_rule settings.cut) (λ k. bytes_eq g.0.key k ≡ false) (flat gs) whole.1
 
 -- folded rows and a job's rows
 abbrev Agree : Settings → Folded → JobRows → Type 0
@@ -195,7 +195,7 @@ Agree settings f job = (is_none f.refusal ≡ job.whole) × (job.whole ≡ true 
 
 module _ (merge : Operator) (lawful : IsLawful merge) (settings : Settings) where
   abbrev make : List Row → Folded
-  make rows = folded merge (job_rule settings.floor) rows
+  make rows = folded merge (job_rule settings.cut) rows
 
   agree : (gs : List (Chunk Row)) → AreWholeKeys gs → Agree settings (make (flat gs)) (keys_job merge settings gs)
   agree [] whole = (refl, λ _. refl)
@@ -219,6 +219,6 @@ module _ (merge : Operator) (lawful : IsLawful merge) (settings : Settings) wher
 pub folds_make_jobs : (merge : Operator) → IsLawful merge → FoldsMakeJobs merge
 folds_make_jobs merge lawful settings rows ordered =
     let same : flat (chunk_by same_key rows) ≡ rows = flat-chunk_by same_key rows in
-    let both : Agree settings (folded merge (job_rule settings.floor) rows) (job_rows merge settings rows) =
-    subst (λ (xs : List Row). Agree settings (folded merge (job_rule settings.floor) xs) (job_rows merge settings rows)) same (agree merge lawful settings (chunk_by same_key rows) (whole_keys rows ordered)) in
+    let both : Agree settings (folded merge (job_rule settings.cut) rows) (job_rows merge settings rows) =
+    subst (λ (xs : List Row). Agree settings (folded merge (job_rule settings.cut) xs) (job_rows merge settings rows)) same (agree merge lawful settings (chunk_by same_key rows) (whole_keys rows ordered)) in
     record { whole = both.0; kept = both.1 }

@@ -49,7 +49,7 @@ ordered_back (x ∷ xs) ys h = ordered_back xs ys h.1
 
 module _ (merge : Operator) (lawful : IsLawful merge) (settings : Settings) (g : Chunk Row) (gs : List (Chunk Row)) (whole : AreWholeKeys (g ∷ gs)) (ordered : IsStrictlyOrdered (elements g ++ flat gs)) where
   abbrev rule : GroupRule
-  rule = job_rule settings.floor
+  rule = job_rule settings.cut
 
   abbrev all : List Row
   all = elements g ++ flat gs
@@ -203,7 +203,7 @@ module _ (merge : Operator) (lawful : IsLawful merge) (settings : Settings) (g :
       let lower : is_lt (key_cmp key g.0.key) ≡ true = ap is_lt (nat_list_cmp_total.antisymm key g.0.key) ∙ greater_is (key_cmp g.0.key key) above in
       let others : Keys (IsOther key) all = all_weaken (λ q. is_below g.0.key q ≡ false) (λ q. IsOther key q.key) (λ q no. false_or (bytes_eq key q.key) (λ same.
       let clash : false ≡ true = sym no ∙ (ap (λ (k : List ℕ). is_lt (key_cmp k g.0.key)) (sym ((bytes_eq-Decides key q.key).0 same)) ∙ lower) in cc clash)) all own_lower in
-      let clash : Some [] ≡ None = sym (ap (folded_rows merge settings.floor) (of_key-others key all others)) ∙ refused in
+      let clash : Some [] ≡ None = sym (ap (folded_rows merge settings.cut) (of_key-others key all others)) ∙ refused in
       cc clash)
 
   refused_later : (key : List ℕ) → here.refusal ≡ None → refuses key all → refuses key (flat gs)
@@ -221,12 +221,12 @@ module _ (merge : Operator) (lawful : IsLawful merge) (settings : Settings) (g :
           let that : rows_of_key key all ≡ elements g =
           split ∙ (ap (λ (rows : List Row). rows ++ rows_of_key key (flat gs)) (of_key-all key (elements g) (own true e))
           ∙ (ap (λ (rows : List Row). elements g ++ rows) (of_key-others key (flat gs) others) ∙ append-nil (elements g))) in
-          let model : Some here.rows ≡ folded_rows merge settings.floor (elements g) =
+          let model : Some here.rows ≡ folded_rows merge settings.cut (elements g) =
           ap (λ (e : Option SlateDBError). if is_none e then Some here.rows else None) (sym none) ∙ is_model merge lawful settings g gs whole in
-          let clash : Some here.rows ≡ None = model ∙ (ap (folded_rows merge settings.floor) (sym that) ∙ refused) in
+          let clash : Some here.rows ≡ None = model ∙ (ap (folded_rows merge settings.cut) (sym that) ∙ refused) in
           absurd (cc clash)
       by false e =
-          ap (folded_rows merge settings.floor) (sym (split ∙ ap (λ (rows : List Row). rows ++ rows_of_key key (flat gs)) (of_key-others key (elements g) (own false e)))) ∙ refused
+          ap (folded_rows merge settings.cut) (sym (split ∙ ap (λ (rows : List Row). rows ++ rows_of_key key (flat gs)) (of_key-others key (elements g) (own false e)))) ∙ refused
 
   pub up_to_on : (key : List ℕ) → refuses key all → (refuses key (flat gs) → AllByRecursion (IsNotAbove key) later.rows) → AllByRecursion (IsNotAbove key) (folded merge rule all).rows
   up_to_on key refused rest = by here.refusal refl
@@ -242,7 +242,7 @@ module _ (merge : Operator) (lawful : IsLawful merge) (settings : Settings) (g :
 
 module _ (merge : Operator) (lawful : IsLawful merge) (settings : Settings) where
   abbrev made : List Row → List Row
-  made rows = (folded merge (job_rule settings.floor) rows).rows
+  made rows = (folded merge (job_rule settings.cut) rows).rows
 
   begin : (gs : List (Chunk Row)) → AreWholeKeys gs → IsStrictlyOrdered (flat gs) → IsPrefixOf (kept_given settings false (made (flat gs))) (keys_job merge settings gs).rows
   begin [] whole ordered = ([], refl)

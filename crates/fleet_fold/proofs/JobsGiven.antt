@@ -23,7 +23,7 @@ use Rattle.fleet_rows.specs.declared.errors.SlateDBError.{SlateDBError}
 
 module _ (merge : Operator) (lawful : IsLawful merge) (settings : Settings) (inner : IteratorState) (all : inner.whole ≡ true) (ordered : IsStrictlyOrdered inner.rows) where
   abbrev S : IteratorState
-  S = retained false settings [] None (merging false merge (job_rule settings.floor) None inner)
+  S = retained false settings [] None (merging false merge (job_rule settings.cut) None inner)
 
   makes : MakesJob merge settings inner.rows
   makes = folds_make_jobs merge lawful settings inner.rows ordered
@@ -32,21 +32,21 @@ module _ (merge : Operator) (lawful : IsLawful merge) (settings : Settings) (inn
   starts = folds_begin_jobs merge lawful settings inner.rows ordered
 
   whole : S.whole ≡ (job_rows merge settings inner.rows).whole
-  whole = ap (λ b. b && is_none (folded merge (job_rule settings.floor) inner.rows).refusal) all ∙ makes.whole
+  whole = ap (λ b. b && is_none (folded merge (job_rule settings.cut) inner.rows).refusal) all ∙ makes.whole
 
   made : S.whole ≡ true → S.rows ≡ (job_rows merge settings inner.rows).rows
-  made is = ap (λ b. kept_given settings b (folded merge (job_rule settings.floor) inner.rows).rows) is ∙ makes.kept (sym whole ∙ is)
+  made is = ap (λ b. kept_given settings b (folded merge (job_rule settings.cut) inner.rows).rows) is ∙ makes.kept (sym whole ∙ is)
 
   begins : (b : Bool) → S.whole ≡ b → IsPrefixOf S.rows (job_rows merge settings inner.rows).rows
   begins true is = ([], append-nil S.rows ∙ made is)
-  begins false is = subst (λ b. IsPrefixOf (kept_given settings b (folded merge (job_rule settings.floor) inner.rows).rows) (job_rows merge settings inner.rows).rows) (sym is) starts.begins
+  begins false is = subst (λ b. IsPrefixOf (kept_given settings b (folded merge (job_rule settings.cut) inner.rows).rows) (job_rows merge settings inner.rows).rows) (sym is) starts.begins
 
-  told : (refusal : Option SlateDBError) → (folded merge (job_rule settings.floor) inner.rows).refusal ≡ refusal → S.whole ≡ false → (e : SlateDBError) × ((S.refusal ≡ Some e) × IsOfOperator merge inner.rows e)
+  told : (refusal : Option SlateDBError) → (folded merge (job_rule settings.cut) inner.rows).refusal ≡ refusal → S.whole ≡ false → (e : SlateDBError) × ((S.refusal ≡ Some e) × IsOfOperator merge inner.rows e)
   told None none is =
-      let clash : true ≡ false = sym (ap (λ b. b && is_none (folded merge (job_rule settings.floor) inner.rows).refusal) all ∙ ap is_none none) ∙ is in
+      let clash : true ≡ false = sym (ap (λ b. b && is_none (folded merge (job_rule settings.cut) inner.rows).refusal) all ∙ ap is_none none) ∙ is in
       absurd (cc clash)
   told (Some e) some is =
-      (e, (ap (λ b. if b then (folded merge (job_rule settings.floor) inner.rows).refusal else None) all ∙ some, refuses_by_operator merge settings.floor inner.rows e ordered some))
+      (e, (ap (λ b. if b then (folded merge (job_rule settings.cut) inner.rows).refusal else None) all ∙ some, refuses_by_operator merge settings.cut inner.rows e ordered some))
 
   pub gives_job : GivesJob merge settings inner.rows S
   gives_job = record {
@@ -55,12 +55,12 @@ module _ (merge : Operator) (lawful : IsLawful merge) (settings : Settings) (inn
     begins = begins S.whole refl;
     reaches = λ is. subst
         (λ (b : Bool). (key : List ℕ) → (job_rows merge settings (filter (is_below key) inner.rows)).whole ≡ true
-        → AllByRecursion (λ r. is_below key r ≡ true → IsPrefixOf (job_rows merge settings (filter (is_below r.key) inner.rows)).rows (kept_given settings b (folded merge (job_rule settings.floor) inner.rows).rows)) inner.rows)
+        → AllByRecursion (λ r. is_below key r ≡ true → IsPrefixOf (job_rows merge settings (filter (is_below r.key) inner.rows)).rows (kept_given settings b (folded merge (job_rule settings.cut) inner.rows).rows)) inner.rows)
         (sym is) starts.reaches;
-    refusal = λ is. told (folded merge (job_rule settings.floor) inner.rows).refusal refl is;
+    refusal = λ is. told (folded merge (job_rule settings.cut) inner.rows).refusal refl is;
   }
 
 pub keeps_reads : (merge : Operator) → IsLawful merge → JobsKeepReads merge
-keeps_reads merge lawful settings rows s ordered gives is key seq now above below floor tick last =
-    jobs_keep_reads merge lawful settings rows ordered (sym gives.whole ∙ is) key seq now above below floor tick last
+keeps_reads merge lawful settings rows s ordered gives is key seq now above below cut tick last =
+    jobs_keep_reads merge lawful settings rows ordered (sym gives.whole ∙ is) key seq now above below cut tick last
     ∙ ap (λ (w : List Row). read merge key seq now (above ++ (rows_of_key key w ++ below))) (sym (gives.all is))

@@ -20,20 +20,20 @@ use Rattle.fleet_fold.proofs.JobsGroups.{merged_is_row}
 
 -- ---- the rows that join a group, of rows of one key
 
-module _ (floor : ℕ) where
-  joining_taken : (r : Row) (rows : List Row) → AllByRecursion (λ q. q.key ≡ r.key) rows → joining (job_rule floor) r rows ≡ taken r.expires rows
+module _ (cut : ℕ) where
+  joining_taken : (r : Row) (rows : List Row) → AllByRecursion (λ q. q.key ≡ r.key) rows → joining (job_rule cut) r rows ≡ taken r.expires rows
   joining_taken r [] keys = refl
   joining_taken r (q ∷ rows) keys =
       ap (λ (others : List Row). if bytes_eq r.key q.key && same_stamp r.expires q.expires then q ∷ (if is_operand q then others else []) else []) (joining_taken r rows keys.1)
       ∙ ap (λ (b : Bool). if b && same_stamp r.expires q.expires then q ∷ (if is_operand q then taken r.expires rows else []) else []) ((bytes_eq-Decides r.key q.key).1 (sym keys.0))
 
-  behind_left : (merge : Operator) (stamp : Option ℤ) (rows : List Row) → folded_behind merge (job_rule floor) (length (taken stamp rows)) rows ≡ folded_behind merge (job_rule floor) 0 (left stamp rows)
+  behind_left : (merge : Operator) (stamp : Option ℤ) (rows : List Row) → folded_behind merge (job_rule cut) (length (taken stamp rows)) rows ≡ folded_behind merge (job_rule cut) 0 (left stamp rows)
   behind_left merge stamp [] = refl
   behind_left merge stamp (q ∷ rows) = by (same_stamp stamp q.expires) (is_operand q) (behind_left merge stamp rows)
     where
-      by : (same operand : Bool) → folded_behind merge (job_rule floor) (length (taken stamp rows)) rows ≡ folded_behind merge (job_rule floor) 0 (left stamp rows)
-          → folded_behind merge (job_rule floor) (length (if same then q ∷ (if operand then taken stamp rows else []) else [])) (q ∷ rows)
-          ≡ folded_behind merge (job_rule floor) 0 (if same then (if operand then left stamp rows else rows) else q ∷ rows)
+      by : (same operand : Bool) → folded_behind merge (job_rule cut) (length (taken stamp rows)) rows ≡ folded_behind merge (job_rule cut) 0 (left stamp rows)
+          → folded_behind merge (job_rule cut) (length (if same then q ∷ (if operand then taken stamp rows else []) else [])) (q ∷ rows)
+          ≡ folded_behind merge (job_rule cut) 0 (if same then (if operand then left stamp rows else rows) else q ∷ rows)
       by true true rest = rest
       by true false rest = refl
       by false operand rest = refl
@@ -69,48 +69,48 @@ module _ (stamp : Option ℤ) where
 
 -- ---- group after group
 
-module _ (merge : Operator) (lawful : IsLawful merge) (floor : ℕ) where
+module _ (merge : Operator) (lawful : IsLawful merge) (cut : ℕ) where
   abbrev answers : List Row → List (Result Row SlateDBError)
-  answers rows = folded_behind merge (job_rule floor) 0 rows
+  answers rows = folded_behind merge (job_rule cut) 0 rows
 
   abbrev IsFolded : List Row → Type 0
-  IsFolded rows = map result_ok (answers rows) ≡ map (folded_chunk merge floor) (operand_groups floor rows)
+  IsFolded rows = map result_ok (answers rows) ≡ map (folded_chunk merge cut) (operand_groups cut rows)
 
-  first_opens : (r : Row) (rows : List Row) → opens_group floor r ≡ true → IsFalling (r ∷ rows) → AllByRecursion (λ q. q.key ≡ r.key) rows → IsFolded (left r.expires rows) → IsFolded (r ∷ rows)
+  first_opens : (r : Row) (rows : List Row) → opens_group cut r ≡ true → IsFalling (r ∷ rows) → AllByRecursion (λ q. q.key ≡ r.key) rows → IsFolded (left r.expires rows) → IsFolded (r ∷ rows)
   first_opens r rows opened falling keys rest =
-      let rule = job_rule floor in
+      let rule = job_rule cut in
       let stamp = r.expires in
       let others = left stamp rows in
       ap (λ (b : Bool). map result_ok (if b then merged_group merge (r, joining rule r rows) ∷ folded_behind merge rule (length (joining rule r rows)) rows else Ok r ∷ answers rows)) opened
-      ∙ (ap (λ (xs : List Row). map result_ok (merged_group merge (r, xs) ∷ folded_behind merge rule (length xs) rows)) (joining_taken floor r rows keys)
-      ∙ (ap (λ (later : List (Result Row SlateDBError)). map result_ok (merged_group merge (r, taken stamp rows) ∷ later)) (behind_left floor merge stamp rows)
+      ∙ (ap (λ (xs : List Row). map result_ok (merged_group merge (r, xs) ∷ folded_behind merge rule (length xs) rows)) (joining_taken cut r rows keys)
+      ∙ (ap (λ (later : List (Result Row SlateDBError)). map result_ok (merged_group merge (r, taken stamp rows) ∷ later)) (behind_left cut merge stamp rows)
       ∙ (ap (λ (o : Option Row). o ∷ map result_ok (answers others)) (merged_is_row merge lawful r rows (and_left (is_operand r) _ opened) falling.0)
       ∙ (ap (λ (later : List (Option Row)). group_row merge (r, taken stamp rows) ∷ later) rest
-      ∙ (ap (λ (b : Bool). (if b then group_row merge (r, taken stamp rows) else Some r) ∷ map (folded_chunk merge floor) (operand_groups floor others)) (sym opened)
-      ∙ sym (ap (map (folded_chunk merge floor)) (groups_are_walked floor r rows falling
-      ∙ ap (λ (b : Bool). if b then (r, taken stamp rows) ∷ operand_groups floor others else (r, []) ∷ operand_groups floor rows) opened)))))))
+      ∙ (ap (λ (b : Bool). (if b then group_row merge (r, taken stamp rows) else Some r) ∷ map (folded_chunk merge cut) (operand_groups cut others)) (sym opened)
+      ∙ sym (ap (map (folded_chunk merge cut)) (groups_are_walked cut r rows falling
+      ∙ ap (λ (b : Bool). if b then (r, taken stamp rows) ∷ operand_groups cut others else (r, []) ∷ operand_groups cut rows) opened)))))))
 
-  first_passes : (r : Row) (rows : List Row) → opens_group floor r ≡ false → IsFalling (r ∷ rows) → IsFolded rows → IsFolded (r ∷ rows)
+  first_passes : (r : Row) (rows : List Row) → opens_group cut r ≡ false → IsFalling (r ∷ rows) → IsFolded rows → IsFolded (r ∷ rows)
   first_passes r rows closed falling rest =
-      let rule = job_rule floor in
+      let rule = job_rule cut in
       let stamp = r.expires in
       let others = left stamp rows in
       ap (λ (b : Bool). map result_ok (if b then merged_group merge (r, joining rule r rows) ∷ folded_behind merge rule (length (joining rule r rows)) rows else Ok r ∷ answers rows)) closed
       ∙ (ap (λ (later : List (Option Row)). Some r ∷ later) rest
-      ∙ (ap (λ (b : Bool). (if b then group_row merge (r, []) else Some r) ∷ map (folded_chunk merge floor) (operand_groups floor rows)) (sym closed)
-      ∙ sym (ap (map (folded_chunk merge floor)) (groups_are_walked floor r rows falling
-      ∙ ap (λ (b : Bool). if b then (r, taken stamp rows) ∷ operand_groups floor others else (r, []) ∷ operand_groups floor rows) closed))))
+      ∙ (ap (λ (b : Bool). (if b then group_row merge (r, []) else Some r) ∷ map (folded_chunk merge cut) (operand_groups cut rows)) (sym closed)
+      ∙ sym (ap (map (folded_chunk merge cut)) (groups_are_walked cut r rows falling
+      ∙ ap (λ (b : Bool). if b then (r, taken stamp rows) ∷ operand_groups cut others else (r, []) ∷ operand_groups cut rows) closed))))
 
   of_key : (fuel : ℕ) (key : List ℕ) (rows : List Row) → length rows ≤ fuel → IsFalling rows → AllByRecursion (λ r. r.key ≡ key) rows → IsFolded rows
   of_key fuel key [] short falling keys = refl
   of_key zero key (r ∷ rows) short falling keys = absurd (omega arith)
   of_key (suc fuel) key (r ∷ rows) short falling keys =
       let shorter = left_shorter r.expires rows in
-      by (opens_group floor r) refl
+      by (opens_group cut r) refl
       (of_key fuel key (left r.expires rows) (omega arith) (left_falls r.expires rows falling.1) (left_all r.expires (λ q. q.key ≡ key) rows keys.1))
       (of_key fuel key rows (omega arith) falling.1 keys.1)
     where
-      by : (b : Bool) → opens_group floor r ≡ b → IsFolded (left r.expires rows) → IsFolded rows → IsFolded (r ∷ rows)
+      by : (b : Bool) → opens_group cut r ≡ b → IsFolded (left r.expires rows) → IsFolded rows → IsFolded (r ∷ rows)
       by true opened behind rest = first_opens r rows opened falling (all_weaken (λ q. q.key ≡ key) (λ q. q.key ≡ r.key) (λ q h. h ∙ sym keys.0) rows keys.1) behind
       by false closed behind rest = first_passes r rows closed falling rest
 
@@ -129,5 +129,5 @@ whole_ok (Err e ∷ others) = refl
 whole_ok (Ok r ∷ others) = whole_first r (up_to_refusal others) ∙ ap (cons_both (Some r)) (whole_ok others)
 
 pub folds_one_key : (merge : Operator) → IsLawful merge → FoldsOneKey merge
-folds_one_key merge lawful floor key rows of =
-    whole_ok (folded_behind merge (job_rule floor) 0 rows) ∙ ap all_or_none (of_key merge lawful floor (length rows) key rows (omega arith) of.falling of.keys)
+folds_one_key merge lawful cut key rows of =
+    whole_ok (folded_behind merge (job_rule cut) 0 rows) ∙ ap all_or_none (of_key merge lawful cut (length rows) key rows (omega arith) of.falling of.keys)

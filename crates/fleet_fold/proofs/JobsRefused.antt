@@ -219,8 +219,8 @@ module _ (merge : Operator) (rule : GroupRule) where
       by false closed behind rest is = found_behind r rows e (rest is)
 
 pub refuses_by_operator : (merge : Operator) → RefusesByOperator merge
-refuses_by_operator merge floor rows e sorted is =
-    let (key, among, called) = behind_found merge (job_rule floor) 0 rows e sorted is in
+refuses_by_operator merge cut rows e sorted is =
+    let (key, among, called) = behind_found merge (job_rule cut) 0 rows e sorted is in
     let (message, same, call) = called in
     let (existing, operand, refused) = call in
     record { message = message; same = same; key = key; among = among; existing = existing; operand = operand; refused = refused }

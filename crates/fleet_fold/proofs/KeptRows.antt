@@ -11,24 +11,24 @@ use Rattle.fleet_fold.specs.Retention.{is_dropped, ends_walk}
 
 -- ---- one row of the walk
 
-pub walk-dropped : (floor : ℕ) (tick : ℤ) (r : Row) (rows : List Row) → is_dropped tick r ≡ true → retention_walk floor tick (r ∷ rows) ≡ retention_walk floor tick rows
-walk-dropped floor tick r rows h = by (is_operand r) (is_expired r tick) h
+pub walk-dropped : (cut : ℕ) (tick : ℤ) (r : Row) (rows : List Row) → is_dropped tick r ≡ true → retention_walk cut tick (r ∷ rows) ≡ retention_walk cut tick rows
+walk-dropped cut tick r rows h = by (is_operand r) (is_expired r tick) h
   where
     by : (operand expired : Bool) → operand && expired ≡ true
-        → cond operand (cond expired (retention_walk floor tick rows) (r ∷ retention_walk floor tick rows)) (cond (nat_le r.seq floor) (as_tombstone_if_expired tick r ∷ []) (as_tombstone_if_expired tick r ∷ retention_walk floor tick rows)) ≡ retention_walk floor tick rows
+        → cond operand (cond expired (retention_walk cut tick rows) (r ∷ retention_walk cut tick rows)) (cond (nat_le r.seq cut) (as_tombstone_if_expired tick r ∷ []) (as_tombstone_if_expired tick r ∷ retention_walk cut tick rows)) ≡ retention_walk cut tick rows
     by true true h = refl
     by true false h = absurd (cc h)
     by false expired h = absurd (cc h)
 
-pub walk-kept : (floor : ℕ) (tick : ℤ) (r : Row) (rows : List Row) → is_dropped tick r ≡ false
-    → retention_walk floor tick (r ∷ rows) ≡ as_tombstone_if_expired tick r ∷ (if ends_walk floor r then [] else retention_walk floor tick rows)
-walk-kept floor tick r rows h = by (is_operand r) (is_expired r tick) refl (nat_le r.seq floor) h
+pub walk-kept : (cut : ℕ) (tick : ℤ) (r : Row) (rows : List Row) → is_dropped tick r ≡ false
+    → retention_walk cut tick (r ∷ rows) ≡ as_tombstone_if_expired tick r ∷ (if ends_walk cut r then [] else retention_walk cut tick rows)
+walk-kept cut tick r rows h = by (is_operand r) (is_expired r tick) refl (nat_le r.seq cut) h
   where
     by : (operand expired : Bool) → is_expired r tick ≡ expired → (low : Bool) → operand && expired ≡ false
-        → cond operand (cond expired (retention_walk floor tick rows) (r ∷ retention_walk floor tick rows)) (cond low (as_tombstone_if_expired tick r ∷ []) (as_tombstone_if_expired tick r ∷ retention_walk floor tick rows))
-        ≡ as_tombstone_if_expired tick r ∷ cond (not operand && low) [] (retention_walk floor tick rows)
+        → cond operand (cond expired (retention_walk cut tick rows) (r ∷ retention_walk cut tick rows)) (cond low (as_tombstone_if_expired tick r ∷ []) (as_tombstone_if_expired tick r ∷ retention_walk cut tick rows))
+        ≡ as_tombstone_if_expired tick r ∷ cond (not operand && low) [] (retention_walk cut tick rows)
     by true true e low h = absurd (cc h)
-    by true false e low h = ap (λ b. cond b (record r { content = Tombstone; expires = None }) r ∷ retention_walk floor tick rows) (sym e)
+    by true false e low h = ap (λ b. cond b (record r { content = Tombstone; expires = None }) r ∷ retention_walk cut tick rows) (sym e)
     by false expired e true h = refl
     by false expired e false h = refl
 
@@ -37,26 +37,26 @@ pub turned : (xs ys : List RowEntry) (o : Option RowEntry) (row : RowEntry) → 
 turned xs ys o row f e =
     ap (λ (w : List RowEntry). rows_of (reverse w)) (f ∙ ap (λ (z : Option RowEntry). ys ++ option_to_list z) e) ∙ ap (λ (w : List RowEntry). rows_of w) (reverse-append ys (row ∷ []))
 
-module _ (floor : ℕ) (tick : ℤ) where
+module _ (cut : ℕ) (tick : ℤ) where
   -- an expired operand is passed over
   pub passed_over : (kept xs ys : List RowEntry) (o : Option RowEntry) (row : RowEntry) (whole : List Row) → is_dropped tick (row_of row) ≡ true → xs ≡ ys ++ option_to_list o → o ≡ Some row
-      → rows_of kept ++ retention_walk floor tick (rows_of (reverse xs)) ≡ whole → rows_of kept ++ retention_walk floor tick (rows_of (reverse ys)) ≡ whole
+      → rows_of kept ++ retention_walk cut tick (rows_of (reverse xs)) ≡ whole → rows_of kept ++ retention_walk cut tick (rows_of (reverse ys)) ≡ whole
   passed_over kept xs ys o row whole drops f e so_far =
-      ap (λ (w : List Row). rows_of kept ++ w) (sym (ap (retention_walk floor tick) (turned xs ys o row f e) ∙ walk-dropped floor tick (row_of row) (rows_of (reverse ys)) drops)) ∙ so_far
+      ap (λ (w : List Row). rows_of kept ++ w) (sym (ap (retention_walk cut tick) (turned xs ys o row f e) ∙ walk-dropped cut tick (row_of row) (rows_of (reverse ys)) drops)) ∙ so_far
 
   -- a kept row stands behind those before it
   pub more_kept : (kept all xs ys : List RowEntry) (o : Option RowEntry) (row given : RowEntry) (whole : List Row) (b : Bool) → is_dropped tick (row_of row) ≡ false
-      → row_of given ≡ as_tombstone_if_expired tick (row_of row) → all ≡ kept ++ given ∷ [] → xs ≡ ys ++ option_to_list o → o ≡ Some row → ends_walk floor (row_of row) ≡ b
-      → rows_of kept ++ retention_walk floor tick (rows_of (reverse xs)) ≡ whole
-      → rows_of all ++ (if b then [] else retention_walk floor tick (rows_of (reverse ys))) ≡ whole
+      → row_of given ≡ as_tombstone_if_expired tick (row_of row) → all ≡ kept ++ given ∷ [] → xs ≡ ys ++ option_to_list o → o ≡ Some row → ends_walk cut (row_of row) ≡ b
+      → rows_of kept ++ retention_walk cut tick (rows_of (reverse xs)) ≡ whole
+      → rows_of all ++ (if b then [] else retention_walk cut tick (rows_of (reverse ys))) ≡ whole
   more_kept kept all xs ys o row given whole b stays same is f e ends so_far =
-      let tail : List Row = (if b then [] else retention_walk floor tick (rows_of (reverse ys))) in
+      let tail : List Row = (if b then [] else retention_walk cut tick (rows_of (reverse ys))) in
       ap (λ (w : List RowEntry). rows_of w ++ tail) is
       ∙ (ap (λ (w : List Row). w ++ tail) (map-append row_of kept (given ∷ []))
       ∙ (append_assoc (rows_of kept) (row_of given ∷ []) tail
       ∙ (ap (λ (r : Row). rows_of kept ++ r ∷ tail) same
-      ∙ (ap (λ (z : Bool). rows_of kept ++ as_tombstone_if_expired tick (row_of row) ∷ (if z then [] else retention_walk floor tick (rows_of (reverse ys)))) (sym ends)
-      ∙ (ap (λ (w : List Row). rows_of kept ++ w) (sym (ap (retention_walk floor tick) (turned xs ys o row f e) ∙ walk-kept floor tick (row_of row) (rows_of (reverse ys)) stays)) ∙ so_far)))))
+      ∙ (ap (λ (z : Bool). rows_of kept ++ as_tombstone_if_expired tick (row_of row) ∷ (if z then [] else retention_walk cut tick (rows_of (reverse ys)))) (sym ends)
+      ∙ (ap (λ (w : List Row). rows_of kept ++ w) (sym (ap (retention_walk cut tick) (turned xs ys o row f e) ∙ walk-kept cut tick (row_of row) (rows_of (reverse ys)) stays)) ∙ so_far)))))
 
 -- ---- the old end
 

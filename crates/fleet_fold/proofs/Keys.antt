@@ -8,7 +8,7 @@ use Rattle.std.proofs.lemmas.Slice.Eq.{bytes_eq-Decides}
 use Rattle.row_model.specs.Chunks.{Chunk, elements, chunk_by, put_before}
 use Rattle.row_model.specs.Rows.{Row, Tombstone, same_key, key_cmp, is_expired}
 use Rattle.row_model.specs.Settings.{Settings}
-use Rattle.row_model.specs.KeptRows.{kept_rows, as_tombstone_if_expired}
+use Rattle.row_model.specs.KeptRows.{kept_rows, kept_of_keys, as_tombstone_if_expired}
 use Rattle.row_laws.specs.Walks.{IsJoined, EndsLoose}
 use Rattle.row_laws.specs.Keys.{is_below}
 use Rattle.row_laws.proofs.Walks.{chunk_is_walked}
@@ -22,7 +22,7 @@ use Rattle.fleet_rows.specs.Row.{rows_of}
 use Rattle.fleet_rows.specs.declared.row.RowEntry.{RowEntry}
 use Rattle.fleet_rows.specs.declared.errors.SlateDBError.{SlateDBError}
 use Rattle.fleet_rows.specs.declared.errors.SlateDBError.TheVariants.{Memory}
-use Rattle.fleet_fold.specs.Retention.{kept_of, kept_of_keys, front, kept_given, HaveOneKey, AreEndedBy, from_ahead, ReadsKey, RefusesKey, RefusesFill}
+use Rattle.fleet_fold.specs.Retention.{front, kept_given, HaveOneKey, AreEndedBy, from_ahead, ReadsKey, RefusesKey, RefusesFill}
 use Rattle.fleet_fold.proofs.AllKept.{all_kept}
 
 same : (a b : Row) → same_key a b ≡ true → a.key ≡ b.key
@@ -56,6 +56,10 @@ first_key settings (r ∷ rows) later alike ended =
 
 -- ---- the keys whose rows are all there
 
+-- Retention keeps rows of some keys, one key after the other.
+abbrev pub of_chunks : Settings → List (Chunk Row) → List Row
+of_chunks settings gs = flat_map (λ g. kept_rows settings (elements g)) gs
+
 -- what stands before a list's last element stays before it
 front-more : (c : Chunk Row) (q : Row) (gs : List (Chunk Row)) → front (c ∷ put_before same_key q gs) ≡ c ∷ front (put_before same_key q gs)
 front-more c q [] = refl
@@ -77,21 +81,21 @@ first_given settings true rows later alike ended all = first_key settings rows l
 first_given settings false [] later alike ended all = ap (λ (w : List Row). w ++ kept_given settings false later) (sym (none_kept settings))
 first_given settings false (r ∷ rows) [] alike ended all = let clash : false ≡ true = all refl in absurd (cc clash)
 first_given settings false (r ∷ rows) (q ∷ later) alike ended all =
-    ap (λ (gs : List (Chunk Row)). kept_of settings (front gs)) (first_chunk r rows (q ∷ later) alike ended) ∙ ap (kept_of settings) (front-more (r, rows) q (chunk_by same_key later))
+    ap (λ (gs : List (Chunk Row)). of_chunks settings (front gs)) (first_chunk r rows (q ∷ later) alike ended) ∙ ap (of_chunks settings) (front-more (r, rows) q (chunk_by same_key later))
 
 -- where a refusal may stand behind rows of one key, none of them is kept
 pub none_given : (settings : Settings) (rows : List Row) → HaveOneKey rows → kept_given settings false rows ≡ []
 none_given settings [] alike = refl
 none_given settings (r ∷ rows) alike =
-    ap (λ (w : List Row). kept_given settings false (r ∷ w)) (sym (append-nil rows)) ∙ ap (λ (gs : List (Chunk Row)). kept_of settings (front gs)) (first_chunk r rows [] alike tt)
+    ap (λ (w : List Row). kept_given settings false (r ∷ w)) (sym (append-nil rows)) ∙ ap (λ (gs : List (Chunk Row)). of_chunks settings (front gs)) (first_chunk r rows [] alike tt)
 
 -- rows that are kept of all keys but the last begin those of all
-pub front_begins : (settings : Settings) (gs : List (Chunk Row)) → (rest : List Row) × (kept_of settings (front gs) ++ rest ≡ kept_of settings gs)
+pub front_begins : (settings : Settings) (gs : List (Chunk Row)) → (rest : List Row) × (of_chunks settings (front gs) ++ rest ≡ of_chunks settings gs)
 front_begins settings [] = ([], refl)
-front_begins settings (g ∷ []) = (kept_of settings (g ∷ []), refl)
+front_begins settings (g ∷ []) = (of_chunks settings (g ∷ []), refl)
 front_begins settings (g ∷ (h ∷ gs)) =
     let (rest, is) = front_begins settings (h ∷ gs) in
-    (rest, append_assoc (kept_rows settings (elements g)) (kept_of settings (front (h ∷ gs))) rest ∙ ap (λ (w : List Row). kept_rows settings (elements g) ++ w) is)
+    (rest, append_assoc (kept_rows settings (elements g)) (of_chunks settings (front (h ∷ gs))) rest ∙ ap (λ (w : List Row). kept_rows settings (elements g) ++ w) is)
 
 pub all_back : (P : Row → Type 0) (xs ys : List Row) → AllByRecursion P (xs ++ ys) → AllByRecursion P ys
 all_back P [] ys h = h

@@ -6,10 +6,10 @@ use Rattle.std.specs.Ordering.{is_gt}
 use Rattle.row_model.specs.Chunks.{Chunk, elements, chunk_by}
 use Rattle.row_model.specs.Rows.{Row, Tombstone, same_key, key_cmp, is_operand, is_expired, is_tombstone}
 use Rattle.row_model.specs.Settings.{Settings}
-use Rattle.row_model.specs.KeptRows.{kept_rows, retention_walk, as_tombstone_if_expired, without_old_tombstones, before_old_tombstones}
+use Rattle.row_model.specs.KeptRows.{kept_rows, kept_of_keys, retention_walk, as_tombstone_if_expired, without_old_tombstones, before_old_tombstones}
 use Rattle.row_laws.proofs.KeptReads.{flat, flat-chunk_by}
 use Rattle.fleet_iter.specs.Iteration.{AreRising}
-use Rattle.fleet_fold.specs.Retention.{kept_of_keys, kept_given}
+use Rattle.fleet_fold.specs.Retention.{kept_given}
 use Rattle.fleet_fold.proofs.AllKept.{all-both, all-walk, all-stripped, all_key_kept}
 use Rattle.fleet_fold.proofs.Keys.{all_back, rising_back, front_begins}
 
@@ -36,17 +36,17 @@ stays_before ys tick r h = by (is_expired r tick)
 
 -- ---- one key
 
-rising-walk : (floor : ℕ) (tick : ℤ) (rows : List Row) → AreRising rows → AreRising (retention_walk floor tick rows)
-rising-walk floor tick [] h = tt
-rising-walk floor tick (r ∷ rows) h = by (is_operand r) (is_expired r tick) (nat_le r.seq floor) (all-walk (IsUpTo r) (stays_behind r) floor tick rows h.0) (rising-walk floor tick rows h.1)
+rising-walk : (cut : ℕ) (tick : ℤ) (rows : List Row) → AreRising rows → AreRising (retention_walk cut tick rows)
+rising-walk cut tick [] h = tt
+rising-walk cut tick (r ∷ rows) h = by (is_operand r) (is_expired r tick) (nat_le r.seq cut) (all-walk (IsUpTo r) (stays_behind r) cut tick rows h.0) (rising-walk cut tick rows h.1)
   where
-    by : (operand expired ends : Bool) → AllByRecursion (IsUpTo r) (retention_walk floor tick rows) → AreRising (retention_walk floor tick rows)
-        → AreRising (if operand then (if expired then retention_walk floor tick rows else r ∷ retention_walk floor tick rows)
-        else (if ends then as_tombstone_if_expired tick r ∷ [] else as_tombstone_if_expired tick r ∷ retention_walk floor tick rows))
+    by : (operand expired ends : Bool) → AllByRecursion (IsUpTo r) (retention_walk cut tick rows) → AreRising (retention_walk cut tick rows)
+        → AreRising (if operand then (if expired then retention_walk cut tick rows else r ∷ retention_walk cut tick rows)
+        else (if ends then as_tombstone_if_expired tick r ∷ [] else as_tombstone_if_expired tick r ∷ retention_walk cut tick rows))
     by true true ends behind rest = rest
     by true false ends behind rest = (behind, rest)
     by false expired true behind rest = (tt, tt)
-    by false expired false behind rest = (stays_before (retention_walk floor tick rows) tick r behind, rest)
+    by false expired false behind rest = (stays_before (retention_walk cut tick rows) tick r behind, rest)
 
 rising-stripped : (rows : List Row) → AreRising rows → AreRising (without_old_tombstones rows)
 rising-stripped [] h = tt
@@ -61,11 +61,11 @@ rising-stripped (r ∷ rows) h = by (without_old_tombstones rows) (all-stripped 
     by (q ∷ rest) behind rising = (behind, rising)
 
 rising-kept : (settings : Settings) (rows : List Row) → AreRising rows → AreRising (kept_rows settings rows)
-rising-kept settings rows h = by settings.last_run (rising-walk settings.floor settings.tick rows h)
+rising-kept settings rows h = by settings.last_run (rising-walk settings.cut settings.tick rows h)
   where
-    by : (last : Bool) → AreRising (retention_walk settings.floor settings.tick rows)
-        → AreRising (if last then without_old_tombstones (retention_walk settings.floor settings.tick rows) else retention_walk settings.floor settings.tick rows)
-    by true walk = rising-stripped (retention_walk settings.floor settings.tick rows) walk
+    by : (last : Bool) → AreRising (retention_walk settings.cut settings.tick rows)
+        → AreRising (if last then without_old_tombstones (retention_walk settings.cut settings.tick rows) else retention_walk settings.cut settings.tick rows)
+    by true walk = rising-stripped (retention_walk settings.cut settings.tick rows) walk
     by false walk = walk
 
 -- ---- key after key

@@ -1,13 +1,14 @@
 -- What a seek in retention answers.
 use Rattle.std.proofs.Common.{◌≡◌, ◌∙◌, sym, refl, ap, subst, ℕ, List, [], ◌∷◌, ◌++◌, Bool, true, false, Option, Some, None, Ok}
 use Rattle.std.specs.Option.{option_to_list}
+use Rattle.row_model.specs.KeptRows.{kept_of_keys}
 use Rattle.row_model.specs.Rows.{Row}
 use Rattle.row_model.specs.Settings.{Settings}
 use Rattle.fleet_iter.specs.Iteration.{IteratorState, AreRising, from_key, Moves, Seeks}
 use Rattle.fleet_iter.proofs.RisingRows.{moves_on, moves_alive, moves_rising, rising_from}
 use Rattle.fleet_rows.specs.Row.{rows_of}
 use Rattle.fleet_rows.specs.declared.row.RowEntry.{RowEntry}
-use Rattle.fleet_fold.specs.Retention.{kept_of_keys, kept_given, from_ahead, retained, ReadsOn, Knows}
+use Rattle.fleet_fold.specs.Retention.{kept_given, from_ahead, retained, ReadsOn, Knows}
 use Rattle.fleet_fold.proofs.Keys.{sought, seek-through, seek-within, rising_back}
 use Rattle.fleet_fold.proofs.Rising.{given_rise}
 

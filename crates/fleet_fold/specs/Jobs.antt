@@ -6,6 +6,7 @@ use Rattle.std.specs.Ordering.{is_gt}
 use Rattle.row_model.specs.Fold.{Operator, Refused}
 use Rattle.row_model.specs.FoldedRows.{folded_rows}
 use Rattle.row_model.specs.JobRows.{job_rows}
+use Rattle.row_model.specs.KeptRows.{kept_of_keys}
 use Rattle.row_model.specs.Lists.{IsPrefixOf}
 use Rattle.row_model.specs.Rows.{Row, key_cmp, rows_of_key, IsStrictlyOrdered}
 use Rattle.row_model.specs.Read.{read}
@@ -18,12 +19,12 @@ use Rattle.fleet_rows.specs.declared.errors.MergeOperatorError.TheVariants.{Call
 use Rattle.fleet_rows.specs.declared.errors.SlateDBError.{SlateDBError}
 use Rattle.fleet_rows.specs.declared.errors.SlateDBError.TheVariants.{MergeOperator}
 use Rattle.fleet_fold.specs.Folded.{Folded, folded}
-use Rattle.fleet_fold.specs.Retention.{kept_of_keys, kept_given}
+use Rattle.fleet_fold.specs.Retention.{kept_given}
 use Rattle.fleet_fold.specs.declared.group.GroupRule.{GroupRule}
 
--- a job merges operands of one stamp, up to its floor
+-- A job merges operands of one stamp, at or below its cut.
 abbrev pub job_rule : ℕ → GroupRule
-job_rule floor = record { merge_different_expire_ts = false; snapshot_barrier_seq = Some floor }
+job_rule cut = record { merge_different_expire_ts = false; snapshot_barrier_seq = Some cut }
 
 -- all the rows; there are none where one is refused
 abbrev pub rows_if_whole : Folded → Option (List Row)
@@ -31,12 +32,12 @@ rows_if_whole f = if is_none f.refusal then Some f.rows else None
 
 -- Of one key's rows these are the model's folded rows.
 abbrev pub FoldsOneKey : Operator → Type 0
-FoldsOneKey merge = (floor : ℕ) (key : List ℕ) (rows : List Row) → AreOfKey key rows → rows_if_whole (folded merge (job_rule floor) rows) ≡ folded_rows merge floor rows
+FoldsOneKey merge = (cut : ℕ) (key : List ℕ) (rows : List Row) → AreOfKey key rows → rows_if_whole (folded merge (job_rule cut) rows) ≡ folded_rows merge cut rows
 
 -- no fold refuses exactly where the job is whole, and then what retention keeps of the folded rows is the job's rows
 pub record MakesJob (merge : Operator) (settings : Settings) (rows : List Row) : Type 0 where
-  pub whole : is_none (folded merge (job_rule settings.floor) rows).refusal ≡ (job_rows merge settings rows).whole
-  pub kept : (job_rows merge settings rows).whole ≡ true → kept_of_keys settings (folded merge (job_rule settings.floor) rows).rows ≡ (job_rows merge settings rows).rows
+  pub whole : is_none (folded merge (job_rule settings.cut) rows).refusal ≡ (job_rows merge settings rows).whole
+  pub kept : (job_rows merge settings rows).whole ≡ true → kept_of_keys settings (folded merge (job_rule settings.cut) rows).rows ≡ (job_rows merge settings rows).rows
 
 -- It is so of strictly ordered rows.
 abbrev pub FoldsMakeJobs : Operator → Type 0
@@ -47,13 +48,13 @@ FoldsMakeJobs merge = (settings : Settings) (rows : List Row) → IsStrictlyOrde
 -- of a job that is whole or not
 pub record BeginsJob (merge : Operator) (settings : Settings) (rows : List Row) : Type 0 where
   -- the last key that has folded rows may lack some, and what is kept of those before it begins the job's rows
-  pub begins : IsPrefixOf (kept_given settings false (folded merge (job_rule settings.floor) rows).rows) (job_rows merge settings rows).rows
+  pub begins : IsPrefixOf (kept_given settings false (folded merge (job_rule settings.cut) rows).rows) (job_rows merge settings rows).rows
   -- no folded row is above a key in which a fold refuses
-  pub up_to : (key : List ℕ) → RefusesIn merge settings key rows → AllByRecursion (λ r. is_gt (key_cmp r.key key) ≡ false) (folded merge (job_rule settings.floor) rows).rows
+  pub up_to : (key : List ℕ) → RefusesIn merge settings key rows → AllByRecursion (λ r. is_gt (key_cmp r.key key) ≡ false) (folded merge (job_rule settings.cut) rows).rows
   -- where no fold refuses below a key, as below the first in which one does, all is kept that the job makes of the keys
   -- before the last below it
   pub reaches : (key : List ℕ) → (job_rows merge settings (filter (is_below key) rows)).whole ≡ true
-      → AllByRecursion (λ r. is_below key r ≡ true → IsPrefixOf (job_rows merge settings (filter (is_below r.key) rows)).rows (kept_given settings false (folded merge (job_rule settings.floor) rows).rows)) rows
+      → AllByRecursion (λ r. is_below key r ≡ true → IsPrefixOf (job_rows merge settings (filter (is_below r.key) rows)).rows (kept_given settings false (folded merge (job_rule settings.cut) rows).rows)) rows
 
 -- It is so of strictly ordered rows.
 abbrev pub FoldsBeginJobs : Operator → Type 0
@@ -73,7 +74,7 @@ pub record IsOfOperator (merge : Operator) (rows : List Row) (e : SlateDBError) 
 
 -- Of strictly ordered rows nothing else refuses.
 abbrev pub RefusesByOperator : Operator → Type 0
-RefusesByOperator merge = (floor : ℕ) (rows : List Row) (e : SlateDBError) → IsStrictlyOrdered rows → (folded merge (job_rule floor) rows).refusal ≡ Some e → IsOfOperator merge rows e
+RefusesByOperator merge = (cut : ℕ) (rows : List Row) (e : SlateDBError) → IsStrictlyOrdered rows → (folded merge (job_rule cut) rows).refusal ≡ Some e → IsOfOperator merge rows e
 
 -- ---- an iterator over a job's rows
 
@@ -87,9 +88,9 @@ pub record GivesJob (merge : Operator) (settings : Settings) (rows : List Row) (
       → AllByRecursion (λ r. is_below key r ≡ true → IsPrefixOf (job_rows merge settings (filter (is_below r.key) rows)).rows s.rows) rows
   pub refusal : s.whole ≡ false → (e : SlateDBError) × ((s.refusal ≡ Some e) × IsOfOperator merge rows e)
 
--- All that it gives, where no fold refuses, reads as the rows do, key by key.
+-- All that it gives, where no fold refuses, reads as the rows do, key by key, from the cut and the tick on.
 abbrev pub KeepsReads : Operator → Settings → List Row → IteratorState → Type 0
-KeepsReads merge settings rows s = s.whole ≡ true → (key : List ℕ) (seq : ℕ) (now : ℤ) (above below : List Row) → settings.floor ≤ seq → int_le settings.tick now ≡ true → (settings.last_run ≡ true → below ≡ [])
+KeepsReads merge settings rows s = s.whole ≡ true → (key : List ℕ) (seq : ℕ) (now : ℤ) (above below : List Row) → settings.cut ≤ seq → int_le settings.tick now ≡ true → (settings.last_run ≡ true → below ≡ [])
     → read merge key seq now (above ++ (rows_of_key key rows ++ below)) ≡ read merge key seq now (above ++ (rows_of_key key s.rows ++ below))
 
 -- It was not used yet.

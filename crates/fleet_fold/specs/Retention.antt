@@ -2,8 +2,8 @@
 use Rattle.std.specs.Prelude.{◌≡◌, ◌≢◌, ℕ, ℤ, nat_le, not, ◌&&◌, Bool, true, false, List, [], ◌∷◌, ◌++◌, flat_map, Option, Some, None, ⊤}
 use Rattle.std.specs.List.{AllByRecursion}
 use Rattle.std.specs.Option.{option_to_list}
-use Rattle.row_model.specs.Chunks.{Chunk, elements, chunk_by}
-use Rattle.row_model.specs.KeptRows.{kept_rows}
+use Rattle.row_model.specs.Chunks.{elements, chunk_by}
+use Rattle.row_model.specs.KeptRows.{kept_rows, kept_of_keys}
 use Rattle.row_model.specs.Rows.{Row, same_key, is_operand, is_expired}
 use Rattle.row_model.specs.Settings.{Settings}
 use Rattle.fleet_iter.specs.Iteration.{IteratorState, AreRising, CanFail}
@@ -12,32 +12,24 @@ use Rattle.fleet_rows.specs.declared.row.RowEntry.{RowEntry}
 use Rattle.fleet_rows.specs.declared.errors.SlateDBError.{SlateDBError}
 use Rattle.fleet_rows.specs.declared.errors.SlateDBError.TheVariants.{Memory}
 
--- the kept rows of each key in turn
-abbrev pub kept_of : Settings → List (Chunk Row) → List Row
-kept_of settings keys = flat_map (λ g. kept_rows settings (elements g)) keys
-
-abbrev pub kept_of_keys : Settings → List Row → List Row
-kept_of_keys settings rows = kept_of settings (chunk_by same_key rows)
-
--- the keys whose rows are all there: where a refusal may stand behind the rows, all keys but the last one
+-- The front of a list is all of it but its last element.
 abbrev pub front : {A : Type 0} → List A → List A
 front [] = []
 front (x ∷ []) = []
 front (x ∷ (y ∷ xs)) = x ∷ front (y ∷ xs)
 
-abbrev pub keys_given : Bool → List Row → List (Chunk Row)
-keys_given true rows = chunk_by same_key rows
-keys_given false rows = front (chunk_by same_key rows)
-
+-- Retention gives what it keeps of the keys whose rows are all there: of all keys, or, where a refusal may stand behind the
+-- rows, of all keys but the last one.
 abbrev pub kept_given : Settings → Bool → List Row → List Row
-kept_given settings whole rows = kept_of settings (keys_given whole rows)
+kept_given settings true rows = kept_of_keys settings rows
+kept_given settings false rows = flat_map (λ g. kept_rows settings (elements g)) (front (chunk_by same_key rows))
 
--- the walk drops a row, and the walk ends with one
+-- The walk drops expired operands. It ends with the first row at or below the cut that is no operand.
 abbrev pub is_dropped : ℤ → Row → Bool
 is_dropped tick r = is_operand r && is_expired r tick
 
 abbrev pub ends_walk : ℕ → Row → Bool
-ends_walk floor r = not (is_operand r) && nat_le r.seq floor
+ends_walk cut r = not (is_operand r) && nat_le r.seq cut
 
 -- the rows have one key
 abbrev pub HaveOneKey : List Row → Type 0

@@ -13,7 +13,7 @@ use fleet_iter::{RowEntryIterator, ordered_rows_rise};
 use fleet_rows::Settings;
 use std::alloc::Global;
 
-/// What a job makes of rows: operands of one stamp, up to the floor, are merged, and then some rows of each key are kept.
+/// What a job makes of rows: operands of one stamp, at or below the cut, are merged, and then some rows of each key are kept.
 pub type JobIterator<'o, O, T> = RetentionIterator<MergeOperatorIterator<'o, O, T>>;
 
 fn is_lawful<B: BatchMerger>(_operator: &B)
@@ -40,6 +40,6 @@ pub fn job_iterator<'o, O: MergeOperator, T: RowEntryIterator>(
 {
     is_lawful(operator);
     ordered_rows_rise();
-    let folded = MergeOperatorIterator::new(operator, rows, false, Some(settings.floor));
+    let folded = MergeOperatorIterator::new(operator, rows, false, Some(settings.cut));
     RetentionIterator::new(alloc, folded, settings)
 }

@@ -1,5 +1,6 @@
 // Whole jobs of the Rust crate slatedb 0.16.0: the floor, the tick, whether the last run is written (0 or 1), the sources, and
-// what the job makes of them. The level-0 tables stand newest first with '|' between them, and behind '/' the runs.
+// what the job makes of them. A job's floor here is its cut. The level-0 tables stand newest first with '|' between them, and
+// behind '/' the runs.
 
 /// No rows, and one row or two: around the floor and around the tick.
 pub(crate) const FEW_ROWS: &str = "\

@@ -1,4 +1,5 @@
-// Whole jobs: sources are merged, operands folded down to the floor, and what retention keeps is given.
+// Whole jobs: sources are merged, operands at or below the cut are folded, and what retention keeps is given. A job's floor here
+// is its cut.
 use crate::job_cases::{
     FEW_ROWS, FLOORS, LAYERS, MANY_SOURCES, ODD_KEYS, OLD_ENDS, REFUSED, RESUMED, STAMPS_APART,
 };
@@ -10,7 +11,7 @@ use fleet_rows::{Settings, SlateDBError};
 use std::alloc::Global;
 use std::test::Fail;
 
-// The floor, the tick, and whether the last run is written.
+// The floor, which is the cut too, the tick, and whether the last run is written.
 fn settings(
     floor: Option<&str>,
     tick: Option<&str>,
@@ -25,6 +26,7 @@ fn settings(
         floor,
         tick,
         last_run,
+        cut: floor,
     })
 }
 
@@ -37,7 +39,7 @@ fn made<O: MergeOperator>(
     let mut fields = question.split(' ');
     let settings = settings(fields.next(), fields.next(), fields.next())?;
     let merge = merge(alloc, fields.next())?.with_dedup(false);
-    let folding = MergeOperatorIterator::new(operator, merge, false, Some(settings.floor));
+    let folding = MergeOperatorIterator::new(operator, merge, false, Some(settings.cut));
     reply(alloc, RetentionIterator::new(alloc, folding, settings))
 }
 
@@ -48,7 +50,7 @@ fn resumed(alloc: Global, question: &str) -> Result<String, SlateDBError> {
     let merge = merge(alloc, fields.next())?.with_dedup(false);
     let key = bytes(alloc, fields.next())?;
     let seq = number(fields.next())?;
-    let folding = MergeOperatorIterator::new(&AppendOperator, merge, false, Some(settings.floor));
+    let folding = MergeOperatorIterator::new(&AppendOperator, merge, false, Some(settings.cut));
     let mut kept = RetentionIterator::new(alloc, folding, settings);
     kept.init(alloc)?;
     let mut resumed = ResumingIterator::new(alloc, kept, Some((key, seq)))?;
@@ -101,7 +103,8 @@ fn is_taken_up_again(rt: HostRuntime) -> Result<(), Fail> {
 
 // Jobs over many operands of a key, whose tick is 0 and which write the last run: the floor, how many operands there are, how
 // many rows each source has, and what stands below them, a value (v) or a tombstone (t). Then how many operands stay above
-// the floor, how the row begins that the others become, how many these are, and when it was created.
+// the floor, how the row begins that the others become, how many these are, and when it was created. A job's floor here is its
+// cut.
 const MANY_OPERANDS: &str = "\
 1000 1 2 v => 0 v:B 1 50
 1000 1 2 t => 0 v: 1 50

@@ -52,27 +52,27 @@ fn is_dropped(row: &RowEntry, tick: i64) -> bool
     is_operand(row) && is_expired(row, tick)
 }
 
-// Whether a kept row hides all older ones.
-fn ends_walk(row: &RowEntry, floor: u64) -> bool
-    ensures { result ≡ ends_walk floor (row_of row.now) }
+// A kept row ends the walk where no read from the cut on sees an older one.
+fn ends_walk(row: &RowEntry, cut: u64) -> bool
+    ensures { result ≡ ends_walk cut (row_of row.now) }
 {
-    !is_operand(row) && row.seq <= floor
+    !is_operand(row) && row.seq <= cut
 }
 
-// From the newest row on, up to the first that hides all older ones.
+// Rows are kept from the newest on, up to the first that ends the walk.
 fn walked(
     alloc: Global,
     settings: Settings,
     rows: Vec<RowEntry>,
 ) -> Result<Vec<RowEntry>, AllocError>
-    ensures { IfOk result (λ kept. rows_of kept.items ≡ retention_walk settings.floor settings.tick (rows_of rows.items)) }
+    ensures { IfOk result (λ kept. rows_of kept.items ≡ retention_walk settings.cut settings.tick (rows_of rows.items)) }
 {
     let mut rest = rows;
     rest.reverse();
     let mut kept = Vec::new(alloc);
     'rows: while let Some(row) = rest.pop() {
         if !is_dropped(&row, settings.tick) {
-            let last = ends_walk(&row, settings.floor);
+            let last = ends_walk(&row, settings.cut);
             kept.push(as_tombstone_if_expired(row, settings.tick))?;
             if last {
                 return Ok(kept);

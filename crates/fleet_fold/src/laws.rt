@@ -3,7 +3,7 @@
 ghost use Rattle.row_model.specs.Fold.{IsLawful, Operator};
 ghost use Rattle.fleet_fold.specs.Jobs.{FoldsOneKey, FoldsMakeJobs, FoldsBeginJobs, JobsKeepReads, RefusesByOperator};
 
-/// Under a lawful operator, merging the operands of one key in batches, up to the floor and of one stamp, gives the model's folded
+/// Under a lawful operator, merging the operands of one key in batches, up to the cut and of one stamp, gives the model's folded
 /// rows, and refuses exactly where the model's fold does.
 pub fn folds_one_key()
     ensures { (merge : Operator) → IsLawful merge → FoldsOneKey merge }
@@ -28,7 +28,7 @@ pub fn refuses_by_operator()
 {}
 
 /// Under a lawful operator, an iterator that gives a whole job's rows gives rows that read as the job's sources do, from the
-/// floor and the tick on, whatever stands above, and whatever stands below unless the job made a last run.
+/// cut and the tick on, whatever stands above, and whatever stands below unless the job made a last run.
 pub fn jobs_keep_reads()
     ensures { (merge : Operator) → IsLawful merge → JobsKeepReads merge }
 {}

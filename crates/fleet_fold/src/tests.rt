@@ -11,8 +11,8 @@ use std::alloc::Global;
 use std::test::Fail;
 
 // What the Rust crate slatedb 0.16.0 keeps: the floor, the tick, whether the last run is written (0 or 1), the rows, and what
-// is kept of them. A row is its key, a value (v), an operand (m) or that it is deleted (t), the bytes, the sequence and the
-// stamps; what is not there is '-'.
+// is kept of them. A job's floor here is its cut. A row is its key, a value (v), an operand (m) or that it is deleted (t), the
+// bytes, the sequence and the stamps; what is not there is '-'.
 const TOLD: &str = "\
 5 10 0 - -
 5 10 0 a:v:1:4:-:9 a:t:-:4:-:-
@@ -123,6 +123,7 @@ fn case(alloc: Global, line: &str) -> Result<(Vec<RowEntry>, Vec<RowEntry>), Sla
         floor,
         tick,
         last_run,
+        cut: floor,
     };
     let mut kept = RetentionIterator::new(alloc, list(alloc, fields.next())?, settings);
     kept.init(alloc)?;
@@ -164,6 +165,7 @@ fn sought(
         floor: 0,
         tick: 0,
         last_run: false,
+        cut: 0,
     };
     let mut kept = RetentionIterator::new(alloc, list(alloc, Some(told))?, settings);
     kept.init(alloc)?;
@@ -265,6 +267,7 @@ fn fails_as_its_rows_do(rt: HostRuntime) -> Result<(), Fail> {
         floor: 9,
         tick: 0,
         last_run: true,
+        cut: 9,
     };
     let mut kept = RetentionIterator::new(alloc, failing, settings);
     kept.init(alloc)?;
@@ -284,6 +287,7 @@ fn keeps_rows_of_a_boxed_iterator(rt: HostRuntime) -> Result<(), Fail> {
         floor: 3,
         tick: 0,
         last_run: false,
+        cut: 3,
     };
     let mut kept = RetentionIterator::new(alloc, boxed, settings);
     kept.init(alloc)?;

@@ -9,4 +9,6 @@ pub struct Settings {
     pub tick: i64,
     /// Whether the last run of a tree is written, below which nothing stands.
     pub last_run: bool,
+    /// At or below this sequence older versions may go, and operands are folded. Every read from it on is kept.
+    pub cut: u64,
 }

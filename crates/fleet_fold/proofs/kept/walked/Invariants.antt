@@ -6,8 +6,8 @@ use Rattle.fleet_fold.proofs.kept.walked.Given as goal
 
 abbrev pub invariant-rows : goal.invariant-rows
 invariant-rows l =
-    rows_of l.kept.items ++ retention_walk l.settings.floor l.settings.tick (rows_of (reverse l.rest.items))
-    ≡ retention_walk l.settings.floor l.settings.tick (rows_of l.fn.rows.items)
+    rows_of l.kept.items ++ retention_walk l.settings.cut l.settings.tick (rows_of (reverse l.rest.items))
+    ≡ retention_walk l.settings.cut l.settings.tick (rows_of l.fn.rows.items)
 
 abbrev pub decreases-rows : goal.decreases-rows
 decreases-rows l = vec_len l.rest
