@@ -1,5 +1,5 @@
 -- The last of some rows, and the first.
-use Rattle.std.proofs.Common.{◌≡◌, ◌≢◌, refl, ◌∙◌, ap, ℕ, ◌-◌, ◌+◌, List, [], ◌∷◌, length, true, arith}
+use Rattle.std.proofs.Common.{◌≡◌, ◌≢◌, refl, ◌∙◌, ap, ℕ, ◌-◌, List, [], ◌∷◌, length, true, arith}
 use Rattle.std.specs.Prelude.{slice_index_or}
 use Rattle.std.specs.List.{AllByRecursion}
 use Rattle.std.specs.List.Sorted.{IsStrictlySortedBy}

@@ -7,3 +7,4 @@ pub mod LastRow
 pub mod Flushes
 pub mod SoughtRows
 pub mod ModelFlushes
+pub mod Tracking

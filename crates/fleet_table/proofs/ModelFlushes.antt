@@ -1,14 +1,16 @@
--- A flush in front of a program's trees is the model's.
+-- A flush of a program's manifest is the model's.
 use Rattle.std.proofs.Common.{◌≡◌, refl, sym, ◌∙◌, ap, ℕ, List, [], ◌∷◌, map, Bool, true, false, cond, Some}
 use Rattle.std.specs.Prelude.{bytes_eq}
 use Rattle.std.specs.Ordering.{is_lt}
 use Rattle.std.proofs.lemmas.Slice.Eq.{bytes_eq-Decides}
 use Rattle.row_model.specs.Rows.{Row, key_cmp}
 use Rattle.fleet_model.specs.Nodes.{Segment, L0}
+use Rattle.fleet_model.specs.Tracker.{least_seq_of, tracked_after}
 use Rattle.fleet_model.specs.Trees.{greatest_seq, empty_segment}
 use Rattle.fleet_model.specs.Trees as model
 use Rattle.fleet_table.specs.Laws.{FlushesAreTheModels, met_tree}
-use Rattle.fleet_table.specs.Trees.{empty_tree, flushed, flushed_on, segment_of, tree_of}
+use Rattle.fleet_table.specs.Manifests.{tracker_of}
+use Rattle.fleet_table.specs.Trees.{empty_tree, flushed, flushed_on, segment_of, tree_of, trees_of, trees_with_prefix}
 use Rattle.fleet_table.specs.Views.{View}
 use Rattle.fleet_table.specs.declared.tree.LsmTreeState.{LsmTreeState}
 
@@ -39,4 +41,9 @@ module _ (flushes : ℕ → List ℕ) (prefix : List ℕ) (view : View) (seq : �
   on_trees (s ∷ trees) told = step s trees (bytes_eq prefix s.0) (is_lt (key_cmp prefix s.0)) refl refl (on_trees trees) told
 
 pub flushes_are_the_models : FlushesAreTheModels
-flushes_are_the_models flushes prefix view seq rows trees own told = on_trees flushes prefix view seq rows own trees told
+flushes_are_the_models flushes version epoch rows told before after of_rows made =
+    let trees : trees_of flushes after ≡ model.flushed told.segment told.view.id rows (trees_of flushes before) =
+    ap (map (segment_of flushes)) made.trees ∙ on_trees flushes told.segment told.view told.last_seq rows of_rows.own (trees_with_prefix before) of_rows.last in
+    let tracker : tracker_of after.tracker ≡ tracked_after told.moment told.retention (least_seq_of rows) (tracker_of before.tracker) =
+    made.tracker ∙ ap (λ seq. tracked_after told.moment told.retention seq (tracker_of before.tracker)) of_rows.least in
+    cc (trees, tracker, made.floor, made.tick, made.horizon)

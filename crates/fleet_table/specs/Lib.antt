@@ -7,4 +7,5 @@ pub mod Views
 pub mod Sizes
 pub mod Run
 pub mod Trees
+pub mod Manifests
 pub mod Laws

@@ -4,7 +4,7 @@ ghost use Rattle.std.specs.Prelude.{◌≡◌, ◌↔◌, ◌≤◌, ◌<◌, �
 ghost use Rattle.std.specs.Option.{option_copied};
 ghost use Rattle.std.specs.Cmp.Lexicographic.{pointwise, lists_per, lists_equiv};
 
-use crate::{BlockMeta, LsmTreeState, SortedRun, SsTableHandle, SsTableView};
+use crate::{BlockMeta, LsmTreeState, SortedRun, SsTableHandle, SsTableView, Tracked};
 use bytes::Bytes;
 use fleet_rows::{Copies, ListOf, SlateDBError};
 use std::alloc::{AllocError, Global};
@@ -218,3 +218,6 @@ pub type RunList = SharedList<SortedRun>;
 
 /// Trees with the prefixes of their segments, which rise.
 pub type SegmentList = SharedList<(Bytes, LsmTreeState)>;
+
+/// Flushes within the retention, in the order of their puts.
+pub type TrackerList = SharedList<Tracked>;

@@ -1,18 +1,22 @@
-//! Manifests: the trees of all segments, the floor and the tick.
+//! Manifests: the trees of all segments, the floor, the tick, the tracked flushes and the horizon.
 
 ghost use Rattle.std.specs.Prelude.{◌≡◌, [], ◌∷◌, length, map, option_map, find, take_while, bytes_eq, IfOk, IsOkUnless, OnOk, OnErr};
 ghost use Rattle.std.specs.Option.{option_copied};
 ghost use Rattle.std.specs.List.{prefix_len};
 ghost use Rattle.std.specs.Ordering.{is_lt};
+ghost use Rattle.fleet_model.specs.Tracker.{tracked_after};
 ghost use Rattle.row_model.specs.Rows.{key_cmp};
+ghost use Rattle.fleet_table.specs.Manifests.{cut_of, tracker_of};
 ghost use Rattle.fleet_table.specs.Trees.{flushed, tree_or_empty, trees_with_prefix};
 
-use crate::{LsmTreeState, SegmentList, SsTableView, Trees, TreesWithPrefix};
+use crate::tracker::{cut_before, tracked_after};
+use crate::{LsmTreeState, SegmentList, SsTableView, TrackerList, Trees, TreesWithPrefix};
 use bytes::Bytes;
 use fleet_rows::{Copies, SlateDBError};
 use std::alloc::{AllocError, Global};
 
-/// The trees, with the floor below which no snapshot reads and the moment by which rows expire.
+/// The trees, with the floor below which no snapshot reads, the moment by which rows expire, the flushes within the retention, and
+/// the horizon. Reads are answered from the horizon and the tick on.
 #[derive(Clone, Debug, Drop, PartialEq, Eq)]
 pub struct ManifestCore {
     /// The root: the tree of the segment with the empty prefix.
@@ -22,6 +26,10 @@ pub struct ManifestCore {
     pub recent_snapshot_min_seq: u64,
     /// In milliseconds.
     pub last_l0_clock_tick: i64,
+    /// The flushes within the retention, of which a fresh manifest has none.
+    pub tracker: TrackerList,
+    /// A sequence, which is 0 in a fresh manifest.
+    pub horizon: u64,
 }
 
 impl ManifestCore {
@@ -50,23 +58,30 @@ impl ManifestCore {
         TreesWithPrefix::new(&self.tree, self.segments.as_slice())
     }
 
-    /// Puts a flush in front of its segment's tree, and sets the floor and the tick. `last_seq` is the greatest sequence of the
-    /// flushes with this one.
+    /// Puts a flush in front of its segment's tree, sets the floor and the tick, and tracks the flush for the retention. `last_seq`
+    /// is the greatest sequence of the segment's flushes with this one, `least_seq` the least of this one's rows, and `moment` that
+    /// of its put.
     pub fn add_flush(
         &mut self,
         alloc: Global,
         segment: &Bytes,
         view: SsTableView,
         last_seq: u64,
+        least_seq: u64,
         floor: u64,
         tick: i64,
+        moment: u64,
+        retention_ms: u64,
     ) -> Result<(), SlateDBError>
         ensures trees { OnOk result (trees_with_prefix self.new ≡ flushed segment.now view last_seq (trees_with_prefix self.old)) }
         ensures floor { OnOk result (self.new.recent_snapshot_min_seq ≡ floor) }
         ensures tick { OnOk result (self.new.last_l0_clock_tick ≡ tick) }
+        ensures tracker { OnOk result (tracker_of self.new.tracker ≡ tracked_after moment retention_ms least_seq (tracker_of self.old.tracker)) }
+        ensures horizon { OnOk result (self.new.horizon ≡ self.old.horizon) }
         ensures err { OnErr result (self.new ≡ self.old) }
         ensures memory { IsOkUnless result SlateDBError.Memory }
     {
+        let tracker = tracked_after(alloc, &self.tracker, least_seq, moment, retention_ms)?;
         flush_tree(
             alloc,
             &mut self.tree,
@@ -77,7 +92,22 @@ impl ManifestCore {
         )?;
         self.recent_snapshot_min_seq = floor;
         self.last_l0_clock_tick = tick;
+        self.tracker = tracker;
         Ok(())
+    }
+
+    /// The sequence from which a compaction at this moment keeps all reads: the floor without a retention, and else the least of
+    /// the floor and, for each tracked flush that is retained then, the sequence before its least one, which is 0 where there is none
+    /// before.
+    pub fn cut(&self, moment: u64, retention_ms: u64) -> u64
+        ensures { result ≡ cut_of self.now moment retention_ms }
+    {
+        let floor = self.recent_snapshot_min_seq;
+        if retention_ms == 0 {
+            floor
+        } else {
+            cut_before(floor, moment, retention_ms, self.tracker.as_slice())
+        }
     }
 
     /// A copy, which shares the lists of the trees.

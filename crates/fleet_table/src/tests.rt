@@ -1,8 +1,8 @@
 // What no clause says: that calls succeed where there is memory, and tables, runs and trees as someone reads them.
 use crate::{
-    LsmTreeState, Manifest, ManifestCore, RunData, RunIterator, SegmentList, SortedRun,
-    SsTableHandle, SsTableView, TableData, VersionedManifest, ViewList, are_in_bounds,
-    are_strictly_ordered, merge_from_writer,
+    BlockList, LsmTreeState, Manifest, ManifestCore, RunData, RunIterator, SegmentList, SortedRun,
+    SsTableHandle, SsTableView, TableData, Tracked, TrackerList, VersionedManifest, ViewList,
+    are_in_bounds, are_strictly_ordered, least_seq, merge_from_writer,
 };
 use bytes::Bytes;
 use fleet_iter::{RowEntryIterator, ordered_rows_rise};
@@ -218,6 +218,14 @@ fn cuts_tables_into_blocks(rt: HostRuntime) -> Result<(), Fail> {
     Ok(())
 }
 
+fn copied_blocks(alloc: Global, blocks: &BlockList) -> Result<BlockList, Fail> {
+    let mut copies = BlockList::new(alloc);
+    'blocks: for block in blocks.as_slice() {
+        copies.push(block.clone()?)?;
+    }
+    Ok(copies)
+}
+
 fn described(alloc: Global, told: &[Row], id: u64) -> Result<SsTableHandle, Fail> {
     Ok(table(alloc, told)?.describe(Ulid::from_parts(0, id as u128))?)
 }
@@ -230,6 +238,7 @@ fn describes_tables(rt: HostRuntime) -> Result<(), Fail> {
     assert_eq!(rt; handle.first_key.as_slice(), b"a".as_slice());
     assert_eq!(rt; handle.last_key.as_slice(), b"a".as_slice());
     assert_eq!(rt; handle.blocks.len(), 1);
+    assert!(rt; copied_blocks(alloc, &handle.blocks)? == handle.blocks);
     assert_eq!(rt; handle.clone()?, handle);
     Ok(())
 }
@@ -242,6 +251,7 @@ fn describes_a_table_of_one_row(rt: HostRuntime) -> Result<(), Fail> {
         (table.rows(), table.index().len(), table.last_row().1),
         (1, 1, 1)
     );
+    assert_eq!(rt; least_seq(table.as_slice()), 1);
     let again = table.clone()?;
     assert_eq!(rt; again.as_slice(), table.as_slice());
     Ok(())
@@ -267,13 +277,16 @@ fn finds_the_newest_version(rt: HostRuntime) -> Result<(), Fail> {
     Ok(())
 }
 
-// A manifest's trees behind flushes: the segment of each, its name and its greatest sequence.
+// A manifest behind flushes: the segment of each, its name and the sequence of its row. The name is also the moment of its put, and
+// the retention is 3.
 fn flushed(alloc: Global, flushes: &[(&[u8], u64, u64)]) -> Result<ManifestCore, Fail> {
     let mut core = ManifestCore {
         tree: LsmTreeState::new(alloc),
         segments: SegmentList::new(alloc),
         recent_snapshot_min_seq: 0,
         last_l0_clock_tick: 0,
+        tracker: TrackerList::new(alloc),
+        horizon: 0,
     };
     'flushes: for (segment, name, seq) in flushes {
         flush(alloc, &mut core, *segment, *name, *seq)?;
@@ -290,7 +303,7 @@ fn flush(
 ) -> Result<(), Fail> {
     let view = view(alloc, name, &KEYS)?;
     let segment = Bytes::copy_from_slice(alloc, segment)?;
-    Ok(core.add_flush(alloc, &segment, view, seq, name, -1)?)
+    Ok(core.add_flush(alloc, &segment, view, seq, seq, seq, -1, name, 3)?)
 }
 
 static FLUSHES: [(&[u8], u64, u64); 5] = [
@@ -320,8 +333,32 @@ fn puts_flushes_in_front_of_their_trees(rt: HostRuntime) -> Result<(), Fail> {
     assert_eq!(rt; core.trees().count(), 3);
     assert_eq!(rt;
         (core.recent_snapshot_min_seq, core.last_l0_clock_tick),
-        (5, -1)
+        (9, -1)
     );
+    Ok(())
+}
+
+// The tracker of these flushes, by the least sequence and the moment of each.
+fn tracked(alloc: Global, flushes: &[(u64, u64)]) -> Result<TrackerList, Fail> {
+    let mut tracker = TrackerList::new(alloc);
+    'flushes: for (least_seq, moment) in flushes {
+        tracker.push(Tracked {
+            least_seq: *least_seq,
+            moment: *moment,
+        })?;
+    }
+    Ok(tracker)
+}
+
+#[test]
+fn tracks_flushes_within_the_retention(rt: HostRuntime) -> Result<(), Fail> {
+    let alloc = rt.alloc();
+    let core = flushed(alloc, &FLUSHES)?;
+    assert!(rt; core.tracker == tracked(alloc, &[(7, 3), (8, 4), (9, 5)])?);
+    assert_eq!(rt; core.horizon, 0);
+    for (moment, retention, cut) in [(5, 3, 6), (6, 3, 7), (7, 3, 8), (8, 3, 9), (5, 0, 9)] {
+        assert_eq!(rt; core.cut(moment, retention), cut, "at {moment}");
+    }
     Ok(())
 }
 
@@ -329,10 +366,12 @@ fn puts_flushes_in_front_of_their_trees(rt: HostRuntime) -> Result<(), Fail> {
 fn copies_manifests(rt: HostRuntime) -> Result<(), Fail> {
     let alloc = rt.alloc();
     let core = flushed(alloc, &FLUSHES)?;
+    assert!(rt; core.clone()? == core);
     let manifest = Manifest {
         compactor_epoch: 2,
         core,
     };
+    assert!(rt; manifest.clone()? == manifest);
     let manifest = VersionedManifest { id: 3, manifest };
     assert_eq!(rt; (manifest.id(), manifest.compactor_epoch()), (3, 2));
     let copy = manifest.clone()?;

@@ -1,0 +1,30 @@
+-- Manifests as a program keeps them, seen as the model's.
+use Rattle.std.specs.Prelude.{ℕ, List, [], map}
+use Rattle.fleet_model.specs.Store.{Manifest, cut_at}
+use Rattle.fleet_model.specs.Tracker as model
+use Rattle.fleet_table.specs.Trees.{trees_of}
+use Rattle.fleet_table.specs.declared.manifest.ManifestCore.{ManifestCore}
+use Rattle.fleet_table.specs.declared.tracker.Tracked.{Tracked}
+
+abbrev pub tracked_of : Tracked → model.Tracked
+tracked_of flush = record { least_seq = flush.least_seq; moment = flush.moment }
+
+abbrev pub tracker_of : List Tracked → List model.Tracked
+tracker_of tracker = map tracked_of tracker
+
+-- A manifest is seen so under its version and its epoch. No program keeps which flushes went into a run, so they are given.
+abbrev pub manifest_of : (flushes : ℕ → List ℕ) → (version epoch : ℕ) → ManifestCore → Manifest
+manifest_of flushes version epoch core = record {
+  version = version;
+  epoch = epoch;
+  trees = trees_of flushes core;
+  floor = core.recent_snapshot_min_seq;
+  tick = core.last_l0_clock_tick;
+  tracker = tracker_of core.tracker;
+  horizon = core.horizon;
+}
+
+-- The cut of a manifest is the model's. It depends on neither the version, nor the epoch, nor the flushes of runs, so it is
+-- stated for some of them.
+abbrev pub cut_of : ManifestCore → (moment retention : ℕ) → ℕ
+cut_of core moment retention = cut_at (manifest_of (λ run. []) 0 0 core) moment retention

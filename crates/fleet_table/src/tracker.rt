@@ -1,0 +1,100 @@
+//! The flushes that a manifest tracks, so that what was readable within a stated time is kept.
+
+ghost use Rattle.std.specs.Prelude.{◌≡◌, ◌-◌, filter, fold, min, IfOk, IsOkUnless};
+ghost use Rattle.fleet_model.specs.Tracker.{is_retained, least_seq_of, tracked_after};
+ghost use Rattle.fleet_rows.specs.Row.{rows_of};
+ghost use Rattle.fleet_table.specs.Manifests.{tracked_of, tracker_of};
+
+use crate::TrackerList;
+use fleet_rows::{Copies, RowEntry, SlateDBError};
+use std::alloc::{AllocError, Global};
+
+/// A flush, by the least sequence of its rows and by the moment of its put.
+#[derive(Clone, Copy, Debug, PartialEq, Eq)]
+pub struct Tracked {
+    pub least_seq: u64,
+    /// In milliseconds.
+    pub moment: u64,
+}
+
+impl Tracked {
+    /// Whether the flush is retained at this moment: the retention has not gone by since its put.
+    fn is_retained(&self, moment: u64, retention_ms: u64) -> bool
+        ensures { result ≡ is_retained moment retention_ms (tracked_of self.now) }
+    {
+        // The moment at which the retention has gone by may be above `u64::MAX`.
+        moment < self.moment || moment - self.moment < retention_ms
+    }
+}
+
+impl Copies for Tracked {
+    fn copied(&self) -> Result<Tracked, AllocError> {
+        Ok(*self)
+    }
+}
+
+/// The least sequence of the rows, or 0 where there is no row.
+pub fn least_seq(rows: &[RowEntry]) -> u64
+    ensures { result ≡ least_seq_of (rows_of rows.now) }
+{
+    match rows {
+        [first, rest @ ..] => least_from(first.seq, rest),
+        [] => 0,
+    }
+}
+
+/// The least of a sequence and those of the rows.
+fn least_from(seq: u64, rows: &[RowEntry]) -> u64
+    ensures { result ≡ fold (λ least r. min least r.seq) seq rows.now }
+{
+    rows.iter().fold(seq, |least, row| least.min(row.seq))
+}
+
+/// The tracker with a flush that is put at this moment: the flushes that are retained then, and this one. Without a retention no
+/// flush is tracked.
+pub(crate) fn tracked_after(
+    alloc: Global,
+    tracker: &TrackerList,
+    least_seq: u64,
+    moment: u64,
+    retention_ms: u64,
+) -> Result<TrackerList, SlateDBError>
+    ensures tracker { IfOk result (λ after. tracker_of after ≡ tracked_after moment retention_ms least_seq (tracker_of tracker.now)) }
+    ensures memory { IsOkUnless result SlateDBError.Memory }
+{
+    if retention_ms == 0 {
+        return Ok(TrackerList::new(alloc));
+    }
+    let mut after = retained(alloc, tracker.as_slice(), moment, retention_ms)?;
+    after.push(Tracked { least_seq, moment })?;
+    TrackerList::from_vec(alloc, after)
+}
+
+fn retained(
+    alloc: Global,
+    tracker: &[Tracked],
+    moment: u64,
+    retention_ms: u64,
+) -> Result<Vec<Tracked>, AllocError>
+    ensures { IfOk result (λ kept. kept.items ≡ filter (λ flush. is_retained moment retention_ms (tracked_of flush)) tracker.now) }
+{
+    tracker
+        .iter()
+        .copied()
+        .filter(|flush| flush.is_retained(moment, retention_ms))
+        .collect(alloc)
+}
+
+/// The least of the floor and, for each flush that is retained at this moment, the sequence before its least one, which is 0 where
+/// there is none before.
+pub(crate) fn cut_before(floor: u64, moment: u64, retention_ms: u64, tracker: &[Tracked]) -> u64
+    ensures { result ≡ fold (λ cut flush. min cut (flush.least_seq - 1)) floor (filter (λ flush. is_retained moment retention_ms (tracked_of flush)) tracker.now) }
+{
+    tracker
+        .iter()
+        .filter(|flush| flush.is_retained(moment, retention_ms))
+        .fold(
+            floor,
+            |cut, flush| cut.min(flush.least_seq.saturating_sub(1)),
+        )
+}
