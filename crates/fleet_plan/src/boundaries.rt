@@ -1,4 +1,4 @@
-//! Where keys are cut so that each range has about as many bytes.
+//! Where keys are cut into ranges, by the bytes of the anchors before the cut.
 
 ghost use Rattle.std.specs.Prelude.{◌≡◌, ◌≤◌, ◌+◌, length, max, sum_by, IfOk, IsOkUnless};
 ghost use Rattle.std.specs.List.Sorted.{IsStrictlySortedBy};
@@ -17,8 +17,9 @@ use fleet_rows::SlateDBError;
 use std::alloc::{AllocError, Global};
 use std::ops::Bound;
 
-/// The ranges of keys for the parts of a job. Each is meant to have an equal share of the anchors' bytes, and `min_range_bytes` at
-/// least; the last one may have fewer.
+/// The ranges of keys for the parts of a job. Keys are cut where the bytes of all anchors before reach a threshold. The threshold
+/// rises at each cut by the target, which is the share of one range in all bytes, but no less than `min_range_bytes`. A range may
+/// still have fewer bytes than that: behind an anchor of many bytes the threshold is reached at once.
 pub fn select_boundaries(
     alloc: Global,
     anchors: Vec<Anchor>,

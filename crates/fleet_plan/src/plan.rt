@@ -15,8 +15,8 @@ use fleet_rows::SlateDBError;
 use fleet_table::{SortedRun, SsTableView};
 use std::alloc::Global;
 
-/// The ranges of keys for the parts of a job over these flushes and runs. Each but the last is meant to have the bytes of the
-/// greatest table at least. For one part the tables are not looked at.
+/// The ranges of keys for the parts of a job over these flushes and runs. They are those of `select_boundaries`, with a target that
+/// is no less than the size of the greatest table. For one part the tables are not looked at.
 pub fn plan_subcompaction_ranges(
     alloc: Global,
     l0: &[SsTableView],

@@ -61,7 +61,7 @@ fn ranges(alloc: Global, cuts: &[u8]) -> Result<Vec<BytesRange>, Fail> {
     Ok(ranges)
 }
 
-// The answers of the Rust crate 0.16.0: the most ranges, the least bytes, keys and bytes of the anchors, and the keys at which
+// The answers of the Rust crate 0.16.0: the most ranges, the least target, keys and bytes of the anchors, and the keys at which
 // ranges begin.
 static BOUNDARIES: [(u64, u64, Keys, &'static [u64], Keys); 40] = [
     (

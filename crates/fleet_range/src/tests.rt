@@ -58,7 +58,8 @@ fn told_or_none(alloc: Global, range: &Option<BytesRange>) -> Result<Vec<u8>, Al
     }
 }
 
-// The answers of the Rust crate 0.16.0: prefixes with their ranges, subranges placed behind prefixes, and intersections.
+// The answers of the Rust crate 0.16.0: prefixes with their ranges, subranges placed behind prefixes, and intersections. At the
+// last subrange, whose bounds leave no room, the Rust crate panics; the answer there is that of this crate.
 static PREFIXES: [(Text, Text); 6] = [
     (b"", b"* *"),
     (b"a", b"ia xb"),
