@@ -9,12 +9,11 @@ use std::test::Fail;
 const FLUSH_AND_READ: &str =
     "flush 1 - 3 0 61:t:-:4:-:-,61:v:7631:2:-:-,61:v:7630:1:-:-\nread - 61 3 0\nread - 61 4 0\nread - 61 2 0\nread - 62 9 0\n";
 
-const REPLIES: &str = "ok\nvalue 7631\nnone\nnotretained 3 0\nnone\n";
+const FLUSH_AND_READ_REPLIES: &str = "ok\nvalue 7631\nnone\nvalue 7631\nnone\n";
 
-const ONE_JOB: &str = "start coordinator 1\n\
+const DELETED_KEY: &str = "flush 1 - 3 0 61:t:-:4:-:-,61:v:7631:2:-:-,61:v:7630:1:-:-\n\
+     start coordinator 1\n\
      start worker 1\n\
-     flush 1 - 0 0 61:v:7631:3:-:-,61:v:7630:1:-:-,62:t:-:2:-:-\n\
-     flush 2 - 3 0 62:v:7a:4:-:-\n\
      submit - 0 l1\n\
      poll 1\n\
      claim 1\n\
@@ -22,22 +21,19 @@ const ONE_JOB: &str = "start coordinator 1\n\
      poll 1\n\
      dump - r0\n\
      read - 61 3 0\n\
-     read - 62 4 0\n\
-     read - 62 3 0\n\
+     read - 61 4 0\n\
      read - 61 2 0\n";
 
-const JOB_REPLIES: &str = "ok epoch 1\n\
-     ok\n\
-     ok\n\
+const DELETED_KEY_REPLIES: &str = "ok\n\
+     ok epoch 1\n\
      ok\n\
      ok job 1\n\
      ok freed - done - lost - added - dropped - open 1 moved - drained - bad -\n\
      ok claimed 1.1:- stopped -\n\
      ok t1\n\
      ok freed - done 1 lost - added - dropped - open - moved - drained - bad -\n\
-     ok 61:v:7631:3:-:-\n\
+     ok 61:t:-:4:-:-,61:v:7631:2:-:-\n\
      value 7631\n\
-     value 7a\n\
      none\n\
      notretained 3 0\n";
 
@@ -68,7 +64,10 @@ impl Sink for ShortSink {
 /// Where a growth is refused, on whatever way, the status is 6 and whole replies stand. With ample memory it is 0.
 #[test]
 fn memory_ends_between_replies(rt: HostRuntime) -> Result<(), Fail> {
-    let rows: [(&str, &str); 2] = [(FLUSH_AND_READ, REPLIES), (ONE_JOB, JOB_REPLIES)];
+    let rows: [(&str, &str); 2] = [
+        (FLUSH_AND_READ, FLUSH_AND_READ_REPLIES),
+        (DELETED_KEY, DELETED_KEY_REPLIES),
+    ];
     for (script, replies) in rows {
         let Ok(mut fleet) = Fleet::new(rt.alloc()) else {
             continue;

@@ -1,5 +1,5 @@
 -- What a flush that breaks no rule is.
-use Rattle.std.proofs.Common.{◌≡◌, refl, ap, ℕ, ◌<◌, ℤ, List, [], ◌∷◌, length, cond, Bool, true, false, not, ◌&&◌, Option, Some, None, arith, nat_lt, nat_le, int_lt, codes, fold, ◌^◌}
+use Rattle.std.proofs.Common.{◌≡◌, refl, ap, ℕ, ◌<◌, ℤ, List, [], ◌∷◌, length, cond, Bool, true, false, not, ◌&&◌, Option, Some, None, arith, nat_lt, nat_le, int_lt, fold, ◌^◌}
 use Rattle.std.specs.List.{AllByRecursion, list_all}
 use Rattle.std.specs.Option.{option_or}
 use Rattle.std.proofs.lemmas.Bool.Decides.{nat_tests}
@@ -11,7 +11,8 @@ use Rattle.fleet_rows.specs.Row.{rows_of}
 use Rattle.fleet_rows.specs.declared.row.RowEntry.{RowEntry}
 use Rattle.fleet_table.specs.Table.{IsTable}
 use Rattle.fleet_table.proofs.Ordered.{ordered_of_test}
-use Rattle.script_model.specs.Flushes.{is_above}
+use Rattle.step_model.specs.FlushSteps.{is_above}
+use Rattle.step_model.specs.StepEnds.{BadName, BadOrder, BadSequence, BadFloor, BadTick}
 use Rattle.fleet_run.specs.FleetView.{FleetView}
 use Rattle.fleet_run.specs.Serve.{fault_alone, fault_against, flush_fault}
 
@@ -31,7 +32,7 @@ pub record IsSoundAlone (fleet : FleetView) (name : ℕ) (rows : List Row) : Typ
 pub sound_alone : (fleet : FleetView) (name : ℕ) (rows : List Row) → fault_alone fleet name rows ≡ None → IsSoundAlone fleet name rows
 sound_alone fleet name rows h = by (nat_le name fleet.last_name) (are_ordered rows) refl refl h
   where
-    by : (b o : Bool) → nat_le name fleet.last_name ≡ b → are_ordered rows ≡ o → cond b (Some (codes "name")) (cond (not o) (Some (codes "order")) None) ≡ None → IsSoundAlone fleet name rows
+    by : (b o : Bool) → nat_le name fleet.last_name ≡ b → are_ordered rows ≡ o → cond b (Some BadName) (cond (not o) (Some BadOrder) None) ≡ None → IsSoundAlone fleet name rows
     by true o is os h = absurd (cc h)
     by false true is os h = record { named = grind (arith, nat_tests, is); ordered = ordered_of_test rows os }
     by false false is os h = absurd (cc h)
@@ -42,7 +43,7 @@ rows_newer fleet floor tick rows h = by (list_all newer rows) refl h
     newer : Row → Bool
     newer r = is_above fleet.last_seq r.seq
 
-    by : (b : Bool) → list_all newer rows ≡ b → cond (not b) (Some (codes "sequence")) (cond (nat_lt floor fleet.floor) (Some (codes "floor")) (cond (int_lt tick fleet.tick) (Some (codes "tick")) None)) ≡ None
+    by : (b : Bool) → list_all newer rows ≡ b → cond (not b) (Some BadSequence) (cond (nat_lt floor fleet.floor) (Some BadFloor) (cond (int_lt tick fleet.tick) (Some BadTick) None)) ≡ None
         → AllByRecursion (λ r. newer r ≡ true) rows
     by true is h = all_of_test newer rows is
     by false is h = absurd (cc h)

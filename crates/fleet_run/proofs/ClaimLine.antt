@@ -1,49 +1,63 @@
 -- The line of a claim.
-use Rattle.std.proofs.Common.{◌≡◌, refl, sym, ap, ◌∙◌, subst, ℕ, ◌+◌, ◌-◌, ◌<◌, ◌==◌, List, [], ◌∷◌, ◌++◌, map, filter, cond, Bool, true, false, not, ◌&&◌, Option, Some, None, arith, length, take, zero, suc}
-use Rattle.std.specs.Prelude.{flat_map, is_none}
-use Rattle.std.specs.List.{AllByRecursion}
+use Rattle.std.proofs.Common.{◌≡◌, refl, sym, ap, ◌∙◌, subst, ℕ, suc, ◌+◌, ◌-◌, ◌<◌, ◌==◌, List, [], ◌∷◌, ◌++◌, map, filter, cond, Bool, true, false, not, ◌&&◌, Option, Some, None, arith, length, take, zero}
+use Rattle.std.specs.Prelude.{flat_map, is_none, bytes_eq}
+use Rattle.std.specs.List.{AllByRecursion, list_all}
 use Rattle.std.proofs.lemmas.Bool.Decides.{nat_tests}
 use Rattle.row_model.specs.Ranges.{Range}
 use Rattle.row_model.specs.Settings.{Settings}
 use Rattle.row_model.specs.Plan.{planned}
-use Rattle.fleet_model.specs.Nodes.{Tables, table_rows, tree_at}
-use Rattle.fleet_model.specs.History.{Worker, GetManifest, GetRecords, Plan, Claim}
-use Rattle.fleet_model.specs.Jobs.{Job, Jobs, Status, Submitted, Scheduled, Running, Compacted, Completed, Failed, status_eq, is_finished, is_active, ids, contains, changed}
+use Rattle.fleet_model.specs.Nodes.{Tables, Tree, L0, names, names_contain, table_rows, tree_at}
+use Rattle.fleet_model.specs.History.{Worker, GetManifest, Plan, Claim}
+use Rattle.fleet_model.specs.Jobs.{Job, Jobs, Two, Status, Submitted, Scheduled, Running, Compacted, Completed, Failed, status_eq, is_finished, ids, contains, changed, trimmed}
 use Rattle.fleet_model.specs.Records.{claimed_by, firsts}
-use Rattle.fleet_model.specs.Parties.{LiveWorker, Attempt, worker_with, without_attempts, with_attempts, attempt_jobs, named}
-use Rattle.fleet_model.specs.Store.{Store, Records, jobs_in, records_epoch}
-use Rattle.fleet_model.specs.Attempts.{is_last, is_last_run, claim_settings}
-use Rattle.fleet_model.specs.Claims.{is_waiting, stopped_jobs, claimed_jobs, claimed_attempt}
-use Rattle.fleet_model.specs.Exchanges.{records_version}
-use Rattle.script_model.specs.Effects.{Effect, call, if_some, if_any, only_replies, no_such_party, plain, puts_change}
+use Rattle.fleet_model.specs.Parties.{LiveWorker, Attempt, Parties, worker_with, without_worker, with_attempts, attempt_jobs}
+use Rattle.fleet_model.specs.Store.{Manifest, Store, Records, jobs_in}
+use Rattle.fleet_model.specs.Attempts.{ClaimInput, is_last, is_last_run, claim_settings}
+use Rattle.fleet_model.specs.Claims.{is_waiting, may_take, stopped_jobs, claimed_jobs, claimed_attempt}
+use Rattle.fleet_model.specs.Exchanges.{Plain, records_version}
+use Rattle.fleet_model.specs.Trees.{source_pieces}
+use Rattle.step_model.specs.ClaimSteps.{WorkerOptions, Claimed, can_start, plan_of, claim_by, claim_of, claims_from, claim}
+use Rattle.step_model.specs.Course.{Course, Ends, Calls, calls_each}
+use Rattle.step_model.specs.StepEnds.{StepEnd, Reports}
+use Rattle.script_model.specs.Defaults.{default_options}
+use Rattle.script_model.specs.LineRuns.{LineEnd, LineCourse, if_some, only_replies, line_end}
 use Rattle.script_model.specs.Replies.{claim_reply}
 use Rattle.script_model.specs.States.{State}
-use Rattle.script_model.specs.WorkLines.{claim, worker_effect, planned_note}
+use Rattle.script_model.specs.WorkLines.{claim_line, worker_line, worker_options, running}
 use Rattle.fleet_run.specs.declared.jobs.AskedJob.{AskedJob}
 use Rattle.fleet_run.specs.Jobs.{Stage, Waits, Runs, Wrote, OpenJob, attempt_of}
 use Rattle.fleet_run.specs.FleetView.{FleetView}
-use Rattle.fleet_run.specs.Serve.{settings_now, waiting_job, claimed_reply, opened_claimed, claim_answer, after_claim}
-use Rattle.fleet_run.specs.Holds.{held, Holds, JobsAre, AreRecords, IfOpen, OpenStands, IsStored, spec_of, asked_job, opened_job, open_jobs, known_tables, coordinators, workers, attempts_by, parties_of, state_of}
-use Rattle.fleet_run.proofs.Calls.{all_held}
+use Rattle.fleet_run.specs.Serve.{no_such_party, settings_now, waiting_job, claimed_reply, opened_claimed, claim_answer, after_claim}
+use Rattle.fleet_run.specs.Holds.{Held, held, Holds, JobsAre, AreRecords, IfOpen, OpenStands, IsStored, spec_of, asked_job, opened_job, open_jobs, known_tables, coordinators, workers, attempts_by, parties_of, state_of}
+use Rattle.fleet_run.proofs.Calls.{Leads, call_leads, gets_records_leads, puts_records_leads}
+use Rattle.fleet_run.proofs.Commits.{oldest_stands}
 use Rattle.fleet_run.proofs.JobLists.{filter_active, one_changed, trimmed_are}
-use Rattle.fleet_run.proofs.RootTree.{run_ids_are}
+use Rattle.fleet_run.proofs.RootTree.{tree, run_ids_are}
 use Rattle.fleet_run.proofs.Plans.{one_range}
-use Rattle.fleet_run.proofs.Serves.{Serves, serves_by}
+use Rattle.fleet_run.proofs.Serves.{Serves, step_serves, replies_serve}
+use Rattle.fleet_run.proofs.StoredRecords.{are_stored, records_kept}
 
 -- ---- the settings and the ranges of a claim
 
-settings_are : (fleet : FleetView) (store : Store) (job : AskedJob) → Holds fleet (held store) → claim_settings store.manifest (spec_of job) ≡ settings_now fleet job
+abbrev options : WorkerOptions
+options = worker_options default_options
+
+-- A claim at moment 0, without a retention, goes by this.
+abbrev input_of : Manifest → Tables → ClaimInput
+input_of manifest tables = record { release = Two; manifest = manifest; moment = 0; retention = 0; most = 4; tables = tables }
+
+settings_are : (fleet : FleetView) (store : Store) (job : AskedJob) → Holds fleet (held store) → claim_settings store.manifest store.manifest.floor (spec_of job) ≡ settings_now fleet job
 settings_are fleet store job holds =
-    ap (λ f. record { floor = f; tick = store.manifest.tick; last_run = is_last_run (Some job.destination) (tree_at [] store.manifest.trees) }) holds.floor
-    ∙ ap (λ t. record { floor = fleet.floor; tick = t; last_run = is_last_run (Some job.destination) (tree_at [] store.manifest.trees) }) holds.tick
-    ∙ ap (λ trees. record { floor = fleet.floor; tick = fleet.tick; last_run = is_last_run (Some job.destination) (tree_at [] trees) }) holds.trees
-    ∙ ap (λ (runs : List ℕ). record { floor = fleet.floor; tick = fleet.tick; last_run = is_last job.destination runs })
+    ap (λ f. record { floor = f; tick = store.manifest.tick; last_run = is_last_run (Some job.destination) (tree_at [] store.manifest.trees); cut = f }) holds.floor
+    ∙ ap (λ t. record { floor = fleet.floor; tick = t; last_run = is_last_run (Some job.destination) (tree_at [] store.manifest.trees); cut = fleet.floor }) holds.tick
+    ∙ ap (λ trees. record { floor = fleet.floor; tick = fleet.tick; last_run = is_last_run (Some job.destination) (tree_at [] trees); cut = fleet.floor }) holds.trees
+    ∙ ap (λ (runs : List ℕ). record { floor = fleet.floor; tick = fleet.tick; last_run = is_last job.destination runs; cut = fleet.floor })
     (run_ids_are fleet.flushes holds.made ∙ sym (ap (λ (rs : List (ℕ × Tables)). firsts rs) holds.runs))
 
-attempt_is : (fleet : FleetView) (store : Store) (job : AskedJob) → Holds fleet (held store) → claimed_attempt store.manifest 4 store.tables (opened_job job) ≡ attempt_of job (settings_now fleet job)
+attempt_is : (fleet : FleetView) (store : Store) (job : AskedJob) → Holds fleet (held store) → claimed_attempt (input_of store.manifest store.tables) (opened_job job) ≡ attempt_of job (settings_now fleet job)
 attempt_is fleet store job holds =
     let attempt : Settings → List Range → Attempt = λ settings ranges.
-    record { job = job.id; number = 1; sources = job.source ∷ []; context = record { settings = settings; ranges = map (λ range. (range, [])) ranges } } in
+    record { job = job.id; number = 1; sources = job.source ∷ []; context = record { settings = settings; has_cut = true; ranges = map (λ range. (range, [])) ranges } } in
     ap (λ settings. attempt settings (planned 4 (table_rows store.tables job.source ∷ []))) (settings_are fleet store job holds)
     ∙ ap (attempt (settings_now fleet job)) (one_range 4 (table_rows store.tables job.source))
 
@@ -61,9 +75,11 @@ first_true : (a b : Bool) → (a && b) ≡ true → a ≡ true
 first_true true b h = refl
 first_true false b h = absurd (cc h)
 
+-- A claim of a worker of release 2 takes these jobs.
 abbrev others : List ℕ → Job → Bool
-others running job = is_waiting job && not (contains running job.id)
+others running job = is_waiting job && not (contains running job.id) && may_take Two job
 
+-- A claim stops these jobs.
 abbrev own : List ℕ → Job → Bool
 own running job = is_waiting job && contains running job.id
 
@@ -73,7 +89,7 @@ none_of_asked q h (a ∷ asked) = ap (λ b. cond b (asked_job a ∷ filter q (ma
 
 others_are : (running : List ℕ) (active : Jobs) (drawn : ℕ) (jobs : Jobs) → JobsAre active drawn jobs → filter (others running) jobs ≡ filter (others running) active
 others_are running active drawn jobs h =
-    filter_active (others running) (λ job e. waiting_active job.status (is_none job.lease) (first_true (is_waiting job) (not (contains running job.id)) e)) jobs ∙ ap (filter (others running)) h.are
+    filter_active (others running) (λ job e. waiting_active job.status (is_none job.lease) (first_true (is_waiting job) (not (contains running job.id)) (first_true (is_waiting job && not (contains running job.id)) (may_take Two job) e))) jobs ∙ ap (filter (others running)) h.are
 
 own_are : (running : List ℕ) (active : Jobs) (drawn : ℕ) (jobs : Jobs) → JobsAre active drawn jobs → filter (own running) jobs ≡ filter (own running) active
 own_are running active drawn jobs h =
@@ -83,35 +99,113 @@ take_none : (n : ℕ) → ◌≡◌ {A = Jobs} (take n []) []
 take_none zero = refl
 take_none (suc n) = refl
 
--- ---- the effect
+-- ---- what a claim calls
 
-abbrev effect_at : State → LiveWorker → Jobs → Jobs → Effect
-effect_at s w claimed stopped =
-    let of_job : Job → Attempt = claimed_attempt s.store.manifest s.options.ranges s.store.tables in
-    let new = map of_job claimed in
-    worker_effect w s
-    (call GetRecords ∷ if_any new (puts_change s (plain s) (Claim 1 (named new)) ∷ call GetManifest ∷ flat_map (λ job. planned_note job (of_job job)) claimed))
-    (claim_reply new (ids stopped))
-    (with_attempts new (without_attempts (ids stopped) w.attempts))
+-- A worker of release 2 runs these attempts.
+abbrev pub worker_of : List Attempt → LiveWorker
+worker_of attempts = record { number = 1; release = Two; attempts = attempts }
+
+-- A claim that takes nothing and stops nothing reports this.
+abbrev nothing_claimed : List Attempt → Claimed
+nothing_claimed attempts = record { begun = []; stopped = []; released = []; attempts = attempts }
+
+-- A claim that begins one attempt reports this.
+abbrev one_begun : Attempt → Claimed
+one_begun a = record { begun = a ∷ []; stopped = []; released = []; attempts = a ∷ [] }
+
+none_leads : (left seen : ℕ) (h : Held) (attempts : List Attempt) → claimed_jobs 4 (worker_of attempts) (jobs_in h.records) ≡ [] → stopped_jobs (worker_of attempts) (jobs_in h.records) ≡ []
+    → filter (λ (a : Attempt). true) attempts ≡ attempts → Leads (claims_from options 0 (worker_of attempts) (suc left) seen) h h (Reports (nothing_claimed attempts))
+none_leads left seen h attempts none stops same =
+    gets_records_leads h h (Reports (nothing_claimed attempts)) (λ got. claim_by options 0 w got again) (by h.records refl)
+  where
+    w : LiveWorker
+    w = worker_of attempts
+
+    again : ℕ → Course (StepEnd Claimed)
+    again = claims_from options 0 (worker_of attempts) left
+
+    by : (records : Option Records) → h.records ≡ records → Leads (claim_by options 0 (worker_of attempts) records again) h h (Reports (nothing_claimed attempts))
+    by None here = (refl, refl)
+    by (Some got) here =
+        let end : StepEnd Claimed = Reports (nothing_claimed attempts) in
+        let claims : claimed_jobs 4 (worker_of attempts) got.jobs ≡ [] = ap (λ r. claimed_jobs 4 (worker_of attempts) (jobs_in r)) (sym here) ∙ none in
+        let stopped : stopped_jobs (worker_of attempts) got.jobs ≡ [] = ap (λ r. stopped_jobs (worker_of attempts) (jobs_in r)) (sym here) ∙ stops in
+        subst (λ cs. Leads (claim_of options 0 (worker_of attempts) got cs (ids (stopped_jobs (worker_of attempts) got.jobs)) again) h h end) (sym claims)
+        (subst (λ ss. Leads (claim_of options 0 (worker_of attempts) got [] (ids ss) again) h h end) (sym stopped) (refl, ap (λ these. Reports (nothing_claimed these)) same))
+
+-- The records, once the job of this id is claimed.
+abbrev claimed_records : Records → ℕ → Records
+claimed_records got id = record got { version = got.version + 1; jobs = trimmed (changed (claimed_by 1 0) (id ∷ []) got.jobs) }
+
+one_leads : (left seen : ℕ) (h : Held) (got : Records) (job : AskedJob) (a : Attempt) → h.records ≡ Some got → claimed_jobs 4 (worker_of []) got.jobs ≡ opened_job job ∷ [] → stopped_jobs (worker_of []) got.jobs ≡ []
+    → can_start h.manifest (opened_job job) ≡ true → claimed_attempt (input_of h.manifest h.tables) (opened_job job) ≡ a
+    → Leads (claims_from options 0 (worker_of []) (suc left) seen) h (record h { records = Some (claimed_records got job.id) }) (Reports (one_begun a))
+one_leads left seen h got job a here claims stops starts_here is =
+    gets_records_leads h last end (λ records. claim_by options 0 w records again)
+    (subst (λ records. Leads (claim_by options 0 w records again) h last end) (sym here)
+    (subst (λ cs. Leads (claim_of options 0 w got cs (ids (stopped_jobs w got.jobs)) again) h last end) (sym claims)
+    (subst (λ ss. Leads (claim_of options 0 w got (opened_job job ∷ []) (ids ss) again) h last end) (sym stops)
+    (puts_records_leads h last end got (Claim 1 ((job.id, 1) ∷ [])) got.epoch (claimed_records got job.id).jobs (Calls (Plain GetManifest) (λ met. begins (input_of met.manifest met.tables))) again (sym (ap records_version here))
+    (call_leads last last end (Plain GetManifest) (λ k. begins (input_of k.manifest k.tables)) refl begun)))))
+  where
+    w : LiveWorker
+    w = worker_of []
+
+    again : ℕ → Course (StepEnd Claimed)
+    again = claims_from options 0 (worker_of []) left
+
+    last : Held
+    last = record h { records = Some (claimed_records got job.id) }
+
+    end : StepEnd Claimed
+    end = Reports (one_begun a)
+
+    -- The job starts, or it is released.
+    begins_by : Bool → ClaimInput → Course (StepEnd Claimed)
+    begins_by b input =
+        let started = cond b (opened_job job ∷ []) [] in
+        let begun = map (claimed_attempt input) started in
+        calls_each (flat_map (plan_of input) started) (Ends (Reports (record {
+          begun = begun;
+          stopped = [];
+          released = ids (cond (not b) (opened_job job ∷ []) []);
+          attempts = with_attempts begun [];
+        })))
+
+    begins : ClaimInput → Course (StepEnd Claimed)
+    begins input = begins_by (can_start input.manifest (opened_job job)) input
+
+    -- The plan of the attempt is noted, and the claim reports it.
+    notes : Attempt → Course (StepEnd Claimed)
+    notes b = Calls (Plain (Plan b.job b.number (map (λ r. r.0) b.context.ranges))) (λ met. Ends (Reports (one_begun b)))
+
+    noted : Leads (notes a) last last end
+    noted = (refl, λ met same. (refl, refl))
+
+    begun : Leads (begins (input_of h.manifest h.tables)) last last end
+    begun =
+        subst (λ b. Leads (begins_by b (input_of h.manifest h.tables)) last last end) (sym starts_here)
+        (subst (λ b. Leads (notes b) last last end) (sym is) noted)
+
+-- ---- the line
+
+-- The line, where the worker is live or not.
+abbrev line_at : State → Parties → LineCourse
+line_at s parties = if_some (worker_with 1 parties) (only_replies s no_such_party) (λ w. worker_line w s (claim options 0 w) (λ r. claim_reply r.begun r.stopped) (λ r. r.attempts) w.attempts)
 
 module _ (number : ℕ) (fleet : FleetView) (store : Store) (holds : Holds fleet (held store)) where
   abbrev s : State
   s = state_of fleet store
 
-  abbrev w : LiveWorker
-  w = record { number = 1; attempts = attempts_by fleet.opened }
-
   abbrev jobs : Jobs
   jobs = jobs_in store.records
 
-  live_effect : fleet.worker ≡ true → claim 1 s ≡ effect_at s w (claimed_jobs 4 w jobs) (stopped_jobs w jobs)
-  unfolding claim
-  live_effect live = ap (λ on. if_some (worker_with 1 (record { coordinators = coordinators fleet.coordinator; workers = workers on (attempts_by fleet.opened) })) (only_replies (Worker 1) s no_such_party)
-      (λ (x : LiveWorker). effect_at s x (claimed_jobs 4 x jobs) (stopped_jobs x jobs))) live
+  abbrev parties_with : Bool → List Attempt → Parties
+  parties_with on attempts = record { coordinators = coordinators fleet.coordinator; workers = workers on attempts }
 
-  pub workers_one : (attempts : List Attempt) → fleet.worker ≡ true
-      → (worker_effect w s [] [] attempts).parties ≡ record { coordinators = coordinators fleet.coordinator; workers = record { number = 1; attempts = attempts } ∷ [] }
-  workers_one attempts live = ap (λ on. record { coordinators = coordinators fleet.coordinator; workers = record { number = 1; attempts = attempts } ∷ filter (λ (x : LiveWorker). not (1 == x.number)) (workers on (attempts_by fleet.opened)) }) live
+  pub workers_one : (attempts before : List Attempt) → fleet.worker ≡ true → running (worker_of before) s attempts ≡ parties_with true attempts
+  workers_one attempts before live =
+      ap (λ on. record { coordinators = coordinators fleet.coordinator; workers = worker_of attempts ∷ filter (λ (x : LiveWorker). not (1 == x.number)) (workers on (attempts_by fleet.opened)) }) live
 
   answer_is : fleet.worker ≡ true → claimed_reply fleet (waiting_job fleet.opened) ≡ claim_answer fleet
   answer_is live = sym (ap (λ b. cond b (claimed_reply fleet (waiting_job fleet.opened)) no_such_party) live)
@@ -120,49 +214,57 @@ module _ (number : ℕ) (fleet : FleetView) (store : Store) (holds : Holds fleet
   after_is live = sym (ap (λ b. cond b (record fleet { opened = opened_claimed fleet fleet.opened (waiting_job fleet.opened) }) fleet) live)
 
   abbrev Goal : Type 0
-  Goal = Serves number fleet store (claim 1 s) (claim_answer fleet) (after_claim fleet)
+  Goal = Serves number fleet store (claim_line 1 s) (claim_answer fleet) (after_claim fleet)
 
-  -- no job waits
+  -- A claim of the live worker serves, and the fleet is left so.
+  of_worker : (attempts : List Attempt) (new : FleetView) (answer : List ℕ) → fleet.worker ≡ true → attempts_by fleet.opened ≡ attempts → answer ≡ claim_answer fleet → new ≡ after_claim fleet
+      → Serves number fleet store (line_at s (parties_with true attempts)) answer new → Goal
+  of_worker attempts new answer live are told is served =
+      subst (λ on. Serves number fleet store (line_at s (parties_with on (attempts_by fleet.opened))) (claim_answer fleet) (after_claim fleet)) (sym live)
+      (subst (λ these. Serves number fleet store (line_at s (parties_with true these)) (claim_answer fleet) (after_claim fleet)) (sym are)
+      (subst (λ text. Serves number fleet store (line_at s (parties_with true attempts)) text (after_claim fleet)) told
+      (subst (λ (f : FleetView). Serves number fleet store (line_at s (parties_with true attempts)) answer f) is served)))
+
+  abbrev ends_of : List Attempt → StepEnd Claimed → LineEnd
+  ends_of attempts = line_end (λ r. claim_reply r.begun r.stopped) (λ r. running (worker_of attempts) s r.attempts) (running (worker_of attempts) s attempts)
+
+  -- No job waits.
   none_claimed : fleet.worker ≡ true → waiting_job fleet.opened ≡ None → filter (others (attempt_jobs (attempts_by fleet.opened))) (open_jobs fleet.opened ++ map asked_job fleet.asked) ≡ []
       → filter (own (attempt_jobs (attempts_by fleet.opened))) (open_jobs fleet.opened ++ map asked_job fleet.asked) ≡ []
       → filter (λ (a : Attempt). true) (attempts_by fleet.opened) ≡ attempts_by fleet.opened → Goal
+  unfolding claim
   none_claimed live none left stopped same =
-      let running = attempt_jobs (attempts_by fleet.opened) in
+      let attempts = attempts_by fleet.opened in
+      let at_work = attempt_jobs attempts in
       let active = open_jobs fleet.opened ++ map asked_job fleet.asked in
-      let claims : claimed_jobs 4 w jobs ≡ [] = ap (take (4 - length (attempts_by fleet.opened))) (others_are running active fleet.jobs_drawn jobs holds.jobs ∙ left) ∙ take_none (4 - length (attempts_by fleet.opened)) in
-      let stops : stopped_jobs w jobs ≡ [] = own_are running active fleet.jobs_drawn jobs holds.jobs ∙ stopped in
-      let is : claim 1 s ≡ effect_at s w [] [] = live_effect live ∙ ap (λ cs. effect_at s w cs (stopped_jobs w jobs)) claims ∙ ap (effect_at s w []) stops in
-      let answer : claim_reply [] [] ≡ claim_answer fleet = ap (claimed_reply fleet) (sym none) ∙ answer_is live in
+      let claims : claimed_jobs 4 (worker_of attempts) jobs ≡ [] = ap (take (4 - length attempts)) (others_are at_work active fleet.jobs_drawn jobs holds.jobs ∙ left) ∙ take_none (4 - length attempts) in
+      let stops : stopped_jobs (worker_of attempts) jobs ≡ [] = own_are at_work active fleet.jobs_drawn jobs holds.jobs ∙ stopped in
       let new_is : fleet ≡ after_claim fleet = ap (λ o. record fleet { opened = opened_claimed fleet fleet.opened o }) (sym none) ∙ after_is live in
-      let parties : (effect_at s w [] []).parties ≡ parties_of fleet =
-      workers_one (filter (λ (a : Attempt). true) (attempts_by fleet.opened)) live
-      ∙ ap (λ attempts. record { coordinators = coordinators fleet.coordinator; workers = record { number = 1; attempts = attempts } ∷ [] }) same
-      ∙ sym (ap (λ on. record { coordinators = coordinators fleet.coordinator; workers = workers on (attempts_by fleet.opened) }) live) in
-      let served = serves_by number fleet fleet store (effect_at s w [] []) (claim_answer fleet) answer parties (refl, tt) holds in
-      subst (λ e. Serves number fleet store e (claim_answer fleet) (after_claim fleet)) (sym is) (subst (λ (f : FleetView). Serves number fleet store (effect_at s w [] []) (claim_answer fleet) f) new_is served)
+      let parties : running (worker_of attempts) s attempts ≡ parties_of fleet = workers_one attempts attempts live ∙ sym (ap (λ on. parties_with on attempts) live) in
+      let served = step_serves number fleet fleet store (Worker 1) (claim options 0 (worker_of attempts)) (ends_of attempts) (without_worker 1 s.parties) (Reports (nothing_claimed attempts)) (claim_reply [] []) (held store)
+      (none_leads 63 0 (held store) attempts claims stops same) (ap (λ p. record { reply = claim_reply [] []; parties = p }) parties) holds in
+      of_worker attempts fleet (claim_reply [] []) live refl (ap (claimed_reply fleet) (sym none) ∙ answer_is live) new_is served
 
-  -- one job waits
-  abbrev effect_with : Attempt → Effect
-  effect_with a =
-      worker_effect w s
-      (call GetRecords ∷ puts_change s (plain s) (Claim 1 (named (a ∷ []))) ∷ call GetManifest ∷ call (Plan a.job a.number (map (λ r. r.0) a.context.ranges)) ∷ [])
-      (claim_reply (a ∷ []) [])
-      (with_attempts (a ∷ []) (without_attempts [] w.attempts))
-
-  -- a run above all others is the last one only where there is no other
+  -- A run above all others is the last one only where there is no other.
   only_none : (runs : List (ℕ × Tables)) (id : ℕ) → AllByRecursion (λ run. run.0 < id) runs → is_last id (firsts runs) ≡ true → runs ≡ []
   only_none [] id above last = refl
   only_none (r ∷ []) id above last = absurd (let other : (r.0 == id) ≡ false = grind (arith, nat_tests, above.0) in cc (last, other))
   only_none (r ∷ q ∷ runs) id above last = absurd (cc (only_none (q ∷ runs) id above.1 last))
 
-  -- the records that a claim finds are there, and it leaves their epoch
-  pub records_left : (c : Bool) (records : Option Records) (first : Job) (rest changed : Jobs) → AreRecords c store.manifest records → filter is_active (jobs_in records) ≡ first ∷ rest
-      → AreRecords c store.manifest (Some (record { version = records_version records + 1; epoch = records_epoch records; jobs = changed }))
-  records_left false records first rest changed h are = absurd (let none : [] ≡ first ∷ rest = sym (ap (λ r. filter is_active (jobs_in r)) h.1) ∙ are in cc none)
-  records_left true None first rest changed h are = absurd h
-  records_left true (Some r) first rest changed h are = h
+  -- The job's flush stands in the tree with the table that the job keeps.
+  starts_here : (job : AskedJob) → OpenStands fleet (record { job = job; stage = Waits }) → can_start store.manifest (opened_job job) ≡ true
+  starts_here job stands =
+      let n = job.source in
+      let whole : Tables → Tree = λ flushes. tree flushes holds.made in
+      let oldest = oldest_stands n stands.newer stands.flush holds.made stands.named in
+      let test : Tree → Bool = λ t. list_all (names_contain (names t)) (L0 n ∷ []) && bytes_eq (source_pieces (L0 n ∷ []) t) (n ∷ []) in
+      ap (λ trees. test (tree_at [] trees)) holds.trees
+      ∙ ap (λ fs. test (whole fs)) stands.source
+      ∙ ap (λ b. b && bytes_eq (source_pieces (L0 n ∷ []) (whole (stands.newer ++ stands.flush ∷ []))) (n ∷ [])) oldest.there
+      ∙ oldest.kept
 
   one_claimed : fleet.worker ≡ true → (job : AskedJob) → fleet.opened ≡ Some (record { job = job; stage = Waits }) → OpenStands fleet (record { job = job; stage = Waits }) → Goal
+  unfolding claim
   one_claimed live job e stands =
       let settings = settings_now fleet job in
       let a = attempt_of job settings in
@@ -170,27 +272,23 @@ module _ (number : ℕ) (fleet : FleetView) (store : Store) (holds : Holds fleet
       let new : FleetView = record fleet { opened = Some opened } in
       let active = opened_job job ∷ map asked_job fleet.asked in
       let jobs_are : JobsAre active fleet.jobs_drawn jobs = subst (λ o. JobsAre (open_jobs o ++ map asked_job fleet.asked) fleet.jobs_drawn jobs) e holds.jobs in
-      let idle : attempts_by fleet.opened ≡ [] = ap attempts_by e in
-      let claims : claimed_jobs 4 w jobs ≡ opened_job job ∷ [] =
-      ap (λ attempts. claimed_jobs 4 (record { number = 1; attempts = attempts }) jobs) idle
-      ∙ ap (take 4) (others_are [] active fleet.jobs_drawn jobs jobs_are ∙ ap (λ js. opened_job job ∷ js) (none_of_asked (others []) (λ _. refl) fleet.asked)) in
-      let stops : stopped_jobs w jobs ≡ [] =
-      ap (λ attempts. stopped_jobs (record { number = 1; attempts = attempts }) jobs) idle
-      ∙ own_are [] active fleet.jobs_drawn jobs jobs_are ∙ none_of_asked (own []) (λ _. refl) fleet.asked in
-      let is : claim 1 s ≡ effect_with a =
-      live_effect live ∙ ap (λ cs. effect_at s w cs (stopped_jobs w jobs)) claims ∙ ap (effect_at s w (opened_job job ∷ [])) stops ∙ ap effect_with (attempt_is fleet store job holds) in
+      let there = are_stored store.records (opened_job job) (map asked_job fleet.asked) jobs_are.are in
+      let got = there.got in
+      let got_are : JobsAre active fleet.jobs_drawn got.jobs = subst (λ r. JobsAre active fleet.jobs_drawn (jobs_in r)) there.is jobs_are in
+      let claims : claimed_jobs 4 (worker_of []) got.jobs ≡ opened_job job ∷ [] =
+      ap (take 4) (others_are [] active fleet.jobs_drawn got.jobs got_are ∙ ap (λ js. opened_job job ∷ js) (none_of_asked (others []) (λ _. refl) fleet.asked)) in
+      let stops : stopped_jobs (worker_of []) got.jobs ≡ [] = own_are [] active fleet.jobs_drawn got.jobs got_are ∙ none_of_asked (own []) (λ _. refl) fleet.asked in
       let answer : claim_reply (a ∷ []) [] ≡ claim_answer fleet = sym (ap (λ o. claimed_reply fleet (waiting_job o)) e) ∙ answer_is live in
       let new_is : new ≡ after_claim fleet = sym (ap (λ o. record fleet { opened = opened_claimed fleet o (waiting_job o) }) e) ∙ after_is live in
-      let parties : (effect_with a).parties ≡ parties_of new =
-      workers_one (with_attempts (a ∷ []) (without_attempts [] w.attempts)) live
-      ∙ ap (λ attempts. record { coordinators = coordinators fleet.coordinator; workers = record { number = 1; attempts = with_attempts (a ∷ []) (without_attempts [] attempts) } ∷ [] }) idle
-      ∙ sym (ap (λ on. record { coordinators = coordinators fleet.coordinator; workers = workers on (a ∷ []) }) live) in
-      let changed_are = trimmed_are _ _ _ (one_changed (claimed_by 1 0) true [] (opened_job job) (map asked_job fleet.asked) fleet.jobs_drawn jobs refl refl jobs_are) in
-      let holds_new : Holds new (all_held (effect_with a).calls (held store)) = record {
+      let parties : running (worker_of []) s (a ∷ []) ≡ parties_of new = workers_one (a ∷ []) [] live ∙ sym (ap (λ on. parties_with on (a ∷ [])) live) in
+      let last : Held = record (held store) { records = Some (claimed_records got job.id) } in
+      let holds_new : Holds new last = record {
         made = holds.made;
         watermark = holds.watermark;
         trees = holds.trees;
         floor = holds.floor;
+        horizon = holds.horizon;
+        tracker = holds.tracker;
         tick = holds.tick;
         runs = holds.runs;
         falling = holds.falling;
@@ -204,31 +302,29 @@ module _ (number : ℕ) (fleet : FleetView) (store : Store) (holds : Holds fleet
         named = holds.named;
         jobs_drawn = holds.jobs_drawn;
         tables_drawn = holds.tables_drawn;
-        records = records_left fleet.coordinator store.records (opened_job job) (map asked_job fleet.asked) _ holds.records jobs_are.are;
-        jobs = changed_are;
+        records = records_kept fleet.coordinator store.manifest got (claimed_records got job.id) refl (subst (λ r. AreRecords fleet.coordinator store.manifest r) there.is holds.records);
+        jobs = trimmed_are _ _ _ (one_changed (claimed_by 1 0) true [] (opened_job job) (map asked_job fleet.asked) fleet.jobs_drawn got.jobs refl refl got_are);
         opened = record {
           newer = stands.newer;
           flush = stands.flush;
           source = stands.source;
           named = stands.named;
           above = stands.above;
-          stage = (omega arith, only_none fleet.runs job.destination stands.above);
+          stage = only_none fleet.runs job.destination stands.above;
         };
         idle = λ off. absurd (let clash : true ≡ false = sym live ∙ off in cc clash);
       } in
-      let served = serves_by number fleet new store (effect_with a) (claim_answer fleet) answer parties (refl, (refl, (refl, (refl, tt)))) holds_new in
-      subst (λ x. Serves number fleet store x (claim_answer fleet) (after_claim fleet)) (sym is) (subst (λ (f : FleetView). Serves number fleet store (effect_with a) (claim_answer fleet) f) new_is served)
+      let served = step_serves number fleet new store (Worker 1) (claim options 0 (worker_of [])) (ends_of []) (without_worker 1 s.parties) (Reports (one_begun a)) (claim_reply (a ∷ []) []) last
+      (one_leads 63 0 (held store) got job a there.is claims stops (starts_here job stands) (attempt_is fleet store job holds)) (ap (λ p. record { reply = claim_reply (a ∷ []) []; parties = p }) parties) holds_new in
+      of_worker [] new (claim_reply (a ∷ []) []) live (ap attempts_by e) answer new_is served
 
   no_claim : fleet.worker ≡ false → Goal
-  unfolding claim
   no_claim off =
-      let none : Effect = only_replies (Worker 1) s no_such_party in
-      let is : claim 1 s ≡ none = ap (λ on. if_some (worker_with 1 (record { coordinators = coordinators fleet.coordinator; workers = workers on (attempts_by fleet.opened) })) none
-      (λ (x : LiveWorker). effect_at s x (claimed_jobs 4 x jobs) (stopped_jobs x jobs))) off in
       let answer : no_such_party ≡ claim_answer fleet = sym (ap (λ b. cond b (claimed_reply fleet (waiting_job fleet.opened)) no_such_party) off) in
       let same : fleet ≡ after_claim fleet = sym (ap (λ b. cond b (record fleet { opened = opened_claimed fleet fleet.opened (waiting_job fleet.opened) }) fleet) off) in
-      let served = serves_by number fleet fleet store none (claim_answer fleet) answer refl tt holds in
-      subst (λ x. Serves number fleet store x (claim_answer fleet) (after_claim fleet)) (sym is) (subst (λ (f : FleetView). Serves number fleet store none (claim_answer fleet) f) same served)
+      let served = replies_serve number fleet store no_such_party holds in
+      subst (λ on. Serves number fleet store (line_at s (parties_with on (attempts_by fleet.opened))) (claim_answer fleet) (after_claim fleet)) (sym off)
+      (subst (λ text. Serves number fleet store (only_replies s no_such_party) text (after_claim fleet)) answer (subst (λ (f : FleetView). Serves number fleet store (only_replies s no_such_party) no_such_party f) same served))
 
   pub claim_serves : Goal
   claim_serves = live fleet.worker refl
@@ -250,7 +346,7 @@ module _ (number : ℕ) (fleet : FleetView) (store : Store) (holds : Holds fleet
       by_stage : fleet.worker ≡ true → (job : AskedJob) (stage : Stage) → fleet.opened ≡ Some (record { job = job; stage = stage }) → OpenStands fleet (record { job = job; stage = stage }) → Goal
       by_stage on job Waits e stands = one_claimed on job e stands
       by_stage on job (Runs settings) e stands = idle on (Some (record { job = job; stage = Runs settings })) e refl asked_none asked_own refl
-      by_stage on job (Wrote tables) e stands = idle on (Some (record { job = job; stage = Wrote tables })) e refl asked_none asked_own refl
+      by_stage on job (Wrote tables cut) e stands = idle on (Some (record { job = job; stage = Wrote tables cut })) e refl asked_none asked_own refl
 
       by : fleet.worker ≡ true → (opened : Option OpenJob) → fleet.opened ≡ opened → IfOpen fleet opened → Goal
       by on None e h = idle on None e refl asked_none asked_own refl

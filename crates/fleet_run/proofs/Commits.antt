@@ -12,7 +12,7 @@ use Rattle.fleet_model.specs.Records.{firsts}
 use Rattle.fleet_model.specs.Attempts.{is_last}
 use Rattle.fleet_model.specs.Gates.{first_failing, commit_gate}
 use Rattle.fleet_model.specs.Trees.{source_pieces, without, put_run, stepped, stepped_in, watermark_after}
-use Rattle.script_model.specs.PollLines.{node_eq, same_trees}
+use Rattle.step_model.specs.PollSteps.{node_eq, same_tree}
 use Rattle.fleet_run.specs.declared.jobs.AskedJob.{AskedJob}
 use Rattle.fleet_run.specs.Jobs.{Wrote}
 use Rattle.fleet_run.specs.FleetView.{AreFlushes, newest_name}
@@ -99,16 +99,28 @@ committed_root tables job out newer flush made last_seq watermark more e sound a
     let segment : Tree → Segment = λ t. record { prefix = []; tree = t; last_seq = last_seq; watermark = mark } in
     ap (λ t. segment t ∷ []) (stepped_root tables job out newer flush made more e sound above)
 
-pub commit_passes : (job : AskedJob) (out : Tables) (newer : Tables) (flush : ℕ × List Row) (made : List MadeRun) (last_seq watermark : Option ℕ) → flush.0 ≡ job.source
-    → commit_gate (root (newer ++ flush ∷ []) made last_seq watermark) (λ spec. true) (job_at job (Wrote out)) ≡ None
-commit_passes job out newer flush made last_seq watermark e =
-    let n = job.source in
+-- The oldest flush is a node of the tree, and holds the table that a job of it keeps.
+pub record OldestStands (whole : Tree) (n : ℕ) : Type 0 where
+  pub there : list_all (names_contain (names whole)) (L0 n ∷ []) ≡ true
+  pub kept : bytes_eq (source_pieces (L0 n ∷ []) whole) (n ∷ []) ≡ true
+
+pub oldest_stands : (n : ℕ) (newer : Tables) (flush : ℕ × List Row) (made : List MadeRun) → flush.0 ≡ n → OldestStands (tree (newer ++ flush ∷ []) made) n
+oldest_stands n newer flush made e =
     let there = oldest_is_flush newer flush n e in
     let whole : Tree = tree (newer ++ flush ∷ []) made in
-    let here : list_all (names_contain (names whole)) (L0 n ∷ []) ≡ true = all_contained (newer ++ flush ∷ []) made n ∙ there in
-    let kept : bytes_eq (source_pieces (L0 n ∷ []) whole) (n ∷ []) ≡ true = (bytes_eq-Decides (source_pieces (L0 n ∷ []) whole) (n ∷ [])).1 (pieces_are (newer ++ flush ∷ []) made n there) in
-    ap (λ b. first_failing ((4, b) ∷ (10, bytes_eq (source_pieces (L0 n ∷ []) whole) (n ∷ [])) ∷ (0, true) ∷ [])) here
-    ∙ ap (λ b. first_failing ((10, b) ∷ (0, true) ∷ [])) kept
+    record {
+      there = all_contained (newer ++ flush ∷ []) made n ∙ there;
+      kept = (bytes_eq-Decides (source_pieces (L0 n ∷ []) whole) (n ∷ [])).1 (pieces_are (newer ++ flush ∷ []) made n there);
+    }
+
+pub commit_passes : (job : AskedJob) (out : Tables) (cut : ℕ) (newer : Tables) (flush : ℕ × List Row) (made : List MadeRun) (last_seq watermark : Option ℕ) → flush.0 ≡ job.source
+    → commit_gate (root (newer ++ flush ∷ []) made last_seq watermark) (λ spec. true) (job_at job (Wrote out cut)) ≡ None
+commit_passes job out cut newer flush made last_seq watermark e =
+    let n = job.source in
+    let whole : Tree = tree (newer ++ flush ∷ []) made in
+    let stands = oldest_stands n newer flush made e in
+    ap (λ b. first_failing ((4, b) ∷ (10, bytes_eq (source_pieces (L0 n ∷ []) whole) (n ∷ [])) ∷ (0, true) ∷ [])) stands.there
+    ∙ ap (λ b. first_failing ((10, b) ∷ (0, true) ∷ [])) stands.kept
 
 -- the trees are not the same
 trees_differ : (newer : Tables) (flush : ℕ × List Row) (made : List MadeRun) (m : MadeRun) → pointwise node_eq (tree (newer ++ flush ∷ []) made) (tree newer (m ∷ made)) ≡ false
@@ -120,5 +132,5 @@ trees_differ (f ∷ newer) flush made m = by (node_eq (node_of f) (node_of f)) (
     by false rest = refl
 
 pub roots_differ : (newer : Tables) (flush : ℕ × List Row) (made : List MadeRun) (m : MadeRun) (last_seq watermark mark : Option ℕ)
-    → same_trees (root (newer ++ flush ∷ []) made last_seq watermark) (root newer (m ∷ made) last_seq mark) ≡ false
+    → pointwise same_tree (root (newer ++ flush ∷ []) made last_seq watermark) (root newer (m ∷ made) last_seq mark) ≡ false
 roots_differ newer flush made m last_seq watermark mark = ap (λ b. b && true) (trees_differ newer flush made m)

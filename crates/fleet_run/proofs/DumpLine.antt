@@ -1,5 +1,5 @@
 -- The line of a dump: the rows of the node that is found are those of its flush or of its run.
-use Rattle.std.proofs.Common.{◌≡◌, refl, sym, ap, ◌∙◌, ℕ, ◌==◌, List, [], ◌∷◌, ◌++◌, map, flat_map, find, cond, Bool, true, false, Option, Some, None, arith, append-nil}
+use Rattle.std.proofs.Common.{◌≡◌, refl, sym, ap, ◌∙◌, subst, ℕ, ◌==◌, List, [], ◌∷◌, ◌++◌, map, flat_map, find, cond, Bool, true, false, Option, Some, None, arith, append-nil}
 use Rattle.std.specs.Prelude.{option_map}
 use Rattle.std.specs.List.{AllByRecursion}
 use Rattle.std.proofs.lemmas.Bool.Decides.{nat_tests}
@@ -7,6 +7,7 @@ use Rattle.row_model.specs.Rows.{Row}
 use Rattle.fleet_model.specs.Nodes.{Tables, Node, NodeName, L0, Run, node_named, node_rows, table_rows, tree_at}
 use Rattle.fleet_model.specs.Records.{firsts}
 use Rattle.fleet_model.specs.Store.{Store}
+use Rattle.script_model.specs.LineRuns.{only_replies}
 use Rattle.script_model.specs.Looks as looks
 use Rattle.script_model.specs.Looks.{dump}
 use Rattle.fleet_run.specs.FleetView.{FleetView}
@@ -14,7 +15,7 @@ use Rattle.fleet_run.specs.Serve.{rows_in, node_rows_or_none, dump_reply}
 use Rattle.fleet_run.specs.Holds.{held, Holds, MadeRun, run_of, all_flushes, node_of, run_node, IsStored, open_tables, state_of}
 use Rattle.fleet_run.proofs.ReadLine.{stored_rows}
 use Rattle.fleet_run.proofs.RootTree.{tree}
-use Rattle.fleet_run.proofs.Serves.{Serves, serves_by}
+use Rattle.fleet_run.proofs.Serves.{Serves, replies_serve}
 use Rattle.fleet_run.proofs.TreeHolds.{all_front, all_back}
 
 -- the rows of a node that was found
@@ -96,10 +97,11 @@ reply_alike stored (Some node) = refl
 
 pub dump_serves : (number : ℕ) (fleet : FleetView) (store : Store) → Holds fleet (held store) → (name : NodeName)
     → Serves number fleet store (dump [] name (state_of fleet store)) (dump_reply (node_rows_or_none fleet name)) fleet
-unfolding dump
 dump_serves number fleet store holds name =
-    let reply =
+    let s = state_of fleet store in
+    let told : List ℕ = looks.dump_reply store.tables (node_named name (tree_at [] store.manifest.trees)) in
+    let is : told ≡ dump_reply (node_rows_or_none fleet name) =
     reply_alike store.tables (node_named name (tree_at [] store.manifest.trees))
     ∙ ap (λ trees. dump_reply (rows_of_node store.tables (node_named name (tree_at [] trees)))) holds.trees
     ∙ ap dump_reply (rows_found fleet store holds name) in
-    serves_by number fleet fleet store (dump [] name (state_of fleet store)) (dump_reply (node_rows_or_none fleet name)) reply refl tt holds
+    subst (λ answer. Serves number fleet store (only_replies s told) answer fleet) is (replies_serve number fleet store told holds)

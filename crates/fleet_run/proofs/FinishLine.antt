@@ -1,10 +1,11 @@
--- The line of a finish: the job's flush is kept, cut and put, and the job is compacted.
-use Rattle.std.proofs.Common.{◌≡◌, refl, sym, ap, ◌∙◌, subst, ℕ, ◌+◌, ◌^◌, ◌<◌, ◌≤◌, ◌==◌, List, [], ◌∷◌, ◌++◌, map, cond, Bool, true, false, not, ◌&&◌, Option, Some, None, arith, append_assoc, append-nil, length, codes, inl, inr}
+-- The line of a finish: what the job keeps of its flush is cut and put, and the job is compacted.
+use Rattle.std.proofs.Common.{◌≡◌, refl, sym, ap, ◌∙◌, subst, ℕ, suc, ◌+◌, ◌^◌, ◌<◌, ◌≤◌, ◌==◌, List, [], ◌∷◌, ◌++◌, map, cond, Bool, true, false, not, ◌&&◌, Option, Some, None, arith, append_assoc, append-nil, length, codes, inl, inr}
 use Rattle.std.specs.Prelude.{flat_map}
 use Rattle.std.specs.List.{AllByRecursion}
 use Rattle.std.proofs.lemmas.Bool.Decides.{nat_tests}
 use Rattle.row_model.specs.Fold.{Operator}
 use Rattle.row_model.specs.JobRows.{JobRows, job_rows}
+use Rattle.row_model.specs.KeptRows.{kept_of_keys}
 use Rattle.row_model.specs.Ranges.{all_keys, rows_in}
 use Rattle.row_model.specs.Rows.{Row, sorted_rows}
 use Rattle.row_model.specs.Settings.{Settings}
@@ -13,36 +14,40 @@ use Rattle.row_laws.proofs.Elements.{all_weaken}
 use Rattle.row_laws.proofs.Merges.{ordered_stay}
 use Rattle.row_laws.proofs.Ranges.{all_in}
 use Rattle.row_laws.proofs.Tables.{cut_flat}
-use Rattle.fleet_fold.specs.Retention.{kept_of_keys}
 use Rattle.fleet_model.specs.Nodes.{Tables, table_rows}
-use Rattle.fleet_model.specs.Attempts.{source_rows}
-use Rattle.fleet_model.specs.History.{GetTable, GetRecords, Worker, Finish}
-use Rattle.fleet_model.specs.Jobs.{Job, Jobs, number_of}
-use Rattle.fleet_model.specs.Parties.{Attempt, LiveWorker, worker_with, runs_attempt, without_attempts}
-use Rattle.fleet_model.specs.Records.{firsts, finished_by}
-use Rattle.fleet_model.specs.Store.{Store, jobs_in}
-use Rattle.fleet_model.specs.Exchanges.{Exchange}
+use Rattle.fleet_model.specs.Attempts.{source_rows, rows_left}
+use Rattle.fleet_model.specs.History.{Worker, Finish}
+use Rattle.fleet_model.specs.Jobs.{Job, changed, number_of, trimmed}
+use Rattle.fleet_model.specs.Parties.{Attempt, LiveWorker, Parties, is_live, runs_attempt, worker_with, without_worker, without_attempts}
+use Rattle.fleet_model.specs.Records.{Unrecorded, no_contexts, firsts, finished_by}
+use Rattle.fleet_model.specs.Store.{Store, Records, jobs_in}
+use Rattle.fleet_model.specs.Exchanges.{records_version}
+use Rattle.step_model.specs.ClaimSteps.{WorkerOptions}
+use Rattle.step_model.specs.Course.{Course, Ends, puts_ranges}
+use Rattle.step_model.specs.OutputSteps.{FinishedJob, all_outputs, ends_job, ends_job_by, ends_from, end_job, finish}
+use Rattle.step_model.specs.StepEnds.{StepEnd, Reports}
 use Rattle.script_model.specs.Defaults.{default_options, with_quiet_scheduler}
-use Rattle.script_model.specs.Effects.{Effect, call, if_some, only_replies, no_such_party, plain, puts_change}
-use Rattle.script_model.specs.LineEffects.{attempt_run, attempt_numbered}
-use Rattle.script_model.specs.OutputLines.{left_in, finish, finish_by, numbered_ranges, put_calls}
-use Rattle.script_model.specs.Refusals.{FinishDoes, is_whole}
+use Rattle.script_model.specs.LineCourses as courses
+use Rattle.script_model.specs.LineCourses.{attempt_numbered}
+use Rattle.script_model.specs.LineRuns.{LineEnd, LineCourse, if_some, only_replies, line_end}
+use Rattle.script_model.specs.Refusals.{FinishMay, left_in, is_whole}
 use Rattle.script_model.specs.Replies.{reply, ranges_text}
 use Rattle.script_model.specs.States.{State}
-use Rattle.script_model.specs.WorkLines.{worker_effect, live_among}
+use Rattle.script_model.specs.WorkLines.{worker_options, running, finish_line}
 use Rattle.fleet_run.specs.declared.jobs.AskedJob.{AskedJob}
 use Rattle.fleet_run.specs.Jobs.{Stage, Waits, Runs, Wrote, OpenJob, attempt_of}
 use Rattle.fleet_run.specs.FleetView.{FleetView, AreFlushes, IsFlushAbove, newest_name}
-use Rattle.fleet_run.specs.Serve.{numbered, written, run_opened, run_by, wrote, finished, after_finish, finish_reply, finish_answer}
-use Rattle.fleet_run.specs.Holds.{held, Holds, made_of, all_flushes, IsStored, IsUsed, JobsAre, IfOpen, OpenStands, open_jobs, open_tables, job_at, asked_job, coordinators, workers, attempts_by, parties_of, state_of}
-use Rattle.fleet_run.proofs.Calls.{all_held}
-use Rattle.fleet_run.proofs.ClaimLine.{records_left}
+use Rattle.fleet_run.specs.Serve.{no_such_party, numbered, written, run_opened, run_by, wrote, finished, after_finish, finish_reply, finish_answer}
+use Rattle.fleet_run.specs.Holds.{Held, held, Holds, made_of, all_flushes, IsStored, IsUsed, JobsAre, AreRecords, IfOpen, OpenStands, open_jobs, open_tables, job_at, asked_job, coordinators, workers, attempts_by, parties_of, state_of}
+use Rattle.fleet_run.proofs.Calls.{Leads, gets_records_leads, puts_records_leads}
+use Rattle.fleet_run.proofs.ClaimLine.{worker_of, workers_one}
 use Rattle.fleet_run.proofs.FlushLine.{still_stored, new_stored}
 use Rattle.fleet_run.proofs.JobLists.{found_active, one_changed, trimmed_are}
 use Rattle.fleet_run.proofs.PlainJobs.{job_plain}
-use Rattle.fleet_run.proofs.PutTables.{same_numbers, numbered_length, numbered_rows, numbered_drawn, numbered_stored, after_puts, puts_held, puts_succeed}
+use Rattle.fleet_run.proofs.PutTables.{numbered_length, numbered_rows, numbered_drawn, numbered_stored, after_puts, puts_tables_leads}
 use Rattle.fleet_run.proofs.ReadLine.{stored_rows}
-use Rattle.fleet_run.proofs.Serves.{Serves, serves_by}
+use Rattle.fleet_run.proofs.Serves.{Serves, step_serves, replies_serve}
+use Rattle.fleet_run.proofs.StoredRecords.{AreStored, are_stored, records_kept}
 use Rattle.fleet_run.proofs.TreeHolds.{all_both, all_front, all_back}
 
 -- ---- the oldest flush that no job took
@@ -51,7 +56,7 @@ flush_behind : (newer : Tables) (flush : ℕ × List Row) (more : Tables) → Ar
 flush_behind [] flush more sound = sound.0
 flush_behind (f ∷ newer) flush more sound = flush_behind newer flush more sound.1
 
--- all newer ones have other names
+-- All newer flushes have other names.
 names_above : (newer : Tables) (flush : ℕ × List Row) (more : Tables) → AreFlushes (newer ++ flush ∷ more)
     → (flush.0 ≤ newest_name (newer ++ flush ∷ more)) × AllByRecursion (λ (f : ℕ × List Row). (f.0 == flush.0) ≡ false) newer
 names_above [] flush more sound = (omega arith, tt)
@@ -62,11 +67,93 @@ names_above (f ∷ newer) flush more sound =
 oldest_found : (newer : Tables) (flush : ℕ × List Row) (more : Tables) → AreFlushes (newer ++ flush ∷ more) → table_rows (newer ++ flush ∷ []) flush.0 ≡ flush.1
 oldest_found newer flush more sound = stored_rows (newer ++ flush ∷ []) flush (new_stored newer flush [] (names_above newer flush more sound).1)
 
--- what a finish does, and that it serves
+-- ---- what a finish calls
+
+abbrev options : WorkerOptions
+options = worker_options default_options
+
+-- A finish puts the job with these outputs and this cut.
+abbrev finishing : ℕ → Unrecorded
+finishing cut = record { moment = 0; published = no_contexts; kept_cut = Some cut; tables_of = λ spec. [] }
+
+-- The records, once the job of this id is finished.
+abbrev finished_records : Records → ℕ → ℕ → List ℕ → Records
+finished_records got id cut outputs = record got { version = got.version + 1; jobs = trimmed (changed (finished_by 1 (finishing cut) (outputs ∷ [])) (id ∷ []) got.jobs) }
+
+-- A finish of the only attempt reports these outputs.
+abbrev finish_end : List ℕ → StepEnd FinishedJob
+finish_end outputs = Reports (record { outputs = outputs ∷ []; attempts = [] })
+
+ends_leads : (left seen : ℕ) (h : Held) (got : Records) (job : AskedJob) (settings : Settings) (outputs : List ℕ) → h.records ≡ Some got → is_live got.jobs 1 (attempt_of job settings) ≡ true
+    → without_attempts (job.id ∷ []) (attempt_of job settings ∷ []) ≡ []
+    → Leads (ends_from 0 (worker_of (attempt_of job settings ∷ [])) (attempt_of job settings) (outputs ∷ []) (suc left) seen) h
+    (record h { records = Some (finished_records got job.id settings.cut outputs) }) (finish_end outputs)
+ends_leads left seen h got job settings outputs here live gone =
+    gets_records_leads h last end (λ records. ends_job_by 0 w a (outputs ∷ []) records again)
+    (subst (λ records. Leads (ends_job_by 0 w a (outputs ∷ []) records again) h last end) (sym here)
+    (subst (λ b. Leads (ends_job 0 w a (outputs ∷ []) got b again) h last end) (sym live)
+    (puts_records_leads h last end got (Finish 1 job.id 1 (outputs ∷ [])) got.epoch (finished_records got job.id settings.cut outputs).jobs
+    (Ends (Reports (record { outputs = outputs ∷ []; attempts = without_attempts (job.id ∷ []) (a ∷ []) }))) again (sym (ap records_version here))
+    (refl, ap (λ (attempts : List Attempt). Reports (record { outputs = outputs ∷ []; attempts = attempts })) gone))))
+  where
+    a : Attempt
+    a = attempt_of job settings
+
+    w : LiveWorker
+    w = worker_of (attempt_of job settings ∷ [])
+
+    again : ℕ → Course (StepEnd FinishedJob)
+    again = ends_from 0 (worker_of (attempt_of job settings ∷ [])) (attempt_of job settings) (outputs ∷ []) left
+
+    last : Held
+    last = record h { records = Some (finished_records got job.id settings.cut outputs) }
+
+    end : StepEnd FinishedJob
+    end = finish_end outputs
+
+finish_leads : (merge : Operator) (h : Held) (got : Records) (job : AskedJob) (settings : Settings) (kept : List Row) → h.records ≡ Some got → is_live got.jobs 1 (attempt_of job settings) ≡ true
+    → without_attempts (job.id ∷ []) (attempt_of job settings ∷ []) ≡ []
+    → (rows_left merge h.tables settings (job.source ∷ []) (all_keys, [])).rows ≡ kept
+    → let tables = numbered h.tables_drawn (cut_tables options.table_size kept) in
+    Leads (finish merge h.tables options 0 (worker_of (attempt_of job settings ∷ [])) (attempt_of job settings) None) h
+    (record (after_puts tables h) { records = Some (finished_records got job.id settings.cut (firsts tables)) }) (finish_end (firsts tables))
+unfolding finish end_job
+finish_leads merge h got job settings kept here live gone makes = (refl, λ met same. subst (λ rows. Leads (puts rows) h last end) (sym makes) ends)
+  where
+    tables : Tables
+    tables = numbered h.tables_drawn (cut_tables options.table_size kept)
+
+    last : Held
+    last = record (after_puts (numbered h.tables_drawn (cut_tables options.table_size kept)) h) { records = Some (finished_records got job.id settings.cut (firsts (numbered h.tables_drawn (cut_tables options.table_size kept)))) }
+
+    end : StepEnd FinishedJob
+    end = finish_end (firsts (numbered h.tables_drawn (cut_tables options.table_size kept)))
+
+    -- The job ends with these outputs.
+    further : List ℕ → Course (StepEnd FinishedJob)
+    further ids = ends_from 0 (worker_of (attempt_of job settings ∷ [])) (attempt_of job settings) (ids ∷ []) 64 0
+
+    puts : List Row → Course (StepEnd FinishedJob)
+    puts rows = puts_ranges 0 (cut_tables options.table_size rows ∷ []) (λ new. ends_from 0 (worker_of (attempt_of job settings ∷ [])) (attempt_of job settings) (all_outputs ((all_keys, []) ∷ []) new) 64 0)
+
+    ends : Leads (puts kept) h last end
+    ends = puts_tables_leads (cut_tables options.table_size kept) further h last end
+        (ends_leads 63 0 (after_puts (numbered h.tables_drawn (cut_tables options.table_size kept)) h) got job settings (firsts (numbered h.tables_drawn (cut_tables options.table_size kept))) here live gone)
+
+-- ---- the line
+
+-- The line of a finish, where no fold refuses.
+abbrev line_by : Operator → State → Option (LiveWorker × Attempt) → LineCourse
+line_by merge s found = if_some found (only_replies s no_such_party) (λ f. finish_line (with_quiet_scheduler merge) s f.0 f.1 None)
+
+-- No fold refuses at the finish, and its line serves.
 pub record FinishServes (merge : Operator) (number : ℕ) (fleet : FleetView) (store : Store) (job : ℕ) : Type 0 where
-  pub effect : Effect
-  pub does : FinishDoes (with_quiet_scheduler merge) (state_of fleet store) 1 (attempt_run (worker_with 1 (parties_of fleet)) job) effect
-  pub serves : Serves number fleet store effect (finish_answer fleet job) (after_finish fleet job)
+  pub may : FinishMay (with_quiet_scheduler merge) (state_of fleet store) (courses.job_at (state_of fleet store) 1 job) None
+  pub serves : Serves number fleet store (line_by merge (state_of fleet store) (courses.job_at (state_of fleet store) 1 job)) (finish_answer fleet job) (after_finish fleet job)
+
+-- The worker runs this attempt under the number, where it is live.
+abbrev attempt_in : Parties → ℕ → Option (LiveWorker × Attempt)
+attempt_in parties job = if_some (worker_with 1 parties) None (λ w. if_some (attempt_numbered job w.attempts) None (λ a. Some (w, a)))
 
 module _ (merge : Operator) (number : ℕ) (fleet : FleetView) (store : Store) (holds : Holds fleet (held store)) where
   abbrev s : State
@@ -74,15 +161,16 @@ module _ (merge : Operator) (number : ℕ) (fleet : FleetView) (store : Store) (
 
   -- ---- no such party
 
-  none_runs : (job : ℕ) → attempt_run (worker_with 1 (parties_of fleet)) job ≡ None → run_by fleet job ≡ None → FinishServes merge number fleet store job
+  none_runs : (job : ℕ) → attempt_in (parties_of fleet) job ≡ None → run_by fleet job ≡ None → FinishServes merge number fleet store job
   none_runs job none mine =
-      let e : Effect = only_replies (Worker 1) s no_such_party in
       let answer : no_such_party ≡ finish_answer fleet job = sym (ap (finish_reply fleet) mine) in
       let same : fleet ≡ after_finish fleet job = sym (ap (finished fleet) mine) in
+      let served = replies_serve number fleet store no_such_party holds in
       record {
-        effect = e;
-        does = subst (λ f. FinishDoes (with_quiet_scheduler merge) s 1 f e) (sym none) refl;
-        serves = subst (λ (f : FleetView). Serves number fleet store e (finish_answer fleet job) f) same (serves_by number fleet fleet store e (finish_answer fleet job) answer refl tt holds);
+        may = subst (λ f. FinishMay (with_quiet_scheduler merge) s f None) (sym none) refl;
+        serves = subst (λ f. Serves number fleet store (line_by merge s f) (finish_answer fleet job) (after_finish fleet job)) (sym none)
+            (subst (λ text. Serves number fleet store (only_replies s no_such_party) text (after_finish fleet job)) answer
+            (subst (λ (f : FleetView). Serves number fleet store (only_replies s no_such_party) no_such_party f) same served));
       }
 
   -- ---- the job runs
@@ -93,7 +181,7 @@ module _ (merge : Operator) (number : ℕ) (fleet : FleetView) (store : Store) (
     attempt = attempt_of job settings
 
     abbrev w : LiveWorker
-    w = record { number = 1; attempts = attempt ∷ [] }
+    w = worker_of (attempt ∷ [])
 
     abbrev kept : List Row
     kept = kept_of_keys settings stands.flush.1
@@ -137,38 +225,32 @@ module _ (merge : Operator) (number : ℕ) (fleet : FleetView) (store : Store) (
     written_is = ap (λ rows. numbered fleet.tables_drawn (cut_tables default_options.table_size (kept_of_keys settings rows)))
         (ap (λ fs. table_rows fs job.source) stands.source ∙ ap (table_rows (stands.newer ++ stands.flush ∷ [])) (sym stands.named) ∙ oldest_found stands.newer stands.flush (made_of holds.made) sound)
 
-    jobs : Jobs
-    jobs = jobs_in store.records
+    abbrev running_job : Job
+    running_job = job_at job (Runs settings)
 
-    abbrev running : Job
-    running = job_at job (Runs settings)
-
-    jobs_are : JobsAre (running ∷ map asked_job fleet.asked) fleet.jobs_drawn (jobs_in store.records)
+    jobs_are : JobsAre (running_job ∷ map asked_job fleet.asked) fleet.jobs_drawn (jobs_in store.records)
     jobs_are = subst (λ o. JobsAre (open_jobs o ++ map asked_job fleet.asked) fleet.jobs_drawn (jobs_in store.records)) e holds.jobs
 
-    still_live : live_among s w attempt ≡ attempt ∷ []
-    still_live = ap (λ found. cond (runs_attempt 1 1 found) (attempt ∷ []) []) (found_active [] running (map asked_job fleet.asked) fleet.jobs_drawn (jobs_in store.records) jobs_are)
+    there : AreStored store.records
+    there = are_stored store.records running_job (map asked_job fleet.asked) jobs_are.are
 
-    -- the records got, and the job's end put
-    abbrev last_calls : Tables → List Exchange
-    last_calls new = call GetRecords ∷ puts_change s (plain s) (Finish 1 job.id 1 (firsts new ∷ [])) ∷ []
+    got_are : JobsAre (running_job ∷ map asked_job fleet.asked) fleet.jobs_drawn there.got.jobs
+    got_are = subst (λ r. JobsAre (running_job ∷ map asked_job fleet.asked) fleet.jobs_drawn (jobs_in r)) there.is jobs_are
 
-    abbrev effect_with : Tables → List Exchange → Effect
-    effect_with new calls = worker_effect w s (call (GetTable job.source) ∷ calls) (reply (codes "ok" ∷ ranges_text (firsts new ∷ []) ∷ [])) (without_attempts (job.id ∷ []) (attempt ∷ []))
+    still_live : is_live there.got.jobs 1 attempt ≡ true
+    still_live = ap (runs_attempt 1 1) (found_active [] running_job (map asked_job fleet.asked) fleet.jobs_drawn there.got.jobs got_are)
 
-    finish_is : finish (with_quiet_scheduler merge) s w attempt ≡ effect_with tables (put_calls 0 tables ++ last_calls tables)
-    unfolding finish
-    finish_is =
-        ap (λ (made : JobRows). finish_by s w attempt (numbered_ranges s 1 (cut_tables default_options.table_size made.rows ∷ [])) (live_among s w attempt)) makes
-        ∙ ap (finish_by s w attempt (numbered_ranges s 1 (cut ∷ []))) still_live
-        ∙ ap (λ new. effect_with new (flat_map (put_calls 0) (new ∷ []) ++ last_calls new)) (same_numbers fleet store 1 fleet.tables_drawn cut (ap (λ n. n + 1) holds.tables_drawn))
-        ∙ ap (λ puts. effect_with tables (puts ++ last_calls tables)) (append-nil (put_calls 0 tables))
+    gone : without_attempts (job.id ∷ []) (attempt ∷ []) ≡ []
+    gone = let same : (job.id == job.id) ≡ true = grind (arith, nat_tests) in ap (λ b. cond (not (cond b true false)) (attempt ∷ []) []) same
 
     abbrev new : FleetView
-    new = wrote fleet job tables
+    new = wrote fleet job tables settings.cut
 
     abbrev last : ℕ
     last = fleet.tables_drawn + length tables
+
+    abbrev last_held : Held
+    last_held = record (after_puts tables (held store)) { records = Some (finished_records there.got job.id settings.cut (firsts tables)) }
 
     drawn : AllByRecursion (λ (table : ℕ × List Row). (2 ^ 79 + fleet.tables_drawn < table.0) × (table.0 ≤ 2 ^ 79 + last)) tables
     drawn = numbered_drawn fleet.tables_drawn last cut (omega (arith, numbered_length fleet.tables_drawn cut))
@@ -181,7 +263,7 @@ module _ (merge : Operator) (number : ℕ) (fleet : FleetView) (store : Store) (
     used_still other (inl le) = inl le
     used_still other (inr both) = inr (both.0, omega (arith, both.1))
 
-    finish_holds : Holds new (all_held (last_calls tables) (after_puts tables (held store)))
+    finish_holds : Holds new last_held
     finish_holds =
         let known = all_flushes fleet holds.made ++ flat_map (λ m. m.tables) holds.made in
         let old = all_front (IsStored store.tables) known (open_tables fleet.opened) holds.tables in
@@ -191,6 +273,8 @@ module _ (merge : Operator) (number : ℕ) (fleet : FleetView) (store : Store) (
           watermark = holds.watermark;
           trees = holds.trees;
           floor = holds.floor;
+          horizon = holds.horizon;
+          tracker = holds.tracker;
           tick = holds.tick;
           runs = holds.runs;
           falling = holds.falling;
@@ -205,46 +289,48 @@ module _ (merge : Operator) (number : ℕ) (fleet : FleetView) (store : Store) (
           named = holds.named;
           jobs_drawn = holds.jobs_drawn;
           tables_drawn = ap (λ n. n + length tables) holds.tables_drawn;
-          records = records_left number fleet store holds fleet.coordinator store.records running (map asked_job fleet.asked) _ holds.records jobs_are.are;
-          jobs = trimmed_are _ _ _ (one_changed (finished_by 1 0 (firsts tables ∷ [])) true [] running (map asked_job fleet.asked) fleet.jobs_drawn (jobs_in store.records) refl refl jobs_are);
+          records = records_kept fleet.coordinator store.manifest there.got (finished_records there.got job.id settings.cut (firsts tables)) refl (subst (λ r. AreRecords fleet.coordinator store.manifest r) there.is holds.records);
+          jobs = trimmed_are _ _ _ (one_changed (finished_by 1 (finishing settings.cut) (firsts tables ∷ [])) true [] running_job (map asked_job fleet.asked) fleet.jobs_drawn there.got.jobs refl refl got_are);
           opened = record {
             newer = stands.newer;
             flush = stands.flush;
             source = stands.source;
             named = stands.named;
             above = stands.above;
-            stage = record { settings = settings; low = stands.stage.0; oldest = stands.stage.1; are = numbered_rows fleet.tables_drawn cut ∙ cut_flat default_options.table_size 0 kept };
+            stage = record { settings = settings; low = omega arith; oldest = stands.stage; are = numbered_rows fleet.tables_drawn cut ∙ cut_flat default_options.table_size 0 kept };
           };
           idle = λ _. refl;
         }
 
+    -- The step leads to what the new fleet holds.
+    leads : Leads (finish merge store.tables options 0 w attempt None) (held store) last_held (finish_end (firsts tables))
+    leads =
+        subst (λ n. Leads (finish merge store.tables options 0 w attempt None) (held store)
+        (record (after_puts (numbered n cut) (held store)) { records = Some (finished_records there.got job.id settings.cut (firsts (numbered n cut))) }) (finish_end (firsts (numbered n cut)))) holds.tables_drawn
+        (finish_leads merge (held store) there.got job settings kept there.is still_live gone (ap (λ (made : JobRows). made.rows) makes))
+
     run_finishes : (job_number : ℕ) → (job_number == number_of job.id) ≡ true → FinishServes merge number fleet store job_number
     run_finishes job_number is =
-        let calls = call (GetTable job.source) ∷ (put_calls 0 tables ++ last_calls tables) in
-        let effect = effect_with tables (put_calls 0 tables ++ last_calls tables) in
         let mine : run_by fleet job_number ≡ Some (job, settings) =
         ap (λ on. cond on (run_opened job_number fleet.opened) None) live ∙ ap (run_opened job_number) e ∙ ap (λ b. cond b (Some (job, settings)) None) is in
-        let run : attempt_run (worker_with 1 (parties_of fleet)) job_number ≡ Some (w, attempt) =
-        ap (λ on. attempt_run (worker_with 1 (record { coordinators = coordinators fleet.coordinator; workers = workers on (attempts_by fleet.opened) })) job_number) live
-        ∙ ap (λ o. attempt_run (Some (record { number = 1; attempts = attempts_by o })) job_number) e
+        let run : attempt_in (parties_of fleet) job_number ≡ Some (w, attempt) =
+        ap (λ on. attempt_in (record { coordinators = coordinators fleet.coordinator; workers = workers on (attempts_by fleet.opened) }) job_number) live
+        ∙ ap (λ o. attempt_in (record { coordinators = coordinators fleet.coordinator; workers = workers true (attempts_by o) }) job_number) e
         ∙ ap (λ b. cond_run b) is in
         let answer : reply (codes "ok" ∷ ranges_text (firsts tables ∷ []) ∷ []) ≡ finish_answer fleet job_number =
         sym (ap (finish_reply fleet) mine ∙ ap (λ (ts : Tables). reply (codes "ok" ∷ ranges_text (firsts ts ∷ []) ∷ [])) written_is) in
-        let new_is : new ≡ after_finish fleet job_number = sym (ap (finished fleet) mine ∙ ap (wrote fleet job) written_is) in
-        let same : (job.id == job.id) ≡ true = grind (arith, nat_tests) in
-        let parties : effect.parties ≡ parties_of new =
-        ap (λ o. (worker_effect w (record s { parties = record { coordinators = coordinators fleet.coordinator; workers = workers fleet.worker (attempts_by o) } }) [] [] (without_attempts (job.id ∷ []) (attempt ∷ []))).parties) e
-        ∙ ap (λ on. (worker_effect w (record s { parties = record { coordinators = coordinators fleet.coordinator; workers = workers on (attempt ∷ []) } }) [] [] (without_attempts (job.id ∷ []) (attempt ∷ []))).parties) live
-        ∙ ap (λ b. record { coordinators = coordinators fleet.coordinator; workers = record { number = 1; attempts = cond (not (cond b true false)) (attempt ∷ []) [] } ∷ [] }) same
-        ∙ sym (ap (λ on. record { coordinators = coordinators fleet.coordinator; workers = workers on [] }) live) in
-        let held_is = puts_held fleet.tables_drawn last tables (last_calls tables) (held store) drawn in
-        let succeed = puts_succeed fleet.tables_drawn last tables (last_calls tables) (held store) drawn (refl, (refl, tt)) in
-        let served = serves_by number fleet new store effect (finish_answer fleet job_number) answer parties (refl, succeed) (subst (Holds new) (sym held_is) finish_holds) in
+        let new_is : new ≡ after_finish fleet job_number = sym (ap (finished fleet) mine ∙ ap (λ ts. wrote fleet job ts settings.cut) written_is) in
+        let parties : running w s [] ≡ parties_of new = workers_one number fleet store holds [] (attempt ∷ []) live ∙ sym (ap (λ on. record { coordinators = coordinators fleet.coordinator; workers = workers on [] }) live) in
+        let told : List ℕ = reply (codes "ok" ∷ ranges_text (firsts tables ∷ []) ∷ []) in
+        let ends : StepEnd FinishedJob → LineEnd = line_end (λ r. reply (codes "ok" ∷ ranges_text r.outputs ∷ [])) (λ r. running w s r.attempts) (running w s (without_attempts (job.id ∷ []) (attempt ∷ []))) in
+        let served = step_serves number fleet new store (Worker 1) (finish merge store.tables options 0 w attempt None) ends (without_worker 1 s.parties) (finish_end (firsts tables)) told last_held leads
+        (ap (λ p. record { reply = told; parties = p }) parties) finish_holds in
         let whole : is_whole (with_quiet_scheduler merge) s attempt ≡ true = ap (λ (made : JobRows). made.whole && true) makes in
         record {
-          effect = effect;
-          does = subst (λ f. FinishDoes (with_quiet_scheduler merge) s 1 f effect) (sym run) (inl (record { whole = whole; effect = sym finish_is }));
-          serves = subst (λ (f : FleetView). Serves number fleet store effect (finish_answer fleet job_number) f) new_is served;
+          may = subst (λ f. FinishMay (with_quiet_scheduler merge) s f None) (sym run) whole;
+          serves = subst (λ f. Serves number fleet store (line_by merge s f) (finish_answer fleet job_number) (after_finish fleet job_number)) (sym run)
+              (subst (λ text. Serves number fleet store (finish_line (with_quiet_scheduler merge) s w attempt None) text (after_finish fleet job_number)) answer
+              (subst (λ (f : FleetView). Serves number fleet store (finish_line (with_quiet_scheduler merge) s w attempt None) told f) new_is served));
         }
       where
         cond_run : Bool → Option (LiveWorker × Attempt)
@@ -257,9 +343,9 @@ module _ (merge : Operator) (number : ℕ) (fleet : FleetView) (store : Store) (
     where
       idle : fleet.worker ≡ true → (opened : Option OpenJob) → fleet.opened ≡ opened → attempt_numbered job (attempts_by opened) ≡ None → run_opened job opened ≡ None → FinishServes merge number fleet store job
       idle live opened e none mine = none_runs job
-          (ap (λ on. attempt_run (worker_with 1 (record { coordinators = coordinators fleet.coordinator; workers = workers on (attempts_by fleet.opened) })) job) live
-          ∙ ap (λ o. if_some (attempt_numbered job (attempts_by o)) None (λ a. Some (record { number = 1; attempts = attempts_by o }, a))) e
-          ∙ ap (λ found. if_some found None (λ a. Some (record { number = 1; attempts = attempts_by opened }, a))) none)
+          (ap (λ on. attempt_in (record { coordinators = coordinators fleet.coordinator; workers = workers on (attempts_by fleet.opened) }) job) live
+          ∙ ap (λ o. if_some (attempt_numbered job (attempts_by o)) None (λ a. Some (worker_of (attempts_by o), a))) e
+          ∙ ap (λ found. if_some found None (λ a. Some (worker_of (attempts_by opened), a))) none)
           (ap (λ on. cond on (run_opened job fleet.opened) None) live ∙ ap (run_opened job) e ∙ mine)
 
       by_number : fleet.worker ≡ true → (held : AskedJob) (settings : Settings) → fleet.opened ≡ Some (record { job = held; stage = Runs settings })
@@ -271,7 +357,7 @@ module _ (merge : Operator) (number : ℕ) (fleet : FleetView) (store : Store) (
       by_stage : fleet.worker ≡ true → (held : AskedJob) (stage : Stage) → fleet.opened ≡ Some (record { job = held; stage = stage }) → OpenStands fleet (record { job = held; stage = stage }) → FinishServes merge number fleet store job
       by_stage live held Waits e stands = idle live (Some (record { job = held; stage = Waits })) e refl refl
       by_stage live held (Runs settings) e stands = by_number live held settings e stands (job == number_of held.id) refl
-      by_stage live held (Wrote tables) e stands = idle live (Some (record { job = held; stage = Wrote tables })) e refl refl
+      by_stage live held (Wrote tables cut) e stands = idle live (Some (record { job = held; stage = Wrote tables cut })) e refl refl
 
       by_opened : fleet.worker ≡ true → (opened : Option OpenJob) → fleet.opened ≡ opened → IfOpen fleet opened → FinishServes merge number fleet store job
       by_opened live None e h = idle live None e refl refl
@@ -280,5 +366,5 @@ module _ (merge : Operator) (number : ℕ) (fleet : FleetView) (store : Store) (
       by : (on : Bool) → fleet.worker ≡ on → FinishServes merge number fleet store job
       by true live = by_opened live fleet.opened refl holds.opened
       by false off = none_runs job
-          (ap (λ on. attempt_run (worker_with 1 (record { coordinators = coordinators fleet.coordinator; workers = workers on (attempts_by fleet.opened) })) job) off)
+          (ap (λ on. attempt_in (record { coordinators = coordinators fleet.coordinator; workers = workers on (attempts_by fleet.opened) }) job) off)
           (ap (λ on. cond on (run_opened job fleet.opened) None) off)

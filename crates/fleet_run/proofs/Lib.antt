@@ -10,6 +10,7 @@ pub mod Rules
 pub mod Commits
 pub mod Polls
 pub mod Serves
+pub mod PollCourse
 pub mod PollSteps
 pub mod Nothing
 pub mod TreeHolds
@@ -21,6 +22,7 @@ pub mod PlainJobs
 pub mod ReadLine
 pub mod DumpLine
 pub mod FlushLine
+pub mod StoredRecords
 pub mod StartLines
 pub mod ClaimLine
 pub mod PutTables

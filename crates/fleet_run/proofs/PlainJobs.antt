@@ -10,13 +10,12 @@ use Rattle.row_model.specs.Rows.{Row, Content, Value, Merge, Tombstone, is_merge
 use Rattle.row_model.specs.Fold.{Operator, Outcome}
 use Rattle.row_model.specs.FoldedRows.{same_stamp, opens_group, takes_next, operand_groups, folded_chunk, group_row, all_or_none, cons_both, folded_rows}
 use Rattle.row_model.specs.JobRows.{job_rows, key_rows, joined_keys, before_refusal}
-use Rattle.row_model.specs.KeptRows.{kept_rows, retention_walk, without_old_tombstones, as_tombstone_if_expired}
+use Rattle.row_model.specs.KeptRows.{kept_rows, retention_walk, without_old_tombstones, as_tombstone_if_expired, kept_of_keys}
 use Rattle.row_model.specs.Read.{seen_at}
 use Rattle.row_model.specs.Settings.{Settings}
 use Rattle.row_laws.proofs.KeyRows.{job_rows-of_key}
 use Rattle.row_laws.proofs.ReadOnto.{act, onto}
 use Rattle.row_laws.proofs.RetentionReads.{onto-retention_walk, onto-without_old_tombstones}
-use Rattle.fleet_fold.specs.Retention.{kept_of_keys}
 use Rattle.fleet_fold.proofs.AllKept.{all_key_kept, all_kept, all_chunks}
 use Rattle.script_model.specs.Grammars.{IsPlain}
 use Rattle.fleet_run.specs.Serve.{value_in}
@@ -37,31 +36,31 @@ kept_plain settings rows h = all_kept IsPlain plain_stays settings rows h
 
 -- ---- nothing is folded
 
-opens_none : (floor : ℕ) (r : Row) → IsPlain r → opens_group floor r ≡ false
-opens_none floor r h = ap (λ b. b && nat_le r.seq floor) h.no_operand
+opens_none : (cut : ℕ) (r : Row) → IsPlain r → opens_group cut r ≡ false
+opens_none cut r h = ap (λ b. b && nat_le r.seq cut) h.no_operand
 
 abbrev alone : List Row → List (Chunk Row)
 alone rows = map (λ r. (r, [])) rows
 
-put_alone : (floor : ℕ) (r : Row) (rows : List Row) → IsPlain r → put_before (takes_next floor) r (alone rows) ≡ (r, []) ∷ alone rows
-put_alone floor r [] h = refl
-put_alone floor r (q ∷ rows) h = ap (λ b. cond (b && same_stamp r.expires q.expires) ((r, q ∷ []) ∷ alone rows) ((r, []) ∷ alone (q ∷ rows))) (opens_none floor r h)
+put_alone : (cut : ℕ) (r : Row) (rows : List Row) → IsPlain r → put_before (takes_next cut) r (alone rows) ≡ (r, []) ∷ alone rows
+put_alone cut r [] h = refl
+put_alone cut r (q ∷ rows) h = ap (λ b. cond (b && same_stamp r.expires q.expires) ((r, q ∷ []) ∷ alone rows) ((r, []) ∷ alone (q ∷ rows))) (opens_none cut r h)
 
-groups_alone : (floor : ℕ) (rows : List Row) → ArePlain rows → operand_groups floor rows ≡ alone rows
-groups_alone floor [] h = refl
-groups_alone floor (r ∷ rows) h = ap (put_before (takes_next floor) r) (groups_alone floor rows h.1) ∙ put_alone floor r rows h.0
+groups_alone : (cut : ℕ) (rows : List Row) → ArePlain rows → operand_groups cut rows ≡ alone rows
+groups_alone cut [] h = refl
+groups_alone cut (r ∷ rows) h = ap (put_before (takes_next cut) r) (groups_alone cut rows h.1) ∙ put_alone cut r rows h.0
 
-folded_alone : (merge : Operator) (floor : ℕ) (rows : List Row) → ArePlain rows → all_or_none (map (folded_chunk merge floor) (alone rows)) ≡ Some rows
-folded_alone merge floor [] h = refl
-folded_alone merge floor (r ∷ rows) h =
-    ap (λ b. cons_both (cond b (group_row merge (r, [])) (Some r)) (all_or_none (map (folded_chunk merge floor) (alone rows)))) (opens_none floor r h.0)
-    ∙ ap (cons_both (Some r)) (folded_alone merge floor rows h.1)
+folded_alone : (merge : Operator) (cut : ℕ) (rows : List Row) → ArePlain rows → all_or_none (map (folded_chunk merge cut) (alone rows)) ≡ Some rows
+folded_alone merge cut [] h = refl
+folded_alone merge cut (r ∷ rows) h =
+    ap (λ b. cons_both (cond b (group_row merge (r, [])) (Some r)) (all_or_none (map (folded_chunk merge cut) (alone rows)))) (opens_none cut r h.0)
+    ∙ ap (cons_both (Some r)) (folded_alone merge cut rows h.1)
 
-pub folded_plain : (merge : Operator) (floor : ℕ) (rows : List Row) → ArePlain rows → folded_rows merge floor rows ≡ Some rows
-folded_plain merge floor rows h = ap (λ gs. all_or_none (map (folded_chunk merge floor) gs)) (groups_alone floor rows h) ∙ folded_alone merge floor rows h
+pub folded_plain : (merge : Operator) (cut : ℕ) (rows : List Row) → ArePlain rows → folded_rows merge cut rows ≡ Some rows
+folded_plain merge cut rows h = ap (λ gs. all_or_none (map (folded_chunk merge cut) gs)) (groups_alone cut rows h) ∙ folded_alone merge cut rows h
 
 pub key_plain : (merge : Operator) (settings : Settings) (rows : List Row) → ArePlain rows → key_rows merge settings rows ≡ Some (kept_rows settings rows)
-key_plain merge settings rows h = ap (option_map (kept_rows settings)) (folded_plain merge settings.floor rows h)
+key_plain merge settings rows h = ap (option_map (kept_rows settings)) (folded_plain merge settings.cut rows h)
 
 keys_plain : (merge : Operator) (settings : Settings) (gs : List (Chunk Row)) → AllByRecursion (λ g. ArePlain (elements g)) gs
     → joined_keys (map (λ g. key_rows merge settings (elements g)) gs) ≡ record { rows = flat_map (λ g. kept_rows settings (elements g)) gs; whole = true }
@@ -106,18 +105,18 @@ int_le_itself : (t : ℤ) → int_le t t ≡ true
 int_le_itself (pos n) = grind (arith, nat_tests)
 int_le_itself (negsuc n) = grind (arith, nat_tests)
 
--- from the floor on the kept rows of a key read as its rows do, above what the older ones read; they may only be the oldest
--- where they were kept as such
-pub kept_reads : (settings : Settings) (s : ℕ) (rows : List Row) (older : Option Outcome) → settings.floor ≤ s → (settings.last_run ≡ true → older ≡ None) → ArePlain rows
+-- From the cut on the kept rows of a key read as its rows do, above what the older ones read. They may only be the oldest
+-- where they were kept as such.
+pub kept_reads : (settings : Settings) (s : ℕ) (rows : List Row) (older : Option Outcome) → settings.cut ≤ s → (settings.last_run ≡ true → older ≡ None) → ArePlain rows
     → or_older (slice_get (seen_at s (kept_rows settings rows)) 0) older ≡ or_older (slice_get (seen_at s rows) 0) older
 kept_reads settings s rows older low oldest h =
     let now = settings.tick in
     sym (onto-plain append [] s now older (kept_rows settings rows) (all_key_kept IsPlain plain_stays settings rows h))
-    ∙ by settings.last_run oldest (onto-retention_walk append [] s now settings.floor settings.tick low (int_le_itself settings.tick) older rows)
+    ∙ by settings.last_run oldest (onto-retention_walk append [] s now settings.cut settings.tick low (int_le_itself settings.tick) older rows)
     ∙ onto-plain append [] s now older rows h
   where
     walk : List Row
-    walk = retention_walk settings.floor settings.tick rows
+    walk = retention_walk settings.cut settings.tick rows
 
     by : (last : Bool) → (last ≡ true → older ≡ None) → onto append [] s settings.tick older walk ≡ onto append [] s settings.tick older rows
         → onto append [] s settings.tick older (cond last (without_old_tombstones walk) walk) ≡ onto append [] s settings.tick older rows

@@ -23,15 +23,15 @@ use Rattle.fleet_run.proofs.TreeHolds.{TreeHolds}
 
 -- ---- what a poll tells
 
-pub reply_told : (ts : Trees) (active : Jobs) (drawn : ℕ) (done opened : List ℕ) (refused : List (ℕ × ℕ)) (p : PollState) → At ts active drawn done opened refused p
-    → poll_reply p ≡ poll_reply (record (begun [] []) { done = done; opened = opened; refused = refused })
-reply_told ts active drawn done opened refused p at = rw (at.freed, at.done, at.lost, at.added, at.dropped, at.opened, at.moved, at.drained, at.refused) refl
+pub reply_told : (ts : Trees) (horizon : ℕ) (active : Jobs) (drawn : ℕ) (done opened : List ℕ) (refused : List (ℕ × ℕ)) (p : PollState) → At ts horizon active drawn done opened refused p
+    → poll_reply p ≡ poll_reply (record (begun [] 0 []) { done = done; opened = opened; refused = refused })
+reply_told ts horizon active drawn done opened refused p at = rw (at.freed, at.done, at.lost, at.added, at.dropped, at.opened, at.moved, at.drained, at.refused) refl
 
 -- ---- what a poll reached
 
 -- the jobs that are active behind a poll, and how the chosen one stands
-pub record Ends (fleet : FleetView) (made : List MadeRun) (watermark : Option ℕ) (joined : List ℕ) (k : Judged) (p : PollState) : Type 0 where
-  pub at : At (root fleet.flushes made fleet.last_seq watermark) (open_jobs (opened_after fleet.opened k.opened k.held) ++ []) fleet.jobs_drawn joined k.opened k.refused p
+pub record PollEnds (fleet : FleetView) (made : List MadeRun) (watermark : Option ℕ) (joined : List ℕ) (k : Judged) (p : PollState) : Type 0 where
+  pub at : At (root fleet.flushes made fleet.last_seq watermark) fleet.horizon (open_jobs (opened_after fleet.opened k.opened k.held) ++ []) fleet.jobs_drawn joined k.opened k.refused p
   pub stands : IfOpen (record fleet { asked = []; opened = opened_after fleet.opened k.opened k.held }) (opened_after fleet.opened k.opened k.held)
   pub attempts : attempts_by (opened_after fleet.opened k.opened k.held) ≡ attempts_by fleet.opened
   pub tables : (made_by : List MadeRun) → known_tables (record fleet { asked = []; opened = opened_after fleet.opened k.opened k.held }) made_by ≡ known_tables fleet made_by
@@ -69,11 +69,11 @@ second_true false b h = absurd (cc h)
 held_job : (job : AskedJob) (stage : Stage) → IsHeldJob job (job_at job stage)
 held_job job Waits = record { id = refl; spec = refl; reserves = refl; active = refl }
 held_job job (Runs settings) = record { id = refl; spec = refl; reserves = refl; active = refl }
-held_job job (Wrote tables) = record { id = refl; spec = refl; reserves = refl; active = refl }
+held_job job (Wrote tables cut) = record { id = refl; spec = refl; reserves = refl; active = refl }
 
-module _ (stored : Tables) (manifest : Manifest) (records : Records) (numbers : ℕ) (fleet : FleetView) (made : List MadeRun) (watermark : Option ℕ) (joined : List ℕ) (tree_holds : TreeHolds fleet made stored) where
+module _ (stored : Tables) (manifest : Manifest) (records : Records) (fleet : FleetView) (made : List MadeRun) (watermark : Option ℕ) (joined : List ℕ) (tree_holds : TreeHolds fleet made stored) where
   abbrev input : PollInput
-  input = quiet_input stored manifest records numbers
+  input = quiet_input stored manifest records
 
   abbrev reached : Trees
   reached = root fleet.flushes made fleet.last_seq watermark
@@ -82,13 +82,13 @@ module _ (stored : Tables) (manifest : Manifest) (records : Records) (numbers : 
   last_judged = judge_all (firsts fleet.flushes) (firsts (map run_of made)) (begin fleet) fleet.asked
 
   abbrev StartsAt : Option OpenJob → PollState → Type 0
-  StartsAt opened p = At reached (open_jobs opened ++ map asked_job fleet.asked) fleet.jobs_drawn joined [] [] p
+  StartsAt opened p = At reached fleet.horizon (open_jobs opened ++ map asked_job fleet.asked) fleet.jobs_drawn joined [] [] p
 
   abbrev EndsWith : Option OpenJob → PollState → Type 0
-  EndsWith opened p = At reached (open_jobs opened ++ []) fleet.jobs_drawn joined last_judged.opened last_judged.refused p
+  EndsWith opened p = At reached fleet.horizon (open_jobs opened ++ []) fleet.jobs_drawn joined last_judged.opened last_judged.refused p
 
   -- where the opened job stays, or none is opened
-  ends_same : (p : PollState) → last_judged.opened ≡ [] → IfOpen fleet fleet.opened → EndsWith fleet.opened p → Ends fleet made watermark joined last_judged p
+  ends_same : (p : PollState) → last_judged.opened ≡ [] → IfOpen fleet fleet.opened → EndsWith fleet.opened p → PollEnds fleet made watermark joined last_judged p
   ends_same p none stands at =
       let same : opened_after fleet.opened last_judged.opened last_judged.held ≡ fleet.opened = ap (λ os. opened_after fleet.opened os last_judged.held) none in
       record {
@@ -105,25 +105,25 @@ module _ (stored : Tables) (manifest : Manifest) (records : Records) (numbers : 
           stage_kept : (stage : Stage) (flush : ℕ × List Row) → StageFits fleet flush stage → StageFits (record fleet { asked = []; opened = Some o }) flush stage
           stage_kept Waits flush h = tt
           stage_kept (Runs settings) flush h = h
-          stage_kept (Wrote tables) flush h = h
+          stage_kept (Wrote tables cut) flush h = h
 
-  ends_held : (o : OpenJob) (p : PollState) → fleet.opened ≡ Some o → OpenStands fleet o → StartsAt fleet.opened p → Ends fleet made watermark joined last_judged (each (open_job input) (map asked_job fleet.asked) p)
+  ends_held : (o : OpenJob) (p : PollState) → fleet.opened ≡ Some o → OpenStands fleet o → StartsAt fleet.opened p → PollEnds fleet made watermark joined last_judged (each (open_job input) (map asked_job fleet.asked) p)
   ends_held o p e stands at =
       let oldest : is_last o.job.source (firsts fleet.flushes) ≡ true =
       subst (λ fs. is_last o.job.source (firsts fs) ≡ true) (sym stands.source) (oldest_is_last stands.newer stands.flush o.job.source stands.named) in
       let held : (begin fleet).held ≡ Some o.job = ap held_by e in
       let are : AreHeld (begin fleet).held (open_jobs fleet.opened) =
       subst (λ h. AreHeld h (open_jobs fleet.opened)) (sym held) (job_at o.job o.stage, held_job o.job o.stage, ap open_jobs e) in
-      let all = all_refused stored manifest records numbers fleet.flushes made fleet.last_seq watermark (made_of made) tree_holds.flushes fleet.jobs_drawn joined o.job (open_jobs fleet.opened) fleet.asked (begin fleet) p held are oldest at in
+      let all = all_refused stored manifest records fleet.flushes made fleet.last_seq watermark fleet.horizon (made_of made) tree_holds.flushes fleet.jobs_drawn joined o.job (open_jobs fleet.opened) fleet.asked (begin fleet) p held are oldest at in
       ends_same (each (open_job input) (map asked_job fleet.asked) p) all.opened (subst (IfOpen fleet) (sym e) stands) all.at
 
-  ends_free : (p : PollState) → fleet.opened ≡ None → StartsAt fleet.opened p → Ends fleet made watermark joined last_judged (each (open_job input) (map asked_job fleet.asked) p)
-  ends_free p e at = by (one_opened stored manifest records numbers fleet.flushes made fleet.last_seq watermark (made_of made) tree_holds.flushes fleet.jobs_drawn joined fleet.asked (begin fleet) p (ap held_by e) (subst (λ o. StartsAt o p) e at))
+  ends_free : (p : PollState) → fleet.opened ≡ None → StartsAt fleet.opened p → PollEnds fleet made watermark joined last_judged (each (open_job input) (map asked_job fleet.asked) p)
+  ends_free p e at = by (one_opened stored manifest records fleet.flushes made fleet.last_seq watermark fleet.horizon (made_of made) tree_holds.flushes fleet.jobs_drawn joined fleet.asked (begin fleet) p (ap held_by e) (subst (λ o. StartsAt o p) e at))
     where
       q : PollState
       q = each (open_job input) (map asked_job fleet.asked) p
 
-      by : Outcome stored manifest records numbers fleet.flushes made fleet.last_seq watermark (made_of made) tree_holds.flushes fleet.jobs_drawn joined (begin fleet) fleet.asked p → Ends fleet made watermark joined last_judged q
+      by : Outcome stored manifest records fleet.flushes made fleet.last_seq watermark fleet.horizon (made_of made) tree_holds.flushes fleet.jobs_drawn joined (begin fleet) fleet.asked p → PollEnds fleet made watermark joined last_judged q
       by (NoneOpened held opened reached_at) = ends_same q opened (subst (IfOpen fleet) (sym e) tt) (subst (λ o. EndsWith o q) (sym e) reached_at)
       by (OneOpened a passes held opened reached_at) =
           let new : Option OpenJob = Some (record { job = a; stage = Waits }) in
@@ -141,9 +141,9 @@ module _ (stored : Tables) (manifest : Manifest) (records : Records) (numbers : 
             tables = λ made_by. ap (λ o. known_tables (record fleet { asked = []; opened = o }) made_by) is ∙ sym (ap (λ o. known_tables (record fleet { opened = o }) made_by) e);
           }
 
-  pub ends_poll : (p : PollState) → IfOpen fleet fleet.opened → StartsAt fleet.opened p → Ends fleet made watermark joined last_judged (each (open_job input) (map asked_job fleet.asked) p)
+  pub ends_poll : (p : PollState) → IfOpen fleet fleet.opened → StartsAt fleet.opened p → PollEnds fleet made watermark joined last_judged (each (open_job input) (map asked_job fleet.asked) p)
   ends_poll p stands at = by fleet.opened refl stands
     where
-      by : (opened : Option OpenJob) → fleet.opened ≡ opened → IfOpen fleet opened → Ends fleet made watermark joined last_judged (each (open_job input) (map asked_job fleet.asked) p)
+      by : (opened : Option OpenJob) → fleet.opened ≡ opened → IfOpen fleet opened → PollEnds fleet made watermark joined last_judged (each (open_job input) (map asked_job fleet.asked) p)
       by None e h = ends_free p e at
       by (Some o) e h = ends_held o p e h at

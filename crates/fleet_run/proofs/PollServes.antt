@@ -1,112 +1,87 @@
--- A poll of a live coordinator answers what it reached, and puts what it changed.
-use Rattle.std.proofs.Common.{◌≡◌, refl, sym, ap, ◌∙◌, subst, ℕ, ◌+◌, List, [], ◌∷◌, ◌++◌, map, filter, cond, Bool, true, false, Option, Some, None, arith, nat_lt, take, length, ◌-◌}
+-- A poll of a live coordinator answers what it reached, and leaves what it put.
+use Rattle.std.proofs.Common.{◌≡◌, refl, sym, ap, ◌∙◌, subst, ℕ, ◌+◌, ◌==◌, List, [], ◌∷◌, ◌++◌, map, filter, cond, Bool, true, false, ◌&&◌, max, Option, Some, None, take, length, ◌-◌}
+use Rattle.std.specs.Cmp.Lexicographic.{pointwise}
 use Rattle.std.specs.List.{AllByRecursion}
-use Rattle.std.proofs.lemmas.Bool.Decides.{nat_tests}
 use Rattle.row_model.specs.Fold.{Operator}
 use Rattle.fleet_model.specs.Nodes.{Tables, L0, Trees}
-use Rattle.fleet_model.specs.History.{Coordinator, GetManifest, GetRecords, Commit, Polled}
-use Rattle.fleet_model.specs.Jobs.{Jobs, Submitted, Compacted, has_status, trimmed}
+use Rattle.fleet_model.specs.History.{Coordinator}
+use Rattle.fleet_model.specs.Jobs.{Jobs, Submitted, Compacted, has_status}
 use Rattle.fleet_model.specs.Records.{firsts}
 use Rattle.fleet_model.specs.Parties.{LiveCoordinator, coordinator_with, without_coordinator}
 use Rattle.fleet_model.specs.Store.{Manifest, Records, Store, jobs_in, records_epoch}
 use Rattle.fleet_model.specs.Trees.{watermark_after}
-use Rattle.fleet_model.specs.Exchanges.{PutsManifest, PutsRecords, DrawsJob, records_version}
-use Rattle.fleet_model.specs.Polls.{PollState, PollInput, begun, commit_finished, each, open_job, polled, change_of, is_nothing}
+use Rattle.fleet_model.specs.Polls.{PollState, PollInput, begun, free_stale, commit_finished, each, open_job, open_submitted, change_of, is_nothing}
+use Rattle.step_model.specs.PollSteps.{same_tree, is_unchanged, records_or_none, poll}
+use Rattle.step_model.specs.StepEnds.{Reports}
 use Rattle.script_model.specs.Defaults.{with_quiet_scheduler}
-use Rattle.script_model.specs.Effects.{Effect, only_replies, no_such_party, if_some, call}
-use Rattle.script_model.specs.PollLines.{poll, poll_by, poll_input, put_manifest_of, put_records_of, records_or_none, same_trees, fenced}
+use Rattle.script_model.specs.LineRuns.{LineCourse, if_some, line_end, step_line, only_replies}
+use Rattle.script_model.specs.PollLines.{poll_line, poll_ask}
 use Rattle.script_model.specs.Replies.{poll_reply}
 use Rattle.script_model.specs.States.{State}
 use Rattle.fleet_run.specs.declared.jobs.AskedJob.{AskedJob}
 use Rattle.fleet_run.specs.Jobs.{Stage, Waits, Runs, Wrote, OpenJob, Judged, judge_all}
 use Rattle.fleet_run.specs.FleetView.{FleetView, AreFlushes}
-use Rattle.fleet_run.specs.Serve.{committed, done_job, done_ids, done_tables, flushes_left, runs_after, opened_left, held_by, run_ids_after, judged_after, judged, opened_after, with_judged, after_poll, polled_reply, poll_answer}
+use Rattle.fleet_run.specs.Serve.{no_such_party, committed, done_job, done_ids, done_tables, flushes_left, runs_after, horizon_raised, opened_left, held_by, run_ids_after, judged_after, judged, opened_after, with_judged, after_poll, polled_reply, poll_answer}
 use Rattle.fleet_run.specs.Holds.{held, Holds, MadeRun, run_of, made_of, JobsAre, AreRecords, asked_job, job_at, open_jobs, IfOpen, OpenStands, coordinators, workers, attempts_by, parties_of, state_of, IsStored}
-use Rattle.fleet_run.proofs.Calls.{all_held, AllSucceed}
-use Rattle.fleet_run.proofs.Serves.{Serves, serves_by}
+use Rattle.fleet_run.proofs.Serves.{Serves, step_serves, replies_serve, line_end_of}
 use Rattle.fleet_run.proofs.RootTree.{tree}
 use Rattle.fleet_run.proofs.JobLists.{trimmed_are}
 use Rattle.fleet_run.proofs.Rules.{root}
 use Rattle.fleet_run.proofs.Commits.{roots_differ}
 use Rattle.fleet_run.proofs.Polls.{quiet_input, At}
-use Rattle.fleet_run.proofs.PollSteps.{with_status, submitted_are, at_first, none_committed, one_committed, polled_is}
+use Rattle.fleet_run.proofs.PollCourse.{quiet_ask, polled_manifest, polled_records, polled_held, records_jobs, records_epochs, polls_leads}
+use Rattle.fleet_run.proofs.PollSteps.{with_status, submitted_are, at_first, none_committed, one_committed, none_stale}
 use Rattle.fleet_run.proofs.Nothing.{did_nothing, none_asked}
 use Rattle.fleet_run.proofs.TreeHolds.{TreeHolds, tree_held, tree_committed, made_below, front_of}
-use Rattle.fleet_run.proofs.PollLine.{reply_told, Ends, ends_poll, begin}
-
-records_jobs : (o : Option Records) → (records_or_none o).jobs ≡ jobs_in o
-records_jobs None = refl
-records_jobs (Some r) = refl
+use Rattle.fleet_run.proofs.PollLine.{reply_told, PollEnds, ends_poll, begin}
 
 pub epochs : (manifest : Manifest) (records : Option Records) → AreRecords true manifest records → (manifest.epoch ≡ 1) × (records_epoch records ≡ 1)
 epochs manifest None h = absurd h
 epochs manifest (Some r) h = h
 
--- the fleet behind the commits of a poll
-abbrev behind : FleetView → Tables → List (ℕ × Tables) → Option OpenJob → FleetView
-behind fleet flushes runs opened = record fleet { flushes = flushes; runs = runs; opened = opened }
+-- The fleet after the commits of a poll has these flushes, runs and jobs, and this horizon.
+abbrev behind : FleetView → Tables → List (ℕ × Tables) → ℕ → Option OpenJob → FleetView
+behind fleet flushes runs horizon opened = record fleet { flushes = flushes; runs = runs; horizon = horizon; opened = opened }
 
--- what the commits of a poll leave
-record Commits (fleet : FleetView) (store : Store) (flushes : Tables) (runs : List (ℕ × Tables)) (opened : Option OpenJob) (made : List MadeRun) (watermark : Option ℕ) : Type 0 where
-  fleet_is : committed fleet ≡ behind fleet flushes runs opened
-  judged_is : judged fleet ≡ judge_all (firsts flushes) (firsts (map run_of made)) (begin (behind fleet flushes runs opened)) fleet.asked
-  tree_holds : TreeHolds (behind fleet flushes runs opened) made store.tables
-  stands : IfOpen (behind fleet flushes runs opened) opened
+-- The commits of a poll leave this.
+record Commits (fleet : FleetView) (store : Store) (flushes : Tables) (runs : List (ℕ × Tables)) (horizon : ℕ) (opened : Option OpenJob) (made : List MadeRun) (watermark : Option ℕ) : Type 0 where
+  fleet_is : committed fleet ≡ behind fleet flushes runs horizon opened
+  judged_is : judged fleet ≡ judge_all (firsts flushes) (firsts (map run_of made)) (begin (behind fleet flushes runs horizon opened)) fleet.asked
+  tree_holds : TreeHolds (behind fleet flushes runs horizon opened) made store.tables
+  stands : IfOpen (behind fleet flushes runs horizon opened) opened
   attempts : attempts_by opened ≡ attempts_by fleet.opened
-  at : At (root flushes made fleet.last_seq watermark) (open_jobs opened ++ map asked_job fleet.asked) fleet.jobs_drawn (done_ids (done_job fleet.opened)) [] []
-      (commit_finished (quiet_input store.tables store.manifest (records_or_none store.records) store.jobs_drawn) (begun store.manifest.trees (jobs_in store.records)))
-  same_trees : same_trees store.manifest.trees (root flushes made fleet.last_seq watermark) ≡ true → store.manifest.trees ≡ root flushes made fleet.last_seq watermark
+  at : At (root flushes made fleet.last_seq watermark) horizon (open_jobs opened ++ map asked_job fleet.asked) fleet.jobs_drawn (done_ids (done_job fleet.opened)) [] []
+      (commit_finished (quiet_input store.tables store.manifest (records_or_none store.records)) (begun store.manifest.trees store.manifest.horizon (jobs_in store.records)))
+  same_trees : pointwise same_tree store.manifest.trees (root flushes made fleet.last_seq watermark) ≡ true → (store.manifest.trees ≡ root flushes made fleet.last_seq watermark) × (store.manifest.horizon ≡ horizon)
   same_jobs : done_ids (done_job fleet.opened) ≡ []
-      → (commit_finished (quiet_input store.tables store.manifest (records_or_none store.records) store.jobs_drawn) (begun store.manifest.trees (jobs_in store.records))).jobs ≡ jobs_in store.records
+      → (commit_finished (quiet_input store.tables store.manifest (records_or_none store.records)) (begun store.manifest.trees store.manifest.horizon (jobs_in store.records))).jobs ≡ jobs_in store.records
 
-abbrev effect_at : State → PollState → Effect
-effect_at s p = record {
-  party = Coordinator 1;
-  calls = call GetManifest ∷ call GetRecords ∷ map (λ x. DrawsJob s.moment) (firsts p.added ++ p.dropped) ++ put_manifest_of s p ++ put_records_of s p;
-  reply = poll_reply p;
-  parties = s.parties;
-  struck = without_coordinator 1 s.parties;
-}
+first_true : (a b : Bool) → (a && b) ≡ true → a ≡ true
+first_true true b h = refl
+first_true false b h = absurd (cc h)
 
 module _ (merge : Operator) (number : ℕ) (fleet : FleetView) (store : Store) (holds : Holds fleet (held store)) (live : fleet.coordinator ≡ true) where
   abbrev s : State
   s = state_of fleet store
 
   abbrev input : PollInput
-  input = quiet_input store.tables store.manifest (records_or_none store.records) store.jobs_drawn
+  input = quiet_input store.tables store.manifest (records_or_none store.records)
 
   abbrev jobs : Jobs
   jobs = jobs_in store.records
 
+  abbrev line : LineCourse
+  line = poll_line (with_quiet_scheduler merge) 1 s
+
   are_records : AreRecords true store.manifest store.records
   are_records = subst (λ b. AreRecords b store.manifest store.records) live holds.records
 
-  -- the poll is not fenced
-  effect_is : poll (with_quiet_scheduler merge) 1 s ≡ effect_at s (polled input)
-  unfolding poll
-  effect_is =
-      let both = epochs store.manifest store.records are_records in
-      let c : LiveCoordinator = record { number = 1; epoch = 1 } in
-      let p = polled input in
-      let other : nat_lt 1 store.manifest.epoch ≡ false = grind (arith, nat_tests, both.0) in
-      let another : nat_lt 1 (records_epoch store.records) ≡ false = grind (arith, nat_tests, both.1) in
-      ap (λ b. if_some (coordinator_with 1 (record { coordinators = coordinators b; workers = workers fleet.worker (attempts_by fleet.opened) })) (only_replies (Coordinator 1) s no_such_party) (λ (c : LiveCoordinator). poll_by 1 s c p (poll_reply p))) live
-      ∙ by (nat_lt 1 store.manifest.epoch) other (nat_lt 1 (records_epoch store.records)) another
-    where
-      by : (a : Bool) → a ≡ false → (b : Bool) → b ≡ false → cond a
-          (record { party = Coordinator 1; calls = call GetManifest ∷ []; reply = fenced store.manifest.epoch; parties = without_coordinator 1 s.parties; struck = without_coordinator 1 s.parties })
-          (cond b (record { party = Coordinator 1; calls = call GetManifest ∷ call GetRecords ∷ []; reply = fenced (records_epoch store.records); parties = without_coordinator 1 s.parties; struck = without_coordinator 1 s.parties }) (effect_at s (polled input)))
-          ≡ effect_at s (polled input)
-      by true e b f = absurd (cc e)
-      by false e true f = absurd (cc f)
-      by false e false f = refl
-
-  module _ (flushes : Tables) (runs : List (ℕ × Tables)) (opened : Option OpenJob) (made : List MadeRun) (watermark : Option ℕ) (commits : Commits fleet store flushes runs opened made watermark) where
+  module _ (flushes : Tables) (runs : List (ℕ × Tables)) (highest : ℕ) (opened : Option OpenJob) (made : List MadeRun) (watermark : Option ℕ) (commits : Commits fleet store flushes runs highest opened made watermark) where
     abbrev after : FleetView
-    after = behind fleet flushes runs opened
+    after = behind fleet flushes runs highest opened
 
     abbrev first : PollState
-    first = commit_finished input (begun store.manifest.trees jobs)
+    first = commit_finished input (begun store.manifest.trees store.manifest.horizon jobs)
 
     abbrev q : PollState
     q = each (open_job input) (map asked_job fleet.asked) first
@@ -123,16 +98,16 @@ module _ (merge : Operator) (number : ℕ) (fleet : FleetView) (store : Store) (
     abbrev reached : Trees
     reached = root flushes made fleet.last_seq watermark
 
-    polled_to : polled input ≡ q
-    polled_to =
-        polled_is store.tables store.manifest (records_or_none store.records) store.jobs_drawn fleet.jobs_drawn jobs store.manifest.trees fleet.opened fleet.asked refl (records_jobs store.records) holds.jobs
-        ∙ ap (λ js. each (open_job input) js first) (with_status Submitted refl (open_jobs opened ++ map asked_job fleet.asked) fleet.jobs_drawn first.jobs commits.at.jobs ∙ submitted_are opened fleet.asked)
+    opens : open_submitted input first ≡ q
+    opens = ap (λ js. each (open_job input) js first) (with_status Submitted refl (open_jobs opened ++ map asked_job fleet.asked) fleet.jobs_drawn first.jobs commits.at.jobs ∙ submitted_are opened fleet.asked)
 
-    ends : Ends after made watermark (done_ids (done_job fleet.opened)) k q
-    ends = ends_poll store.tables store.manifest (records_or_none store.records) store.jobs_drawn after made watermark (done_ids (done_job fleet.opened)) commits.tree_holds first commits.stands commits.at
+    begins : commit_finished input (free_stale input (begun store.manifest.trees store.manifest.horizon (records_or_none store.records).jobs)) ≡ first
+    begins =
+        ap (λ js. commit_finished input (free_stale input (begun store.manifest.trees store.manifest.horizon js))) (records_jobs store.records)
+        ∙ none_stale store.tables store.manifest (records_or_none store.records) store.manifest.horizon fleet.jobs_drawn jobs store.manifest.trees fleet.opened fleet.asked holds.jobs
 
-    calls_are : (effect_at s q).calls ≡ call GetManifest ∷ call GetRecords ∷ (put_manifest_of s q ++ put_records_of s q)
-    calls_are = rw (ends.at.added, ends.at.dropped) refl
+    ends : PollEnds after made watermark (done_ids (done_job fleet.opened)) k q
+    ends = ends_poll store.tables store.manifest (records_or_none store.records) after made watermark (done_ids (done_job fleet.opened)) commits.tree_holds first commits.stands commits.at
 
     new_is : new ≡ after_poll fleet
     new_is = sym (ap (λ b. cond b (with_judged (committed fleet) (judged fleet)) fleet) live
@@ -140,18 +115,27 @@ module _ (merge : Operator) (number : ℕ) (fleet : FleetView) (store : Store) (
         ∙ ap (with_judged after) commits.judged_is)
 
     answer_is : poll_reply q ≡ poll_answer fleet
-    answer_is = reply_told reached (open_jobs chosen ++ []) fleet.jobs_drawn (done_ids (done_job fleet.opened)) k.opened k.refused q ends.at
+    answer_is = reply_told reached highest (open_jobs chosen ++ []) fleet.jobs_drawn (done_ids (done_job fleet.opened)) k.opened k.refused q ends.at
         ∙ sym (ap (λ b. cond b (polled_reply (done_ids (done_job fleet.opened)) (judged fleet)) no_such_party) live ∙ ap (polled_reply (done_ids (done_job fleet.opened))) commits.judged_is)
 
-    -- what is held behind the puts
-    holds_with : (manifest : Manifest) (records : Option Records) → manifest.trees ≡ reached → manifest.floor ≡ fleet.floor → manifest.tick ≡ fleet.tick → AreRecords fleet.coordinator manifest records
+    -- A manifest and records that fit the fleet after the poll are held by it.
+    record Fit (manifest : Manifest) : Type 0 where
+      trees : manifest.trees ≡ reached
+      floor : manifest.floor ≡ fleet.floor
+      horizon : manifest.horizon ≡ highest
+      tracker : manifest.tracker ≡ []
+      tick : manifest.tick ≡ fleet.tick
+
+    holds_with : (manifest : Manifest) (records : Option Records) → Fit manifest → AreRecords fleet.coordinator manifest records
         → JobsAre (open_jobs chosen ++ []) fleet.jobs_drawn (jobs_in records) → Holds new (record (held store) { manifest = manifest; records = records })
-    holds_with manifest records trees floor tick are jobs_are = record {
+    holds_with manifest records fit are jobs_are = record {
       made = made;
       watermark = watermark;
-      trees = trees;
-      floor = floor;
-      tick = tick;
+      trees = fit.trees;
+      floor = fit.floor;
+      horizon = fit.horizon;
+      tracker = fit.tracker;
+      tick = fit.tick;
       runs = commits.tree_holds.runs;
       falling = commits.tree_holds.falling;
       flushes = commits.tree_holds.flushes;
@@ -170,7 +154,7 @@ module _ (merge : Operator) (number : ℕ) (fleet : FleetView) (store : Store) (
       idle = λ off. (ends.attempts ∙ commits.attempts) ∙ holds.idle off;
     }
 
-    -- nothing was done to the records: they are as they were
+    -- Where the poll changed no records, these have the jobs that they had.
     unchanged : is_nothing (change_of q) ≡ true → JobsAre (open_jobs chosen ++ []) fleet.jobs_drawn jobs
     unchanged nothing =
         let none = did_nothing q nothing in
@@ -178,107 +162,123 @@ module _ (merge : Operator) (number : ℕ) (fleet : FleetView) (store : Store) (
         let same : q.jobs ≡ jobs = ap (λ these. (each (open_job input) (map asked_job these) first).jobs) asked ∙ commits.same_jobs (sym ends.at.done ∙ none.done) in
         subst (JobsAre (open_jobs chosen ++ []) fleet.jobs_drawn) same ends.at.jobs
 
-    puts : (a : Bool) → same_trees store.manifest.trees q.trees ≡ a → (b : Bool) → is_nothing (change_of q) ≡ b
-        → let cs = call GetManifest ∷ call GetRecords ∷ (cond a [] (PutsManifest store.manifest.version (Commit q.steps) (record store.manifest { trees = q.trees }) ∷ []) ++ cond b [] (PutsRecords (records_version store.records) (Polled (change_of q)) (records_epoch store.records) (trimmed q.jobs) ∷ [])) in
-        AllSucceed cs (held store) × Holds new (all_held cs (held store))
-    puts a e b f = by a e b f
+    manifest_fits : (a : Bool) → is_unchanged store.manifest q ≡ a → Fit (polled_manifest store.manifest q a)
+    manifest_fits true e =
+        let trees : pointwise same_tree store.manifest.trees q.trees ≡ true = first_true (pointwise same_tree store.manifest.trees q.trees) (store.manifest.horizon == q.horizon) e in
+        let same = commits.same_trees (sym (ap (pointwise same_tree store.manifest.trees) ends.at.trees) ∙ trees) in
+        record { trees = same.0; floor = holds.floor; horizon = same.1; tracker = holds.tracker; tick = holds.tick }
+    manifest_fits false e = record { trees = ends.at.trees; floor = holds.floor; horizon = ends.at.horizon; tracker = holds.tracker; tick = holds.tick }
+
+    records_fit : (a b : Bool) → AreRecords fleet.coordinator (polled_manifest store.manifest q a) (polled_records store.records q b)
+    records_fit a b = subst (λ c. AreRecords c (polled_manifest store.manifest q a) (polled_records store.records q b)) (sym live) (by a b)
       where
         both : (store.manifest.epoch ≡ 1) × (records_epoch store.records ≡ 1)
         both = epochs store.manifest store.records are_records
 
-        trimmed_jobs : JobsAre (open_jobs chosen ++ []) fleet.jobs_drawn (trimmed q.jobs)
-        trimmed_jobs = trimmed_are (open_jobs chosen ++ []) fleet.jobs_drawn q.jobs ends.at.jobs
+        epoch : (a : Bool) → (polled_manifest store.manifest q a).epoch ≡ 1
+        epoch true = both.0
+        epoch false = both.0
 
-        kept_trees : same_trees store.manifest.trees q.trees ≡ true → store.manifest.trees ≡ reached
-        kept_trees e = commits.same_trees (sym (ap (same_trees store.manifest.trees) ends.at.trees) ∙ e)
+        same : (a : Bool) (r : Option Records) → AreRecords true store.manifest r → AreRecords true (polled_manifest store.manifest q a) r
+        same a None h = absurd h
+        same a (Some r) h = (epoch a, h.1)
 
-        coordinated : (manifest : Manifest) (records : Option Records) → AreRecords true manifest records → AreRecords fleet.coordinator manifest records
-        coordinated manifest records h = subst (λ c. AreRecords c manifest records) (sym live) h
+        by : (a b : Bool) → AreRecords true (polled_manifest store.manifest q a) (polled_records store.records q b)
+        by a true = same a store.records are_records
+        by a false = (epoch a, records_epochs store.records ∙ both.1)
 
-        by : (a : Bool) → same_trees store.manifest.trees q.trees ≡ a → (b : Bool) → is_nothing (change_of q) ≡ b
-            → let cs = call GetManifest ∷ call GetRecords ∷ (cond a [] (PutsManifest store.manifest.version (Commit q.steps) (record store.manifest { trees = q.trees }) ∷ []) ++ cond b [] (PutsRecords (records_version store.records) (Polled (change_of q)) (records_epoch store.records) (trimmed q.jobs) ∷ [])) in
-            AllSucceed cs (held store) × Holds new (all_held cs (held store))
-        by true e true f = ((refl, (refl, tt)), holds_with store.manifest store.records (kept_trees e) holds.floor holds.tick holds.records (unchanged f))
-        by true e false f =
-            let new_records : Option Records = Some (record { version = records_version store.records + 1; epoch = records_epoch store.records; jobs = trimmed q.jobs }) in
-            ((refl, (refl, (refl, tt))), holds_with store.manifest new_records (kept_trees e) holds.floor holds.tick (coordinated store.manifest new_records both) trimmed_jobs)
-        by false e true f =
-            let manifest : Manifest = record store.manifest { trees = q.trees; version = store.manifest.version + 1 } in
-            ((refl, (refl, (refl, tt))), holds_with manifest store.records ends.at.trees holds.floor holds.tick (epoch_kept fleet.coordinator store.records holds.records) (unchanged f))
-          where
-            epoch_kept : (c : Bool) (r : Option Records) → AreRecords c store.manifest r → AreRecords c (record store.manifest { trees = q.trees; version = store.manifest.version + 1 }) r
-            epoch_kept true None h = h
-            epoch_kept true (Some r) h = h
-            epoch_kept false None h = h
-            epoch_kept false (Some r) h = h
-        by false e false f =
-            let manifest : Manifest = record store.manifest { trees = q.trees; version = store.manifest.version + 1 } in
-            let new_records : Option Records = Some (record { version = records_version store.records + 1; epoch = records_epoch store.records; jobs = trimmed q.jobs }) in
-            ((refl, (refl, (refl, (refl, tt)))), holds_with manifest new_records ends.at.trees holds.floor holds.tick (coordinated manifest new_records both) trimmed_jobs)
+    jobs_fit : (b : Bool) → is_nothing (change_of q) ≡ b → JobsAre (open_jobs chosen ++ []) fleet.jobs_drawn (jobs_in (polled_records store.records q b))
+    jobs_fit true e = unchanged e
+    jobs_fit false e = trimmed_are (open_jobs chosen ++ []) fleet.jobs_drawn q.jobs ends.at.jobs
 
-    poll_served : Serves number fleet store (poll (with_quiet_scheduler merge) 1 s) (poll_answer fleet) (after_poll fleet)
+    poll_served : Serves number fleet store line (poll_answer fleet) (after_poll fleet)
+    unfolding poll
     poll_served =
-        let both = puts (same_trees store.manifest.trees q.trees) refl (is_nothing (change_of q)) refl in
+        let both = epochs store.manifest store.records are_records in
+        let at : Bool → LineCourse = λ on.
+        if_some (coordinator_with 1 (record { coordinators = coordinators on; workers = workers fleet.worker (attempts_by fleet.opened) })) (only_replies s no_such_party) (λ (c : LiveCoordinator).
+        let gone = without_coordinator 1 s.parties in
+        step_line (Coordinator 1) (poll (poll_ask (with_quiet_scheduler merge) s c false)) (line_end poll_reply (λ reached. s.parties) gone) gone) in
         let parties : s.parties ≡ parties_of new = ap (λ these. record { coordinators = coordinators fleet.coordinator; workers = workers fleet.worker these }) (sym (ends.attempts ∙ commits.attempts)) in
-        let served = serves_by number fleet new store (effect_at s q) (poll_answer fleet) answer_is parties
-        (subst (λ cs. AllSucceed cs (held store)) (sym calls_are) both.0) (subst (λ cs. Holds new (all_held cs (held store))) (sym calls_are) both.1) in
-        subst (λ e. Serves number fleet store e (poll_answer fleet) (after_poll fleet)) (sym (effect_is ∙ ap (effect_at s) polled_to))
-        (subst (λ f. Serves number fleet store (effect_at s q) (poll_answer fleet) f) new_is served)
+        let told : record { reply = poll_reply q; parties = s.parties } ≡ line_end_of (poll_answer fleet) new =
+        ap (λ (text : List ℕ). record { reply = text; parties = s.parties }) answer_is ∙ ap (λ p. record { reply = poll_answer fleet; parties = p }) parties in
+        let last = polled_held (held store) q in
+        let holds_new : Holds new last = holds_with (polled_manifest store.manifest q (is_unchanged store.manifest q)) (polled_records store.records q (is_nothing (change_of q)))
+        (manifest_fits (is_unchanged store.manifest q) refl) (records_fit (is_unchanged store.manifest q) (is_nothing (change_of q))) (jobs_fit (is_nothing (change_of q)) refl) in
+        let gone = without_coordinator 1 s.parties in
+        let served : Serves number fleet store (at true) (poll_answer fleet) new =
+        step_serves number fleet new store (Coordinator 1) (poll quiet_ask) (line_end poll_reply (λ reached. s.parties) gone) gone (Reports q) (poll_answer fleet) last
+        (polls_leads 63 0 (held store) first q both.0 both.1 begins opens) told holds_new in
+        subst (λ on. Serves number fleet store (at on) (poll_answer fleet) (after_poll fleet)) (sym live)
+        (subst (λ f. Serves number fleet store (at true) (poll_answer fleet) f) new_is served)
 
   -- ---- where no job has finished
 
   runs_are : judged_after fleet None ≡ judge_all (firsts fleet.flushes) (firsts (map run_of holds.made)) (begin fleet) fleet.asked
   runs_are = ap (λ (rs : List (ℕ × Tables)). judge_all (firsts fleet.flushes) (firsts rs) (begin fleet) fleet.asked) holds.runs
 
-  none_done : done_job fleet.opened ≡ None → filter (has_status Compacted) (open_jobs fleet.opened ++ map asked_job fleet.asked) ≡ [] → Commits fleet store fleet.flushes fleet.runs fleet.opened holds.made holds.watermark
+  none_raised : (opened : Option OpenJob) → done_job opened ≡ None → horizon_raised fleet.horizon opened ≡ fleet.horizon
+  none_raised None none = refl
+  none_raised (Some o) none = by o.stage none
+    where
+      by : (stage : Stage) → done_job (Some (record { job = o.job; stage = stage })) ≡ None → horizon_raised fleet.horizon (Some (record { job = o.job; stage = stage })) ≡ fleet.horizon
+      by Waits none = refl
+      by (Runs settings) none = refl
+      by (Wrote tables cut) none = absurd (cc none)
+
+  none_done : done_job fleet.opened ≡ None → filter (has_status Compacted) (open_jobs fleet.opened ++ map asked_job fleet.asked) ≡ [] → Commits fleet store fleet.flushes fleet.runs fleet.horizon fleet.opened holds.made holds.watermark
   none_done none idle =
       let trees = root fleet.flushes holds.made fleet.last_seq holds.watermark in
-      let here : commit_finished input (begun store.manifest.trees jobs) ≡ begun store.manifest.trees jobs =
-      none_committed store.tables store.manifest (records_or_none store.records) store.jobs_drawn fleet.jobs_drawn jobs store.manifest.trees (open_jobs fleet.opened) fleet.asked idle holds.jobs in
+      let active = open_jobs fleet.opened ++ map asked_job fleet.asked in
+      let here : commit_finished input (begun store.manifest.trees store.manifest.horizon jobs) ≡ begun store.manifest.trees store.manifest.horizon jobs =
+      none_committed store.tables store.manifest (records_or_none store.records) store.manifest.horizon fleet.jobs_drawn jobs store.manifest.trees (open_jobs fleet.opened) fleet.asked idle holds.jobs in
       record {
-        fleet_is = ap (λ d. record fleet { flushes = flushes_left fleet.flushes d; runs = runs_after fleet.runs d (done_tables fleet.opened); opened = opened_left fleet.opened d }) none;
+        fleet_is = ap (λ d. record fleet { flushes = flushes_left fleet.flushes d; runs = runs_after fleet.runs d (done_tables fleet.opened); horizon = horizon_raised fleet.horizon fleet.opened; opened = opened_left fleet.opened d }) none
+            ∙ ap (λ h. record fleet { horizon = h }) (none_raised fleet.opened none);
         judged_is = ap (judged_after fleet) none ∙ runs_are;
         tree_holds = tree_held fleet (held store) holds;
         stands = holds.opened;
         attempts = refl;
-        at = subst (At trees (open_jobs fleet.opened ++ map asked_job fleet.asked) fleet.jobs_drawn (done_ids (done_job fleet.opened)) [] []) (sym here)
-            (subst (λ d. At trees (open_jobs fleet.opened ++ map asked_job fleet.asked) fleet.jobs_drawn (done_ids d) [] [] (begun store.manifest.trees jobs)) (sym none)
-            (subst (λ ts. At trees (open_jobs fleet.opened ++ map asked_job fleet.asked) fleet.jobs_drawn [] [] [] (begun ts jobs)) (sym holds.trees) (at_first trees (open_jobs fleet.opened ++ map asked_job fleet.asked) fleet.jobs_drawn jobs holds.jobs)));
-        same_trees = λ _. holds.trees;
+        at = subst (At trees fleet.horizon active fleet.jobs_drawn (done_ids (done_job fleet.opened)) [] []) (sym here)
+            (subst (λ d. At trees fleet.horizon active fleet.jobs_drawn (done_ids d) [] [] (begun store.manifest.trees store.manifest.horizon jobs)) (sym none)
+            (subst (λ h. At trees fleet.horizon active fleet.jobs_drawn [] [] [] (begun store.manifest.trees h jobs)) (sym holds.horizon)
+            (subst (λ ts. At trees fleet.horizon active fleet.jobs_drawn [] [] [] (begun ts fleet.horizon jobs)) (sym holds.trees) (at_first trees fleet.horizon active fleet.jobs_drawn jobs holds.jobs))));
+        same_trees = λ _. (holds.trees, holds.horizon);
         same_jobs = λ _. ap (λ (p : PollState). p.jobs) here;
       }
 
   -- ---- where one has
 
-  one_done : (job : AskedJob) (out : Tables) → fleet.opened ≡ Some (record { job = job; stage = Wrote out }) → (stands : OpenStands fleet (record { job = job; stage = Wrote out }))
-      → Commits fleet store stands.newer ((job.destination, out) ∷ fleet.runs) None (record { id = job.destination; tables = out; flush = stands.flush } ∷ holds.made)
+  one_done : (job : AskedJob) (out : Tables) (cut : ℕ) → fleet.opened ≡ Some (record { job = job; stage = Wrote out cut }) → (stands : OpenStands fleet (record { job = job; stage = Wrote out cut }))
+      → Commits fleet store stands.newer ((job.destination, out) ∷ fleet.runs) (max fleet.horizon cut) None (record { id = job.destination; tables = out; flush = stands.flush } ∷ holds.made)
       (watermark_after (L0 job.source ∷ []) (tree (stands.newer ++ stands.flush ∷ []) holds.made) holds.watermark)
-  one_done job out e stands =
+  one_done job out cut e stands =
       let newer = stands.newer in
       let flush = stands.flush in
       let m : MadeRun = record { id = job.destination; tables = out; flush = flush } in
       let mark = watermark_after (L0 job.source ∷ []) (tree (newer ++ flush ∷ []) holds.made) holds.watermark in
-      let after : FleetView = behind fleet newer ((job.destination, out) ∷ fleet.runs) None in
+      let after : FleetView = behind fleet newer ((job.destination, out) ∷ fleet.runs) (max fleet.horizon cut) None in
       let trees = root newer (m ∷ holds.made) fleet.last_seq mark in
       let old : Trees = root (newer ++ flush ∷ []) holds.made fleet.last_seq holds.watermark in
       let left : take (length fleet.flushes - 1) fleet.flushes ≡ newer = ap (λ (fs : Tables). take (length fs - 1) fs) stands.source ∙ front_of newer flush in
       let these : store.manifest.trees ≡ old = holds.trees ∙ ap (λ (fs : Tables). root fs holds.made fleet.last_seq holds.watermark) stands.source in
       let sound = subst (λ (fs : Tables). AreFlushes (fs ++ made_of holds.made)) stands.source holds.flushes in
       let above = made_below fleet holds.made job.destination holds.runs stands.above in
-      let jobs_are : JobsAre (job_at job (Wrote out) ∷ map asked_job fleet.asked) fleet.jobs_drawn jobs = subst (λ o. JobsAre (open_jobs o ++ map asked_job fleet.asked) fleet.jobs_drawn jobs) e holds.jobs in
-      let reached = one_committed store.tables store.manifest (records_or_none store.records) store.jobs_drawn fleet.jobs_drawn jobs job out fleet.asked newer flush holds.made fleet.last_seq holds.watermark (made_of holds.made) stands.named sound above jobs_are in
+      let jobs_are : JobsAre (job_at job (Wrote out cut) ∷ map asked_job fleet.asked) fleet.jobs_drawn jobs = subst (λ o. JobsAre (open_jobs o ++ map asked_job fleet.asked) fleet.jobs_drawn jobs) e holds.jobs in
+      let reached = one_committed store.tables store.manifest (records_or_none store.records) fleet.horizon fleet.jobs_drawn jobs job out cut fleet.asked newer flush holds.made fleet.last_seq holds.watermark (made_of holds.made) stands.named sound above jobs_are in
       record {
-        fleet_is = ap (λ o. record fleet { flushes = flushes_left fleet.flushes (done_job o); runs = runs_after fleet.runs (done_job o) (done_tables o); opened = opened_left o (done_job o) }) e
-            ∙ ap (λ (fs : Tables). record fleet { flushes = fs; runs = (job.destination, out) ∷ fleet.runs; opened = None }) left;
+        fleet_is = ap (λ o. record fleet { flushes = flushes_left fleet.flushes (done_job o); runs = runs_after fleet.runs (done_job o) (done_tables o); horizon = horizon_raised fleet.horizon o; opened = opened_left o (done_job o) }) e
+            ∙ ap (λ (fs : Tables). record fleet { flushes = fs; runs = (job.destination, out) ∷ fleet.runs; horizon = max fleet.horizon cut; opened = None }) left;
         judged_is = ap (λ o. judge_all (firsts (flushes_left fleet.flushes (done_job o))) (run_ids_after (firsts fleet.runs) (done_job o)) (record { held = held_by (opened_left o (done_job o)); opened = []; refused = [] }) fleet.asked) e
             ∙ ap (λ (fs : Tables). judge_all (firsts fs) (job.destination ∷ firsts fleet.runs) (begin after) fleet.asked) left
             ∙ ap (λ (rs : List (ℕ × Tables)). judge_all (firsts newer) (job.destination ∷ firsts rs) (begin after) fleet.asked) holds.runs;
-        tree_holds = tree_committed fleet holds.made store.tables job out e (tree_held fleet (held store) holds) stands;
+        tree_holds = tree_committed fleet holds.made store.tables job out cut e (tree_held fleet (held store) holds) stands;
         stands = tt;
         attempts = sym (ap attempts_by e);
-        at = subst (λ ts. At trees (map asked_job fleet.asked) fleet.jobs_drawn (done_ids (done_job fleet.opened)) [] [] (commit_finished input (begun ts jobs))) (sym these)
-            (subst (λ o. At trees (map asked_job fleet.asked) fleet.jobs_drawn (done_ids (done_job o)) [] [] (commit_finished input (begun old jobs))) (sym e) reached);
-        same_trees = λ same. absurd (let clash : true ≡ false = sym same ∙ ap (λ ts. same_trees ts trees) these ∙ roots_differ newer flush holds.made m fleet.last_seq holds.watermark mark in cc clash);
+        at = subst (λ ts. At trees (max fleet.horizon cut) (map asked_job fleet.asked) fleet.jobs_drawn (done_ids (done_job fleet.opened)) [] [] (commit_finished input (begun ts store.manifest.horizon jobs))) (sym these)
+            (subst (λ h. At trees (max fleet.horizon cut) (map asked_job fleet.asked) fleet.jobs_drawn (done_ids (done_job fleet.opened)) [] [] (commit_finished input (begun old h jobs))) (sym holds.horizon)
+            (subst (λ o. At trees (max fleet.horizon cut) (map asked_job fleet.asked) fleet.jobs_drawn (done_ids (done_job o)) [] [] (commit_finished input (begun old fleet.horizon jobs))) (sym e) reached));
+        same_trees = λ same. absurd (let clash : true ≡ false = sym same ∙ ap (λ ts. pointwise same_tree ts trees) these ∙ roots_differ newer flush holds.made m fleet.last_seq holds.watermark mark in cc clash);
         same_jobs = λ none. absurd (let clash : job.id ∷ [] ≡ [] = sym (ap (λ o. done_ids (done_job o)) e) ∙ none in cc clash);
       }
 
@@ -286,35 +286,35 @@ module _ (merge : Operator) (number : ℕ) (fleet : FleetView) (store : Store) (
   none_asked_done [] = refl
   none_asked_done (a ∷ asked) = none_asked_done asked
 
-  pub live_poll_serves : Serves number fleet store (poll (with_quiet_scheduler merge) 1 s) (poll_answer fleet) (after_poll fleet)
+  pub live_poll_serves : Serves number fleet store line (poll_answer fleet) (after_poll fleet)
   live_poll_serves = by fleet.opened refl holds.opened
     where
-      idle : done_job fleet.opened ≡ None → filter (has_status Compacted) (open_jobs fleet.opened ++ map asked_job fleet.asked) ≡ [] → Serves number fleet store (poll (with_quiet_scheduler merge) 1 s) (poll_answer fleet) (after_poll fleet)
-      idle none still = poll_served fleet.flushes fleet.runs fleet.opened holds.made holds.watermark (none_done none still)
+      idle : done_job fleet.opened ≡ None → filter (has_status Compacted) (open_jobs fleet.opened ++ map asked_job fleet.asked) ≡ [] → Serves number fleet store line (poll_answer fleet) (after_poll fleet)
+      idle none still = poll_served fleet.flushes fleet.runs fleet.horizon fleet.opened holds.made holds.watermark (none_done none still)
 
       by_stage : (job : AskedJob) (stage : Stage) → fleet.opened ≡ Some (record { job = job; stage = stage }) → OpenStands fleet (record { job = job; stage = stage })
-          → Serves number fleet store (poll (with_quiet_scheduler merge) 1 s) (poll_answer fleet) (after_poll fleet)
+          → Serves number fleet store line (poll_answer fleet) (after_poll fleet)
       by_stage job Waits e stands = idle (ap done_job e) (ap (λ o. filter (has_status Compacted) (open_jobs o ++ map asked_job fleet.asked)) e ∙ none_asked_done fleet.asked)
       by_stage job (Runs settings) e stands = idle (ap done_job e) (ap (λ o. filter (has_status Compacted) (open_jobs o ++ map asked_job fleet.asked)) e ∙ none_asked_done fleet.asked)
-      by_stage job (Wrote out) e stands =
-          poll_served stands.newer ((job.destination, out) ∷ fleet.runs) None (record { id = job.destination; tables = out; flush = stands.flush } ∷ holds.made)
-          (watermark_after (L0 job.source ∷ []) (tree (stands.newer ++ stands.flush ∷ []) holds.made) holds.watermark) (one_done job out e stands)
+      by_stage job (Wrote out cut) e stands =
+          poll_served stands.newer ((job.destination, out) ∷ fleet.runs) (max fleet.horizon cut) None (record { id = job.destination; tables = out; flush = stands.flush } ∷ holds.made)
+          (watermark_after (L0 job.source ∷ []) (tree (stands.newer ++ stands.flush ∷ []) holds.made) holds.watermark) (one_done job out cut e stands)
 
-      by : (opened : Option OpenJob) → fleet.opened ≡ opened → IfOpen fleet opened → Serves number fleet store (poll (with_quiet_scheduler merge) 1 s) (poll_answer fleet) (after_poll fleet)
+      by : (opened : Option OpenJob) → fleet.opened ≡ opened → IfOpen fleet opened → Serves number fleet store line (poll_answer fleet) (after_poll fleet)
       by None e h = idle (ap done_job e) (ap (λ o. filter (has_status Compacted) (open_jobs o ++ map asked_job fleet.asked)) e ∙ none_asked_done fleet.asked)
       by (Some o) e h = by_stage o.job o.stage e h
 
--- no coordinator is live
+-- No coordinator is live.
 pub no_poll_serves : (merge : Operator) (number : ℕ) (fleet : FleetView) (store : Store) → Holds fleet (held store) → fleet.coordinator ≡ false
-    → Serves number fleet store (poll (with_quiet_scheduler merge) 1 (state_of fleet store)) (poll_answer fleet) (after_poll fleet)
-unfolding poll
+    → Serves number fleet store (poll_line (with_quiet_scheduler merge) 1 (state_of fleet store)) (poll_answer fleet) (after_poll fleet)
 no_poll_serves merge number fleet store holds off =
     let s = state_of fleet store in
-    let e : Effect = only_replies (Coordinator 1) s no_such_party in
-    let is : poll (with_quiet_scheduler merge) 1 s ≡ e =
-    ap (λ b. if_some (coordinator_with 1 (record { coordinators = coordinators b; workers = workers fleet.worker (attempts_by fleet.opened) })) (only_replies (Coordinator 1) s no_such_party)
-    (λ (c : LiveCoordinator). let p = polled (poll_input (with_quiet_scheduler merge) s (records_or_none s.store.records)) in poll_by 1 s c p (poll_reply p))) off in
+    let at : Bool → LineCourse = λ on.
+    if_some (coordinator_with 1 (record { coordinators = coordinators on; workers = workers fleet.worker (attempts_by fleet.opened) })) (only_replies s no_such_party) (λ (c : LiveCoordinator).
+    let gone = without_coordinator 1 s.parties in
+    step_line (Coordinator 1) (poll (poll_ask (with_quiet_scheduler merge) s c false)) (line_end poll_reply (λ reached. s.parties) gone) gone) in
     let answer : no_such_party ≡ poll_answer fleet = sym (ap (λ b. cond b (polled_reply (done_ids (done_job fleet.opened)) (judged fleet)) no_such_party) off) in
     let same : fleet ≡ after_poll fleet = sym (ap (λ b. cond b (with_judged (committed fleet) (judged fleet)) fleet) off) in
-    let served = serves_by number fleet fleet store e (poll_answer fleet) answer refl tt holds in
-    subst (λ x. Serves number fleet store x (poll_answer fleet) (after_poll fleet)) (sym is) (subst (λ f. Serves number fleet store e (poll_answer fleet) f) same served)
+    let served = replies_serve number fleet store no_such_party holds in
+    subst (λ on. Serves number fleet store (at on) (poll_answer fleet) (after_poll fleet)) (sym off)
+    (subst (λ text. Serves number fleet store (at false) text (after_poll fleet)) answer (subst (λ f. Serves number fleet store (at false) no_such_party f) same served))

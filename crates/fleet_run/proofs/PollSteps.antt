@@ -1,5 +1,5 @@
 -- A whole poll: what it reached.
-use Rattle.std.proofs.Common.{◌≡◌, refl, sym, ap, ◌∙◌, subst, ℕ, ◌<◌, List, [], ◌∷◌, ◌++◌, map, filter, cond, true, false, Option, Some, None}
+use Rattle.std.proofs.Common.{◌≡◌, refl, sym, ap, ◌∙◌, subst, ℕ, ◌<◌, List, [], ◌∷◌, ◌++◌, map, filter, cond, true, false, max, Option, Some, None}
 use Rattle.std.specs.List.{AllByRecursion}
 use Rattle.row_model.specs.Rows.{Row}
 use Rattle.fleet_model.specs.Nodes.{Tables, L0, Trees}
@@ -7,7 +7,7 @@ use Rattle.fleet_model.specs.Jobs.{Job, Jobs, Status, Submitted, Scheduled, Runn
 use Rattle.fleet_model.specs.Records.{to_completed}
 use Rattle.fleet_model.specs.Store.{Manifest, Records}
 use Rattle.fleet_model.specs.Trees.{watermark_after}
-use Rattle.fleet_model.specs.Polls.{PollInput, PollState, begun, free_stale, commit_by, commit_job, commit_finished, add_proposed, each, open_submitted, polled}
+use Rattle.fleet_model.specs.Polls.{PollInput, PollState, begun, free_stale, commit_by, commit_job, commit_finished, each}
 use Rattle.fleet_run.specs.declared.jobs.AskedJob.{AskedJob}
 use Rattle.fleet_run.specs.Jobs.{Stage, Waits, Runs, Wrote, OpenJob}
 use Rattle.fleet_run.specs.FleetView.{AreFlushes}
@@ -16,7 +16,7 @@ use Rattle.fleet_run.proofs.JobLists.{filter_active, one_changed}
 use Rattle.fleet_run.proofs.RootTree.{tree}
 use Rattle.fleet_run.proofs.Rules.{root}
 use Rattle.fleet_run.proofs.Commits.{committed_root, commit_passes}
-use Rattle.fleet_run.proofs.Polls.{quiet_input, At, none_freed, none_proposed}
+use Rattle.fleet_run.proofs.Polls.{quiet_input, At, none_freed}
 
 -- ---- which jobs have a status
 
@@ -71,13 +71,14 @@ submitted_are (Some o) asked = by o.stage
     by : (stage : Stage) → filter (has_status Submitted) (job_at o.job stage ∷ map asked_job asked) ≡ map asked_job asked
     by Waits = all_submitted asked
     by (Runs settings) = all_submitted asked
-    by (Wrote tables) = all_submitted asked
+    by (Wrote tables cut) = all_submitted asked
 
 -- ---- 2. a finished job is committed
 
-pub at_first : (trees : Trees) (active : Jobs) (drawn : ℕ) (jobs : Jobs) → JobsAre active drawn jobs → At trees active drawn [] [] [] (begun trees jobs)
-at_first trees active drawn jobs h = record {
+pub at_first : (trees : Trees) (horizon : ℕ) (active : Jobs) (drawn : ℕ) (jobs : Jobs) → JobsAre active drawn jobs → At trees horizon active drawn [] [] [] (begun trees horizon jobs)
+at_first trees horizon active drawn jobs h = record {
   trees = refl;
+  horizon = refl;
   jobs = h;
   freed = refl;
   done = refl;
@@ -90,32 +91,33 @@ at_first trees active drawn jobs h = record {
   refused = refl;
 }
 
-module _ (tables : Tables) (manifest : Manifest) (records : Records) (numbers drawn : ℕ) (jobs : Jobs) where
+module _ (tables : Tables) (manifest : Manifest) (records : Records) (horizon drawn : ℕ) (jobs : Jobs) where
   abbrev input : PollInput
-  input = quiet_input tables manifest records numbers
+  input = quiet_input tables manifest records
 
   -- no job has finished
   pub none_committed : (trees : Trees) (front : Jobs) (asked : List AskedJob) → filter (has_status Compacted) (front ++ map asked_job asked) ≡ [] → JobsAre (front ++ map asked_job asked) drawn jobs
-      → commit_finished input (begun trees jobs) ≡ begun trees jobs
+      → commit_finished input (begun trees horizon jobs) ≡ begun trees horizon jobs
   none_committed trees front asked none h =
-      ap (λ js. each (commit_job input) js (begun trees jobs)) (with_status Compacted refl (front ++ map asked_job asked) drawn jobs h ∙ none)
+      ap (λ js. each (commit_job input) js (begun trees horizon jobs)) (with_status Compacted refl (front ++ map asked_job asked) drawn jobs h ∙ none)
 
   -- one has
-  pub one_committed : (job : AskedJob) (out : Tables) (asked : List AskedJob) (newer : Tables) (flush : ℕ × List Row) (made : List MadeRun) (last_seq watermark : Option ℕ) (more : Tables) → flush.0 ≡ job.source
-      → AreFlushes ((newer ++ flush ∷ []) ++ more) → AllByRecursion (λ m. m.id < job.destination) made → JobsAre (job_at job (Wrote out) ∷ map asked_job asked) drawn jobs
-      → At (root newer (record { id = job.destination; tables = out; flush = flush } ∷ made) last_seq (watermark_after (L0 job.source ∷ []) (tree (newer ++ flush ∷ []) made) watermark)) (map asked_job asked) drawn (job.id ∷ []) [] []
-      (commit_finished input (begun (root (newer ++ flush ∷ []) made last_seq watermark) jobs))
-  one_committed job out asked newer flush made last_seq watermark more e sound above h =
+  pub one_committed : (job : AskedJob) (out : Tables) (cut : ℕ) (asked : List AskedJob) (newer : Tables) (flush : ℕ × List Row) (made : List MadeRun) (last_seq watermark : Option ℕ) (more : Tables) → flush.0 ≡ job.source
+      → AreFlushes ((newer ++ flush ∷ []) ++ more) → AllByRecursion (λ m. m.id < job.destination) made → JobsAre (job_at job (Wrote out cut) ∷ map asked_job asked) drawn jobs
+      → At (root newer (record { id = job.destination; tables = out; flush = flush } ∷ made) last_seq (watermark_after (L0 job.source ∷ []) (tree (newer ++ flush ∷ []) made) watermark)) (max horizon cut) (map asked_job asked) drawn (job.id ∷ []) [] []
+      (commit_finished input (begun (root (newer ++ flush ∷ []) made last_seq watermark) horizon jobs))
+  one_committed job out cut asked newer flush made last_seq watermark more e sound above h =
       let trees = root (newer ++ flush ∷ []) made last_seq watermark in
-      let it : Job = job_at job (Wrote out) in
-      let start = begun trees jobs in
+      let it : Job = job_at job (Wrote out cut) in
+      let start = begun trees horizon jobs in
       let after : PollState = commit_by input it None start in
       let these : filter (has_status Compacted) jobs ≡ it ∷ [] = with_status Compacted refl (it ∷ map asked_job asked) drawn jobs h ∙ ap (λ js. it ∷ js) (none_compacted asked) in
       let reached : commit_finished input start ≡ after =
-      ap (λ js. each (commit_job input) js start) these ∙ ap (λ rule. commit_by input it rule start) (commit_passes job out newer flush made last_seq watermark e) in
-      let at : At (root newer (record { id = job.destination; tables = out; flush = flush } ∷ made) last_seq (watermark_after (L0 job.source ∷ []) (tree (newer ++ flush ∷ []) made) watermark)) (map asked_job asked) drawn (job.id ∷ []) [] [] after =
+      ap (λ js. each (commit_job input) js start) these ∙ ap (λ rule. commit_by input it rule start) (commit_passes job out cut newer flush made last_seq watermark e) in
+      let at : At (root newer (record { id = job.destination; tables = out; flush = flush } ∷ made) last_seq (watermark_after (L0 job.source ∷ []) (tree (newer ++ flush ∷ []) made) watermark)) (max horizon cut) (map asked_job asked) drawn (job.id ∷ []) [] [] after =
       record {
         trees = committed_root tables job out newer flush made last_seq watermark more e sound above;
+        horizon = refl;
         jobs = one_changed to_completed false [] it (map asked_job asked) drawn jobs refl refl h;
         freed = refl;
         done = refl;
@@ -127,16 +129,11 @@ module _ (tables : Tables) (manifest : Manifest) (records : Records) (numbers dr
         drained = refl;
         refused = refl;
       } in
-      subst (At (root newer (record { id = job.destination; tables = out; flush = flush } ∷ made) last_seq (watermark_after (L0 job.source ∷ []) (tree (newer ++ flush ∷ []) made) watermark)) (map asked_job asked) drawn (job.id ∷ []) [] []) (sym reached) at
+      subst (At (root newer (record { id = job.destination; tables = out; flush = flush } ∷ made) last_seq (watermark_after (L0 job.source ∷ []) (tree (newer ++ flush ∷ []) made) watermark)) (max horizon cut) (map asked_job asked) drawn (job.id ∷ []) [] []) (sym reached) at
 
   -- ---- all steps
 
-  -- what is opened and refused begins where the commits ended
-  pub polled_is : (trees : Trees) (opened : Option OpenJob) (asked : List AskedJob) → manifest.trees ≡ trees → records.jobs ≡ jobs → JobsAre (open_jobs opened ++ map asked_job asked) drawn jobs
-      → polled input ≡ open_submitted input (commit_finished input (begun trees jobs))
-  unfolding polled
-  polled_is trees opened asked are here h =
-      ap (λ ts. open_submitted input (add_proposed input (commit_finished input (free_stale input (begun ts records.jobs))))) are
-      ∙ ap (λ js. open_submitted input (add_proposed input (commit_finished input (free_stale input (begun trees js))))) here
-      ∙ ap (λ p. open_submitted input (add_proposed input (commit_finished input p))) (none_freed input opened asked drawn trees jobs refl refl h)
-      ∙ ap (open_submitted input) (none_proposed tables manifest records numbers (commit_finished input (begun trees jobs)))
+  -- No job is stale, so a poll goes from its first jobs to its commits.
+  pub none_stale : (trees : Trees) (opened : Option OpenJob) (asked : List AskedJob) → JobsAre (open_jobs opened ++ map asked_job asked) drawn jobs
+      → commit_finished input (free_stale input (begun trees horizon jobs)) ≡ commit_finished input (begun trees horizon jobs)
+  none_stale trees opened asked h = ap (commit_finished input) (none_freed input opened asked drawn trees horizon jobs refl refl h)

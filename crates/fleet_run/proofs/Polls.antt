@@ -11,7 +11,7 @@ use Rattle.fleet_model.specs.Attempts.{is_last}
 use Rattle.fleet_model.specs.Gates.{first_failing, submit_gate}
 use Rattle.fleet_model.specs.Store.{Manifest, Records}
 use Rattle.fleet_model.specs.Trees.{tables_now}
-use Rattle.fleet_model.specs.Polls.{PollInput, PollState, begun, free_stale, with_freed, add_proposed, add_proposals, each, open_job, open_by, lost_to_scheduler}
+use Rattle.fleet_model.specs.Polls.{PollInput, PollState, begun, free_stale, with_freed, proposals, each, open_job, open_by, lost_to_scheduler}
 use Rattle.script_model.specs.Defaults.{quiet_scheduler}
 use Rattle.fleet_run.specs.declared.jobs.AskedJob.{AskedJob}
 use Rattle.fleet_run.specs.Jobs.{Stage, Waits, Runs, Wrote, OpenJob, Judged, judged_by, judge, judge_all, failed_rule, is_above_all, is_apart_from}
@@ -21,21 +21,21 @@ use Rattle.fleet_run.proofs.RootTree.{is_flush, pieces_are}
 use Rattle.fleet_run.proofs.JobLists.{AreRising, filter_active, one_changed}
 use Rattle.fleet_run.proofs.Rules.{root, gate_is, AreHeld, IsHeldJob}
 
--- what a poll is given where nothing is proposed, nothing moves, and every job is accepted
-abbrev pub quiet_input : Tables → Manifest → Records → ℕ → PollInput
-quiet_input tables manifest records drawn = record {
+-- A poll is given this where nothing is proposed, nothing moves, and every job is accepted.
+abbrev pub quiet_input : Tables → Manifest → Records → PollInput
+quiet_input tables manifest records = record {
   options = record { timeout = 60000; concurrent = 4; moves = false };
   scheduler = quiet_scheduler;
   tables = tables;
   manifest = manifest;
   records = records;
   moment = 0;
-  jobs_drawn = drawn;
 }
 
--- the trees and the active jobs that a poll reached, and what it did
-pub record At (reached : Trees) (active : Jobs) (drawn : ℕ) (joined chosen : List ℕ) (failed : List (ℕ × ℕ)) (p : PollState) : Type 0 where
+-- A poll reached these trees, this horizon and these active jobs, and did this.
+pub record At (reached : Trees) (highest : ℕ) (active : Jobs) (drawn : ℕ) (joined chosen : List ℕ) (failed : List (ℕ × ℕ)) (p : PollState) : Type 0 where
   pub trees : p.trees ≡ reached
+  pub horizon : p.horizon ≡ highest
   pub jobs : JobsAre active drawn p.jobs
   pub freed : p.freed ≡ []
   pub done : p.done ≡ joined
@@ -68,21 +68,21 @@ none_stale (Some o) asked = by o.stage
     by : (stage : Stage) → filter (is_stale 60000 0) (job_at o.job stage ∷ map asked_job asked) ≡ []
     by Waits = asked_not_stale asked
     by (Runs settings) = asked_not_stale asked
-    by (Wrote tables) = asked_not_stale asked
+    by (Wrote tables cut) = asked_not_stale asked
 
 changed_none : (f : Job → Job) (jobs : Jobs) → changed f [] jobs ≡ jobs
 changed_none f [] = refl
 changed_none f (job ∷ jobs) = ap (λ js. job ∷ js) (changed_none f jobs)
 
-pub none_freed : (input : PollInput) (opened : Option OpenJob) (asked : List AskedJob) (drawn : ℕ) (trees : Trees) (jobs : Jobs) → input.options.timeout ≡ 60000 → input.moment ≡ 0
-    → JobsAre (open_jobs opened ++ map asked_job asked) drawn jobs → free_stale input (begun trees jobs) ≡ begun trees jobs
-none_freed input opened asked drawn trees jobs timeout moment h =
+pub none_freed : (input : PollInput) (opened : Option OpenJob) (asked : List AskedJob) (drawn : ℕ) (trees : Trees) (horizon : ℕ) (jobs : Jobs) → input.options.timeout ≡ 60000 → input.moment ≡ 0
+    → JobsAre (open_jobs opened ++ map asked_job asked) drawn jobs → free_stale input (begun trees horizon jobs) ≡ begun trees horizon jobs
+none_freed input opened asked drawn trees horizon jobs timeout moment h =
     let none : filter (is_stale 60000 0) jobs ≡ [] =
     filter_active (is_stale 60000 0) (λ job. running_active job.status _) jobs ∙ ap (filter (is_stale 60000 0)) h.are ∙ none_stale opened asked in
-    ap (λ t. with_freed (ids (filter (is_stale t input.moment) jobs)) (begun trees jobs)) timeout
-    ∙ ap (λ m. with_freed (ids (filter (is_stale 60000 m) jobs)) (begun trees jobs)) moment
-    ∙ ap (λ js. with_freed (ids js) (begun trees jobs)) none
-    ∙ ap (λ js. record (begun trees jobs) { jobs = js }) (changed_none to_waiting jobs)
+    ap (λ t. with_freed (ids (filter (is_stale t input.moment) jobs)) (begun trees horizon jobs)) timeout
+    ∙ ap (λ m. with_freed (ids (filter (is_stale 60000 m) jobs)) (begun trees horizon jobs)) moment
+    ∙ ap (λ js. with_freed (ids js) (begun trees horizon jobs)) none
+    ∙ ap (λ js. record (begun trees horizon jobs) { jobs = js }) (changed_none to_waiting jobs)
 
 -- ---- 3. nothing is proposed
 
@@ -90,9 +90,8 @@ take_none : (n : ℕ) → ◌≡◌ {A = List JobSpec} (take n []) []
 take_none zero = refl
 take_none (suc n) = refl
 
-pub none_proposed : (tables : Tables) (manifest : Manifest) (records : Records) (drawn : ℕ) (p : PollState) → add_proposed (quiet_input tables manifest records drawn) p ≡ p
-none_proposed tables manifest records drawn p =
-    ap (λ specs. add_proposals (quiet_input tables manifest records drawn) 1 specs p) (take_none (4 - count_by (has_status Running) p.jobs))
+pub none_proposed : (tables : Tables) (manifest : Manifest) (records : Records) (p : PollState) → proposals (quiet_input tables manifest records) p ≡ []
+none_proposed tables manifest records p = take_none (4 - count_by (has_status Running) p.jobs)
 
 -- ---- 4. submitted jobs are opened or refused
 
@@ -167,9 +166,9 @@ none_passes flushes runs held a oldest h =
     let clash : false ≡ true = sym (ap (λ b. not b && not (held.destination == a.destination)) equal) ∙ p.apart in
     cc clash
 
-module _ (tables : Tables) (manifest : Manifest) (records : Records) (numbers : ℕ) (flushes : Tables) (made : List MadeRun) (last_seq watermark : Option ℕ) (more : Tables) (sound : AreFlushes (flushes ++ more)) (drawn : ℕ) (joined : List ℕ) where
+module _ (tables : Tables) (manifest : Manifest) (records : Records) (flushes : Tables) (made : List MadeRun) (last_seq watermark : Option ℕ) (horizon : ℕ) (more : Tables) (sound : AreFlushes (flushes ++ more)) (drawn : ℕ) (joined : List ℕ) where
   abbrev input : PollInput
-  input = quiet_input tables manifest records numbers
+  input = quiet_input tables manifest records
 
   abbrev trees : Trees
   trees = root flushes made last_seq watermark
@@ -178,7 +177,7 @@ module _ (tables : Tables) (manifest : Manifest) (records : Records) (numbers : 
   runs = firsts (map run_of made)
 
   abbrev Reached : Jobs → Judged → PollState → Type 0
-  Reached active j p = At trees active drawn joined j.opened j.refused p
+  Reached active j p = At trees horizon active drawn joined j.opened j.refused p
 
   -- the rule that a job fails
   gate_at : (a : AskedJob) (front : Jobs) (asked : List AskedJob) (j : Judged) (p : PollState) → AreHeld j.held front → Reached (front ++ map asked_job (a ∷ asked)) j p
@@ -192,6 +191,7 @@ module _ (tables : Tables) (manifest : Manifest) (records : Records) (numbers : 
       → Reached (front ++ map asked_job asked) (judged_by j a (Some rule)) (open_by input (asked_job a) (Some rule) p)
   refused_at a front asked j p rule at = record {
     trees = at.trees;
+    horizon = at.horizon;
     jobs = one_changed to_failed false front (asked_job a) (map asked_job asked) drawn p.jobs refl refl at.jobs;
     freed = at.freed;
     done = at.done;
@@ -213,6 +213,7 @@ module _ (tables : Tables) (manifest : Manifest) (records : Records) (numbers : 
       → Reached (opened_job a ∷ map asked_job asked) (judged_by j a None) (open_by input (asked_job a) None p)
   opened_at a asked j p there at = record {
     trees = at.trees;
+    horizon = at.horizon;
     jobs = subst (λ job. JobsAre (job ∷ map asked_job asked) drawn (changed (to_scheduled (tables_now p.trees)) (a.id ∷ []) p.jobs)) (scheduled_is a p at.trees there)
         (one_changed (to_scheduled (tables_now p.trees)) true [] (asked_job a) (map asked_job asked) drawn p.jobs refl refl at.jobs);
     freed = at.freed;

@@ -8,27 +8,20 @@ use Rattle.row_laws.proofs.Elements.{all_weaken}
 use Rattle.fleet_model.specs.Nodes.{Tables}
 use Rattle.fleet_model.specs.History.{PutTable}
 use Rattle.fleet_model.specs.Jobs.{table_id_of}
-use Rattle.fleet_model.specs.Exchanges.{Exchange, DrawsTable, PutsTable}
-use Rattle.script_model.specs.Flushes.{name_put}
-use Rattle.script_model.specs.OutputLines as model
-use Rattle.fleet_run.specs.FleetView.{FleetView}
+use Rattle.fleet_model.specs.Exchanges.{DrawsTable, PutsTable}
+use Rattle.fleet_model.specs.Records.{firsts}
+use Rattle.step_model.specs.Entries.{name_in}
+use Rattle.step_model.specs.Course.{Course, Calls, puts_tables}
 use Rattle.fleet_run.specs.Serve.{numbered}
-use Rattle.fleet_run.specs.Holds.{Held, IsStored, rows_in_tables, state_of}
-use Rattle.fleet_run.proofs.Calls.{all_held, held_after, AllSucceed}
+use Rattle.fleet_run.specs.Holds.{Held, IsStored, rows_in_tables}
+use Rattle.fleet_run.proofs.Calls.{Leads, held_after, call_leads}
 use Rattle.fleet_run.proofs.FlushLine.{new_stored}
 use Rattle.fleet_run.proofs.TreeHolds.{all_both}
-use Rattle.fleet_model.specs.Store.{Store}
 
 -- ---- their ids
 
 pub table_id : (n : ℕ) → table_id_of 0 n ≡ 2 ^ 79 + n
 table_id n = omega arith
-
-pub same_numbers : (fleet : FleetView) (store : Store) (n drawn : ℕ) (cut : List (List Row)) → store.tables_drawn + n ≡ drawn + 1 → model.numbered (state_of fleet store) n cut ≡ numbered drawn cut
-same_numbers fleet store n drawn [] h = refl
-same_numbers fleet store n drawn (rows ∷ cut) h =
-    ap (λ k. (table_id_of 0 k, rows) ∷ model.numbered (state_of fleet store) (n + 1) cut) h
-    ∙ ap (λ tables. (table_id_of 0 (drawn + 1), rows) ∷ tables) (same_numbers fleet store (n + 1) (drawn + 1) cut (omega (arith, h)))
 
 pub numbered_length : (drawn : ℕ) (cut : List (List Row)) → length (numbered drawn cut) ≡ length cut
 numbered_length drawn [] = refl
@@ -69,17 +62,20 @@ numbered_stored stored drawn (rows ∷ cut) h =
 
 -- ---- what is held
 
+-- The tables and their draws leave this held.
 abbrev pub after_puts : Tables → Held → Held
 after_puts tables h = record h { tables = h.tables ++ tables; tables_drawn = h.tables_drawn + length tables }
 
--- a table under such an id is no flush, so no name is used
-no_name : (drawn last : ℕ) (h : Held) (table : ℕ × List Row) → IsDrawn drawn last table → max h.name (name_put (PutTable table.0 (length table.1))) ≡ h.name
-no_name drawn last h table between =
-    let large : nat_lt table.0 (2 ^ 79) ≡ false = grind (arith, nat_tests, between.0) in
-    ap (λ b. max h.name (cond b table.0 0)) large ∙ omega arith
+-- A drawn table is no flush, so no name is used.
+no_name : (drawn rows : ℕ) (h : Held) → max h.name (name_in (PutTable (table_id_of 0 (drawn + 1)) rows)) ≡ h.name
+no_name drawn rows h =
+    let large : nat_lt (table_id_of 0 (drawn + 1)) (2 ^ 79) ≡ false = grind (arith, nat_tests, table_id (drawn + 1)) in
+    ap (λ b. max h.name (cond b (table_id_of 0 (drawn + 1)) 0)) large ∙ omega arith
 
-one_put : (drawn last : ℕ) (h : Held) (table : ℕ × List Row) → IsDrawn drawn last table → held_after (PutsTable table.0 table.1) (held_after (DrawsTable 0) h) ≡ after_puts (table ∷ []) h
-one_put drawn last h table between = ap (λ name. record h { tables = h.tables ++ table ∷ []; tables_drawn = h.tables_drawn + 1; name = name }) (no_name drawn last h table between)
+-- A table that is drawn and put leaves this held.
+one_put : (drawn : ℕ) (rows : List Row) (h : Held)
+    → held_after (PutsTable (table_id_of 0 (drawn + 1)) rows) (held_after (DrawsTable 0) h) ≡ after_puts ((table_id_of 0 (drawn + 1), rows) ∷ []) h
+one_put drawn rows h = ap (λ name. record h { tables = h.tables ++ (table_id_of 0 (drawn + 1), rows) ∷ []; tables_drawn = h.tables_drawn + 1; name = name }) (no_name drawn (length rows) h)
 
 puts_joined : (table : ℕ × List Row) (tables : Tables) (h : Held) → after_puts tables (after_puts (table ∷ []) h) ≡ after_puts (table ∷ tables) h
 puts_joined table tables h =
@@ -92,15 +88,17 @@ no_puts h =
     let same : h.tables_drawn + 0 ≡ h.tables_drawn = omega arith in
     ap (λ ts. record h { tables = ts; tables_drawn = h.tables_drawn + 0 }) (append-nil h.tables) ∙ ap (λ n. record h { tables_drawn = n }) same
 
-pub puts_held : (drawn last : ℕ) (tables : Tables) (calls : List Exchange) (h : Held) → are_drawn drawn last tables → all_held (model.put_calls 0 tables ++ calls) h ≡ all_held calls (after_puts tables h)
-puts_held drawn last [] calls h drawn_all = ap (all_held calls) (sym (no_puts h))
-puts_held drawn last (table ∷ tables) calls h drawn_all =
-    ap (all_held (model.put_calls 0 tables ++ calls)) (one_put drawn last h table drawn_all.0)
-    ∙ puts_held drawn last tables calls (after_puts (table ∷ []) h) drawn_all.1
-    ∙ ap (all_held calls) (puts_joined table tables h)
-
-pub puts_succeed : (drawn last : ℕ) (tables : Tables) (calls : List Exchange) (h : Held) → are_drawn drawn last tables → AllSucceed calls (after_puts tables h) → AllSucceed (model.put_calls 0 tables ++ calls) h
-puts_succeed drawn last [] calls h drawn_all rest = subst (AllSucceed calls) (no_puts h) rest
-puts_succeed drawn last (table ∷ tables) calls h drawn_all rest =
-    let after : AllSucceed calls (after_puts tables (after_puts (table ∷ []) h)) = subst (AllSucceed calls) (sym (puts_joined table tables h)) rest in
-    (tt, (tt, subst (AllSucceed (model.put_calls 0 tables ++ calls)) (sym (one_put drawn last h table drawn_all.0)) (puts_succeed drawn last tables calls (after_puts (table ∷ []) h) drawn_all.1 after)))
+-- Tables are put one after the other under the next ids, and a course goes on with these.
+pub puts_tables_leads : {A : Type 0} (cut : List (List Row)) (next : List ℕ → Course A) (h last : Held) (end : A)
+    → Leads (next (firsts (numbered h.tables_drawn cut))) (after_puts (numbered h.tables_drawn cut) h) last end → Leads (puts_tables 0 cut next) h last end
+puts_tables_leads [] next h last end rest = subst (λ (k : Held). Leads (next []) k last end) (no_puts h) rest
+puts_tables_leads {A} (rows ∷ cut) next h last end rest =
+    let id = table_id_of 0 (h.tables_drawn + 1) in
+    let drawn = held_after (DrawsTable 0) h in
+    let put = after_puts ((id, rows) ∷ []) h in
+    let further : ℕ → Course A = λ table. puts_tables 0 cut (λ ids. next (table ∷ ids)) in
+    let later : Leads (next (id ∷ firsts (numbered put.tables_drawn cut))) (after_puts (numbered put.tables_drawn cut) put) last end =
+    subst (λ (k : Held). Leads (next (id ∷ firsts (numbered put.tables_drawn cut))) k last end) (sym (puts_joined (id, rows) (numbered put.tables_drawn cut) h)) rest in
+    let others : Leads (further id) put last end = puts_tables_leads cut (λ ids. next (id ∷ ids)) put last end later in
+    call_leads h last end (DrawsTable 0) (λ k. let table = table_id_of 0 (k.tables_drawn + 1) in Calls (PutsTable table rows) (λ met. further table)) tt
+    (call_leads drawn last end (PutsTable id rows) (λ k. further id) tt (subst (λ (k : Held). Leads (further id) k last end) (sym (one_put h.tables_drawn rows h)) others))

@@ -1,5 +1,5 @@
--- The line of a read: from the floor on, the stored rows answer what the flushed ones do.
-use Rattle.std.proofs.Common.{◌≡◌, refl, sym, ap, ◌∙◌, ℕ, ◌≤◌, ℤ, List, [], ◌∷◌, ◌++◌, map, cond, Bool, true, false, ◌||◌, Option, Some, None, arith, append-nil, slice_get, nat_lt, int_lt}
+-- The line of a read: from the horizon on, the stored rows answer what the flushed ones do.
+use Rattle.std.proofs.Common.{◌≡◌, refl, sym, ap, ◌∙◌, subst, ℕ, ◌≤◌, ℤ, List, [], ◌∷◌, ◌++◌, map, cond, Bool, true, false, ◌||◌, Option, Some, None, arith, append-nil, slice_get, nat_lt, int_lt}
 use Rattle.std.specs.Prelude.{flat_map}
 use Rattle.std.specs.List.{AllByRecursion}
 use Rattle.std.specs.Option.{option_or}
@@ -15,6 +15,7 @@ use Rattle.fleet_model.specs.Store.{Store}
 use Rattle.script_model.specs.Grammars.{IsPlain}
 use Rattle.script_model.specs.Replies.{read_reply, not_retained}
 use Rattle.script_model.specs.Defaults.{with_quiet_scheduler}
+use Rattle.script_model.specs.LineRuns.{only_replies}
 use Rattle.script_model.specs.Looks.{read_line}
 use Rattle.fleet_run.specs.FleetView.{FleetView, AreFlushes}
 use Rattle.fleet_run.specs.Serve.{newest_row, newest_stored, run_tables, value_of, key_reply}
@@ -24,7 +25,7 @@ use Rattle.fleet_run.proofs.Newest.{newest-cons, newest-append}
 use Rattle.fleet_run.proofs.PlainReads.{read-plain}
 use Rattle.fleet_run.proofs.PlainJobs.{or_older, kept_of_key, kept_reads}
 use Rattle.fleet_run.proofs.RootTree.{tree}
-use Rattle.fleet_run.proofs.Serves.{Serves, serves_by}
+use Rattle.fleet_run.proofs.Serves.{Serves, replies_serve}
 use Rattle.fleet_run.proofs.TreeHolds.{all_front}
 
 -- ---- the flushed rows
@@ -73,10 +74,10 @@ behind : (flushes more : Tables) → AreFlushes (flushes ++ more) → AreFlushes
 behind [] more h = h
 behind (f ∷ flushes) more h = behind flushes more h.1
 
-runs_read : (floor seq : ℕ) (key : List ℕ) (made : List MadeRun) → floor ≤ seq → AreFlushes (made_of made) → AreKept floor made
+runs_read : (horizon seq : ℕ) (key : List ℕ) (made : List MadeRun) → horizon ≤ seq → AreFlushes (made_of made) → AreKept horizon made
     → or_older (newest_row (run_tables (map run_of made)) key seq) None ≡ or_older (newest_row (made_of made) key seq) None
-runs_read floor seq key [] low sound kept = refl
-runs_read floor seq key (m ∷ made) low sound kept =
+runs_read horizon seq key [] low sound kept = refl
+runs_read horizon seq key (m ∷ made) low sound kept =
     let settings = kept.0.settings in
     let rows : List Row = rows_of_key key m.flush.1 in
     let older : Option Outcome = or_older (newest_row (made_of made) key seq) None in
@@ -85,37 +86,39 @@ runs_read floor seq key (m ∷ made) low sound kept =
     let oldest : settings.last_run ≡ true → older ≡ None = λ last. ap (λ (ms : List MadeRun). or_older (newest_row (made_of ms) key seq) None) (kept.0.oldest last) in
     ap (λ o. or_older o None) (newest-append m.tables (run_tables (map run_of made)) key seq)
     ∙ or_both (newest_row m.tables key seq) (newest_row (run_tables (map run_of made)) key seq) None
-    ∙ ap (or_older (newest_row m.tables key seq)) (runs_read floor seq key made low sound.1 kept.1)
+    ∙ ap (or_older (newest_row m.tables key seq)) (runs_read horizon seq key made low sound.1 kept.1)
     ∙ ap (λ rs. or_older (slice_get (seen_at seq rs) 0) older) in_run
     ∙ kept_reads settings seq rows older (omega (arith, kept.0.low, low)) oldest (all_of_key IsPlain key m.flush.1 sound.0.plain)
     ∙ sym (ap (λ o. or_older o None) (newest-cons m.flush (made_of made) key seq) ∙ or_both (slice_get (seen_at seq rows) 0) (newest_row (made_of made) key seq) None)
 
-stored_newest : (fleet : FleetView) (h : Held) (holds : Holds fleet h) (key : List ℕ) (seq : ℕ) → fleet.floor ≤ seq → value_of (newest_row (all_flushes fleet holds.made) key seq) ≡ value_of (newest_stored fleet key seq)
+stored_newest : (fleet : FleetView) (h : Held) (holds : Holds fleet h) (key : List ℕ) (seq : ℕ) → fleet.horizon ≤ seq → value_of (newest_row (all_flushes fleet holds.made) key seq) ≡ value_of (newest_stored fleet key seq)
 stored_newest fleet h holds key seq low =
     let first = newest_row fleet.flushes key seq in
     let made = holds.made in
     of_older (newest_row (all_flushes fleet made) key seq)
     ∙ ap (λ o. or_older o None) (newest-append fleet.flushes (made_of made) key seq)
     ∙ or_both first (newest_row (made_of made) key seq) None
-    ∙ ap (or_older first) (sym (runs_read fleet.floor seq key made low (behind fleet.flushes (made_of made) holds.flushes) holds.kept))
+    ∙ ap (or_older first) (sym (runs_read fleet.horizon seq key made low (behind fleet.flushes (made_of made) holds.flushes) holds.kept))
     ∙ ap (λ (runs : List (ℕ × Tables)). or_older first (or_older (newest_row (run_tables runs) key seq) None)) (sym holds.runs)
     ∙ sym (or_both first (newest_row (run_tables fleet.runs) key seq) None)
     ∙ sym (of_older (newest_stored fleet key seq))
 
 pub read_serves : (merge : Operator) (number : ℕ) (fleet : FleetView) (store : Store) → Holds fleet (held store) → (key : List ℕ) (seq : ℕ) (now : ℤ)
     → Serves number fleet store (read_line (with_quiet_scheduler merge) [] key seq now (state_of fleet store)) (key_reply fleet key seq now) fleet
-unfolding read_line
 read_serves merge number fleet store holds key seq now =
+    let s = state_of fleet store in
     let m = store.manifest in
-    serves_by number fleet fleet store (read_line (with_quiet_scheduler merge) [] key seq now (state_of fleet store)) (key_reply fleet key seq now)
-    (ap (λ f. cond (nat_lt seq f || int_lt now m.tick) (not_retained f m.tick) (read_reply (flushed_read merge store [] key seq now))) holds.floor
-    ∙ ap (λ t. cond (nat_lt seq fleet.floor || int_lt now t) (not_retained fleet.floor t) (read_reply (flushed_read merge store [] key seq now))) holds.tick
-    ∙ by (nat_lt seq fleet.floor) refl (int_lt now fleet.tick)) refl tt holds
+    let told : List ℕ = cond (nat_lt seq m.horizon || int_lt now m.tick) (not_retained m.horizon m.tick) (read_reply (flushed_read merge store [] key seq now)) in
+    let is : told ≡ key_reply fleet key seq now =
+    ap (λ h. cond (nat_lt seq h || int_lt now m.tick) (not_retained h m.tick) (read_reply (flushed_read merge store [] key seq now))) holds.horizon
+    ∙ ap (λ t. cond (nat_lt seq fleet.horizon || int_lt now t) (not_retained fleet.horizon t) (read_reply (flushed_read merge store [] key seq now))) holds.tick
+    ∙ by (nat_lt seq fleet.horizon) refl (int_lt now fleet.tick) in
+    subst (λ answer. Serves number fleet store (only_replies s told) answer fleet) is (replies_serve number fleet store told holds)
   where
-    by : (below : Bool) → nat_lt seq fleet.floor ≡ below → (early : Bool) → cond (below || early) (not_retained fleet.floor fleet.tick) (read_reply (flushed_read merge store [] key seq now))
-        ≡ cond (below || early) (not_retained fleet.floor fleet.tick) (read_reply (value_of (newest_stored fleet key seq)))
+    by : (below : Bool) → nat_lt seq fleet.horizon ≡ below → (early : Bool) → cond (below || early) (not_retained fleet.horizon fleet.tick) (read_reply (flushed_read merge store [] key seq now))
+        ≡ cond (below || early) (not_retained fleet.horizon fleet.tick) (read_reply (value_of (newest_stored fleet key seq)))
     by true e early = refl
     by false e true = refl
     by false e false =
-        let low : fleet.floor ≤ seq = grind (arith, nat_tests, e) in
+        let low : fleet.horizon ≤ seq = grind (arith, nat_tests, e) in
         ap read_reply (flushed_newest merge fleet store holds key seq now ∙ stored_newest fleet (held store) holds key seq low)

@@ -1,10 +1,9 @@
 -- A script as it runs, line after line.
 use Rattle.std.proofs.Common.{◌≡◌, refl, sym, ap, ◌∙◌, subst, ℕ, ◌+◌, List, [], ◌∷◌, ◌++◌, length, None, append_assoc, append-nil, ◌≤◌, arith}
 use Rattle.std.specs.List.{concat}
-use Rattle.std.proofs.lemmas.List.Concat.{flat_map-append}
 use Rattle.std.proofs.lemmas.List.Folds.{concat-append}
 use Rattle.row_model.specs.Fold.{Operator}
-use Rattle.script_model.specs.Script.{Line, FlushRows, IsInBounds, AreLines, IsScript, script_text, spelt}
+use Rattle.script_model.specs.Script.{Line, FlushRows, IsInBounds, AreLines, IsScript}
 use Rattle.script_model.specs.Grammars.{job_grammar}
 use Rattle.script_model.specs.States.{fresh_state}
 use Rattle.script_model.specs.Defaults.{default_options, with_quiet_scheduler}
@@ -13,7 +12,8 @@ use Rattle.script_model.proofs.Runs.{run-more}
 use Rattle.fleet_run.specs.FleetView.{FleetView, fresh_fleet}
 use Rattle.fleet_run.specs.Holds.{held, Holds, state_of}
 use Rattle.fleet_run.specs.Serve.{IsServed, reply_to, fleet_after}
-use Rattle.fleet_run.specs.Outside.{SinkView, Took, TookShort, TookNothing}
+use Rattle.fleet_run.specs.Program.{ReadWhole, ReadFront, RunsFirst}
+use Rattle.fleet_run.specs.Outside.{SourceView, SinkView, Took, TookShort, TookNothing}
 use Rattle.fleet_run.specs.Served.{Ran, RanButTheEnd, RunsUpToFault, RunsFront, Served, ServedUpToFault, ServedFront}
 use Rattle.fleet_run.proofs.Steps.{AreStarted, LineServes, line_serves, started_more}
 use Rattle.fleet_run.proofs.Written.{took_none, took_more, took_kept}
@@ -35,6 +35,8 @@ fresh_holds = record {
   watermark = None;
   trees = refl;
   floor = refl;
+  horizon = refl;
+  tracker = refl;
   tick = refl;
   runs = refl;
   falling = tt;
@@ -56,7 +58,7 @@ fresh_holds = record {
 
 pub so_far_none : (merge : Operator) (sink : SinkView) → SoFar merge [] fresh_fleet sink sink
 so_far_none merge sink = record {
-  ran = record { answers = []; last = fresh_state default_options; run = refl; holds = fresh_holds; took = took_none sink };
+  ran = record { answers = []; last = fresh_state default_options; run = refl; holds = fresh_holds; live = refl; took = took_none sink };
   last = refl;
   started = record { coordinator = refl; worker = refl };
 }
@@ -91,6 +93,7 @@ so_far_more merge lines line fleet old mid new so_far fits took =
         last = state_of (fleet_after line fleet) next.left;
         run = run_next merge lines line fleet old mid so_far next;
         holds = next.holds;
+        live = refl;
         took = rw (concat-one ran.answers answer) (took_more old mid new (concat ran.answers) answer ran.took took);
       };
       last = refl;
@@ -109,6 +112,7 @@ so_far_part merge lines line fleet old mid new so_far fits short =
       last = state_of (fleet_after line fleet) next.left;
       run = run_next merge lines line fleet old mid so_far next;
       holds = next.holds;
+      live = refl;
       front = short.front;
       end = short.end;
       parts = short.parts;
@@ -120,7 +124,7 @@ so_far_part merge lines line fleet old mid new so_far fits short =
 pub so_far_kept : (merge : Operator) (lines : List Line) (fleet : FleetView) (old mid new : SinkView) → SoFar merge lines fleet old mid → TookNothing mid new → Ran merge lines fleet old new
 so_far_kept merge lines fleet old mid new so_far kept =
     let ran = so_far.ran in
-    record { answers = ran.answers; last = ran.last; run = ran.run; holds = ran.holds; took = took_kept old mid new (concat ran.answers) ran.took kept }
+    record { answers = ran.answers; last = ran.last; run = ran.run; holds = ran.holds; live = ran.live; took = took_kept old mid new (concat ran.answers) ran.took kept }
 
 -- ---- texts
 
@@ -130,30 +134,39 @@ served merge text lines fleet old new script ran = record {
   store = ran.last.store;
   follows = record { lines = lines; answers = ran.answers; last = ran.last; script = script; run = ran.run; stored = refl; replies = refl };
   holds = ran.holds;
+  live = ran.live;
   took = ran.took;
 }
-
-each_front : (before xs ys : List Line) → AreLines job_grammar before (xs ++ ys) → AreLines job_grammar before xs
-each_front before [] ys h = tt
-each_front before (x ∷ xs) ys h = (h.0, each_front (before ++ x ∷ []) xs ys h.1)
 
 pub served_up_to_fault : (merge : Operator) (text : List ℕ) (lines : List Line) (fleet : FleetView) (old new : SinkView) → IsScript job_grammar text lines → RunsUpToFault merge lines fleet old new → ServedUpToFault merge text fleet old new
 served_up_to_fault merge text lines fleet old new script runs = record { lines = lines; script = script; runs = runs }
 
-pub served_front : (merge : Operator) (text : List ℕ) (lines : List Line) (fleet : FleetView) (old new : SinkView) → IsScript job_grammar text lines → RunsFront merge lines fleet old new → ServedFront merge text fleet old new
-served_front merge text lines fleet old new script runs =
-    let each : AreLines job_grammar [] (runs.run ++ runs.left) = rw runs.parts at script.each in
-    record {
-      lines = runs.run;
-      rest = script_text runs.left;
-      whole = script.whole ∙ ap script_text runs.parts ∙ flat_map-append spelt runs.run runs.left;
-      each = each_front [] runs.run runs.left each;
-      ran = runs.ran;
-    }
+pub served_front : (text : List ℕ) (lines : List Line) (fleet : FleetView) (old new : SinkView) → IsScript job_grammar text lines → RunsFront lines fleet old new → ServedFront text fleet old new
+served_front text lines fleet old new script runs = record {
+  run = runs.run;
+  ran = runs.ran;
+  begins = λ some. record { left = runs.left; script = subst (IsScript job_grammar text) runs.parts script };
+}
 
--- nothing was run, and nothing written
-pub served_nothing : (merge : Operator) (text : List ℕ) (sink : SinkView) → ServedFront merge text fresh_fleet sink sink
-served_nothing merge text sink = record { lines = []; rest = text; whole = refl; each = tt; ran = (so_far_none merge sink).ran }
+-- Nothing was run, and nothing was written.
+pub served_nothing : (text : List ℕ) (sink : SinkView) → ServedFront text fresh_fleet sink sink
+served_nothing text sink = record { run = []; ran = λ merge. (so_far_none merge sink).ran; begins = λ some. absurd (some refl) }
+
+-- ---- the program
+
+-- Nothing was run, whatever the source gave.
+pub runs_nothing : (source_old source_new : SourceView) (sink : SinkView) → ReadFront source_old source_new → RunsFirst fresh_fleet source_old source_new sink sink
+runs_nothing source_old source_new sink front = record { run = []; front = front; ran = λ merge. (so_far_none merge sink).ran; reads = λ some. absurd (some refl) }
+
+-- The first lines of a text were run, and the source gave that text to its end.
+pub runs_first : (text : List ℕ) (fleet : FleetView) (source_old source_new : SourceView) (sink_old sink_new : SinkView) → ReadWhole text source_old source_new → ServedFront text fleet sink_old sink_new
+    → RunsFirst fleet source_old source_new sink_old sink_new
+runs_first text fleet source_old source_new sink_old sink_new read served = record {
+  run = served.run;
+  front = record { text = text; bytes = read.bytes; given = read.given };
+  ran = served.ran;
+  reads = λ some. record { text = text; read = read; begins = served.begins some };
+}
 
 -- ---- the loop over the lines
 
@@ -190,10 +203,10 @@ run_part all line left fleet after old mid new so_far is short merge = record {
   ran = rw is (so_far_part merge so_far.run line fleet old mid new (so_far.ran merge) so_far.each.0 short);
 }
 
-pub run_kept : (all left : List Line) (fleet after : FleetView) (old mid new : SinkView) → RunSoFar all left fleet old mid → after ≡ fleet → TookNothing mid new → (merge : Operator) → RunsFront merge all after old new
-run_kept all left fleet after old mid new so_far is kept merge = record {
+pub run_kept : (all left : List Line) (fleet after : FleetView) (old mid new : SinkView) → RunSoFar all left fleet old mid → after ≡ fleet → TookNothing mid new → RunsFront all after old new
+run_kept all left fleet after old mid new so_far is kept = record {
   run = so_far.run;
   left = left;
   parts = so_far.parts;
-  ran = rw is (so_far_kept merge so_far.run fleet old mid new (so_far.ran merge) kept);
+  ran = λ merge. rw is (so_far_kept merge so_far.run fleet old mid new (so_far.ran merge) kept);
 }

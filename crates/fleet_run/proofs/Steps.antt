@@ -7,11 +7,15 @@ use Rattle.row_model.specs.Fold.{Operator}
 use Rattle.row_model.specs.Settings.{Settings}
 use Rattle.fleet_model.specs.Nodes.{L0, Run}
 use Rattle.fleet_model.specs.Store.{Store}
+use Rattle.step_model.specs.StepEnds.{FlushFault}
 use Rattle.script_model.specs.Script.{Line, StartCoordinator, StartWorker, FlushRows, ReadKey, SubmitJob, Poll, ClaimJobs, FinishJob, Dump}
 use Rattle.script_model.specs.Grammars.{job_grammar, IsOfOneJob, IsPlain, starts_coordinator, starts_worker}
 use Rattle.script_model.specs.Defaults.{with_quiet_scheduler}
 use Rattle.script_model.specs.Follows.{LineStep}
-use Rattle.script_model.specs.LineEffects.{effect_of}
+use Rattle.script_model.specs.LineCourses.{prepared, course_of}
+use Rattle.script_model.specs.LineRuns.{run_line}
+use Rattle.script_model.specs.LineSteps.{MayRefuse, OneCourse}
+use Rattle.script_model.specs.States.{State}
 use Rattle.fleet_run.specs.declared.jobs.AskedJob.{AskedJob}
 use Rattle.fleet_run.specs.FleetView.{FleetView}
 use Rattle.fleet_run.specs.Serve.{IsServed, reply_to, fleet_after, flush_fault, after_flush, run_by, finished}
@@ -42,45 +46,51 @@ pub record LineServes (merge : Operator) (number : ℕ) (line : Line) (fleet : F
 of_one_job : (lines : List Line) (line : Line) → job_grammar lines line → IsOfOneJob line
 of_one_job lines line fits = fits.1
 
+-- A line is done by the course in which the operator refuses nothing.
+only_course : (merge : Operator) (number : ℕ) (line : Line) (old new : State) (answer : List ℕ) → MayRefuse (with_quiet_scheduler merge) line (prepared line old) None
+    → run_line number (prepared line old) (course_of (with_quiet_scheduler merge) line None (prepared line old)) ≡ (answer, new) → OneCourse (with_quiet_scheduler merge) number old line answer new
+only_course merge number line old new answer may ends = record { course = course_of (with_quiet_scheduler merge) line None (prepared line old); does = record { refusal = None; may = may; is = refl }; ends = ends }
+
 poll_serves : (merge : Operator) (number : ℕ) (fleet : FleetView) (store : Store) → Holds fleet (held store) → (live : Bool) → fleet.coordinator ≡ live
     → LineServes merge number (Poll 1) fleet store
-unfolding effect_of
+unfolding course_of
 poll_serves merge number fleet store holds true live =
     let s = live_poll_serves merge number fleet store holds live in
-    record { left = s.left; step = record { effect = effect_of (with_quiet_scheduler merge) (Poll 1) (state_of fleet store); does = refl; ends = s.ends }; holds = s.holds }
+    record { left = s.left; step = only_course merge number (Poll 1) (state_of fleet store) _ _ refl s.ends; holds = s.holds }
 poll_serves merge number fleet store holds false off =
     let s = no_poll_serves merge number fleet store holds off in
-    record { left = s.left; step = record { effect = effect_of (with_quiet_scheduler merge) (Poll 1) (state_of fleet store); does = refl; ends = s.ends }; holds = s.holds }
+    record { left = s.left; step = only_course merge number (Poll 1) (state_of fleet store) _ _ refl s.ends; holds = s.holds }
 
 root_flush_serves : (merge : Operator) (number : ℕ) (fleet : FleetView) (store : Store) (name : ℕ) (segment : List ℕ) (floor : ℕ) (tick : _) (rows : List Row) → segment ≡ []
     → Holds fleet (held store) → name ≤ 1099511627775 → AllByRecursion IsPlain rows → LineServes merge number (FlushRows name segment floor tick rows) fleet store
-unfolding effect_of
+unfolding course_of
 root_flush_serves merge number fleet store name segment floor tick rows root holds named plain =
     let s = flush_serves number fleet store name floor tick rows holds named plain in
     subst (λ prefix. LineServes merge number (FlushRows name prefix floor tick rows) fleet store) (sym root)
-    (record { left = s.left; step = record { effect = effect_of (with_quiet_scheduler merge) (FlushRows name [] floor tick rows) (state_of fleet store); does = refl; ends = s.ends }; holds = s.holds })
+    (record { left = s.left; step = only_course merge number (FlushRows name [] floor tick rows) (state_of fleet store) _ _ refl s.ends; holds = s.holds })
 
 pub line_serves : (merge : Operator) (number : ℕ) (lines : List Line) (line : Line) (fleet : FleetView) (store : Store) → job_grammar lines line → IsServed line → AreStarted lines fleet
     → Holds fleet (held store) → LineServes merge number line fleet store
-unfolding effect_of
+unfolding course_of
 line_serves merge number lines (StartCoordinator n) fleet store fits served started holds =
     let s = start_coordinator_serves number fleet store holds (started.coordinator ∙ fits.2) in
     subst (λ k. LineServes merge number (StartCoordinator k) fleet store) (sym fits.1)
-    (record { left = s.left; step = record { effect = effect_of (with_quiet_scheduler merge) (StartCoordinator 1) (state_of fleet store); does = refl; ends = s.ends }; holds = s.holds })
-line_serves merge number lines (StartWorker n) fleet store fits served started holds =
+    (record { left = s.left; step = only_course merge number (StartCoordinator 1) (state_of fleet store) _ _ refl s.ends; holds = s.holds })
+line_serves merge number lines (StartWorker n release) fleet store fits served started holds =
     let s = start_worker_serves number fleet store holds (started.worker ∙ fits.2) in
-    subst (λ k. LineServes merge number (StartWorker k) fleet store) (sym fits.1)
-    (record { left = s.left; step = record { effect = effect_of (with_quiet_scheduler merge) (StartWorker 1) (state_of fleet store); does = refl; ends = s.ends }; holds = s.holds })
+    subst (λ k. LineServes merge number (StartWorker k release) fleet store) (sym fits.1.0)
+    (subst (λ r. LineServes merge number (StartWorker 1 r) fleet store) (sym fits.1.1)
+    (record { left = s.left; step = only_course merge number (StartWorker 1 None) (state_of fleet store) _ _ refl s.ends; holds = s.holds }))
 line_serves merge number lines (FlushRows name segment floor tick rows) fleet store fits served started holds =
     root_flush_serves merge number fleet store name segment floor tick rows fits.1.0 holds fits.0.0.1 fits.1.1
 line_serves merge number lines (ReadKey segment key seq now) fleet store fits served started holds =
     let s = read_serves merge number fleet store holds key seq now in
     subst (λ prefix. LineServes merge number (ReadKey prefix key seq now) fleet store) (sym fits.1)
-    (record { left = s.left; step = record { effect = effect_of (with_quiet_scheduler merge) (ReadKey [] key seq now) (state_of fleet store); does = refl; ends = s.ends }; holds = s.holds })
+    (record { left = s.left; step = only_course merge number (ReadKey [] key seq now) (state_of fleet store) _ _ refl s.ends; holds = s.holds })
 line_serves merge number lines (SubmitJob segment destination (L0 source ∷ [])) fleet store fits served started holds =
     let s = submit_serves number fleet store source destination holds in
     subst (λ prefix. LineServes merge number (SubmitJob prefix destination (L0 source ∷ [])) fleet store) (sym fits.1.0)
-    (record { left = s.left; step = record { effect = effect_of (with_quiet_scheduler merge) (SubmitJob [] destination (L0 source ∷ [])) (state_of fleet store); does = refl; ends = s.ends }; holds = s.holds })
+    (record { left = s.left; step = only_course merge number (SubmitJob [] destination (L0 source ∷ [])) (state_of fleet store) _ _ refl s.ends; holds = s.holds })
 line_serves merge number lines (SubmitJob segment destination []) fleet store fits served started holds = absurd fits.1.1
 line_serves merge number lines (SubmitJob segment destination (L0 source ∷ more ∷ sources)) fleet store fits served started holds = absurd fits.1.1
 line_serves merge number lines (SubmitJob segment destination (Run id ∷ sources)) fleet store fits served started holds = absurd fits.1.1
@@ -89,15 +99,15 @@ line_serves merge number lines (Poll n) fleet store fits served started holds =
 line_serves merge number lines (ClaimJobs n) fleet store fits served started holds =
     let s = claim_serves number fleet store holds in
     subst (λ k. LineServes merge number (ClaimJobs k) fleet store) (sym fits.1)
-    (record { left = s.left; step = record { effect = effect_of (with_quiet_scheduler merge) (ClaimJobs 1) (state_of fleet store); does = refl; ends = s.ends }; holds = s.holds })
+    (record { left = s.left; step = only_course merge number (ClaimJobs 1) (state_of fleet store) _ _ refl s.ends; holds = s.holds })
 line_serves merge number lines (FinishJob n job) fleet store fits served started holds =
     let f = finish_serves merge number fleet store holds job in
     subst (λ k. LineServes merge number (FinishJob k job) fleet store) (sym fits.1)
-    (record { left = f.serves.left; step = record { effect = f.effect; does = f.does; ends = f.serves.ends }; holds = f.serves.holds })
+    (record { left = f.serves.left; step = only_course merge number (FinishJob 1 job) (state_of fleet store) _ _ f.may f.serves.ends; holds = f.serves.holds })
 line_serves merge number lines (Dump segment node) fleet store fits served started holds =
     let s = dump_serves number fleet store holds node in
     subst (λ prefix. LineServes merge number (Dump prefix node) fleet store) (sym fits.1)
-    (record { left = s.left; step = record { effect = effect_of (with_quiet_scheduler merge) (Dump [] node) (state_of fleet store); does = refl; ends = s.ends }; holds = s.holds })
+    (record { left = s.left; step = only_course merge number (Dump [] node) (state_of fleet store) _ _ refl s.ends; holds = s.holds })
 line_serves merge number lines line fleet store fits served started holds = absurd (of_one_job lines line fits)
 
 -- ---- what is started
@@ -121,9 +131,9 @@ as_before old new = (new.coordinator ≡ (old.coordinator || false)) × (new.wor
 same_parties : (fleet : FleetView) → as_before fleet fleet
 same_parties fleet = (or_false fleet.coordinator, or_false fleet.worker)
 
-after_flush_same : (fleet : FleetView) (name floor : ℕ) (tick : _) (rows : List Row) (fault : Option (List ℕ)) → as_before fleet (after_flush fleet name floor tick rows fault)
+after_flush_same : (fleet : FleetView) (name floor : ℕ) (tick : _) (rows : List Row) (fault : Option FlushFault) → as_before fleet (after_flush fleet name floor tick rows fault)
 after_flush_same fleet name floor tick rows None = same_parties fleet
-after_flush_same fleet name floor tick rows (Some kind) = same_parties fleet
+after_flush_same fleet name floor tick rows (Some fault) = same_parties fleet
 
 if_same : (fleet changed : FleetView) (b : Bool) → as_before fleet changed → as_before fleet (cond b changed fleet)
 if_same fleet changed true h = h
@@ -141,7 +151,7 @@ both_same line fleet none nor same = record {
 
 are_live : (line : Line) (fleet : FleetView) → AreLive line fleet
 are_live (StartCoordinator n) fleet = record { coordinator = or_true fleet.coordinator; worker = or_false fleet.worker }
-are_live (StartWorker n) fleet = record { coordinator = or_false fleet.coordinator; worker = or_true fleet.worker }
+are_live (StartWorker n release) fleet = record { coordinator = or_false fleet.coordinator; worker = or_true fleet.worker }
 are_live (FlushRows name segment floor tick rows) fleet =
     both_same (FlushRows name segment floor tick rows) fleet refl refl (after_flush_same fleet name floor tick rows (flush_fault fleet name floor tick rows))
 are_live (SubmitJob segment destination sources) fleet = both_same (SubmitJob segment destination sources) fleet refl refl (if_same fleet _ fleet.coordinator (same_parties fleet))

@@ -4,10 +4,9 @@ use Rattle.std.specs.Fmt.{digits}
 use Rattle.row_model.specs.Settings.{Settings}
 use Rattle.script_model.specs.Replies.{reply, jobs_text, claim_reply, attempt_text}
 use Rattle.fleet_run.specs.declared.jobs.AskedJob.{AskedJob}
-use Rattle.script_model.specs.Effects.{no_such_party}
 use Rattle.fleet_run.specs.Jobs.{attempt_of}
 use Rattle.fleet_run.specs.FleetView.{FleetView}
-use Rattle.fleet_run.specs.Serve.{waiting_job, settings_now, claimed_reply, claim_answer}
+use Rattle.fleet_run.specs.Serve.{no_such_party, waiting_job, settings_now, claimed_reply, claim_answer}
 
 first_attempt : (job : AskedJob) (settings : Settings) → jobs_text (job.id ∷ []) ++ codes ".1:-" ≡ attempt_text (attempt_of job settings)
 unfolding digits

@@ -1,5 +1,5 @@
 -- What is held of the tree, apart from the jobs and their records.
-use Rattle.std.proofs.Common.{◌≡◌, refl, sym, ap, ◌∙◌, subst, ℕ, ◌-◌, ◌^◌, ◌<◌, List, [], ◌∷◌, ◌++◌, map, flat_map, Some, None, append_assoc, arith, take, length, length-append}
+use Rattle.std.proofs.Common.{◌≡◌, refl, sym, ap, ◌∙◌, subst, ℕ, ◌-◌, ◌^◌, ◌<◌, ◌≤◌, List, [], ◌∷◌, ◌++◌, map, flat_map, max, Some, None, append_assoc, arith, take, length, length-append}
 use Rattle.std.specs.List.{AllByRecursion}
 use Rattle.std.proofs.lemmas.List.{take-append-le, take_all}
 use Rattle.row_model.specs.Rows.{Row}
@@ -16,7 +16,7 @@ pub record TreeHolds (fleet : FleetView) (made : List MadeRun) (stored : Tables)
   pub newest : fleet.last_name ≡ newest_name (all_flushes fleet made)
   pub last : fleet.last_seq ≡ newest_seq (all_flushes fleet made)
   pub small : fleet.last_name < 2 ^ 79
-  pub kept : AreKept fleet.floor made
+  pub kept : AreKept fleet.horizon made
   pub tables : AllByRecursion (IsStored stored) (known_tables fleet made)
 
 pub tree_held : (fleet : FleetView) (h : Held) (holds : Holds fleet h) → TreeHolds fleet holds.made h.tables
@@ -63,11 +63,16 @@ no_runs : (made : List MadeRun) → map run_of made ≡ [] → made ≡ []
 no_runs [] h = refl
 no_runs (m ∷ made) h = absurd (cc h)
 
--- of a fleet whose job wrote its tables
-pub tree_committed : (fleet : FleetView) (made : List MadeRun) (stored : Tables) (job : AskedJob) (out : Tables) → fleet.opened ≡ Some (record { job = job; stage = Wrote out })
-    → TreeHolds fleet made stored → (open_ : OpenStands fleet (record { job = job; stage = Wrote out }))
-    → TreeHolds (record fleet { flushes = open_.newer; runs = (job.destination, out) ∷ fleet.runs; opened = None }) (record { id = job.destination; tables = out; flush = open_.flush } ∷ made) stored
-tree_committed fleet made stored job out opened tree stands =
+-- What is kept under a horizon is kept under a higher one.
+kept_on : (horizon higher : ℕ) (made : List MadeRun) → horizon ≤ higher → AreKept horizon made → AreKept higher made
+kept_on horizon higher [] le h = tt
+kept_on horizon higher (m ∷ made) le h = (record { settings = h.0.settings; low = omega (arith, h.0.low, le); oldest = h.0.oldest; are = h.0.are }, kept_on horizon higher made le h.1)
+
+-- The job of a fleet wrote its tables, and its run comes in place of its flush.
+pub tree_committed : (fleet : FleetView) (made : List MadeRun) (stored : Tables) (job : AskedJob) (out : Tables) (cut : ℕ) → fleet.opened ≡ Some (record { job = job; stage = Wrote out cut })
+    → TreeHolds fleet made stored → (open_ : OpenStands fleet (record { job = job; stage = Wrote out cut }))
+    → TreeHolds (record fleet { flushes = open_.newer; runs = (job.destination, out) ∷ fleet.runs; horizon = max fleet.horizon cut; opened = None }) (record { id = job.destination; tables = out; flush = open_.flush } ∷ made) stored
+tree_committed fleet made stored job out cut opened tree stands =
     let newer = stands.newer in
     let flush = stands.flush in
     let m : MadeRun = record { id = job.destination; tables = out; flush = flush } in
@@ -77,9 +82,9 @@ tree_committed fleet made stored job out opened tree stands =
     let flushed : AllByRecursion P (all_flushes fleet made) = all_front P (all_flushes fleet made) inner (all_front P (all_flushes fleet made ++ inner) (open_tables fleet.opened) tree.tables) in
     let in_runs : AllByRecursion P inner = all_back P (all_flushes fleet made) inner (all_front P (all_flushes fleet made ++ inner) (open_tables fleet.opened) tree.tables) in
     let in_job : AllByRecursion P out = subst (λ o. AllByRecursion P (open_tables o)) opened (all_back P (all_flushes fleet made ++ inner) (open_tables fleet.opened) tree.tables) in
-    let kept : IsKept fleet.floor (made ≡ []) flush.1 (rows_in_tables out) = record {
+    let kept : IsKept (max fleet.horizon cut) (made ≡ []) flush.1 (rows_in_tables out) = record {
       settings = stands.stage.settings;
-      low = stands.stage.low;
+      low = omega (arith, stands.stage.low);
       oldest = λ last. no_runs made (sym tree.runs ∙ stands.stage.oldest last);
       are = stands.stage.are;
     } in
@@ -90,6 +95,6 @@ tree_committed fleet made stored job out opened tree stands =
       newest = tree.newest ∙ ap newest_name same;
       last = tree.last ∙ ap newest_seq same;
       small = tree.small;
-      kept = (kept, tree.kept);
+      kept = (kept, kept_on fleet.horizon (max fleet.horizon cut) made (omega arith) tree.kept);
       tables = all_both P ((newer ++ flush ∷ made_of made) ++ (out ++ inner)) [] (all_both P (newer ++ flush ∷ made_of made) (out ++ inner) (subst (AllByRecursion P) same flushed) (all_both P out inner in_job in_runs)) tt;
     }

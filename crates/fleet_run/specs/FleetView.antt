@@ -1,24 +1,25 @@
--- A fleet as contracts see it: the tables of the root tree, the jobs on their way, and from where on reads are answered.
+-- Contracts see a fleet as the tables of the root tree, the jobs on their way, and the places from which reads are answered.
 use Rattle.std.specs.Prelude.{◌≡◌, ℕ, ◌<◌, Bool, true, false, ℤ, List, [], ◌∷◌, Option, None}
 use Rattle.std.specs.List.{AllByRecursion}
 use Rattle.row_model.specs.Rows.{Row, IsStrictlyOrdered}
 use Rattle.fleet_model.specs.Nodes.{Tables}
 use Rattle.fleet_model.specs.Trees.{greatest_seq}
 use Rattle.fleet_model.specs.Store.{least_tick}
-use Rattle.script_model.specs.Flushes.{is_above}
+use Rattle.step_model.specs.FlushSteps.{is_above}
 use Rattle.script_model.specs.Grammars.{IsPlain}
 use Rattle.fleet_run.specs.declared.jobs.AskedJob.{AskedJob}
 use Rattle.fleet_run.specs.Jobs.{OpenJob}
 
 pub record FleetView : Type 0 where
-  pub flushes : Tables  -- newest first: the flushes that no job took yet
-  pub runs : List (ℕ × Tables)  -- newest first: the id and the tables of each
+  pub flushes : Tables  -- the flushes that no job took yet, newest first
+  pub runs : List (ℕ × Tables)  -- the id and the tables of each run, newest first
   pub last_name : ℕ  -- the newest flush's name, 0 where there was none
   pub last_seq : Option ℕ  -- the greatest sequence that was flushed
-  pub floor : ℕ  -- the least sequence that is read
+  pub floor : ℕ  -- the least sequence of a snapshot, which the last flush told
+  pub horizon : ℕ  -- the least sequence that is read
   pub tick : ℤ  -- the least moment that is read at
   pub coordinator : Bool  -- whether it is live, and so whether there are job records
-  pub worker : Bool
+  pub worker : Bool  -- whether it is live
   pub jobs_drawn : ℕ  -- how many ids were drawn for jobs, and for tables
   pub tables_drawn : ℕ
   pub asked : List AskedJob  -- submitted, and not looked at yet
@@ -31,6 +32,7 @@ fresh_fleet = record {
   last_name = 0;
   last_seq = None;
   floor = 0;
+  horizon = 0;
   tick = least_tick;
   coordinator = false;
   worker = false;

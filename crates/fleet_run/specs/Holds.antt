@@ -4,20 +4,20 @@ use Rattle.std.specs.List.{AllByRecursion}
 use Rattle.row_model.specs.Lists.{Pairs}
 use Rattle.row_model.specs.Rows.{Row}
 use Rattle.row_model.specs.Settings.{Settings}
-use Rattle.fleet_fold.specs.Retention.{kept_of_keys}
+use Rattle.row_model.specs.KeptRows.{kept_of_keys}
 use Rattle.fleet_model.specs.Nodes.{Tables, Node, L0, Run, Segment}
-use Rattle.fleet_model.specs.Jobs.{JobSpec, Job, Jobs, Scheduled, Running, Compacted, is_active, ids}
+use Rattle.fleet_model.specs.Jobs.{JobSpec, Job, Jobs, Scheduled, Running, Compacted, is_active, ids, Two}
 use Rattle.fleet_model.specs.Records.{new_job, firsts}
 use Rattle.fleet_model.specs.Parties.{Parties, LiveCoordinator, LiveWorker, Attempt}
 use Rattle.fleet_model.specs.Store.{Manifest, Records, Store, jobs_in}
-use Rattle.script_model.specs.Flushes.{last_name}
+use Rattle.step_model.specs.Entries.{last_name}
 use Rattle.script_model.specs.States.{State}
 use Rattle.script_model.specs.Defaults.{default_options}
 use Rattle.fleet_run.specs.declared.jobs.AskedJob.{AskedJob}
 use Rattle.fleet_run.specs.Jobs.{Stage, Waits, Runs, Wrote, OpenJob, attempt_of}
 use Rattle.fleet_run.specs.FleetView.{FleetView, AreFlushes, newest_name, newest_seq}
 
--- what a store holds. Of its history, the highest name used
+-- These parts of a store decide how a line goes on. Of the history it is the highest name used.
 pub record Held : Type 0 where
   pub manifest : Manifest
   pub records : Option Records
@@ -67,18 +67,18 @@ all_flushes fleet made = fleet.flushes ++ made_of made
 abbrev pub rows_in_tables : Tables → List Row
 rows_in_tables tables = flat_map (λ table. table.1) tables
 
--- these rows are what a job kept of a flush, under a floor that is not above that of reads; it took the flush for the oldest
--- one only where it is
-pub record IsKept (floor : ℕ) (IsOldest : Type 0) (flush rows : List Row) : Type 0 where
+-- These rows are what a job kept of a flush, under a cut that is at most the given sequence. The job took the flush for the
+-- oldest one only where it is.
+pub record IsKept (highest : ℕ) (IsOldest : Type 0) (flush rows : List Row) : Type 0 where
   pub settings : Settings
-  pub low : settings.floor ≤ floor
+  pub low : settings.cut ≤ highest
   pub oldest : settings.last_run ≡ true → IsOldest
   pub are : rows ≡ kept_of_keys settings flush
 
--- so are the rows of each run
+-- The rows of each run are what a job kept of its flush, under a cut that is at most the horizon.
 abbrev pub AreKept : ℕ → List MadeRun → Type 0
-AreKept floor [] = ⊤
-AreKept floor (m ∷ older) = IsKept floor (older ≡ []) m.flush.1 (rows_in_tables m.tables) × AreKept floor older
+AreKept horizon [] = ⊤
+AreKept horizon (m ∷ older) = IsKept horizon (older ≡ []) m.flush.1 (rows_in_tables m.tables) × AreKept horizon older
 
 -- run ids fall
 abbrev pub AreFalling : List MadeRun → Type 0
@@ -98,7 +98,13 @@ opened_job job = record (asked_job job) { status = Scheduled; source_tables = jo
 abbrev pub job_at : AskedJob → Stage → Job
 job_at job Waits = opened_job job
 job_at job (Runs settings) = record (opened_job job) { status = Running; lease = Some (record { worker = 1; heartbeat = 0 }); attempt = 1 }
-job_at job (Wrote tables) = record (opened_job job) { status = Compacted; lease = Some (record { worker = 1; heartbeat = 0 }); attempt = 1; outputs = firsts tables ∷ [] }
+job_at job (Wrote tables cut) = record (opened_job job) {
+  status = Compacted;
+  lease = Some (record { worker = 1; heartbeat = 0 });
+  attempt = 1;
+  outputs = firsts tables ∷ [];
+  kept_cut = Some cut;
+}
 
 abbrev pub open_jobs : Option OpenJob → Jobs
 open_jobs None = []
@@ -121,13 +127,13 @@ AreRecords true manifest (Some records) = (manifest.epoch ≡ 1) × (records.epo
 
 abbrev pub StageFits : FleetView → ℕ × List Row → Stage → Type 0
 StageFits fleet flush Waits = ⊤
-StageFits fleet flush (Runs settings) = (settings.floor ≤ fleet.floor) × (settings.last_run ≡ true → fleet.runs ≡ [])
-StageFits fleet flush (Wrote tables) = IsKept fleet.floor (fleet.runs ≡ []) flush.1 (rows_in_tables tables)
+StageFits fleet flush (Runs settings) = settings.last_run ≡ true → fleet.runs ≡ []
+StageFits fleet flush (Wrote tables cut) = IsKept cut (fleet.runs ≡ []) flush.1 (rows_in_tables tables)
 
 abbrev pub stage_tables : Stage → Tables
 stage_tables Waits = []
 stage_tables (Runs settings) = []
-stage_tables (Wrote tables) = tables
+stage_tables (Wrote tables cut) = tables
 
 -- the opened job takes the oldest flush, and makes a run above all others
 pub record OpenStands (fleet : FleetView) (o : OpenJob) : Type 0 where
@@ -161,19 +167,21 @@ IsUsed fleet table = (table.0 ≤ fleet.last_name) ⊎ ((2 ^ 79 < table.0) × (t
 abbrev pub attempts_at : AskedJob → Stage → List Attempt
 attempts_at job Waits = []
 attempts_at job (Runs settings) = attempt_of job settings ∷ []
-attempts_at job (Wrote tables) = []
+attempts_at job (Wrote tables cut) = []
 
 abbrev pub attempts_by : Option OpenJob → List Attempt
 attempts_by None = []
 attempts_by (Some o) = attempts_at o.job o.stage
 
--- The fleet has the trees, the floor, the tick, the active jobs and the named tables of the store, and the numbers that were
--- drawn. It keeps no history: of that it has the highest name used.
+-- The fleet has the trees, the floor, the horizon, the tick, the active jobs and the named tables of the store, and the
+-- numbers that were drawn. It keeps no history: of that it has the highest name used.
 pub record Holds (fleet : FleetView) (store : Held) : Type 0 where
   pub made : List MadeRun
   pub watermark : Option ℕ
   pub trees : store.manifest.trees ≡ root_of fleet made watermark ∷ []
   pub floor : store.manifest.floor ≡ fleet.floor
+  pub horizon : store.manifest.horizon ≡ fleet.horizon
+  pub tracker : store.manifest.tracker ≡ []
   pub tick : store.manifest.tick ≡ fleet.tick
   pub runs : fleet.runs ≡ map run_of made
   pub falling : AreFalling made
@@ -181,7 +189,7 @@ pub record Holds (fleet : FleetView) (store : Held) : Type 0 where
   pub newest : fleet.last_name ≡ newest_name (all_flushes fleet made)
   pub last : fleet.last_seq ≡ newest_seq (all_flushes fleet made)
   pub small : fleet.last_name < 2 ^ 79
-  pub kept : AreKept fleet.floor made
+  pub kept : AreKept fleet.horizon made
   pub tables : AllByRecursion (IsStored store.tables) (known_tables fleet made)
   pub used : AllByRecursion (IsUsed fleet) store.tables
   pub named : store.name ≡ fleet.last_name
@@ -200,7 +208,7 @@ coordinators true = record { number = 1; epoch = 1 } ∷ []
 
 abbrev pub workers : Bool → List Attempt → List LiveWorker
 workers false attempts = []
-workers true attempts = record { number = 1; attempts = attempts } ∷ []
+workers true attempts = record { number = 1; release = Two; attempts = attempts } ∷ []
 
 abbrev pub parties_of : FleetView → Parties
 parties_of fleet = record { coordinators = coordinators fleet.coordinator; workers = workers fleet.worker (attempts_by fleet.opened) }

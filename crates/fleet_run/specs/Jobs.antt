@@ -15,11 +15,11 @@ use Rattle.fleet_run.specs.declared.jobs.Stage as coded
 use Rattle.fleet_run.specs.declared.jobs.Stage.TheVariants as at
 use Rattle.fleet_run.specs.declared.jobs.Judged as judging
 
--- an opened job waits for a worker, runs under its settings, or wrote its tables
+-- An opened job waits for a worker, runs under its settings, or wrote its tables and keeps its cut.
 pub data Stage : Type 0 where
   Waits : Stage
   Runs : (settings : Settings) → Stage
-  Wrote : (tables : Tables) → Stage
+  Wrote : (tables : Tables) → (cut : ℕ) → Stage
 
 pub record OpenJob : Type 0 where
   pub job : AskedJob
@@ -29,7 +29,7 @@ pub record OpenJob : Type 0 where
 abbrev pub stage_of : coded.Stage → Stage
 stage_of at.Waits = Waits
 stage_of (at.Runs settings) = Runs (settings_of settings)
-stage_of (at.Wrote tables) = Wrote tables.items
+stage_of (at.Wrote tables cut) = Wrote tables.items cut
 
 abbrev pub open_of : code.OpenJob → OpenJob
 open_of o = record { job = o.job; stage = stage_of o.stage }
@@ -39,7 +39,7 @@ run_of run = (run.0, settings_of run.1)
 
 -- the worker's attempt at it
 abbrev pub attempt_of : AskedJob → Settings → Attempt
-attempt_of job settings = record { job = job.id; number = 1; sources = job.source ∷ []; context = record { settings = settings; ranges = (all_keys, []) ∷ [] } }
+attempt_of job settings = record { job = job.id; number = 1; sources = job.source ∷ []; context = record { settings = settings; has_cut = true; ranges = (all_keys, []) ∷ [] } }
 
 -- the job takes no flush and makes no run that the opened one does
 abbrev pub is_apart_from : Option AskedJob → AskedJob → Bool

@@ -1,11 +1,11 @@
--- The words for the rules that a flush may break.
-use Rattle.std.specs.Prelude.{ℕ, List, codes}
+-- The rules that a flush may break, seen as the model's.
+use Rattle.step_model.specs.StepEnds as model
 use Rattle.fleet_run.specs.declared.answer.FlushFault.{FlushFault}
 use Rattle.fleet_run.specs.declared.answer.FlushFault.TheVariants.{Name, Order, Sequence, Floor, Tick}
 
-abbrev pub kind_of : FlushFault → List ℕ
-kind_of Name = codes "name"
-kind_of Order = codes "order"
-kind_of Sequence = codes "sequence"
-kind_of Floor = codes "floor"
-kind_of Tick = codes "tick"
+abbrev pub fault_of : FlushFault → model.FlushFault
+fault_of Name = model.BadName
+fault_of Order = model.BadOrder
+fault_of Sequence = model.BadSequence
+fault_of Floor = model.BadFloor
+fault_of Tick = model.BadTick

@@ -1,13 +1,13 @@
 -- What the program reads, and what each of its statuses says.
-use Rattle.std.specs.Prelude.{◌≡◌, ◌==◌, ℕ, ◌+◌, ◌≤◌, true, List, [], ◌∷◌, length, IsTrue}
+use Rattle.std.specs.Prelude.{◌≡◌, ◌≢◌, ◌==◌, ℕ, ◌+◌, ◌≤◌, true, List, [], ◌∷◌, length, IsTrue}
 use Rattle.std.specs.List.{list_any}
 use Rattle.std.specs.Io.KnownBytes.{Consumes, IsAtEnd}
 use Rattle.row_model.specs.Fold.{Operator}
-use Rattle.script_model.specs.Script.{IsBadAt}
+use Rattle.script_model.specs.Script.{Line, IsBadAt}
 use Rattle.script_model.specs.Grammars.{job_grammar}
 use Rattle.fleet_run.specs.FleetView.{FleetView}
 use Rattle.fleet_run.specs.Outside.{SourceView, SinkView}
-use Rattle.fleet_run.specs.Served.{Served, ServedUpToFault, ServedFront}
+use Rattle.fleet_run.specs.Served.{Served, ServedUpToFault, Ran, BeginsScript}
 
 -- how many bytes a script may have: 64 MiB
 abbrev pub longest : ℕ
@@ -46,11 +46,19 @@ pub record RunsUpTo (fleet : FleetView) (source_old source_new : SourceView) (si
   pub read : ReadWhole text source_old source_new
   pub served : (merge : Operator) → ServedUpToFault merge text fleet sink_old sink_new
 
--- 6: the whole replies to the first lines of what the source gave were written
-pub record RunsFirst (fleet : FleetView) (source_old source_new : SourceView) (sink_old sink_new : SinkView) : Type 0 where
+-- What the source gave to its end is a script that begins with these lines.
+pub record ReadsScript (lines : List Line) (old new : SourceView) : Type 0 where
   pub text : List ℕ
-  pub bytes : Consumes source_old.left source_new.left text
-  pub served : (merge : Operator) → ServedFront merge text fleet sink_old sink_new
+  pub read : ReadWhole text old new
+  pub begins : BeginsScript text lines
+
+-- 6: these lines were run, if any, whatever the merge operator, and the sink took exactly their replies. A line is run only
+-- where the source ended, and what it gave is a script.
+pub record RunsFirst (fleet : FleetView) (source_old source_new : SourceView) (sink_old sink_new : SinkView) : Type 0 where
+  pub run : List Line
+  pub front : ReadFront source_old source_new
+  pub ran : (merge : Operator) → Ran merge run fleet sink_old sink_new
+  pub reads : run ≢ [] → ReadsScript run source_old source_new
 
 -- what the program ends with
 abbrev pub IsStatus : ℕ → Type 0

@@ -1,5 +1,5 @@
 -- What a line makes of a fleet, and what it answers.
-use Rattle.std.specs.Prelude.{ℕ, ◌+◌, ◌-◌, ◌==◌, ◌||◌, nat_le, nat_lt, not, if◌then◌else◌, ℤ, int_lt, List, [], ◌∷◌, ◌++◌, flat_map, find, take, length, ◌<◌, ⊤, true, Option, Some, None, option_map, codes, decimal, slice_get}
+use Rattle.std.specs.Prelude.{ℕ, ◌+◌, ◌-◌, ◌==◌, ◌||◌, nat_le, nat_lt, not, if◌then◌else◌, ℤ, int_lt, List, [], ◌∷◌, ◌++◌, flat_map, find, take, length, ◌<◌, ⊤, true, max, Option, Some, None, option_map, codes, decimal, slice_get}
 use Rattle.std.specs.List.{list_all}
 use Rattle.std.specs.Option.{option_or}
 use Rattle.row_model.specs.Rows.{Row, Content, Value, Merge, Tombstone, are_ordered, rows_of_key}
@@ -8,7 +8,7 @@ use Rattle.row_model.specs.Fold.{Outcome, Merged}
 use Rattle.row_model.specs.Read.{seen_at}
 use Rattle.row_model.specs.Settings.{Settings}
 use Rattle.row_model.specs.Tables.{cut_tables}
-use Rattle.fleet_fold.specs.Retention.{kept_of_keys}
+use Rattle.row_model.specs.KeptRows.{kept_of_keys}
 use Rattle.fleet_model.specs.Nodes.{Tables, table_rows, NodeName, L0, Run}
 use Rattle.fleet_model.specs.Jobs.{table_id_of, number_of}
 use Rattle.fleet_model.specs.Records.{firsts}
@@ -16,44 +16,53 @@ use Rattle.fleet_model.specs.Trees.{greatest_seq}
 use Rattle.fleet_model.specs.Attempts.{is_last}
 use Rattle.fleet_model.specs.Polls.{begun}
 use Rattle.script_model.specs.Script.{Line, StartCoordinator, StartWorker, FlushRows, ReadKey, SubmitJob, Poll, ClaimJobs, FinishJob, Dump}
-use Rattle.script_model.specs.Flushes.{is_above, bad_flush}
+use Rattle.step_model.specs.StepEnds.{FlushFault, BadName, BadOrder, BadSequence, BadFloor, BadTick}
+use Rattle.step_model.specs.FlushSteps.{is_above}
 use Rattle.script_model.specs.Words.{rows_text}
 use Rattle.script_model.specs.Replies.{reply, ok, read_reply, not_retained, jobs_text, ranges_text, poll_reply, claim_reply, absent}
-use Rattle.script_model.specs.Effects.{no_such_party}
+use Rattle.script_model.specs.LineRuns.{flush_fault_text}
 use Rattle.script_model.specs.Defaults.{default_options}
 use Rattle.fleet_run.specs.declared.jobs.AskedJob.{AskedJob}
 use Rattle.fleet_run.specs.Jobs.{Stage, Waits, Runs, Wrote, OpenJob, Judged, judge_all, attempt_of}
 use Rattle.fleet_run.specs.FleetView.{FleetView}
 
+-- The party that a line names is not live, or the worker does not run the job.
+abbrev pub no_such_party : List ℕ
+no_such_party = reply (codes "nosuchparty" ∷ [])
+
 -- ---- flushes
 
--- the first rule that a flush breaks by itself, by its word
-abbrev pub fault_alone : FleetView → ℕ → List Row → Option (List ℕ)
+-- This is the first rule that a flush breaks by itself.
+abbrev pub fault_alone : FleetView → ℕ → List Row → Option FlushFault
 fault_alone fleet name rows =
-    if nat_le name fleet.last_name then Some (codes "name")
-    else (if not (are_ordered rows) then Some (codes "order") else None)
+    if nat_le name fleet.last_name then Some BadName
+    else (if not (are_ordered rows) then Some BadOrder else None)
 
--- and the first that it breaks against what was flushed before
-abbrev pub fault_against : FleetView → ℕ → ℤ → List Row → Option (List ℕ)
+-- This is the first rule that a flush breaks against what was flushed before.
+abbrev pub fault_against : FleetView → ℕ → ℤ → List Row → Option FlushFault
 fault_against fleet floor tick rows =
-    if not (list_all (λ r. is_above fleet.last_seq r.seq) rows) then Some (codes "sequence")
-    else (if nat_lt floor fleet.floor then Some (codes "floor")
-    else (if int_lt tick fleet.tick then Some (codes "tick") else None))
+    if not (list_all (λ r. is_above fleet.last_seq r.seq) rows) then Some BadSequence
+    else (if nat_lt floor fleet.floor then Some BadFloor
+    else (if int_lt tick fleet.tick then Some BadTick else None))
 
-abbrev pub flush_fault : FleetView → ℕ → ℕ → ℤ → List Row → Option (List ℕ)
+abbrev pub flush_fault : FleetView → ℕ → ℕ → ℤ → List Row → Option FlushFault
 flush_fault fleet name floor tick rows = option_or (fault_alone fleet name rows) (fault_against fleet floor tick rows)
 
-abbrev pub flush_reply : Option (List ℕ) → List ℕ
+-- A refused flush names the kind of its fault.
+abbrev pub bad_flush : FlushFault → List ℕ
+bad_flush fault = reply (codes "badflush" ∷ flush_fault_text fault ∷ [])
+
+abbrev pub flush_reply : Option FlushFault → List ℕ
 flush_reply None = ok
-flush_reply (Some kind) = bad_flush kind
+flush_reply (Some fault) = bad_flush fault
 
 abbrev pub with_flush : FleetView → ℕ → ℕ → ℤ → List Row → FleetView
 with_flush fleet name floor tick rows =
     record fleet { flushes = (name, rows) ∷ fleet.flushes; last_name = name; last_seq = greatest_seq fleet.last_seq rows; floor = floor; tick = tick }
 
-abbrev pub after_flush : FleetView → ℕ → ℕ → ℤ → List Row → Option (List ℕ) → FleetView
+abbrev pub after_flush : FleetView → ℕ → ℕ → ℤ → List Row → Option FlushFault → FleetView
 after_flush fleet name floor tick rows None = with_flush fleet name floor tick rows
-after_flush fleet name floor tick rows (Some kind) = fleet
+after_flush fleet name floor tick rows (Some fault) = fleet
 
 -- ---- reads
 
@@ -79,7 +88,7 @@ newest_stored fleet key seq = option_or (newest_row fleet.flushes key seq) (newe
 
 abbrev pub key_reply : FleetView → List ℕ → ℕ → ℤ → List ℕ
 key_reply fleet key seq now =
-    if nat_lt seq fleet.floor || int_lt now fleet.tick then not_retained fleet.floor fleet.tick
+    if nat_lt seq fleet.horizon || int_lt now fleet.tick then not_retained fleet.horizon fleet.tick
     else read_reply (value_of (newest_stored fleet key seq))
 
 -- the rows of tables, one after the other
@@ -115,7 +124,7 @@ after_submit fleet source destination = if fleet.coordinator then with_asked fle
 abbrev pub done_at : AskedJob → Stage → Option AskedJob
 done_at job Waits = None
 done_at job (Runs settings) = None
-done_at job (Wrote tables) = Some job
+done_at job (Wrote tables cut) = Some job
 
 abbrev pub done_job : Option OpenJob → Option AskedJob
 done_job None = None
@@ -124,11 +133,21 @@ done_job (Some o) = done_at o.job o.stage
 abbrev pub tables_at : Stage → Tables
 tables_at Waits = []
 tables_at (Runs settings) = []
-tables_at (Wrote tables) = tables
+tables_at (Wrote tables cut) = tables
 
 abbrev pub done_tables : Option OpenJob → Tables
 done_tables None = []
 done_tables (Some o) = tables_at o.stage
+
+-- The horizon rises to the cut of a finished job.
+abbrev pub horizon_at : ℕ → Stage → ℕ
+horizon_at horizon Waits = horizon
+horizon_at horizon (Runs settings) = horizon
+horizon_at horizon (Wrote tables cut) = max horizon cut
+
+abbrev pub horizon_raised : ℕ → Option OpenJob → ℕ
+horizon_raised horizon None = horizon
+horizon_raised horizon (Some o) = horizon_at horizon o.stage
 
 abbrev pub done_ids : Option AskedJob → List ℕ
 done_ids None = []
@@ -151,6 +170,7 @@ abbrev pub committed : FleetView → FleetView
 committed fleet = record fleet {
   flushes = flushes_left fleet.flushes (done_job fleet.opened);
   runs = runs_after fleet.runs (done_job fleet.opened) (done_tables fleet.opened);
+  horizon = horizon_raised fleet.horizon fleet.opened;
   opened = opened_left fleet.opened (done_job fleet.opened);
 }
 
@@ -182,7 +202,7 @@ abbrev pub after_poll : FleetView → FleetView
 after_poll fleet = if fleet.coordinator then with_judged (committed fleet) (judged fleet) else fleet
 
 abbrev pub polled_reply : List ℕ → Judged → List ℕ
-polled_reply done j = poll_reply (record (begun [] []) { done = done; opened = j.opened; refused = j.refused })
+polled_reply done j = poll_reply (record (begun [] 0 []) { done = done; opened = j.opened; refused = j.refused })
 
 abbrev pub poll_answer : FleetView → List ℕ
 poll_answer fleet = if fleet.coordinator then polled_reply (done_ids (done_job fleet.opened)) (judged fleet) else no_such_party
@@ -190,13 +210,13 @@ poll_answer fleet = if fleet.coordinator then polled_reply (done_ids (done_job f
 -- ---- claims
 
 abbrev pub settings_now : FleetView → AskedJob → Settings
-settings_now fleet job = record { floor = fleet.floor; tick = fleet.tick; last_run = is_last job.destination (firsts fleet.runs) }
+settings_now fleet job = record { floor = fleet.floor; tick = fleet.tick; last_run = is_last job.destination (firsts fleet.runs); cut = fleet.floor }
 
 -- the job that waits for a worker
 abbrev pub waiting_at : AskedJob → Stage → Option AskedJob
 waiting_at job Waits = Some job
 waiting_at job (Runs settings) = None
-waiting_at job (Wrote tables) = None
+waiting_at job (Wrote tables cut) = None
 
 abbrev pub waiting_job : Option OpenJob → Option AskedJob
 waiting_job None = None
@@ -230,7 +250,7 @@ written fleet source settings = numbered fleet.tables_drawn (cut_tables default_
 abbrev pub run_at : ℕ → AskedJob → Stage → Option (AskedJob × Settings)
 run_at number job Waits = None
 run_at number job (Runs settings) = if number == number_of job.id then Some (job, settings) else None
-run_at number job (Wrote tables) = None
+run_at number job (Wrote tables cut) = None
 
 abbrev pub run_opened : ℕ → Option OpenJob → Option (AskedJob × Settings)
 run_opened number None = None
@@ -239,12 +259,12 @@ run_opened number (Some o) = run_at number o.job o.stage
 abbrev pub run_by : FleetView → ℕ → Option (AskedJob × Settings)
 run_by fleet number = if fleet.worker then run_opened number fleet.opened else None
 
-abbrev pub wrote : FleetView → AskedJob → Tables → FleetView
-wrote fleet job tables = record fleet { tables_drawn = fleet.tables_drawn + length tables; opened = Some (record { job = job; stage = Wrote tables }) }
+abbrev pub wrote : FleetView → AskedJob → Tables → ℕ → FleetView
+wrote fleet job tables cut = record fleet { tables_drawn = fleet.tables_drawn + length tables; opened = Some (record { job = job; stage = Wrote tables cut }) }
 
 abbrev pub finished : FleetView → Option (AskedJob × Settings) → FleetView
 finished fleet None = fleet
-finished fleet (Some run) = wrote fleet run.0 (written fleet run.0.source run.1)
+finished fleet (Some run) = wrote fleet run.0 (written fleet run.0.source run.1) run.1.cut
 
 abbrev pub after_finish : FleetView → ℕ → FleetView
 after_finish fleet number = finished fleet (run_by fleet number)
@@ -270,7 +290,7 @@ IsServed _ = ⊤
 -- the reply to a line, and the fleet after it
 abbrev pub reply_to : Line → FleetView → List ℕ
 reply_to (StartCoordinator n) fleet = started
-reply_to (StartWorker n) fleet = ok
+reply_to (StartWorker n release) fleet = ok
 reply_to (FlushRows name segment floor tick rows) fleet = flush_reply (flush_fault fleet name floor tick rows)
 reply_to (ReadKey segment key seq now) fleet = key_reply fleet key seq now
 reply_to (SubmitJob segment destination sources) fleet = submit_reply fleet
@@ -282,7 +302,7 @@ reply_to _ fleet = []
 
 abbrev pub fleet_after : Line → FleetView → FleetView
 fleet_after (StartCoordinator n) fleet = record fleet { coordinator = true }
-fleet_after (StartWorker n) fleet = record fleet { worker = true }
+fleet_after (StartWorker n release) fleet = record fleet { worker = true }
 fleet_after (FlushRows name segment floor tick rows) fleet = after_flush fleet name floor tick rows (flush_fault fleet name floor tick rows)
 fleet_after (SubmitJob segment destination sources) fleet = after_submit fleet (source_or_zero sources) destination
 fleet_after (Poll n) fleet = after_poll fleet

@@ -5,12 +5,11 @@ ghost use Rattle.std.specs.Option.{option_copied};
 ghost use Rattle.fleet_rows.specs.declared.errors.SlateDBError.TheVariants as SlateDBError;
 ghost use Rattle.fleet_rows.specs.Row.{row_of, rows_of};
 ghost use Rattle.script_model.specs.Words.{rows_text};
-ghost use Rattle.script_model.specs.Flushes.{bad_flush};
-ghost use Rattle.script_model.specs.Effects.{no_such_party};
+ghost use Rattle.script_model.specs.LineRuns.{flush_fault_text};
 ghost use Rattle.script_model.specs.Replies.{reply, ok, read_reply, not_retained, jobs_text, ranges_text, claim_reply, absent};
 ghost use Rattle.fleet_run.specs.Jobs.{judged_of};
-ghost use Rattle.fleet_run.specs.Serve.{value_of, started, polled_reply};
-ghost use Rattle.fleet_run.specs.Kinds.{kind_of};
+ghost use Rattle.fleet_run.specs.Serve.{bad_flush, no_such_party, value_of, started, polled_reply};
+ghost use Rattle.fleet_run.specs.Kinds.{fault_of};
 
 use crate::jobs::Judged;
 use fleet_rows::{JobList, RowEntry, SlateDBError, ValueDeletable};
@@ -29,7 +28,7 @@ pub(crate) enum FlushFault {
 
 impl FlushFault {
     fn kind(self) -> &'static str
-        ensures { result.now ≡ kind_of self }
+        ensures { result.now ≡ flush_fault_text (fault_of self) }
     {
         match self {
             FlushFault::Name => "name",
@@ -51,7 +50,7 @@ pub(crate) fn done(alloc: Global) -> Result<Reply, SlateDBError>
 }
 
 pub(crate) fn refused_flush(alloc: Global, fault: FlushFault) -> Result<Reply, SlateDBError>
-    ensures reply { IfOk result (λ reply. reply ≡ bad_flush (kind_of fault)) }
+    ensures reply { IfOk result (λ reply. reply ≡ bad_flush (fault_of fault)) }
     ensures memory { IsOkUnless result SlateDBError.Memory }
 {
     let mut reply = Reply::new(alloc);
@@ -83,13 +82,14 @@ pub(crate) fn value(alloc: Global, row: Option<&RowEntry>) -> Result<Reply, Slat
     Ok(reply)
 }
 
-pub(crate) fn below_floor(alloc: Global, floor: u64, tick: i64) -> Result<Reply, SlateDBError>
-    ensures reply { IfOk result (λ reply. reply ≡ not_retained floor tick) }
+/// A read below the horizon or before the tick is refused.
+pub(crate) fn not_retained(alloc: Global, horizon: u64, tick: i64) -> Result<Reply, SlateDBError>
+    ensures reply { IfOk result (λ reply. reply ≡ not_retained horizon tick) }
     ensures memory { IsOkUnless result SlateDBError.Memory }
 {
     let mut reply = Reply::new(alloc);
     reply.word("notretained ")?;
-    reply.number(floor)?;
+    reply.number(horizon)?;
     reply.word(" ")?;
     reply.signed(tick)?;
     reply.word("\n")?;

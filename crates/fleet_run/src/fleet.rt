@@ -7,12 +7,12 @@ ghost use Rattle.row_model.specs.Bounds.{AreRows};
 ghost use Rattle.fleet_rows.specs.declared.errors.SlateDBError.TheVariants as SlateDBError;
 ghost use Rattle.fleet_rows.specs.Row.{row_of, rows_of};
 ghost use Rattle.fleet_text.specs.Lines.{line_of};
-ghost use Rattle.script_model.specs.Flushes.{is_above};
+ghost use Rattle.step_model.specs.FlushSteps.{is_above};
 ghost use Rattle.script_model.specs.Replies.{ok};
 ghost use Rattle.fleet_model.specs.Trees.{greater_seq, greatest_seq};
 ghost use Rattle.fleet_run.specs.FleetView.{fresh_fleet};
 ghost use Rattle.fleet_run.specs.Serve.{flush_fault, flush_reply, after_flush, with_flush, key_reply, reply_to, fleet_after, IsServed};
-ghost use Rattle.fleet_run.specs.Kinds.{kind_of};
+ghost use Rattle.fleet_run.specs.Kinds.{fault_of};
 
 use crate::answer::{self, FlushFault};
 use crate::jobs::{AskedJob, OpenJob};
@@ -24,7 +24,8 @@ use std::alloc::Global;
 use std::collections::VecDeque;
 use std::marker::Model;
 
-/// The tables of the root tree, the jobs on their way, the floor and the tick. A fleet is fresh until its first script.
+/// The tables of the root tree, the jobs on their way, and the places from which reads are answered. A fleet is fresh until its
+/// first script.
 #[derive(Debug, Drop)]
 pub struct Fleet {
     /// The flushes that no job took yet, newest first.
@@ -35,7 +36,11 @@ pub struct Fleet {
     pub(crate) last_name: u64,
     /// The greatest flushed sequence.
     pub(crate) last_seq: Option<u64>,
+    /// The least sequence of a snapshot, which the last flush told.
     pub(crate) floor: u64,
+    /// The least sequence that is read.
+    pub(crate) horizon: u64,
+    /// The least moment that is read at, in milliseconds.
     pub(crate) tick: i64,
     /// Whether the coordinator is live, and so whether there are job records.
     pub(crate) coordinator: bool,
@@ -61,6 +66,7 @@ impl Model for Fleet {
       last_name = f.last_name;
       last_seq = f.last_seq;
       floor = f.floor;
+      horizon = f.horizon;
       tick = f.tick;
       coordinator = f.coordinator;
       worker = f.worker;
@@ -82,6 +88,7 @@ impl Fleet {
             last_name: 0,
             last_seq: None,
             floor: 0,
+            horizon: 0,
             tick: i64::MIN,
             coordinator: false,
             worker: false,
@@ -94,7 +101,7 @@ impl Fleet {
 
     /// The first rule that a flush of the root breaks.
     fn flush_fault(&self, name: u64, floor: u64, tick: i64, rows: &[RowEntry]) -> Option<FlushFault>
-        ensures { option_map kind_of result ≡ flush_fault self.now name floor tick (rows_of rows.now) }
+        ensures { option_map fault_of result ≡ flush_fault self.now name floor tick (rows_of rows.now) }
     {
         if name <= self.last_name {
             return Some(FlushFault::Name);
@@ -168,8 +175,8 @@ impl Fleet {
         ensures reply { IfOk result (λ reply. reply ≡ key_reply self.now key.now seq now) }
         ensures memory { IsOkUnless result SlateDBError.Memory }
     {
-        if seq < self.floor || now < self.tick {
-            return answer::below_floor(alloc, self.floor, self.tick);
+        if seq < self.horizon || now < self.tick {
+            return answer::not_retained(alloc, self.horizon, self.tick);
         }
         let row = newest_in(&self.flushes, key, seq).or(newest_in_runs(&self.runs, key, seq));
         answer::value(alloc, row)

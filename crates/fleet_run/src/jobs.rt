@@ -28,8 +28,8 @@ pub enum Stage {
     Waits,
     /// The worker runs it under these settings.
     Runs(Settings),
-    /// It wrote these tables.
-    Wrote(VecDeque<Table>),
+    /// It wrote these tables under this cut.
+    Wrote { tables: VecDeque<Table>, cut: u64 },
 }
 
 /// The job that is opened.

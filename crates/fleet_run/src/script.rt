@@ -106,7 +106,7 @@ fn run_lines<K: Sink>(
     ensures ran { OnOk result ((merge : Operator) → Ran merge (lines_of lines) fleet.new (K.told sink.old) (K.told sink.new)) }
     ensures rose { result ≡ Err WriteFault → Rose (K.told sink.old).faults (K.told sink.new).faults }
     ensures fault { result ≡ Err WriteFault → (merge : Operator) → RunsUpToFault merge (lines_of lines) fleet.new (K.told sink.old) (K.told sink.new) }
-    ensures memory { result ≡ Err Memory → (merge : Operator) → RunsFront merge (lines_of lines) fleet.new (K.told sink.old) (K.told sink.new) }
+    ensures memory { result ≡ Err Memory → RunsFront (lines_of lines) fleet.new (K.told sink.old) (K.told sink.new) }
     ensures only { IfErr result (λ e. (e ≡ WriteFault) ⊎ (e ≡ Memory)) }
     ensures never_fall { (K.told sink.old).faults ≤ (K.told sink.new).faults }
 {
@@ -140,8 +140,8 @@ pub fn run_script<K: Sink>(
     ensures rose { result ≡ Err WriteFault → Rose (K.told sink.old).faults (K.told sink.new).faults }
     ensures fault { result ≡ Err WriteFault → (merge : Operator) → ServedUpToFault merge text.now fleet.new (K.told sink.old) (K.told sink.new) }
 
-    // Whole replies to the first lines were written.
-    ensures memory { result ≡ Err Memory → (merge : Operator) → ServedFront merge text.now fleet.new (K.told sink.old) (K.told sink.new) }
+    // Whole replies to the first lines were written; and where there are such lines, the whole text is a script.
+    ensures memory { result ≡ Err Memory → ServedFront text.now fleet.new (K.told sink.old) (K.told sink.new) }
 
     ensures valid { (lines : List model.Line) → IsScript job_grammar text.now lines → IfErr result (λ e. (e ≡ WriteFault) ⊎ (e ≡ Memory)) }
     ensures only { IfErr result IsScriptError }

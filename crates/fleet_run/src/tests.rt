@@ -7,7 +7,7 @@ use std::test::Fail;
 const FLUSH_AND_READ: &str =
     "flush 1 - 3 0 61:t:-:4:-:-,61:v:7631:2:-:-,61:v:7630:1:-:-\nread - 61 3 0\nread - 61 4 0\nread - 61 2 0\nread - 62 9 0\n";
 
-const REPLIES: &str = "ok\nvalue 7631\nnone\nnotretained 3 0\nnone\n";
+const REPLIES: &str = "ok\nvalue 7631\nnone\nvalue 7631\nnone\n";
 
 #[test]
 fn scripts_get_their_replies(rt: HostRuntime) -> Result<(), Fail> {
@@ -16,7 +16,7 @@ fn scripts_get_their_replies(rt: HostRuntime) -> Result<(), Fail> {
         (FLUSH_AND_READ, REPLIES),
         (
             "flush 5 - 3 7 62:v:76:9:-:-\nflush 5 - 3 7 62:v:76:9:-:-\nflush 6 - 3 7 62:v:76:10:-:-,61:v:76:10:-:-\nflush 6 - 3 7 62:v:76:9:-:-\nflush 6 - 2 7 62:v:76:10:-:-\nflush 6 - 3 6 62:v:76:10:-:-\nflush 6 - 3 7 62:v:76:10:-:-\nread - 62 9 6\n",
-            "ok\nbadflush name\nbadflush order\nbadflush sequence\nbadflush floor\nbadflush tick\nok\nnotretained 3 7\n",
+            "ok\nbadflush name\nbadflush order\nbadflush sequence\nbadflush floor\nbadflush tick\nok\nnotretained 0 7\n",
         ),
         // An older flush answers where the newer one has no version that old; an empty value is a value.
         (
@@ -26,7 +26,7 @@ fn scripts_get_their_replies(rt: HostRuntime) -> Result<(), Fail> {
         // A floor and a tick at their limits.
         (
             "flush 1 - 18446744073709551615 9223372036854775807 61:v:76:1:-:-\nread - 61 18446744073709551615 9223372036854775807\nread - 61 18446744073709551614 9223372036854775807\nread - 61 18446744073709551615 -9223372036854775808\n",
-            "ok\nvalue 76\nnotretained 18446744073709551615 9223372036854775807\nnotretained 18446744073709551615 9223372036854775807\n",
+            "ok\nvalue 76\nvalue 76\nnotretained 0 9223372036854775807\n",
         ),
     ];
     for (script, replies) in rows {
@@ -166,7 +166,7 @@ fn jobs_get_their_replies(rt: HostRuntime) -> Result<(), Fail> {
              value 77\n\
              value 76\n",
         ),
-        // Above an older run a tombstone is kept. The floor is the one at the claim.
+        // Above an older run a tombstone is kept. The cut is the floor at the claim, and the horizon rises to it at the commit.
         (
             "start worker 1\n\
              start coordinator 1\n\

@@ -9,7 +9,7 @@ ghost use Rattle.fleet_rows.specs.declared.errors.SlateDBError.TheVariants as Sl
 ghost use Rattle.fleet_rows.specs.Settings.{settings_of};
 ghost use Rattle.fleet_text.specs.Lines.{node_of};
 ghost use Rattle.fleet_run.specs.Jobs.{open_of, stage_of, run_of, judged_of};
-ghost use Rattle.fleet_run.specs.Serve.{started, submit_reply, after_submit, done_job, done_tables, done_ids, flushes_left, runs_after, opened_left, held_by, run_ids_after, judged, opened_after, poll_answer, after_poll, waiting_job, claim_answer, after_claim, run_at, run_by, written, finish_answer, after_finish, dump_reply, rows_in, node_rows_or_none};
+ghost use Rattle.fleet_run.specs.Serve.{started, submit_reply, after_submit, done_job, done_tables, done_ids, flushes_left, runs_after, horizon_raised, opened_left, held_by, run_ids_after, judged, opened_after, poll_answer, after_poll, waiting_job, claim_answer, after_claim, run_at, run_by, written, finish_answer, after_finish, dump_reply, rows_in, node_rows_or_none};
 
 use crate::answer;
 use crate::fleet::Fleet;
@@ -91,7 +91,12 @@ impl Fleet {
         let judged = self.judged(alloc)?;
         let reply = answer::polled(alloc, &done, &judged)?;
         self.runs.reserve(1)?;
-        commit(&mut self.flushes, &mut self.runs, &mut self.opened);
+        commit(
+            &mut self.flushes,
+            &mut self.runs,
+            &mut self.horizon,
+            &mut self.opened,
+        );
         self.asked.clear();
         open(&mut self.opened, &judged);
         Ok(reply)
@@ -130,6 +135,7 @@ impl Fleet {
             floor: self.floor,
             tick: self.tick,
             last_run: is_last_run(&runs, job.destination),
+            cut: self.floor,
         };
         self.opened = Some(OpenJob {
             job,
@@ -157,7 +163,10 @@ impl Fleet {
         let reply = answer::finished(alloc, &names)?;
         self.opened = Some(OpenJob {
             job,
-            stage: Stage::Wrote(tables),
+            stage: Stage::Wrote {
+                tables,
+                cut: settings.cut,
+            },
         });
         self.tables_drawn = drawn;
         Ok(reply)
@@ -236,7 +245,7 @@ fn done_job(opened: &Option<OpenJob>) -> Option<AskedJob>
         Some(open) => match &open.stage {
             Stage::Waits => None,
             Stage::Runs(_) => None,
-            Stage::Wrote(_) => Some(open.job),
+            Stage::Wrote { .. } => Some(open.job),
         },
     }
 }
@@ -261,7 +270,7 @@ fn waiting_job(opened: &Option<OpenJob>) -> Option<AskedJob>
         Some(open) => match &open.stage {
             Stage::Waits => Some(open.job),
             Stage::Runs(_) => None,
-            Stage::Wrote(_) => None,
+            Stage::Wrote { .. } => None,
         },
     }
 }
@@ -279,7 +288,7 @@ fn run_at(number: u64, job: &AskedJob, stage: &Stage) -> Option<(AskedJob, Setti
                 None
             }
         }
-        Stage::Wrote(_) => None,
+        Stage::Wrote { .. } => None,
     }
 }
 
@@ -336,18 +345,25 @@ fn held_left(opened: &Option<OpenJob>, done: &Option<AskedJob>) -> Option<AskedJ
     }
 }
 
-/// Puts the run of a finished job in place of the oldest flush.
-fn commit(flushes: &mut VecDeque<Table>, runs: &mut VecDeque<Run>, opened: &mut Option<OpenJob>)
+/// Puts the run of a finished job in place of the oldest flush, and raises the horizon to the job's cut.
+fn commit(
+    flushes: &mut VecDeque<Table>,
+    runs: &mut VecDeque<Run>,
+    horizon: &mut u64,
+    opened: &mut Option<OpenJob>,
+)
     requires room { deque_len runs.old < deque_capacity runs.old }
     ensures flushes { flushes.new.items ≡ flushes_left flushes.old.items (done_job (option_map open_of opened.old)) }
     ensures runs { runs.new.items ≡ runs_after runs.old.items (done_job (option_map open_of opened.old)) (done_tables (option_map open_of opened.old)) }
+    ensures horizon { horizon.new ≡ horizon_raised horizon.old (option_map open_of opened.old) }
     ensures opened { option_map open_of opened.new ≡ opened_left (option_map open_of opened.old) (done_job (option_map open_of opened.old)) }
 {
     let Some(OpenJob { job, stage }) = opened.take() else {
         return;
     };
     match stage {
-        Stage::Wrote(tables) => {
+        Stage::Wrote { tables, cut } => {
+            *horizon = (*horizon).max(cut);
             flushes.pop_back();
             runs.push_front_reserved(Run {
                 id: job.destination,

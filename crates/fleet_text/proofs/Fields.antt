@@ -52,7 +52,7 @@ no_line fs two three four five six line fits e = let count = sym (length-map fs 
   where
     counted : (line : model.Line) → IsJobLine line → length fs ≡ length (words line) → ⊥
     counted (StartCoordinator n) fits count = three count
-    counted (StartWorker n) fits count = three count
+    counted (StartWorker n release) fits count = three (count ∙ ap (λ r. length (words (StartWorker n r))) fits.1.1)
     counted (FlushRows name segment floor tick rows) fits count = six count
     counted (ReadKey segment key seq now) fits count = five count
     counted (SubmitJob segment destination sources) fits count = four count

@@ -43,7 +43,7 @@ follows before started line s h = (h.0.0, h.0.1, first line h.1)
   where
     first : (line : model.Line) → starts_again started line ≡ false → IsNoSecondStart before line
     first (StartCoordinator n) h = sym s.coordinator ∙ h
-    first (StartWorker n) h = sym s.worker ∙ h
+    first (StartWorker n release) h = sym s.worker ∙ h
     first _ h = tt
 
 may_follow : (before : List model.Line) (started : Started) (line : model.Line) → AreStarted before started → job_grammar before line → MayFollow started line
@@ -51,7 +51,7 @@ may_follow before started line s h = ((h.0, h.1), first line h.2)
   where
     first : (line : model.Line) → IsNoSecondStart before line → starts_again started line ≡ false
     first (StartCoordinator n) h = s.coordinator ∙ h
-    first (StartWorker n) h = s.worker ∙ h
+    first (StartWorker n release) h = s.worker ∙ h
     first _ h = refl
 
 one_more : (test : model.Line → Bool) (lines : List model.Line) (line : model.Line) (old new : Bool) → old ≡ list_any test lines → new ≡ (old || test line) → new ≡ list_any test (lines ++ line ∷ [])

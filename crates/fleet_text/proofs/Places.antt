@@ -2,7 +2,7 @@
 use Rattle.std.proofs.Common.{◌≡◌, ℕ, List, [], ◌∷◌, ◌++◌, map, refl, ap, ◌∙◌, arith, append_assoc}
 use Rattle.std.specs.Fmt.{decimal}
 use Rattle.std.proofs.lemmas.Fmt.{decimal_digit}
-use Rattle.script_model.specs.Words.{list_text, commas}
+use Rattle.script_model.specs.Words.{list_text, comma}
 use Rattle.script_model.specs.Replies as model
 use Rattle.fleet_text.specs.Places.{place_text, places_text}
 
@@ -14,4 +14,4 @@ each_nine [] = refl
 each_nine (place ∷ places) = let first = nine place in let others = each_nine places in cc
 
 pub places_of_nines : (places : List ℕ) → places_text (map (λ place. (place, 9)) places) ≡ model.places_text places
-places_of_nines places = ap (list_text commas) (each_nine places)
+places_of_nines places = ap (list_text comma) (each_nine places)

@@ -1,5 +1,5 @@
 -- A line as the program has it, seen as the model's line.
-use Rattle.std.specs.Prelude.{List, [], ◌∷◌, map}
+use Rattle.std.specs.Prelude.{List, [], ◌∷◌, map, None}
 use Rattle.fleet_rows.specs.Row.{rows_of}
 use Rattle.fleet_model.specs.Nodes as nodes
 use Rattle.script_model.specs.Script as model
@@ -14,7 +14,7 @@ node_of (Run id) = nodes.Run id
 
 abbrev pub line_of : Line → model.Line
 line_of (StartCoordinator number) = model.StartCoordinator number
-line_of (StartWorker number) = model.StartWorker number
+line_of (StartWorker number) = model.StartWorker number None
 line_of (Flush name segment floor tick rows) = model.FlushRows name segment floor tick (rows_of rows.items)
 line_of (Read segment key seq now) = model.ReadKey segment key seq now
 line_of (Submit segment destination source) = model.SubmitJob segment destination (nodes.L0 source ∷ [])

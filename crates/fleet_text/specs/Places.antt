@@ -1,9 +1,9 @@
 -- How the places of a scheduler's proposals are spelt, each with the rule that its proposal failed.
 use Rattle.std.specs.Prelude.{ℕ, List, ◌++◌, map, codes, decimal}
-use Rattle.script_model.specs.Words.{list_text, commas}
+use Rattle.script_model.specs.Words.{list_text, comma}
 
 abbrev pub place_text : ℕ × ℕ → List ℕ
 place_text p = decimal p.0 ++ codes ":" ++ decimal p.1
 
 abbrev pub places_text : List (ℕ × ℕ) → List ℕ
-places_text places = list_text commas (map place_text places)
+places_text places = list_text comma (map place_text places)

@@ -6,7 +6,7 @@ use Rattle.fleet_text.specs.Reading.{IsJobLine}
 
 abbrev pub starts_again : Started → Line → Bool
 starts_again started (StartCoordinator n) = started.coordinator
-starts_again started (StartWorker n) = started.worker
+starts_again started (StartWorker n release) = started.worker
 starts_again started _ = false
 
 -- a line that may stand where these parties are started

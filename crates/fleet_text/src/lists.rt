@@ -1,10 +1,10 @@
-//! Lists as they are printed: with commas between two, and `-` where there is nothing.
+//! Lists as they are printed: with comma between two, and `-` where there is nothing.
 
 ghost use Rattle.std.specs.Prelude.{◌≡◌, List, ℕ, map, IfOk, string_bytes};
 ghost use Rattle.fleet_rows.specs.Row.{rows_of};
 ghost use Rattle.script_model.specs.Replies as replies;
 ghost use Rattle.script_model.specs.Words as words;
-ghost use Rattle.script_model.specs.Words.{list_text, commas};
+ghost use Rattle.script_model.specs.Words.{list_text, comma};
 ghost use Rattle.fleet_text.specs.Places.{places_text};
 
 use crate::texts::{job_text, place_text, row_text, rule_text, table_text};
@@ -12,7 +12,7 @@ use fleet_rows::{RowEntry, Ulid};
 use std::alloc::{AllocError, Global};
 
 fn listed(alloc: Global, words: &[String]) -> Result<String, AllocError>
-    ensures { IfOk result (λ text. string_bytes text ≡ list_text commas (map string_bytes words.now)) }
+    ensures { IfOk result (λ text. string_bytes text ≡ list_text comma (map string_bytes words.now)) }
 {
     if words.is_empty() {
         return String::from_str(alloc, "-");

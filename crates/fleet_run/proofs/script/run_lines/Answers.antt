@@ -28,13 +28,13 @@ returns-in_err-run_line-clause-fault g c = λ e merge.
     rw are at (run_part _ (line_of c.in-Some.line) _ _ _ _ _ _ so_far (fault.fault_state failed) (fault.fault_took failed) merge)
 
 pub returns-in_err-run_line-clause-memory : goal.returns-in_err-run_line-clause-memory
-returns-in_err-run_line-clause-memory g c = λ e merge.
+returns-in_err-run_line-clause-memory g c = λ e.
     let are : c.from_vec-left.result.items ≡ c.args.lines = c.from_vec-left.ensures.items ∙ c.into_vec.ensures in
     let p = err_from_is_err_and c.from_residual.result c.from_residual.ensures.1 in
     let why : c.in_err-run_line.field-0.0 ≡ Memory = cc in
     let failed = ap (λ x. Err x) why in
     let want = c.in_err-run_line.ensures in
-    rw are at (run_kept _ _ _ _ _ _ _ c.lines.invariant (want.memory_state failed) (want.memory_took failed) merge)
+    rw are at (run_kept _ _ _ _ _ _ _ c.lines.invariant (want.memory_state failed) (want.memory_took failed))
 
 pub returns-clause-ran : goal.returns-clause-ran
 returns-clause-ran g c = λ merge.

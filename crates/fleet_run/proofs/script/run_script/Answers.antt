@@ -9,7 +9,7 @@ returns-in_err-lines-clause-bad_line_exact g c = λ n bad.
     told_exact c.in_err-lines.field-0.0 c.from_residual.result p.0 n p.1 p.2 (c.in_err-lines.ensures.exact n bad)
 
 pub returns-in_err-lines-clause-memory : goal.returns-in_err-lines-clause-memory
-returns-in_err-lines-clause-memory g c = λ e merge. rw c.requires.fresh (served_nothing merge c.args.text.now (g.K.Sink.told c.args.sink.now))
+returns-in_err-lines-clause-memory g c = λ e. rw c.requires.fresh (served_nothing c.args.text.now (g.K.Sink.told c.args.sink.now))
 
 pub returns-clause-served : goal.returns-clause-served
 returns-clause-served g c =
@@ -19,4 +19,4 @@ pub returns-clause-bad_line_exact : goal.returns-clause-bad_line_exact
 returns-clause-bad_line_exact g c = λ n bad. absurd (not_refused c.read_script.result c.in_ok-lines.lines n c.in_ok-lines.was (c.read_script.ensures.exact n bad))
 
 pub returns-clause-memory : goal.returns-clause-memory
-returns-clause-memory g c = λ e merge. served_front merge c.args.text.now _ _ _ _ c.in_ok-lines.ensures.found (c.run_lines.ensures.memory e merge)
+returns-clause-memory g c = λ e. served_front c.args.text.now _ _ _ _ c.in_ok-lines.ensures.found (c.run_lines.ensures.memory e)
