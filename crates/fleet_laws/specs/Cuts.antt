@@ -1,4 +1,5 @@
--- A claim's cut is low enough for every read that was possible within the retention.
+-- A claim's cut is never above the floor. Where it knows a retention, it is low enough for every read that was possible
+-- within it.
 use Rattle.std.specs.Prelude.{◌≡◌, ◌≢◌, ℕ, ◌-◌, ◌≤◌, IsTrue}
 use Rattle.std.specs.List.{AllByRecursion}
 use Rattle.fleet_model.specs.Attempts.{claim_cut}
@@ -7,8 +8,8 @@ use Rattle.fleet_model.specs.Store.{Manifest, cut_at}
 use Rattle.fleet_model.specs.Tracker.{is_retained}
 use Rattle.fleet_laws.specs.Midway.{midway_store}
 
--- The cut is never above the floor, and it is below each flush within the retention: what was readable before that
--- flush came stays readable.
+-- The cut is never above the floor. A cut that knows the retention is at most the sequence before each flush within it,
+-- or 0 where there is none before: what was readable before that flush came stays readable.
 pub record CutsAreLow (manifest : Manifest) (moment retention : ℕ) : Type 0 where
   pub floor : (release : Release) → claim_cut release manifest moment retention ≤ manifest.floor
   pub flushes : retention ≢ 0 → AllByRecursion (λ flush. IsTrue (is_retained moment retention flush) → cut_at manifest moment retention ≤ flush.least_seq - 1) manifest.tracker

@@ -53,8 +53,9 @@ pub fn outputs_make_what_is_left()
     ensures { (merge : Operator) → OutputsMakeWhatIsLeft merge }
 {}
 
-/// A claim's cut is at most the floor, whatever the release of its worker. Under a retention it is also below every
-/// flush that came within the retention, so that what could be read before that flush can be read still.
+/// A claim's cut is at most the floor, whatever the release of its worker. Under a retention the cut of a worker of
+/// release 2 is also at most the sequence before the least one of every flush that came within the retention, so that
+/// what could be read before that flush can be read still. Before sequence 0 there is none: the cut is 0 then.
 pub fn cuts_are_low()
     ensures low { (manifest : Manifest) (moment retention : ℕ) → CutsAreLow manifest moment retention }
     ensures midway { MidwayCuts }
