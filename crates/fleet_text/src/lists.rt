@@ -1,4 +1,4 @@
-//! Lists as they are printed: with comma between two, and `-` where there is nothing.
+//! Lists as they are printed: with commas between the items, and `-` where there is nothing.
 
 ghost use Rattle.std.specs.Prelude.{◌≡◌, List, ℕ, map, IfOk, string_bytes};
 ghost use Rattle.fleet_rows.specs.Row.{rows_of};

@@ -56,7 +56,7 @@ fn row_at(alloc: Global, word: &[u8]) -> Result<Option<RowEntry>, AllocError>
     row_from(alloc, fields[0], fields[1], fields[2], fields[3])
 }
 
-/// One row or more, with comma between them.
+/// One row or more, with commas between them.
 pub fn rows_at(alloc: Global, word: &[u8]) -> Result<Option<Vec<RowEntry>>, AllocError>
     ensures { IfOk result (ReadsAs (λ rows. rows_of rows.items) rows_text ArePlainRows word.now) }
 {
