@@ -1,18 +1,20 @@
--- What refuses a job of strictly ordered rows is an answer of the operator.
-use Rattle.std.proofs.Common.{◌≡◌, ◌≢◌, ◌∙◌, sym, refl, ap, ℕ, zero, suc, ◌<◌, ◌≤◌, ◌+◌, List, [], ◌∷◌, ◌++◌, map, length, not, cond, Bool, true, false, Option, Some, None, Ok, Err, arith}
-use Rattle.std.specs.Prelude.{bytes_eq, nat_le, reverse, Result, if◌then◌else◌}
+-- What refuses a job of strictly ordered rows is the operator, in a group of a key's rows.
+use Rattle.std.proofs.Common.{◌≡◌, ◌≢◌, ◌∙◌, sym, refl, ap, subst, inl, inr, ℕ, zero, suc, ◌<◌, ◌≤◌, ◌+◌, List, [], ◌∷◌, ◌++◌, map, length, not, cond, Bool, true, false, Option, Some, None, Ok, Err, arith}
+use Rattle.std.specs.Prelude.{◌⊎◌, bytes_eq, nat_le, reverse, Contains, Result, if◌then◌else◌}
 use Rattle.std.specs.Cmp.{ranked}
 use Rattle.std.specs.List.{AllByRecursion}
 use Rattle.std.specs.List.Sorted.{IsStrictlySortedBy}
 use Rattle.std.specs.Ordering.{nat_cmp, ordering_then}
 use Rattle.std.specs.declared.cmp.Ordering.TheVariants.{Less}
-use Rattle.std.proofs.lemmas.List.{reverse-append}
+use Rattle.std.proofs.lemmas.List.{append_assoc, reverse-append}
+use Rattle.std.proofs.lemmas.List.Elements.{Contains-push, Contains-append_left, Contains-append_right}
 use Rattle.std.proofs.lemmas.Slice.Eq.{bytes_eq-Decides}
-use Rattle.row_model.specs.Fold.{Operator, Outcome, Merged, Refused, merge_one, fold, fold_bytes}
+use Rattle.row_model.specs.Fold.{Operator, Outcome, Merged, Refused, merge_one, fold_bytes}
 use Rattle.row_model.specs.FoldedRows.{group_operands, group_base, base_bytes, with_group_operand}
 use Rattle.row_model.specs.Rows.{Row, Content, Value, Merge, Tombstone, is_merge, is_operand, key_cmp, row_cmp, rows_of_key, IsStrictlyOrdered}
 use Rattle.row_laws.specs.Batches.{put_first, batches_from, batches}
 use Rattle.row_laws.proofs.ApartRows.{all_filter, passes}
+use Rattle.row_laws.proofs.Elements.{all_weaken}
 use Rattle.row_laws.proofs.GroupReads.{and_left}
 use Rattle.row_laws.proofs.KeyRows.{key_alike}
 use Rattle.row_laws.proofs.ReadOnto.{fold_bytes-snoc}
@@ -20,31 +22,64 @@ use Rattle.fleet_rows.specs.declared.errors.MergeOperatorError.TheVariants.{Call
 use Rattle.fleet_rows.specs.declared.errors.SlateDBError.{SlateDBError}
 use Rattle.fleet_rows.specs.declared.errors.SlateDBError.TheVariants.{MergeOperator}
 use Rattle.fleet_fold.specs.Folded.{Folded, opens, is_within, same_group, joining, answer_of, batch_answer, batch_len, one_more, all_answers, over_base, base_among, operands_in, group_answer, merged_group, row_of_answer, folded_behind, before_refusal, up_to_refusal}
-use Rattle.fleet_fold.specs.Jobs.{job_rule, RefusesByOperator}
+use Rattle.fleet_fold.specs.Jobs.{job_rule, IsGroup, batch_outcomes, RefusesResults, IsOfOperator, RefusesByOperator}
 use Rattle.fleet_fold.specs.declared.group.GroupRule.{GroupRule}
 use Rattle.fleet_fold.proofs.JobsBatches.{AllIn, batches_all}
 use Rattle.fleet_fold.proofs.JobsGroups.{UpTo, ordered}
 
--- ---- no row of a group is above its first
+-- ---- the rows that join a group: operands and at most one other row, none of them above the group's first
 
 falls : (r q : Row) → row_cmp r q ≡ Less → r.key ≡ q.key → q.seq ≤ r.seq
 falls r q before alike =
     let lower : q.seq < r.seq = ranked q.seq r.seq Less (sym (ap (λ o. ordering_then o (nat_cmp q.seq r.seq)) (sym (ap (key_cmp r.key) (sym alike) ∙ key_alike r.key)) ∙ before)) in
     omega arith
 
+record AreJoined (r : Row) (rows joined : List Row) : Type 0 where
+  after : List Row
+  all : rows ≡ joined ++ after
+  lower : AllByRecursion (UpTo r.seq) joined
+  keys : AllByRecursion (λ q. r.key ≡ q.key) joined
+  parts : joined ≡ operands_in joined ++ base_among joined
+  one : length (base_among joined) ≤ 1
+
+in_operands : (q : Row) (rows : List Row) (b : Bool) → is_operand q ≡ b → operands_in (q ∷ rows) ≡ cond b (q ∷ operands_in rows) (operands_in rows)
+in_operands q rows b e = ap (λ c. cond c (q ∷ operands_in rows) (operands_in rows)) e
+
+in_base : (q : Row) (rows : List Row) (b : Bool) → is_operand q ≡ b → base_among (q ∷ rows) ≡ cond (not b) (q ∷ base_among rows) (base_among rows)
+in_base q rows b e = ap (λ c. cond (not c) (q ∷ base_among rows) (base_among rows)) e
+
 module _ (rule : GroupRule) where
-  joined_lower : (r : Row) (rows : List Row) → AllByRecursion (λ q. row_cmp r q ≡ Less) rows → AllByRecursion (UpTo r.seq) (joining rule r rows)
-  joined_lower r [] before = tt
-  joined_lower r (q ∷ rows) before = by (same_group rule r.key r.expires q) refl (is_operand q) (joined_lower r rows before.1)
+  are_joined : (r : Row) (rows : List Row) → AllByRecursion (λ q. row_cmp r q ≡ Less) rows → AreJoined r rows (joining rule r rows)
+  are_joined r [] before = record { after = []; all = refl; lower = tt; keys = tt; parts = refl; one = omega arith }
+  are_joined r (q ∷ rows) before = by (same_group rule r.key r.expires q) refl (is_operand q) refl (are_joined r rows before.1)
     where
       alike : same_group rule r.key r.expires q ≡ true → r.key ≡ q.key
       alike e = (bytes_eq-Decides r.key q.key).0 (and_left (bytes_eq r.key q.key) _ e)
 
-      by : (same : Bool) → same_group rule r.key r.expires q ≡ same → (operand : Bool) → AllByRecursion (UpTo r.seq) (joining rule r rows)
-          → AllByRecursion (UpTo r.seq) (if same then q ∷ (if operand then joining rule r rows else []) else [])
-      by true e true rest = (falls r q before.0 (alike e), rest)
-      by true e false rest = (falls r q before.0 (alike e), tt)
-      by false e operand rest = tt
+      by : (same : Bool) → same_group rule r.key r.expires q ≡ same → (operand : Bool) → is_operand q ≡ operand → AreJoined r rows (joining rule r rows)
+          → AreJoined r (q ∷ rows) (if same then q ∷ (if operand then joining rule r rows else []) else [])
+      by true e true is rest = record {
+        after = rest.after;
+        all = ap (λ (w : List Row). q ∷ w) rest.all;
+        lower = (falls r q before.0 (alike e), rest.lower);
+        keys = (alike e, rest.keys);
+        parts =
+            ap (λ (w : List Row). q ∷ w) rest.parts
+            ∙ sym (ap (λ (w : List Row). w ++ base_among (q ∷ joining rule r rows)) (in_operands q (joining rule r rows) true is)
+            ∙ ap (λ (w : List Row). (q ∷ operands_in (joining rule r rows)) ++ w) (in_base q (joining rule r rows) true is));
+        one = subst (λ (w : List Row). length w ≤ 1) (sym (in_base q (joining rule r rows) true is)) rest.one;
+      }
+      by true e false is rest = record {
+        after = rows;
+        all = refl;
+        lower = (falls r q before.0 (alike e), tt);
+        keys = (alike e, tt);
+        parts =
+            sym (ap (λ (w : List Row). w ++ base_among (q ∷ [])) (in_operands q [] false is)
+            ∙ in_base q [] false is);
+        one = subst (λ (w : List Row). length w ≤ 1) (sym (in_base q [] false is)) (omega arith);
+      }
+      by false e operand is rest = record { after = q ∷ rows; all = refl; lower = tt; keys = tt; parts = refl; one = omega arith }
 
 -- ---- batches
 
@@ -85,36 +120,22 @@ results_some {A} (a ∷ answers) results some is = by a (all_answers answers) is
     by (Ok x) (Err e) is = absurd (cc is)
     by (Ok x) (Ok xs) is = λ none. let same : x ∷ xs ≡ results = cc in cons_filled x xs (same ∙ none)
 
--- ---- a fold refuses with an answer of the operator
+-- ---- a fold that refuses
 
 module _ (merge : Operator) (key : List ℕ) where
-  abbrev Called : List ℕ → Type 0
-  Called message = (existing : Option (List ℕ)) × (operand : List ℕ) × (merge key existing operand ≡ Refused message)
+  -- what an error is, where a fold's answer is one
+  abbrev IsRefusal : Option Outcome → SlateDBError → Type 0
+  IsRefusal o e = (message : List ℕ) × (e ≡ MergeOperator (Callback message)) × (o ≡ Some (Refused message))
 
-  abbrev Known : Option Outcome → Type 0
-  Known o = (message : List ℕ) → o ≡ Some (Refused message) → Called message
+  answer_refused : (o : Option Outcome) (e : SlateDBError) → o ≢ None → answer_of o ≡ Err e → IsRefusal o e
+  answer_refused None e some is = absurd (some refl)
+  answer_refused (Some (Merged bytes)) e some is = absurd (cc is)
+  answer_refused (Some (Refused message)) e some is = let same : MergeOperator (Callback message) ≡ e = cc in (message, sym same, refl)
 
-  one_known : (e : Option Outcome) (x : List ℕ) → Known e → Known (Some (merge_one merge key e (Merged x)))
-  one_known None x known message is = let same : merge key None x ≡ Refused message = cc in (None, x, same)
-  one_known (Some (Merged bytes)) x known message is = let same : merge key (Some bytes) x ≡ Refused message = cc in (Some bytes, x, same)
-  one_known (Some (Refused first)) x known message is = known message is
-
-  fold_known : (e : Option Outcome) (xs : List (List ℕ)) → Known e → Known (fold merge key e (map Merged xs))
-  fold_known e [] known = known
-  fold_known e (x ∷ xs) known = fold_known (Some (merge_one merge key e (Merged x))) xs (one_known e x known)
-
-  bytes_known : (e : Option (List ℕ)) (xs : List (List ℕ)) → Known (fold_bytes merge key e xs)
-  bytes_known None xs = fold_known None xs (λ message is. absurd (cc is))
-  bytes_known (Some bytes) xs = fold_known (Some (Merged bytes)) xs (λ message is. absurd (cc is))
-
-  -- that this is what an error is
-  abbrev IsCalled : SlateDBError → Type 0
-  IsCalled e = (message : List ℕ) × (e ≡ MergeOperator (Callback message)) × Called message
-
-  answer_called : (o : Option Outcome) (e : SlateDBError) → Known o → o ≢ None → answer_of o ≡ Err e → IsCalled e
-  answer_called None e known some is = absurd (some refl)
-  answer_called (Some (Merged bytes)) e known some is = absurd (cc is)
-  answer_called (Some (Refused message)) e known some is = let same : MergeOperator (Callback message) ≡ e = cc in (message, sym same, known message refl)
+  answer_merged : (o : Option Outcome) (bytes : List ℕ) → answer_of o ≡ Ok bytes → o ≡ Some (Merged bytes)
+  answer_merged None bytes is = absurd (cc is)
+  answer_merged (Some (Merged found)) bytes is = let same : found ≡ bytes = cc in ap (λ (b : List ℕ). Some (Merged b)) same
+  answer_merged (Some (Refused message)) bytes is = absurd (cc is)
 
   -- of operands there are some
   snoc_some : (e : Option (List ℕ)) (xs : List (List ℕ)) (y : List ℕ) → fold_bytes merge key e (xs ++ y ∷ []) ≢ None
@@ -138,44 +159,84 @@ module _ (merge : Operator) (key : List ℕ) where
 -- ---- a group
 
 module _ (merge : Operator) (first : Row) where
-  batch_called : (b : List Row) (e : SlateDBError) → b ≢ [] → AllByRecursion (UpTo first.seq) b → AllByRecursion (λ r. is_operand r ≡ true) b → batch_answer merge first b ≡ Err e → IsCalled merge first.key e
-  batch_called b e filled lower operands is =
-      let o = fold_bytes merge first.key None (group_operands b) in
-      answer_called merge first.key o e (bytes_known merge first.key None (group_operands b)) (batch_some merge first.key b filled operands) (sym (ordered first.seq b (answer_of o) lower) ∙ is)
+  abbrev outcome : List Row → Option Outcome
+  outcome b = fold_bytes merge first.key None (group_operands b)
 
-  batches_called : (bs : List (List Row)) (e : SlateDBError) → AreFilled bs → AllIn (UpTo first.seq) bs → AllIn (λ r. is_operand r ≡ true) bs → all_answers (map (batch_answer merge first) bs) ≡ Err e → IsCalled merge first.key e
-  batches_called [] e filled lower operands is = absurd (cc is)
-  batches_called (b ∷ bs) e filled lower operands is =
-      by (batch_answer merge first b) (all_answers (map (batch_answer merge first) bs)) (batch_called b e filled.0 lower.0 operands.0) (batches_called bs e filled.1 lower.1 operands.1) is
+  abbrev InBatch : List (List Row) → SlateDBError → Type 0
+  InBatch bs e = (message : List ℕ) × (e ≡ MergeOperator (Callback message)) × Contains (map outcome bs) (Some (Refused message))
+
+  abbrev InGroup : List Row → List Row → SlateDBError → Type 0
+  InGroup operands base e = (message : List ℕ) × (e ≡ MergeOperator (Callback message)) × (Contains (batch_outcomes merge first.key operands) (Some (Refused message)) ⊎ RefusesResults merge first.key message operands base)
+
+  batch_refused : (b : List Row) (e : SlateDBError) → b ≢ [] → AllByRecursion (UpTo first.seq) b → AllByRecursion (λ r. is_operand r ≡ true) b → batch_answer merge first b ≡ Err e → IsRefusal merge first.key (outcome b) e
+  batch_refused b e filled lower operands is =
+      answer_refused merge first.key (outcome b) e (batch_some merge first.key b filled operands) (sym (ordered first.seq b (answer_of (outcome b)) lower) ∙ is)
+
+  batches_refused : (bs : List (List Row)) (e : SlateDBError) → AreFilled bs → AllIn (UpTo first.seq) bs → AllIn (λ r. is_operand r ≡ true) bs → all_answers (map (batch_answer merge first) bs) ≡ Err e → InBatch bs e
+  batches_refused [] e filled lower operands is = absurd (cc is)
+  batches_refused (b ∷ bs) e filled lower operands is =
+      by (batch_answer merge first b) (all_answers (map (batch_answer merge first) bs)) (batch_refused b e filled.0 lower.0 operands.0) (batches_refused bs e filled.1 lower.1 operands.1) is
     where
-      by : (answer : Result (List ℕ) SlateDBError) (others : Result (List (List ℕ)) SlateDBError) → (answer ≡ Err e → IsCalled merge first.key e) → (others ≡ Err e → IsCalled merge first.key e)
-          → one_more answer others ≡ Err e → IsCalled merge first.key e
-      by (Err x) others here rest is = let same : x ≡ e = cc in here (ap Err same)
-      by (Ok bytes) (Err x) here rest is = let same : x ≡ e = cc in rest (ap Err same)
-      by (Ok bytes) (Ok results) here rest is = absurd (cc is)
+      here : IsRefusal merge first.key (outcome b) e → InBatch (b ∷ bs) e
+      here (message, same, is) =
+          let stands : Contains (outcome b ∷ []) (Some (Refused message)) = subst (λ (o : Option Outcome). Contains (outcome b ∷ []) o) is (Contains-push [] (outcome b)) in
+          (message, same, Contains-append_left (outcome b ∷ []) (map outcome bs) (Some (Refused message)) stands)
 
-  base_called : (base : List Row) (results : Result (List (List ℕ)) SlateDBError) (e : SlateDBError) → AllByRecursion (UpTo first.seq) base → (results ≡ Err e → IsCalled merge first.key e)
-      → ((found : List (List ℕ)) → results ≡ Ok found → found ≢ []) → over_base merge first base results ≡ Err e → IsCalled merge first.key e
-  base_called base (Err x) e lower refused some is = let same : x ≡ e = cc in refused (ap Err same)
-  base_called base (Ok results) e lower refused some is =
-      let under : Option (List ℕ) = base_bytes (group_base base) in
-      let o = fold_bytes merge first.key under (reverse results) in
-      answer_called merge first.key o e (bytes_known merge first.key under (reverse results)) (back_some merge first.key under results (some results refl)) (sym (ordered first.seq base (answer_of o) lower) ∙ is)
+      later : InBatch bs e → InBatch (b ∷ bs) e
+      later (message, same, stands) = (message, same, Contains-append_right (outcome b ∷ []) (map outcome bs) (Some (Refused message)) stands)
+
+      by : (answer : Result (List ℕ) SlateDBError) (others : Result (List (List ℕ)) SlateDBError) → (answer ≡ Err e → IsRefusal merge first.key (outcome b) e) → (others ≡ Err e → InBatch bs e)
+          → one_more answer others ≡ Err e → InBatch (b ∷ bs) e
+      by (Err x) others first_is rest_is is = let same : x ≡ e = cc in here (first_is (ap Err same))
+      by (Ok bytes) (Err x) first_is rest_is is = let same : x ≡ e = cc in later (rest_is (ap Err same))
+      by (Ok bytes) (Ok results) first_is rest_is is = absurd (cc is)
+
+  batches_merged : (bs : List (List Row)) (results : List (List ℕ)) → AllIn (UpTo first.seq) bs → all_answers (map (batch_answer merge first) bs) ≡ Ok results → map outcome bs ≡ map (λ bytes. Some (Merged bytes)) results
+  batches_merged [] results lower is = let same : [] ≡ results = cc in ap (map (λ bytes. Some (Merged bytes))) same
+  batches_merged (b ∷ bs) results lower is =
+      by (batch_answer merge first b) refl (all_answers (map (batch_answer merge first) bs)) (λ found. batches_merged bs found lower.1) is
+    where
+      by : (answer : Result (List ℕ) SlateDBError) → batch_answer merge first b ≡ answer → (others : Result (List (List ℕ)) SlateDBError)
+          → ((found : List (List ℕ)) → others ≡ Ok found → map outcome bs ≡ map (λ bytes. Some (Merged bytes)) found)
+          → one_more answer others ≡ Ok results → map outcome (b ∷ bs) ≡ map (λ bytes. Some (Merged bytes)) results
+      by (Err x) answered others rest is = absurd (cc is)
+      by (Ok bytes) answered (Err x) rest is = absurd (cc is)
+      by (Ok bytes) answered (Ok found) rest is =
+          let same : bytes ∷ found ≡ results = cc in
+          let merged = answer_merged merge first.key (outcome b) bytes (sym (ordered first.seq b (answer_of (outcome b)) lower.0) ∙ answered) in
+          ap (λ (o : Option Outcome). o ∷ map outcome bs) merged
+          ∙ (ap (λ (os : List (Option Outcome)). Some (Merged bytes) ∷ os) (rest found refl)
+          ∙ ap (map (λ bytes. Some (Merged bytes))) same)
 
   mapped_some : (bs : List (List Row)) → bs ≢ [] → map (batch_answer merge first) bs ≢ []
   mapped_some [] some = absurd (some refl)
   mapped_some (b ∷ bs) some = cons_filled (batch_answer merge first b) (map (batch_answer merge first) bs)
 
-  group_called : (others : List Row) (e : SlateDBError) → is_operand first ≡ true → AllByRecursion (UpTo first.seq) others → merged_group merge (first, others) ≡ Err e → IsCalled merge first.key e
-  group_called others e operand lower is =
-      let bs : List (List Row) = batches batch_len (first ∷ operands_in others) in
+  results_refused : (operands base : List Row) (answers : Result (List (List ℕ)) SlateDBError) (e : SlateDBError) → AllByRecursion (UpTo first.seq) base
+      → (answers ≡ Err e → InBatch (batches batch_len operands) e)
+      → ((results : List (List ℕ)) → answers ≡ Ok results → (results ≢ []) × (batch_outcomes merge first.key operands ≡ map (λ bytes. Some (Merged bytes)) results))
+      → over_base merge first base answers ≡ Err e → InGroup operands base e
+  results_refused operands base (Err x) e lower refused merged is =
+      let same : x ≡ e = cc in
+      let (message, told, stands) = refused (ap Err same) in
+      (message, told, inl stands)
+  results_refused operands base (Ok results) e lower refused merged is =
+      let (some, all) = merged results refl in
+      let under : Option (List ℕ) = base_bytes (group_base base) in
+      let o = fold_bytes merge first.key under (reverse results) in
+      let (message, told, refusing) = answer_refused merge first.key o e (back_some merge first.key under results some) (sym (ordered first.seq base (answer_of o) lower) ∙ is) in
+      (message, told, inr (record { results = results; merged = all; refused = refusing }))
+
+  group_refused : (others : List Row) (e : SlateDBError) → is_operand first ≡ true → AllByRecursion (UpTo first.seq) others → merged_group merge (first, others) ≡ Err e → InGroup (first ∷ operands_in others) (base_among others) e
+  group_refused others e operand lower is =
+      let operands : List Row = first ∷ operands_in others in
+      let bs : List (List Row) = batches batch_len operands in
       let own : first.seq ≤ first.seq = omega arith in
-      base_called (base_among others) (all_answers (map (batch_answer merge first) bs)) e
+      let all_lower : AllIn (UpTo first.seq) bs = batches_all (UpTo first.seq) batch_len operands (own, all_filter (UpTo first.seq) is_operand others lower) in
+      results_refused operands (base_among others) (all_answers (map (batch_answer merge first) bs)) e
       (all_filter (UpTo first.seq) (λ r. not (is_operand r)) others lower)
-      (batches_called bs e (from_filled batch_len 0 (first ∷ operands_in others))
-      (batches_all (UpTo first.seq) batch_len (first ∷ operands_in others) (own, all_filter (UpTo first.seq) is_operand others lower))
-      (batches_all (λ r. is_operand r ≡ true) batch_len (first ∷ operands_in others) (operand, passes is_operand others)))
-      (λ found ok. results_some (map (batch_answer merge first) bs) found (mapped_some bs (batches_some batch_len first (operands_in others))) ok)
+      (batches_refused bs e (from_filled batch_len 0 operands) all_lower (batches_all (λ r. is_operand r ≡ true) batch_len operands (operand, passes is_operand others)))
+      (λ results ok. (results_some (map (batch_answer merge first) bs) results (mapped_some bs (batches_some batch_len first (operands_in others))) ok, batches_merged bs results all_lower ok))
       (by (group_answer merge (first, others)) is)
     where
       by : (answer : Result (List ℕ) SlateDBError) → row_of_answer (first, others) answer ≡ Err e → answer ≡ Err e
@@ -184,43 +245,91 @@ module _ (merge : Operator) (first : Row) where
 
 -- ---- group after group
 
+-- rows of a key in front of others
+of_key_in_front : (key : List ℕ) (rows later : List Row) → AllByRecursion (λ q. key ≡ q.key) rows → rows_of_key key (rows ++ later) ≡ rows ++ rows_of_key key later
+of_key_in_front key [] later all = refl
+of_key_in_front key (q ∷ rows) later all =
+    ap (λ b. cond b (q ∷ rows_of_key key (rows ++ later)) (rows_of_key key (rows ++ later))) ((bytes_eq-Decides key q.key).1 all.0)
+    ∙ ap (λ (w : List Row). q ∷ w) (of_key_in_front key rows later all.1)
+
+none_merged : (rows : List Row) → AllByRecursion (λ r. is_operand r ≡ false) (base_among rows)
+none_merged rows = all_weaken (λ r. not (is_operand r) ≡ true) (λ r. is_operand r ≡ false) (λ r h. by (is_operand r) h) (base_among rows) (passes (λ r. not (is_operand r)) rows)
+  where
+    by : (b : Bool) → not b ≡ true → b ≡ false
+    by true h = absurd (cc h)
+    by false h = refl
+
 module _ (merge : Operator) (rule : GroupRule) where
-  abbrev Found : List Row → SlateDBError → Type 0
-  Found rows e = (key : List ℕ) × (rows_of_key key rows ≢ []) × IsCalled merge key e
+  refused_first : (r : Row) (rows : List Row) (e : SlateDBError) → is_operand r ≡ true → AreJoined r rows (joining rule r rows) → merged_group merge (r, joining rule r rows) ≡ Err e → IsOfOperator merge (r ∷ rows) e
+  refused_first r rows e operand joined is =
+      let others : List Row = joining rule r rows in
+      let (message, same, refused) = group_refused merge r others e operand joined.lower is in
+      let later : List Row = rows_of_key r.key joined.after in
+      let front : rows_of_key r.key (r ∷ rows) ≡ r ∷ (others ++ later) =
+      ap (λ (w : List Row). rows_of_key r.key (r ∷ w)) joined.all ∙ of_key_in_front r.key (r ∷ others) joined.after (refl, joined.keys) in
+      record {
+        message = message;
+        same = same;
+        key = r.key;
+        operands = r ∷ operands_in others;
+        base = base_among others;
+        group = record {
+          newer = [];
+          older = later;
+          run =
+              front
+              ∙ ap (λ (w : List Row). r ∷ w)
+              (ap (λ (w : List Row). w ++ later) joined.parts ∙ append_assoc (operands_in others) (base_among others) later);
+          merged = (operand, passes is_operand others);
+          other = none_merged others;
+          one = joined.one;
+        };
+        refused = refused;
+      }
 
-  found_first : (r : Row) (rows : List Row) (e : SlateDBError) → IsCalled merge r.key e → Found (r ∷ rows) e
-  found_first r rows e called =
-      (r.key, (λ none. cons_filled r (rows_of_key r.key rows) (sym (ap (λ b. cond b (r ∷ rows_of_key r.key rows) (rows_of_key r.key rows)) ((bytes_eq-Decides r.key r.key).1 refl)) ∙ none)), called)
-
-  found_behind : (r : Row) (rows : List Row) (e : SlateDBError) → Found rows e → Found (r ∷ rows) e
-  found_behind r rows e (key, among, called) = (key, by (bytes_eq key r.key), called)
+  refused_behind : (r : Row) (rows : List Row) (e : SlateDBError) → IsOfOperator merge rows e → IsOfOperator merge (r ∷ rows) e
+  refused_behind r rows e h = record {
+    message = h.message;
+    same = h.same;
+    key = h.key;
+    operands = h.operands;
+    base = h.base;
+    group = by (bytes_eq h.key r.key);
+    refused = h.refused;
+  }
     where
-      by : (b : Bool) → cond b (r ∷ rows_of_key key rows) (rows_of_key key rows) ≢ []
-      by true = cons_filled r (rows_of_key key rows)
-      by false = among
+      by : (b : Bool) → IsGroup (cond b (r ∷ rows_of_key h.key rows) (rows_of_key h.key rows)) h.operands h.base
+      by true = record {
+        newer = r ∷ h.group.newer;
+        older = h.group.older;
+        run = ap (λ (w : List Row). r ∷ w) h.group.run;
+        merged = h.group.merged;
+        other = h.group.other;
+        one = h.group.one;
+      }
+      by false = h.group
 
-  behind_found : (taken : ℕ) (rows : List Row) (e : SlateDBError) → IsStrictlyOrdered rows → (up_to_refusal (folded_behind merge rule taken rows)).refusal ≡ Some e → Found rows e
+  behind_refused : (taken : ℕ) (rows : List Row) (e : SlateDBError) → IsStrictlyOrdered rows → (up_to_refusal (folded_behind merge rule taken rows)).refusal ≡ Some e → IsOfOperator merge rows e
   unfolding IsStrictlySortedBy
-  behind_found taken [] e sorted is = absurd (cc is)
-  behind_found (suc taken) (r ∷ rows) e sorted is = found_behind r rows e (behind_found taken rows e sorted.1 is)
-  behind_found zero (r ∷ rows) e sorted is =
-      by (opens rule r) refl (behind_found (length (joining rule r rows)) rows e sorted.1) (behind_found 0 rows e sorted.1) is
+  behind_refused taken [] e sorted is = absurd (cc is)
+  behind_refused (suc taken) (r ∷ rows) e sorted is = refused_behind r rows e (behind_refused taken rows e sorted.1 is)
+  behind_refused zero (r ∷ rows) e sorted is =
+      by (opens rule r) refl (behind_refused (length (joining rule r rows)) rows e sorted.1) (behind_refused 0 rows e sorted.1) is
     where
-      first : (answer : Result Row SlateDBError) (later : Folded) → (answer ≡ Err e → Found (r ∷ rows) e) → (later.refusal ≡ Some e → Found rows e) → (before_refusal answer later).refusal ≡ Some e → Found (r ∷ rows) e
+      first : (answer : Result Row SlateDBError) (later : Folded) → (answer ≡ Err e → IsOfOperator merge (r ∷ rows) e) → (later.refusal ≡ Some e → IsOfOperator merge rows e) → (before_refusal answer later).refusal ≡ Some e
+          → IsOfOperator merge (r ∷ rows) e
       first (Err x) later here rest is = let same : x ≡ e = cc in here (ap Err same)
-      first (Ok q) later here rest is = found_behind r rows e (rest is)
+      first (Ok q) later here rest is = refused_behind r rows e (rest is)
 
-      by : (b : Bool) → opens rule r ≡ b → ((up_to_refusal (folded_behind merge rule (length (joining rule r rows)) rows)).refusal ≡ Some e → Found rows e) → ((up_to_refusal (folded_behind merge rule 0 rows)).refusal ≡ Some e → Found rows e)
-          → (up_to_refusal (if b then merged_group merge (r, joining rule r rows) ∷ folded_behind merge rule (length (joining rule r rows)) rows else Ok r ∷ folded_behind merge rule 0 rows)).refusal ≡ Some e → Found (r ∷ rows) e
+      by : (b : Bool) → opens rule r ≡ b → ((up_to_refusal (folded_behind merge rule (length (joining rule r rows)) rows)).refusal ≡ Some e → IsOfOperator merge rows e)
+          → ((up_to_refusal (folded_behind merge rule 0 rows)).refusal ≡ Some e → IsOfOperator merge rows e)
+          → (up_to_refusal (if b then merged_group merge (r, joining rule r rows) ∷ folded_behind merge rule (length (joining rule r rows)) rows else Ok r ∷ folded_behind merge rule 0 rows)).refusal ≡ Some e
+          → IsOfOperator merge (r ∷ rows) e
       by true opened behind rest is =
           first (merged_group merge (r, joining rule r rows)) (up_to_refusal (folded_behind merge rule (length (joining rule r rows)) rows))
-          (λ refused. found_first r rows e (group_called merge r (joining rule r rows) e (and_left (is_operand r) (is_within rule.snapshot_barrier_seq r.seq) opened) (joined_lower rule r rows sorted.0) refused))
+          (λ refused. refused_first r rows e (and_left (is_operand r) (is_within rule.snapshot_barrier_seq r.seq) opened) (are_joined rule r rows sorted.0) refused)
           behind is
-      by false closed behind rest is = found_behind r rows e (rest is)
+      by false closed behind rest is = refused_behind r rows e (rest is)
 
 pub refuses_by_operator : (merge : Operator) → RefusesByOperator merge
-refuses_by_operator merge cut rows e sorted is =
-    let (key, among, called) = behind_found merge (job_rule cut) 0 rows e sorted is in
-    let (message, same, call) = called in
-    let (existing, operand, refused) = call in
-    record { message = message; same = same; key = key; among = among; existing = existing; operand = operand; refused = refused }
+refuses_by_operator merge cut rows e sorted is = behind_refused merge (job_rule cut) 0 rows e sorted is

@@ -1,24 +1,25 @@
 -- Folding rows, and then keeping some of each key's, makes a job's rows.
-use Rattle.std.specs.Prelude.{◌≡◌, ◌≢◌, ℕ, ◌≤◌, ℤ, int_le, ◌++◌, true, false, if◌then◌else◌, List, [], filter, Option, Some, None}
+use Rattle.std.specs.Prelude.{◌≡◌, ◌⊎◌, ℕ, ◌≤◌, ℤ, int_le, ◌++◌, true, false, if◌then◌else◌, List, [], filter, length, map, reverse, Contains, Option, Some, None}
 use Rattle.std.specs.List.{AllByRecursion}
 use Rattle.std.specs.Option.{is_none}
 use Rattle.std.specs.Ordering.{is_gt}
-use Rattle.row_model.specs.Fold.{Operator, Refused}
-use Rattle.row_model.specs.FoldedRows.{folded_rows}
+use Rattle.row_model.specs.Fold.{Operator, Outcome, Merged, Refused, fold_bytes}
+use Rattle.row_model.specs.FoldedRows.{group_operands, group_base, base_bytes, folded_rows}
 use Rattle.row_model.specs.JobRows.{job_rows}
 use Rattle.row_model.specs.KeptRows.{kept_of_keys}
 use Rattle.row_model.specs.Lists.{IsPrefixOf}
-use Rattle.row_model.specs.Rows.{Row, key_cmp, rows_of_key, IsStrictlyOrdered}
+use Rattle.row_model.specs.Rows.{Row, key_cmp, is_operand, rows_of_key, IsStrictlyOrdered}
 use Rattle.row_model.specs.Read.{read}
 use Rattle.row_model.specs.Settings.{Settings}
 use Rattle.fleet_iter.specs.Iteration.{IteratorState, AreRising}
+use Rattle.row_laws.specs.Batches.{batches}
 use Rattle.row_laws.specs.KeptReads.{AreOfKey}
 use Rattle.row_laws.specs.Keys.{is_below}
 use Rattle.row_laws.specs.Refusals.{RefusesIn}
 use Rattle.fleet_rows.specs.declared.errors.MergeOperatorError.TheVariants.{Callback}
 use Rattle.fleet_rows.specs.declared.errors.SlateDBError.{SlateDBError}
 use Rattle.fleet_rows.specs.declared.errors.SlateDBError.TheVariants.{MergeOperator}
-use Rattle.fleet_fold.specs.Folded.{Folded, folded}
+use Rattle.fleet_fold.specs.Folded.{batch_len, Folded, folded}
 use Rattle.fleet_fold.specs.Retention.{kept_given}
 use Rattle.fleet_fold.specs.declared.group.GroupRule.{GroupRule}
 
@@ -62,15 +63,38 @@ FoldsBeginJobs merge = (settings : Settings) (rows : List Row) → IsStrictlyOrd
 
 -- ---- what refuses a job
 
--- an answer of the operator, when it was called for a key that some row has
+-- Of a key's rows these stand one right behind the other: operands, and behind them their base, one row that is no operand;
+-- or there is no base.
+pub record IsGroup (rows operands base : List Row) : Type 0 where
+  pub newer : List Row
+  pub older : List Row
+  pub run : rows ≡ newer ++ (operands ++ (base ++ older))
+  pub merged : AllByRecursion (λ r. is_operand r ≡ true) operands
+  pub other : AllByRecursion (λ r. is_operand r ≡ false) base
+  pub one : length base ≤ 1
+
+-- what the operator answers to each batch of operands, folded from none
+abbrev pub batch_outcomes : Operator → List ℕ → List Row → List (Option Outcome)
+batch_outcomes merge key operands =
+    map (λ batch. fold_bytes merge key None (group_operands batch)) (batches batch_len operands)
+
+-- Each batch has a result, and the operator refuses with this message to fold the results over the base, or from none.
+pub record RefusesResults (merge : Operator) (key message : List ℕ) (operands base : List Row) : Type 0 where
+  pub results : List (List ℕ)
+  pub merged : batch_outcomes merge key operands ≡ map (λ bytes. Some (Merged bytes)) results
+  pub refused : fold_bytes merge key (base_bytes (group_base base)) (reverse results) ≡ Some (Refused message)
+
+-- the message with which the operator refused a fold over operands of one key of the rows: the fold of one of their batches,
+-- or that of the batches' results
 pub record IsOfOperator (merge : Operator) (rows : List Row) (e : SlateDBError) : Type 0 where
   pub message : List ℕ
   pub same : e ≡ MergeOperator (Callback message)
   pub key : List ℕ
-  pub among : rows_of_key key rows ≢ []
-  pub existing : Option (List ℕ)
-  pub operand : List ℕ
-  pub refused : merge key existing operand ≡ Refused message
+  pub operands : List Row
+  pub base : List Row
+  pub group : IsGroup (rows_of_key key rows) operands base
+  pub refused : Contains (batch_outcomes merge key operands) (Some (Refused message))
+      ⊎ RefusesResults merge key message operands base
 
 -- Of strictly ordered rows nothing else refuses.
 abbrev pub RefusesByOperator : Operator → Type 0

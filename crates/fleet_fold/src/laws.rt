@@ -21,8 +21,9 @@ pub fn folds_begin_jobs()
     ensures { (merge : Operator) → IsLawful merge → FoldsBeginJobs merge }
 {}
 
-/// Of strictly ordered rows nothing refuses a fold but the operator: a refusal carries the message of a call of it, for a key that
-/// a row has.
+/// Of strictly ordered rows nothing refuses a fold but the operator: a refusal carries the message with which it refused a fold over
+/// operands of one key of the rows. Either that fold was of a batch of them, or it was of the batches' results, over the operands'
+/// base or from none.
 pub fn refuses_by_operator()
     ensures { (merge : Operator) → RefusesByOperator merge }
 {}
