@@ -108,7 +108,7 @@ module _ (merge : Operator) (settings : Settings) (sources : List (List (List Ro
 
 pub ranges_make_job : (merge : Operator) → RangesMakeJob merge
 ranges_make_job merge settings sources ranges h cut made =
-    ranges_make_all merge settings cut.keys (all_rows sources) (all_ordered sources h) cut.rising
+    ranges_make_all merge settings cut.edges (all_rows sources) (all_ordered sources h) cut.rising
     (subst (AllByRecursion (λ range. (job_rows merge settings (rows_in range (all_rows sources))).whole ≡ true)) cut.are (all_whole merge settings sources h ranges made))
     ∙ (ap (λ (rs : List Range). record { rows = flat_map (λ range. (job_rows merge settings (rows_in range (all_rows sources))).rows) rs; whole = true }) (sym cut.are)
     ∙ ap (λ (w : List Row). record { rows = w; whole = true }) (same_rows merge settings sources h ranges made))

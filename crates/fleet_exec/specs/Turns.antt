@@ -64,8 +64,8 @@ TakenAndFinishedMakeAll merge = (settings : Settings) (sources : List (List (Lis
     → AreMade merge settings sources turns
     → job_rows merge settings (rows_in turns.range (all_rows sources)) ≡ record { rows = made_rows turns; whole = true }
 
--- And those of ranges that follow each other at rising keys and have every key, one range after the other, are all that the
--- job makes at once, wherever each range was cut: between keys, or between two versions of one key.
+-- And those of ranges that follow each other and have every key, one range after the other, are all that the job makes at
+-- once, wherever the taken tables of a range end: between keys, or between two versions of one key.
 abbrev pub RangesMakeJob : Operator → Type 0
 RangesMakeJob merge = (settings : Settings) (sources : List (List (List Row))) (ranges : List RangeTurns) → AreSources sources
     → AreCut (map (λ turns. turns.range) ranges)
@@ -94,7 +94,7 @@ pub record FinishedMakeJob (merge : Operator) (settings : Settings) (sources : L
   pub given : ranges ≡ map (λ turns. turns.finished) (map (finished_at merge sources size) begun)
   pub all : job_rows merge settings (all_rows sources) ≡ record { rows = flat_map made_rows (map (finished_at merge sources size) begun); whole = true }
 
--- Where one call finishes the ranges of a plan, what was taken of each and what the call gives are all that the job makes.
+-- Where one call finishes such ranges, what was taken of each and what the call gives are all that the job makes.
 abbrev pub FinishMakesJob : Operator → Type 0
 FinishMakesJob merge = (settings : Settings) (sources : List (List (List Row))) (size : ℕ) (begun : List BegunRange) (ranges : List (List (List Row))) → AreSources sources
     → AreCut (map (λ b. range_of b.job.range) begun)

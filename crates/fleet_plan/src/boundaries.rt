@@ -28,7 +28,7 @@ pub fn select_boundaries(
 ) -> Result<Vec<BytesRange>, SlateDBError>
     ensures ranges { IfOk result (λ ranges. ranges_of ranges.items ≡ select_boundaries (anchors_of anchors.items) max_subcompactions min_range_bytes) }
     ensures at_most { IfOk result (λ ranges. length ranges.items ≤ max max_subcompactions 1) }
-    // They follow each other at rising keys.
+    // They follow each other at rising edges.
     ensures rising { IfOk result (λ ranges. AreCut (ranges_of ranges.items)) }
     ensures every_key { IfOk result (λ ranges. HoldEveryKeyOnce (ranges_of ranges.items)) }
     ensures memory { IsOkUnless result SlateDBError.Memory }

@@ -27,7 +27,7 @@ pub fn plan_subcompaction_ranges(
     // Of tables with known rows these are the ranges of the definitions.
     ensures planned { IfOk result (λ ranges. (rows : View → List Row) → AreOfRows rows (views_of l0.now runs.now) → ranges_of ranges.items ≡ planned max_subcompactions (map rows (views_of l0.now runs.now))) }
     ensures at_most { IfOk result (λ ranges. length ranges.items ≤ max max_subcompactions 1) }
-    // They follow each other at rising keys.
+    // They follow each other at rising edges.
     ensures rising { IfOk result (λ ranges. AreCut (ranges_of ranges.items)) }
     ensures every_key { IfOk result (λ ranges. HoldEveryKeyOnce (ranges_of ranges.items)) }
     ensures memory { IsOkUnless result SlateDBError.Memory }

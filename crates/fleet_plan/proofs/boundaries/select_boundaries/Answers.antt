@@ -5,6 +5,7 @@ use Rattle.std.proofs.lemmas.List.{length-map}
 use Rattle.row_model.specs.Ranges.{Unbounded, ranges_from}
 use Rattle.row_model.specs.Rows.{key_cmp}
 use Rattle.row_laws.specs.Turns.{AreCut}
+use Rattle.row_laws.proofs.Ranges.{cut_before}
 use Rattle.fleet_range.specs.Keys.{range_of}
 use Rattle.fleet_plan.specs.Anchors.{anchors_of}
 use Rattle.fleet_plan.specs.Boundaries.{HoldEveryKeyOnce, ranges_of}
@@ -21,7 +22,7 @@ returns-clause-rising c =
     let keys : List (List ℕ) = c.deref.result.now in
     let rises = subst (IsStrictlySortedBy key_cmp) (sym (c.deref.ensures.value ∙ c.in_ok-keys.ensures)) (boundaries_rise (anchors_of c.args.anchors.items) c.args.max_subcompactions c.args.min_range_bytes) in
     IfOk-weaker c.ranges_between.result (λ ranges. ranges_of ranges.items ≡ ranges_from Unbounded keys) (λ ranges. AreCut (ranges_of ranges.items))
-    (λ ranges are. record { keys = keys; rising = rises; are = are }) c.ranges_between.ensures.ranges
+    (λ ranges are. subst AreCut (sym are) (cut_before keys rises)) c.ranges_between.ensures.ranges
 
 pub returns-clause-every_key : goal.returns-clause-every_key
 returns-clause-every_key c =
