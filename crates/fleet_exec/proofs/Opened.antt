@@ -13,10 +13,10 @@ use Rattle.row_laws.specs.Resume.{Cursor}
 use Rattle.row_laws.specs.Sources.{merged_rows}
 use Rattle.row_laws.proofs.ApartRows.{none_below, filter_all, ordered_filter, all_filter}
 use Rattle.row_laws.proofs.Merges.{apart_are_ordered}
-use Rattle.fleet_iter.specs.Iteration.{IteratorState, Inits, Seeks, Moves, AreRising, OrderedRowsRise, from_key}
+use Rattle.fleet_iter.specs.Iteration.{IteratorState, Inits, Seeks, Moves, AreRising, OrderedRowsRise, from_key, is_exact}
 use Rattle.fleet_rows.specs.declared.errors.SlateDBError.{SlateDBError}
 use Rattle.fleet_rows.specs.declared.errors.SlateDBError.TheVariants.{Memory}
-use Rattle.fleet_iter.specs.Merge.{merged, rows_left, are_whole, starting, NoneFailed, MergesSort}
+use Rattle.fleet_iter.specs.Merge.{merged, rows_left, are_whole, are_steady, starting, NoneFailed, MergesSort}
 use Rattle.fleet_iter.specs.declared.iterator.IterationOrder.TheVariants.{Ascending}
 use Rattle.fleet_table.specs.Run.{rows_of_tables}
 use Rattle.fleet_exec.specs.Ranges.{source_rows, AreSources, opened, ranged, rows_from, reading}
@@ -35,6 +35,10 @@ left_in range (tables ∷ sources) =
 pub all_whole : (range : Range) (sources : List (List (List Row))) → are_whole (opened range sources) ≡ true
 all_whole range [] = refl
 all_whole range (tables ∷ sources) = all_whole range sources
+
+pub all_steady : (range : Range) (sources : List (List (List Row))) → are_steady (opened range sources) ≡ true
+all_steady range [] = refl
+all_steady range (tables ∷ sources) = all_steady range sources
 
 -- ---- their order
 
@@ -94,7 +98,7 @@ none_failed range (tables ∷ sources) = (refl, none_failed range sources)
 
 -- the merge before it is made ready, without dedup
 abbrev unready : List Row → IteratorState
-unready rows = record { rows = rows; initialised = false; failed = false; whole = true; refusal = None }
+unready rows = record { rows = rows; initialised = false; failure = None; whole = true; steady = true; refusal = None }
 
 pub starts : (range : Range) (sources : List (List (List Row))) (ss : List IteratorState) (m made : IteratorState) (rows : List Row) → ss ≡ opened range sources
     → m ≡ starting Ascending ss → rows ≡ merged Ascending (rows_left ss) → made ≡ record m { rows = rows } → made ≡ unready (merged Ascending (ranged range sources))
@@ -102,21 +106,22 @@ starts range sources ss m made rows is begun all same =
     same
     ∙ (ap (λ (s : IteratorState). record s { rows = rows }) begun
     ∙ (ap (λ (w : List Row). record (starting Ascending ss) { rows = w }) (all ∙ ap (λ (w : List IteratorState). merged Ascending (rows_left w)) is ∙ ap (merged Ascending) (left_in range sources))
-    ∙ ap (λ (b : Bool). record (unready (merged Ascending (ranged range sources))) { whole = b }) (ap are_whole is ∙ all_whole range sources)))
+    ∙ (ap (λ (b : Bool). record (unready (merged Ascending (ranged range sources))) { whole = b; steady = are_steady ss }) (ap are_whole is ∙ all_whole range sources)
+    ∙ ap (λ (b : Bool). record (unready (merged Ascending (ranged range sources))) { steady = b }) (ap are_steady is ∙ all_steady range sources))))
 
 -- a merge that is whole fails for want of memory alone
 pub init_memory : (s t : IteratorState) (e : SlateDBError) (rows : List Row) → s ≡ unready rows → Inits s t (Err e) → e ≡ Memory
-init_memory s t e rows is inits = (inits.answers (ap (λ (s : IteratorState). s.failed) is)).cause.memory (ap (λ (s : IteratorState). s.whole) is)
+init_memory s t e rows is inits = (inits.answers (ap (λ (s : IteratorState). s.failure) is)).cause.memory (ap (λ (s : IteratorState). s.whole) is)
 
 pub init_ready : (s t : IteratorState) (rows : List Row) → s ≡ unready rows → Inits s t (Ok tt) → t ≡ reading rows
-init_ready s t rows is inits = inits.answers (ap (λ (s : IteratorState). s.failed) is) ∙ ap (λ (s : IteratorState). record s { initialised = true }) is
+init_ready s t rows is inits = inits.answers (ap (λ (s : IteratorState). s.failure) is) ∙ ap (λ (s : IteratorState). record s { initialised = true }) is
 
 pub seek_memory : (key : List ℕ) (s t : IteratorState) (e : SlateDBError) (rows : List Row) → s ≡ reading rows → Seeks key s t (Err e) → e ≡ Memory
 seek_memory key s t e rows is seeks =
-    (seeks.answers (ap (λ (s : IteratorState). s.failed) is) (ap (λ (s : IteratorState). s.initialised) is)).cause.memory (ap (λ (s : IteratorState). s.whole) is)
+    (seeks.answers (ap (λ (s : IteratorState). s.failure) is) (ap (λ (s : IteratorState). s.initialised) is)).cause.memory (ap is_exact is)
 
 pub seek_ready : (key : List ℕ) (s t : IteratorState) (rows : List Row) → s ≡ reading rows → Seeks key s t (Ok tt) → t ≡ reading (from_key key rows)
-seek_ready key s t rows is seeks = moved s.whole (ap (λ (s : IteratorState). s.whole) is) (seeks.answers (ap (λ (s : IteratorState). s.failed) is) (ap (λ (s : IteratorState). s.initialised) is))
+seek_ready key s t rows is seeks = moved (is_exact s) (ap is_exact is) (seeks.answers (ap (λ (s : IteratorState). s.failure) is) (ap (λ (s : IteratorState). s.initialised) is))
   where
     moved : (b : Bool) → b ≡ true → Moves b key s t → t ≡ reading (from_key key rows)
     moved true e m = m ∙ ap (λ (s : IteratorState). record s { rows = from_key key s.rows }) is

@@ -45,4 +45,4 @@ rows_from range cursor sources = from_cursor cursor (merged_rows (ranged range s
 
 -- an iterator of which these rows are left, and that only want of memory can fail
 abbrev pub reading : List Row → IteratorState
-reading rows = record { rows = rows; initialised = true; failed = false; whole = true; refusal = None }
+reading rows = record { rows = rows; initialised = true; failure = None; whole = true; steady = true; refusal = None }

@@ -1,15 +1,22 @@
 -- A filter that goes on, row by row.
-use Rattle.std.proofs.Common.{◌≡◌, ◌≢◌, ◌∙◌, sym, refl, ap, List, [], ◌∷◌, ◌++◌, true, Option, Some, None, Result, Ok, Err}
-use Rattle.row_model.specs.Rows.{Row}
+use Rattle.std.proofs.Common.{◌≡◌, ◌≢◌, ◌∙◌, sym, refl, ap, subst, ℕ, List, [], ◌∷◌, ◌++◌, ◌&&◌, Bool, true, false, Option, Some, None, Result, Ok, Err}
+use Rattle.std.specs.List.{AllByRecursion}
+use Rattle.std.specs.Ordering.{is_gt}
+use Rattle.row_model.specs.Rows.{Row, key_cmp}
 use Rattle.fleet_rows.specs.declared.errors.CompactionFilterError.{CompactionFilterError}
 use Rattle.fleet_fold.specs.declared.filter.CompactionFilterDecision.{CompactionFilterDecision}
+use Rattle.fleet_fold.specs.declared.filter.CompactionFilterDecision.TheVariants.{Keep, Drop, Modify}
 use Rattle.fleet_rows.specs.Errors.{raised_by_filter}
 use Rattle.fleet_rows.specs.declared.row.RowEntry.{RowEntry}
 use Rattle.fleet_rows.specs.declared.errors.CompactionFilterError.TheVariants as filter
+use Rattle.fleet_rows.specs.declared.errors.SlateDBError.{SlateDBError}
 use Rattle.fleet_rows.specs.declared.errors.SlateDBError.TheVariants.{CompactionFilter}
-use Rattle.fleet_iter.specs.Iteration.{IteratorState, Nexts, NextAnswers}
+use Rattle.fleet_iter.specs.Iteration.{IteratorState, AreRising, KeepsRefusal, Moves, Nexts, NextAnswers, Seeks, is_exact, without_first}
+use Rattle.fleet_iter.specs.Resume.{is_written}
+use Rattle.fleet_iter.proofs.Failures.{next_refused, seek_refused}
+use Rattle.fleet_iter.proofs.RisingRows.{moves_alive, moves_rising}
 use Rattle.fleet_fold.specs.Retention.{IsReadable, from_ahead}
-use Rattle.fleet_fold.specs.Filter.{Answers, Closing, GoesOn, Filtered, IsTold, Refuses, decided, before_refused, filtered}
+use Rattle.fleet_fold.specs.Filter.{Answers, Closing, GoesOn, Filtered, IsTold, Refuses, Knows, KnowsUnlessFailed, FiltersSeeTheKey, decided, before_refused, filtered, filtering}
 
 filtered_alike : (a b : Answers) (e f : Closing) → ((seen : List Row) (q : Row) → a seen q ≡ b seen q) → ((seen : List Row) → e seen ≡ f seen) → (rows : List Row) → filtered a e rows ≡ filtered b f rows
 filtered_alike a b e f h g [] = ap (λ w. record { rows = []; end = w }) (g [])
@@ -74,13 +81,123 @@ reads s t o k n = by o (n.answers k.0 k.1)
     by : (o : Option RowEntry) → NextAnswers s t (Ok o) → Reads s t o
     by None h = record {
       rows = ap (λ (z : IteratorState). z.rows) h.same;
-      readable = (ap (λ (z : IteratorState). z.failed) h.same ∙ k.0, ap (λ (z : IteratorState). z.initialised) h.same ∙ k.1);
+      readable = (ap (λ (z : IteratorState). z.failure) h.same ∙ k.0, ap (λ (z : IteratorState). z.initialised) h.same ∙ k.1);
       whole = ap (λ (z : IteratorState). z.whole) h.same;
       ended = λ _. (ap (λ (z : IteratorState). z.rows) h.same ∙ h.rows, ap (λ (z : IteratorState). z.whole) h.same ∙ h.whole);
     }
     by (Some x) h = record {
       rows = sym (ap (λ (z : IteratorState). z.rows) h);
-      readable = (sym (ap (λ (z : IteratorState). z.failed) h) ∙ k.0, sym (ap (λ (z : IteratorState). z.initialised) h) ∙ k.1);
+      readable = (sym (ap (λ (z : IteratorState). z.failure) h) ∙ k.0, sym (ap (λ (z : IteratorState). z.initialised) h) ∙ k.1);
       whole = sym (ap (λ (z : IteratorState). z.whole) h);
       ended = λ none. absurd (cc none);
     }
+
+-- ---- rows that a filter leaves rise as those that it is shown
+
+all_appended : (P : Row → Type 0) (xs ys : List Row) → AllByRecursion P xs → AllByRecursion P ys → AllByRecursion P (xs ++ ys)
+all_appended P [] ys h g = g
+all_appended P (x ∷ xs) ys h g = (h.0, all_appended P xs ys h.1 g)
+
+all_filtered : (P : List ℕ → Type 0) (answers : Answers) (closing : Closing) (rows : List Row) → AllByRecursion (λ r. P r.key) rows → AllByRecursion (λ r. P r.key) (filtered answers closing rows).rows
+all_filtered P answers closing [] all = tt
+all_filtered P answers closing (r ∷ rows) all = by (answers [] r) (all_filtered P (λ seen. answers (r ∷ seen)) (λ seen. closing (r ∷ seen)) rows all.1)
+  where
+    by : (answer : Result CompactionFilterDecision CompactionFilterError) → AllByRecursion (λ q. P q.key) (filtered (λ seen. answers (r ∷ seen)) (λ seen. closing (r ∷ seen)) rows).rows
+        → AllByRecursion (λ q. P q.key) (before_refused answer r (filtered (λ seen. answers (r ∷ seen)) (λ seen. closing (r ∷ seen)) rows)).rows
+    by (Err e) rest = tt
+    by (Ok Keep) rest = (all.0, rest)
+    by (Ok Drop) rest = rest
+    by (Ok (Modify value)) rest = (all.0, rest)
+
+pub filtered_rise : (answers : Answers) (closing : Closing) (rows : List Row) → AreRising rows → AreRising (filtered answers closing rows).rows
+filtered_rise answers closing [] h = tt
+filtered_rise answers closing (r ∷ rows) h =
+    by (answers [] r) (all_filtered (λ key. is_gt (key_cmp r.key key) ≡ false) (λ seen. answers (r ∷ seen)) (λ seen. closing (r ∷ seen)) rows h.0) (filtered_rise (λ seen. answers (r ∷ seen)) (λ seen. closing (r ∷ seen)) rows h.1)
+  where
+    by : (answer : Result CompactionFilterDecision CompactionFilterError) → AllByRecursion (λ q. is_gt (key_cmp r.key q.key) ≡ false) (filtered (λ seen. answers (r ∷ seen)) (λ seen. closing (r ∷ seen)) rows).rows
+        → AreRising (filtered (λ seen. answers (r ∷ seen)) (λ seen. closing (r ∷ seen)) rows).rows
+        → AreRising (before_refused answer r (filtered (λ seen. answers (r ∷ seen)) (λ seen. closing (r ∷ seen)) rows)).rows
+    by (Err e) all rest = tt
+    by (Ok Keep) all rest = (all, rest)
+    by (Ok Drop) all rest = rest
+    by (Ok (Modify value)) all rest = (all, rest)
+
+-- ---- calls of the inner iterator
+
+pub open_knows : (failure : Option SlateDBError) (ended closed : Bool) (inner : IteratorState) → failure ≡ None → KnowsUnlessFailed failure ended closed inner → Knows ended closed inner
+open_knows (Some e) ended closed inner alive h = absurd (cc alive)
+open_knows None ended closed inner alive h = h
+
+module _ (answers : Answers) (closing : Closing) (failure : Option SlateDBError) (ended closed : Bool) (inner after : IteratorState) (alive : failure ≡ None) (opened : ended ≡ false) (knows : Knows ended closed inner) where
+  abbrev F : Option SlateDBError → IteratorState → IteratorState
+  F kept s = filtering kept ended answers closing s
+
+  as_open : (kept : Option SlateDBError) (s : IteratorState) → F kept s ≡ filtering kept false answers closing s
+  as_open kept s = ap (λ (b : Bool). filtering kept b answers closing s) opened
+
+  true_or : (b : Bool) → (b ≡ false → ⊥) → b ≡ true
+  true_or true h = refl
+  true_or false h = absurd (h refl)
+
+  was_initialised : (key : List ℕ) → Seeks key inner after (Ok tt) → inner.initialised ≡ true
+  was_initialised key seeks = true_or inner.initialised (λ i. let e = (seeks.uninitialised knows.alive i).answer in cc e)
+
+  pub seeks_filtered : (key : List ℕ) → Seeks key inner after (Ok tt) → Seeks key (F failure inner) (F failure after) (Ok tt)
+  seeks_filtered key seeks =
+      let begun = was_initialised key seeks in
+      let moves : Moves (is_exact inner) key inner after = seeks.answers knows.alive begun in
+      subst (λ (b : Bool). Seeks key (filtering failure b answers closing inner) (filtering failure b answers closing after) (Ok tt)) (sym opened)
+      (record {
+        failed = λ failed. absurd (failed alive);
+        uninitialised = λ _ i. let clash : true ≡ false = sym begun ∙ i in absurd (cc clash);
+        answers = λ _ _. record {
+          initialised = moves_begun (is_exact inner) moves;
+          failure = refl;
+          rising = filtered_rise answers closing after.rows (moves_rising key inner after (is_exact inner) moves knows.rising);
+        };
+      })
+    where
+      moves_begun : (exact : Bool) → Moves exact key inner after → after.initialised ≡ inner.initialised
+      moves_begun true m = ap (λ (s : IteratorState). s.initialised) m
+      moves_begun false m = m.initialised
+
+  pub knows_sought : (key : List ℕ) → Seeks key inner after (Ok tt) → Knows ended closed after
+  knows_sought key seeks =
+      let moves : Moves (is_exact inner) key inner after = seeks.answers knows.alive (was_initialised key seeks) in
+      record {
+        alive = moves_alive key inner after (is_exact inner) moves ∙ knows.alive;
+        rising = moves_rising key inner after (is_exact inner) moves knows.rising;
+        closed = knows.closed;
+        begun = λ is. let clash : true ≡ false = sym is ∙ opened in absurd (cc clash);
+      }
+
+  module _ (kept : Option SlateDBError) (e answer : SlateDBError) (keeps : KeepsRefusal e failure kept answer) where
+    begins : (b : Bool) → (filtering failure b answers closing inner).initialised ≡ inner.initialised
+    begins true = refl
+    begins false = refl
+
+    failures : (b : Bool) (f : Option SlateDBError) (s : IteratorState) → (filtering f b answers closing s).failure ≡ f
+    failures true f s = refl
+    failures false f s = refl
+
+    stays : (b : Bool) → inner.initialised ≡ false → after ≡ inner → kept ≡ failure → filtering kept b answers closing after ≡ filtering failure b answers closing inner
+    stays b begun same none = ap (filtering kept b answers closing) same ∙ ap (λ (f : Option SlateDBError). filtering f b answers closing inner) none
+
+    first : (a b : Bool) → a && b ≡ true → a ≡ true
+    first true b h = refl
+    first false b h = absurd (cc h)
+
+    pub next_refused_filtered : Nexts inner after (Err e) → Nexts (F failure inner) (F kept after) (Err answer)
+    next_refused_filtered nexts =
+        subst (λ (b : Bool). Nexts (filtering failure b answers closing inner) (filtering kept b answers closing after) (Err answer)) (sym opened)
+        (next_refused (filtering failure false answers closing inner) (filtering kept false answers closing after) inner after e answer alive knows.alive keeps refl (stays false) (first inner.whole _) (λ told cause behind is. absurd (cc is)) nexts)
+
+    pub seek_refused_filtered : (key : List ℕ) → Seeks key inner after (Err e) → Seeks key (F failure inner) (F kept after) (Err answer)
+    seek_refused_filtered key seeks =
+        subst (λ (b : Bool). Seeks key (filtering failure b answers closing inner) (filtering kept b answers closing after) (Err answer)) (sym opened)
+        (seek_refused (filtering failure false answers closing inner) (filtering kept false answers closing after) inner after e answer alive knows.alive keeps refl (stays false) key (λ exact. absurd (cc exact)) seeks)
+
+-- the law of a resumed filter
+pub filters_see_the_key : FiltersSeeTheKey
+filters_see_the_key answers closing inner left new cursor moves is =
+    ap (λ (s : IteratorState). s.rows) is ∙ ap (λ (s : IteratorState). without_first (is_written cursor) (filtered answers closing s.rows).rows) moves

@@ -1,5 +1,5 @@
 -- What refuses the next of folded rows.
-use Rattle.std.proofs.Common.{◌≡◌, ◌≢◌, ◌∙◌, sym, refl, ap, ℕ, List, [], ◌∷◌, map, ◌&&◌, Bool, true, false, length, Option, Some, None, Ok, Err}
+use Rattle.std.proofs.Common.{◌≡◌, ◌≢◌, ◌∙◌, sym, refl, ap, subst, ℕ, List, [], ◌∷◌, map, ◌&&◌, Bool, true, false, length, Option, Some, None, Ok, Err}
 use Rattle.std.specs.Prelude.{Result, if◌then◌else◌, reverse}
 use Rattle.std.specs.Option.{is_none}
 use Rattle.row_model.specs.Chunks.{Chunk}
@@ -8,6 +8,7 @@ use Rattle.row_model.specs.FoldedRows.{group_operands, group_base, base_bytes}
 use Rattle.row_model.specs.Rows.{Row}
 use Rattle.row_laws.specs.Batches.{batches}
 use Rattle.fleet_iter.specs.Iteration.{IteratorState, Nexts, CanFail}
+use Rattle.fleet_iter.proofs.Failures.{kept_cause}
 use Rattle.fleet_rows.specs.declared.row.RowEntry.{RowEntry}
 use Rattle.fleet_rows.specs.declared.errors.MergeOperatorError.TheVariants.{EmptyBatch, Callback}
 use Rattle.fleet_rows.specs.declared.errors.SlateDBError.{SlateDBError}
@@ -97,40 +98,72 @@ module _ (merge : Operator) where
     both true false h = absurd (cc h)
     both false b h = absurd (cc h)
 
-    pub next_refused : (merge' : Operator) (rule' : GroupRule) (failed : Bool) (ahead later : Option RowEntry) (inner read after : IteratorState) (first : Row) (e : SlateDBError) → failed ≡ false → from_ahead ahead inner ≡ first ∷ read.rows → inner.whole ≡ read.whole → inner.initialised ≡ true
-        → RefusesNext merge rule (first ∷ read.rows) read after e → Nexts (merging failed merge rule ahead inner) (merging true merge' rule' later after) (Err e)
-    next_refused merge' rule' failed ahead later inner read after first e alive rows whole begun refuses = record {
-      failed = λ q. let clash = sym alive ∙ q in absurd (cc clash);
+    -- rows of which the first was read ahead
+    pub next_handed : (ahead : Option RowEntry) (inner read after : IteratorState) (first : Row) (e : SlateDBError) → from_ahead ahead inner ≡ first ∷ read.rows → inner.whole ≡ read.whole
+        → RefusesNext merge rule (first ∷ read.rows) read after e → RefusesNext merge rule (from_ahead ahead inner) inner after e
+    next_handed ahead inner read after first e rows whole refuses = record {
+      read = λ failed. subst (λ (w : Bool). CanFail w e) (sym whole) (refuses.read failed);
+      handed = refuses.handed;
+      merged = λ ok other. let (others, is) = refuses.merged ok other in (others, ap (folded_behind merge rule 0) rows ∙ is);
+    }
+
+    -- a refusal that was kept
+    pub next_kept : (rows : List Row) (old after : IteratorState) (e answer : SlateDBError) → (answer ≢ Memory → answer ≡ e) → (e ≡ Memory → answer ≡ Memory) → RefusesNext merge rule rows old after e → RefusesNext merge rule rows old after answer
+    next_kept rows old after e answer same memory refuses = record {
+      read = λ failed. kept_cause old.whole old.whole e answer (λ all. all) same memory (refuses.read failed);
+      handed = λ failed other. refuses.handed failed (λ m. other (memory m)) ∙ ap Some (sym (same other));
+      merged = λ ok other.
+          let (others, is) = refuses.merged ok (λ m. other (memory m)) in
+          (others, is ∙ ap (λ (x : SlateDBError). Err x ∷ others) (sym (same other)));
+    }
+
+    pub next_refused : (merge' : Operator) (rule' : GroupRule) (failure kept : Option SlateDBError) (ahead later : Option RowEntry) (inner after : IteratorState) (first : Row) (rest : List Row) (e : SlateDBError) → failure ≡ None → kept ≡ Some e → from_ahead ahead inner ≡ first ∷ rest → inner.initialised ≡ true
+        → RefusesNext merge rule (from_ahead ahead inner) inner after e → Nexts (merging failure merge rule ahead inner) (merging kept merge' rule' later after) (Err e)
+    next_refused merge' rule' failure kept ahead later inner after first rest e alive marked rows begun refuses = record {
+      failed = λ q. absurd (q alive);
       uninitialised = λ _ i. let clash = sym begun ∙ i in absurd (cc clash);
-      answers = λ _ _. record { failed = refl; cause = by after.failed refl; known = λ behind is other. tell behind other (if_whole behind inner.whole refl is) after.failed refl };
+      answers = λ _ _. record { failed = marked; cause = by after.failure refl; known = λ behind is other. tell behind other (if_whole behind inner.whole refl is) after.failure refl };
     }
       where
-        told : folded merge rule (first ∷ read.rows) ≡ folded merge rule (from_ahead ahead inner)
-        told = ap (folded merge rule) (sym rows)
+        some_fails : (x : SlateDBError) → after.failure ≡ Some x → after.failure ≢ None
+        some_fails x was none = let clash : ◌≡◌ {A = Option SlateDBError} (Some x) None = sym was ∙ none in cc clash
 
         if_whole : (behind : SlateDBError) (w : Bool) → inner.whole ≡ w → (if w then (folded merge rule (from_ahead ahead inner)).refusal else None) ≡ Some behind
             → (inner.whole ≡ true) × ((folded merge rule (from_ahead ahead inner)).refusal ≡ Some behind)
         if_whole behind true e h = (e, h)
         if_whole behind false e h = absurd (cc h)
 
-        tell : (behind : SlateDBError) → e ≢ Memory → (inner.whole ≡ true) × ((folded merge rule (from_ahead ahead inner)).refusal ≡ Some behind) → (b : Bool) → after.failed ≡ b → ((folded merge rule (from_ahead ahead inner)).rows ≡ []) × (e ≡ behind)
-        tell behind other (all, is) true was = absurd (other ((refuses.read was).memory (sym whole ∙ all)))
-        tell behind other (all, is) false was =
+        tell : (behind : SlateDBError) → e ≢ Memory → (inner.whole ≡ true) × ((folded merge rule (from_ahead ahead inner)).refusal ≡ Some behind) → (o : Option SlateDBError) → after.failure ≡ o → ((folded merge rule (from_ahead ahead inner)).rows ≡ []) × (e ≡ behind)
+        tell behind other (all, is) (Some x) was = absurd (other ((refuses.read (some_fails x was)).memory all))
+        tell behind other (all, is) None was =
             let (others, first_is) = refuses.merged was other in
-            let made = sym told ∙ refused (first ∷ read.rows) e others first_is in
+            let made = refused (from_ahead ahead inner) e others first_is in
             let same : Some e ≡ Some behind = sym (ap (λ (f : Folded). f.refusal) made) ∙ is in
             (ap (λ (f : Folded). f.rows) made, cc same)
 
-        by : (b : Bool) → after.failed ≡ b → CanFail (inner.whole && is_none (folded merge rule (from_ahead ahead inner)).refusal) e
-        by true was =
-            let h = refuses.read was in
-            record { initialised = h.initialised; alive = h.alive; memory = λ w. h.memory (sym whole ∙ (both inner.whole _ w).0) }
-        by false was =
-            let other : (e ≢ Memory) → OfFold e = λ not_memory. let (others, is) = refuses.merged was not_memory in of_first first read.rows e others is in
+        by : (o : Option SlateDBError) → after.failure ≡ o → CanFail (inner.whole && is_none (folded merge rule (from_ahead ahead inner)).refusal) e
+        by (Some x) was =
+            let h = refuses.read (some_fails x was) in
+            record { initialised = h.initialised; alive = h.alive; memory = λ w. h.memory (both inner.whole _ w).0 }
+        by None was =
+            let other : (e ≢ Memory) → OfFold e = λ not_memory. let (others, is) = refuses.merged was not_memory in of_first first rest e others (ap (folded_behind merge rule 0) (sym rows) ∙ is) in
             record {
               initialised = λ is. (other (λ m. let k = sym is ∙ m in cc k)).0 is;
               alive = λ is. (other (λ m. let k = sym is ∙ m in cc k)).1 is;
               memory = λ w. memory_or e (λ not_memory. let (others, is) = refuses.merged was not_memory in
-                  let some : (folded merge rule (from_ahead ahead inner)).refusal ≡ Some e = ap (λ (f : Folded). f.refusal) (sym told ∙ refused (first ∷ read.rows) e others is) in
+                  let some : (folded merge rule (from_ahead ahead inner)).refusal ≡ Some e = ap (λ (f : Folded). f.refusal) (refused (from_ahead ahead inner) e others is) in
                   let clash : false ≡ true = sym (ap is_none some) ∙ (both inner.whole _ w).1 in cc clash);
             }
+
+    -- what refuses the first answer is not that the iterator was not initialised
+    pub not_early : (rows : List Row) (old after : IteratorState) (r : Row) (rest : List Row) (e : SlateDBError) → rows ≡ r ∷ rest → RefusesNext merge rule rows old after e → e ≢ IteratorNotInitialized
+    not_early rows old after r rest e is refuses early = by after.failure refl
+      where
+        other : e ≢ Memory
+        other m = let k = sym early ∙ m in cc k
+
+        by : (o : Option SlateDBError) → after.failure ≡ o → ⊥
+        by (Some x) was = (refuses.read (λ none. let clash : ◌≡◌ {A = Option SlateDBError} (Some x) None = sym was ∙ none in cc clash)).initialised early
+        by None was =
+            let (others, first) = refuses.merged was other in
+            (of_first r rest e others (ap (folded_behind merge rule 0) (sym is) ∙ first)).0 early

@@ -1,5 +1,5 @@
 -- The row that a group becomes, and what is behind it.
-use Rattle.std.proofs.Common.{◌≡◌, ◌∙◌, sym, refl, ap, subst, List, [], ◌∷◌, ◌++◌, Bool, true, false, length, Option, None, Ok}
+use Rattle.std.proofs.Common.{◌≡◌, ◌∙◌, refl, ap, subst, List, [], ◌∷◌, ◌++◌, Bool, true, false, length, Option, None, Ok}
 use Rattle.std.specs.Prelude.{Result, if◌then◌else◌}
 use Rattle.std.specs.Option.{option_to_list}
 use Rattle.row_model.specs.Rows.{Row}
@@ -17,22 +17,21 @@ use Rattle.fleet_fold.specs.Groups.{Joins, Closes, RefusesClose, RefusesGroup, F
 
 module _ (merge : Operator) (rule : GroupRule) where
   pub folds_group : (first r : Row) (old : IteratorState) (base : Option RowEntry) (g : Group) (later : Option RowEntry) (new : IteratorState) → Joins merge rule first old base g later new
-      → Closes merge g (rows_of (option_to_list base)) r → IsReadable new → new.whole ≡ old.whole → FoldsGroup merge rule first old r later new
-  folds_group first r old base g later new h closes readable whole = record {
+      → Closes merge g (rows_of (option_to_list base)) r → IsReadable new → new.whole ≡ old.whole → new.steady ≡ old.steady → FoldsGroup merge rule first old r later new
+  folds_group first r old base g later new h closes readable whole steady = record {
     group = ap (λ (rows : List Row). merged_group merge (first, rows)) h.joined ∙ closes first h.taken h.gathers;
     parts = h.parts;
     readable = readable;
     whole = whole;
+    steady = steady;
   }
 
-  clash : {b : Bool} → b ≡ true → b ≡ false → ⊥
-  clash {b} h g = let e : true ≡ false = sym h ∙ g in cc e
-
   -- a group that was read is refused
-  pub refuses_joined : (first : Row) (old : IteratorState) (base : Option RowEntry) (g : Group) (later : Option RowEntry) (new : IteratorState) (e : SlateDBError) → Joins merge rule first old base g later new → new.failed ≡ false
+  pub refuses_joined : (first : Row) (old : IteratorState) (base : Option RowEntry) (g : Group) (later : Option RowEntry) (new : IteratorState) (e : SlateDBError) → Joins merge rule first old base g later new → new.failure ≡ None
       → RefusesClose merge g (rows_of (option_to_list base)) e → RefusesGroup merge rule first old new e
   refuses_joined first old base g later new e h alive refuses = record {
-    read = λ failed. absurd (clash failed alive);
+    read = λ failed. absurd (failed alive);
+    handed = λ failed. absurd (failed alive);
     merged = λ _ other. ap (λ (rows : List Row). merged_group merge (first, rows)) h.joined ∙ refuses first h.taken h.gathers other;
   }
 
@@ -58,15 +57,17 @@ module _ (merge : Operator) (rule : GroupRule) where
             ∙ ap (λ (others : List (Result Row SlateDBError)). Ok r ∷ others) (ap (folded_behind merge rule (length taken)) h.parts ∙ behind_taken taken (from_ahead later new)));
         readable = h.readable;
         whole = h.whole;
+        steady = h.steady;
         rising = λ rises. rising_back taken (from_ahead later new) (subst AreRising h.parts rises);
       }
 
   pub folds_passed : (first : Row) (old : IteratorState) → opens rule first ≡ false → IsReadable old → Folds merge rule first old first None old
-  folds_passed first old is readable = record { rows = passed first old.rows is; readable = readable; whole = refl; rising = λ rises. rises }
+  folds_passed first old is readable = record { rows = passed first old.rows is; readable = readable; whole = refl; steady = refl; rising = λ rises. rises }
 
   pub refuses_opened : (first : Row) (old new : IteratorState) (e : SlateDBError) → opens rule first ≡ true → RefusesGroup merge rule first old new e → RefusesNext merge rule (first ∷ old.rows) old new e
   refuses_opened first old new e is h = record {
     read = h.read;
+    handed = h.handed;
     merged = λ alive other. (
       folded_behind merge rule (length (joining rule first old.rows)) old.rows,
       opened first old.rows is ∙ ap (λ (a : Result Row SlateDBError). a ∷ folded_behind merge rule (length (joining rule first old.rows)) old.rows) (h.merged alive other),

@@ -9,7 +9,7 @@ use Rattle.row_laws.specs.Keys.{is_below}
 use Rattle.row_model.specs.Chunks.{Chunk}
 use Rattle.row_model.specs.Fold.{Operator}
 use Rattle.row_model.specs.Rows.{Row, key_cmp, is_operand}
-use Rattle.fleet_iter.specs.Iteration.{IteratorState, AreRising, Moves, Seeks, from_key}
+use Rattle.fleet_iter.specs.Iteration.{IteratorState, AreRising, Moves, Seeks, from_key, is_exact}
 use Rattle.fleet_iter.proofs.RisingRows.{moves_alive, moves_rising}
 use Rattle.fleet_rows.specs.Row.{rows_of}
 use Rattle.fleet_rows.specs.declared.row.RowEntry.{RowEntry}
@@ -152,13 +152,26 @@ module _ (key : List ℕ) (merge : Operator) (rule : GroupRule) (ahead later : O
   R = from_ahead ahead inner
 
   abbrev A : IteratorState
-  A = merging false merge rule ahead inner
+  A = merging None merge rule ahead inner
 
   abbrev B : IteratorState
-  B = merging false merge rule later after
+  B = merging None merge rule later after
 
-  abbrev S : List Row → Bool → Bool → Option SlateDBError → IteratorState
-  S rows initialised whole refusal = record { rows = rows; initialised = initialised; failed = false; whole = whole; refusal = refusal }
+  abbrev S : List Row → Bool → Bool → Bool → Option SlateDBError → IteratorState
+  S rows initialised steady whole refusal = record { rows = rows; initialised = initialised; failure = None; whole = whole; steady = steady; refusal = refusal }
+
+  parts : (a b : Bool) → a && b ≡ true → (a ≡ true) × (b ≡ true)
+  parts true b h = (refl, h)
+  parts false b h = absurd (cc h)
+
+  never : (a b : Bool) → b ≡ false → a && b ≡ false
+  never true b h = h
+  never false b h = refl
+
+  inexact : (a b c : Bool) → a && b ≡ false → a && (b && c) ≡ false
+  inexact true true c h = absurd (cc h)
+  inexact true false c h = refl
+  inexact false b c h = refl
 
   left_over : from_ahead later after ≡ after.rows
   left_over = ap (λ (o : Option RowEntry). rows_of (option_to_list o) ++ after.rows) gone
@@ -166,54 +179,70 @@ module _ (key : List ℕ) (merge : Operator) (rule : GroupRule) (ahead later : O
   through : from_key key R ≡ from_key key inner.rows
   through = seek-through key (rows_of (option_to_list ahead)) inner.rows (sym at ∙ ap (λ (o : Option RowEntry). rows_of (option_to_list o)) gone)
 
-  passes : inner.whole && is_none (folded merge rule R).refusal ≡ false → after.initialised ≡ inner.initialised → AreRising after.rows → Moves (inner.whole && is_none (folded merge rule R).refusal) key A B
+  abbrev W : Bool
+  W = inner.whole && is_none (folded merge rule R).refusal
+
+  passes : inner.steady && W ≡ false → after.initialised ≡ inner.initialised → AreRising after.rows → Moves (inner.steady && W) key A B
   passes was begun rising =
       subst (λ (b : Bool). Moves b key A B) (sym was)
-      (record { initialised = begun; failed = refl; rising = subst (λ (w : List Row). AreRising (folded merge rule w).rows) (sym left_over) (folded_rise merge rule 0 after.rows rising) })
+      (record { initialised = begun; failure = refl; rising = subst (λ (w : List Row). AreRising (folded merge rule w).rows) (sym left_over) (folded_rise merge rule 0 after.rows rising) })
 
-  moved : AreRising inner.rows → (w : Bool) → inner.whole ≡ w → (o : Option SlateDBError) → (folded merge rule R).refusal ≡ o → Moves w key inner after → Moves (inner.whole && is_none (folded merge rule R).refusal) key A B
-  moved rising true ew None eo m =
-      let was : inner.whole && is_none (folded merge rule R).refusal ≡ true = ap (λ (b : Bool). b && is_none (folded merge rule R).refusal) ew ∙ ap is_none eo in
+  moved : AreRising inner.rows → (exact : Bool) → is_exact inner ≡ exact → (o : Option SlateDBError) → (folded merge rule R).refusal ≡ o → Moves exact key inner after → Moves (inner.steady && W) key A B
+  moved rising true exact None eo m =
+      let ew : inner.whole ≡ true = (parts inner.steady inner.whole exact).1 in
+      let w_true : W ≡ true = ap (λ (b : Bool). b && is_none (folded merge rule R).refusal) ew ∙ ap is_none eo in
+      let was : inner.steady && W ≡ true = ap (λ (b : Bool). b && W) (parts inner.steady inner.whole exact).0 ∙ w_true in
       let rows : from_ahead later after ≡ from_key key R = left_over ∙ (ap (λ (s : IteratorState). s.rows) m ∙ sym through) in
       let made : folded merge rule (from_ahead later after) ≡ record { rows = from_key key (folded merge rule R).rows; refusal = None } = ap (folded merge rule) rows ∙ folded_from merge rule key 0 R tt eo in
       let left : B.rows ≡ from_key key A.rows = ap (λ (f : Folded). f.rows) made in
       let begun : after.initialised ≡ inner.initialised = ap (λ (s : IteratorState). s.initialised) m in
+      let steady : after.steady ≡ inner.steady = ap (λ (s : IteratorState). s.steady) m in
       let now : after.whole && is_none (folded merge rule (from_ahead later after)).refusal ≡ true =
       ap (λ (b : Bool). b && is_none (folded merge rule (from_ahead later after)).refusal) (ap (λ (s : IteratorState). s.whole) m ∙ ew) ∙ ap (λ (f : Folded). is_none f.refusal) made in
-      let whole : B.whole ≡ A.whole = now ∙ sym was in
+      let whole : B.whole ≡ A.whole = now ∙ sym w_true in
       let none_left : B.refusal ≡ None =
       ap (λ (b : Bool). if b then (folded merge rule (from_ahead later after)).refusal else None) (ap (λ (s : IteratorState). s.whole) m ∙ ew) ∙ ap (λ (f : Folded). f.refusal) made in
       let none_there : A.refusal ≡ None = ap (λ (b : Bool). if b then (folded merge rule R).refusal else None) ew ∙ eo in
       subst (λ (b : Bool). Moves b key A B) (sym was)
-      (ap (λ (w : List Row). S w after.initialised B.whole B.refusal) left
-      ∙ (ap (λ (b : Bool). S (from_key key A.rows) b B.whole B.refusal) begun
-      ∙ (ap (λ (b : Bool). S (from_key key A.rows) inner.initialised b B.refusal) whole ∙ ap (S (from_key key A.rows) inner.initialised A.whole) (none_left ∙ sym none_there))))
-  moved rising true ew (Some e) eo m =
-      passes (ap (λ (b : Bool). b && is_none (folded merge rule R).refusal) ew ∙ ap is_none eo) (ap (λ (s : IteratorState). s.initialised) m) (moves_rising key inner after true m rising)
-  moved rising false ew o eo m = passes (ap (λ (b : Bool). b && is_none (folded merge rule R).refusal) ew) m.initialised m.rising
+      (ap (λ (w : List Row). S w after.initialised after.steady B.whole B.refusal) left
+      ∙ (ap (λ (b : Bool). S (from_key key A.rows) b after.steady B.whole B.refusal) begun
+      ∙ (ap (λ (b : Bool). S (from_key key A.rows) inner.initialised b B.whole B.refusal) steady
+      ∙ (ap (λ (b : Bool). S (from_key key A.rows) inner.initialised inner.steady b B.refusal) whole ∙ ap (S (from_key key A.rows) inner.initialised inner.steady A.whole) (none_left ∙ sym none_there)))))
+  moved rising true exact (Some e) eo m =
+      passes (never inner.steady W (never inner.whole (is_none (folded merge rule R).refusal) (ap is_none eo))) (ap (λ (s : IteratorState). s.initialised) m) (moves_rising key inner after true m rising)
+  moved rising false exact o eo m = passes (inexact inner.steady inner.whole (is_none (folded merge rule R).refusal) exact) m.initialised m.rising
 
 true_or : (b : Bool) → (b ≡ false → ⊥) → b ≡ true
 true_or true h = refl
 true_or false h = absurd (h refl)
 
-pub seeks_folded : (key : List ℕ) (merge : Operator) (rule : GroupRule) (failed : Bool) (ahead later : Option RowEntry) (inner after : IteratorState) → failed ≡ false → ReadsGroups failed ahead inner
-    → rows_of (option_to_list later) ≡ from_key key (rows_of (option_to_list ahead)) → later ≡ None → Seeks key inner after (Ok tt) → Seeks key (merging failed merge rule ahead inner) (merging failed merge rule later after) (Ok tt)
-seeks_folded key merge rule true ahead later inner after alive k at gone seeks = absurd (cc alive)
-seeks_folded key merge rule false ahead later inner after alive k at gone seeks =
+pub seeks_folded : (key : List ℕ) (merge : Operator) (rule : GroupRule) (failure : Option SlateDBError) (ahead later : Option RowEntry) (inner after : IteratorState) → failure ≡ None → ReadsGroups failure ahead inner
+    → rows_of (option_to_list later) ≡ from_key key (rows_of (option_to_list ahead)) → later ≡ None → Seeks key inner after (Ok tt) → Seeks key (merging failure merge rule ahead inner) (merging failure merge rule later after) (Ok tt)
+seeks_folded key merge rule (Some e) ahead later inner after alive k at gone seeks = absurd (cc alive)
+seeks_folded key merge rule None ahead later inner after alive k at gone seeks =
     let begun : inner.initialised ≡ true = true_or inner.initialised (λ i. let e = (seeks.uninitialised k.0 i).answer in cc e) in
-    let moves : Moves inner.whole key inner after = seeks.answers k.0 begun in
+    let moves : Moves (is_exact inner) key inner after = seeks.answers k.0 begun in
     record {
-      failed = λ q. absurd (cc q);
+      failed = λ q. absurd (q refl);
       uninitialised = λ _ i. let e = sym begun ∙ i in absurd (cc e);
-      answers = λ _ _. moved key merge rule ahead later inner after at gone (rising_back (rows_of (option_to_list ahead)) inner.rows k.2) inner.whole refl (folded merge rule (from_ahead ahead inner)).refusal refl moves;
+      answers = λ _ _. moved key merge rule ahead later inner after at gone (rising_back (rows_of (option_to_list ahead)) inner.rows k.2) (is_exact inner) refl (folded merge rule (from_ahead ahead inner)).refusal refl moves;
     }
 
-pub reads_groups : (key : List ℕ) (failed : Bool) (ahead later : Option RowEntry) (inner after : IteratorState) → ReadsGroups failed ahead inner → later ≡ None → Seeks key inner after (Ok tt) → ReadsGroups failed later after
-reads_groups key true ahead later inner after k gone seeks = tt
-reads_groups key false ahead later inner after k gone seeks =
+pub reads_groups : (key : List ℕ) (failure : Option SlateDBError) (ahead later : Option RowEntry) (inner after : IteratorState) → ReadsGroups failure ahead inner → later ≡ None → Seeks key inner after (Ok tt) → ReadsGroups failure later after
+reads_groups key (Some e) ahead later inner after k gone seeks = tt
+reads_groups key None ahead later inner after k gone seeks =
     let begun : inner.initialised ≡ true = true_or inner.initialised (λ i. let e = (seeks.uninitialised k.0 i).answer in cc e) in
-    let moves : Moves inner.whole key inner after = seeks.answers k.0 begun in (
-      moves_alive key inner after inner.whole moves ∙ k.0,
+    let moves : Moves (is_exact inner) key inner after = seeks.answers k.0 begun in (
+      moves_alive key inner after (is_exact inner) moves ∙ k.0,
       (λ other. absurd (other gone)),
-      subst (λ (o : Option RowEntry). AreRising (rows_of (option_to_list o) ++ after.rows)) (sym gone) (moves_rising key inner after inner.whole moves (rising_back (rows_of (option_to_list ahead)) inner.rows k.2)),
+      subst (λ (o : Option RowEntry). AreRising (rows_of (option_to_list o) ++ after.rows)) (sym gone) (moves_rising key inner after (is_exact inner) moves (rising_back (rows_of (option_to_list ahead)) inner.rows k.2)),
     )
+
+pub reads_alive : (failure : Option SlateDBError) (ahead : Option RowEntry) (inner : IteratorState) → failure ≡ None → ReadsGroups failure ahead inner → inner.failure ≡ None
+reads_alive (Some e) ahead inner alive k = absurd (cc alive)
+reads_alive None ahead inner alive k = k.0
+
+-- one that has failed knows nothing
+pub reads_failed : (failure : Option SlateDBError) (ahead : Option RowEntry) (inner : IteratorState) (e : SlateDBError) → failure ≡ Some e → ReadsGroups failure ahead inner
+reads_failed (Some x) ahead inner e is = tt
+reads_failed None ahead inner e is = absurd (cc is)

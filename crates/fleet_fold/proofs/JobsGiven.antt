@@ -23,7 +23,7 @@ use Rattle.fleet_rows.specs.declared.errors.SlateDBError.{SlateDBError}
 
 module _ (merge : Operator) (lawful : IsLawful merge) (settings : Settings) (inner : IteratorState) (all : inner.whole ≡ true) (ordered : IsStrictlyOrdered inner.rows) where
   abbrev S : IteratorState
-  S = retained false settings [] None (merging false merge (job_rule settings.cut) None inner)
+  S = retained None settings [] None (merging None merge (job_rule settings.cut) None inner)
 
   makes : MakesJob merge settings inner.rows
   makes = folds_make_jobs merge lawful settings inner.rows ordered

@@ -78,15 +78,12 @@ module _ (merge : Operator) (rule : GroupRule) (first : Row) (old : IteratorStat
       let joined = h.joined ∙ ap (λ (w : List Row). h.taken ++ joining rule first w) none in
       record { taken = h.taken; gathers = h.gathers; joined = joined; parts = h.parts ∙ ap (λ (w : List Row). w ++ s.rows) (sym (joined ∙ append-nil h.taken)) }
 
-  clash : {b : Bool} → b ≡ true → b ≡ false → ⊥
-  clash {b} h g = let e : true ≡ false = sym h ∙ g in cc e
-
   -- the inner iterator failed
-  pub refuses_read : (s : IteratorState) (new : IteratorState) (e : SlateDBError) → s.whole ≡ old.whole → new.failed ≡ true → CanFail s.whole e → RefusesGroup merge rule first old new e
-  refuses_read s new e same failed h = record { read = λ _. subst (λ (w : Bool). CanFail w e) same h; merged = λ alive. absurd (clash failed alive) }
+  pub refuses_read : (s : IteratorState) (new : IteratorState) (e : SlateDBError) → s.whole ≡ old.whole → new.failure ≡ Some e → CanFail s.whole e → RefusesGroup merge rule first old new e
+  refuses_read s new e same failed h = record { read = λ _. subst (λ (w : Bool). CanFail w e) same h; handed = λ _ _. failed; merged = λ alive. let clash = sym failed ∙ alive in absurd (cc clash) }
 
   -- an operand was refused
-  pub refuses_operand : (g : Group) (s new : IteratorState) (row : RowEntry) (e : SlateDBError) → s ≡ record new { rows = row_of row ∷ new.rows } → same_group rule g.key g.stamp (row_of row) ≡ true → is_operand (row_of row) ≡ true → new.failed ≡ false
+  pub refuses_operand : (g : Group) (s new : IteratorState) (row : RowEntry) (e : SlateDBError) → s ≡ record new { rows = row_of row ∷ new.rows } → same_group rule g.key g.stamp (row_of row) ≡ true → is_operand (row_of row) ≡ true → new.failure ≡ None
       → JoinsSoFar merge rule first old g s → RefusesAdd merge g (row_of row) e → RefusesGroup merge rule first old new e
   refuses_operand g s new row e next takes operand alive h refuses =
       let q = row_of row in
@@ -94,6 +91,7 @@ module _ (merge : Operator) (rule : GroupRule) (first : Row) (old : IteratorStat
       let joined : joining rule first old.rows ≡ h.taken ++ q ∷ later =
       h.joined ∙ (ap (λ (t : IteratorState). h.taken ++ joining rule first t.rows) next ∙ ap (λ (w : List Row). h.taken ++ w) (joining_one rule first q new.rows true true (own_test g h.taken q true h.gathers takes) operand)) in
       record {
-        read = λ failed. absurd (clash failed alive);
+        read = λ failed. absurd (failed alive);
+        handed = λ failed. absurd (failed alive);
         merged = λ _ other. ap (λ (rows : List Row). merged_group merge (first, rows)) joined ∙ refuses first h.taken later h.gathers other;
       }

@@ -116,10 +116,11 @@ key_kept settings whole ahead later old new rows kept turned h same is back =
     ∙ ap (λ (w : List Row). w ++ kept_given settings whole (from_ahead later new)) (sym is ∙ ap (λ (w : List RowEntry). rows_of w) (sym back)))
 
 -- reading is refused before any row is kept
-pub fill_refused : (settings : Settings) (buffer left : List RowEntry) (ahead later : Option RowEntry) (old s : IteratorState) (e : SlateDBError) → RefusesKey later s e → s.whole ≡ old.whole → s.refusal ≡ old.refusal
-    → rows_of buffer ++ kept_given settings old.whole (from_ahead ahead old) ≡ rows_of left ++ kept_given settings old.whole (from_ahead later s) → left ≡ [] → RefusesFill settings buffer ahead old e
-fill_refused settings buffer left ahead later old s e refuses whole refusal so_far empty = record {
+pub fill_refused : (settings : Settings) (buffer left : List RowEntry) (ahead later : Option RowEntry) (old s new : IteratorState) (e : SlateDBError) → RefusesKey later s new e → s.whole ≡ old.whole → s.refusal ≡ old.refusal
+    → rows_of buffer ++ kept_given settings old.whole (from_ahead ahead old) ≡ rows_of left ++ kept_given settings old.whole (from_ahead later s) → left ≡ [] → RefusesFill settings buffer ahead old new e
+fill_refused settings buffer left ahead later old s new e refuses whole refusal so_far empty = record {
   cause = subst (λ (w : Bool). CanFail w e) whole refuses.cause;
+  handed = refuses.handed;
   known = λ behind is other. let (alike, same) = refuses.known behind (refusal ∙ is) other in
       (so_far ∙ (ap (λ (w : List RowEntry). rows_of w ++ kept_given settings old.whole (from_ahead later s)) empty ∙ by old.whole refl other alike), same);
 }

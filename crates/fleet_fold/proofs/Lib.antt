@@ -18,6 +18,7 @@ pub mod JobsLast
 pub mod JobsOfKey
 pub mod JobsRefused
 pub mod Joining
+pub mod KeptNexts
 pub mod KeptRows
 pub mod Keys
 pub mod Plain

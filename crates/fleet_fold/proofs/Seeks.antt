@@ -1,20 +1,26 @@
 -- What a seek in retention answers.
-use Rattle.std.proofs.Common.{◌≡◌, ◌∙◌, sym, refl, ap, subst, ℕ, List, [], ◌∷◌, ◌++◌, Bool, true, false, Option, Some, None, Ok}
+use Rattle.std.proofs.Common.{◌≡◌, ◌∙◌, sym, refl, ap, subst, ℕ, List, [], ◌∷◌, ◌++◌, ◌&&◌, Bool, true, false, Option, Some, None, Ok, Err}
 use Rattle.std.specs.Option.{option_to_list}
 use Rattle.row_model.specs.KeptRows.{kept_of_keys}
 use Rattle.row_model.specs.Rows.{Row}
 use Rattle.row_model.specs.Settings.{Settings}
-use Rattle.fleet_iter.specs.Iteration.{IteratorState, AreRising, from_key, Moves, Seeks}
+use Rattle.fleet_iter.specs.Iteration.{IteratorState, AreRising, CanFail, IsKnown, KeepsRefusal, from_key, is_exact, Moves, Nexts, Seeks}
+use Rattle.fleet_iter.proofs.Failures.{next_refused, seek_refused}
 use Rattle.fleet_iter.proofs.RisingRows.{moves_on, moves_alive, moves_rising, rising_from}
 use Rattle.fleet_rows.specs.Row.{rows_of}
 use Rattle.fleet_rows.specs.declared.row.RowEntry.{RowEntry}
+use Rattle.fleet_rows.specs.declared.errors.SlateDBError.{SlateDBError}
 use Rattle.fleet_fold.specs.Retention.{kept_given, from_ahead, retained, ReadsOn, Knows}
 use Rattle.fleet_fold.proofs.Keys.{sought, seek-through, seek-within, rising_back}
 use Rattle.fleet_fold.proofs.Rising.{given_rise}
 
-pub known : (failed : Bool) (buffer : List RowEntry) (ahead : Option RowEntry) (inner : IteratorState) → failed ≡ false → Knows failed buffer ahead inner → ReadsOn buffer ahead inner
-known true buffer ahead inner e h = absurd (cc e)
-known false buffer ahead inner e h = h
+pub known : (failure : Option SlateDBError) (buffer : List RowEntry) (ahead : Option RowEntry) (inner : IteratorState) → failure ≡ None → Knows failure buffer ahead inner → ReadsOn buffer ahead inner
+known (Some x) buffer ahead inner e h = absurd (cc e)
+known None buffer ahead inner e h = h
+
+second : (a b : Bool) → a && b ≡ true → b ≡ true
+second true b h = h
+second false b h = absurd (cc h)
 
 apart : (b : Bool) → b ≡ true → b ≡ false → ⊥
 apart true h g = cc g
@@ -24,7 +30,7 @@ true_or : (b : Bool) → (b ≡ false → ⊥) → b ≡ true
 true_or true h = refl
 true_or false h = absurd (h refl)
 
-module _ (key : List ℕ) (settings : Settings) (failed : Bool) (alive : failed ≡ false) where
+module _ (key : List ℕ) (settings : Settings) (failure : Option SlateDBError) (alive : failure ≡ None) where
   abbrev K : List Row → List Row
   K = kept_of_keys settings
 
@@ -39,18 +45,18 @@ module _ (key : List ℕ) (settings : Settings) (failed : Bool) (alive : failed 
   none_of (r ∷ left) h = absurd (cc h)
 
   same_state : (inner : IteratorState) (xs ys : List Row) → xs ≡ ys
-      → ◌≡◌ {A = IteratorState} (record { rows = xs; initialised = inner.initialised; failed = failed; whole = inner.whole; refusal = inner.refusal })
-      (record { rows = ys; initialised = inner.initialised; failed = failed; whole = inner.whole; refusal = inner.refusal })
-  same_state inner xs ys e = ap (λ (w : List Row). record { rows = w; initialised = inner.initialised; failed = failed; whole = inner.whole; refusal = inner.refusal }) e
+      → ◌≡◌ {A = IteratorState} (record { rows = xs; initialised = inner.initialised; failure = failure; whole = inner.whole; steady = inner.steady; refusal = inner.refusal })
+      (record { rows = ys; initialised = inner.initialised; failure = failure; whole = inner.whole; steady = inner.steady; refusal = inner.refusal })
+  same_state inner xs ys e = ap (λ (w : List Row). record { rows = w; initialised = inner.initialised; failure = failure; whole = inner.whole; steady = inner.steady; refusal = inner.refusal }) e
 
-  pub in_buffer : (buffer left : List RowEntry) (ahead : Option RowEntry) (inner : IteratorState) → ReadsOn buffer ahead inner → rows_of left ≡ from_key key (rows_of buffer) → (left ≡ [] → ⊥) → AreRising (retained failed settings buffer ahead inner).rows
-      → Seeks key (retained failed settings buffer ahead inner) (retained failed settings left ahead inner) (Ok tt)
+  pub in_buffer : (buffer left : List RowEntry) (ahead : Option RowEntry) (inner : IteratorState) → ReadsOn buffer ahead inner → rows_of left ≡ from_key key (rows_of buffer) → (left ≡ [] → ⊥) → AreRising (retained failure settings buffer ahead inner).rows
+      → Seeks key (retained failure settings buffer ahead inner) (retained failure settings left ahead inner) (Ok tt)
   in_buffer buffer left ahead inner knows is some rising =
       let kept : List Row = kept_given settings inner.whole (from_ahead ahead inner) in
       record {
-        failed = λ q. absurd (apart failed q alive);
+        failed = λ q. absurd (q alive);
         uninitialised = λ q i. absurd (apart inner.initialised (knows.begun (was_some buffer left is some)) i);
-        answers = λ q i. moves_on key (retained failed settings buffer ahead inner) (retained failed settings left ahead inner) rising
+        answers = λ q i. moves_on key (retained failure settings buffer ahead inner) (retained failure settings left ahead inner) rising
             (same_state inner (rows_of left ++ kept) (from_key key (rows_of buffer ++ kept))
             (ap (λ (w : List Row). w ++ kept) is ∙ sym (seek-within key (rows_of buffer) kept (λ none. some (none_of left (is ∙ none))))));
       }
@@ -83,63 +89,122 @@ module _ (key : List ℕ) (settings : Settings) (failed : Bool) (alive : failed 
     rises whole rows rising = subst (λ (w : List RowEntry). AreRising (rows_of w ++ kept_given settings whole rows)) (sym none) (given_rise settings whole rows rising)
 
     -- a row that was read ahead stays
-    pub at_ahead : rows_of (option_to_list later) ≡ from_key key (rows_of (option_to_list ahead)) → (later ≡ None → ⊥) → AreRising (retained failed settings buffer ahead inner).rows
-        → Seeks key (retained failed settings buffer ahead inner) (retained failed settings left later inner) (Ok tt)
+    pub at_ahead : rows_of (option_to_list later) ≡ from_key key (rows_of (option_to_list ahead)) → (later ≡ None → ⊥) → AreRising (retained failure settings buffer ahead inner).rows
+        → Seeks key (retained failure settings buffer ahead inner) (retained failure settings left later inner) (Ok tt)
     at_ahead at some rising = record {
-      failed = λ q. absurd (apart failed q alive);
+      failed = λ q. absurd (q alive);
       uninitialised = λ q i. absurd (apart inner.initialised (knows.ahead_begun (was_ahead ahead later at some)) i);
-      answers = λ q i. by inner.whole refl;
+      answers = λ q i. by (is_exact inner) refl;
     }
       where
         from : from_ahead later inner ≡ from_key key (from_ahead ahead inner)
         from = ap (λ (w : List Row). w ++ inner.rows) at ∙ sym (seek-within key (rows_of (option_to_list ahead)) inner.rows (λ empty. some (none_ahead later (at ∙ empty))))
 
-        by : (whole : Bool) → inner.whole ≡ whole → Moves inner.whole key (retained failed settings buffer ahead inner) (retained failed settings left later inner)
+        by : (exact : Bool) → is_exact inner ≡ exact → Moves (is_exact inner) key (retained failure settings buffer ahead inner) (retained failure settings left later inner)
         by true e =
-            moves_on key (retained failed settings buffer ahead inner) (retained failed settings left later inner) rising
-            (same_state inner (rows_of left ++ kept_given settings inner.whole (from_ahead later inner)) (from_key key (rows_of buffer ++ kept_given settings inner.whole (from_ahead ahead inner))) (told (from_ahead later inner) e from))
+            moves_on key (retained failure settings buffer ahead inner) (retained failure settings left later inner) rising
+            (same_state inner (rows_of left ++ kept_given settings inner.whole (from_ahead later inner)) (from_key key (rows_of buffer ++ kept_given settings inner.whole (from_ahead ahead inner))) (told (from_ahead later inner) (second inner.steady inner.whole e) from))
         by false e =
-            subst (λ w. Moves w key (retained failed settings buffer ahead inner) (retained failed settings left later inner)) (sym e)
-            (record { initialised = refl; failed = refl; rising = rises inner.whole (from_ahead later inner) (subst AreRising (sym from) (rising_from key (from_ahead ahead inner) knows.rising)) })
+            subst (λ w. Moves w key (retained failure settings buffer ahead inner) (retained failure settings left later inner)) (sym e)
+            (record { initialised = refl; failure = refl; rising = rises inner.whole (from_ahead later inner) (subst AreRising (sym from) (rising_from key (from_ahead ahead inner) knows.rising)) })
 
     -- the inner iterator moved on
-    moved : (after : IteratorState) → rows_of (option_to_list later) ≡ from_key key (rows_of (option_to_list ahead)) → later ≡ None → AreRising (retained failed settings buffer ahead inner).rows
-        → (whole : Bool) → inner.whole ≡ whole → Moves whole key inner after → Moves inner.whole key (retained failed settings buffer ahead inner) (retained failed settings left later after)
+    moved : (after : IteratorState) → rows_of (option_to_list later) ≡ from_key key (rows_of (option_to_list ahead)) → later ≡ None → AreRising (retained failure settings buffer ahead inner).rows
+        → (exact : Bool) → is_exact inner ≡ exact → Moves exact key inner after → Moves (is_exact inner) key (retained failure settings buffer ahead inner) (retained failure settings left later after)
     moved after at gone rising true e moves =
-        moves_on key (retained failed settings buffer ahead inner) (retained failed settings left later after) rising
-        (ap (λ (s : IteratorState). retained failed settings left later s) moves
+        moves_on key (retained failure settings buffer ahead inner) (retained failure settings left later after) rising
+        (ap (λ (s : IteratorState). retained failure settings left later s) moves
         ∙ same_state inner (rows_of left ++ kept_given settings inner.whole (rows_of (option_to_list later) ++ from_key key inner.rows)) (from_key key (rows_of buffer ++ kept_given settings inner.whole (from_ahead ahead inner)))
-        (told (rows_of (option_to_list later) ++ from_key key inner.rows) e
+        (told (rows_of (option_to_list later) ++ from_key key inner.rows) (second inner.steady inner.whole e)
         (ap (λ (o : Option RowEntry). rows_of (option_to_list o) ++ from_key key inner.rows) gone
         ∙ sym (seek-through key (rows_of (option_to_list ahead)) inner.rows (sym at ∙ ap (λ (o : Option RowEntry). rows_of (option_to_list o)) gone)))))
     moved after at gone rising false e moves =
         let left_over : from_ahead later after ≡ after.rows = ap (λ (o : Option RowEntry). rows_of (option_to_list o) ++ after.rows) gone in
-        subst (λ w. Moves w key (retained failed settings buffer ahead inner) (retained failed settings left later after)) (sym e)
-        (record { initialised = moves.initialised; failed = refl; rising = rises after.whole (from_ahead later after) (subst AreRising (sym left_over) moves.rising) })
+        subst (λ w. Moves w key (retained failure settings buffer ahead inner) (retained failure settings left later after)) (sym e)
+        (record { initialised = moves.initialised; failure = refl; rising = rises after.whole (from_ahead later after) (subst AreRising (sym left_over) moves.rising) })
 
   -- a seek that succeeded had an initialised iterator
-  was_initialised : (inner after : IteratorState) → inner.failed ≡ false → Seeks key inner after (Ok tt) → inner.initialised ≡ true
+  was_initialised : (inner after : IteratorState) → inner.failure ≡ None → Seeks key inner after (Ok tt) → inner.initialised ≡ true
   was_initialised inner after clean seeks = true_or inner.initialised (λ i. let e = (seeks.uninitialised clean i).answer in cc e)
 
   pub in_inner : (buffer left : List RowEntry) (ahead later : Option RowEntry) (inner after : IteratorState) → ReadsOn buffer ahead inner → rows_of left ≡ from_key key (rows_of buffer) → left ≡ []
-      → rows_of (option_to_list later) ≡ from_key key (rows_of (option_to_list ahead)) → later ≡ None → AreRising (retained failed settings buffer ahead inner).rows → Seeks key inner after (Ok tt)
-      → Seeks key (retained failed settings buffer ahead inner) (retained failed settings left later after) (Ok tt)
+      → rows_of (option_to_list later) ≡ from_key key (rows_of (option_to_list ahead)) → later ≡ None → AreRising (retained failure settings buffer ahead inner).rows → Seeks key inner after (Ok tt)
+      → Seeks key (retained failure settings buffer ahead inner) (retained failure settings left later after) (Ok tt)
   in_inner buffer left ahead later inner after knows is none at gone rising seeks =
       let begun = was_initialised inner after knows.alive seeks in
       record {
-        failed = λ q. absurd (apart failed q alive);
+        failed = λ q. absurd (q alive);
         uninitialised = λ q i. absurd (apart inner.initialised begun i);
-        answers = λ q i. moved buffer left ahead later inner knows is none after at gone rising inner.whole refl (seeks.answers knows.alive begun);
+        answers = λ q i. moved buffer left ahead later inner knows is none after at gone rising (is_exact inner) refl (seeks.answers knows.alive begun);
       }
 
   pub in_inner_sound : (buffer left : List RowEntry) (ahead later : Option RowEntry) (inner after : IteratorState) → ReadsOn buffer ahead inner → left ≡ [] → later ≡ None → Seeks key inner after (Ok tt) → ReadsOn left later after
   in_inner_sound buffer left ahead later inner after knows none gone seeks =
       let begun = was_initialised inner after knows.alive seeks in
-      let moves : Moves inner.whole key inner after = seeks.answers knows.alive begun in
+      let moves : Moves (is_exact inner) key inner after = seeks.answers knows.alive begun in
       record {
-        alive = moves_alive key inner after inner.whole moves ∙ knows.alive;
+        alive = moves_alive key inner after (is_exact inner) moves ∙ knows.alive;
         begun = λ other. absurd (other none);
         ahead_begun = λ other. absurd (other gone);
         rising = subst (λ (o : Option RowEntry). AreRising (rows_of (option_to_list o) ++ after.rows)) (sym gone)
-            (moves_rising key inner after inner.whole moves (rising_back (rows_of (option_to_list ahead)) inner.rows knows.rising));
+            (moves_rising key inner after (is_exact inner) moves (rising_back (rows_of (option_to_list ahead)) inner.rows knows.rising));
       }
+
+-- ---- a refusal of the inner iterator
+
+empty_of : (buffer : List RowEntry) → ((buffer ≡ [] → ⊥) → ⊥) → buffer ≡ []
+empty_of [] h = refl
+empty_of (r ∷ buffer) h = absurd (h (λ none. cc none))
+
+none_of_rows : (rows : List RowEntry) → rows_of rows ≡ [] → rows ≡ []
+none_of_rows [] h = refl
+none_of_rows (r ∷ rows) h = absurd (cc h)
+
+nothing_of : (ahead : Option RowEntry) → ((ahead ≡ None → ⊥) → ⊥) → ahead ≡ None
+nothing_of None h = refl
+nothing_of (Some r) h = absurd (h (λ none. cc none))
+
+nothing_of_rows : (ahead : Option RowEntry) → rows_of (option_to_list ahead) ≡ [] → ahead ≡ None
+nothing_of_rows None h = refl
+nothing_of_rows (Some r) h = absurd (cc h)
+
+clash : (b : Bool) → b ≡ true → b ≡ false → ⊥
+clash true h g = cc g
+clash false h g = cc h
+
+module _ (settings : Settings) (failure kept : Option SlateDBError) (buffer : List RowEntry) (ahead : Option RowEntry) (inner after : IteratorState) (e answer : SlateDBError) (alive : failure ≡ None) (knows : ReadsOn buffer ahead inner) (keeps : KeepsRefusal e failure kept answer) where
+  pub seek_refused_kept : (key : List ℕ) (left : List RowEntry) (later : Option RowEntry) → rows_of left ≡ from_key key (rows_of buffer) → rows_of (option_to_list later) ≡ from_key key (rows_of (option_to_list ahead))
+      → Seeks key inner after (Err e) → Seeks key (retained failure settings buffer ahead inner) (retained kept settings left later after) (Err answer)
+  seek_refused_kept key left later is at seeks =
+      seek_refused (retained failure settings buffer ahead inner) (retained kept settings left later after) inner after e answer alive knows.alive keeps refl stays key (λ exact. exact) seeks
+    where
+      stays : inner.initialised ≡ false → after ≡ inner → kept ≡ failure → retained kept settings left later after ≡ retained failure settings buffer ahead inner
+      stays begun same none =
+          let empty : buffer ≡ [] = empty_of buffer (λ some. clash inner.initialised (knows.begun some) begun) in
+          let gone : left ≡ [] = none_of_rows left (is ∙ ap (λ (w : List RowEntry). from_key key (rows_of w)) empty) in
+          let nothing : ahead ≡ None = nothing_of ahead (λ some. clash inner.initialised (knows.ahead_begun some) begun) in
+          let gone_too : later ≡ None = nothing_of_rows later (at ∙ ap (λ (o : Option RowEntry). from_key key (rows_of (option_to_list o))) nothing) in
+          ap (λ (f : Option SlateDBError). retained f settings left later after) none
+          ∙ (ap (λ (s : IteratorState). retained failure settings left later s) same
+          ∙ (ap (λ (w : List RowEntry). retained failure settings w later inner) (gone ∙ sym empty)
+          ∙ ap (λ (o : Option RowEntry). retained failure settings buffer o inner) (gone_too ∙ sym nothing)))
+
+  pub next_refused_kept : buffer ≡ [] → ahead ≡ None → Nexts inner after (Err e) → Nexts (retained failure settings buffer ahead inner) (retained kept settings buffer ahead after) (Err answer)
+  next_refused_kept empty nothing nexts =
+      next_refused (retained failure settings buffer ahead inner) (retained kept settings buffer ahead after) inner after e answer alive knows.alive keeps refl stays (λ whole. whole) known nexts
+    where
+      stays : inner.initialised ≡ false → after ≡ inner → kept ≡ failure → retained kept settings buffer ahead after ≡ retained failure settings buffer ahead inner
+      stays begun same none = ap (λ (f : Option SlateDBError). retained f settings buffer ahead after) none ∙ ap (λ (s : IteratorState). retained failure settings buffer ahead s) same
+
+      known : IsKnown inner e → CanFail inner.whole e → IsKnown (retained failure settings buffer ahead inner) e
+      known told cause behind is other =
+          let (none, as_told) = told behind is other in (
+            ap (λ (w : List RowEntry). rows_of w ++ kept_given settings inner.whole (from_ahead ahead inner)) empty
+                ∙ (ap (λ (o : Option RowEntry). kept_given settings inner.whole (rows_of (option_to_list o) ++ inner.rows)) nothing
+                ∙ (ap (kept_given settings inner.whole) none ∙ by inner.whole refl)),
+            as_told,
+          )
+        where
+          by : (w : Bool) → inner.whole ≡ w → kept_given settings w [] ≡ []
+          by true whole = absurd (other (cause.memory whole))
+          by false whole = refl

@@ -6,7 +6,7 @@ use Rattle.row_model.specs.Fold.{Operator, fold_bytes}
 use Rattle.row_model.specs.FoldedRows.{greater_stamp, group_operands, greatest_created}
 use Rattle.row_model.specs.Rows.{Row, Content, is_operand}
 use Rattle.row_laws.specs.Batches.{batches}
-use Rattle.fleet_iter.specs.Iteration.{IteratorState, AreRising, CanFail}
+use Rattle.fleet_iter.specs.Iteration.{IteratorState, AreRising, CanFail, IsHandedOn}
 use Rattle.fleet_rows.specs.Row.{row_of, rows_of}
 use Rattle.fleet_rows.specs.declared.row.RowEntry.{RowEntry}
 use Rattle.fleet_rows.specs.declared.errors.SlateDBError.{SlateDBError}
@@ -142,13 +142,15 @@ pub record TakesRows (merge : Operator) (rule : GroupRule) (g : Group) (old : It
   pub plain : IsPlain base
   pub readable : IsReadable new
   pub whole : new.whole ≡ old.whole
+  pub steady : new.steady ≡ old.steady
 
 -- ---- refusals in the midst of reading
 
 -- the inner iterator failed, or answers were as refused
 pub record RefusesReading {A : Type 0} (answer : Result A SlateDBError) (old new : IteratorState) (e : SlateDBError) : Type 0 where
-  pub read : new.failed ≡ true → CanFail old.whole e
-  pub merged : new.failed ≡ false → RefusesAs answer e
+  pub read : new.failure ≢ None → CanFail old.whole e
+  pub handed : new.failure ≢ None → IsHandedOn new e
+  pub merged : new.failure ≡ None → RefusesAs answer e
 
 -- a group that a row opens
 abbrev pub RefusesGroup : Operator → GroupRule → Row → IteratorState → IteratorState → SlateDBError → Type 0
@@ -163,15 +165,18 @@ pub record FoldsGroup (merge : Operator) (rule : GroupRule) (first : Row) (old :
   pub parts : old.rows ≡ joining rule first old.rows ++ from_ahead later new
   pub readable : IsReadable new
   pub whole : new.whole ≡ old.whole
+  pub steady : new.steady ≡ old.steady
 
 -- the first row that is made of a row and those behind it
 pub record Folds (merge : Operator) (rule : GroupRule) (first : Row) (old : IteratorState) (r : Row) (later : Option RowEntry) (new : IteratorState) : Type 0 where
   pub rows : folded_behind merge rule 0 (first ∷ old.rows) ≡ Ok r ∷ folded_behind merge rule 0 (from_ahead later new)
   pub readable : IsReadable new
   pub whole : new.whole ≡ old.whole
+  pub steady : new.steady ≡ old.steady
   pub rising : AreRising old.rows → AreRising (from_ahead later new)
 
 -- what refuses the first answer of these rows
 pub record RefusesNext (merge : Operator) (rule : GroupRule) (rows : List Row) (old new : IteratorState) (e : SlateDBError) : Type 0 where
-  pub read : new.failed ≡ true → CanFail old.whole e
-  pub merged : new.failed ≡ false → e ≢ Memory → (others : List (Result Row SlateDBError)) × (folded_behind merge rule 0 rows ≡ Err e ∷ others)
+  pub read : new.failure ≢ None → CanFail old.whole e
+  pub handed : new.failure ≢ None → IsHandedOn new e
+  pub merged : new.failure ≡ None → e ≢ Memory → (others : List (Result Row SlateDBError)) × (folded_behind merge rule 0 rows ≡ Err e ∷ others)

@@ -120,7 +120,7 @@ KeepsReads merge settings rows s = s.whole ≡ true → (key : List ℕ) (seq : 
 -- It was not used yet.
 pub record IsReady (inner s : IteratorState) : Type 0 where
   pub initialised : s.initialised ≡ inner.initialised
-  pub alive : s.failed ≡ false
+  pub alive : s.failure ≡ None
   pub rising : AreRising s.rows
 
 -- What gives a job's rows keeps reads.

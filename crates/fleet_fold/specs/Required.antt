@@ -1,7 +1,7 @@
 -- Rows without operands.
-use Rattle.std.specs.Prelude.{◌≡◌, List, [], ◌∷◌, Option, Some, None, Bool, true, false, not, ◌&&◌, Result, Err, if◌then◌else◌, ⊤}
+use Rattle.std.specs.Prelude.{◌≡◌, ◌≢◌, ℕ, List, [], ◌∷◌, Option, Some, None, Bool, true, false, not, ◌&&◌, Result, Err, if◌then◌else◌, ⊤}
 use Rattle.row_model.specs.Rows.{Row, is_operand}
-use Rattle.fleet_iter.specs.Iteration.{IteratorState, AreRising}
+use Rattle.fleet_iter.specs.Iteration.{IteratorState, AreRising, IsHandedOn, SoughtThrough}
 use Rattle.fleet_rows.specs.declared.row.RowEntry.{RowEntry}
 use Rattle.fleet_rows.specs.declared.errors.SlateDBError.{SlateDBError}
 use Rattle.fleet_rows.specs.declared.errors.SlateDBError.TheVariants.{MergeOperatorMissing}
@@ -17,20 +17,20 @@ has_operand [] = false
 has_operand (r ∷ rows) = if is_operand r then true else has_operand rows
 
 -- the rows that are given; an operand keeps back those behind it, and is refused
-abbrev pub without_operands : Bool → IteratorState → IteratorState
-without_operands failed inner =
-    record { rows = before_operand inner.rows; initialised = inner.initialised; failed = failed; whole = inner.whole && not (has_operand inner.rows); refusal = if inner.whole && has_operand inner.rows then Some MergeOperatorMissing else None }
+abbrev pub without_operands : Option SlateDBError → IteratorState → IteratorState
+without_operands failure inner =
+    record { rows = before_operand inner.rows; initialised = inner.initialised; failure = failure; whole = inner.whole && not (has_operand inner.rows); steady = inner.steady; refusal = if inner.whole && has_operand inner.rows then Some MergeOperatorMissing else None }
 
 -- what holds of the inner iterator until a call fails
-abbrev pub ReadsPlain : Bool → IteratorState → Type 0
-ReadsPlain true inner = ⊤
-ReadsPlain false inner = (inner.failed ≡ false) × AreRising inner.rows
+abbrev pub ReadsPlain : Option SlateDBError → IteratorState → Type 0
+ReadsPlain (Some e) inner = ⊤
+ReadsPlain None inner = (inner.failure ≡ None) × AreRising inner.rows
 
 abbrev pub state_of : {T : Type 0} → (T → IteratorState) → MergeOperatorRequiredIterator T → IteratorState
-state_of state r = without_operands r.failed (state r.delegate)
+state_of state r = without_operands r.failure (state r.delegate)
 
 abbrev pub IsSound : {T : Type 0} → (T → Type 0) → (T → IteratorState) → MergeOperatorRequiredIterator T → Type 0
-IsSound sound state r = sound r.delegate × ReadsPlain r.failed (state r.delegate)
+IsSound sound state r = sound r.delegate × ReadsPlain r.failure (state r.delegate)
 
 abbrev pub starts_with_operand : List Row → Bool
 starts_with_operand [] = false
@@ -38,5 +38,10 @@ starts_with_operand (r ∷ rows) = is_operand r
 
 -- An operator is missed exactly where the next row is an operand, unless the inner iterator failed in this call.
 pub record MissesOperator (rows : List Row) (old inner : IteratorState) (answer : Result (Option RowEntry) SlateDBError) : Type 0 where
-  pub cause : answer ≡ Err MergeOperatorMissing → inner.failed ≡ false → starts_with_operand rows ≡ true
-  pub comes : old.failed ≡ false → old.initialised ≡ true → inner.failed ≡ false → starts_with_operand rows ≡ true → answer ≡ Err MergeOperatorMissing
+  pub cause : answer ≡ Err MergeOperatorMissing → inner.failure ≡ None → starts_with_operand rows ≡ true
+  pub handed : old.failure ≡ None → old.initialised ≡ true → (e : SlateDBError) → answer ≡ Err e → e ≢ MergeOperatorMissing → IsHandedOn inner e
+  pub comes : old.failure ≡ None → old.initialised ≡ true → inner.failure ≡ None → starts_with_operand rows ≡ true → answer ≡ Err MergeOperatorMissing
+
+-- What a seek leaves.
+abbrev pub Sought : {T : Type 0} → (T → IteratorState) → (T → List ℕ → IteratorState → Type 0) → MergeOperatorRequiredIterator T → List ℕ → IteratorState → Type 0
+Sought state sought r key new = SoughtThrough (sought r.delegate) (without_operands None) (state r.delegate) key new

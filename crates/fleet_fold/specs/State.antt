@@ -1,12 +1,16 @@
 -- What a retention iterator has left, and what holds inside it.
-use Rattle.std.specs.Prelude.{reverse}
+use Rattle.std.specs.Prelude.{ℕ, List, reverse}
 use Rattle.fleet_iter.specs.Iteration.{IteratorState}
 use Rattle.fleet_fold.specs.declared.retention.RetentionIterator.{RetentionIterator}
 use Rattle.fleet_rows.specs.Settings.{settings_of}
-use Rattle.fleet_fold.specs.Retention.{retained, Knows}
+use Rattle.fleet_fold.specs.Retention.{retained, Knows, SeeksKept}
 
 abbrev pub state_of : {T : Type 0} → (T → IteratorState) → RetentionIterator T → IteratorState
-state_of state r = retained r.failed (settings_of r.settings) (reverse r.buffer.items) r.ahead (state r.inner)
+state_of state r = retained r.failure (settings_of r.settings) (reverse r.buffer.items) r.ahead (state r.inner)
 
 abbrev pub IsSound : {T : Type 0} → (T → Type 0) → (T → IteratorState) → RetentionIterator T → Type 0
-IsSound sound state r = sound r.inner × Knows r.failed (reverse r.buffer.items) r.ahead (state r.inner)
+IsSound sound state r = sound r.inner × Knows r.failure (reverse r.buffer.items) r.ahead (state r.inner)
+
+-- what a seek leaves
+abbrev pub Sought : {T : Type 0} → (T → IteratorState) → (T → List ℕ → IteratorState → Type 0) → RetentionIterator T → List ℕ → IteratorState → Type 0
+Sought state sought r key new = SeeksKept (sought r.inner) (settings_of r.settings) (reverse r.buffer.items) r.ahead (state r.inner) key new

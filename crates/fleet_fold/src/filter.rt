@@ -27,7 +27,7 @@ impl CompactionFilterDecision {
 }
 
 /// What a filter is made for.
-#[derive(Clone, Copy, Debug)]
+#[derive(Clone, Copy, Debug, PartialEq, Eq)]
 pub struct CompactionJobContext {
     /// The run that the job writes.
     pub destination: u32,
@@ -61,7 +61,7 @@ pub trait CompactionFilter: Send + Sync + Drop {
         ensures later { IfOk result (λ _. GoesOn (row_of entry.now) (answers self.old) (closing self.old) (answers self.new) (closing self.new)) }
         ensures open { is_closed self.new ≡ false };
 
-    /// Called once, behind the last row.
+    /// Called once, behind the last row. It is not called where the rows do not come to their end.
     fn on_compaction_end(&mut self, alloc: Global) -> Result<(), CompactionFilterError>
         requires { is_closed self.old ≡ false }
         ensures answer { IsTold (closing self.old []) result }
@@ -82,6 +82,7 @@ pub trait CompactionFilterSupplier: Send + Sync {
 }
 
 /// A filter as the functions of an adapter take it, which need not send it to another thread. Each `CompactionFilter` is one.
+/// docs/DECISIONS.md says why its methods stand here once more.
 pub trait RowFilter {
     ghost answers: { Self → Answers };
 

@@ -1,12 +1,14 @@
 // Filters as someone hands them in.
 ghost use Rattle.std.specs.Prelude.{◌≡◌, false};
 
+use crate::test_text::list;
+use crate::tests::Failing;
 use crate::{
     CompactionFilter, CompactionFilterDecision, CompactionFilterIterator, CompactionFilterSupplier,
     CompactionJobContext,
 };
 use bytes::Bytes;
-use fleet_iter::ListIterator;
+use fleet_iter::{ListIterator, RowEntryIterator, are_rising};
 use fleet_rows::{CompactionFilterError, RowEntry, SlateDBError, Text, ValueDeletable};
 use std::alloc::Global;
 use std::test::Fail;
@@ -146,6 +148,9 @@ fn left<F: CompactionFilter>(
     for key in keys {
         rows.push(value_row(alloc, key, 1)?)?;
     }
+    if !are_rising(&rows) {
+        return Err(SlateDBError::InvalidDBState);
+    }
     let mut source = CompactionFilterIterator::new(ListIterator::new(rows), filter);
     source.init(alloc)?;
     let mut left = Vec::new(alloc);
@@ -170,7 +175,7 @@ fn leaves_out_a_prefix(rt: HostRuntime) -> Result<(), Fail> {
         prefix: Bytes::copy_from_slice(alloc, b"drop:")?,
         closed: false,
     };
-    let keys = ["drop:key1", "keep:key2", "drop:key3", "keep:key4"];
+    let keys = ["drop:key1", "drop:key3", "keep:key2", "keep:key4"];
     let rows = left(alloc, &keys, filter)?;
     assert_eq!(rt; rows.len(), 2);
     for (row, key) in rows.iter().zip(["keep:key2", "keep:key4"]) {
@@ -213,6 +218,25 @@ fn refused(alloc: Global, filter: Refusing) -> Result<bool, SlateDBError>
         answer,
         Err(SlateDBError::CompactionFilter(CompactionFilterError::FilterError(_)))
     ))
+}
+
+#[test]
+fn fails_as_its_rows_do(rt: HostRuntime) -> Result<(), Fail> {
+    let alloc = rt.alloc();
+    let failing = Failing {
+        list: list(alloc, Some("a:v:1:3:-:-,b:v:2:2:-:-"))?,
+        failed: false,
+    };
+    let filter = WithoutPrefix {
+        prefix: Bytes::copy_from_slice(alloc, b"a")?,
+        closed: false,
+    };
+    let mut left = CompactionFilterIterator::new(failing, filter);
+    left.init(alloc)?;
+    assert_eq!(rt; left.next(alloc)?.map(|row| row.seq), Some(2));
+    assert!(rt; matches!(left.next(alloc), Err(SlateDBError::StoreFault)));
+    assert!(rt; matches!(left.next(alloc), Err(SlateDBError::IteratorFailed)));
+    Ok(())
 }
 
 #[test]

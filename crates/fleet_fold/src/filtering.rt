@@ -1,27 +1,27 @@
 //! The rows that a filter leaves.
 
-ghost use Rattle.std.specs.Prelude.{◌≡◌, ◌&&◌, Bool, true, false, [], None, IfOk, IfErr};
+ghost use Rattle.std.specs.Prelude.{◌≡◌, ◌≢◌, ◌&&◌, Bool, true, false, [], None, OnOk, IfOk, IfErr};
 ghost use Rattle.std.specs.Option.{option_to_list};
 ghost use Rattle.fleet_rows.specs.Row.{row_of, rows_of};
-ghost use Rattle.fleet_iter.specs.Iteration.{IteratorState, Inits, Nexts, CanFail};
+ghost use Rattle.fleet_iter.specs.Iteration.{IteratorState, Inits, Nexts, Seeks, HandsOn, IsHandedOn, CanFail, AreRising};
 ghost use Rattle.fleet_fold.specs.Retention.{IsReadable, from_ahead};
 ghost use Rattle.fleet_fold.specs.Filter.{decided, filtered, ends_well, filtering, Gives, Refuses};
-ghost use Rattle.fleet_fold.specs.FilterState.{state_of, IsSound, IsClosed, RefusesIn};
+ghost use Rattle.fleet_fold.specs.FilterState.{state_of, IsSound, Sought, IsClosed, StaysOpen, RefusesIn};
 
 use crate::filter::{CompactionFilter, CompactionFilterDecision, RowFilter};
-use fleet_iter::{RowEntryIterator, RowSource, TrackedRowEntryIterator};
+use fleet_iter::{Failure, RowEntryIterator, RowSource, TrackedRowEntryIterator};
 use fleet_rows::{RowEntry, SlateDBError};
 use std::alloc::Global;
 
-/// The rows of an iterator that a filter leaves. It is no `RowEntryIterator`: a filter answers by the rows that it was shown, so
-/// a seek that passed some would change what it answers of the others.
+/// The rows of an iterator that a filter leaves. A filter answers by the rows that it was shown: a seek shows it only the rows
+/// from its key on, and so may change what it answers of them.
 #[derive(Drop)]
 pub struct CompactionFilterIterator<T: RowEntryIterator, F: CompactionFilter> {
     inner: T,
     filter: F,
     // Whether the rows have ended, and the filter was closed.
     ended: bool,
-    failed: bool,
+    failure: Failure,
 }
 
 // What a decision leaves of a row.
@@ -58,10 +58,14 @@ fn next_left<T: RowSource, F: RowFilter>(
     requires sound { T.sound inner.old }
     requires readable { IsReadable (T.state inner.old) }
     requires open { F.is_closed filter.old ≡ false }
+    requires rising { AreRising (from_ahead first (T.state inner.old)) }
     requires ended { first ≡ None → ((T.state inner.old).rows ≡ []) × ((T.state inner.old).whole ≡ true) }
     ensures ok { IfOk result (λ row. Gives (filtered (F.answers filter.old) (F.closing filter.old) (from_ahead first (T.state inner.old))) (T.state inner.old).whole row (filtered (F.answers filter.new) (F.closing filter.new) (T.state inner.new).rows) (F.is_closed filter.new) (T.state inner.new)) }
     ensures readable { IfOk result (λ _. IsReadable (T.state inner.new)) }
+    ensures rising { IfOk result (λ _. AreRising (T.state inner.new).rows) }
     ensures err { IfErr result (CanFail ((T.state inner.old).whole && ends_well (filtered (F.answers filter.old) (F.closing filter.old) (from_ahead first (T.state inner.old))))) }
+    ensures open { (T.state inner.new).failure ≢ None → F.is_closed filter.new ≡ false }
+    ensures handed { IfErr result (λ e. (T.state inner.new).failure ≢ None → IsHandedOn (T.state inner.new) e) }
     ensures refused { Refuses (filtered (F.answers filter.old) (F.closing filter.old) (from_ahead first (T.state inner.old))) (T.state inner.new) result }
     ensures sound { T.sound inner.new }
 {
@@ -79,75 +83,100 @@ fn next_left<T: RowSource, F: RowFilter>(
 
 impl<T: RowEntryIterator, F: CompactionFilter> CompactionFilterIterator<T, F> {
     /// What `filter` leaves of the rows that `inner` has left.
+    #[tactic(auto, using(crate::proofs::Filters::filtered_rise))]
     pub fn new(inner: T, filter: F) -> Self
         requires sound { T.sound inner }
-        requires alive { (T.state inner).failed ≡ false }
+        requires alive { (T.state inner).failure ≡ None }
+        requires rising { AreRising (T.state inner).rows }
         requires open { F.is_closed filter ≡ false }
-        ensures rows { state_of T.state F.answers F.closing result ≡ filtering false false (F.answers filter) (F.closing filter) (T.state inner) }
+        ensures rows { state_of T.state F.answers F.closing result ≡ filtering None false (F.answers filter) (F.closing filter) (T.state inner) }
         ensures sound { IsSound T.sound T.state F.is_closed result }
+        ensures rising { AreRising (state_of T.state F.answers F.closing result).rows }
     {
         CompactionFilterIterator {
             inner,
             filter,
             ended: false,
-            failed: false,
+            failure: Failure::new(),
         }
     }
+}
 
-    /// Makes it ready. A second call does nothing more.
-    pub fn init(&mut self, alloc: Global) -> Result<(), SlateDBError>
+impl<T: RowEntryIterator, F: CompactionFilter> RowEntryIterator for CompactionFilterIterator<T, F> {
+    ghost state = { state_of T.state F.answers F.closing };
+
+    ghost sound = { IsSound T.sound T.state F.is_closed };
+
+    ghost sought = { Sought T.state T.sought F.answers F.closing };
+
+    ghost processed = { λ i. T.processed i.inner };
+
+    fn init(&mut self, alloc: Global) -> Result<(), SlateDBError>
         requires { IsSound T.sound T.state F.is_closed self.old }
         ensures init { Inits (state_of T.state F.answers F.closing self.old) (state_of T.state F.answers F.closing self.new) result }
+        ensures handed { HandsOn (state_of T.state F.answers F.closing self.old) (T.state self.new.inner) result }
         ensures sound { IsSound T.sound T.state F.is_closed self.new }
     {
-        if self.failed {
-            return Err(SlateDBError::IteratorFailed);
-        }
+        self.failure.check()?;
         if self.ended {
             return Ok(());
         }
         match self.inner.init(alloc) {
             Ok(()) => Ok(()),
-            Err(error) => {
-                self.failed = true;
-                Err(error)
-            }
+            Err(error) => Err(self.failure.fail(error)),
         }
     }
 
     /// The next row that the filter leaves. Where the rows end the filter is closed, once.
-    pub fn next(&mut self, alloc: Global) -> Result<Option<RowEntry>, SlateDBError>
+    fn next(&mut self, alloc: Global) -> Result<Option<RowEntry>, SlateDBError>
         requires { IsSound T.sound T.state F.is_closed self.old }
         ensures next { Nexts (state_of T.state F.answers F.closing self.old) (state_of T.state F.answers F.closing self.new) result }
         ensures closes { IfOk result (λ row. row ≡ None → IsClosed F.is_closed self.new) }
+        ensures open { StaysOpen T.state F.is_closed self.old self.new }
+        ensures handed { (T.state self.new.inner).failure ≢ None → HandsOn (state_of T.state F.answers F.closing self.old) (T.state self.new.inner) result }
         ensures refused { RefusesIn T.state F.answers F.closing self.old self.new result }
         ensures sound { IsSound T.sound T.state F.is_closed self.new }
     {
-        if self.failed {
-            return Err(SlateDBError::IteratorFailed);
-        }
+        self.failure.check()?;
         if self.ended {
             return Ok(None);
         }
         let first = match self.inner.next(alloc) {
             Ok(first) => first,
-            Err(SlateDBError::IteratorNotInitialized) => {
-                return Err(SlateDBError::IteratorNotInitialized);
-            }
-            Err(error) => {
-                self.failed = true;
-                return Err(error);
-            }
+            Err(error) => return Err(self.failure.fail(error)),
         };
         match next_left(alloc, &mut self.inner, &mut self.filter, first) {
             Ok(row) => {
                 self.ended = row.is_none();
                 Ok(row)
             }
-            Err(error) => {
-                self.failed = true;
-                Err(error)
-            }
+            Err(error) => Err(self.failure.fail(error)),
         }
+    }
+
+    fn seek(&mut self, alloc: Global, next_key: &[u8]) -> Result<(), SlateDBError>
+        requires sound { IsSound T.sound T.state F.is_closed self.old }
+        requires rising { AreRising (state_of T.state F.answers F.closing self.old).rows }
+        ensures seek { Seeks next_key.now (state_of T.state F.answers F.closing self.old) (state_of T.state F.answers F.closing self.new) result }
+        ensures sought { OnOk result (Sought T.state T.sought F.answers F.closing self.old next_key.now (state_of T.state F.answers F.closing self.new)) }
+        ensures uncounted { T.processed self.new.inner ≡ T.processed self.old.inner }
+        ensures handed { HandsOn (state_of T.state F.answers F.closing self.old) (T.state self.new.inner) result }
+        ensures sound { IsSound T.sound T.state F.is_closed self.new }
+    {
+        self.failure.check()?;
+        if self.ended {
+            return Ok(());
+        }
+        match self.inner.seek(alloc, next_key) {
+            Ok(()) => Ok(()),
+            Err(error) => Err(self.failure.fail(error)),
+        }
+    }
+}
+
+impl<T: TrackedRowEntryIterator, F: CompactionFilter> TrackedRowEntryIterator
+    for CompactionFilterIterator<T, F> {
+    fn bytes_processed(&self) -> u64 {
+        self.inner.bytes_processed()
     }
 }

@@ -1,6 +1,6 @@
 //! The rows of a job: folded, and then kept.
 
-ghost use Rattle.std.specs.Prelude.{◌≡◌, false, true};
+ghost use Rattle.std.specs.Prelude.{◌≡◌, None, true};
 ghost use Rattle.row_model.specs.Rows.{IsStrictlyOrdered};
 ghost use Rattle.row_model.specs.Fold.{IsLawful};
 ghost use Rattle.fleet_rows.specs.Settings.{settings_of};
@@ -30,7 +30,7 @@ pub fn job_iterator<'o, O: MergeOperator, T: RowEntryIterator>(
     settings: Settings,
 ) -> JobIterator<'o, O, T>
     requires sound { T.sound rows }
-    requires alive { (T.state rows).failed ≡ false }
+    requires alive { (T.state rows).failure ≡ None }
     requires whole { (T.state rows).whole ≡ true }
     requires ordered { IsStrictlyOrdered (T.state rows).rows }
     ensures job { GivesJob (O.merged (O.settings operator.now)) (settings_of settings) (T.state rows).rows (retention.state_of (merging.state_of O.settings O.merged T.state) result) }

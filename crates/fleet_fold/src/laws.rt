@@ -1,6 +1,7 @@
 //! Laws on what the iterators of this crate make of rows. Each call has an empty body, and its clause is the law.
 
 ghost use Rattle.row_model.specs.Fold.{IsLawful, Operator};
+ghost use Rattle.fleet_fold.specs.Filter.{FiltersSeeTheKey};
 ghost use Rattle.fleet_fold.specs.Jobs.{FoldsOneKey, FoldsMakeJobs, FoldsBeginJobs, JobsKeepReads, RefusesByOperator};
 
 /// Under a lawful operator, merging the operands of one key in batches, up to the cut and of one stamp, gives the model's folded
@@ -32,4 +33,10 @@ pub fn refuses_by_operator()
 /// cut and the tick on, whatever stands above, and whatever stands below unless the job made a last run.
 pub fn jobs_keep_reads()
     ensures { (merge : Operator) → IsLawful merge → JobsKeepReads merge }
+{}
+
+/// Where a filter stands above rows that are taken up again behind a cursor, it is shown all rows from the cursor's key on, also
+/// those of that key that stand written; of what it leaves, those that stand written are not given again.
+pub fn filters_see_the_key()
+    ensures { FiltersSeeTheKey }
 {}

@@ -1,14 +1,14 @@
 //! The rows of an iterator with their operands merged.
 
-ghost use Rattle.std.specs.Prelude.{◌≡◌, false, None};
-ghost use Rattle.fleet_iter.specs.Iteration.{AreRising};
-ghost use Rattle.fleet_fold.specs.Merging.{merging, state_of, IsSound};
+ghost use Rattle.std.specs.Prelude.{◌≡◌, None, OnOk};
+ghost use Rattle.fleet_iter.specs.Iteration.{Inits, Nexts, Seeks, HandsOn, AreRising};
+ghost use Rattle.fleet_fold.specs.Merging.{merging, state_of, IsSound, Sought, HandsOnOrRefuses};
 
 use crate::MergeOperator;
 use crate::fold::fold_next;
 use crate::group::GroupRule;
 use crate::retention::drop_if_below;
-use fleet_iter::RowEntryIterator;
+use fleet_iter::{Failure, RowEntryIterator, TrackedRowEntryIterator};
 use fleet_rows::{RowEntry, SlateDBError};
 use std::alloc::Global;
 
@@ -20,7 +20,7 @@ pub struct MergeOperatorIterator<'o, O: MergeOperator, T: RowEntryIterator> {
     rule: GroupRule,
     // The row behind the last group, which did not belong to it.
     ahead: Option<RowEntry>,
-    failed: bool,
+    failure: Failure,
 }
 
 impl<'o, O: MergeOperator, T: RowEntryIterator> MergeOperatorIterator<'o, O, T> {
@@ -38,9 +38,9 @@ impl<'o, O: MergeOperator, T: RowEntryIterator> MergeOperatorIterator<'o, O, T> 
         snapshot_barrier_seq: Option<u64>,
     ) -> Self
         requires sound { T.sound delegate }
-        requires alive { (T.state delegate).failed ≡ false }
+        requires alive { (T.state delegate).failure ≡ None }
         requires rising { AreRising (T.state delegate).rows }
-        ensures rows { state_of O.settings O.merged T.state result ≡ merging false (O.merged (O.settings operator.now)) (record { merge_different_expire_ts = merge_different_expire_ts; snapshot_barrier_seq = snapshot_barrier_seq }) None (T.state delegate) }
+        ensures rows { state_of O.settings O.merged T.state result ≡ merging None (O.merged (O.settings operator.now)) (record { merge_different_expire_ts = merge_different_expire_ts; snapshot_barrier_seq = snapshot_barrier_seq }) None (T.state delegate) }
         ensures sound { IsSound T.sound T.state result }
         ensures rising { AreRising (state_of O.settings O.merged T.state result).rows }
     {
@@ -52,7 +52,7 @@ impl<'o, O: MergeOperator, T: RowEntryIterator> MergeOperatorIterator<'o, O, T> 
                 snapshot_barrier_seq,
             },
             ahead: None,
-            failed: false,
+            failure: Failure::new(),
         }
     }
 }
@@ -62,35 +62,36 @@ impl<O: MergeOperator, T: RowEntryIterator> RowEntryIterator for MergeOperatorIt
 
     ghost sound = { IsSound T.sound T.state };
 
-    fn init(&mut self, alloc: Global) -> Result<(), SlateDBError> {
-        if self.failed {
-            return Err(SlateDBError::IteratorFailed);
-        }
+    ghost sought = { Sought O.settings O.merged T.state T.sought };
+
+    ghost processed = { λ i. T.processed i.delegate };
+
+    fn init(&mut self, alloc: Global) -> Result<(), SlateDBError>
+        requires { IsSound T.sound T.state self.old }
+        ensures init { Inits (state_of O.settings O.merged T.state self.old) (state_of O.settings O.merged T.state self.new) result }
+        ensures handed { HandsOn (state_of O.settings O.merged T.state self.old) (T.state self.new.delegate) result }
+        ensures sound { IsSound T.sound T.state self.new }
+    {
+        self.failure.check()?;
         match self.delegate.init(alloc) {
             Ok(()) => Ok(()),
-            Err(error) => {
-                self.failed = true;
-                Err(error)
-            }
+            Err(error) => Err(self.failure.fail(error)),
         }
     }
 
-    fn next(&mut self, alloc: Global) -> Result<Option<RowEntry>, SlateDBError> {
-        if self.failed {
-            return Err(SlateDBError::IteratorFailed);
-        }
+    fn next(&mut self, alloc: Global) -> Result<Option<RowEntry>, SlateDBError>
+        requires { IsSound T.sound T.state self.old }
+        ensures next { Nexts (state_of O.settings O.merged T.state self.old) (state_of O.settings O.merged T.state self.new) result }
+        ensures handed { HandsOnOrRefuses O.settings O.merged T.state self.old self.new result }
+        ensures sound { IsSound T.sound T.state self.new }
+    {
+        self.failure.check()?;
         let row = match self.ahead.take() {
             Some(row) => row,
             None => match self.delegate.next(alloc) {
                 Ok(Some(row)) => row,
                 Ok(None) => return Ok(None),
-                Err(SlateDBError::IteratorNotInitialized) => {
-                    return Err(SlateDBError::IteratorNotInitialized);
-                }
-                Err(error) => {
-                    self.failed = true;
-                    return Err(error);
-                }
+                Err(error) => return Err(self.failure.fail(error)),
             },
         };
         let rule = self.rule;
@@ -103,28 +104,34 @@ impl<O: MergeOperator, T: RowEntryIterator> RowEntryIterator for MergeOperatorIt
             row,
         ) {
             Ok(row) => Ok(Some(row)),
-            Err(error) => {
-                self.failed = true;
-                Err(error)
-            }
+            Err(error) => Err(self.failure.fail(error)),
         }
     }
 
-    fn seek(&mut self, alloc: Global, next_key: &[u8]) -> Result<(), SlateDBError> {
-        if self.failed {
-            return Err(SlateDBError::IteratorFailed);
-        }
+    fn seek(&mut self, alloc: Global, next_key: &[u8]) -> Result<(), SlateDBError>
+        requires sound { IsSound T.sound T.state self.old }
+        requires rising { AreRising (state_of O.settings O.merged T.state self.old).rows }
+        ensures seek { Seeks next_key.now (state_of O.settings O.merged T.state self.old) (state_of O.settings O.merged T.state self.new) result }
+        ensures sought { OnOk result (Sought O.settings O.merged T.state T.sought self.old next_key.now (state_of O.settings O.merged T.state self.new)) }
+        ensures uncounted { T.processed self.new.delegate ≡ T.processed self.old.delegate }
+        ensures handed { HandsOn (state_of O.settings O.merged T.state self.old) (T.state self.new.delegate) result }
+        ensures sound { IsSound T.sound T.state self.new }
+    {
+        self.failure.check()?;
         drop_if_below(&mut self.ahead, next_key);
         if self.ahead.is_some() {
             return Ok(());
         }
         match self.delegate.seek(alloc, next_key) {
             Ok(()) => Ok(()),
-            Err(SlateDBError::IteratorNotInitialized) => Err(SlateDBError::IteratorNotInitialized),
-            Err(error) => {
-                self.failed = true;
-                Err(error)
-            }
+            Err(error) => Err(self.failure.fail(error)),
         }
+    }
+}
+
+impl<O: MergeOperator, T: TrackedRowEntryIterator> TrackedRowEntryIterator
+    for MergeOperatorIterator<'_, O, T> {
+    fn bytes_processed(&self) -> u64 {
+        self.delegate.bytes_processed()
     }
 }

@@ -54,7 +54,7 @@ pub trait MergeOperator: Sync {
 }
 
 /// An operator as the functions of an adapter take it, which need not share it with another thread. Each `MergeOperator` is
-/// one.
+/// one. docs/DECISIONS.md says why its methods stand here once more.
 pub trait BatchMerger {
     ghost settings: { Self → List ℕ };
 

@@ -1,11 +1,11 @@
 //! Rows that have no operator to merge them.
 
-ghost use Rattle.std.specs.Prelude.{◌≡◌, false};
-ghost use Rattle.fleet_iter.specs.Iteration.{Nexts, AreRising};
-ghost use Rattle.fleet_fold.specs.Required.{without_operands, state_of, IsSound, MissesOperator};
+ghost use Rattle.std.specs.Prelude.{◌≡◌, None, OnOk};
+ghost use Rattle.fleet_iter.specs.Iteration.{Inits, Nexts, Seeks, HandsOn, AreRising};
+ghost use Rattle.fleet_fold.specs.Required.{without_operands, state_of, IsSound, Sought, MissesOperator};
 
 use crate::kept::is_operand;
-use fleet_iter::RowEntryIterator;
+use fleet_iter::{Failure, RowEntryIterator, TrackedRowEntryIterator};
 use fleet_rows::{RowEntry, SlateDBError};
 use std::alloc::Global;
 
@@ -14,7 +14,7 @@ use std::alloc::Global;
 #[derive(Drop)]
 pub struct MergeOperatorRequiredIterator<T: RowEntryIterator> {
     delegate: T,
-    failed: bool,
+    failure: Failure,
 }
 
 impl<T: RowEntryIterator> MergeOperatorRequiredIterator<T> {
@@ -22,15 +22,15 @@ impl<T: RowEntryIterator> MergeOperatorRequiredIterator<T> {
     #[tactic(auto, using(crate::proofs::Plain::rising_before))]
     pub fn new(delegate: T) -> Self
         requires sound { T.sound delegate }
-        requires alive { (T.state delegate).failed ≡ false }
+        requires alive { (T.state delegate).failure ≡ None }
         requires rising { AreRising (T.state delegate).rows }
-        ensures rows { state_of T.state result ≡ without_operands false (T.state delegate) }
+        ensures rows { state_of T.state result ≡ without_operands None (T.state delegate) }
         ensures sound { IsSound T.sound T.state result }
         ensures rising { AreRising (state_of T.state result).rows }
     {
         MergeOperatorRequiredIterator {
             delegate,
-            failed: false,
+            failure: Failure::new(),
         }
     }
 }
@@ -40,16 +40,20 @@ impl<T: RowEntryIterator> RowEntryIterator for MergeOperatorRequiredIterator<T> 
 
     ghost sound = { IsSound T.sound T.state };
 
-    fn init(&mut self, alloc: Global) -> Result<(), SlateDBError> {
-        if self.failed {
-            return Err(SlateDBError::IteratorFailed);
-        }
+    ghost sought = { Sought T.state T.sought };
+
+    ghost processed = { λ r. T.processed r.delegate };
+
+    fn init(&mut self, alloc: Global) -> Result<(), SlateDBError>
+        requires { IsSound T.sound T.state self.old }
+        ensures init { Inits (state_of T.state self.old) (state_of T.state self.new) result }
+        ensures handed { HandsOn (state_of T.state self.old) (T.state self.new.delegate) result }
+        ensures sound { IsSound T.sound T.state self.new }
+    {
+        self.failure.check()?;
         match self.delegate.init(alloc) {
             Ok(()) => Ok(()),
-            Err(error) => {
-                self.failed = true;
-                Err(error)
-            }
+            Err(error) => Err(self.failure.fail(error)),
         }
     }
 
@@ -59,37 +63,39 @@ impl<T: RowEntryIterator> RowEntryIterator for MergeOperatorRequiredIterator<T> 
         ensures missing { MissesOperator (T.state self.old.delegate).rows (state_of T.state self.old) (T.state self.new.delegate) result }
         ensures sound { IsSound T.sound T.state self.new }
     {
-        if self.failed {
-            return Err(SlateDBError::IteratorFailed);
-        }
+        self.failure.check()?;
         match self.delegate.next(alloc) {
             Ok(Some(row)) => {
                 if is_operand(&row) {
-                    self.failed = true;
+                    self.failure.set(SlateDBError::MergeOperatorMissing);
                     return Err(SlateDBError::MergeOperatorMissing);
                 }
                 Ok(Some(row))
             }
             Ok(None) => Ok(None),
-            Err(SlateDBError::IteratorNotInitialized) => Err(SlateDBError::IteratorNotInitialized),
-            Err(error) => {
-                self.failed = true;
-                Err(error)
-            }
+            Err(error) => Err(self.failure.fail(error)),
         }
     }
 
-    fn seek(&mut self, alloc: Global, next_key: &[u8]) -> Result<(), SlateDBError> {
-        if self.failed {
-            return Err(SlateDBError::IteratorFailed);
-        }
+    fn seek(&mut self, alloc: Global, next_key: &[u8]) -> Result<(), SlateDBError>
+        requires sound { IsSound T.sound T.state self.old }
+        requires rising { AreRising (state_of T.state self.old).rows }
+        ensures seek { Seeks next_key.now (state_of T.state self.old) (state_of T.state self.new) result }
+        ensures sought { OnOk result (Sought T.state T.sought self.old next_key.now (state_of T.state self.new)) }
+        ensures uncounted { T.processed self.new.delegate ≡ T.processed self.old.delegate }
+        ensures handed { HandsOn (state_of T.state self.old) (T.state self.new.delegate) result }
+        ensures sound { IsSound T.sound T.state self.new }
+    {
+        self.failure.check()?;
         match self.delegate.seek(alloc, next_key) {
             Ok(()) => Ok(()),
-            Err(SlateDBError::IteratorNotInitialized) => Err(SlateDBError::IteratorNotInitialized),
-            Err(error) => {
-                self.failed = true;
-                Err(error)
-            }
+            Err(error) => Err(self.failure.fail(error)),
         }
+    }
+}
+
+impl<T: TrackedRowEntryIterator> TrackedRowEntryIterator for MergeOperatorRequiredIterator<T> {
+    fn bytes_processed(&self) -> u64 {
+        self.delegate.bytes_processed()
     }
 }

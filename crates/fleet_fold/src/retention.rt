@@ -2,14 +2,14 @@
 
 ghost use Rattle.std.specs.Prelude.{◌≡◌, ◌++◌, reverse, false, [], None, OnOk, IfOk, IfErr};
 ghost use Rattle.std.specs.Option.{option_to_list};
-ghost use Rattle.fleet_iter.specs.Iteration.{IteratorState, AreRising, from_key};
+ghost use Rattle.fleet_iter.specs.Iteration.{IteratorState, Inits, Nexts, Seeks, HandsOn, AreRising, from_key};
 ghost use Rattle.fleet_rows.specs.Row.{row_of, rows_of};
 ghost use Rattle.fleet_rows.specs.Settings.{settings_of};
-ghost use Rattle.fleet_fold.specs.Retention.{kept_given, joins, IsReadable, ReadsKey, RefusesKey, Fills, RefusesFill};
-ghost use Rattle.fleet_fold.specs.State.{state_of, IsSound};
+ghost use Rattle.fleet_fold.specs.Retention.{kept_given, joins, IsReadable, ReadsOn, Begins, RefusesBeginning, ReadsKey, RefusesKey, Fills, RefusesFill};
+ghost use Rattle.fleet_fold.specs.State.{state_of, IsSound, Sought};
 
 use crate::kept::kept_rows;
-use fleet_iter::{RowEntryIterator, RowSource};
+use fleet_iter::{Failure, RowEntryIterator, RowSource, TrackedRowEntryIterator};
 use fleet_rows::{RowEntry, Settings, SlateDBError};
 use std::alloc::Global;
 use std::cmp::Ordering;
@@ -23,14 +23,14 @@ pub struct RetentionIterator<T: RowEntryIterator> {
     buffer: Vec<RowEntry>,
     // The first row of the next key.
     ahead: Option<RowEntry>,
-    failed: bool,
+    failure: Failure,
 }
 
 impl<T: RowEntryIterator> RetentionIterator<T> {
     /// Retention of the rows that `inner` has left.
     pub fn new(alloc: Global, inner: T, settings: Settings) -> Self
         requires sound { T.sound inner }
-        requires alive { (T.state inner).failed ≡ false }
+        requires alive { (T.state inner).failure ≡ None }
         requires rising { AreRising (T.state inner).rows }
         ensures rows { state_of T.state result ≡ record (T.state inner) { rows = kept_given (settings_of settings) (T.state inner).whole (T.state inner).rows } }
         ensures sound { IsSound T.sound T.state result }
@@ -41,7 +41,7 @@ impl<T: RowEntryIterator> RetentionIterator<T> {
             settings,
             buffer: Vec::new(alloc),
             ahead: None,
-            failed: false,
+            failure: Failure::new(),
         }
     }
 }
@@ -55,6 +55,26 @@ fn has_key(rows: &[RowEntry], row: &RowEntry) -> bool
     }
 }
 
+// Reads a row ahead, unless one is there or some are kept: so an iterator that is not initialised is found out.
+fn begin<T: RowSource>(
+    alloc: Global,
+    inner: &mut T,
+    buffer: &[RowEntry],
+    ahead: &mut Option<RowEntry>,
+) -> Result<(), SlateDBError>
+    requires sound { T.sound inner.old }
+    requires reads { ReadsOn (reverse buffer.now) ahead.old (T.state inner.old) }
+    ensures ok { OnOk result (Begins ahead.old (T.state inner.old) ahead.new (T.state inner.new)) }
+    ensures err { IfErr result (RefusesBeginning (reverse buffer.now) ahead.old (T.state inner.old) ahead.new (T.state inner.new)) }
+    ensures sound { T.sound inner.new }
+{
+    if !buffer.is_empty() || ahead.is_some() {
+        return Ok(());
+    }
+    *ahead = inner.next_row(alloc)?;
+    Ok(())
+}
+
 // The rows of the next key, none at the end. The row behind them is read too.
 fn read_key<T: RowSource>(
     alloc: Global,
@@ -64,7 +84,7 @@ fn read_key<T: RowSource>(
     requires sound { T.sound inner.old }
     requires readable { IsReadable (T.state inner.old) }
     ensures ok { IfOk result (λ rows. ReadsKey ahead.old (T.state inner.old) rows.items ahead.new (T.state inner.new)) }
-    ensures err { IfErr result (RefusesKey ahead.old (T.state inner.old)) }
+    ensures err { IfErr result (RefusesKey ahead.old (T.state inner.old) (T.state inner.new)) }
     ensures sound { T.sound inner.new }
 {
     let mut rows = Vec::new(alloc);
@@ -93,7 +113,7 @@ fn fill<T: RowSource>(
     requires sound { T.sound inner.old }
     requires readable { IsReadable (T.state inner.old) }
     ensures ok { OnOk result (Fills (settings_of settings) (reverse buffer.old.items) ahead.old (T.state inner.old) (reverse buffer.new.items) ahead.new (T.state inner.new)) }
-    ensures err { IfErr result (RefusesFill (settings_of settings) (reverse buffer.old.items) ahead.old (T.state inner.old)) }
+    ensures err { IfErr result (RefusesFill (settings_of settings) (reverse buffer.old.items) ahead.old (T.state inner.old) (T.state inner.new)) }
     ensures sound { T.sound inner.new }
 {
     'keys: while buffer.is_empty() {
@@ -135,35 +155,32 @@ impl<T: RowEntryIterator> RowEntryIterator for RetentionIterator<T> {
 
     ghost sound = { IsSound T.sound T.state };
 
-    fn init(&mut self, alloc: Global) -> Result<(), SlateDBError> {
-        if self.failed {
-            return Err(SlateDBError::IteratorFailed);
-        }
+    ghost sought = { Sought T.state T.sought };
+
+    ghost processed = { λ r. T.processed r.inner };
+
+    fn init(&mut self, alloc: Global) -> Result<(), SlateDBError>
+        requires { IsSound T.sound T.state self.old }
+        ensures init { Inits (state_of T.state self.old) (state_of T.state self.new) result }
+        ensures handed { HandsOn (state_of T.state self.old) (T.state self.new.inner) result }
+        ensures sound { IsSound T.sound T.state self.new }
+    {
+        self.failure.check()?;
         match self.inner.init(alloc) {
             Ok(()) => Ok(()),
-            Err(error) => {
-                self.failed = true;
-                Err(error)
-            }
+            Err(error) => Err(self.failure.fail(error)),
         }
     }
 
-    fn next(&mut self, alloc: Global) -> Result<Option<RowEntry>, SlateDBError> {
-        if self.failed {
-            return Err(SlateDBError::IteratorFailed);
-        }
-        if self.buffer.is_empty() && self.ahead.is_none() {
-            match self.inner.next(alloc) {
-                Ok(None) => return Ok(None),
-                Ok(Some(row)) => self.ahead = Some(row),
-                Err(SlateDBError::IteratorNotInitialized) => {
-                    return Err(SlateDBError::IteratorNotInitialized);
-                }
-                Err(error) => {
-                    self.failed = true;
-                    return Err(error);
-                }
-            }
+    fn next(&mut self, alloc: Global) -> Result<Option<RowEntry>, SlateDBError>
+        requires { IsSound T.sound T.state self.old }
+        ensures next { Nexts (state_of T.state self.old) (state_of T.state self.new) result }
+        ensures handed { HandsOn (state_of T.state self.old) (T.state self.new.inner) result }
+        ensures sound { IsSound T.sound T.state self.new }
+    {
+        self.failure.check()?;
+        if let Err(error) = begin(alloc, &mut self.inner, &self.buffer, &mut self.ahead) {
+            return Err(self.failure.fail(error));
         }
         let settings = self.settings;
         match fill(
@@ -174,17 +191,20 @@ impl<T: RowEntryIterator> RowEntryIterator for RetentionIterator<T> {
             &mut self.ahead,
         ) {
             Ok(()) => Ok(self.buffer.pop()),
-            Err(error) => {
-                self.failed = true;
-                Err(error)
-            }
+            Err(error) => Err(self.failure.fail(error)),
         }
     }
 
-    fn seek(&mut self, alloc: Global, next_key: &[u8]) -> Result<(), SlateDBError> {
-        if self.failed {
-            return Err(SlateDBError::IteratorFailed);
-        }
+    fn seek(&mut self, alloc: Global, next_key: &[u8]) -> Result<(), SlateDBError>
+        requires sound { IsSound T.sound T.state self.old }
+        requires rising { AreRising (state_of T.state self.old).rows }
+        ensures seek { Seeks next_key.now (state_of T.state self.old) (state_of T.state self.new) result }
+        ensures sought { OnOk result (Sought T.state T.sought self.old next_key.now (state_of T.state self.new)) }
+        ensures uncounted { T.processed self.new.inner ≡ T.processed self.old.inner }
+        ensures handed { HandsOn (state_of T.state self.old) (T.state self.new.inner) result }
+        ensures sound { IsSound T.sound T.state self.new }
+    {
+        self.failure.check()?;
         drop_below(&mut self.buffer, next_key);
         if !self.buffer.is_empty() {
             return Ok(());
@@ -195,11 +215,13 @@ impl<T: RowEntryIterator> RowEntryIterator for RetentionIterator<T> {
         }
         match self.inner.seek(alloc, next_key) {
             Ok(()) => Ok(()),
-            Err(SlateDBError::IteratorNotInitialized) => Err(SlateDBError::IteratorNotInitialized),
-            Err(error) => {
-                self.failed = true;
-                Err(error)
-            }
+            Err(error) => Err(self.failure.fail(error)),
         }
+    }
+}
+
+impl<T: TrackedRowEntryIterator> TrackedRowEntryIterator for RetentionIterator<T> {
+    fn bytes_processed(&self) -> u64 {
+        self.inner.bytes_processed()
     }
 }

@@ -208,11 +208,11 @@ pub(crate) struct Failing {
 }
 
 impl RowEntryIterator for Failing {
-    ghost use Rattle.std.specs.Prelude.{⊤, false, true, Some};
+    ghost use Rattle.std.specs.Prelude.{⊤, false, true, Some, None, if◌then◌else◌};
     ghost use Rattle.fleet_iter.specs.Iteration.{IteratorState};
     ghost use Rattle.fleet_rows.specs.declared.errors.SlateDBError.TheVariants.{StoreFault};
 
-    ghost state = { λ f. record { rows = f.list.rows; initialised = true; failed = f.failed; whole = false; refusal = Some StoreFault } };
+    ghost state = { λ f. record { rows = f.list.rows; initialised = true; failure = (if f.failed then Some StoreFault else None); whole = false; steady = true; refusal = Some StoreFault } };
 
     ghost sound = { λ _. ⊤ };
 
@@ -345,6 +345,21 @@ fn misses(alloc: Global, told: &str, taken: usize) -> Result<bool, SlateDBError>
     }
     let missed = refusal(plain.next(alloc)) == Some("MergeOperatorMissing");
     Ok(missed && refusal(plain.next(alloc)) == Some("IteratorFailed"))
+}
+
+#[test]
+fn hands_on_the_cause_behind_plain_rows(rt: HostRuntime) -> Result<(), Fail> {
+    let alloc = rt.alloc();
+    let failing = Failing {
+        list: list(alloc, Some("a:v:1:3:-:-"))?,
+        failed: false,
+    };
+    let mut plain = MergeOperatorRequiredIterator::new(failing);
+    plain.init(alloc)?;
+    assert_eq!(rt; plain.next(alloc)?.map(|row| row.seq), Some(3));
+    assert_eq!(rt; refusal(plain.next(alloc)), Some("StoreFault"));
+    assert_eq!(rt; refusal(plain.next(alloc)), Some("IteratorFailed"));
+    Ok(())
 }
 
 #[test]

@@ -6,12 +6,13 @@ use Rattle.row_model.specs.Rows.{Row, key_cmp, same_key, is_operand}
 use Rattle.row_laws.specs.Keys.{is_below}
 use Rattle.fleet_rows.specs.Row.{row_of}
 use Rattle.fleet_rows.specs.declared.row.RowEntry.{RowEntry}
+use Rattle.fleet_rows.specs.declared.errors.SlateDBError.{SlateDBError}
 use Rattle.fleet_iter.specs.Iteration.{IteratorState, AreRising, from_key, Moves, Seeks, without_first}
 use Rattle.fleet_iter.specs.declared.iterator.IterationOrder.{IterationOrder}
 use Rattle.fleet_iter.specs.declared.iterator.IterationOrder.TheVariants.{Ascending, Descending}
 use Rattle.fleet_iter.proofs.RisingRows.{moves_on}
 use Rattle.fleet_iter.proofs.RisingMerges.{rising_given_too}
-use Rattle.fleet_iter.specs.Merge.{hides, given_behind, deduplicated, given, merged_left, are_whole, is_told, Takes, Skips, SkipsTo, merging}
+use Rattle.fleet_iter.specs.Merge.{hides, given_behind, deduplicated, given, merged_left, are_whole, are_steady, are_exact, all_whole, all_steady, is_told, Takes, Skips, SkipsTo, merging}
 
 -- what a row keeps back is skipped, and from there on all goes as from a first row
 pub given_behind_skipped : (r : Row) (rows : List Row) → given_behind r rows ≡ deduplicated (without_first (hides r) rows)
@@ -30,13 +31,13 @@ takes_given order hs hs1 hs' ss ss1 ss' x t s =
     record {
       rows = ap deduplicated t.rows ∙ ap (λ (w : List Row). row_of x ∷ w) (given_behind_skipped (row_of x) (merged_left order hs1 ss1) ∙ sym (ap deduplicated s.rows));
       taken = s.taken;
-      whole = s.whole ∙ t.whole;
+      same_manner = s.same_manner ∙ t.same_manner;
       ends = λ n. absurd (cc n);
     }
 
 -- none is taken
 pub takes_none_given : (order : IterationOrder) (hs hs' : List (Option RowEntry)) (ss ss' : List IteratorState) → Takes order false hs ss hs' ss' None → Takes order true hs ss hs' ss' None
-takes_none_given order hs hs' ss ss' t = record { rows = ap deduplicated t.rows; taken = t.taken; whole = t.whole; ends = t.ends }
+takes_none_given order hs hs' ss ss' t = record { rows = ap deduplicated t.rows; taken = t.taken; same_manner = t.same_manner; ends = t.ends }
 
 pub from_key_skipped : (key : List ℕ) (rows : List Row) → from_key key rows ≡ without_first (is_below key) rows
 from_key_skipped key [] = refl
@@ -88,28 +89,30 @@ seek_given true key rows = ap deduplicated (sym (from_key_skipped key rows)) ∙
 seek_given false key rows = sym (from_key_skipped key rows)
 
 -- what a seek leaves
-module _ (key : List ℕ) (dedup initialised failed : Bool) (hs hs' : List (Option RowEntry)) (ss ss' : List IteratorState) where
+module _ (key : List ℕ) (dedup initialised : Bool) (failure : Option SlateDBError) (hs hs' : List (Option RowEntry)) (ss ss' : List IteratorState) where
   abbrev state : IterationOrder → List (Option RowEntry) → List IteratorState → IteratorState
-  state order heads sources = merging order dedup initialised failed heads sources
+  state order heads sources = merging order dedup initialised failure heads sources
 
   told : (order : IterationOrder) → Skips order (is_below key) hs ss hs' ss' → state order hs' ss' ≡ record (state order hs ss) { rows = from_key key (state order hs ss).rows }
   told order s =
       let rows : given dedup (merged_left order hs' ss') ≡ from_key key (given dedup (merged_left order hs ss)) = ap (given dedup) s.rows ∙ seek_given dedup key (merged_left order hs ss) in
-      cc (rows, s.whole)
+      let whole : are_whole ss' ≡ are_whole ss = ap all_whole s.same_manner in
+      let steady : are_steady ss' ≡ are_steady ss = ap all_steady s.same_manner in
+      cc (rows, whole, steady)
 
-  moves : (order : IterationOrder) (whole : Bool) → are_whole ss ≡ whole → AreRising (state order hs ss).rows → SkipsTo (is_told order whole) order key hs ss hs' ss' → Moves (are_whole ss) key (state order hs ss) (state order hs' ss')
+  moves : (order : IterationOrder) (exact : Bool) → are_exact ss ≡ exact → AreRising (state order hs ss).rows → SkipsTo (is_told order exact) order key hs ss hs' ss' → Moves (are_exact ss) key (state order hs ss) (state order hs' ss')
   moves Ascending true e rising s = moves_on key (state Ascending hs ss) (state Ascending hs' ss') rising (told Ascending s)
-  moves Ascending false e rising s = subst (λ b. Moves b key (state Ascending hs ss) (state Ascending hs' ss')) (sym e) (record { initialised = refl; failed = refl; rising = rising_given_too dedup (merged_left Ascending hs' ss') s.1 })
-  moves Descending whole e rising s = moves_on key (state Descending hs ss) (state Descending hs' ss') rising (told Descending s)
+  moves Ascending false e rising s = subst (λ b. Moves b key (state Ascending hs ss) (state Ascending hs' ss')) (sym e) (record { initialised = refl; failure = refl; rising = rising_given_too dedup (merged_left Ascending hs' ss') s.1 })
+  moves Descending exact e rising s = moves_on key (state Descending hs ss) (state Descending hs' ss') rising (told Descending s)
 
-  pub seeks : (order : IterationOrder) → initialised ≡ true → failed ≡ false → AreRising (state order hs ss).rows → SkipsTo (is_told order (are_whole ss)) order key hs ss hs' ss' → Seeks key (state order hs ss) (state order hs' ss') (Ok tt)
+  pub seeks : (order : IterationOrder) → initialised ≡ true → failure ≡ None → AreRising (state order hs ss).rows → SkipsTo (is_told order (are_exact ss)) order key hs ss hs' ss' → Seeks key (state order hs ss) (state order hs' ss') (Ok tt)
   seeks order begun alive rising s = record {
-    failed = λ h. let clash : true ≡ false = sym h ∙ alive in absurd (cc clash);
+    failed = λ h. absurd (h alive);
     uninitialised = λ _ h. let clash : true ≡ false = sym begun ∙ h in absurd (cc clash);
-    answers = λ _ _. moves order (are_whole ss) refl rising s;
+    answers = λ _ _. moves order (are_exact ss) refl rising s;
   }
 
-  -- of a whole merge all rows are told
-  pub seeks_all : (order : IterationOrder) → are_whole ss ≡ true → SkipsTo (is_told order (are_whole ss)) order key hs ss hs' ss' → merged_left order hs' ss' ≡ from_key key (merged_left order hs ss)
+  -- of an exact merge all rows are told
+  pub seeks_all : (order : IterationOrder) → are_exact ss ≡ true → SkipsTo (is_told order (are_exact ss)) order key hs ss hs' ss' → merged_left order hs' ss' ≡ from_key key (merged_left order hs ss)
   seeks_all Ascending e s = (subst (λ b. SkipsTo b Ascending key hs ss hs' ss') e s).rows ∙ sym (from_key_skipped key (merged_left Ascending hs ss))
   seeks_all Descending e s = s.rows ∙ sym (from_key_skipped key (merged_left Descending hs ss))

@@ -3,6 +3,7 @@ pub mod MergedRows
 pub mod RisingRows
 pub mod RisingMerges
 pub mod Dedup
+pub mod Failures
 pub mod Lists
 pub mod Peeks
 pub mod Resumes

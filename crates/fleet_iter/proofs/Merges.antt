@@ -1,17 +1,17 @@
 -- The least head of a merge, and a step of it.
-use Rattle.std.proofs.Common.{◌≡◌, ◌∙◌, sym, refl, ap, subst, ℕ, ◌+◌, ◌<◌, List, [], ◌∷◌, ◌++◌, suc, zero, Ok, Err, Option, Some, None, Bool, true, false, cond, drop, drop-cons, add-one, get_or, length, arith, zero-add, add-zero, ◌-◌, ◌≤◌}
+use Rattle.std.proofs.Common.{◌≡◌, ◌∙◌, sym, refl, ap, subst, ℕ, ◌+◌, ◌<◌, List, [], ◌∷◌, ◌++◌, suc, zero, Ok, Err, inl, inr, Option, Some, None, Bool, true, false, cond, drop, drop-cons, add-one, get_or, length, arith, zero-add, add-zero, ◌-◌, ◌≤◌}
 use Rattle.std.specs.Option.{option_to_list, option_map}
 use Rattle.std.specs.List.{AllByRecursion}
-use Rattle.std.specs.Prelude.{map}
+use Rattle.std.specs.Prelude.{map, ◌&&◌}
 use Rattle.std.proofs.lemmas.List.{drop_all, length-map, map-set}
 use Rattle.std.proofs.Math.ListN.{get_or-map, set}
 use Rattle.row_model.specs.Rows.{Row}
 use Rattle.fleet_rows.specs.Row.{row_of, rows_of}
 use Rattle.fleet_rows.specs.declared.row.RowEntry.{RowEntry}
 use Rattle.fleet_rows.specs.declared.errors.SlateDBError.{SlateDBError}
-use Rattle.fleet_iter.specs.Iteration.{IteratorState, Nexts, NextAnswers, CanFail, behind_first, without_first}
+use Rattle.fleet_iter.specs.Iteration.{IteratorState, Nexts, NextAnswers, CanFail, behind_first, without_first, is_exact}
 use Rattle.fleet_iter.specs.declared.iterator.IterationOrder.{IterationOrder}
-use Rattle.fleet_iter.specs.Merge.{best, choose, goes_first, goes_ahead, passes, merged, merge_two, merge_into, merged_left, lists, rows_left, AllTaken, IsTaken, are_whole, some_failed, Steps, Takes, Drops, AllBegun}
+use Rattle.fleet_iter.specs.Merge.{best, choose, goes_first, goes_ahead, passes, merged, merge_two, merge_into, merged_left, lists, rows_left, AllTaken, IsTaken, are_whole, are_steady, are_exact, manner, manners, OneFailedBy, Steps, Takes, Drops, AllBegun}
 
 -- a place counted from further in front
 abbrev pub shifted : ℕ → Option (ℕ × RowEntry) → Option (ℕ × RowEntry)
@@ -149,30 +149,30 @@ takes_head order (Some z ∷ hs) (s ∷ ss) a k x e = by_best (λ j y q. takes_h
 pub record Refills (hs : List (Option RowEntry)) (ss : List IteratorState) (k : ℕ) (t : IteratorState) (h : Option RowEntry) : Type 0 where
   pub same : lists (set hs k None) (rows_left ss) ≡ lists (set hs k h) (rows_left (set ss k t))
   pub taken : AllTaken (set hs k h) (set ss k t)
-  pub whole : are_whole (set ss k t) ≡ are_whole ss
+  pub same_manner : manners (set ss k t) ≡ manners ss
 
 pub refilled : (hs : List (Option RowEntry)) (ss : List IteratorState) → AllTaken hs ss → (k : ℕ) (x : RowEntry) → get_or hs k None ≡ Some x → (s t : IteratorState) (h : Option RowEntry) → s ≡ get_or ss k s → Steps s t h → Refills hs ss k t h
 refilled [] ss a k x e s t h is st = absurd (cc)
 refilled (g ∷ hs) [] a k x e s t h is st = absurd a
 refilled (g ∷ hs) (r ∷ ss) a zero x e s t h is st =
     let same : r.rows ≡ rows_of (option_to_list h) ++ t.rows = ap (λ (z : IteratorState). z.rows) (sym is) ∙ st.0 in
-    let whole : t.whole ≡ r.whole = st.2 ∙ ap (λ (z : IteratorState). z.whole) is in
-    record { same = ap (λ (w : List Row). w ∷ lists hs (rows_left ss)) same; taken = (st.1, a.1); whole = ap (λ b. cond b (are_whole ss) false) whole }
+    let alike : manner t ≡ manner r = st.2 ∙ ap manner is in
+    record { same = ap (λ (w : List Row). w ∷ lists hs (rows_left ss)) same; taken = (st.1, a.1); same_manner = ap (λ (m : Bool × Bool). m ∷ manners ss) alike }
 refilled (g ∷ hs) (r ∷ ss) a (suc k) x e s t h is st =
     let ih = refilled hs ss a.1 k x e s t h is st in
-    record { same = ap (λ (w : List (List Row)). (rows_of (option_to_list g) ++ r.rows) ∷ w) ih.same; taken = (a.0, ih.taken); whole = ap (λ b. cond r.whole b false) ih.whole }
+    record { same = ap (λ (w : List (List Row)). (rows_of (option_to_list g) ++ r.rows) ∷ w) ih.same; taken = (a.0, ih.taken); same_manner = ap (λ (ms : List (Bool × Bool)). manner r ∷ ms) ih.same_manner }
 
 -- the whole step
 pub takes_all : (order : IterationOrder) → (hs : List (Option RowEntry)) (ss : List IteratorState) → AllTaken hs ss → (k : ℕ) (x : RowEntry) → best order hs ≡ Some (k, x) → (s t : IteratorState) (h : Option RowEntry) → s ≡ get_or ss k s → Steps s t h → Takes order false hs ss (set hs k h) (set ss k t) (Some x)
 takes_all order hs ss a k x e s t h is st =
     let p = takes_head order hs ss a k x e in
     let q = refilled hs ss a k x (p.head None) s t h is st in
-    record { rows = p.rows ∙ ap (λ (w : List (List Row)). row_of x ∷ merged order w) q.same; taken = q.taken; whole = q.whole; ends = λ n. absurd (cc) }
+    record { rows = p.rows ∙ ap (λ (w : List (List Row)). row_of x ∷ merged order w) q.same; taken = q.taken; same_manner = q.same_manner; ends = λ n. absurd (cc) }
 
 pub takes_none : (order : IterationOrder) → (hs : List (Option RowEntry)) (ss : List IteratorState) → AllTaken hs ss → best order hs ≡ None → Takes order false hs ss hs ss None
-takes_none order hs ss a e = record { rows = refl; taken = a; whole = refl; ends = λ q. none_left order hs ss a e }
+takes_none order hs ss a e = record { rows = refl; taken = a; same_manner = refl; ends = λ q. none_left order hs ss a e }
 
-pub clean : (g : Option RowEntry) (s : IteratorState) → IsTaken g s → s.failed ≡ false
+pub clean : (g : Option RowEntry) (s : IteratorState) → IsTaken g s → s.failure ≡ None
 clean None s a = a.0
 clean (Some x) s a = a.0
 
@@ -185,8 +185,8 @@ pub steps_of : (g : Option RowEntry) (s t : IteratorState) (h : Option RowEntry)
 steps_of g s t h a n = by_answer h (n.answers (clean g s a) (begun g s a)) where
   by_answer : (h : Option RowEntry) → NextAnswers s t (Ok h) → Steps s t h
   by_answer None b =
-      (ap (λ (z : IteratorState). z.rows) (sym b.same), (ap (λ (z : IteratorState). z.failed) b.same ∙ clean g s a, ap (λ (z : IteratorState). z.initialised) b.same ∙ begun g s a, ap (λ (z : IteratorState). z.rows) b.same ∙ b.rows, ap (λ (z : IteratorState). z.whole) b.same ∙ b.whole), ap (λ (z : IteratorState). z.whole) b.same)
-  by_answer (Some x) b = (ap (λ (z : IteratorState). z.rows) b, (sym (ap (λ (z : IteratorState). z.failed) b) ∙ clean g s a, sym (ap (λ (z : IteratorState). z.initialised) b) ∙ begun g s a), sym (ap (λ (z : IteratorState). z.whole) b))
+      (ap (λ (z : IteratorState). z.rows) (sym b.same), (ap (λ (z : IteratorState). z.failure) b.same ∙ clean g s a, ap (λ (z : IteratorState). z.initialised) b.same ∙ begun g s a, ap (λ (z : IteratorState). z.rows) b.same ∙ b.rows, ap (λ (z : IteratorState). z.whole) b.same ∙ b.whole), ap manner b.same)
+  by_answer (Some x) b = (ap (λ (z : IteratorState). z.rows) b, (sym (ap (λ (z : IteratorState). z.failure) b) ∙ clean g s a, sym (ap (λ (z : IteratorState). z.initialised) b) ∙ begun g s a), sym (ap manner b))
 
 -- the place that a search answers
 pub placed : (b : Option (ℕ × RowEntry)) (k : ℕ) → Some k ≡ option_map (λ p. p.0) b → (x : RowEntry) × (b ≡ Some (k, x))
@@ -249,23 +249,44 @@ one_whole (r ∷ ss) (suc k) s lt is all = one_whole ss k s (omega arith) is (re
     rest true h = h
     rest false h = absurd (cc h)
 
+pub one_steady : (ss : List IteratorState) (k : ℕ) (s : IteratorState) → k < length ss → s ≡ get_or ss k s → are_steady ss ≡ true → s.steady ≡ true
+one_steady [] k s lt is all = absurd (omega arith)
+one_steady (r ∷ ss) zero s lt is all = ap (λ (z : IteratorState). z.steady) is ∙ first r.steady all
+  where
+    first : (b : Bool) → cond b (are_steady ss) false ≡ true → b ≡ true
+    first true h = refl
+    first false h = absurd (cc h)
+one_steady (r ∷ ss) (suc k) s lt is all = one_steady ss k s (omega arith) is (rest r.steady all)
+  where
+    rest : (b : Bool) → cond b (are_steady ss) false ≡ true → are_steady ss ≡ true
+    rest true h = h
+    rest false h = absurd (cc h)
+
+pub both_parts : (a b : Bool) → a && b ≡ true → (a ≡ true) × (b ≡ true)
+both_parts true b h = (refl, h)
+both_parts false b h = absurd (cc h)
+
+both_hold : (a b : Bool) → a ≡ true → b ≡ true → a && b ≡ true
+both_hold a b h g = ap (λ x. x && b) h ∙ g
+
+pub one_exact : (ss : List IteratorState) (k : ℕ) (s : IteratorState) → k < length ss → s ≡ get_or ss k s → are_exact ss ≡ true → is_exact s ≡ true
+one_exact ss k s lt is all =
+    let parts = both_parts (are_steady ss) (are_whole ss) all in
+    both_hold s.steady s.whole (one_steady ss k s lt is parts.0) (one_whole ss k s lt is parts.1)
+
 pub refused : (g : Option RowEntry) (ss : List IteratorState) (k : ℕ) (s t : IteratorState) (e : SlateDBError) → k < length ss → s ≡ get_or ss k s → IsTaken g s → Nexts s t (Err e) → CanFail (are_whole ss) e
 refused g ss k s t e lt is a n =
     let cause = (n.answers (clean g s a) (begun g s a)).cause in
     record { initialised = cause.initialised; alive = cause.alive; memory = λ all. cause.memory (one_whole ss k s lt is all) }
 
 -- a source that refuses has failed
-pub refusal_marks : (g : Option RowEntry) (s t : IteratorState) (e : SlateDBError) → IsTaken g s → Nexts s t (Err e) → t.failed ≡ true
+pub refusal_marks : (g : Option RowEntry) (s t : IteratorState) (e : SlateDBError) → IsTaken g s → Nexts s t (Err e) → t.failure ≡ Some e
 refusal_marks g s t e a n = (n.answers (clean g s a) (begun g s a)).failed
 
-fails_at : (ss : List IteratorState) (k : ℕ) (t : IteratorState) → k < length ss → t.failed ≡ true → some_failed (set ss k t) ≡ true
-fails_at [] k t lt failed = absurd (omega arith)
-fails_at (s ∷ ss) zero t lt failed = ap (λ b. cond b true (some_failed ss)) failed
-fails_at (s ∷ ss) (suc k) t lt failed = by s.failed (fails_at ss k t (omega arith) failed)
-  where
-    by : (b : Bool) → some_failed (set ss k t) ≡ true → cond b true (some_failed (set ss k t)) ≡ true
-    by true rest = refl
-    by false rest = rest
+fails_at : (ss : List IteratorState) (k : ℕ) (t : IteratorState) (e : SlateDBError) → k < length ss → t.failure ≡ Some e → OneFailedBy (set ss k t) e
+fails_at [] k t e lt failed = absurd (omega arith)
+fails_at (s ∷ ss) zero t e lt failed = inl failed
+fails_at (s ∷ ss) (suc k) t e lt failed = inr (fails_at ss k t e (omega arith) failed)
 
 -- ---- a source at its place
 
@@ -281,8 +302,8 @@ pub head_within : {T : Type 0} (f : T → IteratorState) (hs : List (Option RowE
 head_within f hs xs all k taken same lt = let count = same_count hs (map f xs) taken in omega (arith, count, state_within f xs all k same lt)
 
 -- where it has failed, one has
-pub one_failed : {T : Type 0} (f : T → IteratorState) (xs : List T) (k : ℕ) (y : T) → k < length (map f xs) → (f y).failed ≡ true → some_failed (map f (set xs k y)) ≡ true
-one_failed f xs k y lt failed = ap some_failed (map-set f xs k y) ∙ fails_at (map f xs) k (f y) lt failed
+pub one_failed : {T : Type 0} (f : T → IteratorState) (xs : List T) (k : ℕ) (y : T) (e : SlateDBError) → k < length (map f xs) → (f y).failure ≡ Some e → OneFailedBy (map f (set xs k y)) e
+one_failed f xs k y e lt failed = subst (λ (w : List IteratorState). OneFailedBy w e) (sym (map-set f xs k y)) (fails_at (map f xs) k (f y) e lt failed)
 
 -- ---- what holds of each source
 
@@ -299,19 +320,19 @@ all_set P (y ∷ xs) (suc k) x h all = (all.0, all_set P xs k x h all.1)
 -- ---- the first rows
 
 -- a source is initialised, and its first row taken
-pub steps_first : (s i t : IteratorState) (h : Option RowEntry) → s.failed ≡ false → i ≡ record s { initialised = true } → Nexts i t (Ok h) → Steps s t h
-steps_first s i t h alive is n = by_answer h (n.answers (ap (λ (z : IteratorState). z.failed) is ∙ alive) (ap (λ (z : IteratorState). z.initialised) is)) where
+pub steps_first : (s i t : IteratorState) (h : Option RowEntry) → s.failure ≡ None → i ≡ record s { initialised = true } → Nexts i t (Ok h) → Steps s t h
+steps_first s i t h alive is n = by_answer h (n.answers (ap (λ (z : IteratorState). z.failure) is ∙ alive) (ap (λ (z : IteratorState). z.initialised) is)) where
   by_answer : (h : Option RowEntry) → NextAnswers i t (Ok h) → Steps s t h
   by_answer None b =
       let same : t ≡ record s { initialised = true } = b.same ∙ is in
-      (sym (ap (λ (z : IteratorState). z.rows) same), (ap (λ (z : IteratorState). z.failed) same ∙ alive, ap (λ (z : IteratorState). z.initialised) same, ap (λ (z : IteratorState). z.rows) b.same ∙ b.rows, ap (λ (z : IteratorState). z.whole) b.same ∙ b.whole), ap (λ (z : IteratorState). z.whole) same)
+      (sym (ap (λ (z : IteratorState). z.rows) same), (ap (λ (z : IteratorState). z.failure) same ∙ alive, ap (λ (z : IteratorState). z.initialised) same, ap (λ (z : IteratorState). z.rows) b.same ∙ b.rows, ap (λ (z : IteratorState). z.whole) b.same ∙ b.whole), ap manner same)
   by_answer (Some x) b =
       let same : record s { initialised = true } ≡ record t { rows = row_of x ∷ t.rows } = sym is ∙ b in
-      (ap (λ (z : IteratorState). z.rows) same, (sym (ap (λ (z : IteratorState). z.failed) same) ∙ alive, sym (ap (λ (z : IteratorState). z.initialised) same)), sym (ap (λ (z : IteratorState). z.whole) same))
+      (ap (λ (z : IteratorState). z.rows) same, (sym (ap (λ (z : IteratorState). z.failure) same) ∙ alive, sym (ap (λ (z : IteratorState). z.initialised) same)), sym (ap manner same))
 
-pub alive_at : (hs : List (Option RowEntry)) (ss : List IteratorState) (k : ℕ) (s : IteratorState) → AllBegun hs ss → length hs ≡ k → k < length ss → s ≡ get_or ss k s → s.failed ≡ false
+pub alive_at : (hs : List (Option RowEntry)) (ss : List IteratorState) (k : ℕ) (s : IteratorState) → AllBegun hs ss → length hs ≡ k → k < length ss → s ≡ get_or ss k s → s.failure ≡ None
 alive_at [] [] k s a n lt is = absurd (omega arith)
-alive_at [] (r ∷ ss) zero s a n lt is = ap (λ (z : IteratorState). z.failed) is ∙ a.0
+alive_at [] (r ∷ ss) zero s a n lt is = ap (λ (z : IteratorState). z.failure) is ∙ a.0
 alive_at [] (r ∷ ss) (suc k) s a n lt is = absurd (omega arith)
 alive_at (h ∷ hs) [] k s a n lt is = absurd a
 alive_at (h ∷ hs) (r ∷ ss) zero s a n lt is = absurd (omega arith)
@@ -320,20 +341,20 @@ alive_at (h ∷ hs) (r ∷ ss) (suc k) s a n lt is = alive_at hs ss k s a.1 (ome
 pub record More (hs : List (Option RowEntry)) (ss : List IteratorState) (k : ℕ) (t : IteratorState) (h : Option RowEntry) : Type 0 where
   pub begun : AllBegun (hs ++ h ∷ []) (set ss k t)
   pub rows : lists (hs ++ h ∷ []) (rows_left (set ss k t)) ≡ lists hs (rows_left ss)
-  pub whole : are_whole (set ss k t) ≡ are_whole ss
+  pub same_manner : manners (set ss k t) ≡ manners ss
 
 pub begin_more : (hs : List (Option RowEntry)) (ss : List IteratorState) (k : ℕ) (s t : IteratorState) (h : Option RowEntry) → AllBegun hs ss → length hs ≡ k → k < length ss → s ≡ get_or ss k s → Steps s t h → More hs ss k t h
 begin_more [] [] k s t h a n lt is st = absurd (omega arith)
 begin_more [] (r ∷ ss) zero s t h a n lt is st =
     let same : rows_of (option_to_list h) ++ t.rows ≡ r.rows = sym (ap (λ (z : IteratorState). z.rows) (sym is) ∙ st.0) in
-    let whole : t.whole ≡ r.whole = st.2 ∙ ap (λ (z : IteratorState). z.whole) is in
-    record { begun = (st.1, a.1); rows = ap (λ (w : List Row). w ∷ rows_left ss) same; whole = ap (λ b. cond b (are_whole ss) false) whole }
+    let alike : manner t ≡ manner r = st.2 ∙ ap manner is in
+    record { begun = (st.1, a.1); rows = ap (λ (w : List Row). w ∷ rows_left ss) same; same_manner = ap (λ (m : Bool × Bool). m ∷ manners ss) alike }
 begin_more [] (r ∷ ss) (suc k) s t h a n lt is st = absurd (omega arith)
 begin_more (g ∷ hs) [] k s t h a n lt is st = absurd a
 begin_more (g ∷ hs) (r ∷ ss) zero s t h a n lt is st = absurd (omega arith)
 begin_more (g ∷ hs) (r ∷ ss) (suc k) s t h a n lt is st =
     let ih = begin_more hs ss k s t h a.1 (omega arith) (omega arith) is st in
-    record { begun = (a.0, ih.begun); rows = ap (λ (w : List (List Row)). (rows_of (option_to_list g) ++ r.rows) ∷ w) ih.rows; whole = ap (λ b. cond r.whole b false) ih.whole }
+    record { begun = (a.0, ih.begun); rows = ap (λ (w : List (List Row)). (rows_of (option_to_list g) ++ r.rows) ∷ w) ih.rows; same_manner = ap (λ (ms : List (Bool × Bool)). manner r ∷ ms) ih.same_manner }
 
 pub all_begun : (hs : List (Option RowEntry)) (ss : List IteratorState) → AllBegun hs ss → length ss ≤ length hs → AllTaken hs ss
 all_begun [] [] a n = tt
@@ -343,6 +364,9 @@ all_begun (h ∷ hs) (s ∷ ss) a n = (a.0, all_begun hs ss a.1 (omega arith))
 
 pub one_fails : (ss : List IteratorState) (k : ℕ) (s : IteratorState) (e : SlateDBError) → k < length ss → s ≡ get_or ss k s → CanFail s.whole e → CanFail (are_whole ss) e
 one_fails ss k s e lt is cause = record { initialised = cause.initialised; alive = cause.alive; memory = λ all. cause.memory (one_whole ss k s lt is all) }
+
+pub one_inexact : (ss : List IteratorState) (k : ℕ) (s : IteratorState) (e : SlateDBError) → k < length ss → s ≡ get_or ss k s → CanFail (is_exact s) e → CanFail (are_exact ss) e
+one_inexact ss k s e lt is cause = record { initialised = cause.initialised; alive = cause.alive; memory = λ all. cause.memory (one_exact ss k s lt is all) }
 
 -- ---- rows that are skipped
 
@@ -378,7 +402,7 @@ skip_end order test hs ss a high = by (best order hs) refl high
 
 -- what is taken is dropped
 pub dropped : (order : IterationOrder) (hs hs' : List (Option RowEntry)) (ss ss' : List IteratorState) (o : Option RowEntry) → Takes order false hs ss hs' ss' o → Drops order hs ss hs' ss'
-dropped order hs hs' ss ss' o t = record { rows = by o t.rows t.ends; taken = t.taken; whole = t.whole }
+dropped order hs hs' ss ss' o t = record { rows = by o t.rows t.ends; taken = t.taken; same_manner = t.same_manner }
   where
     by : (o : Option RowEntry) → merged_left order hs ss ≡ rows_of (option_to_list o) ++ merged_left order hs' ss' → (o ≡ None → (merged_left order hs ss ≡ []) × (are_whole ss ≡ true)) → merged_left order hs' ss' ≡ behind_first (merged_left order hs ss)
     by None e ends = let none = (ends refl).0 in sym e ∙ (none ∙ sym (ap behind_first none))

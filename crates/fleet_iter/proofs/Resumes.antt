@@ -17,7 +17,7 @@ use Rattle.row_laws.proofs.ApartRows.{below_too, false_or, filter_all, passes, o
 use Rattle.row_laws.proofs.Elements.{all_weaken}
 use Rattle.row_laws.proofs.KeyRows.{exact}
 use Rattle.fleet_iter.specs.Iteration.{IteratorState, AreRising, Moves, from_key, without_first}
-use Rattle.fleet_iter.specs.Resume.{is_written, Resumes, ResumesBehind}
+use Rattle.fleet_iter.specs.Resume.{is_written, Resumes, ResumesBy, ResumesBehind}
 use Rattle.fleet_iter.proofs.RisingRows.{rising_without}
 use Rattle.fleet_iter.proofs.Dedup.{from_key_skipped}
 
@@ -88,9 +88,13 @@ pub resumes : (whole : Bool) (c : Cursor) (old sought new : IteratorState) → M
 resumes true c old sought new m e = e ∙ ap (λ (s : IteratorState). record s { rows = without_first (is_written c) s.rows }) m
 resumes false c old sought new m e = record {
   initialised = ap (λ (s : IteratorState). s.initialised) e ∙ m.initialised;
-  failed = ap (λ (s : IteratorState). s.failed) e ∙ m.failed;
+  failure = ap (λ (s : IteratorState). s.failure) e ∙ m.failure;
   rising = subst AreRising (sym (ap (λ (s : IteratorState). s.rows) e)) (rising_without (is_written c) sought.rows m.rising);
 }
 
 pub resumes_at : (whole : Bool) (cursor : Option Cursor) (c : Cursor) (key : List ℕ) (old sought new : IteratorState) → cursor ≡ Some c → key ≡ c.0 → Moves whole key old sought → new ≡ record sought { rows = without_first (is_written c) sought.rows } → Resumes whole cursor old new
 resumes_at whole cursor c key old sought new is same m e = subst (λ w. Resumes whole w old new) (sym is) (resumes whole c old sought new (subst (λ (w : List ℕ). Moves whole w old sought) same m) e)
+
+-- and that it is what the seek left
+pub resumes_by : (told : List ℕ → IteratorState → Type 0) (cursor : Option Cursor) (c : Cursor) (key : List ℕ) (old left new : IteratorState) → cursor ≡ Some c → key ≡ c.0 → told key left → new ≡ record left { rows = without_first (is_written c) left.rows } → ResumesBy told cursor old new
+resumes_by told cursor c key old left new is same h e = subst (λ w. ResumesBy told w old new) (sym is) (record { left = left; told = subst (λ (w : List ℕ). told w left) same h; rows = e })

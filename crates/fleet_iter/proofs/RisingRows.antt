@@ -11,7 +11,7 @@ use Rattle.row_model.specs.Rows.{Row, key_cmp, row_cmp}
 use Rattle.row_laws.proofs.Elements.{all_weaken}
 use Rattle.fleet_rows.specs.declared.row.RowEntry.{RowEntry}
 use Rattle.fleet_rows.specs.Row.{rows_of}
-use Rattle.fleet_iter.specs.Iteration.{IteratorState, AreRising, OrderedRowsRise, are_rising, from_key, without_first, Moves}
+use Rattle.fleet_iter.specs.Iteration.{IteratorState, AreRising, OrderedRowsRise, are_rising, from_key, without_first, Moves, is_exact}
 
 pub not_after : (o p : Ordering) → ordering_then o p ≡ Less → is_gt o ≡ false
 not_after Less p h = refl
@@ -72,12 +72,12 @@ rising_from key (r ∷ rows) h = by (is_below key r) (rising_from key rows h.1)
     by false rest = h
 
 -- what a seek drops is told
-pub moves_on : (key : List ℕ) (s t : IteratorState) → AreRising s.rows → t ≡ record s { rows = from_key key s.rows } → Moves s.whole key s t
-moves_on key s t rising e = by s.whole
+pub moves_on : (key : List ℕ) (s t : IteratorState) → AreRising s.rows → t ≡ record s { rows = from_key key s.rows } → Moves (is_exact s) key s t
+moves_on key s t rising e = by (is_exact s)
   where
     by : (b : Bool) → Moves b key s t
     by true = e
-    by false = record { initialised = ap (λ (z : IteratorState). z.initialised) e; failed = ap (λ (z : IteratorState). z.failed) e; rising = subst AreRising (sym (ap (λ (z : IteratorState). z.rows) e)) (rising_from key s.rows rising) }
+    by false = record { initialised = ap (λ (z : IteratorState). z.initialised) e; failure = ap (λ (z : IteratorState). z.failure) e; rising = subst AreRising (sym (ap (λ (z : IteratorState). z.rows) e)) (rising_from key s.rows rising) }
 
 -- and so do those behind the first that pass a test
 pub rising_without : (test : Row → Bool) (rows : List Row) → AreRising rows → AreRising (without_first test rows)
@@ -89,9 +89,9 @@ rising_without test (r ∷ rows) h = by (test r) (rising_without test rows h.1)
     by false rest = h
 
 -- after a seek an iterator has not failed, and its rows rise
-pub moves_alive : (key : List ℕ) (s t : IteratorState) (whole : Bool) → Moves whole key s t → t.failed ≡ s.failed
-moves_alive key s t true m = ap (λ (z : IteratorState). z.failed) m
-moves_alive key s t false m = m.failed
+pub moves_alive : (key : List ℕ) (s t : IteratorState) (whole : Bool) → Moves whole key s t → t.failure ≡ s.failure
+moves_alive key s t true m = ap (λ (z : IteratorState). z.failure) m
+moves_alive key s t false m = m.failure
 
 pub moves_rising : (key : List ℕ) (s t : IteratorState) (whole : Bool) → Moves whole key s t → AreRising s.rows → AreRising t.rows
 moves_rising key s t true m h = subst AreRising (sym (ap (λ (z : IteratorState). z.rows) m)) (rising_from key s.rows h)

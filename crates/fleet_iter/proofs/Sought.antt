@@ -1,6 +1,7 @@
 -- Sources of a merge that are sought, one after the other.
 use Rattle.std.proofs.Common.{◌≡◌, ◌∙◌, ◌<◌, ◌≤◌, sym, refl, ap, subst, ℕ, List, [], ◌∷◌, ◌++◌, suc, zero, map, length, Option, Some, None, Bool, true, false, cond, get_or, arith}
 use Rattle.std.specs.Option.{option_to_list}
+use Rattle.std.specs.Prelude.{◌&&◌}
 use Rattle.std.proofs.Math.ListN.{set}
 use Rattle.std.proofs.lemmas.List.{length-map, set-get_or}
 use Rattle.row_model.specs.Rows.{Row}
@@ -8,14 +9,14 @@ use Rattle.row_laws.specs.Keys.{is_below}
 use Rattle.fleet_rows.specs.Row.{row_of, rows_of}
 use Rattle.fleet_rows.specs.declared.row.RowEntry.{RowEntry}
 use Rattle.std.specs.List.{AllByRecursion}
-use Rattle.fleet_iter.specs.Iteration.{IteratorState, AreRising, from_key}
-use Rattle.fleet_iter.proofs.Merges.{one_whole}
+use Rattle.fleet_iter.specs.Iteration.{IteratorState, AreRising, from_key, is_exact}
+use Rattle.fleet_iter.proofs.Merges.{one_exact}
 use Rattle.fleet_iter.proofs.RisingRows.{rising_from}
 use Rattle.fleet_iter.proofs.RisingMerges.{rising_merged}
 use Rattle.fleet_iter.proofs.Dedup.{from_key_skipped}
 use Rattle.fleet_iter.specs.declared.iterator.IterationOrder.{IterationOrder}
 use Rattle.fleet_iter.specs.declared.iterator.IterationOrder.TheVariants.{Ascending, Descending}
-use Rattle.fleet_iter.specs.Merge.{head_passes, merged, lists, rows_left, merged_left, AllTaken, IsTaken, Steps, StepsFrom, SkipsTo, is_told, are_whole}
+use Rattle.fleet_iter.specs.Merge.{head_passes, merged, lists, rows_left, merged_left, AllTaken, IsTaken, Steps, StepsFrom, SkipsTo, is_told, manner, manners, all_whole, all_steady, are_exact}
 use Rattle.fleet_iter.proofs.SoughtMerges.{parts_rise, seek_merged}
 
 -- the first lists are sought
@@ -70,10 +71,17 @@ taken_set (g ∷ hs) [] a i h t k = absurd a
 taken_set (g ∷ hs) (r ∷ ss) a zero h t k = (k, a.1)
 taken_set (g ∷ hs) (r ∷ ss) a (suc i) h t k = (a.0, taken_set hs ss a.1 i h t k)
 
-whole_set : (ss : List IteratorState) (i : ℕ) (s t : IteratorState) → s ≡ get_or ss i s → t.whole ≡ s.whole → are_whole (set ss i t) ≡ are_whole ss
-whole_set [] i s t is e = refl
-whole_set (r ∷ ss) zero s t is e = ap (λ b. cond b (are_whole ss) false) (e ∙ ap (λ (z : IteratorState). z.whole) is)
-whole_set (r ∷ ss) (suc i) s t is e = ap (λ b. cond r.whole b false) (whole_set ss i s t is e)
+manner_set : (ss : List IteratorState) (i : ℕ) (s t : IteratorState) → s ≡ get_or ss i s → manner t ≡ manner s → manners (set ss i t) ≡ manners ss
+manner_set [] i s t is e = refl
+manner_set (r ∷ ss) zero s t is e = ap (λ (m : Bool × Bool). m ∷ manners ss) (e ∙ ap manner is)
+manner_set (r ∷ ss) (suc i) s t is e = ap (λ (ms : List (Bool × Bool)). manner r ∷ ms) (manner_set ss i s t is e)
+
+get_later : (ss : List IteratorState) (i j : ℕ) (t d : IteratorState) → suc i ≤ j → get_or (set ss i t) j d ≡ get_or ss j d
+get_later [] i j t d le = refl
+get_later (r ∷ ss) zero zero t d le = absurd (omega arith)
+get_later (r ∷ ss) zero (suc j) t d le = refl
+get_later (r ∷ ss) (suc i) zero t d le = absurd (omega arith)
+get_later (r ∷ ss) (suc i) (suc j) t d le = get_later ss i j t d (omega arith)
 
 pub head_taken : (hs : List (Option RowEntry)) (ss : List IteratorState) → AllTaken hs ss → (i : ℕ) (h : Option RowEntry) (s : IteratorState) → i < length ss → h ≡ get_or hs i h → s ≡ get_or ss i s → IsTaken h s
 head_taken [] [] a i h s lt e f = absurd (omega arith)
@@ -85,19 +93,18 @@ head_taken (g ∷ hs) (r ∷ ss) a (suc i) h s lt e f = head_taken hs ss a.1 i h
 -- ---- a step
 
 pub record Sought (order : IterationOrder) (key : List ℕ) (i : ℕ) (ls : List (List Row)) (hs : List (Option RowEntry)) (ss old : List IteratorState) : Type 0 where
-  pub rows : is_told order (are_whole old) ≡ true → lists hs (rows_left ss) ≡ sought key i ls
+  pub rows : is_told order (are_exact old) ≡ true → lists hs (rows_left ss) ≡ sought key i ls
   pub rising : AllByRecursion AreRising (lists hs (rows_left ss))
   pub taken : AllTaken hs ss
-  pub whole : is_told order (are_whole old) ≡ true → are_whole ss ≡ are_whole old
+  pub same_manner : is_told order (are_exact old) ≡ true → manners ss ≡ manners old
+  pub later : (j : ℕ) (d : IteratorState) → i ≤ j → get_or ss j d ≡ get_or old j d
 
--- what is whole stays whole
-pub stays_whole : (order : IterationOrder) (key : List ℕ) (i : ℕ) (ls : List (List Row)) (hs : List (Option RowEntry)) (ss old : List IteratorState) → Sought order key i ls hs ss old → are_whole old ≡ true → are_whole ss ≡ true
-stays_whole Ascending key i ls hs ss old k all = k.whole all ∙ all
-stays_whole Descending key i ls hs ss old k all = k.whole refl ∙ all
+exact_of : (ss old : List IteratorState) → manners ss ≡ manners old → are_exact old ≡ true → are_exact ss ≡ true
+exact_of ss old same all = ap (λ (ms : List (Bool × Bool)). all_steady ms && all_whole ms) same ∙ all
 
 one_told : (order : IterationOrder) (key : List ℕ) (i : ℕ) (ls : List (List Row)) (hs : List (Option RowEntry)) (ss old : List IteratorState) (s : IteratorState) → i < length ss → s ≡ get_or ss i s → Sought order key i ls hs ss old
-    → is_told order (are_whole old) ≡ true → is_told order s.whole ≡ true
-one_told Ascending key i ls hs ss old s lt f k all = one_whole ss i s lt f (k.whole all ∙ all)
+    → is_told order (are_exact old) ≡ true → is_told order (is_exact s) ≡ true
+one_told Ascending key i ls hs ss old s lt f k all = one_exact ss i s lt f (exact_of ss old (k.same_manner all) all)
 one_told Descending key i ls hs ss old s lt f k all = refl
 
 rising_at : (i : ℕ) (ls : List (List Row)) → AllByRecursion AreRising ls → AreRising (get_or ls i [])
@@ -129,16 +136,17 @@ step_taken false key s t h st = st.0
 
 -- the head is below the key: the source goes on to the key
 pub sought_step : (order : IterationOrder) (key : List ℕ) (i : ℕ) (ls : List (List Row)) (hs : List (Option RowEntry)) (ss old : List IteratorState) (g h : Option RowEntry) (s t : IteratorState) → i < length ls → i < length ss → Sought order key i ls hs ss old
-    → g ≡ get_or hs i g → s ≡ get_or ss i s → head_passes (is_below key) g ≡ true → StepsFrom (is_told order s.whole) key s t h → Sought order key (suc i) ls (set hs i h) (set ss i t) old
+    → g ≡ get_or hs i g → s ≡ get_or ss i s → head_passes (is_below key) g ≡ true → StepsFrom (is_told order (is_exact s)) key s t h → Sought order key (suc i) ls (set hs i h) (set ss i t) old
 sought_step order key i ls hs ss old g h s t lt lt2 k e f low st = record {
   rows = λ told. rows told (subst (λ b. StepsFrom b key s t h) (one_told order key i ls hs ss old s lt2 f k told) st);
   rising = subst (AllByRecursion AreRising) (sym (lists_set hs ss k.taken i h t))
-      (rising_set i (lists hs (rows_left ss)) (rows_of (option_to_list h) ++ t.rows) (step_rises (is_told order s.whole) key s t h (source_rises order key i ls hs ss old g s lt2 k e f) st) k.rising);
-  taken = taken_set hs ss k.taken i h t (step_taken (is_told order s.whole) key s t h st);
-  whole = λ told. let exact : Steps (record s { rows = from_key key s.rows }) t h = subst (λ b. StepsFrom b key s t h) (one_told order key i ls hs ss old s lt2 f k told) st in whole_set ss i s t f exact.2 ∙ k.whole told;
+      (rising_set i (lists hs (rows_left ss)) (rows_of (option_to_list h) ++ t.rows) (step_rises (is_told order (is_exact s)) key s t h (source_rises order key i ls hs ss old g s lt2 k e f) st) k.rising);
+  taken = taken_set hs ss k.taken i h t (step_taken (is_told order (is_exact s)) key s t h st);
+  same_manner = λ told. let exact : Steps (record s { rows = from_key key s.rows }) t h = subst (λ b. StepsFrom b key s t h) (one_told order key i ls hs ss old s lt2 f k told) st in manner_set ss i s t f exact.2 ∙ k.same_manner told;
+  later = λ j d le. get_later ss i j t d le ∙ k.later j d (omega (arith, le));
 }
   where
-    rows : is_told order (are_whole old) ≡ true → Steps (record s { rows = from_key key s.rows }) t h → lists (set hs i h) (rows_left (set ss i t)) ≡ sought key (suc i) ls
+    rows : is_told order (are_exact old) ≡ true → Steps (record s { rows = from_key key s.rows }) t h → lists (set hs i h) (rows_left (set ss i t)) ≡ sought key (suc i) ls
     rows told exact = by g refl low
       where
         here : get_or ls i [] ≡ rows_of (option_to_list g) ++ s.rows
@@ -164,14 +172,15 @@ sought_left order key i ls hs ss old g lt lt2 k e high = record {
   rows = λ told. k.rows told ∙ sym (sought_more key i ls lt ∙ (ap (λ (w : List Row). set (sought key i ls) i w) (same told ∙ sym (sought_at key i ls)) ∙ set-get_or (sought key i ls) i []));
   rising = k.rising;
   taken = k.taken;
-  whole = k.whole;
+  same_manner = k.same_manner;
+  later = λ j d le. k.later j d (omega (arith, le));
 }
   where
     by : (s : IteratorState) (w : Option RowEntry) → IsTaken w s → head_passes (is_below key) w ≡ false → from_key key (rows_of (option_to_list w) ++ s.rows) ≡ rows_of (option_to_list w) ++ s.rows
     by s None a high = ap (from_key key) a.2 ∙ sym a.2
     by s (Some x) a high = ap (λ c. cond c (from_key key s.rows) (row_of x ∷ s.rows)) high
 
-    same : is_told order (are_whole old) ≡ true → from_key key (get_or ls i []) ≡ get_or ls i []
+    same : is_told order (are_exact old) ≡ true → from_key key (get_or ls i []) ≡ get_or ls i []
     same told =
         let at = state_at ss i lt2 in
         let here : get_or ls i [] ≡ rows_of (option_to_list g) ++ at.0.rows = sym (sought_at key i ls) ∙ (ap (λ (w : List (List Row)). get_or w i []) (sym (k.rows told)) ∙ lists_at hs ss k.taken i g at.0 lt2 e at.1) in
@@ -179,23 +188,23 @@ sought_left order key i ls hs ss old g lt lt2 k e high = record {
 
 -- all sources went on
 pub sought_merge : (order : IterationOrder) (key : List ℕ) (n : ℕ) (hs0 hs : List (Option RowEntry)) (ss old : List IteratorState) → length (lists hs0 (rows_left old)) ≤ n → AreRising (merged_left order hs0 old) → Sought order key n (lists hs0 (rows_left old)) hs ss old
-    → SkipsTo (is_told order (are_whole old)) order key hs0 old hs ss
-sought_merge order key n hs0 hs ss old le rising k = by (is_told order (are_whole old)) refl
+    → SkipsTo (is_told order (are_exact old)) order key hs0 old hs ss
+sought_merge order key n hs0 hs ss old le rising k = by (is_told order (are_exact old)) refl
   where
-    in_order : (order : IterationOrder) → is_told order (are_whole old) ≡ false → AreRising (merged_left order hs ss)
+    in_order : (order : IterationOrder) → is_told order (are_exact old) ≡ false → AreRising (merged_left order hs ss)
     in_order Ascending e = rising_merged (lists hs (rows_left ss)) k.rising
     in_order Descending e = absurd (cc e)
 
-    by : (b : Bool) → is_told order (are_whole old) ≡ b → SkipsTo b order key hs0 old hs ss
+    by : (b : Bool) → is_told order (are_exact old) ≡ b → SkipsTo b order key hs0 old hs ss
     by true e = record {
       rows = ap (merged order) (k.rows e ∙ sought_all key n (lists hs0 (rows_left old)) le) ∙ (seek_merged order key (lists hs0 (rows_left old)) rising ∙ from_key_skipped key (merged_left order hs0 old));
       taken = k.taken;
-      whole = k.whole e;
+      same_manner = k.same_manner e;
     }
     by false e = (k.taken, in_order order e)
 
 pub sought_none : (order : IterationOrder) (key : List ℕ) (hs : List (Option RowEntry)) (ss : List IteratorState) → AllTaken hs ss → AreRising (merged_left order hs ss) → Sought order key 0 (lists hs (rows_left ss)) hs ss ss
-sought_none order key hs ss taken rising = record { rows = λ _. refl; rising = parts_rise order (lists hs (rows_left ss)) rising; taken = taken; whole = λ _. refl }
+sought_none order key hs ss taken rising = record { rows = λ _. refl; rising = parts_rise order (lists hs (rows_left ss)) rising; taken = taken; same_manner = λ _. refl; later = λ j d le. refl }
 
 -- how many lists there are
 pub within_lists : {T : Type 0} (f : T → IteratorState) (hs : List (Option RowEntry)) (all : List T) (k : ℕ) → AllTaken hs (map f all) → k < length all → k < length (lists hs (rows_left (map f all)))

@@ -1,5 +1,5 @@
 -- Iterators that hold all their rows.
-use Rattle.std.specs.Prelude.{ℕ, List, None, true, false}
+use Rattle.std.specs.Prelude.{ℕ, List, None, true}
 use Rattle.row_model.specs.Rows.{Row}
 use Rattle.fleet_iter.specs.Iteration.{IteratorState}
 
@@ -10,7 +10,7 @@ pub record Listed : Type 0 where
 
 -- these rows are left; it needs no init, and never fails
 abbrev pub left : List Row → IteratorState
-left rows = record { rows = rows; initialised = true; failed = false; whole = true; refusal = None }
+left rows = record { rows = rows; initialised = true; failure = None; whole = true; steady = true; refusal = None }
 
 abbrev pub giving : Listed → IteratorState
 giving l = left l.rows

@@ -1,5 +1,5 @@
 -- The merge of lists of rows: always the least head, and of alike heads the earlier list's.
-use Rattle.std.specs.Prelude.{◌≡◌, ◌≢◌, ℕ, ◌+◌, List, [], ◌∷◌, ◌++◌, Option, Some, None, Bool, true, false, not, ◌&&◌, ⊤, map, flat_map, if◌then◌else◌}
+use Rattle.std.specs.Prelude.{◌≡◌, ◌≢◌, ◌⊎◌, ℕ, ◌+◌, List, [], ◌∷◌, ◌++◌, Option, Some, None, Bool, true, false, not, ◌&&◌, ⊤, map, flat_map, if◌then◌else◌}
 use Rattle.std.specs.Option.{option_to_list}
 use Rattle.std.specs.Borrow.{Bor}
 use Rattle.std.specs.declared.cmp.Ordering.{Ordering}
@@ -106,8 +106,8 @@ head_passes test (Some x) = test (row_of x)
 
 -- a source whose first row was taken; none is only where it has ended
 abbrev pub IsTaken : Option RowEntry → IteratorState → Type 0
-IsTaken (Some x) s = (s.failed ≡ false) × (s.initialised ≡ true)
-IsTaken None s = (s.failed ≡ false) × (s.initialised ≡ true) × (s.rows ≡ []) × (s.whole ≡ true)
+IsTaken (Some x) s = (s.failure ≡ None) × (s.initialised ≡ true)
+IsTaken None s = (s.failure ≡ None) × (s.initialised ≡ true) × (s.rows ≡ []) × (s.whole ≡ true)
 
 abbrev pub AllTaken : List (Option RowEntry) → List IteratorState → Type 0
 AllTaken [] [] = ⊤
@@ -115,19 +115,39 @@ AllTaken (h ∷ hs) (s ∷ ss) = IsTaken h s × AllTaken hs ss
 AllTaken [] (s ∷ ss) = ⊥
 AllTaken (h ∷ hs) [] = ⊥
 
--- whether all are whole
+-- what no step of a source changes: whether it is whole, and whether it is steady
+abbrev pub manner : IteratorState → Bool × Bool
+manner s = (s.whole, s.steady)
+
+abbrev pub manners : List IteratorState → List (Bool × Bool)
+manners ss = map manner ss
+
+-- whether all are whole, and whether all are steady
+abbrev pub all_whole : List (Bool × Bool) → Bool
+all_whole [] = true
+all_whole (m ∷ ms) = if m.0 then all_whole ms else false
+
+abbrev pub all_steady : List (Bool × Bool) → Bool
+all_steady [] = true
+all_steady (m ∷ ms) = if m.1 then all_steady ms else false
+
 abbrev pub are_whole : List IteratorState → Bool
-are_whole [] = true
-are_whole (s ∷ ss) = if s.whole then are_whole ss else false
+are_whole ss = all_whole (manners ss)
+
+abbrev pub are_steady : List IteratorState → Bool
+are_steady ss = all_steady (manners ss)
+
+abbrev pub are_exact : List IteratorState → Bool
+are_exact ss = are_steady ss && are_whole ss
 
 -- a step of a source: the row that is its next head
 abbrev pub Steps : IteratorState → IteratorState → Option RowEntry → Type 0
-Steps s t h = (s.rows ≡ rows_of (option_to_list h) ++ t.rows) × IsTaken h t × (t.whole ≡ s.whole)
+Steps s t h = (s.rows ≡ rows_of (option_to_list h) ++ t.rows) × IsTaken h t × (manner t ≡ manner s)
 
 -- whether it is told what a seek of a source leaves: in descending order the source is read on in place of being sought
 abbrev pub is_told : IterationOrder → Bool → Bool
-is_told Ascending whole = whole
-is_told Descending whole = true
+is_told Ascending exact = exact
+is_told Descending exact = true
 
 -- a source's next head from a key on; where it is not told which rows are left, they rise
 abbrev pub StepsFrom : Bool → List ℕ → IteratorState → IteratorState → Option RowEntry → Type 0
@@ -138,14 +158,14 @@ StepsFrom false key s t h = IsTaken h t × AreRising (rows_of (option_to_list h)
 pub record Takes (order : IterationOrder) (dedup : Bool) (hs : List (Option RowEntry)) (ss : List IteratorState) (hs' : List (Option RowEntry)) (ss' : List IteratorState) (o : Option RowEntry) : Type 0 where
   pub rows : given dedup (merged_left order hs ss) ≡ rows_of (option_to_list o) ++ given dedup (merged_left order hs' ss')
   pub taken : AllTaken hs' ss'
-  pub whole : are_whole ss' ≡ are_whole ss
+  pub same_manner : manners ss' ≡ manners ss
   pub ends : o ≡ None → (merged_left order hs ss ≡ []) × (are_whole ss ≡ true)
 
 -- the first row is dropped, if there is one
 pub record Drops (order : IterationOrder) (hs : List (Option RowEntry)) (ss : List IteratorState) (hs' : List (Option RowEntry)) (ss' : List IteratorState) : Type 0 where
   pub rows : merged_left order hs' ss' ≡ behind_first (merged_left order hs ss)
   pub taken : AllTaken hs' ss'
-  pub whole : are_whole ss' ≡ are_whole ss
+  pub same_manner : manners ss' ≡ manners ss
 
 -- a source whose head is not below a key is left as it is, and its head stays
 abbrev pub LeavesFrom : {T : Type 0} → List ℕ → List (Option RowEntry) → List T → List (Option RowEntry) → List T → Type 0
@@ -153,16 +173,16 @@ LeavesFrom key hs xs hs' xs' = (place : ℕ) (x : RowEntry) → slice_get hs pla
 
 abbrev pub NoneFailed : List IteratorState → Type 0
 NoneFailed [] = ⊤
-NoneFailed (s ∷ ss) = (s.failed ≡ false) × NoneFailed ss
+NoneFailed (s ∷ ss) = (s.failure ≡ None) × NoneFailed ss
 
--- whether one of them has failed
-abbrev pub some_failed : List IteratorState → Bool
-some_failed [] = false
-some_failed (s ∷ ss) = if s.failed then true else some_failed ss
+-- one of them has failed by this refusal
+abbrev pub OneFailedBy : List IteratorState → SlateDBError → Type 0
+OneFailedBy [] e = ⊥
+OneFailedBy (s ∷ ss) e = (s.failure ≡ Some e) ⊎ OneFailedBy ss e
 
--- an error, unless it is want of memory, is that of a source which failed by it
+-- a refusal, unless it is want of memory, is the one by which a source failed
 abbrev pub IsHandedOn : List IteratorState → SlateDBError → Type 0
-IsHandedOn ss e = e ≢ Memory → some_failed ss ≡ true
+IsHandedOn ss e = e ≢ Memory → OneFailedBy ss e
 
 -- the first rows of the first sources were taken, and none has failed
 abbrev pub AllBegun : List (Option RowEntry) → List IteratorState → Type 0
@@ -174,13 +194,13 @@ AllBegun (h ∷ hs) (s ∷ ss) = IsTaken h s × AllBegun hs ss
 pub record Begins (ss : List IteratorState) (hs' : List (Option RowEntry)) (ss' : List IteratorState) : Type 0 where
   pub rows : lists hs' (rows_left ss') ≡ rows_left ss
   pub taken : AllTaken hs' ss'
-  pub whole : are_whole ss' ≡ are_whole ss
+  pub same_manner : manners ss' ≡ manners ss
 
 -- the rows that pass a test are taken, up to the first that does not
 pub record Skips (order : IterationOrder) (test : Row → Bool) (hs : List (Option RowEntry)) (ss : List IteratorState) (hs' : List (Option RowEntry)) (ss' : List IteratorState) : Type 0 where
   pub rows : merged_left order hs' ss' ≡ without_first test (merged_left order hs ss)
   pub taken : AllTaken hs' ss'
-  pub whole : are_whole ss' ≡ are_whole ss
+  pub same_manner : manners ss' ≡ manners ss
 
 -- the rows below a key are dropped; where it is not told which are left, they rise
 abbrev pub SkipsTo : Bool → IterationOrder → List ℕ → List (Option RowEntry) → List IteratorState → List (Option RowEntry) → List IteratorState → Type 0
@@ -188,18 +208,18 @@ SkipsTo true order key hs ss hs' ss' = Skips order (is_below key) hs ss hs' ss'
 SkipsTo false order key hs ss hs' ss' = AllTaken hs' ss' × AreRising (merged_left order hs' ss')
 
 -- a merge's flags, heads and sources fit
-abbrev pub Fits : Bool → Bool → List (Option RowEntry) → List IteratorState → Type 0
-Fits true initialised hs ss = ⊤
-Fits false true hs ss = AllTaken hs ss
-Fits false false hs ss = (hs ≡ []) × NoneFailed ss
+abbrev pub Fits : Option SlateDBError → Bool → List (Option RowEntry) → List IteratorState → Type 0
+Fits (Some e) initialised hs ss = ⊤
+Fits None true hs ss = AllTaken hs ss
+Fits None false hs ss = (hs ≡ []) × NoneFailed ss
 
-abbrev pub merging : IterationOrder → Bool → Bool → Bool → List (Option RowEntry) → List IteratorState → IteratorState
-merging order dedup initialised failed hs ss =
-    record { rows = given dedup (merged_left order hs ss); initialised = initialised; failed = failed; whole = are_whole ss; refusal = None }
+abbrev pub merging : IterationOrder → Bool → Bool → Option SlateDBError → List (Option RowEntry) → List IteratorState → IteratorState
+merging order dedup initialised failure hs ss =
+    record { rows = given dedup (merged_left order hs ss); initialised = initialised; failure = failure; whole = are_whole ss; steady = are_steady ss; refusal = None }
 
 -- a merge with dedup that is not initialised
 abbrev pub starting : IterationOrder → List IteratorState → IteratorState
-starting order ss = record { rows = deduplicated (merged order (rows_left ss)); initialised = false; failed = false; whole = are_whole ss; refusal = None }
+starting order ss = record { rows = deduplicated (merged order (rows_left ss)); initialised = false; failure = None; whole = are_whole ss; steady = are_steady ss; refusal = None }
 
 -- The ascending merge of ordered lists, of which no two have a row with key and sequence in common, has all their rows in order.
 abbrev pub MergesSort : Type 0

@@ -11,7 +11,7 @@ abbrev pub merge_of : {T : Type 0} → (T → IteratorState) → MergeIterator T
 merge_of state m = merged_left m.order m.heads.items (map state m.sources.items)
 
 abbrev pub state_of : {T : Type 0} → (T → IteratorState) → MergeIterator T → IteratorState
-state_of state m = merging m.order m.dedup m.initialised m.failed m.heads.items (map state m.sources.items)
+state_of state m = merging m.order m.dedup m.initialised m.failure m.heads.items (map state m.sources.items)
 
 abbrev pub IsSound : {T : Type 0} → (T → Type 0) → (T → IteratorState) → MergeIterator T → Type 0
-IsSound sound state m = AllByRecursion sound m.sources.items × Fits m.failed m.initialised m.heads.items (map state m.sources.items)
+IsSound sound state m = AllByRecursion sound m.sources.items × Fits m.failure m.initialised m.heads.items (map state m.sources.items)

@@ -1,7 +1,8 @@
 -- Iterators that have read a row ahead.
-use Rattle.std.specs.Prelude.{◌≡◌, [], ◌∷◌, ◌++◌, Option, Some, None, true, false, Result, Ok, Err, ⊤}
+use Rattle.std.specs.Prelude.{◌≡◌, ◌≢◌, ℕ, Bool, List, [], ◌∷◌, ◌++◌, Option, Some, None, true, false, not, Result, Ok, Err, ⊤}
 use Rattle.std.specs.Borrow.{Bor}
 use Rattle.std.specs.Option.{option_to_list, option_copied}
+use Rattle.row_laws.specs.Keys.{is_below}
 use Rattle.fleet_rows.specs.Row.{row_of, rows_of}
 use Rattle.fleet_rows.specs.declared.row.RowEntry.{RowEntry}
 use Rattle.fleet_rows.specs.declared.errors.SlateDBError.{SlateDBError}
@@ -15,7 +16,17 @@ ahead row s = record s { rows = rows_of (option_to_list row) ++ s.rows }
 -- a row was read ahead only of an iterator that gives rows
 abbrev pub HasBegun : Option RowEntry → IteratorState → Type 0
 HasBegun None s = ⊤
-HasBegun (Some row) s = (s.failed ≡ false) × (s.initialised ≡ true)
+HasBegun (Some row) s = (s.failure ≡ None) × (s.initialised ≡ true)
+
+-- whether a row was read ahead that a seek to a key leaves
+abbrev pub is_left : List ℕ → Option RowEntry → Bool
+is_left key None = false
+is_left key (Some row) = not (is_below key (row_of row))
+
+-- A row that a seek leaves stays, and the inner iterator is as it was. Else the row goes, and the inner iterator is sought.
+pub record SeeksAhead (sought : List ℕ → IteratorState → Type 0) (row : Option RowEntry) (inner : IteratorState) (key : List ℕ) (new : IteratorState) : Type 0 where
+  pub stays : is_left key row ≡ true → new ≡ ahead row inner
+  pub goes_on : is_left key row ≡ false → sought key new
 
 -- the row is the first one left, and stays there
 pub record Shows (row : RowEntry) (old new : IteratorState) : Type 0 where
@@ -28,9 +39,9 @@ PeekAnswers old new (Ok (Some row)) = Shows row old new
 PeekAnswers old new (Err e) = NextFails old new e
 
 pub record Peeks (old new : IteratorState) (result : Result (Option RowEntry) SlateDBError) : Type 0 where
-  pub failed : old.failed ≡ true → StaysFailed (Option RowEntry) old new result
-  pub uninitialised : old.failed ≡ false → old.initialised ≡ false → StaysUninitialised (Option RowEntry) old new result
-  pub answers : old.failed ≡ false → old.initialised ≡ true → PeekAnswers old new result
+  pub failed : old.failure ≢ None → StaysFailed (Option RowEntry) old new result
+  pub uninitialised : old.failure ≡ None → old.initialised ≡ false → StaysUninitialised (Option RowEntry) old new result
+  pub answers : old.failure ≡ None → old.initialised ≡ true → PeekAnswers old new result
 
 -- the same of the answer alone: what is left behind the look cannot be told while what it shows is held
 abbrev pub LookAnswers : IteratorState → Result (Option RowEntry) SlateDBError → Type 0
@@ -39,9 +50,9 @@ LookAnswers s (Ok (Some row)) = s.rows ≡ row_of row ∷ behind_first s.rows
 LookAnswers s (Err e) = CanFail s.whole e × IsKnown s e
 
 pub record Looks (s : IteratorState) (result : Result (Option RowEntry) SlateDBError) : Type 0 where
-  pub failed : s.failed ≡ true → result ≡ Err IteratorFailed
-  pub uninitialised : s.failed ≡ false → s.initialised ≡ false → result ≡ Err IteratorNotInitialized
-  pub answers : s.failed ≡ false → s.initialised ≡ true → LookAnswers s result
+  pub failed : s.failure ≢ None → result ≡ Err IteratorFailed
+  pub uninitialised : s.failure ≡ None → s.initialised ≡ false → result ≡ Err IteratorNotInitialized
+  pub answers : s.failure ≡ None → s.initialised ≡ true → LookAnswers s result
 
 -- an answer by value
 abbrev pub shown : Result (Option (Bor RowEntry)) SlateDBError → Result (Option RowEntry) SlateDBError

@@ -1,5 +1,5 @@
 -- Rows taken up again behind a cursor, the key and sequence of the row that was written last.
-use Rattle.std.specs.Prelude.{◌≡◌, nat_le, ◌&&◌, bytes_eq, List, filter, Bool, true, false, Option, Some, None}
+use Rattle.std.specs.Prelude.{◌≡◌, ℕ, nat_le, ◌&&◌, bytes_eq, List, filter, Bool, true, false, Option, Some, None}
 use Rattle.row_model.specs.Rows.{Row, IsStrictlyOrdered}
 use Rattle.row_laws.specs.Keys.{is_from}
 use Rattle.row_laws.specs.Resume.{Cursor, is_unwritten}
@@ -14,11 +14,21 @@ abbrev pub rows_behind : Option Cursor → List Row → List Row
 rows_behind None rows = rows
 rows_behind (Some cursor) rows = without_first (is_written cursor) (from_key cursor.0 rows)
 
--- what an iterator has left behind a cursor; by the flag, one that is not whole may have passed rows that it would have refused
+-- what an iterator has left behind a cursor; by the flag, one that is not exact may have passed rows that it would have refused, or give others
 abbrev pub Resumes : Bool → Option Cursor → IteratorState → IteratorState → Type 0
 Resumes true cursor old new = new ≡ record old { rows = rows_behind cursor old.rows }
 Resumes false None old new = new ≡ old
 Resumes false (Some cursor) old new = Passes old new
+
+-- what a seek to the cursor's key leaves, without the first rows that stand written
+pub record SoughtBehind (sought : List ℕ → IteratorState → Type 0) (cursor : Cursor) (new : IteratorState) : Type 0 where
+  pub left : IteratorState
+  pub told : sought cursor.0 left
+  pub rows : new ≡ record left { rows = without_first (is_written cursor) left.rows }
+
+abbrev pub ResumesBy : (List ℕ → IteratorState → Type 0) → Option Cursor → IteratorState → IteratorState → Type 0
+ResumesBy sought None old new = new ≡ old
+ResumesBy sought (Some cursor) old new = SoughtBehind sought cursor new
 
 -- Of ordered rows these are exactly those of the cursor's key and later ones that do not stand written.
 abbrev pub ResumesBehind : Type 0

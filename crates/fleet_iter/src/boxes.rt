@@ -9,6 +9,10 @@ impl RowEntryIterator for Box<dyn RowEntryIterator> {
 
     ghost sound = { λ b. (RowEntryIterator-box b).sound b.value };
 
+    ghost sought = { λ b. (RowEntryIterator-box b).sought b.value };
+
+    ghost processed = { λ b. (RowEntryIterator-box b).processed b.value };
+
     fn init(&mut self, alloc: Global) -> Result<(), SlateDBError> {
         (**self).init(alloc)
     }
@@ -27,6 +31,10 @@ impl RowEntryIterator for Box<dyn TrackedRowEntryIterator> {
 
     ghost sound = { λ b. (TrackedRowEntryIterator-box b).RowEntryIterator.sound b.value };
 
+    ghost sought = { λ b. (TrackedRowEntryIterator-box b).RowEntryIterator.sought b.value };
+
+    ghost processed = { λ b. (TrackedRowEntryIterator-box b).RowEntryIterator.processed b.value };
+
     fn init(&mut self, alloc: Global) -> Result<(), SlateDBError> {
         (**self).init(alloc)
     }
@@ -41,8 +49,6 @@ impl RowEntryIterator for Box<dyn TrackedRowEntryIterator> {
 }
 
 impl TrackedRowEntryIterator for Box<dyn TrackedRowEntryIterator> {
-    ghost processed = { λ b. (TrackedRowEntryIterator-box b).TrackedRowEntryIterator.processed b.value };
-
     fn bytes_processed(&self) -> u64 {
         (**self).bytes_processed()
     }

@@ -4,6 +4,7 @@
 
 mod boxes;
 mod entry;
+mod failure;
 mod iterator;
 mod list;
 mod merge;
@@ -13,6 +14,7 @@ mod rising;
 mod tracked;
 
 pub use entry::MergeIteratorHeapEntry;
+pub use failure::Failure;
 pub use iterator::{IterationOrder, RowEntryIterator, RowSource};
 pub use list::{EmptyIterator, ListIterator};
 pub use merge::{MergeIterator, merges_rise, merges_sort};

@@ -76,6 +76,8 @@ impl RowEntryIterator for ListIterator {
 
     ghost sound = { λ _. ⊤ };
 
+    ghost processed = { λ l. l.processed };
+
     fn init(&mut self, _alloc: Global) -> Result<(), SlateDBError>
         ensures init { Inits (giving self.old) (giving self.new) result }
         ensures processed { self.new.processed ≡ self.old.processed }
@@ -108,8 +110,6 @@ impl RowEntryIterator for ListIterator {
 }
 
 impl TrackedRowEntryIterator for ListIterator {
-    ghost processed = { λ l. l.processed };
-
     fn bytes_processed(&self) -> u64 {
         self.processed
     }

@@ -1,18 +1,18 @@
 //! The rows of several iterators, in order.
 
-ghost use Rattle.std.specs.Prelude.{◌≡◌, ◌++◌, map, true, false, [], IfOk, IfErr, OnOk};
+ghost use Rattle.std.specs.Prelude.{◌≡◌, ◌≢◌, ◌++◌, map, true, false, [], Some, None, IfOk, IfErr, OnOk};
 ghost use Rattle.std.specs.Option.{option_map};
 ghost use Rattle.std.specs.List.{AllByRecursion};
 ghost use Rattle.row_laws.specs.Keys.{is_below};
 ghost use Rattle.fleet_rows.specs.Row.{row_of};
-ghost use Rattle.fleet_iter.specs.Iteration.{IteratorState, Inits, Nexts, Seeks, CanFail, AreRising, from_key};
+ghost use Rattle.fleet_iter.specs.Iteration.{IteratorState, Inits, Nexts, Seeks, CanFail, AreRising, from_key, is_exact};
 ghost use Rattle.fleet_iter.specs.declared.iterator.IterationOrder.TheVariants as in_order;
-ghost use Rattle.fleet_iter.specs.Merge.{keys_in, cmp_in, hides, best, found_row, goes_ahead, passes, head_passes, AllTaken, Takes, Drops, Steps, Skips, SkipsTo, StepsFrom, is_told, Begins, LeavesFrom, NoneFailed, IsHandedOn, starting, merged, merged_left, rows_left, given, are_whole, MergesSort, MergesRise};
+ghost use Rattle.fleet_iter.specs.Merge.{keys_in, cmp_in, hides, best, found_row, goes_ahead, passes, head_passes, AllTaken, Takes, Drops, Steps, Skips, SkipsTo, StepsFrom, is_told, Begins, LeavesFrom, NoneFailed, IsHandedOn, starting, merged, merged_left, rows_left, given, are_whole, are_exact, MergesSort, MergesRise};
 ghost use Rattle.fleet_iter.specs.Tracked.{row_bytes, first_bytes, kept_back, counted, taken_at_once};
 ghost use Rattle.fleet_iter.specs.MergeState.{state_of, merge_of, IsSound};
 
 use crate::tracked::row_bytes;
-use crate::{IterationOrder, RowEntryIterator, RowSource, TrackedRowEntryIterator};
+use crate::{Failure, IterationOrder, RowEntryIterator, RowSource, TrackedRowEntryIterator};
 use bytes::Bytes;
 use fleet_rows::{RowEntry, SlateDBError, ValueDeletable};
 use std::alloc::Global;
@@ -111,10 +111,10 @@ fn take_least<T: RowSource>(
 // A source's first row.
 fn first_row<T: RowSource>(alloc: Global, source: &mut T) -> Result<Option<RowEntry>, SlateDBError>
     requires sound { T.sound source.old }
-    requires alive { (T.state source.old).failed ≡ false }
+    requires alive { (T.state source.old).failure ≡ None }
     ensures ok { IfOk result (Steps (T.state source.old) (T.state source.new)) }
     ensures err { IfErr result (CanFail (T.state source.old).whole) }
-    ensures handed { IfErr result (λ _. (T.state source.new).failed ≡ true) }
+    ensures handed { IfErr result (λ e. (T.state source.new).failure ≡ Some e) }
     ensures sound { T.sound source.new }
 {
     source.init_source(alloc)?;
@@ -180,12 +180,12 @@ fn first_sought<T: RowSource>(
     key: &[u8],
 ) -> Result<Option<RowEntry>, SlateDBError>
     requires sound { T.sound source.old }
-    requires alive { (T.state source.old).failed ≡ false }
+    requires alive { (T.state source.old).failure ≡ None }
     requires initialised { (T.state source.old).initialised ≡ true }
     requires rising { AreRising (T.state source.old).rows }
-    ensures ok { IfOk result (StepsFrom (T.state source.old).whole key.now (T.state source.old) (T.state source.new)) }
-    ensures err { IfErr result (CanFail (T.state source.old).whole) }
-    ensures handed { IfErr result (λ _. (T.state source.new).failed ≡ true) }
+    ensures ok { IfOk result (StepsFrom (is_exact (T.state source.old)) key.now (T.state source.old) (T.state source.new)) }
+    ensures err { IfErr result (CanFail (is_exact (T.state source.old))) }
+    ensures handed { IfErr result (λ e. (T.state source.new).failure ≡ Some e) }
     ensures sound { T.sound source.new }
 {
     source.seek_row(alloc, key)?;
@@ -199,11 +199,11 @@ fn first_read<T: RowSource>(
     key: &[u8],
 ) -> Result<Option<RowEntry>, SlateDBError>
     requires sound { T.sound source.old }
-    requires alive { (T.state source.old).failed ≡ false }
+    requires alive { (T.state source.old).failure ≡ None }
     requires initialised { (T.state source.old).initialised ≡ true }
     ensures ok { IfOk result (Steps (record (T.state source.old) { rows = from_key key.now (T.state source.old).rows }) (T.state source.new)) }
     ensures err { IfErr result (CanFail (T.state source.old).whole) }
-    ensures handed { IfErr result (λ _. (T.state source.new).failed ≡ true) }
+    ensures handed { IfErr result (λ e. (T.state source.new).failure ≡ Some e) }
     ensures sound { T.sound source.new }
 {
     'rows: while let Some(row) = source.next_row(alloc)? {
@@ -223,12 +223,12 @@ fn first_from<T: RowSource>(
     key: &[u8],
 ) -> Result<Option<RowEntry>, SlateDBError>
     requires sound { T.sound source.old }
-    requires alive { (T.state source.old).failed ≡ false }
+    requires alive { (T.state source.old).failure ≡ None }
     requires initialised { (T.state source.old).initialised ≡ true }
     requires rising { AreRising (T.state source.old).rows }
-    ensures ok { IfOk result (StepsFrom (is_told order (T.state source.old).whole) key.now (T.state source.old) (T.state source.new)) }
-    ensures err { IfErr result (CanFail (T.state source.old).whole) }
-    ensures handed { IfErr result (λ _. (T.state source.new).failed ≡ true) }
+    ensures ok { IfOk result (StepsFrom (is_told order (is_exact (T.state source.old))) key.now (T.state source.old) (T.state source.new)) }
+    ensures err { IfErr result (CanFail (is_exact (T.state source.old))) }
+    ensures handed { IfErr result (λ e. (T.state source.new).failure ≡ Some e) }
     ensures sound { T.sound source.new }
 {
     match order {
@@ -248,9 +248,9 @@ fn skip_below<T: RowSource>(
     requires taken { AllTaken heads.old.items (map T.state sources.old.items) }
     requires rising { AreRising (merged_left order heads.old.items (map T.state sources.old.items)) }
     requires sound { AllByRecursion T.sound sources.old.items }
-    ensures ok { OnOk result (SkipsTo (is_told order (are_whole (map T.state sources.old.items))) order key.now heads.old.items (map T.state sources.old.items) heads.new.items (map T.state sources.new.items)) }
+    ensures ok { OnOk result (SkipsTo (is_told order (are_exact (map T.state sources.old.items))) order key.now heads.old.items (map T.state sources.old.items) heads.new.items (map T.state sources.new.items)) }
     ensures leaves { OnOk result (LeavesFrom key.now heads.old.items sources.old.items heads.new.items sources.new.items) }
-    ensures err { IfErr result (CanFail (are_whole (map T.state sources.old.items))) }
+    ensures err { IfErr result (CanFail (are_exact (map T.state sources.old.items))) }
     ensures handed { IfErr result (IsHandedOn (map T.state sources.new.items)) }
     ensures sound { AllByRecursion T.sound sources.new.items }
 {
@@ -320,15 +320,6 @@ fn take_given<T: RowSource>(
     Ok(Some(row))
 }
 
-// Marks a failure, and hands on its cause.
-fn fail(failed: &mut bool, error: SlateDBError) -> SlateDBError
-    ensures marked { failed.new ≡ true }
-    ensures cause { result ≡ error }
-{
-    *failed = true;
-    error
-}
-
 /// The rows of several iterators, always the least first, and of alike rows that of the earlier iterator.
 #[derive(Drop)]
 pub struct MergeIterator<T: RowEntryIterator> {
@@ -338,7 +329,7 @@ pub struct MergeIterator<T: RowEntryIterator> {
     order: IterationOrder,
     dedup: bool,
     initialised: bool,
-    failed: bool,
+    failure: Failure,
     processed: u64,
 }
 
@@ -372,7 +363,7 @@ impl<T: RowEntryIterator> MergeIterator<T> {
             order,
             dedup: true,
             initialised: false,
-            failed: false,
+            failure: Failure::new(),
             processed: 0,
         }
     }
@@ -395,19 +386,19 @@ impl<T: RowEntryIterator> RowEntryIterator for MergeIterator<T> {
 
     ghost sound = { IsSound T.sound T.state };
 
+    ghost processed = { λ m. m.processed };
+
     fn init(&mut self, alloc: Global) -> Result<(), SlateDBError>
         requires { IsSound T.sound T.state self.old }
         ensures init { Inits (state_of T.state self.old) (state_of T.state self.new) result }
         ensures all { OnOk result (merge_of T.state self.new ≡ merge_of T.state self.old) }
-        ensures handed { self.old.failed ≡ false → IfErr result (IsHandedOn (map T.state self.new.sources.items)) }
-        ensures idle { self.old.failed ≡ true → self.new ≡ self.old }
+        ensures handed { self.old.failure ≡ None → IfErr result (IsHandedOn (map T.state self.new.sources.items)) }
+        ensures idle { self.old.failure ≢ None → self.new ≡ self.old }
         ensures sound { IsSound T.sound T.state self.new }
         ensures dedup { self.new.dedup ≡ self.old.dedup }
         ensures processed { self.new.processed ≡ self.old.processed }
     {
-        if self.failed {
-            return Err(SlateDBError::IteratorFailed);
-        }
+        self.failure.check()?;
         if self.initialised {
             return Ok(());
         }
@@ -416,7 +407,7 @@ impl<T: RowEntryIterator> RowEntryIterator for MergeIterator<T> {
                 self.initialised = true;
                 Ok(())
             }
-            Err(error) => Err(fail(&mut self.failed, error)),
+            Err(error) => Err(self.failure.fail(error)),
         }
     }
 
@@ -428,13 +419,11 @@ impl<T: RowEntryIterator> RowEntryIterator for MergeIterator<T> {
         ensures dedup { self.new.dedup ≡ self.old.dedup }
         ensures processed { IfOk result (λ _. self.new.processed ≡ counted self.old.processed (taken_at_once self.old.dedup (merge_of T.state self.old))) }
         ensures unprocessed { IfErr result (λ _. self.new.processed ≡ self.old.processed) }
-        ensures handed { self.old.failed ≡ false → self.old.initialised ≡ true → IfErr result (IsHandedOn (map T.state self.new.sources.items)) }
-        ensures idle { self.old.failed ≡ true → self.new ≡ self.old }
+        ensures handed { self.old.failure ≡ None → self.old.initialised ≡ true → IfErr result (IsHandedOn (map T.state self.new.sources.items)) }
+        ensures idle { self.old.failure ≢ None → self.new ≡ self.old }
         ensures early { self.old.initialised ≡ false → self.new ≡ self.old }
     {
-        if self.failed {
-            return Err(SlateDBError::IteratorFailed);
-        }
+        self.failure.check()?;
         if !self.initialised {
             return Err(SlateDBError::IteratorNotInitialized);
         }
@@ -449,7 +438,7 @@ impl<T: RowEntryIterator> RowEntryIterator for MergeIterator<T> {
             &mut self.processed,
         ) {
             Ok(row) => Ok(row),
-            Err(error) => Err(fail(&mut self.failed, error)),
+            Err(error) => Err(self.failure.fail(error)),
         }
     }
 
@@ -457,32 +446,28 @@ impl<T: RowEntryIterator> RowEntryIterator for MergeIterator<T> {
         requires sound { IsSound T.sound T.state self.old }
         requires rising { AreRising (state_of T.state self.old).rows }
         ensures seek { Seeks next_key.now (state_of T.state self.old) (state_of T.state self.new) result }
-        ensures all { (state_of T.state self.old).whole ≡ true → OnOk result (merge_of T.state self.new ≡ from_key next_key.now (merge_of T.state self.old)) }
+        ensures all { is_exact (state_of T.state self.old) ≡ true → OnOk result (merge_of T.state self.new ≡ from_key next_key.now (merge_of T.state self.old)) }
         ensures leaves { OnOk result (LeavesFrom next_key.now self.old.heads.items self.old.sources.items self.new.heads.items self.new.sources.items) }
-        ensures handed { self.old.failed ≡ false → self.old.initialised ≡ true → IfErr result (IsHandedOn (map T.state self.new.sources.items)) }
-        ensures idle { self.old.failed ≡ true → self.new ≡ self.old }
+        ensures handed { self.old.failure ≡ None → self.old.initialised ≡ true → IfErr result (IsHandedOn (map T.state self.new.sources.items)) }
+        ensures idle { self.old.failure ≢ None → self.new ≡ self.old }
         ensures early { self.old.initialised ≡ false → self.new ≡ self.old }
         ensures sound { IsSound T.sound T.state self.new }
         ensures dedup { self.new.dedup ≡ self.old.dedup }
         ensures processed { self.new.processed ≡ self.old.processed }
     {
-        if self.failed {
-            return Err(SlateDBError::IteratorFailed);
-        }
+        self.failure.check()?;
         if !self.initialised {
             return Err(SlateDBError::IteratorNotInitialized);
         }
         let order = self.order;
         match skip_below(alloc, order, &mut self.sources, &mut self.heads, next_key) {
             Ok(()) => Ok(()),
-            Err(error) => Err(fail(&mut self.failed, error)),
+            Err(error) => Err(self.failure.fail(error)),
         }
     }
 }
 
 impl<T: RowEntryIterator> TrackedRowEntryIterator for MergeIterator<T> {
-    ghost processed = { λ m. m.processed };
-
     fn bytes_processed(&self) -> u64 {
         self.processed
     }

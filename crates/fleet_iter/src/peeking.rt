@@ -1,9 +1,9 @@
 //! Iterators whose next row can be looked at.
 
-ghost use Rattle.std.specs.Prelude.{◌≡◌, false};
+ghost use Rattle.std.specs.Prelude.{◌≡◌, None};
 ghost use Rattle.std.specs.Option.{option_copied};
 ghost use Rattle.fleet_iter.specs.Peek.{Peeks, Looks, shown, filled};
-ghost use Rattle.fleet_iter.specs.PeekState.{state_of, IsSound};
+ghost use Rattle.fleet_iter.specs.PeekState.{state_of, IsSound, Sought};
 
 use crate::{RowEntryIterator, TrackedRowEntryIterator};
 use fleet_rows::{RowEntry, SlateDBError};
@@ -22,7 +22,7 @@ impl<T: RowEntryIterator> PeekingIterator<T> {
     /// The rows that an iterator has left.
     pub fn new(iterator: T) -> Self
         requires sound { T.sound iterator }
-        requires alive { (T.state iterator).failed ≡ false }
+        requires alive { (T.state iterator).failure ≡ None }
         ensures rows { state_of T.state result ≡ T.state iterator }
         ensures sound { IsSound T.sound T.state result }
     {
@@ -67,6 +67,10 @@ impl<T: RowEntryIterator> RowEntryIterator for PeekingIterator<T> {
 
     ghost sound = { IsSound T.sound T.state };
 
+    ghost sought = { Sought T.state T.sought };
+
+    ghost processed = { λ a. T.processed a.inner };
+
     fn init(&mut self, alloc: Global) -> Result<(), SlateDBError> {
         if self.peeked.is_some() {
             return Ok(());
@@ -93,8 +97,6 @@ impl<T: RowEntryIterator> RowEntryIterator for PeekingIterator<T> {
 }
 
 impl<T: TrackedRowEntryIterator> TrackedRowEntryIterator for PeekingIterator<T> {
-    ghost processed = { λ a. T.processed a.inner };
-
     fn bytes_processed(&self) -> u64 {
         self.inner.bytes_processed()
     }

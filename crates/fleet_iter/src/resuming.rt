@@ -1,12 +1,12 @@
 //! Iterators taken up again behind a cursor.
 
-ghost use Rattle.std.specs.Prelude.{◌≡◌, true, false, IfOk, IfErr};
+ghost use Rattle.std.specs.Prelude.{◌≡◌, None, true, OnOk, IfOk, IfErr};
 ghost use Rattle.std.specs.Option.{option_copied};
 ghost use Rattle.fleet_rows.specs.Row.{row_of};
-ghost use Rattle.fleet_iter.specs.Iteration.{Inits, Nexts, Seeks, CanFail, AreRising, without_first};
+ghost use Rattle.fleet_iter.specs.Iteration.{Inits, Nexts, Seeks, CanFail, AreRising, without_first, is_exact};
 ghost use Rattle.fleet_iter.specs.Peek.{ahead, HasBegun};
-ghost use Rattle.fleet_iter.specs.Resume.{is_written, Resumes, ResumesBehind};
-ghost use Rattle.fleet_iter.specs.ResumeState.{state_of, IsSound};
+ghost use Rattle.fleet_iter.specs.Resume.{is_written, Resumes, ResumesBy, ResumesBehind};
+ghost use Rattle.fleet_iter.specs.ResumeState.{state_of, IsSound, Sought};
 
 use crate::{PeekingIterator, RowEntryIterator, RowSource, TrackedRowEntryIterator};
 use bytes::Bytes;
@@ -28,7 +28,7 @@ fn first_unwritten<T: RowSource>(
     seq: u64,
 ) -> Result<Option<RowEntry>, SlateDBError>
     requires sound { T.sound source.old }
-    requires alive { (T.state source.old).failed ≡ false }
+    requires alive { (T.state source.old).failure ≡ None }
     requires initialised { (T.state source.old).initialised ≡ true }
     ensures rows { IfOk result (λ row. ahead row (T.state source.new) ≡ record (T.state source.old) { rows = without_first (is_written (key.now, seq)) (T.state source.old).rows }) }
     ensures begun { IfOk result (λ row. HasBegun row (T.state source.new)) }
@@ -50,12 +50,13 @@ fn first_behind<T: RowSource>(
     cursor: &Option<(Bytes, u64)>,
 ) -> Result<Option<RowEntry>, SlateDBError>
     requires sound { T.sound source.old }
-    requires alive { (T.state source.old).failed ≡ false }
+    requires alive { (T.state source.old).failure ≡ None }
     requires initialised { (T.state source.old).initialised ≡ true }
     requires rising { AreRising (T.state source.old).rows }
-    ensures rows { IfOk result (λ row. Resumes (T.state source.old).whole cursor.now (T.state source.old) (ahead row (T.state source.new))) }
+    ensures rows { IfOk result (λ row. Resumes (is_exact (T.state source.old)) cursor.now (T.state source.old) (ahead row (T.state source.new))) }
+    ensures sought { IfOk result (λ row. ResumesBy (T.sought source.old) cursor.now (T.state source.old) (ahead row (T.state source.new))) }
     ensures begun { IfOk result (λ row. HasBegun row (T.state source.new)) }
-    ensures err { IfErr result (CanFail (T.state source.old).whole) }
+    ensures err { IfErr result (CanFail (is_exact (T.state source.old))) }
     ensures sound { T.sound source.new }
 {
     match cursor {
@@ -83,13 +84,14 @@ impl<T: RowEntryIterator> ResumingIterator<T> {
         resume_cursor: Option<(Bytes, u64)>,
     ) -> Result<Self, SlateDBError>
         requires sound { T.sound iterator }
-        requires alive { (T.state iterator).failed ≡ false }
+        requires alive { (T.state iterator).failure ≡ None }
         requires initialised { (T.state iterator).initialised ≡ true }
         requires rising { AreRising (T.state iterator).rows }
-        ensures rows { IfOk result (λ r. Resumes (T.state iterator).whole resume_cursor (T.state iterator) (state_of T.state r)) }
+        ensures rows { IfOk result (λ r. Resumes (is_exact (T.state iterator)) resume_cursor (T.state iterator) (state_of T.state r)) }
+        ensures sought { IfOk result (λ r. ResumesBy (T.sought iterator) resume_cursor (T.state iterator) (state_of T.state r)) }
         ensures start { IfOk result (λ r. r.start ≡ resume_cursor) }
         ensures sound { IfOk result (λ r. IsSound T.sound T.state r) }
-        ensures err { IfErr result (CanFail (T.state iterator).whole) }
+        ensures err { IfErr result (CanFail (is_exact (T.state iterator))) }
     {
         let mut source = iterator;
         let peeked = first_behind(alloc, &mut source, &resume_cursor)?;
@@ -116,6 +118,10 @@ impl<T: RowEntryIterator> RowEntryIterator for ResumingIterator<T> {
 
     ghost sound = { IsSound T.sound T.state };
 
+    ghost sought = { Sought T.state T.sought };
+
+    ghost processed = { λ a. T.processed a.inner.inner };
+
     fn init(&mut self, alloc: Global) -> Result<(), SlateDBError>
         requires { IsSound T.sound T.state self.old }
         ensures init { Inits (state_of T.state self.old) (state_of T.state self.new) result }
@@ -138,6 +144,8 @@ impl<T: RowEntryIterator> RowEntryIterator for ResumingIterator<T> {
         requires sound { IsSound T.sound T.state self.old }
         requires rising { AreRising (state_of T.state self.old).rows }
         ensures seek { Seeks next_key.now (state_of T.state self.old) (state_of T.state self.new) result }
+        ensures sought { OnOk result (Sought T.state T.sought self.old next_key.now (state_of T.state self.new)) }
+        ensures uncounted { T.processed self.new.inner.inner ≡ T.processed self.old.inner.inner }
         ensures start { self.new.start ≡ self.old.start }
         ensures sound { IsSound T.sound T.state self.new }
     {
@@ -146,8 +154,6 @@ impl<T: RowEntryIterator> RowEntryIterator for ResumingIterator<T> {
 }
 
 impl<T: TrackedRowEntryIterator> TrackedRowEntryIterator for ResumingIterator<T> {
-    ghost processed = { λ a. T.processed a.inner.inner };
-
     fn bytes_processed(&self) -> u64 {
         self.inner.bytes_processed()
     }

@@ -315,6 +315,10 @@ fn looks_as_told(rt: HostRuntime) -> Result<(), Fail> {
     let second = list.peek(alloc)?.map(|row| row.seq);
     let next = list.next(alloc)?.map(|row| row.seq);
     assert_eq!(rt; (first, second, next), (Some(4), Some(4), Some(4)));
+    let behind = list.peek(alloc)?.map(|row| row.seq);
+    let last = list.next(alloc)?.map(|row| row.seq);
+    assert_eq!(rt; (behind, last), (Some(3), Some(3)));
+    assert!(rt; list.next(alloc)?.is_none());
     Ok(())
 }
 
@@ -390,10 +394,10 @@ struct FailingIterator {
 }
 
 impl RowEntryIterator for FailingIterator {
-    ghost use Rattle.std.specs.Prelude.{Some};
+    ghost use Rattle.std.specs.Prelude.{Some, None, if◌then◌else◌};
     ghost use Rattle.fleet_rows.specs.declared.errors.SlateDBError.TheVariants.{StoreFault};
 
-    ghost state = { λ f. record { rows = rows_of (reverse f.rows.items); initialised = true; failed = f.failed; whole = false; refusal = Some StoreFault } };
+    ghost state = { λ f. record { rows = rows_of (reverse f.rows.items); initialised = true; failure = (if f.failed then Some StoreFault else None); whole = false; steady = true; refusal = Some StoreFault } };
 
     ghost sound = { λ _. ⊤ };
 

@@ -1,6 +1,6 @@
 //! Iterators that count the bytes of their rows.
 
-ghost use Rattle.std.specs.Prelude.{◌≡◌, ℕ};
+ghost use Rattle.std.specs.Prelude.{◌≡◌};
 ghost use Rattle.fleet_rows.specs.Row.{row_of};
 ghost use Rattle.fleet_iter.specs.Tracked.{row_bytes};
 
@@ -10,12 +10,9 @@ use fleet_rows::RowEntry;
 /// An iterator that counts the lengths of keys and values: of the rows that the list or the merge at the bottom has given, and
 /// of those that its dedup kept back. Rows that a seek drops do not count.
 pub trait TrackedRowEntryIterator: RowEntryIterator {
-    /// The bytes counted so far.
-    ghost processed: { Self → ℕ };
-
     /// The bytes counted so far, at most `u64::MAX`.
     fn bytes_processed(&self) -> u64
-        ensures { result ≡ processed self.now };
+        ensures { result ≡ Self.processed self.now };
 }
 
 // The lengths of key and value.

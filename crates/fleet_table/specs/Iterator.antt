@@ -1,5 +1,6 @@
 -- What a table's iterator has left.
-use Rattle.std.specs.Prelude.{List, Bool, None, true}
+use Rattle.std.specs.Prelude.{List, Bool, Some, None, true, if◌then◌else◌}
+use Rattle.fleet_rows.specs.declared.errors.SlateDBError.TheVariants.{Memory}
 use Rattle.row_model.specs.Rows.{Row}
 use Rattle.fleet_iter.specs.Iteration.{IteratorState}
 
@@ -9,4 +10,4 @@ pub record RowsLeft : Type 0 where
 
 -- it needs no init, and only want of memory fails it
 abbrev pub state_of : RowsLeft → IteratorState
-state_of t = record { rows = t.left; initialised = true; failed = t.broken; whole = true; refusal = None }
+state_of t = record { rows = t.left; initialised = true; failure = (if t.broken then Some Memory else None); whole = true; steady = true; refusal = None }

@@ -1,8 +1,9 @@
-use Rattle.std.proofs.Common.{◌≡◌, ◌∙◌, sym, ap, [], Option}
+use Rattle.std.proofs.Common.{◌≡◌, ◌∙◌, sym, ap, subst, [], Option}
 use Rattle.std.specs.Option.{option_to_list}
 use Rattle.std.proofs.lemmas.Result.{err_from_is_err_and}
 use Rattle.fleet_rows.specs.Row.{row_of, rows_of}
 use Rattle.fleet_rows.specs.declared.row.RowEntry.{RowEntry}
+use Rattle.fleet_iter.specs.Iteration.{AreRising}
 use Rattle.fleet_fold.specs.Retention.{from_ahead}
 use Rattle.fleet_fold.specs.Filter.{decided, filtered}
 use Rattle.fleet_fold.proofs.Filters.{refused_by, leaves_out, reads}
@@ -32,6 +33,7 @@ rows-preserved g c =
     record {
       sound = c.in_ok-next-in-None.ensures.sound;
       readable = read.readable;
+      rising = subst AreRising (sym read.rows) (subst (λ (w : Option RowEntry). AreRising (from_ahead w s)) c.in-Some.is c.rows.invariant.rising).1;
       whole = read.whole ∙ c.rows.invariant.whole;
       is_open = c.in_ok-decision.ensures.open;
       ended = read.ended;

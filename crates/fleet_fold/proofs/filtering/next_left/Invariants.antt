@@ -1,4 +1,5 @@
 use Rattle.std.proofs.Common.{◌≡◌, None, [], true, false, length}
+use Rattle.fleet_iter.specs.Iteration.{AreRising}
 use Rattle.fleet_fold.specs.Retention.{IsReadable, from_ahead}
 use Rattle.fleet_fold.specs.Filter.{filtered}
 use Rattle.fleet_fold.proofs.filtering.next_left.Given as goal
@@ -13,6 +14,7 @@ invariant-rows g l =
     record {
       sound : g.T.RowSource.sound l.inner;
       readable : IsReadable s;
+      rising : AreRising (from_ahead l.next s);
       whole : s.whole ≡ old.whole;
       is_open : g.F.RowFilter.is_closed l.filter ≡ false;
       ended : l.next ≡ None → (s.rows ≡ []) × (s.whole ≡ true);

@@ -41,7 +41,7 @@ returns-in_ok-close_over-in-Some-clause-ok g c =
     let joins = takes.group (row_of c.args.first) (c.in_ok-group.ensures.ok merge) in
     let r = row_of c.in_ok-close_over-in-Some.field-0 in
     let closes = subst (λ (o : Option RowEntry). Closes merge c.take_rows.new.group (rows_of (option_to_list o)) r) (sym c.in-Some.is) c.in_ok-close_over-in-Some.ensures.ok in
-    folds_group merge c.args.rule (row_of c.args.first) r (f c.args.inner.now) c.in_ok-base.field-0 c.take_rows.new.group c.take_rows.new.ahead (f c.take_rows.new.inner) joins closes takes.readable takes.whole
+    folds_group merge c.args.rule (row_of c.args.first) r (f c.args.inner.now) c.in_ok-base.field-0 c.take_rows.new.group c.take_rows.new.ahead (f c.take_rows.new.inner) joins closes takes.readable takes.whole takes.steady
 
 pub returns-in_ok-close-in-None-clause-ok : goal.returns-in_ok-close-in-None-clause-ok
 returns-in_ok-close-in-None-clause-ok g c =
@@ -51,4 +51,4 @@ returns-in_ok-close-in-None-clause-ok g c =
     let joins = takes.group (row_of c.args.first) (c.in_ok-group.ensures.ok merge) in
     let r = row_of c.in_ok-close-in-None.field-0 in
     let closes = subst (λ (o : Option RowEntry). Closes merge c.take_rows.new.group (rows_of (option_to_list o)) r) (sym c.in-None.is) c.in_ok-close-in-None.ensures.ok in
-    folds_group merge c.args.rule (row_of c.args.first) r (f c.args.inner.now) c.in_ok-base.field-0 c.take_rows.new.group c.take_rows.new.ahead (f c.take_rows.new.inner) joins closes takes.readable takes.whole
+    folds_group merge c.args.rule (row_of c.args.first) r (f c.args.inner.now) c.in_ok-base.field-0 c.take_rows.new.group c.take_rows.new.ahead (f c.take_rows.new.inner) joins closes takes.readable takes.whole takes.steady

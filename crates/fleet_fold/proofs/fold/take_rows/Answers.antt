@@ -22,6 +22,7 @@ returns-then-not-takes-clause-ok g c =
       plain = tt;
       readable = search rules;
       whole = search rules;
+      steady = search rules;
     }
 
 pub returns-then-not-is_operand-clause-ok : goal.returns-then-not-is_operand-clause-ok
@@ -39,6 +40,7 @@ returns-then-not-is_operand-clause-ok g c =
       plain = plain;
       readable = search rules;
       whole = search rules;
+      steady = search rules;
     }
 
 pub rows-preserved : goal.rows-preserved
@@ -54,6 +56,7 @@ rows-preserved g c =
       sound = search rules;
       readable = search rules;
       whole = search rules;
+      steady = search rules;
       none = c.rows.invariant.none;
       so_far = λ first gathers. joins_operand merge c.args.rule first old c.rows.group c.add.new.self s new c.in-Some.row next takes operand c.in_ok-add.ensures.ok (c.rows.invariant.so_far first gathers);
     }
@@ -67,7 +70,7 @@ returns-in_err-add-clause-err g c =
     let next : s ≡ record new { rows = row_of c.in-Some.row ∷ new.rows } = search rules in
     let takes : same_group c.args.rule c.rows.group.key c.rows.group.stamp (row_of c.in-Some.row) ≡ true = search rules in
     let operand : is_operand (row_of c.in-Some.row) ≡ true = search rules in
-    let alive : new.failed ≡ false = search rules in
+    let alive : new.failure ≡ None = search rules in
     let p = err_from_is_err_and c.from_residual-in_err-add.result c.from_residual-in_err-add.ensures.1 in
     rw (p.1, p.2) (λ first gathers. refuses_operand merge c.args.rule first old c.rows.group s new c.in-Some.row c.in_err-add.field-0.0 next takes operand alive (c.rows.invariant.so_far first gathers) c.in_err-add.ensures.err)
 
@@ -87,4 +90,5 @@ returns-clause-ok g c =
       plain = tt;
       readable = search rules;
       whole = search rules;
+      steady = search rules;
     }

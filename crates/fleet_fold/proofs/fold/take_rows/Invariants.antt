@@ -13,6 +13,7 @@ invariant-rows g l =
       sound : g.T.RowSource.sound l.inner;
       readable : IsReadable s;
       whole : s.whole ≡ old.whole;
+      steady : s.steady ≡ old.steady;
       none : l.ahead ≡ None;
       so_far : (first : Row) → Gathers merge first [] l.fn.group → JoinsSoFar merge l.rule first old l.group s;
     }

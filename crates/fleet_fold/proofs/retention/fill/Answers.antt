@@ -24,6 +24,7 @@ keys-preserved g c =
       sound = c.in_ok-rows.ensures.sound;
       readable = h.readable;
       whole = h.whole ∙ c.keys.invariant.whole;
+      steady = h.steady ∙ c.keys.invariant.steady;
       refusal = h.refusal ∙ c.keys.invariant.refusal;
       rows = c.keys.invariant.rows ∙ (ap (λ (w : List RowEntry). rows_of (reverse w) ++ kept_given settings first.whole (from_ahead c.keys.ahead old)) none
           ∙ key_kept settings first.whole c.keys.ahead c.read_key.new.ahead old new c.in_ok-rows.rows.items c.in_ok-kept.kept.items (reverse c.reverse.new.self.items) h (h.whole ∙ c.keys.invariant.whole) c.in_ok-kept.ensures turned);
@@ -36,4 +37,4 @@ returns-in_err-rows-clause-err g c =
     let s = g.T.RowSource.state c.keys.inner in
     let none : c.keys.buffer.items ≡ [] = grind (arith, common_steps) in
     let p = err_from_is_err_and c.from_residual.result c.from_residual.ensures.1 in
-    rw (p.1, p.2) (fill_refused (settings_of c.args.settings) (reverse c.args.buffer.now.items) (reverse c.keys.buffer.items) c.args.ahead.now c.keys.ahead first s c.in_err-rows.field-0.0 c.in_err-rows.ensures.err c.keys.invariant.whole c.keys.invariant.refusal c.keys.invariant.rows (ap reverse none))
+    rw (p.1, p.2) (fill_refused (settings_of c.args.settings) (reverse c.args.buffer.now.items) (reverse c.keys.buffer.items) c.args.ahead.now c.keys.ahead first s (g.T.RowSource.state c.read_key.new.inner) c.in_err-rows.field-0.0 c.in_err-rows.ensures.err c.keys.invariant.whole c.keys.invariant.refusal c.keys.invariant.rows (ap reverse none))

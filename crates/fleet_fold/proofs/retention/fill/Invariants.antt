@@ -15,6 +15,7 @@ invariant-keys g l =
       sound : g.T.RowSource.sound l.inner;
       readable : IsReadable s;
       whole : s.whole ≡ old.whole;
+      steady : s.steady ≡ old.steady;
       refusal : s.refusal ≡ old.refusal;
       rows : rows_of (reverse l.fn.buffer.items) ++ kept_given settings old.whole (from_ahead l.fn.ahead old) ≡ rows_of (reverse l.buffer.items) ++ kept_given settings old.whole (from_ahead l.ahead s);
       rising : AreRising (from_ahead l.fn.ahead old) → AreRising (from_ahead l.ahead s);

@@ -11,6 +11,7 @@ invariant-rows g l =
       sound : g.T.RowSource.sound l.inner;
       readable : IsReadable s;
       whole : s.whole ≡ old.whole;
+      steady : s.steady ≡ old.steady;
       refusal : s.refusal ≡ old.refusal;
       none : l.ahead ≡ None;
       parts : from_ahead l.fn.ahead old ≡ rows_of l.rows.items ++ s.rows;

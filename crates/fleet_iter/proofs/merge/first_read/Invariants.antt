@@ -1,5 +1,6 @@
-use Rattle.std.proofs.Common.{◌≡◌, length, true, false}
+use Rattle.std.proofs.Common.{◌≡◌, length, true, None}
 use Rattle.fleet_iter.specs.Iteration.{from_key}
+use Rattle.fleet_iter.specs.Merge.{manner}
 use Rattle.fleet_iter.proofs.merge.first_read.Given as goal
 
 abbrev pub invariant-rows : goal.invariant-rows
@@ -8,9 +9,9 @@ invariant-rows g l =
     let first = g.T.RowSource.state l.fn.source in
     record {
       sound : g.T.RowSource.sound l.source;
-      alive : now.failed ≡ false;
+      alive : now.failure ≡ None;
       initialised : now.initialised ≡ true;
-      whole : now.whole ≡ first.whole;
+      same_manner : manner now ≡ manner first;
       rows : from_key l.key now.rows ≡ from_key l.key first.rows;
     }
 

@@ -1,4 +1,4 @@
-use Rattle.std.proofs.Common.{◌≡◌, refl, ◌∙◌, ◌+◌, sym, subst, arith, Option, List, suc, add-one, ℕ, true, false}
+use Rattle.std.proofs.Common.{◌≡◌, refl, ◌∙◌, ◌+◌, sym, subst, arith, Option, List, suc, get_or, add-one, ℕ, true, false}
 use Rattle.std.specs.Prelude.{map}
 use Rattle.std.proofs.lemmas.Result.{err_from_is_err_and}
 use Rattle.std.proofs.lemmas.List.{map-set}
@@ -7,9 +7,9 @@ use Rattle.row_laws.specs.Keys.{is_below}
 use Rattle.fleet_rows.specs.declared.row.RowEntry.{RowEntry}
 use Rattle.fleet_iter.specs.Iteration.{IteratorState}
 use Rattle.fleet_iter.specs.Merge.{head_passes, LeavesFrom, lists, rows_left}
-use Rattle.fleet_iter.proofs.Merges.{clean, begun, one_fails, one_failed, all_set, state_at, state_within, head_within}
+use Rattle.fleet_iter.proofs.Merges.{clean, begun, one_inexact, one_failed, all_set, state_at, state_within, head_within}
 use Rattle.fleet_iter.proofs.Seeks.{leaves_step}
-use Rattle.fleet_iter.proofs.Sought.{Sought, stays_whole, head_taken, source_rises, sought_step, sought_left, sought_merge, sought_none, within_lists, lists_within}
+use Rattle.fleet_iter.proofs.Sought.{Sought, head_taken, source_rises, sought_step, sought_left, sought_merge, sought_none, within_lists, lists_within}
 use Rattle.fleet_iter.proofs.merge.skip_below.Goals as goal
 
 pub sources-init : goal.sources-init
@@ -55,19 +55,18 @@ returns-in_err-head-clause-err g c =
     let x = c.index_mut.result.now in
     let e = c.in_err-head.field-0.0 in
     let p = err_from_is_err_and c.from_residual.result c.from_residual.ensures.1 in
-    let old = map f c.args.sources.now.items in
-    let ls = lists c.args.heads.now.items (rows_left old) in
-    let within = state_within f xs c.args.sources.now.items c.sources.i c.sources.invariant.size (omega arith) in
-    let cause = one_fails (map f xs) c.sources.i (f x) e within (state_at f xs c.sources.i x c.index_mut.ensures.value) c.in_err-head.ensures.err in
-    rw (p.1, p.2) (record { initialised = cause.initialised; alive = cause.alive; memory = λ all. cause.memory (stays_whole c.args.order c.args.key.now c.sources.i ls c.sources.heads.items (map f xs) old c.sources.invariant.so_far all) })
+    let all = c.args.sources.now.items in
+    let same : f x ≡ get_or (map f all) c.sources.i (f x) = state_at f xs c.sources.i x c.index_mut.ensures.value ∙ c.sources.invariant.so_far.later c.sources.i (f x) (omega arith) in
+    rw (p.1, p.2) (one_inexact (map f all) c.sources.i (f x) e (state_within f all all c.sources.i refl (omega arith)) same c.in_err-head.ensures.err)
 
 pub returns-in_err-head-clause-handed : goal.returns-in_err-head-clause-handed
 returns-in_err-head-clause-handed g c =
     let f = g.T.RowSource.state in
     let xs = c.sources.sources.items in
+    let e = c.in_err-head.field-0.0 in
     let p = err_from_is_err_and c.from_residual.result c.from_residual.ensures.1 in
     let within = state_within f xs c.args.sources.now.items c.sources.i c.sources.invariant.size (omega arith) in
-    rw (p.1, p.2) (λ _. one_failed f xs c.sources.i c.first_from.new.source within c.in_err-head.ensures.handed)
+    rw (p.1, p.2) (λ _. one_failed f xs c.sources.i c.first_from.new.source e within c.in_err-head.ensures.handed)
 
 pub index_mut-requires-in-sources : goal.index_mut-requires-in-sources
 index_mut-requires-in-sources g c = let within = head_within g.T.RowSource.state c.sources.heads.items c.sources.sources.items c.args.sources.now.items c.sources.i c.sources.invariant.so_far.taken c.sources.invariant.size (omega arith) in omega (arith, within)

@@ -17,7 +17,7 @@ hidden-preserved g c =
     let is : passes test (best c.args.order hs) ≡ true = ap (λ (w : List (Option RowEntry)). passes test (best c.args.order w)) (sym c.deref.ensures.value) ∙ sym c.hidden-test.ensures in
     let d = c.in_ok-bytes.ensures.ok in
     let s = skip_step c.args.order test hs c.drop_least.new.heads.items ss (map f c.drop_least.new.sources.items) c.hidden.invariant.taken is d in
-    record { sound = c.in_ok-bytes.ensures.sound; taken = d.taken; rows = sym s.0 ∙ c.hidden.invariant.rows; whole = d.whole ∙ c.hidden.invariant.whole; bytes = counts_step c.args.order (row_of c.args.row.now) hs c.drop_least.new.heads.items ss (map f c.drop_least.new.sources.items) c.hidden.count c.in_ok-bytes.bytes c.saturating_add-count.result c.hidden.invariant.taken is d c.in_ok-bytes.ensures.bytes c.saturating_add-count.ensures ∙ c.hidden.invariant.bytes }
+    record { sound = c.in_ok-bytes.ensures.sound; taken = d.taken; rows = sym s.0 ∙ c.hidden.invariant.rows; same_manner = d.same_manner ∙ c.hidden.invariant.same_manner; bytes = counts_step c.args.order (row_of c.args.row.now) hs c.drop_least.new.heads.items ss (map f c.drop_least.new.sources.items) c.hidden.count c.in_ok-bytes.bytes c.saturating_add-count.result c.hidden.invariant.taken is d c.in_ok-bytes.ensures.bytes c.saturating_add-count.ensures ∙ c.hidden.invariant.bytes }
 
 pub hidden-smaller : goal.hidden-smaller
 hidden-smaller g c =
@@ -37,7 +37,7 @@ returns-clause-ok g c =
     let ss = map f c.hidden.sources.items in
     let test = hides (row_of c.args.row.now) in
     let is : passes test (best c.args.order hs) ≡ false = ap (λ (w : List (Option RowEntry)). passes test (best c.args.order w)) (sym c.deref.ensures.value) ∙ sym c.hidden-test.ensures in
-    record { rows = skip_end c.args.order test hs ss c.hidden.invariant.taken is ∙ c.hidden.invariant.rows; taken = c.hidden.invariant.taken; whole = c.hidden.invariant.whole }
+    record { rows = skip_end c.args.order test hs ss c.hidden.invariant.taken is ∙ c.hidden.invariant.rows; taken = c.hidden.invariant.taken; same_manner = c.hidden.invariant.same_manner }
 
 pub returns-clause-bytes : goal.returns-clause-bytes
 returns-clause-bytes g c =

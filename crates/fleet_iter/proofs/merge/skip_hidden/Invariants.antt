@@ -3,7 +3,7 @@ use Rattle.std.specs.Prelude.{map}
 use Rattle.std.specs.List.{AllByRecursion}
 use Rattle.fleet_rows.specs.Row.{row_of}
 use Rattle.fleet_iter.specs.Iteration.{without_first}
-use Rattle.fleet_iter.specs.Merge.{hides, AllTaken, merged_left, are_whole}
+use Rattle.fleet_iter.specs.Merge.{hides, AllTaken, merged_left, manners}
 use Rattle.fleet_iter.specs.Tracked.{counted, kept_back}
 use Rattle.fleet_iter.proofs.merge.skip_hidden.Given as goal
 
@@ -16,7 +16,7 @@ invariant-hidden g l =
       sound : AllByRecursion g.T.RowSource.sound l.sources.items;
       taken : AllTaken l.heads.items ss;
       rows : without_first (hides (row_of l.row)) (merged_left l.order l.heads.items ss) ≡ without_first (hides (row_of l.row)) (merged_left l.order l.fn.heads.items old);
-      whole : are_whole ss ≡ are_whole old;
+      same_manner : manners ss ≡ manners old;
       bytes : counted l.count (kept_back (row_of l.row) (merged_left l.order l.heads.items ss)) ≡ counted l.processed (kept_back (row_of l.row) (merged_left l.order l.fn.heads.items old));
     }
 

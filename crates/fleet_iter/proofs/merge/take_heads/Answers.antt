@@ -5,7 +5,7 @@ use Rattle.std.proofs.lemmas.List.{map-set, length-map, length-append}
 use Rattle.std.proofs.Math.ListN.{set, length-set}
 use Rattle.fleet_rows.specs.declared.row.RowEntry.{RowEntry}
 use Rattle.fleet_iter.specs.Iteration.{IteratorState, CanFail}
-use Rattle.fleet_iter.specs.Merge.{AllBegun, lists, rows_left, are_whole}
+use Rattle.fleet_iter.specs.Merge.{AllBegun, lists, rows_left, all_whole, manners}
 use Rattle.fleet_iter.proofs.Merges.{alive_at, begin_more, all_begun, one_fails, one_failed, state_at, state_within, all_set}
 use Rattle.fleet_iter.proofs.merge.take_heads.Goals as goal
 
@@ -24,16 +24,17 @@ returns-in_err-head-clause-err g c =
     let x = c.index_mut.result.now in
     let e = c.in_err-head.field-0.0 in
     let p = err_from_is_err_and c.from_residual.result c.from_residual.ensures.1 in
-    rw (p.1, p.2) (subst (λ b. CanFail b e) c.sources.invariant.whole (one_fails (map f xs) c.sources.i (f x) e
+    rw (p.1, p.2) (subst (λ b. CanFail b e) (ap all_whole c.sources.invariant.same_manner) (one_fails (map f xs) c.sources.i (f x) e
     (state_within f xs c.args.sources.now.items c.sources.i c.sources.invariant.size (omega arith)) (state_at f xs c.sources.i x c.index_mut.ensures.value) c.in_err-head.ensures.err))
 
 pub returns-in_err-head-clause-handed : goal.returns-in_err-head-clause-handed
 returns-in_err-head-clause-handed g c =
     let f = g.T.RowSource.state in
     let xs = c.sources.sources.items in
+    let e = c.in_err-head.field-0.0 in
     let p = err_from_is_err_and c.from_residual.result c.from_residual.ensures.1 in
     let within = state_within f xs c.args.sources.now.items c.sources.i c.sources.invariant.size (omega arith) in
-    rw (p.1, p.2) (λ _. one_failed f xs c.sources.i c.first_row.new.source within c.in_err-head.ensures.handed)
+    rw (p.1, p.2) (λ _. one_failed f xs c.sources.i c.first_row.new.source e within c.in_err-head.ensures.handed)
 
 pub sources-preserved : goal.sources-preserved
 sources-preserved g c =
@@ -58,7 +59,7 @@ sources-preserved g c =
       size = length-set xs k y ∙ c.sources.invariant.size;
       begun = subst (λ (w : List (Option RowEntry)). AllBegun w (map f (set xs k y))) (sym pushed) (subst (λ (w : List IteratorState). AllBegun (hs ++ h ∷ []) w) (sym moved) m.begun);
       rows = ap (λ (w : List (Option RowEntry)). lists w (rows_left (map f (set xs k y)))) pushed ∙ (ap (λ (w : List IteratorState). lists (hs ++ h ∷ []) (rows_left w)) moved ∙ (m.rows ∙ c.sources.invariant.rows));
-      whole = ap are_whole moved ∙ (m.whole ∙ c.sources.invariant.whole);
+      same_manner = ap manners moved ∙ (m.same_manner ∙ c.sources.invariant.same_manner);
     }
 
 pub returns-clause-ok : goal.returns-clause-ok
@@ -69,4 +70,4 @@ returns-clause-ok g c =
     let d : length ss ≡ length xs = length-map _ _ in
     let n : length xs ≡ length c.args.sources.now.items = c.sources.invariant.size in
     let count : length c.sources.heads.items ≡ c.sources.i = c.sources.invariant.count in
-    record { rows = c.sources.invariant.rows; taken = all_begun c.sources.heads.items ss c.sources.invariant.begun (omega (arith, d, n, count)); whole = c.sources.invariant.whole }
+    record { rows = c.sources.invariant.rows; taken = all_begun c.sources.heads.items ss c.sources.invariant.begun (omega (arith, d, n, count)); same_manner = c.sources.invariant.same_manner }

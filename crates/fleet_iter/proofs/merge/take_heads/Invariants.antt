@@ -1,7 +1,7 @@
 use Rattle.std.proofs.Common.{◌≡◌, length}
 use Rattle.std.specs.Prelude.{map}
 use Rattle.std.specs.List.{AllByRecursion}
-use Rattle.fleet_iter.specs.Merge.{AllBegun, lists, rows_left, are_whole}
+use Rattle.fleet_iter.specs.Merge.{AllBegun, lists, rows_left, manners}
 use Rattle.fleet_iter.proofs.merge.take_heads.Given as goal
 
 abbrev pub invariant-sources : goal.invariant-sources
@@ -15,5 +15,5 @@ invariant-sources g l =
       size : length l.sources.items ≡ length l.fn.sources.items;
       begun : AllBegun l.heads.items ss;
       rows : lists l.heads.items (rows_left ss) ≡ rows_left old;
-      whole : are_whole ss ≡ are_whole old;
+      same_manner : manners ss ≡ manners old;
     }

@@ -82,7 +82,7 @@ returns-in_err-head-clause-handed g c =
     let is = state_at f xs k c.index_mut.result.now c.index_mut.ensures.value in
     let t = taken_at hs ss c.requires.taken k lt s is in
     let y = c.next_row.new.self in
-    let marked = one_failed f xs k y lt (refusal_marks t.0 s (f y) c.in_err-head.field-0.0 t.1 c.in_err-head.ensures.next) in
+    let marked = one_failed f xs k y c.in_err-head.field-0.0 lt (refusal_marks t.0 s (f y) c.in_err-head.field-0.0 t.1 c.in_err-head.ensures.next) in
     let p = err_from_is_err_and c.from_residual.result c.from_residual.ensures.1 in
     rw (p.1, p.2) (λ _. marked)
 

@@ -1,4 +1,4 @@
-use Rattle.std.proofs.Common.{◌≡◌, length, true, false}
+use Rattle.std.proofs.Common.{◌≡◌, length, true, None}
 use Rattle.fleet_iter.specs.Iteration.{without_first}
 use Rattle.fleet_iter.specs.Resume.{is_written}
 use Rattle.fleet_iter.proofs.resuming.first_unwritten.Given as goal
@@ -9,9 +9,9 @@ invariant-rows g l =
     let first = g.T.RowSource.state l.fn.source in
     record {
       sound : g.T.RowSource.sound l.source;
-      alive : now.failed ≡ false;
+      alive : now.failure ≡ None;
       initialised : now.initialised ≡ true;
-      whole : now.whole ≡ first.whole;
+      manner : (now.whole ≡ first.whole) × (now.steady ≡ first.steady);
       refusal : now.refusal ≡ first.refusal;
       rows : without_first (is_written (l.key, l.seq)) now.rows ≡ without_first (is_written (l.key, l.seq)) first.rows;
     }

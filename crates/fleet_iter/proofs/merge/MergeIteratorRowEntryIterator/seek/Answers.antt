@@ -14,10 +14,10 @@ pub returns-in-Ok-clause-seek : goal.returns-in-Ok-clause-seek
 returns-in-Ok-clause-seek g c =
     let f = g.T.RowEntryIterator.state in
     let old = c.args.self.now in
-    seeks c.args.next_key.now old.dedup old.initialised old.failed old.heads.items c.skip_below.new.heads.items (map f old.sources.items) (map f c.skip_below.new.sources.items) old.order c.if-not-self.false c.if-self.false c.requires.rising c.in-Ok.ensures.ok
+    seeks c.args.next_key.now old.dedup old.initialised old.failure old.heads.items c.skip_below.new.heads.items (map f old.sources.items) (map f c.skip_below.new.sources.items) old.order c.if-not-self.false c.in_ok-check.ensures.alive c.requires.rising c.in-Ok.ensures.ok
 
 pub returns-in-Ok-clause-all : goal.returns-in-Ok-clause-all
 returns-in-Ok-clause-all g c whole =
     let f = g.T.RowEntryIterator.state in
     let old = c.args.self.now in
-    seeks_all c.args.next_key.now old.dedup old.initialised old.failed old.heads.items c.skip_below.new.heads.items (map f old.sources.items) (map f c.skip_below.new.sources.items) old.order whole c.in-Ok.ensures.ok
+    seeks_all c.args.next_key.now old.dedup old.initialised old.failure old.heads.items c.skip_below.new.heads.items (map f old.sources.items) (map f c.skip_below.new.sources.items) old.order whole c.in-Ok.ensures.ok
