@@ -1,0 +1,163 @@
+//! Cases: the lines that are read, and what is said of them.
+
+use crate::flaw::Flaw;
+use crate::words::parts;
+use crate::{
+    error_calls, exec_calls, filter_calls, fold_calls, iter_calls, manifest_calls, plan_calls,
+    range_calls, row_calls, table_calls,
+};
+use std::alloc::{AllocError, Global};
+
+/// A case: a name and a question, and behind ` => ` the answer that is wanted, if one is.
+#[derive(Clone, Copy)]
+struct Case<'a> {
+    name: &'a str,
+    question: &'a str,
+    wanted: Option<&'a str>,
+}
+
+impl<'a> Case<'a> {
+    // The case of a line, or None of an empty line and of a remark, which begins with '#'.
+    fn of_line(line: &'a str) -> Option<Case<'a>> {
+        if line.is_empty() || line.starts_with('#') {
+            return None;
+        }
+        let (asked, wanted) = match line.split_once(" => ") {
+            Some((asked, wanted)) => (asked, Some(wanted)),
+            None => (line, None),
+        };
+        let (name, question) = asked.split_once(' ').unwrap_or((asked, ""));
+        Some(Case {
+            name,
+            question,
+            wanted,
+        })
+    }
+
+    // A line on the case.
+    fn tell(&self, said: &mut String, words: &str, answer: &str) -> Result<(), AllocError> {
+        said.push_str(self.name)?;
+        said.push_str(words)?;
+        said.push_str(answer)?;
+        said.push('\n')
+    }
+}
+
+/// How many cases there were, and how many of them differ.
+#[derive(Clone, Copy)]
+pub struct Tally {
+    pub cases: u64,
+    pub differ: u64,
+}
+
+impl Tally {
+    pub fn new() -> Tally {
+        Tally {
+            cases: 0,
+            differ: 0,
+        }
+    }
+
+    /// Runs the case of a line, and says what came of it.
+    pub fn take(
+        &mut self,
+        alloc: Global,
+        line: &[u8],
+        said: &mut String,
+    ) -> Result<(), AllocError> {
+        match str::from_utf8(line) {
+            Ok(text) => self.take_text(alloc, text, said),
+            Err(_) => {
+                let case = Case {
+                    name: "?",
+                    question: "",
+                    wanted: Some(""),
+                };
+                self.cases = self.cases.saturating_add(1);
+                self.take_flaw(case, Flaw::Text, said)
+            }
+        }
+    }
+
+    fn take_text(
+        &mut self,
+        alloc: Global,
+        text: &str,
+        said: &mut String,
+    ) -> Result<(), AllocError> {
+        let Some(case) = Case::of_line(text) else {
+            return Ok(());
+        };
+        self.cases = self.cases.saturating_add(1);
+        let mut answer = String::new(alloc);
+        match answer_to(alloc, case.question, &mut answer) {
+            Ok(()) => self.take_answer(case, answer.as_str(), said),
+            Err(flaw) => self.take_flaw(case, flaw, said),
+        }
+    }
+
+    fn take_answer(
+        &mut self,
+        case: Case<'_>,
+        answer: &str,
+        said: &mut String,
+    ) -> Result<(), AllocError> {
+        let Some(wanted) = case.wanted else {
+            return case.tell(said, " ", answer);
+        };
+        if wanted == answer {
+            return Ok(());
+        }
+        self.differ = self.differ.saturating_add(1);
+        case.tell(said, " differs, and answers ", answer)
+    }
+
+    fn take_flaw(
+        &mut self,
+        case: Case<'_>,
+        flaw: Flaw,
+        said: &mut String,
+    ) -> Result<(), AllocError> {
+        if flaw == Flaw::Memory {
+            return Err(AllocError);
+        }
+        if case.wanted.is_some() {
+            self.differ = self.differ.saturating_add(1);
+        }
+        case.tell(said, " is malformed: ", flaw.word())
+    }
+
+    /// The last line.
+    pub fn tell(&self, said: &mut String) -> Result<(), AllocError> {
+        let cases = self.cases;
+        let differ = self.differ;
+        write!(said, "{cases} cases, {differ} differ\n")
+    }
+}
+
+// The answer to a question: the name of a call, and its words.
+fn answer_to(alloc: Global, question: &str, answer: &mut String) -> Result<(), Flaw> {
+    let words = parts(alloc, question, ' ')?;
+    match words.as_slice() {
+        [name, rest @ ..] => answer_of(alloc, name, rest, answer),
+        [] => Err(Flaw::Words),
+    }
+}
+
+fn answer_of(alloc: Global, name: &str, words: &[&str], answer: &mut String) -> Result<(), Flaw> {
+    if row_calls::answers(alloc, name, words, answer)?
+        || error_calls::answers(alloc, name, words, answer)?
+        || range_calls::answers(alloc, name, words, answer)?
+        || table_calls::answers(alloc, name, words, answer)?
+        || manifest_calls::answers(alloc, name, words, answer)?
+        || plan_calls::answers(alloc, name, words, answer)?
+        || iter_calls::answers(alloc, name, words, answer)?
+        || fold_calls::answers(alloc, name, words, answer)?
+        || filter_calls::answers(alloc, name, words, answer)?
+        || exec_calls::answers(alloc, name, words, answer)?
+    {
+        Ok(())
+    } else {
+        Err(Flaw::Name)
+    }
+}

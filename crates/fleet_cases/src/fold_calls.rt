@@ -1,0 +1,266 @@
+//! Calls of `fleet_fold`: operators, and the iterators that merge operands and keep rows.
+
+ghost use Rattle.std.specs.Prelude.{OnOk};
+ghost use Rattle.fleet_iter.specs.Iteration.{AreRising};
+
+use crate::flaw::Flaw;
+use crate::given::{tell_given, tell_ready, tell_refusal};
+use crate::iter_calls::{rising_list, rising_merge};
+use crate::operators::{Newest, Sifting};
+use crate::tell::Tell;
+use crate::words::{bytes, flag, number, stamp, told_if_any, told_list};
+use bytes::Bytes;
+use fleet_fold::{
+    AppendOperator, MergeOperator, MergeOperatorIterator, MergeOperatorRequiredIterator,
+    RetentionIterator,
+};
+use fleet_iter::{ResumingIterator, RowEntryIterator};
+use fleet_rows::{MergeOperatorError, Settings, SlateDBError};
+use std::alloc::Global;
+
+/// What the operator of `jobno`, `foldno` and others refuses: `!`.
+pub const REFUSING: Sifting = Sifting { unwanted: 0x21 };
+
+/// Answers a call of this name, if there is one.
+pub fn answers(
+    alloc: Global,
+    name: &str,
+    words: &[&str],
+    answer: &mut String,
+) -> Result<bool, Flaw> {
+    match name {
+        "job" => job(alloc, &AppendOperator, words, answer)?,
+        "jobno" => job(alloc, &REFUSING, words, answer)?,
+        "fold" => fold(alloc, &AppendOperator, words, answer)?,
+        "foldno" => fold(alloc, &REFUSING, words, answer)?,
+        "foldnewest" => fold(alloc, &Newest, words, answer)?,
+        "retain" => retain(alloc, words, answer)?,
+        "need" => need(alloc, words, answer)?,
+        _ => return answers_of_others(alloc, name, words, answer),
+    }
+    Ok(true)
+}
+
+fn answers_of_others(
+    alloc: Global,
+    name: &str,
+    words: &[&str],
+    answer: &mut String,
+) -> Result<bool, Flaw> {
+    match name {
+        "join" => join(alloc, words, answer)?,
+        "joinall" => join_all(alloc, words, answer)?,
+        "foldseek" => fold_from(alloc, words, answer)?,
+        "retainseek" => retain_from(alloc, words, answer)?,
+        "needseek" => need_from(alloc, words, answer)?,
+        _ => return Ok(false),
+    }
+    Ok(true)
+}
+
+/// The floor, which is the cut too, the tick, and whether the last run is written.
+pub fn settings(floor: &str, tick: &str, last_run: &str) -> Result<Settings, Flaw> {
+    let floor = number(floor)?;
+    let tick = stamp(tick)?;
+    let last_run = flag(last_run)?;
+    Ok(Settings {
+        floor,
+        tick,
+        last_run,
+        cut: floor,
+    })
+}
+
+// What a job makes of its sources.
+fn job_from_first<O: MergeOperator>(
+    alloc: Global,
+    operator: &O,
+    settings: Settings,
+    sources: &str,
+    answer: &mut String,
+) -> Result<(), Flaw> {
+    let merge = rising_merge(alloc, sources)?.with_dedup(false);
+    let folded = MergeOperatorIterator::new(operator, merge, false, Some(settings.cut));
+    tell_given(
+        alloc,
+        RetentionIterator::new(alloc, folded, settings),
+        answer,
+    )
+}
+
+// The same from behind a row on.
+fn job_from_behind<O: MergeOperator>(
+    alloc: Global,
+    operator: &O,
+    settings: Settings,
+    sources: &str,
+    cursor: (Bytes, u64),
+    answer: &mut String,
+) -> Result<(), Flaw> {
+    let merge = rising_merge(alloc, sources)?.with_dedup(false);
+    let folded = MergeOperatorIterator::new(operator, merge, false, Some(settings.cut));
+    let mut kept = RetentionIterator::new(alloc, folded, settings);
+    kept.init(alloc)?;
+    let mut resumed = ResumingIterator::new(alloc, kept, Some(cursor))?;
+    tell_ready(alloc, &mut resumed, answer)
+}
+
+// `job` or `jobno`: the settings and the sources; and the key and the sequence of the row behind which it is taken up, if there is
+// one.
+fn job<O: MergeOperator>(
+    alloc: Global,
+    operator: &O,
+    words: &[&str],
+    answer: &mut String,
+) -> Result<(), Flaw> {
+    match words {
+        [floor, tick, last_run, sources] => {
+            let settings = settings(floor, tick, last_run)?;
+            job_from_first(alloc, operator, settings, sources, answer)
+        }
+        [floor, tick, last_run, sources, key, seq] => {
+            let settings = settings(floor, tick, last_run)?;
+            let cursor = (bytes(alloc, key)?, number(seq)?);
+            job_from_behind(alloc, operator, settings, sources, cursor, answer)
+        }
+        _ => Err(Flaw::Words),
+    }
+}
+
+// `fold`, `foldno` or `foldnewest`: whether operands of other stamps are merged, the barrier, if there is one, and the rows.
+fn fold<O: MergeOperator>(
+    alloc: Global,
+    operator: &O,
+    words: &[&str],
+    answer: &mut String,
+) -> Result<(), Flaw> {
+    let [all_stamps, barrier, rows] = words else {
+        return Err(Flaw::Words);
+    };
+    let all_stamps = flag(all_stamps)?;
+    let barrier = told_if_any(alloc, barrier, "-")?;
+    let rows = rising_list(alloc, rows)?;
+    let folded = MergeOperatorIterator::new(operator, rows, all_stamps, barrier);
+    tell_given(alloc, folded, answer)
+}
+
+// `retain`: the settings and the rows.
+fn retain(alloc: Global, words: &[&str], answer: &mut String) -> Result<(), Flaw> {
+    let [floor, tick, last_run, rows] = words else {
+        return Err(Flaw::Words);
+    };
+    let settings = settings(floor, tick, last_run)?;
+    let rows = rising_list(alloc, rows)?;
+    tell_given(alloc, RetentionIterator::new(alloc, rows, settings), answer)
+}
+
+// `need`: rows that have no operator.
+fn need(alloc: Global, words: &[&str], answer: &mut String) -> Result<(), Flaw> {
+    let [rows] = words else {
+        return Err(Flaw::Words);
+    };
+    let rows = rising_list(alloc, rows)?;
+    tell_given(alloc, MergeOperatorRequiredIterator::new(rows), answer)
+}
+
+fn tell_joined(
+    alloc: Global,
+    joined: Result<Bytes, MergeOperatorError>,
+    answer: &mut String,
+) -> Result<(), Flaw> {
+    match joined {
+        Ok(bytes) => {
+            answer.push_str("ok ")?;
+            Ok(bytes.as_slice().tell(answer)?)
+        }
+        Err(MergeOperatorError::EmptyBatch) => Ok(answer.push_str("err empty")?),
+        Err(error) => tell_refusal(alloc, &SlateDBError::from(error), answer),
+    }
+}
+
+// `join`: what there is, if anything, and an operand, which `AppendOperator` joins.
+fn join(alloc: Global, words: &[&str], answer: &mut String) -> Result<(), Flaw> {
+    let [existing, operand] = words else {
+        return Err(Flaw::Words);
+    };
+    let existing = told_if_any(alloc, existing, "none")?;
+    let operand = bytes(alloc, operand)?;
+    let joined = AppendOperator.merge(alloc, &Bytes::new(), existing, operand);
+    tell_joined(alloc, joined, answer)
+}
+
+// `joinall`: what there is, if anything, and operands, the oldest first.
+fn join_all(alloc: Global, words: &[&str], answer: &mut String) -> Result<(), Flaw> {
+    let [existing, operands] = words else {
+        return Err(Flaw::Words);
+    };
+    let operands: Vec<Bytes> = told_list(alloc, operands, ',')?;
+    let existing = told_if_any(alloc, existing, "none")?;
+    let joined = AppendOperator.merge_batch(alloc, &Bytes::new(), existing, operands.as_slice());
+    tell_joined(alloc, joined, answer)
+}
+
+// Takes so many rows.
+fn take<T: RowEntryIterator>(alloc: Global, source: &mut T, count: u64) -> Result<(), SlateDBError>
+    requires sound { T.sound source.old }
+    requires rising { AreRising (T.state source.old).rows }
+    ensures rising { OnOk result (AreRising (T.state source.new).rows) }
+    ensures sound { OnOk result (T.sound source.new) }
+{
+    'taken: for _ in 0..count {
+        source.next(alloc)?;
+    }
+    Ok(())
+}
+
+// What is left of an iterator behind so many rows, and from a key on.
+fn tell_sought<T: RowEntryIterator>(
+    alloc: Global,
+    iterator: T,
+    count: &str,
+    key: &str,
+    answer: &mut String,
+) -> Result<(), Flaw>
+    requires sound { T.sound iterator }
+    requires rising { AreRising (T.state iterator).rows }
+{
+    let mut source = iterator;
+    let count = number(count)?;
+    let key = bytes(alloc, key)?;
+    source.init(alloc)?;
+    take(alloc, &mut source, count)?;
+    source.seek(alloc, key.as_slice())?;
+    tell_ready(alloc, &mut source, answer)
+}
+
+// `foldseek`: whether operands of other stamps are merged, how many rows are taken, the key that is sought then, and the rows.
+fn fold_from(alloc: Global, words: &[&str], answer: &mut String) -> Result<(), Flaw> {
+    let [all_stamps, count, key, rows] = words else {
+        return Err(Flaw::Words);
+    };
+    let all_stamps = flag(all_stamps)?;
+    let rows = rising_list(alloc, rows)?;
+    let folded = MergeOperatorIterator::new(&AppendOperator, rows, all_stamps, None);
+    tell_sought(alloc, folded, count, key, answer)
+}
+
+// `retainseek`: the settings, how many rows are taken, the key that is sought then, and the rows.
+fn retain_from(alloc: Global, words: &[&str], answer: &mut String) -> Result<(), Flaw> {
+    let [floor, tick, last_run, count, key, rows] = words else {
+        return Err(Flaw::Words);
+    };
+    let settings = settings(floor, tick, last_run)?;
+    let rows = rising_list(alloc, rows)?;
+    let kept = RetentionIterator::new(alloc, rows, settings);
+    tell_sought(alloc, kept, count, key, answer)
+}
+
+// `needseek`: how many rows are taken, the key that is sought then, and rows that have no operator.
+fn need_from(alloc: Global, words: &[&str], answer: &mut String) -> Result<(), Flaw> {
+    let [count, key, rows] = words else {
+        return Err(Flaw::Words);
+    };
+    let rows = rising_list(alloc, rows)?;
+    let plain = MergeOperatorRequiredIterator::new(rows);
+    tell_sought(alloc, plain, count, key, answer)
+}

@@ -1,0 +1,80 @@
+//! What iterators give: `ok` and the rows, or `err`, the refusal and the rows that came before it.
+
+use crate::flaw::Flaw;
+use crate::tell::{Tell, tell_rows};
+use fleet_iter::RowEntryIterator;
+use fleet_rows::{MergeOperatorError, RowEntry, SlateDBError};
+use std::alloc::{AllocError, Global};
+
+// Takes the rows that an iterator gives.
+fn take_rows<T: RowEntryIterator>(
+    alloc: Global,
+    source: &mut T,
+    rows: &mut Vec<RowEntry>,
+) -> Result<(), SlateDBError>
+    requires { T.sound source.old }
+{
+    'rows: for _ in 0..u64::MAX {
+        match source.next(alloc)? {
+            Some(row) => rows.push(row)?,
+            None => break,
+        }
+    }
+    Ok(())
+}
+
+/// What an iterator gives that is ready.
+pub fn tell_ready<T: RowEntryIterator>(
+    alloc: Global,
+    source: &mut T,
+    answer: &mut String,
+) -> Result<(), Flaw>
+    requires { T.sound source.old }
+{
+    let mut rows = Vec::new(alloc);
+    match take_rows(alloc, source, &mut rows) {
+        Ok(()) => answer.push_str("ok")?,
+        Err(error) => tell_refusal(alloc, &error, answer)?,
+    }
+    answer.push(' ')?;
+    Ok(tell_rows(answer, rows.as_slice())?)
+}
+
+/// The same of an iterator that is made ready first.
+pub fn tell_given<T: RowEntryIterator>(
+    alloc: Global,
+    iterator: T,
+    answer: &mut String,
+) -> Result<(), Flaw>
+    requires { T.sound iterator }
+{
+    let mut source = iterator;
+    source.init(alloc)?;
+    tell_ready(alloc, &mut source, answer)
+}
+
+/// `err` and a refusal.
+pub fn tell_refusal(alloc: Global, error: &SlateDBError, answer: &mut String) -> Result<(), Flaw> {
+    match error {
+        SlateDBError::Memory => Err(Flaw::Memory),
+        SlateDBError::MergeOperator(MergeOperatorError::Callback { message }) => {
+            answer.push_str("err callback ")?;
+            Ok(message.as_slice().tell(answer)?)
+        }
+        SlateDBError::InvalidSequenceOrder {
+            current_seq,
+            next_seq,
+        } => Ok(tell_seqs(*current_seq, *next_seq, answer)?),
+        other => Ok(tell_name(alloc, other, answer)?),
+    }
+}
+
+fn tell_seqs(current: u64, next: u64, answer: &mut String) -> Result<(), AllocError> {
+    write!(answer, "err order {current}/{next}")
+}
+
+fn tell_name(alloc: Global, error: &SlateDBError, answer: &mut String) -> Result<(), AllocError> {
+    let name = error.to_string(alloc)?;
+    answer.push_str("err ")?;
+    answer.push_str(name.as_str())
+}

@@ -1,0 +1,239 @@
+//! Calls of `fleet_iter`.
+
+ghost use Rattle.std.specs.Prelude.{⊤, Bool, IfOk};
+ghost use Rattle.std.specs.List.{AllByRecursion};
+ghost use Rattle.fleet_iter.specs.Iteration.{AreRising, IsAlive};
+ghost use Rattle.fleet_iter.specs.List.{giving};
+ghost use Rattle.fleet_iter.specs.Merge.{given};
+ghost use Rattle.fleet_iter.specs.MergeState.{state_of, merge_of, IsSound};
+
+use crate::flaw::Flaw;
+use crate::given::{tell_ready, tell_refusal};
+use crate::tell::{Tell, tell_flag, tell_order, tell_rows};
+use crate::told::{rows, source_words};
+use crate::words::{Told, bytes, flag, number};
+use fleet_iter::{
+    IterationOrder, ListIterator, MergeIterator, MergeIteratorHeapEntry, PeekingIterator,
+    ResumingIterator, RowEntryIterator, TrackedRowEntryIterator, are_rising, merges_rise,
+};
+use fleet_rows::RowEntry;
+use std::alloc::{AllocError, Global};
+
+/// Answers a call of this name, if there is one.
+pub fn answers(
+    alloc: Global,
+    name: &str,
+    words: &[&str],
+    answer: &mut String,
+) -> Result<bool, Flaw> {
+    match name {
+        "rising" => rising(alloc, words, answer)?,
+        "entries" => entries(alloc, words, answer)?,
+        "merge" => merge(alloc, words, answer)?,
+        "unready" => unready(alloc, words, answer)?,
+        "resume" => resume(alloc, words, answer)?,
+        "peek" => peek(alloc, words, answer)?,
+        _ => return Ok(false),
+    }
+    Ok(true)
+}
+
+// `rising`: rows.
+fn rising(alloc: Global, words: &[&str], answer: &mut String) -> Result<(), Flaw> {
+    let [word] = words else {
+        return Err(Flaw::Words);
+    };
+    let rows = rows(alloc, word)?;
+    Ok(tell_flag(answer, are_rising(&rows))?)
+}
+
+impl Told for IterationOrder {
+    fn told(_alloc: Global, word: &str) -> Result<IterationOrder, Flaw> {
+        match word {
+            "asc" => Ok(IterationOrder::Ascending),
+            "desc" => Ok(IterationOrder::Descending),
+            _ => Err(Flaw::Choice),
+        }
+    }
+}
+
+fn entry(alloc: Global, words: &[&str]) -> Result<MergeIteratorHeapEntry, Flaw> {
+    let [order, row, index] = words else {
+        return Err(Flaw::Words);
+    };
+    let order = IterationOrder::told(alloc, order)?;
+    let index = number(index)? as usize;
+    let row = RowEntry::told(alloc, row)?;
+    Ok(MergeIteratorHeapEntry { order, row, index })
+}
+
+// `entries`: two rows that were read ahead, each behind its order and before the place of its source.
+fn entries(alloc: Global, words: &[&str], answer: &mut String) -> Result<(), Flaw> {
+    if words.len() != 6 {
+        return Err(Flaw::Words);
+    }
+    let one = entry(alloc, &words[..3])?;
+    let other = entry(alloc, &words[3..])?;
+    Ok(tell_order(answer, one.cmp(&other))?)
+}
+
+/// A list of rows that rise.
+pub fn rising_list(alloc: Global, word: &str) -> Result<ListIterator, Flaw>
+    ensures { IfOk result (λ list. AreRising list.rows) }
+{
+    let rows = rows(alloc, word)?;
+    if !are_rising(&rows) {
+        return Err(Flaw::Order);
+    }
+    Ok(ListIterator::new(rows))
+}
+
+// Lists of the rows of sources, which rise.
+fn rising_lists(alloc: Global, sources: &str) -> Result<Vec<ListIterator>, Flaw>
+    ensures { IfOk result (λ lists. AllByRecursion (λ l. AreRising l.rows) lists.items) }
+{
+    let words = source_words(alloc, sources)?;
+    let mut lists = Vec::new(alloc);
+    'sources: for word in words.as_slice() {
+        lists.push(rising_list(alloc, word)?)?;
+    }
+    Ok(lists)
+}
+
+/// The merge of sources whose rows rise, in rising order.
+pub fn rising_merge(alloc: Global, sources: &str) -> Result<MergeIterator<ListIterator>, Flaw>
+    ensures sound { IfOk result (λ merge. IsSound (λ _. ⊤) giving merge) }
+    ensures alive { IfOk result (λ merge. IsAlive (state_of giving merge)) }
+    ensures rising { IfOk result (λ merge. (dedup : Bool) → AreRising (given dedup (merge_of giving merge))) }
+{
+    merges_rise();
+    Ok(MergeIterator::new(alloc, rising_lists(alloc, sources)?))
+}
+
+// Lists of the rows of sources.
+fn lists(alloc: Global, sources: &str) -> Result<Vec<ListIterator>, Flaw> {
+    let words = source_words(alloc, sources)?;
+    let mut lists = Vec::new(alloc);
+    'sources: for word in words.as_slice() {
+        lists.push(ListIterator::new(rows(alloc, word)?))?;
+    }
+    Ok(lists)
+}
+
+// The merge of sources, whatever their order is.
+fn any_merge(
+    alloc: Global,
+    sources: &str,
+    order: IterationOrder,
+) -> Result<MergeIterator<ListIterator>, Flaw>
+    ensures sound { IfOk result (λ merge. IsSound (λ _. ⊤) giving merge) }
+{
+    let lists = lists(alloc, sources)?;
+    Ok(MergeIterator::new_with_order(alloc, lists, order))
+}
+
+// What a merge gives that is ready, and how many bytes it counts.
+fn tell_merged(
+    alloc: Global,
+    merge: &mut MergeIterator<ListIterator>,
+    answer: &mut String,
+) -> Result<(), Flaw>
+    requires { IsSound (λ _. ⊤) giving merge.old }
+{
+    tell_ready(alloc, merge, answer)?;
+    let bytes = merge.bytes_processed();
+    Ok(write!(answer, " {bytes}")?)
+}
+
+// What a merge gives from its first row on.
+fn from_first(
+    alloc: Global,
+    order: &str,
+    dedup: &str,
+    sources: &str,
+    answer: &mut String,
+) -> Result<(), Flaw> {
+    let order = IterationOrder::told(alloc, order)?;
+    let dedup = flag(dedup)?;
+    let mut merge = any_merge(alloc, sources, order)?.with_dedup(dedup);
+    merge.init(alloc)?;
+    tell_merged(alloc, &mut merge, answer)
+}
+
+// What a rising merge gives from a key on.
+fn from_key(
+    alloc: Global,
+    dedup: &str,
+    sources: &str,
+    key: &str,
+    answer: &mut String,
+) -> Result<(), Flaw> {
+    let dedup = flag(dedup)?;
+    let key = bytes(alloc, key)?;
+    let mut merge = rising_merge(alloc, sources)?.with_dedup(dedup);
+    merge.init(alloc)?;
+    merge.seek(alloc, key.as_slice())?;
+    tell_merged(alloc, &mut merge, answer)
+}
+
+// `merge`: `asc` or `desc`, whether older rows of a key are kept back, the sources, and a key to be sought, if there is one. A
+// falling merge is not sought.
+fn merge(alloc: Global, words: &[&str], answer: &mut String) -> Result<(), Flaw> {
+    match words {
+        [order, dedup, sources] => from_first(alloc, order, dedup, sources, answer),
+        ["asc", dedup, sources, key] => from_key(alloc, dedup, sources, key, answer),
+        _ => Err(Flaw::Words),
+    }
+}
+
+// `unready`: sources, of which a row is asked before their merge is made ready, and then all of them.
+fn unready(alloc: Global, words: &[&str], answer: &mut String) -> Result<(), Flaw> {
+    let [sources] = words else {
+        return Err(Flaw::Words);
+    };
+    let mut merge = any_merge(alloc, sources, IterationOrder::Ascending)?;
+    match merge.next(alloc) {
+        Ok(_) => answer.push_str("ok")?,
+        Err(error) => tell_refusal(alloc, &error, answer)?,
+    }
+    answer.push(' ')?;
+    merge.init(alloc)?;
+    tell_ready(alloc, &mut merge, answer)
+}
+
+// `resume`: sources, and the key and the sequence of the row behind which they are taken up.
+fn resume(alloc: Global, words: &[&str], answer: &mut String) -> Result<(), Flaw> {
+    let [sources, key, seq] = words else {
+        return Err(Flaw::Words);
+    };
+    let seq = number(seq)?;
+    let key = bytes(alloc, key)?;
+    let mut merge = rising_merge(alloc, sources)?.with_dedup(false);
+    merge.init(alloc)?;
+    let mut resumed = ResumingIterator::new(alloc, merge, Some((key, seq)))?;
+    tell_ready(alloc, &mut resumed, answer)
+}
+
+// What a look shows.
+fn tell_look(answer: &mut String, row: Option<&RowEntry>) -> Result<(), AllocError> {
+    match row {
+        Some(row) => row.tell(answer)?,
+        None => answer.push('-')?,
+    }
+    answer.push(' ')
+}
+
+// `peek`: rows, and a key. A look at the next row, a seek, another look, and the rows that are given then.
+fn peek(alloc: Global, words: &[&str], answer: &mut String) -> Result<(), Flaw> {
+    let [rows, key] = words else {
+        return Err(Flaw::Words);
+    };
+    let key = bytes(alloc, key)?;
+    let mut list = PeekingIterator::new(rising_list(alloc, rows)?);
+    list.look_ahead(alloc)?;
+    tell_look(answer, list.peeked())?;
+    list.seek(alloc, key.as_slice())?;
+    list.look_ahead(alloc)?;
+    tell_look(answer, list.peeked())?;
+    tell_ready(alloc, &mut list, answer)
+}

@@ -1,0 +1,52 @@
+//! Cases of single calls. A line of standard input is `NAME CALL WORDS`, which prints `NAME ANSWER`, or `NAME CALL WORDS => ANSWER`,
+//! which prints a line only where the call answers otherwise. A last line counts the cases, and those that differ.
+#![tactic(auto)]
+
+mod case;
+mod error_calls;
+mod exec_calls;
+mod filter_calls;
+mod filters;
+mod flaw;
+mod fold_calls;
+mod given;
+mod iter_calls;
+mod manifest_calls;
+mod operators;
+mod plan_calls;
+mod range_calls;
+mod row_calls;
+mod table_calls;
+mod tables;
+mod tell;
+mod told;
+mod words;
+
+use case::Tally;
+use std::io::{self, BufRead, BufReader, BufWriter, Write};
+use std::process::ExitCode;
+
+fn run(rt: &(impl Input + Print + AllocGlobal)) -> io::Result<Tally> {
+    let alloc = rt.alloc();
+    let mut out = BufWriter::new(alloc, io::writer(rt))?;
+    let mut said = String::new(alloc);
+    let mut tally = Tally::new();
+    'lines: for line in BufReader::new(alloc, rt.reader())?.split(alloc, b'\n') {
+        let line = line?;
+        said.clear();
+        tally.take(alloc, line.as_slice(), &mut said)?;
+        out.write_all(said.as_bytes())?;
+    }
+    said.clear();
+    tally.tell(&mut said)?;
+    out.write_all(said.as_bytes())?;
+    out.flush()?;
+    Ok(tally)
+}
+
+fn main(rt: HostRuntime) -> ExitCode {
+    match run(&rt) {
+        Ok(tally) if tally.differ == 0 => ExitCode::SUCCESS,
+        _ => ExitCode::FAILURE,
+    }
+}

@@ -1,0 +1,99 @@
+//! Calls of `fleet_plan`.
+
+use crate::flaw::Flaw;
+use crate::range_calls::range;
+use crate::tell::{Tell, tell_list};
+use crate::words::{Told, number, told_list, told_pair};
+use bytes::Bytes;
+use fleet_plan::{Anchor, plan_subcompaction_ranges, sample_anchors, select_boundaries};
+use fleet_range::{ByteRangeBounds, BytesRange};
+use fleet_table::{BlockMeta, SortedRun, SsTableView};
+use std::alloc::{AllocError, Global};
+use std::ops::Bound;
+
+/// Answers a call of this name, if there is one.
+pub fn answers(
+    alloc: Global,
+    name: &str,
+    words: &[&str],
+    answer: &mut String,
+) -> Result<bool, Flaw> {
+    match name {
+        "bounds" => bounds(alloc, words, answer)?,
+        "anchors" => anchors(alloc, words, answer)?,
+        "plan" => plan(alloc, words, answer)?,
+        _ => return Ok(false),
+    }
+    Ok(true)
+}
+
+impl Told for Anchor {
+    fn told(alloc: Global, word: &str) -> Result<Anchor, Flaw> {
+        let (key, bytes) = told_pair(alloc, word)?;
+        Ok(Anchor { key, bytes })
+    }
+}
+
+impl Tell for Anchor {
+    fn tell(&self, answer: &mut String) -> Result<(), AllocError> {
+        self.key.as_slice().tell(answer)?;
+        let bytes = self.bytes;
+        write!(answer, ":{bytes}")
+    }
+}
+
+// The keys at which ranges begin that are not the first.
+fn cuts<'a>(alloc: Global, ranges: &'a [BytesRange]) -> Result<Vec<&'a [u8]>, AllocError> {
+    let mut keys = Vec::new(alloc);
+    'ranges: for range in ranges {
+        if let Bound::Included(key) = ByteRangeBounds::start_bound(range) {
+            keys.push(key)?;
+        }
+    }
+    Ok(keys)
+}
+
+fn tell_cuts(alloc: Global, ranges: &[BytesRange], answer: &mut String) -> Result<(), AllocError> {
+    let keys = cuts(alloc, ranges)?;
+    answer.push_str("ok ")?;
+    tell_list(answer, keys.as_slice(), ',')
+}
+
+// `bounds`: the most ranges, the least bytes of each, and anchors.
+fn bounds(alloc: Global, words: &[&str], answer: &mut String) -> Result<(), Flaw> {
+    let [most, least_bytes, anchors] = words else {
+        return Err(Flaw::Words);
+    };
+    let most = number(most)?;
+    let least_bytes = number(least_bytes)?;
+    let anchors = told_list(alloc, anchors, ',')?;
+    let ranges = select_boundaries(alloc, anchors, most, least_bytes)?;
+    Ok(tell_cuts(alloc, ranges.as_slice(), answer)?)
+}
+
+// `anchors`: where the data ends, the most anchors, a range, and blocks.
+fn anchors(alloc: Global, words: &[&str], answer: &mut String) -> Result<(), Flaw> {
+    let [end, most, low, high, blocks] = words else {
+        return Err(Flaw::Words);
+    };
+    let end = number(end)?;
+    let most = number(most)?;
+    let range = range(alloc, low, high)?;
+    let blocks: Vec<BlockMeta> = told_list(alloc, blocks, ',')?;
+    let anchors = sample_anchors(alloc, blocks.as_slice(), end, most, &range)?;
+    answer.push_str("ok ")?;
+    Ok(tell_list(answer, anchors.as_slice(), ',')?)
+}
+
+// `plan`: the most ranges, and tables by their descriptions.
+fn plan(alloc: Global, words: &[&str], answer: &mut String) -> Result<(), Flaw> {
+    let [most, tables] = words else {
+        return Err(Flaw::Words);
+    };
+    let most = number(most)?;
+    let (flushed, runs) = tables.split_once('/').unwrap_or((tables, "-"));
+    let flushed: Vec<SsTableView> = told_list(alloc, flushed, '|')?;
+    let runs: Vec<SortedRun> = told_list(alloc, runs, '|')?;
+    let ranges = plan_subcompaction_ranges(alloc, &flushed, &runs, most)?;
+    Ok(tell_cuts(alloc, ranges.as_slice(), answer)?)
+}

@@ -1,0 +1,311 @@
+//! Calls of `fleet_range`: of ranges of byte strings, and of ranges of numbers.
+
+use crate::flaw::Flaw;
+use crate::tell::{Tell, tell_bound, tell_flag, tell_or_none, tell_order};
+use crate::told::bound;
+use crate::words::{Told, bytes};
+use bytes::Bytes;
+use fleet_range::{ByteRangeBounds, BytesRange, ComparableRange, EndBound, StartBound};
+use std::alloc::{AllocError, Global};
+use std::ops::{Bound, RangeBounds};
+
+/// Answers a call of this name, if there is one.
+pub fn answers(
+    alloc: Global,
+    name: &str,
+    words: &[&str],
+    answer: &mut String,
+) -> Result<bool, Flaw> {
+    match name {
+        "prefix" => prefix(alloc, words, answer)?,
+        "prefixsub" => subrange(alloc, words, answer)?,
+        "intersect" => intersect(alloc, words, answer)?,
+        "contains" => contains(alloc, words, answer)?,
+        "range" => try_range(alloc, words, answer)?,
+        "empty" => empty(alloc, words, answer)?,
+        "point" => point(alloc, words, answer)?,
+        "sides" => sides(alloc, words, answer)?,
+        "copy" => copy(alloc, words, answer)?,
+        "slices" => slices(alloc, words, answer)?,
+        "behind" => behind(alloc, words, answer)?,
+        "order" => order(alloc, words, answer)?,
+        _ => return answers_of_numbers(alloc, name, words, answer),
+    }
+    Ok(true)
+}
+
+fn answers_of_numbers(
+    alloc: Global,
+    name: &str,
+    words: &[&str],
+    answer: &mut String,
+) -> Result<bool, Flaw> {
+    match name {
+        "starts" => starts(alloc, words, answer)?,
+        "ends" => ends(alloc, words, answer)?,
+        "room" => room(alloc, words, answer)?,
+        "overlap" => overlap(alloc, words, answer)?,
+        "union" => union(alloc, words, answer)?,
+        _ => return Ok(false),
+    }
+    Ok(true)
+}
+
+/// The range between two bounds.
+pub fn range(alloc: Global, low: &str, high: &str) -> Result<BytesRange, Flaw> {
+    let low = bound(alloc, low)?;
+    match BytesRange::try_new(low, bound(alloc, high)?) {
+        Some(range) => Ok(range),
+        None => Err(Flaw::Room),
+    }
+}
+
+impl Tell for BytesRange {
+    fn tell(&self, answer: &mut String) -> Result<(), AllocError> {
+        tell_bound(answer, &ByteRangeBounds::start_bound(self))?;
+        answer.push(' ')?;
+        tell_bound(answer, &ByteRangeBounds::end_bound(self))
+    }
+}
+
+// `prefix`: a prefix.
+fn prefix(alloc: Global, words: &[&str], answer: &mut String) -> Result<(), Flaw> {
+    let [prefix] = words else {
+        return Err(Flaw::Words);
+    };
+    let prefix = bytes(alloc, prefix)?;
+    let range = BytesRange::from_prefix(alloc, prefix.as_slice())?;
+    answer.push_str("ok ")?;
+    Ok(range.tell(answer)?)
+}
+
+// `prefixsub`: a prefix, and two bounds of what stands behind it.
+fn subrange(alloc: Global, words: &[&str], answer: &mut String) -> Result<(), Flaw> {
+    let [prefix, low, high] = words else {
+        return Err(Flaw::Words);
+    };
+    let prefix = bytes(alloc, prefix)?;
+    let behind = (bound::<Bytes>(alloc, low)?, bound::<Bytes>(alloc, high)?);
+    let range = BytesRange::from_prefix_and_subrange(alloc, prefix.as_slice(), behind)?;
+    Ok(tell_or_none(answer, &range)?)
+}
+
+// `intersect`: the bounds of two ranges.
+fn intersect(alloc: Global, words: &[&str], answer: &mut String) -> Result<(), Flaw> {
+    let [low, high, start, end] = words else {
+        return Err(Flaw::Words);
+    };
+    let one = range(alloc, low, high)?;
+    let other = range(alloc, start, end)?;
+    let both = one.intersect(&other)?;
+    Ok(tell_or_none(answer, &both)?)
+}
+
+// `contains`: the bounds of a range, and a key.
+fn contains(alloc: Global, words: &[&str], answer: &mut String) -> Result<(), Flaw> {
+    let [low, high, key] = words else {
+        return Err(Flaw::Words);
+    };
+    let range = range(alloc, low, high)?;
+    let key = bytes(alloc, key)?;
+    Ok(tell_flag(answer, range.contains(key.as_slice()))?)
+}
+
+// `range`: two bounds.
+fn try_range(alloc: Global, words: &[&str], answer: &mut String) -> Result<(), Flaw> {
+    let [low, high] = words else {
+        return Err(Flaw::Words);
+    };
+    let low = bound(alloc, low)?;
+    let range = BytesRange::try_new(low, bound(alloc, high)?);
+    Ok(tell_or_none(answer, &range)?)
+}
+
+// `empty`: the bounds of a range, which meets one that is empty.
+fn empty(alloc: Global, words: &[&str], answer: &mut String) -> Result<(), Flaw> {
+    let [low, high] = words else {
+        return Err(Flaw::Words);
+    };
+    let range = range(alloc, low, high)?;
+    let both = BytesRange::new_empty(alloc)?.intersect(&range)?;
+    Ok(tell_or_none(answer, &both)?)
+}
+
+// `point`: the bounds of a range.
+fn point(alloc: Global, words: &[&str], answer: &mut String) -> Result<(), Flaw> {
+    let [low, high] = words else {
+        return Err(Flaw::Words);
+    };
+    let range = range(alloc, low, high)?;
+    let key = range.as_point().map(|key| key.as_slice());
+    Ok(tell_or_none(answer, &key)?)
+}
+
+impl Tell for &Bytes {
+    fn tell(&self, answer: &mut String) -> Result<(), AllocError> {
+        self.as_slice().tell(answer)
+    }
+}
+
+// `sides`: the bounds of a range, which are told again, and whether the first is not an excluded key.
+fn sides(alloc: Global, words: &[&str], answer: &mut String) -> Result<(), Flaw> {
+    let [low, high] = words else {
+        return Err(Flaw::Words);
+    };
+    let range = range(alloc, low, high)?;
+    answer.push_str("ok ")?;
+    tell_bound(answer, &Bound::from(range.comparable_start_bound()))?;
+    answer.push(' ')?;
+    tell_bound(answer, &Bound::from(range.comparable_end_bound()))?;
+    let flag = range.is_start_bound_included_or_unbounded() as u8;
+    Ok(write!(answer, " {flag}")?)
+}
+
+// `copy`: two bounds, of a range that is copied.
+fn copy(alloc: Global, words: &[&str], answer: &mut String) -> Result<(), Flaw> {
+    let [low, high] = words else {
+        return Err(Flaw::Words);
+    };
+    let ends = ComparableRange::<Bytes>::new(bound(alloc, low)?, bound(alloc, high)?);
+    if !ends.non_empty() {
+        return Err(Flaw::Room);
+    }
+    let range = BytesRange::from(ends)?;
+    answer.push_str("ok ")?;
+    Ok(range.tell(answer)?)
+}
+
+// `slices`: a key and a greater one, of a range that is copied.
+fn slices(alloc: Global, words: &[&str], answer: &mut String) -> Result<(), Flaw> {
+    let [low, high] = words else {
+        return Err(Flaw::Words);
+    };
+    let low = bytes(alloc, low)?;
+    let high = bytes(alloc, high)?;
+    tell_slices(alloc, low.as_slice(), high.as_slice(), answer)
+}
+
+fn tell_slices(alloc: Global, low: &[u8], high: &[u8], answer: &mut String) -> Result<(), Flaw> {
+    if !low.cmp(high).is_lt() {
+        return Err(Flaw::Room);
+    }
+    let range = BytesRange::from_slice(alloc, low..high)?;
+    answer.push_str("ok ")?;
+    Ok(range.tell(answer)?)
+}
+
+// The keys behind a prefix that lie in a range, of each kind that the language has.
+fn range_behind(
+    alloc: Global,
+    prefix: &[u8],
+    kind: &str,
+    low: &[u8],
+    high: &[u8],
+) -> Result<Option<BytesRange>, Flaw> {
+    let range = match kind {
+        ".." => BytesRange::from_prefix_and_subrange(alloc, prefix, ..)?,
+        "low.." => BytesRange::from_prefix_and_subrange(alloc, prefix, low..)?,
+        "..high" => BytesRange::from_prefix_and_subrange(alloc, prefix, ..high)?,
+        "..=high" => BytesRange::from_prefix_and_subrange(alloc, prefix, ..=high)?,
+        "low..high" => BytesRange::from_prefix_and_subrange(alloc, prefix, low..high)?,
+        "low..=high" => BytesRange::from_prefix_and_subrange(alloc, prefix, low..=high)?,
+        _ => return Err(Flaw::Choice),
+    };
+    Ok(range)
+}
+
+// `behind`: a prefix, the kind of a range of what stands behind it, and two keys, of which the range has those that its kind names.
+fn behind(alloc: Global, words: &[&str], answer: &mut String) -> Result<(), Flaw> {
+    let [prefix, kind, low, high] = words else {
+        return Err(Flaw::Words);
+    };
+    let prefix = bytes(alloc, prefix)?;
+    let low = bytes(alloc, low)?;
+    let high = bytes(alloc, high)?;
+    let range = range_behind(
+        alloc,
+        prefix.as_slice(),
+        kind,
+        low.as_slice(),
+        high.as_slice(),
+    )?;
+    Ok(tell_or_none(answer, &range)?)
+}
+
+// `order`: the bounds of two ranges.
+fn order(alloc: Global, words: &[&str], answer: &mut String) -> Result<(), Flaw> {
+    let [low, high, start, end] = words else {
+        return Err(Flaw::Words);
+    };
+    let one = range(alloc, low, high)?;
+    let other = range(alloc, start, end)?;
+    Ok(tell_order(answer, one.cmp(&other))?)
+}
+
+// `starts`: two bounds where ranges of numbers start.
+fn starts(alloc: Global, words: &[&str], answer: &mut String) -> Result<(), Flaw> {
+    let [one, other] = words else {
+        return Err(Flaw::Words);
+    };
+    let one = StartBound::<u64>::from(bound(alloc, one)?);
+    let other = StartBound::<u64>::from(bound(alloc, other)?);
+    Ok(tell_order(answer, one.cmp(&other))?)
+}
+
+// `ends`: two bounds where ranges of numbers end.
+fn ends(alloc: Global, words: &[&str], answer: &mut String) -> Result<(), Flaw> {
+    let [one, other] = words else {
+        return Err(Flaw::Words);
+    };
+    let one = EndBound::<u64>::from(bound(alloc, one)?);
+    let other = EndBound::<u64>::from(bound(alloc, other)?);
+    Ok(tell_order(answer, one.cmp(&other))?)
+}
+
+/// A range of numbers.
+type Numbers = ComparableRange<u64>;
+
+fn numbers(alloc: Global, low: &str, high: &str) -> Result<Numbers, Flaw> {
+    Ok(Numbers::new(bound(alloc, low)?, bound(alloc, high)?))
+}
+
+impl Tell for &u64 {
+    fn tell(&self, answer: &mut String) -> Result<(), AllocError> {
+        (**self).tell(answer)
+    }
+}
+
+impl Tell for Numbers {
+    fn tell(&self, answer: &mut String) -> Result<(), AllocError> {
+        tell_bound(answer, &self.start_bound())?;
+        answer.push(' ')?;
+        tell_bound(answer, &self.end_bound())
+    }
+}
+
+// `room`: the bounds of a range of numbers.
+fn room(alloc: Global, words: &[&str], answer: &mut String) -> Result<(), Flaw> {
+    let [low, high] = words else {
+        return Err(Flaw::Words);
+    };
+    let range = numbers(alloc, low, high)?;
+    Ok(tell_flag(answer, range.non_empty())?)
+}
+
+// `overlap`: the bounds of two ranges of numbers.
+fn overlap(alloc: Global, words: &[&str], answer: &mut String) -> Result<(), Flaw> {
+    let [low, high, start, end] = words else {
+        return Err(Flaw::Words);
+    };
+    let both = numbers(alloc, low, high)?.intersect(&numbers(alloc, start, end)?)?;
+    Ok(tell_or_none(answer, &both)?)
+}
+
+// `union`: the bounds of two ranges of numbers.
+fn union(alloc: Global, words: &[&str], answer: &mut String) -> Result<(), Flaw> {
+    let [low, high, start, end] = words else {
+        return Err(Flaw::Words);
+    };
+    let all = numbers(alloc, low, high)?.union(&numbers(alloc, start, end)?)?;
+    Ok(tell_or_none(answer, &all)?)
+}

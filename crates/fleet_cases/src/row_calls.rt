@@ -1,0 +1,157 @@
+//! Calls of `fleet_rows`.
+
+ghost use Rattle.std.specs.Prelude.{IfOk};
+ghost use Rattle.row_model.specs.Bounds.{IsInBounds};
+ghost use Rattle.fleet_rows.specs.Row.{row_of};
+
+use crate::flaw::Flaw;
+use crate::tell::{Tell, tell_list, tell_or_none, tell_stamp};
+use crate::words::{Told, number, told_list};
+use fleet_rows::{KeyValue, ListOf, RowEntry, Ulid};
+use std::alloc::{AllocError, Global};
+
+/// Answers a call of this name, if there is one.
+pub fn answers(
+    alloc: Global,
+    name: &str,
+    words: &[&str],
+    answer: &mut String,
+) -> Result<bool, Flaw> {
+    match name {
+        "size" => size(alloc, words, answer)?,
+        "encoded" => encoded(alloc, words, answer)?,
+        "content" => content(alloc, words, answer)?,
+        "keyvalue" => key_value(alloc, words, answer)?,
+        "ulid" => ulid(words, answer)?,
+        "insert" => insert(alloc, words, answer)?,
+        "replace" => replace(alloc, words, answer)?,
+        _ => return Ok(false),
+    }
+    Ok(true)
+}
+
+// A row that a table may hold.
+fn short_row(alloc: Global, word: &str) -> Result<RowEntry, Flaw>
+    ensures { IfOk result (λ row. IsInBounds (row_of row)) }
+{
+    let row = RowEntry::told(alloc, word)?;
+    if row.is_in_bounds() {
+        Ok(row)
+    } else {
+        Err(Flaw::Length)
+    }
+}
+
+// `size`: a row.
+fn size(alloc: Global, words: &[&str], answer: &mut String) -> Result<(), Flaw> {
+    let [word] = words else {
+        return Err(Flaw::Words);
+    };
+    let size = short_row(alloc, word)?.estimated_size();
+    Ok(write!(answer, "ok {size}")?)
+}
+
+// `encoded`: a row, and how many bytes of its key stand elsewhere.
+fn encoded(alloc: Global, words: &[&str], answer: &mut String) -> Result<(), Flaw> {
+    let [word, prefix] = words else {
+        return Err(Flaw::Words);
+    };
+    let prefix = number(prefix)? as usize;
+    let row = short_row(alloc, word)?;
+    if prefix > row.key.len() {
+        return Err(Flaw::Length);
+    }
+    let size = row.encoded_size(prefix);
+    Ok(write!(answer, "ok {size}")?)
+}
+
+// `content`: a row.
+fn content(alloc: Global, words: &[&str], answer: &mut String) -> Result<(), Flaw> {
+    let [word] = words else {
+        return Err(Flaw::Words);
+    };
+    let row = RowEntry::told(alloc, word)?;
+    let len = row.value.len();
+    let empty = row.value.is_empty() as u8;
+    let deleted = row.value.is_tombstone() as u8;
+    write!(answer, "{len} {empty} {deleted} ")?;
+    let bytes = row.value.as_bytes()?;
+    match &bytes {
+        Some(bytes) => Ok(bytes.as_slice().tell(answer)?),
+        None => Ok(answer.push_str("none")?),
+    }
+}
+
+impl Tell for KeyValue {
+    fn tell(&self, answer: &mut String) -> Result<(), AllocError> {
+        self.key.as_slice().tell(answer)?;
+        answer.push(':')?;
+        self.value.as_slice().tell(answer)?;
+        let seq = self.seq;
+        let created = self.create_ts;
+        write!(answer, ":{seq}:{created}:")?;
+        tell_stamp(answer, self.expire_ts)
+    }
+}
+
+// `keyvalue`: a row.
+fn key_value(alloc: Global, words: &[&str], answer: &mut String) -> Result<(), Flaw> {
+    let [word] = words else {
+        return Err(Flaw::Words);
+    };
+    let held = KeyValue::from_row(RowEntry::told(alloc, word)?);
+    Ok(tell_or_none(answer, &held)?)
+}
+
+// `ulid`: a moment and a number.
+fn ulid(words: &[&str], answer: &mut String) -> Result<(), Flaw> {
+    let [moment, word] = words else {
+        return Err(Flaw::Words);
+    };
+    let moment = number(moment)?;
+    let Ok(number) = word.parse::<u128>() else {
+        return Err(Flaw::Number);
+    };
+    if number >= 1 << 80 {
+        return Err(Flaw::Number);
+    }
+    let id = Ulid::from_parts(moment, number);
+    let moment = id.moment_ms();
+    let number = id.number();
+    Ok(write!(answer, "ok {moment} {number}")?)
+}
+
+fn tell_numbers(answer: &mut String, numbers: &ListOf<u64>) -> Result<(), AllocError> {
+    answer.push_str("ok ")?;
+    tell_list(answer, numbers.as_slice(), ',')
+}
+
+// `insert`: a place, a number, and the numbers of a list.
+fn insert(alloc: Global, words: &[&str], answer: &mut String) -> Result<(), Flaw> {
+    let [place, item, list] = words else {
+        return Err(Flaw::Words);
+    };
+    let place = number(place)?;
+    let item = number(item)?;
+    let mut list = ListOf::from_vec(told_list(alloc, list, ',')?);
+    if place > list.len() {
+        return Err(Flaw::Number);
+    }
+    list.insert(place, item)?;
+    Ok(tell_numbers(answer, &list)?)
+}
+
+// `replace`: a place, a number, and the numbers of a list.
+fn replace(alloc: Global, words: &[&str], answer: &mut String) -> Result<(), Flaw> {
+    let [place, item, list] = words else {
+        return Err(Flaw::Words);
+    };
+    let place = number(place)?;
+    let item = number(item)?;
+    let mut list = ListOf::from_vec(told_list(alloc, list, ',')?);
+    if place >= list.len() {
+        return Err(Flaw::Number);
+    }
+    list.replace(place, item);
+    Ok(tell_numbers(answer, &list)?)
+}

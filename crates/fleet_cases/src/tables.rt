@@ -1,0 +1,106 @@
+//! Tables, runs and descriptions of tables as words tell them.
+
+use crate::flaw::Flaw;
+use crate::told::rows;
+use crate::words::{Told, number, told_list, told_pair};
+use bytes::Bytes;
+use fleet_rows::Ulid;
+use fleet_table::{
+    BlockList, BlockMeta, RunData, SortedRun, SsTableHandle, SsTableView, TableData, ViewList,
+    are_in_bounds, are_strictly_ordered,
+};
+use std::alloc::Global;
+
+impl Told for TableData {
+    fn told(alloc: Global, word: &str) -> Result<TableData, Flaw> {
+        let rows = rows(alloc, word)?;
+        if rows.is_empty() || !are_strictly_ordered(&rows) {
+            return Err(Flaw::Order);
+        }
+        if !are_in_bounds(&rows) {
+            return Err(Flaw::Length);
+        }
+        Ok(TableData::from_rows(alloc, rows)?)
+    }
+}
+
+/// The tables of a run have `;` between them.
+impl Told for RunData {
+    fn told(alloc: Global, word: &str) -> Result<RunData, Flaw> {
+        let mut run = RunData::new(alloc);
+        if word != "-" {
+            'tables: for part in word.split(';') {
+                run.push(TableData::told(alloc, part)?)?;
+            }
+        }
+        Ok(run)
+    }
+}
+
+impl Told for BlockMeta {
+    fn told(alloc: Global, word: &str) -> Result<BlockMeta, Flaw> {
+        let (first_key, offset) = told_pair(alloc, word)?;
+        Ok(BlockMeta { first_key, offset })
+    }
+}
+
+// A view of a table with these keys.
+fn view_of(
+    id: u64,
+    first_key: Bytes,
+    last_key: Bytes,
+    size: u64,
+    blocks: BlockList,
+) -> Result<SsTableView, Flaw> {
+    if !first_key.cmp(&last_key).is_le() {
+        return Err(Flaw::Order);
+    }
+    Ok(SsTableView::identity(SsTableHandle {
+        id: Ulid::from_parts(0, id as u128),
+        first_key,
+        last_key,
+        last_seq: 0,
+        rows: 1,
+        size,
+        blocks,
+    })?)
+}
+
+/// A view of a table of which only the id matters.
+pub fn named_view(alloc: Global, id: u64) -> Result<SsTableView, Flaw> {
+    view_of(id, Bytes::new(), Bytes::new(), 0, BlockList::new(alloc))
+}
+
+// A view of a table with these blocks, whose last key is where the last block begins.
+fn view_of_blocks(alloc: Global, size: u64, blocks: Vec<BlockMeta>) -> Result<SsTableView, Flaw> {
+    let (Some(first), Some(last)) = (blocks.first(), blocks.last()) else {
+        return Err(Flaw::Order);
+    };
+    let first_key = first.first_key.clone()?;
+    let last_key = last.first_key.clone()?;
+    view_of(
+        0,
+        first_key,
+        last_key,
+        size,
+        BlockList::from_vec(alloc, blocks)?,
+    )
+}
+
+/// The size of a table and its blocks, with `=` between.
+impl Told for SsTableView {
+    fn told(alloc: Global, word: &str) -> Result<SsTableView, Flaw> {
+        let Some((size, blocks)) = word.split_once('=') else {
+            return Err(Flaw::Pair);
+        };
+        view_of_blocks(alloc, number(size)?, told_list(alloc, blocks, ',')?)
+    }
+}
+
+/// The descriptions of a run's tables have `;` between them.
+impl Told for SortedRun {
+    fn told(alloc: Global, word: &str) -> Result<SortedRun, Flaw> {
+        let views = ViewList::from_vec(alloc, told_list(alloc, word, ';')?)?;
+        Ok(SortedRun::new(0, views))
+    }
+}
