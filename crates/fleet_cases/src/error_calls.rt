@@ -1,6 +1,7 @@
 //! The texts of errors.
 
 use crate::flaw::Flaw;
+use crate::tell::tell_text;
 use fleet_rows::{CompactionFilterError, MergeOperatorError, SlateDBError, Text};
 use std::alloc::Global;
 
@@ -16,8 +17,8 @@ pub fn answers(
     };
     match name {
         "error" => tell_error(alloc, error, answer)?,
-        "mergeerror" => tell_merge_error(alloc, error, answer)?,
-        "filtererror" => tell_filter_error(alloc, error, answer)?,
+        "mergeerror" => tell_text(answer, merge_error(alloc, error)?)?,
+        "filtererror" => tell_text(answer, filter_error(alloc, error)?)?,
         _ => return Ok(false),
     }
     Ok(true)
@@ -50,52 +51,49 @@ fn filter_error(alloc: Global, name: &str) -> Result<CompactionFilterError, Flaw
     }
 }
 
-// A refusal of the fleet. Its numbers, where it has any, are 3, and its text, where it has one, is `no`.
-fn fleet_error(alloc: Global, name: &str) -> Result<SlateDBError, Flaw> {
+// A refusal of the fleet that has a text, which is `no`.
+fn texted_error(alloc: Global, name: &str) -> Result<SlateDBError, Flaw> {
     match name {
-        "unready" => Ok(SlateDBError::IteratorNotInitialized),
-        "failed" => Ok(SlateDBError::IteratorFailed),
-        "missing" => Ok(SlateDBError::MergeOperatorMissing),
-        "order" => Ok(SlateDBError::InvalidSequenceOrder {
-            current_seq: 3,
-            next_seq: 3,
-        }),
         "operator" => Ok(SlateDBError::from(merge_error(alloc, "callback")?)),
         "filter" => Ok(SlateDBError::from(filter_error(alloc, "filter")?)),
-        "conflict" => Ok(SlateDBError::Conflict { seen: 3 }),
         "generate" => Ok(SlateDBError::Generate {
             message: text(alloc)?,
         }),
+        _ => Err(Flaw::Choice),
+    }
+}
+
+// A refusal of the fleet that has none. Its numbers, where it has any, are 3.
+fn plain_error(name: &str) -> Option<SlateDBError> {
+    match name {
+        "unready" => Some(SlateDBError::IteratorNotInitialized),
+        "failed" => Some(SlateDBError::IteratorFailed),
+        "missing" => Some(SlateDBError::MergeOperatorMissing),
+        "order" => Some(SlateDBError::InvalidSequenceOrder {
+            current_seq: 3,
+            next_seq: 3,
+        }),
+        "memory" => Some(SlateDBError::from(MergeOperatorError::Memory)),
         _ => state_error(name),
     }
 }
 
-fn state_error(name: &str) -> Result<SlateDBError, Flaw> {
+fn state_error(name: &str) -> Option<SlateDBError> {
     match name {
-        "compaction" => Ok(SlateDBError::InvalidCompaction),
-        "state" => Ok(SlateDBError::InvalidDBState),
-        "fenced" => Ok(SlateDBError::Fenced { stored: 3 }),
-        "store" => Ok(SlateDBError::StoreFault),
-        "owner" => Ok(SlateDBError::NotOwner),
-        "memory" => Ok(SlateDBError::from(MergeOperatorError::Memory)),
-        _ => Err(Flaw::Choice),
+        "compaction" => Some(SlateDBError::InvalidCompaction),
+        "state" => Some(SlateDBError::InvalidDBState),
+        "fenced" => Some(SlateDBError::Fenced { stored: 3 }),
+        "store" => Some(SlateDBError::StoreFault),
+        "owner" => Some(SlateDBError::NotOwner),
+        "conflict" => Some(SlateDBError::Conflict { seen: 3 }),
+        _ => None,
     }
 }
 
 // `error`: a refusal of the fleet.
 fn tell_error(alloc: Global, name: &str, answer: &mut String) -> Result<(), Flaw> {
-    let error = fleet_error(alloc, name)?;
-    Ok(write!(answer, "ok {error}")?)
-}
-
-// `mergeerror`: an error of a merge operator.
-fn tell_merge_error(alloc: Global, name: &str, answer: &mut String) -> Result<(), Flaw> {
-    let error = merge_error(alloc, name)?;
-    Ok(write!(answer, "ok {error}")?)
-}
-
-// `filtererror`: an error of a filter.
-fn tell_filter_error(alloc: Global, name: &str, answer: &mut String) -> Result<(), Flaw> {
-    let error = filter_error(alloc, name)?;
-    Ok(write!(answer, "ok {error}")?)
+    match plain_error(name) {
+        Some(error) => tell_text(answer, error),
+        None => tell_text(answer, texted_error(alloc, name)?),
+    }
 }

@@ -5,7 +5,7 @@ ghost use Rattle.fleet_exec.specs.Ranges.{AreSources};
 
 use crate::flaw::Flaw;
 use crate::fold_calls::{REFUSING, settings};
-use crate::given::tell_refusal;
+use crate::given::tell_result;
 use crate::range_calls::range;
 use crate::tell::{Tell, tell_flag, tell_list, tell_rows};
 use crate::told::source_words;
@@ -15,7 +15,7 @@ use fleet_exec::{
     RangeGate, RangeJob, RangeTables, SourceSet, are_sources, finish_ranges, next_table,
 };
 use fleet_fold::{AppendOperator, MergeOperator};
-use fleet_rows::{RowEntry, Settings, SlateDBError};
+use fleet_rows::{RowEntry, Settings};
 use fleet_table::RunData;
 use std::alloc::{AllocError, Global};
 use std::sync::atomic::{AtomicUsize, Ordering};
@@ -81,40 +81,22 @@ fn cursor(alloc: Global, key: &str, seq: &str) -> Result<Option<(Bytes, u64)>, F
     Ok(Some((bytes(alloc, key)?, seq)))
 }
 
-// The job of a range, which is told by its bounds, and by the key and the sequence of the row that was written last.
-fn range_job(alloc: Global, settings: Settings, word: &str) -> Result<RangeJob, Flaw> {
-    let fields = parts(alloc, word, ',')?;
-    let [low, high, key, seq] = fields.as_slice() else {
+fn range_job_of(alloc: Global, settings: Settings, fields: &[&str]) -> Result<RangeJob, Flaw> {
+    let [low, high, key, seq] = fields else {
         return Err(Flaw::Words);
     };
-    let range = range(alloc, low, high)?;
+    let cursor = cursor(alloc, key, seq)?;
     Ok(RangeJob {
-        range,
-        cursor: cursor(alloc, key, seq)?,
+        range: range(alloc, low, high)?,
+        cursor,
         settings,
     })
 }
 
-// The next rows of a range.
-fn tell_next<O: MergeOperator>(
-    alloc: Global,
-    operator: &O,
-    job: &RangeJob,
-    sources: &SourceSet,
-    most: u64,
-    answer: &mut String,
-) -> Result<(), Flaw>
-    requires sources { AreSources sources.now }
-    requires some { 1 ≤ most }
-{
-    match next_table(alloc, job, sources, operator, most) {
-        Ok(Some(rows)) => {
-            answer.push_str("ok ")?;
-            Ok(tell_rows(answer, rows.as_slice())?)
-        }
-        Ok(None) => Ok(answer.push_str("none")?),
-        Err(error) => tell_refusal(alloc, &error, answer),
-    }
+// The job of a range, which is told by its bounds, and by the key and the sequence of the row that was written last.
+fn range_job(alloc: Global, settings: Settings, word: &str) -> Result<RangeJob, Flaw> {
+    let fields = parts(alloc, word, ',')?;
+    range_job_of(alloc, settings, fields.as_slice())
 }
 
 // `next` or `nextno`: the settings, the sources, how many rows at most, and a range.
@@ -134,7 +116,22 @@ fn next<O: MergeOperator>(
     }
     let job = range_job(alloc, settings, range)?;
     let sources = ordered_sources(alloc, sources)?;
-    tell_next(alloc, operator, &job, &sources, most, answer)
+    let given = next_table(alloc, &job, &sources, operator, most);
+    tell_result(alloc, given, answer)
+}
+
+// The key and the sequence of the last row.
+fn last_row(rows: &[RowEntry]) -> Result<Option<(Bytes, u64)>, Flaw> {
+    match rows.last() {
+        Some(row) => Ok(Some((row.key.clone()?, row.seq))),
+        None => Ok(None),
+    }
+}
+
+// Goes on behind the last of the rows.
+fn go_on(job: &mut RangeJob, rows: &[RowEntry]) -> Result<(), Flaw> {
+    job.cursor = last_row(rows)?;
+    Ok(())
 }
 
 // Takes at most so many rows, and goes on behind them.
@@ -150,15 +147,12 @@ fn take_on(
     if most == 0 {
         return Err(Flaw::Number);
     }
-    let Some(rows) = next_table(alloc, &*job, sources, &AppendOperator, most)? else {
-        return Ok(answer.push_str(" none")?);
-    };
     answer.push(' ')?;
-    tell_rows(answer, rows.as_slice())?;
-    if let Some(row) = rows.last() {
-        job.cursor = Some((row.key.clone()?, row.seq));
+    let given = next_table(alloc, &*job, sources, &AppendOperator, most)?;
+    if let Some(rows) = &given {
+        go_on(job, rows.as_slice())?;
     }
-    Ok(())
+    Ok(given.tell(answer)?)
 }
 
 // `walk`: the settings, the sources, a range, and how many rows at most each table has, of tables that are taken one behind the
@@ -194,13 +188,6 @@ impl RangeGate for Calls {
     }
 }
 
-// A table by its rows.
-impl Tell for Vec<RowEntry> {
-    fn tell(&self, answer: &mut String) -> Result<(), AllocError> {
-        tell_rows(answer, self.as_slice())
-    }
-}
-
 // A range by its tables.
 impl Tell for RangeTables {
     fn tell(&self, answer: &mut String) -> Result<(), AllocError> {
@@ -208,17 +195,9 @@ impl Tell for RangeTables {
     }
 }
 
-fn tell_finished(
-    alloc: Global,
-    finished: Result<Vec<RangeTables>, SlateDBError>,
-    answer: &mut String,
-) -> Result<(), Flaw> {
-    match finished {
-        Ok(ranges) => {
-            answer.push_str("ok ")?;
-            Ok(tell_list(answer, ranges.as_slice(), ' ')?)
-        }
-        Err(error) => tell_refusal(alloc, &error, answer),
+impl Tell for Vec<RangeTables> {
+    fn tell(&self, answer: &mut String) -> Result<(), AllocError> {
+        tell_list(answer, self.as_slice(), ' ')
     }
 }
 
@@ -240,7 +219,7 @@ fn tell_ranges<O: MergeOperator>(
         told: AtomicUsize::new(0),
     };
     let finished = finish_ranges(alloc, jobs, sources, operator, size, &gate);
-    tell_finished(alloc, finished, answer)?;
+    tell_result(alloc, finished, answer)?;
     let told = gate.told.load(Ordering::SeqCst);
     Ok(write!(answer, " {told}")?)
 }

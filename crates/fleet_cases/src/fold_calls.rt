@@ -4,10 +4,9 @@ ghost use Rattle.std.specs.Prelude.{OnOk};
 ghost use Rattle.fleet_iter.specs.Iteration.{AreRising};
 
 use crate::flaw::Flaw;
-use crate::given::{tell_given, tell_ready, tell_refusal};
+use crate::given::{tell_given, tell_ready, tell_result};
 use crate::iter_calls::{rising_list, rising_merge};
 use crate::operators::{Newest, Sifting};
-use crate::tell::Tell;
 use crate::words::{bytes, flag, number, stamp, told_if_any, told_list};
 use bytes::Bytes;
 use fleet_fold::{
@@ -15,7 +14,7 @@ use fleet_fold::{
     RetentionIterator,
 };
 use fleet_iter::{ResumingIterator, RowEntryIterator};
-use fleet_rows::{MergeOperatorError, Settings, SlateDBError};
+use fleet_rows::{Settings, SlateDBError};
 use std::alloc::Global;
 
 /// What the operator of `jobno`, `foldno` and others refuses: `!`.
@@ -163,21 +162,6 @@ fn need(alloc: Global, words: &[&str], answer: &mut String) -> Result<(), Flaw> 
     tell_given(alloc, MergeOperatorRequiredIterator::new(rows), answer)
 }
 
-fn tell_joined(
-    alloc: Global,
-    joined: Result<Bytes, MergeOperatorError>,
-    answer: &mut String,
-) -> Result<(), Flaw> {
-    match joined {
-        Ok(bytes) => {
-            answer.push_str("ok ")?;
-            Ok(bytes.as_slice().tell(answer)?)
-        }
-        Err(MergeOperatorError::EmptyBatch) => Ok(answer.push_str("err empty")?),
-        Err(error) => tell_refusal(alloc, &SlateDBError::from(error), answer),
-    }
-}
-
 // `join`: what there is, if anything, and an operand, which `AppendOperator` joins.
 fn join(alloc: Global, words: &[&str], answer: &mut String) -> Result<(), Flaw> {
     let [existing, operand] = words else {
@@ -186,7 +170,7 @@ fn join(alloc: Global, words: &[&str], answer: &mut String) -> Result<(), Flaw> 
     let existing = told_if_any(alloc, existing, "none")?;
     let operand = bytes(alloc, operand)?;
     let joined = AppendOperator.merge(alloc, &Bytes::new(), existing, operand);
-    tell_joined(alloc, joined, answer)
+    tell_result(alloc, joined.map_err(SlateDBError::from), answer)
 }
 
 // `joinall`: what there is, if anything, and operands, the oldest first.
@@ -197,7 +181,7 @@ fn join_all(alloc: Global, words: &[&str], answer: &mut String) -> Result<(), Fl
     let operands: Vec<Bytes> = told_list(alloc, operands, ',')?;
     let existing = told_if_any(alloc, existing, "none")?;
     let joined = AppendOperator.merge_batch(alloc, &Bytes::new(), existing, operands.as_slice());
-    tell_joined(alloc, joined, answer)
+    tell_result(alloc, joined.map_err(SlateDBError::from), answer)
 }
 
 // Takes so many rows.

@@ -1,7 +1,7 @@
 //! What iterators give: `ok` and the rows, or `err`, the refusal and the rows that came before it.
 
 use crate::flaw::Flaw;
-use crate::tell::{Tell, tell_rows};
+use crate::tell::{Tell, tell_ok, tell_rows};
 use fleet_iter::RowEntryIterator;
 use fleet_rows::{MergeOperatorError, RowEntry, SlateDBError};
 use std::alloc::{AllocError, Global};
@@ -53,6 +53,18 @@ pub fn tell_given<T: RowEntryIterator>(
     tell_ready(alloc, &mut source, answer)
 }
 
+/// `ok` and what a call gave, or what it was refused with.
+pub fn tell_result<T: Tell + Drop>(
+    alloc: Global,
+    given: Result<T, SlateDBError>,
+    answer: &mut String,
+) -> Result<(), Flaw> {
+    match given {
+        Ok(item) => tell_ok(answer, item),
+        Err(error) => tell_refusal(alloc, &error, answer),
+    }
+}
+
 /// `err` and a refusal.
 pub fn tell_refusal(alloc: Global, error: &SlateDBError, answer: &mut String) -> Result<(), Flaw> {
     match error {
@@ -60,6 +72,9 @@ pub fn tell_refusal(alloc: Global, error: &SlateDBError, answer: &mut String) ->
         SlateDBError::MergeOperator(MergeOperatorError::Callback { message }) => {
             answer.push_str("err callback ")?;
             Ok(message.as_slice().tell(answer)?)
+        }
+        SlateDBError::MergeOperator(MergeOperatorError::EmptyBatch) => {
+            Ok(answer.push_str("err empty")?)
         }
         SlateDBError::InvalidSequenceOrder {
             current_seq,

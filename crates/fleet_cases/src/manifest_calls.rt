@@ -2,7 +2,7 @@
 
 use crate::flaw::Flaw;
 use crate::tables::named_view;
-use crate::tell::{Tell, tell_list, tell_or_none};
+use crate::tell::{Tell, tell_list, tell_ok, tell_or_none};
 use crate::words::{Told, bytes, number, parts, stamp, told_if_any, told_list, told_pair};
 use fleet_rows::Ulid;
 use fleet_table::{
@@ -132,14 +132,18 @@ fn flush(alloc: Global, words: &[&str], answer: &mut String) -> Result<(), Flaw>
     Ok(tell_manifest(&core, answer)?)
 }
 
+fn tell_tree(answer: &mut String, prefix: &[u8], tree: &LsmTreeState) -> Result<(), AllocError> {
+    answer.push(' ')?;
+    prefix.tell(answer)?;
+    answer.push('=')?;
+    tree.tell(answer)
+}
+
 // The trees, the floor, the tick, the tracked flushes and the horizon.
 fn tell_manifest(core: &ManifestCore, answer: &mut String) -> Result<(), AllocError> {
     answer.push_str("ok")?;
     'trees: for (prefix, tree) in core.trees_with_prefix() {
-        answer.push(' ')?;
-        prefix.tell(answer)?;
-        answer.push('=')?;
-        tree.tell(answer)?;
+        tell_tree(answer, prefix, tree)?;
     }
     let floor = core.recent_snapshot_min_seq;
     let tick = core.last_l0_clock_tick;
@@ -157,7 +161,7 @@ fn segment(alloc: Global, words: &[&str], answer: &mut String) -> Result<(), Fla
     let segment = bytes(alloc, segment)?;
     let core = flushed(alloc, retention, flushes)?;
     let tree = core.tree_for_segment(segment.as_slice());
-    Ok(tell_or_none(answer, &tree)?)
+    tell_or_none(answer, tree)
 }
 
 // `cut`: a moment, the retention, the floor, and the tracked flushes.
@@ -201,7 +205,5 @@ fn writer(alloc: Global, words: &[&str], answer: &mut String) -> Result<(), Flaw
     local.last_compacted_l0_sst_view_id = watermark.map(|id| Ulid::from_parts(0, id as u128));
     let mut remote = tree(alloc, remote_flushes, "-")?;
     remote.last_seq = last_seq;
-    let merged = merge_from_writer(&local, &remote)?;
-    answer.push_str("ok ")?;
-    Ok(merged.tell(answer)?)
+    tell_ok(answer, merge_from_writer(&local, &remote)?)
 }

@@ -1,7 +1,7 @@
 //! Calls of `fleet_range`: of ranges of byte strings, and of ranges of numbers.
 
 use crate::flaw::Flaw;
-use crate::tell::{Tell, tell_bound, tell_flag, tell_or_none, tell_order};
+use crate::tell::{Tell, tell_bound, tell_flag, tell_ok, tell_or_none, tell_order};
 use crate::told::bound;
 use crate::words::{Told, bytes};
 use bytes::Bytes;
@@ -75,8 +75,7 @@ fn prefix(alloc: Global, words: &[&str], answer: &mut String) -> Result<(), Flaw
     };
     let prefix = bytes(alloc, prefix)?;
     let range = BytesRange::from_prefix(alloc, prefix.as_slice())?;
-    answer.push_str("ok ")?;
-    Ok(range.tell(answer)?)
+    tell_ok(answer, range)
 }
 
 // `prefixsub`: a prefix, and two bounds of what stands behind it.
@@ -87,7 +86,7 @@ fn subrange(alloc: Global, words: &[&str], answer: &mut String) -> Result<(), Fl
     let prefix = bytes(alloc, prefix)?;
     let behind = (bound::<Bytes>(alloc, low)?, bound::<Bytes>(alloc, high)?);
     let range = BytesRange::from_prefix_and_subrange(alloc, prefix.as_slice(), behind)?;
-    Ok(tell_or_none(answer, &range)?)
+    tell_or_none(answer, range)
 }
 
 // `intersect`: the bounds of two ranges.
@@ -98,7 +97,7 @@ fn intersect(alloc: Global, words: &[&str], answer: &mut String) -> Result<(), F
     let one = range(alloc, low, high)?;
     let other = range(alloc, start, end)?;
     let both = one.intersect(&other)?;
-    Ok(tell_or_none(answer, &both)?)
+    tell_or_none(answer, both)
 }
 
 // `contains`: the bounds of a range, and a key.
@@ -118,7 +117,7 @@ fn try_range(alloc: Global, words: &[&str], answer: &mut String) -> Result<(), F
     };
     let low = bound(alloc, low)?;
     let range = BytesRange::try_new(low, bound(alloc, high)?);
-    Ok(tell_or_none(answer, &range)?)
+    tell_or_none(answer, range)
 }
 
 // `empty`: the bounds of a range, which meets one that is empty.
@@ -128,7 +127,7 @@ fn empty(alloc: Global, words: &[&str], answer: &mut String) -> Result<(), Flaw>
     };
     let range = range(alloc, low, high)?;
     let both = BytesRange::new_empty(alloc)?.intersect(&range)?;
-    Ok(tell_or_none(answer, &both)?)
+    tell_or_none(answer, both)
 }
 
 // `point`: the bounds of a range.
@@ -138,7 +137,7 @@ fn point(alloc: Global, words: &[&str], answer: &mut String) -> Result<(), Flaw>
     };
     let range = range(alloc, low, high)?;
     let key = range.as_point().map(|key| key.as_slice());
-    Ok(tell_or_none(answer, &key)?)
+    tell_or_none(answer, key)
 }
 
 impl Tell for &Bytes {
@@ -171,8 +170,7 @@ fn copy(alloc: Global, words: &[&str], answer: &mut String) -> Result<(), Flaw> 
         return Err(Flaw::Room);
     }
     let range = BytesRange::from(ends)?;
-    answer.push_str("ok ")?;
-    Ok(range.tell(answer)?)
+    tell_ok(answer, range)
 }
 
 // `slices`: a key and a greater one, of a range that is copied.
@@ -190,8 +188,7 @@ fn tell_slices(alloc: Global, low: &[u8], high: &[u8], answer: &mut String) -> R
         return Err(Flaw::Room);
     }
     let range = BytesRange::from_slice(alloc, low..high)?;
-    answer.push_str("ok ")?;
-    Ok(range.tell(answer)?)
+    tell_ok(answer, range)
 }
 
 // The keys behind a prefix that lie in a range, of each kind that the language has.
@@ -229,7 +226,7 @@ fn behind(alloc: Global, words: &[&str], answer: &mut String) -> Result<(), Flaw
         low.as_slice(),
         high.as_slice(),
     )?;
-    Ok(tell_or_none(answer, &range)?)
+    tell_or_none(answer, range)
 }
 
 // `order`: the bounds of two ranges.
@@ -298,7 +295,7 @@ fn overlap(alloc: Global, words: &[&str], answer: &mut String) -> Result<(), Fla
         return Err(Flaw::Words);
     };
     let both = numbers(alloc, low, high)?.intersect(&numbers(alloc, start, end)?)?;
-    Ok(tell_or_none(answer, &both)?)
+    tell_or_none(answer, both)
 }
 
 // `union`: the bounds of two ranges of numbers.
@@ -307,5 +304,5 @@ fn union(alloc: Global, words: &[&str], answer: &mut String) -> Result<(), Flaw>
         return Err(Flaw::Words);
     };
     let all = numbers(alloc, low, high)?.union(&numbers(alloc, start, end)?)?;
-    Ok(tell_or_none(answer, &all)?)
+    tell_or_none(answer, all)
 }

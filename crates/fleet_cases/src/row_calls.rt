@@ -5,9 +5,9 @@ ghost use Rattle.row_model.specs.Bounds.{IsInBounds};
 ghost use Rattle.fleet_rows.specs.Row.{row_of};
 
 use crate::flaw::Flaw;
-use crate::tell::{Tell, tell_list, tell_or_none, tell_stamp};
+use crate::tell::{Tell, tell_list, tell_ok, tell_or_none, tell_stamp};
 use crate::words::{Told, number, told_list};
-use fleet_rows::{KeyValue, ListOf, RowEntry, Ulid};
+use fleet_rows::{KeyValue, ListOf, RowEntry, Ulid, ValueDeletable};
 use std::alloc::{AllocError, Global};
 
 /// Answers a call of this name, if there is one.
@@ -65,21 +65,21 @@ fn encoded(alloc: Global, words: &[&str], answer: &mut String) -> Result<(), Fla
     Ok(write!(answer, "ok {size}")?)
 }
 
+fn tell_content(answer: &mut String, value: &ValueDeletable) -> Result<(), Flaw> {
+    let len = value.len();
+    let empty = value.is_empty() as u8;
+    let deleted = value.is_tombstone() as u8;
+    write!(answer, "ok {len} {empty} {deleted} ")?;
+    Ok(value.as_bytes()?.tell(answer)?)
+}
+
 // `content`: a row.
 fn content(alloc: Global, words: &[&str], answer: &mut String) -> Result<(), Flaw> {
     let [word] = words else {
         return Err(Flaw::Words);
     };
     let row = RowEntry::told(alloc, word)?;
-    let len = row.value.len();
-    let empty = row.value.is_empty() as u8;
-    let deleted = row.value.is_tombstone() as u8;
-    write!(answer, "{len} {empty} {deleted} ")?;
-    let bytes = row.value.as_bytes()?;
-    match &bytes {
-        Some(bytes) => Ok(bytes.as_slice().tell(answer)?),
-        None => Ok(answer.push_str("none")?),
-    }
+    tell_content(answer, &row.value)
 }
 
 impl Tell for KeyValue {
@@ -99,8 +99,7 @@ fn key_value(alloc: Global, words: &[&str], answer: &mut String) -> Result<(), F
     let [word] = words else {
         return Err(Flaw::Words);
     };
-    let held = KeyValue::from_row(RowEntry::told(alloc, word)?);
-    Ok(tell_or_none(answer, &held)?)
+    tell_or_none(answer, KeyValue::from_row(RowEntry::told(alloc, word)?))
 }
 
 // `ulid`: a moment and a number.
@@ -121,9 +120,14 @@ fn ulid(words: &[&str], answer: &mut String) -> Result<(), Flaw> {
     Ok(write!(answer, "ok {moment} {number}")?)
 }
 
-fn tell_numbers(answer: &mut String, numbers: &ListOf<u64>) -> Result<(), AllocError> {
-    answer.push_str("ok ")?;
-    tell_list(answer, numbers.as_slice(), ',')
+impl Tell for ListOf<u64> {
+    fn tell(&self, answer: &mut String) -> Result<(), AllocError> {
+        tell_list(answer, self.as_slice(), ',')
+    }
+}
+
+fn numbers(alloc: Global, word: &str) -> Result<ListOf<u64>, Flaw> {
+    Ok(ListOf::from_vec(told_list(alloc, word, ',')?))
 }
 
 // `insert`: a place, a number, and the numbers of a list.
@@ -133,12 +137,12 @@ fn insert(alloc: Global, words: &[&str], answer: &mut String) -> Result<(), Flaw
     };
     let place = number(place)?;
     let item = number(item)?;
-    let mut list = ListOf::from_vec(told_list(alloc, list, ',')?);
+    let mut list = numbers(alloc, list)?;
     if place > list.len() {
         return Err(Flaw::Number);
     }
     list.insert(place, item)?;
-    Ok(tell_numbers(answer, &list)?)
+    tell_ok(answer, list)
 }
 
 // `replace`: a place, a number, and the numbers of a list.
@@ -148,10 +152,10 @@ fn replace(alloc: Global, words: &[&str], answer: &mut String) -> Result<(), Fla
     };
     let place = number(place)?;
     let item = number(item)?;
-    let mut list = ListOf::from_vec(told_list(alloc, list, ',')?);
+    let mut list = numbers(alloc, list)?;
     if place >= list.len() {
         return Err(Flaw::Number);
     }
     list.replace(place, item);
-    Ok(tell_numbers(answer, &list)?)
+    tell_ok(answer, list)
 }

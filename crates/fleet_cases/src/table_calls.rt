@@ -3,9 +3,10 @@
 use crate::flaw::Flaw;
 use crate::given::tell_given;
 use crate::range_calls::range;
-use crate::tell::{Tell, tell_flag, tell_list, tell_or_none};
+use crate::tell::{Tell, tell_flag, tell_list, tell_ok, tell_or_none};
 use crate::told::rows;
 use crate::words::{Told, bytes, number};
+use fleet_range::BytesRange;
 use fleet_rows::{RowEntry, Ulid};
 use fleet_table::{
     BlockMeta, RunData, RunIterator, SortedRun, SsTableHandle, SsTableView, TableData, ViewList,
@@ -142,9 +143,8 @@ fn describe(alloc: Global, words: &[&str], answer: &mut String) -> Result<(), Fl
     let [word] = words else {
         return Err(Flaw::Words);
     };
-    let view = view_of(alloc, word)?;
-    answer.push_str("ok ")?;
-    Ok(view.sst.tell(answer)?)
+    let table = TableData::told(alloc, word)?;
+    tell_ok(answer, table.describe(Ulid::from_parts(0, 1))?)
 }
 
 // `last`: the rows of a table.
@@ -154,9 +154,14 @@ fn last(alloc: Global, words: &[&str], answer: &mut String) -> Result<(), Flaw> 
     };
     let table = TableData::told(alloc, word)?;
     let (key, seq) = table.last_row();
-    answer.push_str("ok ")?;
-    key.tell(answer)?;
+    tell_ok(answer, key)?;
     Ok(write!(answer, " {seq}")?)
+}
+
+impl Tell for &BytesRange {
+    fn tell(&self, answer: &mut String) -> Result<(), AllocError> {
+        (**self).tell(answer)
+    }
 }
 
 impl Tell for &RowEntry {
@@ -174,7 +179,7 @@ fn newest(alloc: Global, words: &[&str], answer: &mut String) -> Result<(), Flaw
     let key = bytes(alloc, key)?;
     let table = TableData::told(alloc, word)?;
     let row = table.newest_at(key.as_slice(), seq);
-    Ok(tell_or_none(answer, &row)?)
+    tell_or_none(answer, row)
 }
 
 // `keys`: the rows of a table.
@@ -183,8 +188,7 @@ fn keys(alloc: Global, words: &[&str], answer: &mut String) -> Result<(), Flaw> 
         return Err(Flaw::Words);
     };
     let view = view_of(alloc, word)?;
-    answer.push_str("ok ")?;
-    Ok(view.compacted_effective_range().tell(answer)?)
+    tell_ok(answer, view.compacted_effective_range())
 }
 
 fn views(alloc: Global, word: &str) -> Result<ViewList, Flaw> {
@@ -195,17 +199,21 @@ fn views(alloc: Global, word: &str) -> Result<ViewList, Flaw> {
     Ok(views)
 }
 
-// `sizes`: the tables of a run, whose sizes are told, and then that of the run.
-fn sizes(alloc: Global, words: &[&str], answer: &mut String) -> Result<(), Flaw> {
-    let [word] = words else {
-        return Err(Flaw::Words);
-    };
-    let run = SortedRun::new(0, views(alloc, word)?);
+fn tell_sizes(answer: &mut String, run: &SortedRun) -> Result<(), AllocError> {
     answer.push_str("ok ")?;
     'tables: for view in run.sst_views() {
         let size = view.estimate_size();
         write!(answer, "{size} ")?;
     }
     let size = run.estimate_size();
-    Ok(write!(answer, "{size}")?)
+    write!(answer, "{size}")
+}
+
+// `sizes`: the tables of a run, whose sizes are told, and then that of the run.
+fn sizes(alloc: Global, words: &[&str], answer: &mut String) -> Result<(), Flaw> {
+    let [word] = words else {
+        return Err(Flaw::Words);
+    };
+    let run = SortedRun::new(0, views(alloc, word)?);
+    Ok(tell_sizes(answer, &run)?)
 }

@@ -72,19 +72,13 @@ pub fn named_view(alloc: Global, id: u64) -> Result<SsTableView, Flaw> {
 }
 
 // A view of a table with these blocks, whose last key is where the last block begins.
-fn view_of_blocks(alloc: Global, size: u64, blocks: Vec<BlockMeta>) -> Result<SsTableView, Flaw> {
-    let (Some(first), Some(last)) = (blocks.first(), blocks.last()) else {
+fn view_of_blocks(size: u64, blocks: BlockList) -> Result<SsTableView, Flaw> {
+    let (Some(first), Some(last)) = (blocks.as_slice().first(), blocks.as_slice().last()) else {
         return Err(Flaw::Order);
     };
     let first_key = first.first_key.clone()?;
     let last_key = last.first_key.clone()?;
-    view_of(
-        0,
-        first_key,
-        last_key,
-        size,
-        BlockList::from_vec(alloc, blocks)?,
-    )
+    view_of(0, first_key, last_key, size, blocks)
 }
 
 /// The size of a table and its blocks, with `=` between.
@@ -93,7 +87,9 @@ impl Told for SsTableView {
         let Some((size, blocks)) = word.split_once('=') else {
             return Err(Flaw::Pair);
         };
-        view_of_blocks(alloc, number(size)?, told_list(alloc, blocks, ',')?)
+        let size = number(size)?;
+        let blocks = BlockList::from_vec(alloc, told_list(alloc, blocks, ',')?)?;
+        view_of_blocks(size, blocks)
     }
 }
 

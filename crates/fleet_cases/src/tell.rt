@@ -1,13 +1,35 @@
 //! Answers as they are printed.
 
+use crate::flaw::Flaw;
+use bytes::Bytes;
 use fleet_rows::{RowEntry, ValueDeletable};
 use std::alloc::AllocError;
 use std::cmp::Ordering;
+use std::fmt;
 use std::ops::Bound;
 
 /// What can stand in an answer.
 pub trait Tell {
     fn tell(&self, answer: &mut String) -> Result<(), AllocError>;
+}
+
+/// `ok` and the item.
+pub fn tell_ok<T: Tell + Drop>(answer: &mut String, item: T) -> Result<(), Flaw> {
+    answer.push_str("ok ")?;
+    Ok(item.tell(answer)?)
+}
+
+/// `ok` and the item, or `none`.
+pub fn tell_or_none<T: Tell + Drop>(answer: &mut String, item: Option<T>) -> Result<(), Flaw> {
+    match item {
+        Some(item) => tell_ok(answer, item),
+        None => Ok(answer.push_str("none")?),
+    }
+}
+
+/// `ok` and a text.
+pub fn tell_text<T: fmt::Display + Drop>(answer: &mut String, item: T) -> Result<(), Flaw> {
+    Ok(write!(answer, "ok {item}")?)
 }
 
 /// The items with a mark between them, `-` where there are none.
@@ -24,13 +46,12 @@ pub fn tell_list<T: Tell>(answer: &mut String, items: &[T], mark: char) -> Resul
 }
 
 /// The item, or `none`.
-pub fn tell_or_none<T: Tell>(answer: &mut String, item: &Option<T>) -> Result<(), AllocError> {
-    match item {
-        Some(item) => {
-            answer.push_str("ok ")?;
-            item.tell(answer)
+impl<T: Tell> Tell for Option<T> {
+    fn tell(&self, answer: &mut String) -> Result<(), AllocError> {
+        match self {
+            Some(item) => item.tell(answer),
+            None => answer.push_str("none"),
         }
-        None => answer.push_str("none"),
     }
 }
 
@@ -100,6 +121,18 @@ impl Tell for RowEntry {
 
 pub fn tell_rows(answer: &mut String, rows: &[RowEntry]) -> Result<(), AllocError> {
     tell_list(answer, rows, ',')
+}
+
+impl Tell for Vec<RowEntry> {
+    fn tell(&self, answer: &mut String) -> Result<(), AllocError> {
+        tell_rows(answer, self.as_slice())
+    }
+}
+
+impl Tell for Bytes {
+    fn tell(&self, answer: &mut String) -> Result<(), AllocError> {
+        self.as_slice().tell(answer)
+    }
 }
 
 /// `*`, or `i` or `x` and the key.
