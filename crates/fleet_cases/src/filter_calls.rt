@@ -1,20 +1,18 @@
 //! Calls of `fleet_fold`: what filters leave of rows.
 
-ghost use Rattle.std.specs.Prelude.{◌≡◌, ⊤, false};
-ghost use Rattle.fleet_iter.specs.List.{giving};
-ghost use Rattle.fleet_fold.specs.FilterState.{IsSound};
+ghost use Rattle.std.specs.Prelude.{◌≡◌, false};
+ghost use Rattle.fleet_iter.specs.Iteration.{AreRising};
 
 use crate::filters::{ForTheLastRun, Replacing, WithoutPrefix};
 use crate::flaw::Flaw;
-use crate::given::tell_refusal;
-use crate::tell::tell_rows;
-use crate::told::{content, rows};
+use crate::given::tell_given;
+use crate::iter_calls::rising_list;
+use crate::told::content;
 use crate::words::{bytes, flag};
 use fleet_fold::{
     CompactionFilter, CompactionFilterIterator, CompactionFilterSupplier, CompactionJobContext,
 };
 use fleet_iter::ListIterator;
-use fleet_rows::{RowEntry, SlateDBError};
 use std::alloc::Global;
 
 /// Answers a call of this name, if there is one.
@@ -33,23 +31,6 @@ pub fn answers(
     Ok(true)
 }
 
-// Takes the rows that a filter leaves.
-fn take_left<F: CompactionFilter>(
-    alloc: Global,
-    source: &mut CompactionFilterIterator<ListIterator, F>,
-    rows: &mut Vec<RowEntry>,
-) -> Result<(), SlateDBError>
-    requires { IsSound (λ _. ⊤) giving F.is_closed source.old }
-{
-    'rows: for _ in 0..u64::MAX {
-        match source.next(alloc)? {
-            Some(row) => rows.push(row)?,
-            None => break,
-        }
-    }
-    Ok(())
-}
-
 // What a filter leaves of rows.
 fn tell_left<F: CompactionFilter>(
     alloc: Global,
@@ -57,17 +38,10 @@ fn tell_left<F: CompactionFilter>(
     list: ListIterator,
     answer: &mut String,
 ) -> Result<(), Flaw>
-    requires { F.is_closed filter ≡ false }
+    requires open { F.is_closed filter ≡ false }
+    requires rising { AreRising list.rows }
 {
-    let mut source = CompactionFilterIterator::new(list, filter);
-    source.init(alloc)?;
-    let mut rows = Vec::new(alloc);
-    match take_left(alloc, &mut source, &mut rows) {
-        Ok(()) => answer.push_str("ok")?,
-        Err(error) => tell_refusal(alloc, &error, answer)?,
-    }
-    answer.push(' ')?;
-    Ok(tell_rows(answer, rows.as_slice())?)
+    tell_given(alloc, CompactionFilterIterator::new(list, filter), answer)
 }
 
 // `without`: a prefix, and rows, of which those with it are left out.
@@ -75,7 +49,7 @@ fn without(alloc: Global, words: &[&str], answer: &mut String) -> Result<(), Fla
     let [prefix, told] = words else {
         return Err(Flaw::Words);
     };
-    let list = ListIterator::new(rows(alloc, told)?);
+    let list = rising_list(alloc, told)?;
     let filter = WithoutPrefix {
         prefix: bytes(alloc, prefix)?,
         closed: false,
@@ -88,7 +62,7 @@ fn revalued(alloc: Global, words: &[&str], answer: &mut String) -> Result<(), Fl
     let [kind, value, told] = words else {
         return Err(Flaw::Words);
     };
-    let list = ListIterator::new(rows(alloc, told)?);
+    let list = rising_list(alloc, told)?;
     let filter = Replacing {
         value: content(kind, bytes(alloc, value)?)?,
         closed: false,
@@ -107,7 +81,7 @@ fn supplied(alloc: Global, words: &[&str], answer: &mut String) -> Result<(), Fl
         compaction_clock_tick: 0,
         retention_min_seq: None,
     };
-    let list = ListIterator::new(rows(alloc, told)?);
+    let list = rising_list(alloc, told)?;
     match ForTheLastRun.create_compaction_filter(alloc, &context) {
         Ok(filter) => tell_left(alloc, filter, list, answer),
         Err(error) => Ok(write!(answer, "err {error}")?),
