@@ -1,22 +1,8 @@
 use super::*;
 use bytes::Bytes;
-use fleet_rows::{JobList, PlaceList, RowEntry, RuleList, Ulid, ValueDeletable};
+use fleet_rows::{DRAWN_BASE, JobList, PlaceList, RowEntry, RuleList, Ulid, ValueDeletable};
 use std::alloc::Global;
 use std::test::*;
-
-const GOOD: [&str; 11] = [
-    "",
-    "read - 61 1 0\n",
-    "read - 61 18446744073709551615 9223372036854775807\n",
-    "read - ff00 0 -9223372036854775808\n",
-    "flush 1 - 0 0 61:v:-:0:-:-\n",
-    "flush 1099511627775 - 18446744073709551615 0 61:t:-:1:-:-\n",
-    "flush 1 - 0 -9223372036854775808 61:v:00:1:-:-\n",
-    "flush 1 - 0 9223372036854775807 61:v:00:1:-:-\n",
-    "flush 1 - 0 -1 61:v:7a:2:-:-,61:t:-:1:-:-\n",
-    "read - 61 1 0\nread - 61 1 0\n",
-    "flush 1 - 0 0 61:t:-:1:-:-\nread - 61 1 0\n",
-];
 
 const BAD: [(&str, u64); 44] = [
     ("\n", 1),
@@ -63,22 +49,6 @@ const BAD: [(&str, u64); 44] = [
     ("flush 1 - 0 0 61:v:00:1:-:7\n", 1),
     ("flush 1 - 0 0 -:v:00:1:-:-\n", 1),
     ("flush 1 - 0 0 61:v:00:1:-:-:-\n", 1),
-];
-
-const GOOD_JOBS: [&str; 13] = [
-    "start coordinator 1\n",
-    "start worker 1\nstart coordinator 1\n",
-    "submit - 0 l1\n",
-    "submit - 4294967295 l1099511627775\n",
-    "poll 1\npoll 1\n",
-    "claim 1\nclaim 1\n",
-    "finish 1 1\n",
-    "finish 1 18446744073709551615\n",
-    "dump - l1\n",
-    "dump - l1099511627775\n",
-    "dump - r0\n",
-    "dump - r4294967295\n",
-    "start coordinator 1\nsubmit - 1 l1\npoll 1\nread - 61 1 0\n",
 ];
 
 const BAD_JOBS: [(&str, u64); 48] = [
@@ -143,16 +113,6 @@ fn bad_line(alloc: Global, text: &str) -> u64 {
 }
 
 #[test]
-fn good_lines(rt: HostRuntime) {
-    for text in GOOD {
-        assert!(rt; read_script(rt.alloc(), text.as_bytes()).is_ok(), "{text}");
-    }
-    for text in GOOD_JOBS {
-        assert!(rt; read_script(rt.alloc(), text.as_bytes()).is_ok(), "{text}");
-    }
-}
-
-#[test]
 fn bad_lines(rt: HostRuntime) {
     for (text, line) in BAD {
         assert_eq!(rt; bad_line(rt.alloc(), text), line, "{text}");
@@ -162,99 +122,40 @@ fn bad_lines(rt: HostRuntime) {
     }
 }
 
-fn row(alloc: Global, value: ValueDeletable, seq: u64) -> Result<RowEntry, Fail> {
-    let key = Bytes::copy_from_slice(alloc, b"a")?;
-    Ok(RowEntry::new(key, value, seq, None, None))
+// Whether the line names only the root segment, or only the first coordinator or worker. No reply
+// shows this.
+fn is_of_root_or_first(line: &Line) -> bool {
+    match line {
+        Line::StartCoordinator { number } | Line::StartWorker { number } => *number == 1,
+        Line::Poll { coordinator } => *coordinator == 1,
+        Line::Claim { worker } | Line::Finish { worker, .. } => *worker == 1,
+        Line::Flush { segment, .. }
+        | Line::Read { segment, .. }
+        | Line::Submit { segment, .. }
+        | Line::Dump { segment, .. } => segment.is_empty(),
+    }
 }
 
 #[test]
-fn fields(rt: HostRuntime) -> Result<(), Fail> {
-    let alloc = rt.alloc();
-    let text = b"flush 7 - 3 -5 61:v:7a:2:-:-,61:t:-:1:-:-\nread - 6100 4 9\n";
-    let lines = read_script(alloc, text)?.into_vec();
-    let mut rows = Vec::new(alloc);
-    let value = ValueDeletable::Value(Bytes::copy_from_slice(alloc, b"z")?);
-    rows.push(row(alloc, value, 2)?)?;
-    rows.push(row(alloc, ValueDeletable::Tombstone, 1)?)?;
-    let flush = Line::Flush {
-        name: 7,
-        segment: Bytes::new(),
-        floor: 3,
-        tick: -5,
-        rows,
-    };
-    let read = Line::Read {
-        segment: Bytes::new(),
-        key: Bytes::copy_from_slice(alloc, b"a\0")?,
-        seq: 4,
-        now: 9,
-    };
-    assert_eq!(rt; flush.clone()?, flush);
-    assert_eq!(rt; lines.len(), 2);
-    assert_eq!(rt; lines.first(), Some(&flush));
-    assert_eq!(rt; lines.last(), Some(&read));
-    Ok(())
-}
-
-#[test]
-fn job_fields(rt: HostRuntime) -> Result<(), Fail> {
-    let alloc = rt.alloc();
-    let text =
-        b"start coordinator 1\nstart worker 1\nsubmit - 4 l7\npoll 1\nclaim 1\nfinish 1 8\ndump - l9\ndump - r3\n";
-    let wanted = [
-        Line::StartCoordinator { number: 1 },
-        Line::StartWorker { number: 1 },
-        Line::Submit {
-            segment: Bytes::new(),
-            destination: 4,
-            source: 7,
-        },
-        Line::Poll { coordinator: 1 },
-        Line::Claim { worker: 1 },
-        Line::Finish { worker: 1, job: 8 },
-        Line::Dump {
-            segment: Bytes::new(),
-            node: NodeName::L0(9),
-        },
-        Line::Dump {
-            segment: Bytes::new(),
-            node: NodeName::Run(3),
-        },
-    ];
-    let lines = read_script(alloc, text)?;
-    assert_eq!(rt; lines.as_slice(), wanted.as_slice());
-    for line in &wanted {
+fn copies(rt: HostRuntime) -> Result<(), Fail> {
+    let text = "flush 7 - 3 -5 61:v:7a:2:-:-,61:t:-:1:-:-\n\
+         read - 6100 4 9\n\
+         start coordinator 1\n\
+         start worker 1\n\
+         submit - 4 l7\n\
+         poll 1\n\
+         claim 1\n\
+         finish 1 8\n\
+         dump - l9\n\
+         dump - r3\n";
+    let lines = read_script(rt.alloc(), text.as_bytes())?;
+    let again = read_script(rt.alloc(), text.as_bytes())?;
+    assert_eq!(rt; lines.len(), 10);
+    assert_eq!(rt; again.as_slice(), lines.as_slice());
+    for line in lines.as_slice() {
+        assert!(rt; is_of_root_or_first(line));
         assert_eq!(rt; line.clone()?, *line);
     }
-    Ok(())
-}
-
-#[test]
-fn numbers(rt: HostRuntime) {
-    assert_eq!(rt; number_of(b"0"), Some(0));
-    assert_eq!(rt; number_of(b"18446744073709551615"), Some(u64::MAX));
-    assert_eq!(rt; number_of(b"18446744073709551616"), None);
-    assert_eq!(rt; number_of(b""), None);
-    assert_eq!(rt; number_of(b"00"), None);
-    assert_eq!(rt; number_of(b"+1"), None);
-    assert_eq!(rt; number_of(b"1x"), None);
-    assert_eq!(rt; number_of(b"\xff"), None);
-}
-
-#[test]
-fn replies(rt: HostRuntime) -> Result<(), Fail> {
-    let mut reply = Reply::new(rt.alloc());
-    reply.word("notretained ")?;
-    reply.number(u64::MAX)?;
-    reply.word(" ")?;
-    reply.signed(i64::MIN)?;
-    reply.word(" ")?;
-    reply.hex(b"")?;
-    reply.hex(b"\x00\xfa")?;
-    reply.word("\n")?;
-    let printed = b"notretained 18446744073709551615 -9223372036854775808 -00fa\n";
-    assert_eq!(rt; reply.as_slice(), printed.as_slice());
-    assert!(rt; reply == reply);
     Ok(())
 }
 
@@ -269,13 +170,14 @@ fn jobs_and_tables(rt: HostRuntime) -> Result<(), Fail> {
     reply.jobs(&jobs)?;
     reply.word(" ")?;
     reply.table_names(&jobs)?;
-    jobs.push(Ulid::from_parts(1_700, (1 << 79) + 3))?;
+    jobs.push(Ulid::from_parts(1_700, DRAWN_BASE + 3))?;
     reply.word(" ")?;
     reply.jobs(&jobs)?;
     reply.word(" ")?;
     reply.table_names(&jobs)?;
     let printed = b"-- 7 l7 7,604462909807314587353091 l7,t3";
     assert_eq!(rt; reply.as_slice(), printed.as_slice());
+    assert!(rt; reply == reply);
     Ok(())
 }
 
@@ -301,6 +203,11 @@ fn rules_and_places(rt: HostRuntime) -> Result<(), Fail> {
     let printed = b"-- 3:6 1:9 3:6,4:12 1:9,18446744073709551615:255";
     assert_eq!(rt; reply.as_slice(), printed.as_slice());
     Ok(())
+}
+
+fn row(alloc: Global, value: ValueDeletable, seq: u64) -> Result<RowEntry, Fail> {
+    let key = Bytes::copy_from_slice(alloc, b"a")?;
+    Ok(RowEntry::new(key, value, seq, None, None))
 }
 
 #[test]
