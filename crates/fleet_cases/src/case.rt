@@ -1,4 +1,4 @@
-//! Cases: the lines that are read, and what is said of them.
+//! Cases: the lines that are read, and what is printed about them.
 
 use crate::flaw::Flaw;
 use crate::words::parts;
@@ -8,7 +8,8 @@ use crate::{
 };
 use std::alloc::{AllocError, Global};
 
-/// A case: a name and a question, and behind ` => ` the answer that is wanted, if one is.
+// A case: a name, a question, and the expected answer, if there is one. The answer comes after
+// ` => `.
 #[derive(Clone, Copy)]
 struct Case<'a> {
     name: &'a str,
@@ -17,7 +18,7 @@ struct Case<'a> {
 }
 
 impl<'a> Case<'a> {
-    // The case of a line, or None of an empty line and of a remark, which begins with '#'.
+    // The case of a line. None if the line is empty, or if it is a remark, which begins with `#`.
     fn of_line(line: &'a str) -> Option<Case<'a>> {
         if line.is_empty() || line.starts_with('#') {
             return None;
@@ -34,7 +35,7 @@ impl<'a> Case<'a> {
         })
     }
 
-    // A line on the case.
+    // Appends a line about the case.
     fn tell(&self, said: &mut String, words: &str, answer: &str) -> Result<(), AllocError> {
         said.push_str(self.name)?;
         said.push_str(words)?;
@@ -58,7 +59,7 @@ impl Tally {
         }
     }
 
-    /// Runs the case of a line, and says what came of it.
+    /// Runs the case of a line, and appends what is to be printed about it.
     pub fn take(
         &mut self,
         alloc: Global,
@@ -127,7 +128,7 @@ impl Tally {
         case.tell(said, " is malformed: ", flaw.word())
     }
 
-    /// The last line.
+    /// Appends the last line, which counts the cases.
     pub fn tell(&self, said: &mut String) -> Result<(), AllocError> {
         let cases = self.cases;
         let differ = self.differ;
@@ -135,7 +136,7 @@ impl Tally {
     }
 }
 
-// The answer to a question: the name of a call, and its words.
+// Answers a question, which is the name of a call with its words.
 fn answer_to(alloc: Global, question: &str, answer: &mut String) -> Result<(), Flaw> {
     let words = parts(alloc, question, ' ')?;
     match words.as_slice() {

@@ -1,11 +1,11 @@
-//! The texts of errors.
+//! Calls that copy an error and answer its text.
 
 use crate::flaw::Flaw;
 use crate::tell::tell_text;
 use fleet_rows::{CompactionFilterError, MergeOperatorError, SlateDBError, Text};
 use std::alloc::Global;
 
-/// Answers a call of this name, if there is one.
+/// Answers the call of this name. Returns false if no call in this file has it.
 pub fn answers(
     alloc: Global,
     name: &str,
@@ -17,8 +17,8 @@ pub fn answers(
     };
     match name {
         "error" => tell_error(alloc, error, answer)?,
-        "mergeerror" => tell_text(answer, merge_error(alloc, error)?)?,
-        "filtererror" => tell_text(answer, filter_error(alloc, error)?)?,
+        "mergeerror" => tell_merge_error(alloc, error, answer)?,
+        "filtererror" => tell_filter_error(alloc, error, answer)?,
         _ => return Ok(false),
     }
     Ok(true)
@@ -28,7 +28,7 @@ fn text(alloc: Global) -> Result<Text, Flaw> {
     Ok(Text::new(String::from_str(alloc, "no")?))
 }
 
-// An error that a merge operator answers. Its text, where it has one, is `no`.
+// An error of a merge operator, by its word. Its text, if it has one, is `no`.
 fn merge_error(alloc: Global, name: &str) -> Result<MergeOperatorError, Flaw> {
     match name {
         "empty" => Ok(MergeOperatorError::EmptyBatch),
@@ -40,7 +40,13 @@ fn merge_error(alloc: Global, name: &str) -> Result<MergeOperatorError, Flaw> {
     }
 }
 
-// An error that a filter answers. Its text, where it has one, is `no`.
+// `mergeerror` takes the word of a merge operator's error, and answers the text of a copy.
+fn tell_merge_error(alloc: Global, name: &str, answer: &mut String) -> Result<(), Flaw> {
+    let error = merge_error(alloc, name)?;
+    tell_text(answer, error.clone()?)
+}
+
+// An error of a filter, by its word. Its text, if it has one, is `no`.
 fn filter_error(alloc: Global, name: &str) -> Result<CompactionFilterError, Flaw> {
     match name {
         "creation" => Ok(CompactionFilterError::CreationError(text(alloc)?)),
@@ -51,7 +57,13 @@ fn filter_error(alloc: Global, name: &str) -> Result<CompactionFilterError, Flaw
     }
 }
 
-// A refusal of the fleet that has a text, which is `no`.
+// `filtererror` takes the word of a filter's error, and answers the text of a copy.
+fn tell_filter_error(alloc: Global, name: &str, answer: &mut String) -> Result<(), Flaw> {
+    let error = filter_error(alloc, name)?;
+    tell_text(answer, error.clone()?)
+}
+
+// An error of the fleet that has a text, by its word. The text is `no`.
 fn texted_error(alloc: Global, name: &str) -> Result<SlateDBError, Flaw> {
     match name {
         "operator" => Ok(SlateDBError::from(merge_error(alloc, "callback")?)),
@@ -63,7 +75,7 @@ fn texted_error(alloc: Global, name: &str) -> Result<SlateDBError, Flaw> {
     }
 }
 
-// A refusal of the fleet that has none. Its numbers, where it has any, are 3.
+// An error of the fleet without a text, by its word. Its numbers, if it has any, are 3.
 fn plain_error(name: &str) -> Option<SlateDBError> {
     match name {
         "unready" => Some(SlateDBError::IteratorNotInitialized),
@@ -74,6 +86,7 @@ fn plain_error(name: &str) -> Option<SlateDBError> {
             next_seq: 3,
         }),
         "memory" => Some(SlateDBError::from(MergeOperatorError::Memory)),
+        "filtermemory" => Some(SlateDBError::from(CompactionFilterError::Memory)),
         _ => state_error(name),
     }
 }
@@ -90,10 +103,15 @@ fn state_error(name: &str) -> Option<SlateDBError> {
     }
 }
 
-// `error`: a refusal of the fleet.
-fn tell_error(alloc: Global, name: &str, answer: &mut String) -> Result<(), Flaw> {
+fn fleet_error(alloc: Global, name: &str) -> Result<SlateDBError, Flaw> {
     match plain_error(name) {
-        Some(error) => tell_text(answer, error),
-        None => tell_text(answer, texted_error(alloc, name)?),
+        Some(error) => Ok(error),
+        None => texted_error(alloc, name),
     }
+}
+
+// `error` takes the word of an error of the fleet, and answers the text of a copy.
+fn tell_error(alloc: Global, name: &str, answer: &mut String) -> Result<(), Flaw> {
+    let error = fleet_error(alloc, name)?;
+    tell_text(answer, error.clone()?)
 }

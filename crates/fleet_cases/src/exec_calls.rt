@@ -15,15 +15,15 @@ use fleet_exec::{
     RangeGate, RangeJob, RangeTables, SourceSet, are_sources, finish_ranges, next_table,
 };
 use fleet_fold::{AppendOperator, MergeOperator};
-use fleet_rows::{RowEntry, Settings};
+use fleet_rows::{ListOf, RowEntry, Settings};
 use fleet_table::RunData;
 use std::alloc::{AllocError, Global};
 use std::sync::atomic::{AtomicUsize, Ordering};
 
-/// No more ranges are finished together.
+// The greatest number of ranges that one call finishes.
 const MOST_RANGES: usize = 64;
 
-/// Answers a call of this name, if there is one.
+/// Answers the call of this name. Returns false if no call in this file has it.
 pub fn answers(
     alloc: Global,
     name: &str,
@@ -42,7 +42,7 @@ pub fn answers(
     Ok(true)
 }
 
-// The sources that a word tells, whatever they are.
+// The sources of a word. They need not be in order.
 fn told_sources(alloc: Global, word: &str) -> Result<SourceSet, Flaw> {
     let words = source_words(alloc, word)?;
     let mut sources = SourceSet::new(alloc);
@@ -52,7 +52,7 @@ fn told_sources(alloc: Global, word: &str) -> Result<SourceSet, Flaw> {
     Ok(sources)
 }
 
-// The same, as ranges ask for them.
+// The sources of a word. It is an error if `are_sources` is false for them.
 fn ordered_sources(alloc: Global, word: &str) -> Result<SourceSet, Flaw>
     ensures { IfOk result (λ sources. AreSources sources) }
 {
@@ -64,7 +64,7 @@ fn ordered_sources(alloc: Global, word: &str) -> Result<SourceSet, Flaw>
     }
 }
 
-// `sources`: sources.
+// `sources` takes sources, and answers what `are_sources` says of them.
 fn sources(alloc: Global, words: &[&str], answer: &mut String) -> Result<(), Flaw> {
     let [word] = words else {
         return Err(Flaw::Words);
@@ -93,13 +93,15 @@ fn range_job_of(alloc: Global, settings: Settings, fields: &[&str]) -> Result<Ra
     })
 }
 
-// The job of a range, which is told by its bounds, and by the key and the sequence of the row that was written last.
+// The job of a range. Its word has two bounds, and the key and the sequence of the row that was
+// written last.
 fn range_job(alloc: Global, settings: Settings, word: &str) -> Result<RangeJob, Flaw> {
     let fields = parts(alloc, word, ',')?;
     range_job_of(alloc, settings, fields.as_slice())
 }
 
-// `next` or `nextno`: the settings, the sources, how many rows at most, and a range.
+// `next` and `nextno` take settings, sources, the greatest number of rows, and a range. They answer
+// the range's next table.
 fn next<O: MergeOperator>(
     alloc: Global,
     operator: &O,
@@ -120,7 +122,7 @@ fn next<O: MergeOperator>(
     tell_result(alloc, given, answer)
 }
 
-// The key and the sequence of the last row.
+// The key and the sequence of the last row, if there is one.
 fn last_row(rows: &[RowEntry]) -> Result<Option<(Bytes, u64)>, Flaw> {
     match rows.last() {
         Some(row) => Ok(Some((row.key.clone()?, row.seq))),
@@ -128,13 +130,14 @@ fn last_row(rows: &[RowEntry]) -> Result<Option<(Bytes, u64)>, Flaw> {
     }
 }
 
-// Goes on behind the last of the rows.
+// Moves the cursor of a range to the last of these rows.
 fn go_on(job: &mut RangeJob, rows: &[RowEntry]) -> Result<(), Flaw> {
     job.cursor = last_row(rows)?;
     Ok(())
 }
 
-// Takes at most so many rows, and goes on behind them.
+// Answers the next table of a range, with at most `most` rows, and moves the range's cursor to its
+// last row.
 fn take_on(
     alloc: Global,
     job: &mut RangeJob,
@@ -155,8 +158,8 @@ fn take_on(
     Ok(given.tell(answer)?)
 }
 
-// `walk`: the settings, the sources, a range, and how many rows at most each table has, of tables that are taken one behind the
-// other.
+// `walk` takes settings, sources, a range, and numbers of rows. It takes a table for each number,
+// one after the other, with at most that many rows. It answers these tables.
 fn walk(alloc: Global, words: &[&str], answer: &mut String) -> Result<(), Flaw> {
     let [floor, tick, last_run, sources, range, counts] = words else {
         return Err(Flaw::Words);
@@ -172,7 +175,8 @@ fn walk(alloc: Global, words: &[&str], answer: &mut String) -> Result<(), Flaw> 
     Ok(())
 }
 
-/// What a gate was told: of each call the range and the table, a digit each.
+// A gate that notes the reports it gets. Of each report it keeps the range and the table, one digit
+// each.
 #[derive(Drop)]
 struct Calls {
     told: AtomicUsize,
@@ -188,10 +192,16 @@ impl RangeGate for Calls {
     }
 }
 
-// A range by its tables.
+impl Tell for ListOf<RowEntry> {
+    fn tell(&self, answer: &mut String) -> Result<(), AllocError> {
+        tell_list(answer, self.as_slice(), ',')
+    }
+}
+
+// A range is printed as its tables.
 impl Tell for RangeTables {
     fn tell(&self, answer: &mut String) -> Result<(), AllocError> {
-        tell_list(answer, self.tables(), ';')
+        tell_list(answer, self.as_slice(), ';')
     }
 }
 
@@ -201,7 +211,7 @@ impl Tell for Vec<RangeTables> {
     }
 }
 
-// The tables of ranges, and what the gate was told.
+// Finishes ranges, and answers their tables and the reports that the gate got.
 fn tell_ranges<O: MergeOperator>(
     alloc: Global,
     operator: &O,
@@ -232,7 +242,8 @@ fn range_jobs(alloc: Global, settings: Settings, words: &[&str]) -> Result<Vec<R
     Ok(jobs)
 }
 
-// `finish` or `finishno`: the settings, the sources, the size of a table, and ranges.
+// `finish` and `finishno` take settings, sources, the size of a table in bytes, and ranges. They
+// answer the tables of the ranges, and the reports to the gate.
 fn finish<O: MergeOperator>(
     alloc: Global,
     operator: &O,

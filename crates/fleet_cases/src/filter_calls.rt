@@ -1,4 +1,4 @@
-//! Calls of `fleet_fold`: what filters leave of rows.
+//! Calls of `fleet_fold` that filter rows.
 
 ghost use Rattle.std.specs.Prelude.{◌≡◌, false};
 ghost use Rattle.fleet_iter.specs.Iteration.{AreRising};
@@ -15,7 +15,7 @@ use fleet_fold::{
 use fleet_iter::ListIterator;
 use std::alloc::Global;
 
-/// Answers a call of this name, if there is one.
+/// Answers the call of this name. Returns false if no call in this file has it.
 pub fn answers(
     alloc: Global,
     name: &str,
@@ -31,7 +31,7 @@ pub fn answers(
     Ok(true)
 }
 
-// What a filter leaves of rows.
+// Answers the rows that a filter leaves.
 fn tell_left<F: CompactionFilter>(
     alloc: Global,
     filter: F,
@@ -44,7 +44,7 @@ fn tell_left<F: CompactionFilter>(
     tell_given(alloc, CompactionFilterIterator::new(list, filter), answer)
 }
 
-// `without`: a prefix, and rows, of which those with it are left out.
+// `without` takes a prefix and rows. Its filter drops the rows whose keys have the prefix.
 fn without(alloc: Global, words: &[&str], answer: &mut String) -> Result<(), Flaw> {
     let [prefix, told] = words else {
         return Err(Flaw::Words);
@@ -57,7 +57,8 @@ fn without(alloc: Global, words: &[&str], answer: &mut String) -> Result<(), Fla
     tell_left(alloc, filter, list, answer)
 }
 
-// `revalued`: a kind and bytes, and rows, which get this value.
+// `revalued` takes a kind, bytes and rows. Its filter gives each row the value of this kind with
+// these bytes.
 fn revalued(alloc: Global, words: &[&str], answer: &mut String) -> Result<(), Flaw> {
     let [kind, value, told] = words else {
         return Err(Flaw::Words);
@@ -70,7 +71,8 @@ fn revalued(alloc: Global, words: &[&str], answer: &mut String) -> Result<(), Fl
     tell_left(alloc, filter, list, answer)
 }
 
-// `supplied`: whether the last run is written, for which alone there is a filter, which refuses each row; and rows.
+// `supplied` takes a flag, whether the last run is written, and rows. Only for the last run there
+// is a filter, and it refuses each row.
 fn supplied(alloc: Global, words: &[&str], answer: &mut String) -> Result<(), Flaw> {
     let [last_run, told] = words else {
         return Err(Flaw::Words);

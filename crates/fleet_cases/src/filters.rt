@@ -1,4 +1,4 @@
-//! Filters.
+//! Filters for cases, and a supplier of filters.
 
 use bytes::Bytes;
 use fleet_fold::{
@@ -7,7 +7,7 @@ use fleet_fold::{
 use fleet_rows::{CompactionFilterError, RowEntry, Text, ValueDeletable};
 use std::alloc::Global;
 
-/// Leaves out the keys with a prefix.
+/// A filter that drops the rows whose keys begin with a prefix.
 #[derive(Drop)]
 pub struct WithoutPrefix {
     pub prefix: Bytes,
@@ -19,7 +19,8 @@ impl CompactionFilter for WithoutPrefix {
     ghost use Rattle.std.specs.List.{starts_with};
     ghost use Rattle.fleet_fold.specs.declared.filter.CompactionFilterDecision.TheVariants as decision;
 
-    ghost answers = { λ f _ r. if starts_with nat_eq r.key f.prefix then Ok decision.Drop else Ok decision.Keep };
+    ghost answers = { λ f _ r.
+        if starts_with nat_eq r.key f.prefix then Ok decision.Drop else Ok decision.Keep };
 
     ghost closing = { λ _ _. Ok tt };
 
@@ -42,7 +43,7 @@ impl CompactionFilter for WithoutPrefix {
     }
 }
 
-/// Gives each row the same value.
+/// A filter that gives each row the same value.
 #[derive(Drop)]
 pub struct Replacing {
     pub value: ValueDeletable,
@@ -74,7 +75,7 @@ impl CompactionFilter for Replacing {
     }
 }
 
-/// Refuses each row as `no`.
+/// A filter that refuses each row with the text `no`.
 #[derive(Drop)]
 pub struct Refusing {
     pub closed: bool,
@@ -105,7 +106,8 @@ impl CompactionFilter for Refusing {
     }
 }
 
-/// Makes no filter but for the last run, and refuses others as `none`.
+/// A supplier that makes a filter for the last run only. For another run it refuses with the text
+/// `none`.
 #[derive(Clone, Copy, Debug)]
 pub struct ForTheLastRun;
 

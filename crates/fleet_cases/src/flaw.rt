@@ -1,42 +1,44 @@
-//! Why a case has no answer of the call that it names.
+//! Why a case has no answer.
 
 use fleet_rows::SlateDBError;
 use std::alloc::{AllocError, AllocFailed};
 
-/// What is wrong with a case, or that there is no memory for it.
+/// What is wrong with a case, or that memory ran out.
 #[derive(Clone, Copy, Debug, PartialEq, Eq)]
 pub enum Flaw {
-    /// It is no text in UTF-8.
+    /// The line is not UTF-8.
     Text,
     /// No call has this name.
     Name,
     /// There are too few words, or too many.
     Words,
-    /// A word is no number, or one that is too great.
+    /// A word is not a number, or the number is out of range.
     Number,
-    /// A word is none of those that can stand there.
+    /// A word is not one of the choices.
     Choice,
-    /// A word is not hexadecimal.
+    /// A word is not bytes in hexadecimal digits.
     Bytes,
-    /// A word is no row.
+    /// A word is not a row.
     Row,
-    /// A word is no pair.
+    /// A word is not a pair.
     Pair,
-    /// A word is no bound.
+    /// A word is not a bound.
     Bound,
-    /// Two bounds leave no room.
+    /// The range between two bounds is empty.
     Room,
-    /// Rows do not stand in the order that the call asks for, or there are none where it asks for some.
+    /// Rows or keys are not in the order that the call requires, or there are none where it
+    /// requires some.
     Order,
-    /// A row is longer than a table may hold, or shorter than the prefix that it shall have.
+    /// A row is longer than a table may hold, a key is shorter than the prefix of it that is given,
+    /// or repeated bytes are too many.
     Length,
-    /// The call was refused where it gives no answer but for want of memory.
+    /// The call was refused, although its only expected refusal is out of memory.
     Refused,
     Memory,
 }
 
 impl Flaw {
-    /// The word for it.
+    /// The word that is printed for the flaw.
     pub fn word(self) -> &'static str {
         match self {
             Flaw::Text => "text",

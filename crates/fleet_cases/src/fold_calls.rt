@@ -1,4 +1,4 @@
-//! Calls of `fleet_fold`: operators, and the iterators that merge operands and keep rows.
+//! Calls of `fleet_fold`: merge operators, and the iterators that fold operands and keep rows.
 
 ghost use Rattle.std.specs.Prelude.{OnOk};
 ghost use Rattle.fleet_iter.specs.Iteration.{AreRising};
@@ -7,6 +7,7 @@ use crate::flaw::Flaw;
 use crate::given::{tell_given, tell_ready, tell_result};
 use crate::iter_calls::{rising_list, rising_merge};
 use crate::operators::{Newest, Sifting};
+use crate::watching::Watching;
 use crate::words::{bytes, flag, number, stamp, told_if_any, told_list};
 use bytes::Bytes;
 use fleet_fold::{
@@ -17,10 +18,10 @@ use fleet_iter::{ResumingIterator, RowEntryIterator};
 use fleet_rows::{Settings, SlateDBError};
 use std::alloc::Global;
 
-/// What the operator of `jobno`, `foldno` and others refuses: `!`.
+/// The operator of `jobno`, `foldno` and other calls. It refuses bytes that have a `!`.
 pub const REFUSING: Sifting = Sifting { unwanted: 0x21 };
 
-/// Answers a call of this name, if there is one.
+/// Answers the call of this name. Returns false if no call in this file has it.
 pub fn answers(
     alloc: Global,
     name: &str,
@@ -50,6 +51,7 @@ fn answers_of_others(
         "join" => join(alloc, words, answer)?,
         "joinall" => join_all(alloc, words, answer)?,
         "foldseek" => fold_from(alloc, words, answer)?,
+        "batches" => batches(alloc, words, answer)?,
         "retainseek" => retain_from(alloc, words, answer)?,
         "needseek" => need_from(alloc, words, answer)?,
         _ => return Ok(false),
@@ -57,7 +59,8 @@ fn answers_of_others(
     Ok(true)
 }
 
-/// The floor, which is the cut too, the tick, and whether the last run is written.
+/// Settings from three words: the floor, which is the cut too, the tick, and whether the last run
+/// is written.
 pub fn settings(floor: &str, tick: &str, last_run: &str) -> Result<Settings, Flaw> {
     let floor = number(floor)?;
     let tick = stamp(tick)?;
@@ -70,7 +73,7 @@ pub fn settings(floor: &str, tick: &str, last_run: &str) -> Result<Settings, Fla
     })
 }
 
-// What a job makes of its sources.
+// Answers the rows that a job makes of its sources.
 fn job_from_first<O: MergeOperator>(
     alloc: Global,
     operator: &O,
@@ -87,7 +90,7 @@ fn job_from_first<O: MergeOperator>(
     )
 }
 
-// The same from behind a row on.
+// Answers the rows that a job makes of its sources after a cursor.
 fn job_from_behind<O: MergeOperator>(
     alloc: Global,
     operator: &O,
@@ -104,8 +107,8 @@ fn job_from_behind<O: MergeOperator>(
     tell_ready(alloc, &mut resumed, answer)
 }
 
-// `job` or `jobno`: the settings and the sources; and the key and the sequence of the row behind which it is taken up, if there is
-// one.
+// `job` and `jobno` take settings and sources. They may also take a key and a sequence, and then
+// the job is resumed after this row.
 fn job<O: MergeOperator>(
     alloc: Global,
     operator: &O,
@@ -126,7 +129,8 @@ fn job<O: MergeOperator>(
     }
 }
 
-// `fold`, `foldno` or `foldnewest`: whether operands of other stamps are merged, the barrier, if there is one, and the rows.
+// `fold`, `foldno` and `foldnewest` take a flag, a barrier and rows. The flag says whether operands
+// of different expiry are merged. The barrier may be `-` for none.
 fn fold<O: MergeOperator>(
     alloc: Global,
     operator: &O,
@@ -143,7 +147,32 @@ fn fold<O: MergeOperator>(
     tell_given(alloc, folded, answer)
 }
 
-// `retain`: the settings and the rows.
+// Answers what an operator makes of rows, and the batches that it was given.
+fn watched<O: MergeOperator + Drop>(
+    alloc: Global,
+    operator: O,
+    rows: &str,
+    answer: &mut String,
+) -> Result<(), Flaw> {
+    let watching = Watching::new(alloc, operator)?;
+    let rows = rising_list(alloc, rows)?;
+    let folded = MergeOperatorIterator::new(&watching, rows, true, None);
+    tell_given(alloc, folded, answer)?;
+    Ok(watching.tell(answer)?)
+}
+
+// `batches` takes the word of an operator, and rows.
+fn batches(alloc: Global, words: &[&str], answer: &mut String) -> Result<(), Flaw> {
+    match words {
+        ["append", rows] => watched(alloc, AppendOperator, rows, answer),
+        ["no", rows] => watched(alloc, REFUSING, rows, answer),
+        ["newest", rows] => watched(alloc, Newest, rows, answer),
+        [_, _] => Err(Flaw::Choice),
+        _ => Err(Flaw::Words),
+    }
+}
+
+// `retain` takes settings and rows. It answers the rows that retention keeps.
 fn retain(alloc: Global, words: &[&str], answer: &mut String) -> Result<(), Flaw> {
     let [floor, tick, last_run, rows] = words else {
         return Err(Flaw::Words);
@@ -153,7 +182,7 @@ fn retain(alloc: Global, words: &[&str], answer: &mut String) -> Result<(), Flaw
     tell_given(alloc, RetentionIterator::new(alloc, rows, settings), answer)
 }
 
-// `need`: rows that have no operator.
+// `need` takes rows for which there is no merge operator.
 fn need(alloc: Global, words: &[&str], answer: &mut String) -> Result<(), Flaw> {
     let [rows] = words else {
         return Err(Flaw::Words);
@@ -162,7 +191,8 @@ fn need(alloc: Global, words: &[&str], answer: &mut String) -> Result<(), Flaw> 
     tell_given(alloc, MergeOperatorRequiredIterator::new(rows), answer)
 }
 
-// `join`: what there is, if anything, and an operand, which `AppendOperator` joins.
+// `join` takes existing bytes, or `none`, and an operand. It answers what `AppendOperator` makes of
+// them.
 fn join(alloc: Global, words: &[&str], answer: &mut String) -> Result<(), Flaw> {
     let [existing, operand] = words else {
         return Err(Flaw::Words);
@@ -173,7 +203,8 @@ fn join(alloc: Global, words: &[&str], answer: &mut String) -> Result<(), Flaw> 
     tell_result(alloc, joined.map_err(SlateDBError::from), answer)
 }
 
-// `joinall`: what there is, if anything, and operands, the oldest first.
+// `joinall` takes existing bytes, or `none`, and operands, oldest first. It answers what
+// `AppendOperator` makes of them as one batch.
 fn join_all(alloc: Global, words: &[&str], answer: &mut String) -> Result<(), Flaw> {
     let [existing, operands] = words else {
         return Err(Flaw::Words);
@@ -184,7 +215,7 @@ fn join_all(alloc: Global, words: &[&str], answer: &mut String) -> Result<(), Fl
     tell_result(alloc, joined.map_err(SlateDBError::from), answer)
 }
 
-// Takes so many rows.
+// Takes `count` rows from an iterator, or all if there are fewer.
 fn take<T: RowEntryIterator>(alloc: Global, source: &mut T, count: u64) -> Result<(), SlateDBError>
     requires sound { T.sound source.old }
     requires rising { AreRising (T.state source.old).rows }
@@ -197,7 +228,7 @@ fn take<T: RowEntryIterator>(alloc: Global, source: &mut T, count: u64) -> Resul
     Ok(())
 }
 
-// What is left of an iterator behind so many rows, and from a key on.
+// Takes `count` rows from an iterator, seeks a key, and answers the rows that are left.
 fn tell_sought<T: RowEntryIterator>(
     alloc: Global,
     iterator: T,
@@ -217,7 +248,8 @@ fn tell_sought<T: RowEntryIterator>(
     tell_ready(alloc, &mut source, answer)
 }
 
-// `foldseek`: whether operands of other stamps are merged, how many rows are taken, the key that is sought then, and the rows.
+// `foldseek` takes a flag, a number of rows that are taken, a key that is then sought, and rows.
+// The flag says whether operands of different expiry are merged.
 fn fold_from(alloc: Global, words: &[&str], answer: &mut String) -> Result<(), Flaw> {
     let [all_stamps, count, key, rows] = words else {
         return Err(Flaw::Words);
@@ -228,7 +260,8 @@ fn fold_from(alloc: Global, words: &[&str], answer: &mut String) -> Result<(), F
     tell_sought(alloc, folded, count, key, answer)
 }
 
-// `retainseek`: the settings, how many rows are taken, the key that is sought then, and the rows.
+// `retainseek` takes settings, a number of rows that are taken, a key that is then sought, and
+// rows.
 fn retain_from(alloc: Global, words: &[&str], answer: &mut String) -> Result<(), Flaw> {
     let [floor, tick, last_run, count, key, rows] = words else {
         return Err(Flaw::Words);
@@ -239,7 +272,8 @@ fn retain_from(alloc: Global, words: &[&str], answer: &mut String) -> Result<(),
     tell_sought(alloc, kept, count, key, answer)
 }
 
-// `needseek`: how many rows are taken, the key that is sought then, and rows that have no operator.
+// `needseek` takes a number of rows that are taken, a key that is then sought, and rows for which
+// there is no merge operator.
 fn need_from(alloc: Global, words: &[&str], answer: &mut String) -> Result<(), Flaw> {
     let [count, key, rows] = words else {
         return Err(Flaw::Words);

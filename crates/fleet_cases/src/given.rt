@@ -1,4 +1,4 @@
-//! What iterators give: `ok` and the rows, or `err`, the refusal and the rows that came before it.
+//! Answers of iterators: `ok` and the rows, or `err`, the refusal, and the rows before it.
 
 use crate::flaw::Flaw;
 use crate::tell::{Tell, tell_ok, tell_rows};
@@ -6,13 +6,14 @@ use fleet_iter::RowEntryIterator;
 use fleet_rows::{MergeOperatorError, RowEntry, SlateDBError};
 use std::alloc::{AllocError, Global};
 
-// Takes the rows that an iterator gives.
+// Takes all rows that an iterator gives.
 fn take_rows<T: RowEntryIterator>(
     alloc: Global,
     source: &mut T,
     rows: &mut Vec<RowEntry>,
 ) -> Result<(), SlateDBError>
     requires { T.sound source.old }
+    ensures { T.sound source.new }
 {
     'rows: for _ in 0..u64::MAX {
         match source.next(alloc)? {
@@ -23,7 +24,24 @@ fn take_rows<T: RowEntryIterator>(
     Ok(())
 }
 
-/// What an iterator gives that is ready.
+// Whether an iterator that has ended or failed says so again.
+fn says_so_again<T: RowEntryIterator>(
+    alloc: Global,
+    source: &mut T,
+    failed: bool,
+) -> Result<bool, SlateDBError>
+    requires { T.sound source.old }
+{
+    match source.next(alloc) {
+        Ok(None) => Ok(!failed),
+        Ok(Some(_)) => Ok(false),
+        Err(SlateDBError::IteratorFailed) => Ok(failed),
+        Err(error) => Err(error),
+    }
+}
+
+/// Answers the rows that an initialised iterator gives. At its end or failure it is asked once
+/// more, and an answer that differs is reported.
 pub fn tell_ready<T: RowEntryIterator>(
     alloc: Global,
     source: &mut T,
@@ -32,15 +50,25 @@ pub fn tell_ready<T: RowEntryIterator>(
     requires { T.sound source.old }
 {
     let mut rows = Vec::new(alloc);
-    match take_rows(alloc, source, &mut rows) {
-        Ok(()) => answer.push_str("ok")?,
-        Err(error) => tell_refusal(alloc, &error, answer)?,
-    }
+    let failed = match take_rows(alloc, source, &mut rows) {
+        Ok(()) => {
+            answer.push_str("ok")?;
+            false
+        }
+        Err(error) => {
+            tell_refusal(alloc, &error, answer)?;
+            true
+        }
+    };
     answer.push(' ')?;
-    Ok(tell_rows(answer, rows.as_slice())?)
+    tell_rows(answer, rows.as_slice())?;
+    if !says_so_again(alloc, source, failed)? {
+        answer.push_str(" and then another answer")?;
+    }
+    Ok(())
 }
 
-/// The same of an iterator that is made ready first.
+/// Initialises an iterator, and answers the rows that it gives.
 pub fn tell_given<T: RowEntryIterator>(
     alloc: Global,
     iterator: T,
@@ -53,7 +81,7 @@ pub fn tell_given<T: RowEntryIterator>(
     tell_ready(alloc, &mut source, answer)
 }
 
-/// `ok` and what a call gave, or what it was refused with.
+/// Answers `ok` and what a call gave, or `err` and its refusal.
 pub fn tell_result<T: Tell + Drop>(
     alloc: Global,
     given: Result<T, SlateDBError>,
@@ -65,7 +93,7 @@ pub fn tell_result<T: Tell + Drop>(
     }
 }
 
-/// `err` and a refusal.
+/// Answers `err` and a refusal.
 pub fn tell_refusal(alloc: Global, error: &SlateDBError, answer: &mut String) -> Result<(), Flaw> {
     match error {
         SlateDBError::Memory => Err(Flaw::Memory),

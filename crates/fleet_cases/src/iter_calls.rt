@@ -19,7 +19,7 @@ use fleet_iter::{
 use fleet_rows::RowEntry;
 use std::alloc::{AllocError, Global};
 
-/// Answers a call of this name, if there is one.
+/// Answers the call of this name. Returns false if no call in this file has it.
 pub fn answers(
     alloc: Global,
     name: &str,
@@ -38,7 +38,7 @@ pub fn answers(
     Ok(true)
 }
 
-// `rising`: rows.
+// `rising` takes rows, and answers whether their keys rise.
 fn rising(alloc: Global, words: &[&str], answer: &mut String) -> Result<(), Flaw> {
     let [word] = words else {
         return Err(Flaw::Words);
@@ -67,7 +67,8 @@ fn entry(alloc: Global, words: &[&str]) -> Result<MergeIteratorHeapEntry, Flaw> 
     Ok(MergeIteratorHeapEntry { order, row, index })
 }
 
-// `entries`: two rows that were read ahead, each behind its order and before the place of its source.
+// `entries` takes two entries of a merge. Each is an order, the row that was read ahead, and the
+// place of its source. It answers which entry a merge takes first.
 fn entries(alloc: Global, words: &[&str], answer: &mut String) -> Result<(), Flaw> {
     if words.len() != 6 {
         return Err(Flaw::Words);
@@ -77,7 +78,7 @@ fn entries(alloc: Global, words: &[&str], answer: &mut String) -> Result<(), Fla
     Ok(tell_order(answer, one.cmp(&other))?)
 }
 
-/// A list of rows that rise.
+/// A list of the rows of a word. It is an error if their keys do not rise.
 pub fn rising_list(alloc: Global, word: &str) -> Result<ListIterator, Flaw>
     ensures { IfOk result (λ list. AreRising list.rows) }
 {
@@ -88,7 +89,7 @@ pub fn rising_list(alloc: Global, word: &str) -> Result<ListIterator, Flaw>
     Ok(ListIterator::new(rows))
 }
 
-// Lists of the rows of sources, which rise.
+// For each source a list of its rows. It is an error if the keys in a source do not rise.
 fn rising_lists(alloc: Global, sources: &str) -> Result<Vec<ListIterator>, Flaw>
     ensures { IfOk result (λ lists. AllByRecursion (λ l. AreRising l.rows) lists.items) }
 {
@@ -100,17 +101,18 @@ fn rising_lists(alloc: Global, sources: &str) -> Result<Vec<ListIterator>, Flaw>
     Ok(lists)
 }
 
-/// The merge of sources whose rows rise, in rising order.
+/// The ascending merge of sources. It is an error if the keys in a source do not rise.
 pub fn rising_merge(alloc: Global, sources: &str) -> Result<MergeIterator<ListIterator>, Flaw>
     ensures sound { IfOk result (λ merge. IsSound (λ _. ⊤) giving merge) }
     ensures alive { IfOk result (λ merge. IsAlive (state_of giving merge)) }
-    ensures rising { IfOk result (λ merge. (dedup : Bool) → AreRising (given dedup (merge_of giving merge))) }
+    ensures rising { IfOk result
+        (λ merge. (dedup : Bool) → AreRising (given dedup (merge_of giving merge))) }
 {
     merges_rise();
     Ok(MergeIterator::new(alloc, rising_lists(alloc, sources)?))
 }
 
-// Lists of the rows of sources.
+// A list of the rows of each source.
 fn lists(alloc: Global, sources: &str) -> Result<Vec<ListIterator>, Flaw> {
     let words = source_words(alloc, sources)?;
     let mut lists = Vec::new(alloc);
@@ -120,7 +122,7 @@ fn lists(alloc: Global, sources: &str) -> Result<Vec<ListIterator>, Flaw> {
     Ok(lists)
 }
 
-// The merge of sources, whatever their order is.
+// The merge of sources. Their rows need not be in order.
 fn any_merge(
     alloc: Global,
     sources: &str,
@@ -132,7 +134,7 @@ fn any_merge(
     Ok(MergeIterator::new_with_order(alloc, lists, order))
 }
 
-// What a merge gives that is ready, and how many bytes it counts.
+// Answers what an initialised merge gives, and the bytes that it counted.
 fn tell_merged(
     alloc: Global,
     merge: &mut MergeIterator<ListIterator>,
@@ -145,7 +147,7 @@ fn tell_merged(
     Ok(write!(answer, " {bytes}")?)
 }
 
-// What a merge gives from its first row on.
+// Answers what a merge gives from its first row on.
 fn from_first(
     alloc: Global,
     order: &str,
@@ -160,7 +162,7 @@ fn from_first(
     tell_merged(alloc, &mut merge, answer)
 }
 
-// What a rising merge gives from a key on.
+// Answers what an ascending merge gives from a key on.
 fn from_key(
     alloc: Global,
     dedup: &str,
@@ -176,8 +178,8 @@ fn from_key(
     tell_merged(alloc, &mut merge, answer)
 }
 
-// `merge`: `asc` or `desc`, whether older rows of a key are kept back, the sources, and a key to be sought, if there is one. A
-// falling merge is not sought.
+// `merge` takes `asc` or `desc`, a flag, and sources. The flag says whether older rows of a key are
+// left out. After `asc` it may also take a key that is sought.
 fn merge(alloc: Global, words: &[&str], answer: &mut String) -> Result<(), Flaw> {
     match words {
         [order, dedup, sources] => from_first(alloc, order, dedup, sources, answer),
@@ -186,7 +188,7 @@ fn merge(alloc: Global, words: &[&str], answer: &mut String) -> Result<(), Flaw>
     }
 }
 
-// `unready`: sources, of which a row is asked before their merge is made ready, and then all of them.
+// `unready` takes sources. It asks their merge for a row before `init`, and then takes all rows.
 fn unready(alloc: Global, words: &[&str], answer: &mut String) -> Result<(), Flaw> {
     let [sources] = words else {
         return Err(Flaw::Words);
@@ -201,7 +203,7 @@ fn unready(alloc: Global, words: &[&str], answer: &mut String) -> Result<(), Fla
     tell_ready(alloc, &mut merge, answer)
 }
 
-// `resume`: sources, and the key and the sequence of the row behind which they are taken up.
+// `resume` takes sources, and the key and the sequence of the row after which they are resumed.
 fn resume(alloc: Global, words: &[&str], answer: &mut String) -> Result<(), Flaw> {
     let [sources, key, seq] = words else {
         return Err(Flaw::Words);
@@ -214,7 +216,7 @@ fn resume(alloc: Global, words: &[&str], answer: &mut String) -> Result<(), Flaw
     tell_ready(alloc, &mut resumed, answer)
 }
 
-// What a look shows.
+// Appends the row that a look shows, or `-` for none.
 fn tell_look(answer: &mut String, row: Option<&RowEntry>) -> Result<(), AllocError> {
     match row {
         Some(row) => row.tell(answer)?,
@@ -223,7 +225,8 @@ fn tell_look(answer: &mut String, row: Option<&RowEntry>) -> Result<(), AllocErr
     answer.push(' ')
 }
 
-// `peek`: rows, and a key. A look at the next row, a seek, another look, and the rows that are given then.
+// `peek` takes rows and a key. It looks at the next row, seeks the key, looks again, and takes the
+// rows that are left.
 fn peek(alloc: Global, words: &[&str], answer: &mut String) -> Result<(), Flaw> {
     let [rows, key] = words else {
         return Err(Flaw::Words);

@@ -1,5 +1,6 @@
-//! Cases of single calls. A line of standard input is `NAME CALL WORDS`, which prints `NAME ANSWER`, or `NAME CALL WORDS => ANSWER`,
-//! which prints a line only where the call answers otherwise. A last line counts the cases, and those that differ.
+//! A program that runs cases of single calls. Each line of standard input is a case. For
+//! `NAME CALL WORDS` it prints `NAME ANSWER`. For `NAME CALL WORDS => ANSWER` it prints a line only
+//! if the call answers otherwise. The last line counts the cases, and how many of them differ.
 #![tactic(auto)]
 
 mod case;
@@ -20,6 +21,7 @@ mod table_calls;
 mod tables;
 mod tell;
 mod told;
+mod watching;
 mod words;
 
 use case::Tally;

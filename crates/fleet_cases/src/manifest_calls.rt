@@ -1,4 +1,4 @@
-//! Calls of `fleet_table`: of trees and manifests.
+//! Calls of `fleet_table` on trees and manifests.
 
 use crate::flaw::Flaw;
 use crate::tables::named_view;
@@ -11,7 +11,7 @@ use fleet_table::{
 };
 use std::alloc::{AllocError, Global};
 
-/// Answers a call of this name, if there is one.
+/// Answers the call of this name. Returns false if no call in this file has it.
 pub fn answers(
     alloc: Global,
     name: &str,
@@ -39,7 +39,8 @@ fn fresh(alloc: Global) -> ManifestCore {
     }
 }
 
-// A flush is told by its segment, its table's id, the greatest and the least sequence, the floor, the tick and the moment of its put.
+// Adds a flush. Its fields are the segment, the table's id, the greatest and the least sequence,
+// the floor, the tick, and the moment of its put.
 fn add_flush(
     alloc: Global,
     core: &mut ManifestCore,
@@ -61,7 +62,7 @@ fn add_flush(
     )?)
 }
 
-// A fresh manifest behind flushes.
+// A fresh manifest to which these flushes are added.
 fn flushed(alloc: Global, retention: &str, flushes: &str) -> Result<ManifestCore, Flaw> {
     let retention = number(retention)?;
     let mut core = fresh(alloc);
@@ -72,7 +73,7 @@ fn flushed(alloc: Global, retention: &str, flushes: &str) -> Result<ManifestCore
     Ok(core)
 }
 
-/// A table by its id.
+// A table is printed as the number of its id.
 impl Tell for SsTableView {
     fn tell(&self, answer: &mut String) -> Result<(), AllocError> {
         let number = self.id.number();
@@ -80,7 +81,7 @@ impl Tell for SsTableView {
     }
 }
 
-/// A run by its id.
+// A run is printed as its id.
 impl Tell for SortedRun {
     fn tell(&self, answer: &mut String) -> Result<(), AllocError> {
         let id = self.id;
@@ -88,7 +89,7 @@ impl Tell for SortedRun {
     }
 }
 
-/// The flushes and the runs of a tree, and the greatest sequence of the flushes.
+// A tree is printed as its flushes, its runs, and the greatest sequence of its flushes.
 impl Tell for LsmTreeState {
     fn tell(&self, answer: &mut String) -> Result<(), AllocError> {
         tell_list(answer, self.l0.as_slice(), ',')?;
@@ -123,7 +124,7 @@ impl Told for Tracked {
     }
 }
 
-// `flush`: the retention, and flushes.
+// `flush` takes the retention and flushes, and answers the manifest.
 fn flush(alloc: Global, words: &[&str], answer: &mut String) -> Result<(), Flaw> {
     let [retention, flushes] = words else {
         return Err(Flaw::Words);
@@ -139,7 +140,7 @@ fn tell_tree(answer: &mut String, prefix: &[u8], tree: &LsmTreeState) -> Result<
     tree.tell(answer)
 }
 
-// The trees, the floor, the tick, the tracked flushes and the horizon.
+// Appends the trees, the floor, the tick, the tracked flushes and the horizon.
 fn tell_manifest(core: &ManifestCore, answer: &mut String) -> Result<(), AllocError> {
     answer.push_str("ok")?;
     'trees: for (prefix, tree) in core.trees_with_prefix() {
@@ -153,7 +154,7 @@ fn tell_manifest(core: &ManifestCore, answer: &mut String) -> Result<(), AllocEr
     write!(answer, " {horizon}")
 }
 
-// `segment`: the retention, flushes, and a segment.
+// `segment` takes the retention, flushes, and a segment. It answers the tree of the segment.
 fn segment(alloc: Global, words: &[&str], answer: &mut String) -> Result<(), Flaw> {
     let [retention, flushes, segment] = words else {
         return Err(Flaw::Words);
@@ -164,7 +165,7 @@ fn segment(alloc: Global, words: &[&str], answer: &mut String) -> Result<(), Fla
     tell_or_none(answer, tree)
 }
 
-// `cut`: a moment, the retention, the floor, and the tracked flushes.
+// `cut` takes a moment, the retention, the floor, and tracked flushes. It answers the cut.
 fn cut(alloc: Global, words: &[&str], answer: &mut String) -> Result<(), Flaw> {
     let [moment, retention, floor, tracked] = words else {
         return Err(Flaw::Words);
@@ -179,7 +180,7 @@ fn cut(alloc: Global, words: &[&str], answer: &mut String) -> Result<(), Flaw> {
     Ok(write!(answer, "ok {cut}")?)
 }
 
-// A tree of these flushes and runs, which are told by their ids.
+// A tree of flushes and runs with these ids.
 fn tree(alloc: Global, flushes: &str, runs: &str) -> Result<LsmTreeState, Flaw> {
     let mut tree = LsmTreeState::new(alloc);
     let flushes: Vec<u64> = told_list(alloc, flushes, ',')?;
@@ -194,7 +195,8 @@ fn tree(alloc: Global, flushes: &str, runs: &str) -> Result<LsmTreeState, Flaw> 
     Ok(tree)
 }
 
-// `writer`: the local watermark, flushes and runs, and the remote flushes and greatest sequence.
+// `writer` takes the local watermark, flushes and runs, and the remote flushes and greatest
+// sequence. It answers the merged tree.
 fn writer(alloc: Global, words: &[&str], answer: &mut String) -> Result<(), Flaw> {
     let [watermark, flushes, runs, remote_flushes, last_seq] = words else {
         return Err(Flaw::Words);

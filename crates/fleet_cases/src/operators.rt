@@ -1,14 +1,14 @@
-//! Merge operators that refuse.
+//! Merge operators that refuse some operands.
 
 ghost use Rattle.std.specs.Prelude.{◌≡◌, [], ◌∷◌};
-ghost use Rattle.fleet_fold.specs.TestOperators.{is_accepted, lacks};
+ghost use Rattle.fleet_cases.specs.Operators.{is_accepted, lacks};
 
 use bytes::Bytes;
 use fleet_fold::MergeOperator;
 use fleet_rows::{MergeOperatorError, Text};
 use std::alloc::Global;
 
-/// Every merged value is shorter than this.
+// Every merged value has fewer bytes than this.
 const LEN_LIMIT: usize = 1 << 32;
 
 fn lacks(bytes: &[u8], byte: u8) -> bool
@@ -17,21 +17,22 @@ fn lacks(bytes: &[u8], byte: u8) -> bool
     bytes.iter().all(|&other| other != byte)
 }
 
-// Whether bytes are short, and without an unwanted one.
+// Whether there are fewer than 2^32 bytes, and the unwanted byte is not among them.
 fn is_accepted(bytes: &[u8], unwanted: u8) -> bool
     ensures { result ≡ is_accepted (unwanted ∷ []) bytes.now }
 {
     bytes.len() < LEN_LIMIT && lacks(bytes, unwanted)
 }
 
-/// Joins bytes, and refuses as `no` what has an unwanted one, or would be too long.
+/// An operator that joins bytes. It refuses with the text `no` if the joined bytes have the
+/// unwanted byte, or if there are 2^32 of them or more.
 #[derive(Clone, Copy, Debug)]
 pub struct Sifting {
     pub unwanted: u8,
 }
 
 impl MergeOperator for Sifting {
-    ghost use Rattle.fleet_fold.specs.TestOperators.{sifted, sifted_is_lawful};
+    ghost use Rattle.fleet_cases.specs.Operators.{sifted, sifted_is_lawful};
 
     ghost settings = { λ s. s.unwanted ∷ [] };
 
@@ -61,12 +62,13 @@ impl MergeOperator for Sifting {
     }
 }
 
-/// Lets the newest operand stand. One that has the byte 254 is refused as `no`, and one that has 255 as `never`.
+/// An operator that keeps the newest operand. It refuses one that has the byte 254, or 2^32 bytes
+/// or more, with the text `no`. It refuses any other that has the byte 255 with the text `never`.
 #[derive(Clone, Copy, Debug)]
 pub struct Newest;
 
 impl MergeOperator for Newest {
-    ghost use Rattle.fleet_fold.specs.TestOperators.{newest, newest_is_lawful};
+    ghost use Rattle.fleet_cases.specs.Operators.{newest, newest_is_lawful};
 
     ghost settings = { λ _. [] };
 

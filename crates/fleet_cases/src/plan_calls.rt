@@ -11,7 +11,7 @@ use fleet_table::{BlockMeta, SortedRun, SsTableView};
 use std::alloc::{AllocError, Global};
 use std::ops::Bound;
 
-/// Answers a call of this name, if there is one.
+/// Answers the call of this name. Returns false if no call in this file has it.
 pub fn answers(
     alloc: Global,
     name: &str,
@@ -42,7 +42,7 @@ impl Tell for Anchor {
     }
 }
 
-// The keys at which ranges begin that are not the first.
+// The keys at which the ranges after the first one begin.
 fn cuts<'a>(alloc: Global, ranges: &'a [BytesRange]) -> Result<Vec<&'a [u8]>, AllocError> {
     let mut keys = Vec::new(alloc);
     'ranges: for range in ranges {
@@ -59,7 +59,8 @@ fn tell_cuts(alloc: Global, ranges: &[BytesRange], answer: &mut String) -> Resul
     tell_list(answer, keys.as_slice(), ',')
 }
 
-// `bounds`: the most ranges, the least bytes of each, and anchors.
+// `bounds` takes the greatest number of ranges, the least target in bytes, and anchors. It answers
+// the keys at which the ranges after the first one begin.
 fn bounds(alloc: Global, words: &[&str], answer: &mut String) -> Result<(), Flaw> {
     let [most, least_bytes, anchors] = words else {
         return Err(Flaw::Words);
@@ -71,7 +72,8 @@ fn bounds(alloc: Global, words: &[&str], answer: &mut String) -> Result<(), Flaw
     Ok(tell_cuts(alloc, ranges.as_slice(), answer)?)
 }
 
-// `anchors`: where the data ends, the most anchors, a range, and blocks.
+// `anchors` takes the offset at which the data ends, the greatest number of anchors, a range, and
+// blocks. It answers the anchors.
 fn anchors(alloc: Global, words: &[&str], answer: &mut String) -> Result<(), Flaw> {
     let [end, most, low, high, blocks] = words else {
         return Err(Flaw::Words);
@@ -85,7 +87,8 @@ fn anchors(alloc: Global, words: &[&str], answer: &mut String) -> Result<(), Fla
     Ok(tell_list(answer, anchors.as_slice(), ',')?)
 }
 
-// `plan`: the most ranges, and tables by their descriptions.
+// `plan` takes the greatest number of ranges, and descriptions of tables. It answers the keys at
+// which the ranges after the first one begin.
 fn plan(alloc: Global, words: &[&str], answer: &mut String) -> Result<(), Flaw> {
     let [most, tables] = words else {
         return Err(Flaw::Words);

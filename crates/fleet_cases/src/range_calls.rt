@@ -1,4 +1,4 @@
-//! Calls of `fleet_range`: of ranges of byte strings, and of ranges of numbers.
+//! Calls of `fleet_range` on ranges of byte strings, and on ranges of numbers.
 
 use crate::flaw::Flaw;
 use crate::tell::{Tell, tell_bound, tell_flag, tell_ok, tell_or_none, tell_order};
@@ -9,7 +9,7 @@ use fleet_range::{ByteRangeBounds, BytesRange, ComparableRange, EndBound, StartB
 use std::alloc::{AllocError, Global};
 use std::ops::{Bound, RangeBounds};
 
-/// Answers a call of this name, if there is one.
+/// Answers the call of this name. Returns false if no call in this file has it.
 pub fn answers(
     alloc: Global,
     name: &str,
@@ -51,7 +51,7 @@ fn answers_of_numbers(
     Ok(true)
 }
 
-/// The range between two bounds.
+/// The range between two bounds. It is an error if it is empty.
 pub fn range(alloc: Global, low: &str, high: &str) -> Result<BytesRange, Flaw> {
     let low = bound(alloc, low)?;
     match BytesRange::try_new(low, bound(alloc, high)?) {
@@ -68,7 +68,7 @@ impl Tell for BytesRange {
     }
 }
 
-// `prefix`: a prefix.
+// `prefix` takes a prefix, and answers the range of the keys that begin with it.
 fn prefix(alloc: Global, words: &[&str], answer: &mut String) -> Result<(), Flaw> {
     let [prefix] = words else {
         return Err(Flaw::Words);
@@ -78,7 +78,7 @@ fn prefix(alloc: Global, words: &[&str], answer: &mut String) -> Result<(), Flaw
     tell_ok(answer, range)
 }
 
-// `prefixsub`: a prefix, and two bounds of what stands behind it.
+// `prefixsub` takes a prefix, and two bounds for the bytes after it in a key.
 fn subrange(alloc: Global, words: &[&str], answer: &mut String) -> Result<(), Flaw> {
     let [prefix, low, high] = words else {
         return Err(Flaw::Words);
@@ -89,7 +89,7 @@ fn subrange(alloc: Global, words: &[&str], answer: &mut String) -> Result<(), Fl
     tell_or_none(answer, range)
 }
 
-// `intersect`: the bounds of two ranges.
+// `intersect` takes the bounds of two ranges, and answers their intersection.
 fn intersect(alloc: Global, words: &[&str], answer: &mut String) -> Result<(), Flaw> {
     let [low, high, start, end] = words else {
         return Err(Flaw::Words);
@@ -100,7 +100,7 @@ fn intersect(alloc: Global, words: &[&str], answer: &mut String) -> Result<(), F
     tell_or_none(answer, both)
 }
 
-// `contains`: the bounds of a range, and a key.
+// `contains` takes the bounds of a range, and a key. It answers whether the key lies in the range.
 fn contains(alloc: Global, words: &[&str], answer: &mut String) -> Result<(), Flaw> {
     let [low, high, key] = words else {
         return Err(Flaw::Words);
@@ -110,7 +110,7 @@ fn contains(alloc: Global, words: &[&str], answer: &mut String) -> Result<(), Fl
     Ok(tell_flag(answer, range.contains(key.as_slice()))?)
 }
 
-// `range`: two bounds.
+// `range` takes two bounds, and answers the range between them.
 fn try_range(alloc: Global, words: &[&str], answer: &mut String) -> Result<(), Flaw> {
     let [low, high] = words else {
         return Err(Flaw::Words);
@@ -120,7 +120,7 @@ fn try_range(alloc: Global, words: &[&str], answer: &mut String) -> Result<(), F
     tell_or_none(answer, range)
 }
 
-// `empty`: the bounds of a range, which meets one that is empty.
+// `empty` takes the bounds of a range, and answers its intersection with an empty range.
 fn empty(alloc: Global, words: &[&str], answer: &mut String) -> Result<(), Flaw> {
     let [low, high] = words else {
         return Err(Flaw::Words);
@@ -130,7 +130,7 @@ fn empty(alloc: Global, words: &[&str], answer: &mut String) -> Result<(), Flaw>
     tell_or_none(answer, both)
 }
 
-// `point`: the bounds of a range.
+// `point` takes the bounds of a range, and answers what `as_point` does.
 fn point(alloc: Global, words: &[&str], answer: &mut String) -> Result<(), Flaw> {
     let [low, high] = words else {
         return Err(Flaw::Words);
@@ -146,7 +146,8 @@ impl Tell for &Bytes {
     }
 }
 
-// `sides`: the bounds of a range, which are told again, and whether the first is not an excluded key.
+// `sides` takes the bounds of a range, and answers them as the range gives them. It also answers
+// whether the start is not an excluded key.
 fn sides(alloc: Global, words: &[&str], answer: &mut String) -> Result<(), Flaw> {
     let [low, high] = words else {
         return Err(Flaw::Words);
@@ -160,7 +161,7 @@ fn sides(alloc: Global, words: &[&str], answer: &mut String) -> Result<(), Flaw>
     Ok(write!(answer, " {flag}")?)
 }
 
-// `copy`: two bounds, of a range that is copied.
+// `copy` takes the bounds of a range, and answers a copy of the range.
 fn copy(alloc: Global, words: &[&str], answer: &mut String) -> Result<(), Flaw> {
     let [low, high] = words else {
         return Err(Flaw::Words);
@@ -173,7 +174,7 @@ fn copy(alloc: Global, words: &[&str], answer: &mut String) -> Result<(), Flaw> 
     tell_ok(answer, range)
 }
 
-// `slices`: a key and a greater one, of a range that is copied.
+// `slices` takes a key and a greater one, and answers a copy of the range between them.
 fn slices(alloc: Global, words: &[&str], answer: &mut String) -> Result<(), Flaw> {
     let [low, high] = words else {
         return Err(Flaw::Words);
@@ -191,7 +192,8 @@ fn tell_slices(alloc: Global, low: &[u8], high: &[u8], answer: &mut String) -> R
     tell_ok(answer, range)
 }
 
-// The keys behind a prefix that lie in a range, of each kind that the language has.
+// The keys that begin with a prefix and go on with bytes in a range. The range is of any kind that
+// the language has.
 fn range_behind(
     alloc: Global,
     prefix: &[u8],
@@ -211,7 +213,8 @@ fn range_behind(
     Ok(range)
 }
 
-// `behind`: a prefix, the kind of a range of what stands behind it, and two keys, of which the range has those that its kind names.
+// `behind` takes a prefix, a kind of range, and two keys. The range is for the bytes after the
+// prefix, and uses the keys that its kind names.
 fn behind(alloc: Global, words: &[&str], answer: &mut String) -> Result<(), Flaw> {
     let [prefix, kind, low, high] = words else {
         return Err(Flaw::Words);
@@ -229,7 +232,7 @@ fn behind(alloc: Global, words: &[&str], answer: &mut String) -> Result<(), Flaw
     tell_or_none(answer, range)
 }
 
-// `order`: the bounds of two ranges.
+// `order` takes the bounds of two ranges, and answers which comes first.
 fn order(alloc: Global, words: &[&str], answer: &mut String) -> Result<(), Flaw> {
     let [low, high, start, end] = words else {
         return Err(Flaw::Words);
@@ -239,7 +242,7 @@ fn order(alloc: Global, words: &[&str], answer: &mut String) -> Result<(), Flaw>
     Ok(tell_order(answer, one.cmp(&other))?)
 }
 
-// `starts`: two bounds where ranges of numbers start.
+// `starts` takes two bounds at which ranges of numbers start, and answers which comes first.
 fn starts(alloc: Global, words: &[&str], answer: &mut String) -> Result<(), Flaw> {
     let [one, other] = words else {
         return Err(Flaw::Words);
@@ -249,7 +252,7 @@ fn starts(alloc: Global, words: &[&str], answer: &mut String) -> Result<(), Flaw
     Ok(tell_order(answer, one.cmp(&other))?)
 }
 
-// `ends`: two bounds where ranges of numbers end.
+// `ends` takes two bounds at which ranges of numbers end, and answers which comes first.
 fn ends(alloc: Global, words: &[&str], answer: &mut String) -> Result<(), Flaw> {
     let [one, other] = words else {
         return Err(Flaw::Words);
@@ -259,7 +262,7 @@ fn ends(alloc: Global, words: &[&str], answer: &mut String) -> Result<(), Flaw> 
     Ok(tell_order(answer, one.cmp(&other))?)
 }
 
-/// A range of numbers.
+// A range of numbers.
 type Numbers = ComparableRange<u64>;
 
 fn numbers(alloc: Global, low: &str, high: &str) -> Result<Numbers, Flaw> {
@@ -280,7 +283,7 @@ impl Tell for Numbers {
     }
 }
 
-// `room`: the bounds of a range of numbers.
+// `room` takes the bounds of a range of numbers, and answers whether the range is not empty.
 fn room(alloc: Global, words: &[&str], answer: &mut String) -> Result<(), Flaw> {
     let [low, high] = words else {
         return Err(Flaw::Words);
@@ -289,7 +292,7 @@ fn room(alloc: Global, words: &[&str], answer: &mut String) -> Result<(), Flaw> 
     Ok(tell_flag(answer, range.non_empty())?)
 }
 
-// `overlap`: the bounds of two ranges of numbers.
+// `overlap` takes the bounds of two ranges of numbers, and answers their intersection.
 fn overlap(alloc: Global, words: &[&str], answer: &mut String) -> Result<(), Flaw> {
     let [low, high, start, end] = words else {
         return Err(Flaw::Words);
@@ -298,7 +301,7 @@ fn overlap(alloc: Global, words: &[&str], answer: &mut String) -> Result<(), Fla
     tell_or_none(answer, both)
 }
 
-// `union`: the bounds of two ranges of numbers.
+// `union` takes the bounds of two ranges of numbers, and answers their union.
 fn union(alloc: Global, words: &[&str], answer: &mut String) -> Result<(), Flaw> {
     let [low, high, start, end] = words else {
         return Err(Flaw::Words);

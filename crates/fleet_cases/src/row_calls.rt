@@ -10,7 +10,7 @@ use crate::words::{Told, number, told_list};
 use fleet_rows::{KeyValue, ListOf, RowEntry, Ulid, ValueDeletable};
 use std::alloc::{AllocError, Global};
 
-/// Answers a call of this name, if there is one.
+/// Answers the call of this name. Returns false if no call in this file has it.
 pub fn answers(
     alloc: Global,
     name: &str,
@@ -30,7 +30,7 @@ pub fn answers(
     Ok(true)
 }
 
-// A row that a table may hold.
+// The row of a word. It is an error if a table may not hold it.
 fn short_row(alloc: Global, word: &str) -> Result<RowEntry, Flaw>
     ensures { IfOk result (λ row. IsInBounds (row_of row)) }
 {
@@ -42,7 +42,7 @@ fn short_row(alloc: Global, word: &str) -> Result<RowEntry, Flaw>
     }
 }
 
-// `size`: a row.
+// `size` takes a row, and answers its `estimated_size`.
 fn size(alloc: Global, words: &[&str], answer: &mut String) -> Result<(), Flaw> {
     let [word] = words else {
         return Err(Flaw::Words);
@@ -51,7 +51,8 @@ fn size(alloc: Global, words: &[&str], answer: &mut String) -> Result<(), Flaw> 
     Ok(write!(answer, "ok {size}")?)
 }
 
-// `encoded`: a row, and how many bytes of its key stand elsewhere.
+// `encoded` takes a row, and how many bytes of its key are shared with an earlier key. It answers
+// the row's `encoded_size`.
 fn encoded(alloc: Global, words: &[&str], answer: &mut String) -> Result<(), Flaw> {
     let [word, prefix] = words else {
         return Err(Flaw::Words);
@@ -73,7 +74,8 @@ fn tell_content(answer: &mut String, value: &ValueDeletable) -> Result<(), Flaw>
     Ok(value.as_bytes()?.tell(answer)?)
 }
 
-// `content`: a row.
+// `content` takes a row. It answers the length of its value, whether it is empty, whether it is a
+// tombstone, and its bytes.
 fn content(alloc: Global, words: &[&str], answer: &mut String) -> Result<(), Flaw> {
     let [word] = words else {
         return Err(Flaw::Words);
@@ -94,7 +96,7 @@ impl Tell for KeyValue {
     }
 }
 
-// `keyvalue`: a row.
+// `keyvalue` takes a row, and answers what `KeyValue::from_row` makes of it.
 fn key_value(alloc: Global, words: &[&str], answer: &mut String) -> Result<(), Flaw> {
     let [word] = words else {
         return Err(Flaw::Words);
@@ -102,7 +104,7 @@ fn key_value(alloc: Global, words: &[&str], answer: &mut String) -> Result<(), F
     tell_or_none(answer, KeyValue::from_row(RowEntry::told(alloc, word)?))
 }
 
-// `ulid`: a moment and a number.
+// `ulid` takes a moment and a number, and answers them as the id gives them.
 fn ulid(words: &[&str], answer: &mut String) -> Result<(), Flaw> {
     let [moment, word] = words else {
         return Err(Flaw::Words);
@@ -130,7 +132,8 @@ fn numbers(alloc: Global, word: &str) -> Result<ListOf<u64>, Flaw> {
     Ok(ListOf::from_vec(told_list(alloc, word, ',')?))
 }
 
-// `insert`: a place, a number, and the numbers of a list.
+// `insert` takes a place, a number, and a list of numbers. It answers the list with the number
+// inserted.
 fn insert(alloc: Global, words: &[&str], answer: &mut String) -> Result<(), Flaw> {
     let [place, item, list] = words else {
         return Err(Flaw::Words);
@@ -145,7 +148,8 @@ fn insert(alloc: Global, words: &[&str], answer: &mut String) -> Result<(), Flaw
     tell_ok(answer, list)
 }
 
-// `replace`: a place, a number, and the numbers of a list.
+// `replace` takes a place, a number, and a list of numbers. It answers the list with the number
+// replaced.
 fn replace(alloc: Global, words: &[&str], answer: &mut String) -> Result<(), Flaw> {
     let [place, item, list] = words else {
         return Err(Flaw::Words);

@@ -1,4 +1,4 @@
-//! Calls of `fleet_table`: of rows, and of tables and runs made of them.
+//! Calls of `fleet_table` on rows, and on tables and runs made of rows.
 
 use crate::flaw::Flaw;
 use crate::given::tell_given;
@@ -14,7 +14,7 @@ use fleet_table::{
 };
 use std::alloc::{AllocError, Global};
 
-/// Answers a call of this name, if there is one.
+/// Answers the call of this name. Returns false if no call in this file has it.
 pub fn answers(
     alloc: Global,
     name: &str,
@@ -50,7 +50,7 @@ fn answers_of_tables(
     Ok(true)
 }
 
-// `ordered`: rows.
+// `ordered` takes rows, and answers whether they are strictly ordered.
 fn ordered(alloc: Global, words: &[&str], answer: &mut String) -> Result<(), Flaw> {
     let [word] = words else {
         return Err(Flaw::Words);
@@ -59,7 +59,7 @@ fn ordered(alloc: Global, words: &[&str], answer: &mut String) -> Result<(), Fla
     Ok(tell_flag(answer, are_strictly_ordered(&rows))?)
 }
 
-// `fits`: rows.
+// `fits` takes rows, and answers whether they are in bounds.
 fn fits(alloc: Global, words: &[&str], answer: &mut String) -> Result<(), Flaw> {
     let [word] = words else {
         return Err(Flaw::Words);
@@ -68,7 +68,7 @@ fn fits(alloc: Global, words: &[&str], answer: &mut String) -> Result<(), Flaw> 
     Ok(tell_flag(answer, are_in_bounds(&rows))?)
 }
 
-// `least`: rows.
+// `least` takes rows, and answers their least sequence.
 fn least(alloc: Global, words: &[&str], answer: &mut String) -> Result<(), Flaw> {
     let [word] = words else {
         return Err(Flaw::Words);
@@ -78,7 +78,7 @@ fn least(alloc: Global, words: &[&str], answer: &mut String) -> Result<(), Flaw>
     Ok(write!(answer, "ok {seq}")?)
 }
 
-// `table`: the bounds of a range, and the rows of a table.
+// `table` takes the bounds of a range, and the rows of a table. It answers the rows in the range.
 fn table(alloc: Global, words: &[&str], answer: &mut String) -> Result<(), Flaw> {
     let [low, high, word] = words else {
         return Err(Flaw::Words);
@@ -88,7 +88,7 @@ fn table(alloc: Global, words: &[&str], answer: &mut String) -> Result<(), Flaw>
     tell_given(alloc, table.iter(&range), answer)
 }
 
-// `run`: the bounds of a range, and the tables of a run.
+// `run` takes the bounds of a range, and the tables of a run. It answers the rows in the range.
 fn run(alloc: Global, words: &[&str], answer: &mut String) -> Result<(), Flaw> {
     let [low, high, word] = words else {
         return Err(Flaw::Words);
@@ -106,7 +106,7 @@ impl Tell for BlockMeta {
     }
 }
 
-// `blocks`: the rows of a table.
+// `blocks` takes the rows of a table, and answers its blocks.
 fn blocks(alloc: Global, words: &[&str], answer: &mut String) -> Result<(), Flaw> {
     let [word] = words else {
         return Err(Flaw::Words);
@@ -116,14 +116,15 @@ fn blocks(alloc: Global, words: &[&str], answer: &mut String) -> Result<(), Flaw
     Ok(tell_list(answer, table.index(), ',')?)
 }
 
-// The view of a table under an id of its own.
+// The view of a table under the table's own id.
 fn view_of(alloc: Global, word: &str) -> Result<SsTableView, Flaw> {
     let table = TableData::told(alloc, word)?;
     let handle = table.describe(Ulid::from_parts(0, 1))?;
     Ok(SsTableView::identity(handle)?)
 }
 
-/// How many rows a table has, its size, its first and its last key, the sequence of its last row, and its blocks.
+// A description is printed as the number of rows, the size, the first and the last key, the
+// sequence of the last row, and the blocks.
 impl Tell for SsTableHandle {
     fn tell(&self, answer: &mut String) -> Result<(), AllocError> {
         let rows = self.rows;
@@ -138,7 +139,7 @@ impl Tell for SsTableHandle {
     }
 }
 
-// `describe`: the rows of a table.
+// `describe` takes the rows of a table, and answers its description.
 fn describe(alloc: Global, words: &[&str], answer: &mut String) -> Result<(), Flaw> {
     let [word] = words else {
         return Err(Flaw::Words);
@@ -147,7 +148,7 @@ fn describe(alloc: Global, words: &[&str], answer: &mut String) -> Result<(), Fl
     tell_ok(answer, table.describe(Ulid::from_parts(0, 1))?)
 }
 
-// `last`: the rows of a table.
+// `last` takes the rows of a table. It answers the key and the sequence of the last row.
 fn last(alloc: Global, words: &[&str], answer: &mut String) -> Result<(), Flaw> {
     let [word] = words else {
         return Err(Flaw::Words);
@@ -170,7 +171,8 @@ impl Tell for &RowEntry {
     }
 }
 
-// `newest`: a key, a sequence, and the rows of a table.
+// `newest` takes a key, a sequence, and the rows of a table. It answers the newest row of the key
+// up to the sequence.
 fn newest(alloc: Global, words: &[&str], answer: &mut String) -> Result<(), Flaw> {
     let [key, seq, word] = words else {
         return Err(Flaw::Words);
@@ -182,7 +184,7 @@ fn newest(alloc: Global, words: &[&str], answer: &mut String) -> Result<(), Flaw
     tell_or_none(answer, row)
 }
 
-// `keys`: the rows of a table.
+// `keys` takes the rows of a table. It answers the range from the first key to the last.
 fn keys(alloc: Global, words: &[&str], answer: &mut String) -> Result<(), Flaw> {
     let [word] = words else {
         return Err(Flaw::Words);
@@ -209,7 +211,8 @@ fn tell_sizes(answer: &mut String, run: &SortedRun) -> Result<(), AllocError> {
     write!(answer, "{size}")
 }
 
-// `sizes`: the tables of a run, whose sizes are told, and then that of the run.
+// `sizes` takes the tables of a run. It answers the size of each table, and then the size of the
+// run.
 fn sizes(alloc: Global, words: &[&str], answer: &mut String) -> Result<(), Flaw> {
     let [word] = words else {
         return Err(Flaw::Words);

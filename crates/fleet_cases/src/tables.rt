@@ -1,4 +1,4 @@
-//! Tables, runs and descriptions of tables as words tell them.
+//! Tables, runs and descriptions of tables that are read from words.
 
 use crate::flaw::Flaw;
 use crate::told::rows;
@@ -24,7 +24,7 @@ impl Told for TableData {
     }
 }
 
-/// The tables of a run have `;` between them.
+// The word of a run has `;` between its tables. `-` is a run without tables.
 impl Told for RunData {
     fn told(alloc: Global, word: &str) -> Result<RunData, Flaw> {
         let mut run = RunData::new(alloc);
@@ -44,7 +44,7 @@ impl Told for BlockMeta {
     }
 }
 
-// A view of a table with these keys.
+// A view of a table with this id, these keys, this size and these blocks.
 fn view_of(
     id: u64,
     first_key: Bytes,
@@ -66,12 +66,12 @@ fn view_of(
     })?)
 }
 
-/// A view of a table of which only the id matters.
+/// A view of a table with this id. Nothing else about the table matters.
 pub fn named_view(alloc: Global, id: u64) -> Result<SsTableView, Flaw> {
     view_of(id, Bytes::new(), Bytes::new(), 0, BlockList::new(alloc))
 }
 
-// A view of a table with these blocks, whose last key is where the last block begins.
+// A view of a table with these blocks. Its last key is the first key of the last block.
 fn view_of_blocks(size: u64, blocks: BlockList) -> Result<SsTableView, Flaw> {
     let (Some(first), Some(last)) = (blocks.as_slice().first(), blocks.as_slice().last()) else {
         return Err(Flaw::Order);
@@ -81,7 +81,7 @@ fn view_of_blocks(size: u64, blocks: BlockList) -> Result<SsTableView, Flaw> {
     view_of(0, first_key, last_key, size, blocks)
 }
 
-/// The size of a table and its blocks, with `=` between.
+// The word of a table's description is its size and its blocks, with `=` between them.
 impl Told for SsTableView {
     fn told(alloc: Global, word: &str) -> Result<SsTableView, Flaw> {
         let Some((size, blocks)) = word.split_once('=') else {
@@ -93,7 +93,7 @@ impl Told for SsTableView {
     }
 }
 
-/// The descriptions of a run's tables have `;` between them.
+// The word of a run has `;` between the descriptions of its tables.
 impl Told for SortedRun {
     fn told(alloc: Global, word: &str) -> Result<SortedRun, Flaw> {
         let views = ViewList::from_vec(alloc, told_list(alloc, word, ';')?)?;

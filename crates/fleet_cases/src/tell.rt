@@ -1,4 +1,4 @@
-//! Answers as they are printed.
+//! Printing of answers.
 
 use crate::flaw::Flaw;
 use bytes::Bytes;
@@ -8,18 +8,18 @@ use std::cmp::Ordering;
 use std::fmt;
 use std::ops::Bound;
 
-/// What can stand in an answer.
+/// What can be printed in an answer.
 pub trait Tell {
     fn tell(&self, answer: &mut String) -> Result<(), AllocError>;
 }
 
-/// `ok` and the item.
+/// Appends `ok` and the item.
 pub fn tell_ok<T: Tell + Drop>(answer: &mut String, item: T) -> Result<(), Flaw> {
     answer.push_str("ok ")?;
     Ok(item.tell(answer)?)
 }
 
-/// `ok` and the item, or `none`.
+/// Appends `ok` and the item, or `none`.
 pub fn tell_or_none<T: Tell + Drop>(answer: &mut String, item: Option<T>) -> Result<(), Flaw> {
     match item {
         Some(item) => tell_ok(answer, item),
@@ -27,12 +27,12 @@ pub fn tell_or_none<T: Tell + Drop>(answer: &mut String, item: Option<T>) -> Res
     }
 }
 
-/// `ok` and a text.
+/// Appends `ok` and a text.
 pub fn tell_text<T: fmt::Display + Drop>(answer: &mut String, item: T) -> Result<(), Flaw> {
     Ok(write!(answer, "ok {item}")?)
 }
 
-/// The items with a mark between them, `-` where there are none.
+/// Appends the items with a mark between them, or `-` if there are none.
 pub fn tell_list<T: Tell>(answer: &mut String, items: &[T], mark: char) -> Result<(), AllocError> {
     let [first, rest @ ..] = items else {
         return answer.push('-');
@@ -45,7 +45,7 @@ pub fn tell_list<T: Tell>(answer: &mut String, items: &[T], mark: char) -> Resul
     Ok(())
 }
 
-/// The item, or `none`.
+// An item that may be missing is printed as itself or as `none`.
 impl<T: Tell> Tell for Option<T> {
     fn tell(&self, answer: &mut String) -> Result<(), AllocError> {
         match self {
@@ -61,7 +61,7 @@ impl Tell for u64 {
     }
 }
 
-/// A stamp, or `-` where there is none.
+/// Appends a stamp, or `-` if there is none.
 pub fn tell_stamp(answer: &mut String, stamp: Option<i64>) -> Result<(), AllocError> {
     match stamp {
         Some(stamp) => write!(answer, "{stamp}"),
@@ -135,7 +135,7 @@ impl Tell for Bytes {
     }
 }
 
-/// `*`, or `i` or `x` and the key.
+/// Appends a bound: `*` for none, `i` and an included key, or `x` and an excluded key.
 pub fn tell_bound<K: Tell>(answer: &mut String, bound: &Bound<K>) -> Result<(), AllocError> {
     match bound {
         Bound::Included(key) => {

@@ -1,5 +1,6 @@
-//! Rows and bounds as words tell them. A row is its key, a value (v), an operand (m) or that it is deleted (t), the bytes, the
-//! sequence and two stamps, with `:` between them.
+//! Rows and bounds that are read from words. The word of a row has `:` between its key, kind,
+//! bytes, sequence, stamp of creation and stamp of expiry. The kind is `v` for a value, `m` for an
+//! operand, and `t` for a tombstone.
 
 use crate::flaw::Flaw;
 use crate::words::{Told, bytes, number, parts, told_if_any, told_list};
@@ -8,7 +9,7 @@ use fleet_rows::{RowEntry, ValueDeletable};
 use std::alloc::{AllocError, Global};
 use std::ops::Bound;
 
-/// A value, an operand, or that the key is deleted.
+/// The value, operand or tombstone of this kind. A tombstone has no bytes.
 pub fn content(kind: &str, bytes: Bytes) -> Result<ValueDeletable, Flaw> {
     match kind {
         "v" => Ok(ValueDeletable::Value(bytes)),
@@ -41,8 +42,8 @@ pub fn rows(alloc: Global, word: &str) -> Result<Vec<RowEntry>, Flaw> {
     told_list(alloc, word, ',')
 }
 
-/// The words of sources: those of tables, the newest first, and behind `/` those of runs, each with `|` between them. A level whose
-/// word is empty has none.
+/// The words of sources: tables of level 0, newest first, and after a `/` runs. There is a `|`
+/// between two sources. A side that is empty has no sources.
 pub fn source_words<'a>(alloc: Global, word: &'a str) -> Result<Vec<&'a str>, AllocError> {
     let mut words = Vec::new(alloc);
     'levels: for level in word.split('/') {
@@ -60,7 +61,7 @@ fn add_level<'a>(words: &mut Vec<&'a str>, level: &'a str) -> Result<(), AllocEr
     Ok(())
 }
 
-/// `*`, or `i` or `x` and a key that is included or excluded.
+/// A bound: `*` for none, `i` and an included key, or `x` and an excluded key.
 pub fn bound<K: Told>(alloc: Global, word: &str) -> Result<Bound<K>, Flaw> {
     if word == "*" {
         return Ok(Bound::Unbounded);

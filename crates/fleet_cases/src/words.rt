@@ -1,24 +1,24 @@
-//! Numbers and bytes as words tell them. `-` stands for no bytes, and for what is not there.
+//! Numbers and bytes that are read from words. `-` is no bytes, or an item that is missing.
 
 use crate::flaw::Flaw;
 use bytes::Bytes;
 use hex::FromHexError;
 use std::alloc::{AllocError, Global};
 
-/// Repeated bytes are no more than this.
+// Bytes are repeated only while there are fewer than this.
 const MOST_BYTES: usize = 1 << 20;
 
-/// What a word can tell.
+/// What can be read from a word.
 pub trait Told: Sized {
     fn told(alloc: Global, word: &str) -> Result<Self, Flaw>;
 }
 
-/// The parts of a word between the marks.
+/// The parts of a word between marks.
 pub fn parts<'a>(alloc: Global, word: &'a str, mark: char) -> Result<Vec<&'a str>, AllocError> {
     word.split(mark).collect(alloc)
 }
 
-/// What the parts of a word tell, none where it is `-`.
+/// The items that are read from the parts of a word between marks. `-` is no items.
 pub fn told_list<T: Told + Drop>(alloc: Global, word: &str, mark: char) -> Result<Vec<T>, Flaw> {
     let mut items = Vec::new(alloc);
     if word != "-" {
@@ -29,7 +29,7 @@ pub fn told_list<T: Told + Drop>(alloc: Global, word: &str, mark: char) -> Resul
     Ok(items)
 }
 
-/// What a word tells, None where it is the one for what is not there.
+/// The item that is read from a word. None if the word equals `none`, the word for a missing item.
 pub fn told_if_any<T: Told>(alloc: Global, word: &str, none: &str) -> Result<Option<T>, Flaw> {
     if word == none {
         return Ok(None);
@@ -37,7 +37,7 @@ pub fn told_if_any<T: Told>(alloc: Global, word: &str, none: &str) -> Result<Opt
     Ok(Some(T::told(alloc, word)?))
 }
 
-/// What the two parts of a word around the first `:` tell.
+/// The two items that are read from a word, before and after its first `:`.
 pub fn told_pair<A: Told + Drop, B: Told>(alloc: Global, word: &str) -> Result<(A, B), Flaw> {
     let Some((first, second)) = word.split_once(':') else {
         return Err(Flaw::Pair);
@@ -78,7 +78,7 @@ pub fn stamp(word: &str) -> Result<i64, Flaw> {
     word.parse::<i64>().map_err(|_| Flaw::Number)
 }
 
-/// Whether the word is `1` and not `0`.
+/// True for the word `1`, false for `0`. Any other word is an error.
 pub fn flag(word: &str) -> Result<bool, Flaw> {
     match word {
         "0" => Ok(false),
@@ -87,7 +87,7 @@ pub fn flag(word: &str) -> Result<bool, Flaw> {
     }
 }
 
-/// Bytes in hex, which `*` and a number behind them repeat.
+/// Bytes in hexadecimal digits. A `*` and a number after them repeat the bytes. `-` is no bytes.
 pub fn bytes(alloc: Global, word: &str) -> Result<Bytes, Flaw> {
     if word == "-" {
         return Ok(Bytes::new());

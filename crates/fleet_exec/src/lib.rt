@@ -1,4 +1,5 @@
-//! Ranges of a job, made of its sources: table by table, and taken up again behind any row.
+//! Making the ranges of a job from its sources, table by table. A range may be resumed after any
+//! row.
 #![tactic(auto)]
 
 mod finish;
@@ -15,12 +16,3 @@ pub use gate::{OpenGate, RangeGate};
 pub use range_job::{RangeJob, RangeTables, SourceSet};
 pub use sources::are_sources;
 pub use tables::next_table;
-
-#[cfg(test)]
-mod test_cases;
-#[cfg(test)]
-mod test_sources;
-#[cfg(test)]
-mod test_text;
-#[cfg(test)]
-mod tests;

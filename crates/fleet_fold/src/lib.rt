@@ -1,4 +1,4 @@
-//! What a compaction does to the rows of a key: operators that merge operands, retention, and filters.
+//! What a compaction does to rows: operators that merge operands, retention, and filters.
 #![tactic(auto)]
 
 mod append;
@@ -25,18 +25,3 @@ pub use merging::MergeOperatorIterator;
 pub use operator::{BatchMerger, MERGE_OPERATOR_OPERANDS, MergeOperator};
 pub use required::MergeOperatorRequiredIterator;
 pub use retention::RetentionIterator;
-
-#[cfg(test)]
-mod filter_tests;
-#[cfg(test)]
-mod job_cases;
-#[cfg(test)]
-mod job_tests;
-#[cfg(test)]
-mod merging_tests;
-#[cfg(test)]
-mod test_operators;
-#[cfg(test)]
-mod test_text;
-#[cfg(test)]
-mod tests;

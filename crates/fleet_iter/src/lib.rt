@@ -1,5 +1,5 @@
-//! Iterators over rows: lists, merges that give the rows of several iterators in order, and adapters that look at the next row
-//! or take the rows up again behind a cursor.
+//! Iterators over rows: lists, merges that give the rows of several iterators in order, and
+//! adapters that look at the next row or resume after a cursor.
 #![tactic(auto)]
 
 mod boxes;
@@ -22,6 +22,3 @@ pub use peeking::PeekingIterator;
 pub use resuming::{ResumingIterator, resumes_behind};
 pub use rising::{are_rising, ordered_rows_rise};
 pub use tracked::TrackedRowEntryIterator;
-
-#[cfg(test)]
-mod tests;

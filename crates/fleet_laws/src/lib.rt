@@ -1,5 +1,5 @@
-//! Laws on the fleet: each call has an empty body, and its clause is a law about the stored objects, the calls of a
-//! store or an attempt's own words.
+//! Laws on the fleet. Each function has an empty body, and its clause states a law about the stored
+//! objects, the calls of a store, or the outputs and cuts of attempts.
 #![tactic(auto)]
 
 ghost use Rattle.std.specs.Prelude.{ℕ, List};
@@ -17,58 +17,67 @@ ghost use Rattle.fleet_laws.specs.Reads.{ReplacementsAddUp, StoresAnswerReads};
 ghost use Rattle.fleet_laws.specs.Sweeps.{SweepIsExact};
 ghost use Rattle.fleet_laws.specs.Swept.{Sweeps, swept_store};
 
-/// A fresh store with no live party meets the invariant of the fleet, so it holds before the first line of a script.
+/// A fresh store with no live party meets the fleet's invariant, so the invariant holds before the
+/// first line of a script.
 pub fn fresh_fleet_fits()
     ensures { (merge : Operator) → FreshFleetFits merge }
 {}
 
-/// A fleet in the midst of a job meets the invariant too: a flush of three versions of a key is stored, a worker runs a
-/// job over it, it has put a table with the first two, and a heartbeat has published that table. So the invariant asks
-/// nothing that cannot be.
+/// A fleet in the midst of a job meets the invariant too. A flush of three versions of a key is
+/// stored, and a worker runs a job over it. The worker has put a table with the first two versions,
+/// and a heartbeat has published that table. So the invariant can be met while a job runs.
 pub fn midway_fits()
     ensures { FleetInvariant append midway_store midway_parties }
 {}
 
-/// Replacements of rows that change no read add up: newer and older rows of a key may both be replaced, and a
-/// replacement may be replaced again. This is why many nodes may become one, node by node.
+/// Replacements of rows that change no read add up: newer and older rows of a key may both be
+/// replaced, and a replacement may be replaced again. So several nodes may become one, node by
+/// node.
 pub fn replacements_add_up()
-    ensures { (merge : Operator) (manifest : Manifest) (key : List ℕ) → ReplacementsAddUp merge manifest key }
+    ensures { (merge : Operator) (manifest : Manifest) (key : List ℕ)
+        → ReplacementsAddUp merge manifest key }
 {}
 
-/// A store that meets the invariant answers every read, from its horizon and tick on, as if all rows that were ever
-/// flushed into its nodes still stood there: what compactions have dropped is seen by no read.
+/// A store that meets the invariant answers every read, from its horizon and tick on, as if its
+/// nodes still had all rows that were ever flushed into them. No such read sees what compactions
+/// dropped.
 pub fn stores_answer_reads()
     ensures { (merge : Operator) → StoresAnswerReads merge }
 {}
 
-/// A put of a version that is no longer stored changes nothing where a fault strikes it, and the history says Lost,
-/// also where the fault lets puts stand.
+/// A put of a version that is not the stored one changes nothing if a fault strikes it. The history
+/// then has Lost as its answer, even if the fault lets puts stand.
 pub fn old_puts_are_lost()
-    ensures { (line : ℕ) (party : Party) (version : ℕ) (store : Store) → OldPutsAreLost line party version store }
+    ensures { (line : ℕ) (party : Party) (version : ℕ) (store : Store)
+        → OldPutsAreLost line party version store }
 {}
 
-/// Where the tables that a worker noted for a range begin what the range makes, then what its source tables make after
-/// the last noted row is exactly what the attempt has left to write.
+/// If the tables that a worker noted for a range hold the first rows that the range makes, the
+/// worker can go on after the last noted row. What the source tables make there is exactly what the
+/// attempt has left to write.
 pub fn outputs_make_what_is_left()
     ensures { (merge : Operator) → OutputsMakeWhatIsLeft merge }
 {}
 
-/// A claim's cut is at most the floor, whatever the release of its worker. Under a retention the cut of a worker of
-/// release 2 is also at most the sequence before the least one of every flush that came within the retention, so that
-/// what could be read before that flush can be read still. Before sequence 0 there is none: the cut is 0 then.
+/// A claim's cut is at most the floor, whatever the release of its worker. Under a retention, the
+/// cut of a worker of release 2 is also at most the sequence before the least one of each flush
+/// within the retention. So what could be read before that flush can still be read. If the least
+/// sequence is 0, the cut is 0.
 pub fn cuts_are_low()
-    ensures low { (manifest : Manifest) (moment retention : ℕ) → CutsAreLow manifest moment retention }
+    ensures low { (manifest : Manifest) (moment retention : ℕ)
+        → CutsAreLow manifest moment retention }
     ensures midway { MidwayCuts }
 {}
 
-/// A sweep deletes exactly the held tables that no node of a tree names, that no active job names in its context or its
-/// outputs, and that are not pinned.
+/// A sweep deletes exactly the held tables that are not pinned, that no node of a tree names, and
+/// that no active job names in its context or its outputs.
 pub fn sweeps_are_exact()
     ensures { (pins : List ℕ) (store : Store) → SweepIsExact pins store }
 {}
 
-/// The fleet of `midway_fits` meets the invariant later too: its job's run has been joined, the put of the records was
-/// lost, and a sweep has deleted the flush's table. Before the join a sweep finds nothing to delete.
+/// The fleet of `midway_fits` meets the invariant later too. Its job's run was joined, the put of
+/// the records was lost, and a sweep deleted the flush's table. Before the join a sweep finds
+/// nothing to delete.
 pub fn swept_fits()
     ensures fits { FleetInvariant append swept_store nobody }
     ensures sweeps { Sweeps }

@@ -1,4 +1,4 @@
-//! How the keys of a job are cut into ranges that can be made side by side.
+//! Planning of ranges: the keys of a job are cut into ranges that can be compacted side by side.
 #![tactic(auto)]
 
 mod anchor;
@@ -10,6 +10,3 @@ pub use anchor::{Anchor, MAX_ANCHORS_PER_SST, sample_anchors};
 pub use boundaries::select_boundaries;
 pub use plan::plan_subcompaction_ranges;
 pub use subcompaction::Subcompaction;
-
-#[cfg(test)]
-mod tests;

@@ -1,4 +1,5 @@
-//! Bounds of ranges in their orders, ranges of any ordered keys, and ranges of byte strings.
+//! Starts and ends of ranges in their orders, ranges of keys of any ordered type, and ranges of
+//! byte strings.
 #![tactic(auto)]
 
 mod byte_bounds;
@@ -13,6 +14,3 @@ pub use bytes_range::BytesRange;
 pub use comparable_range::ComparableRange;
 pub use end_bound::EndBound;
 pub use start_bound::StartBound;
-
-#[cfg(test)]
-mod tests;

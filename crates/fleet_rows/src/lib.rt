@@ -1,4 +1,5 @@
-//! Rows as tables hold them, the ids of tables and jobs, lists that contracts see as lists, and the errors of the fleet.
+//! Rows as tables store them, ids of tables and jobs, lists and texts that contracts can see, the
+//! settings of a compaction, and the errors of the fleet.
 #![tactic(auto)]
 
 mod copies;
@@ -17,7 +18,4 @@ pub use list::{JobList, ListOf, PlaceList, RuleList};
 pub use row::{RowEntry, ValueDeletable};
 pub use settings::Settings;
 pub use text::Text;
-pub use ulid::Ulid;
-
-#[cfg(test)]
-mod tests;
+pub use ulid::{DRAWN_BASE, Ulid};

@@ -1,4 +1,4 @@
-//! The fleet's script as it runs, and the program but for its standard streams.
+//! Runs scripts on a fleet. It has the whole program except the standard streams.
 #![tactic(auto)]
 
 mod answer;

@@ -31,6 +31,3 @@ pub use tracker::{Tracked, least_seq};
 pub use tree::{LsmTreeState, merge_from_writer};
 pub use trees::{Trees, TreesWithPrefix};
 pub use view::SsTableView;
-
-#[cfg(test)]
-mod tests;

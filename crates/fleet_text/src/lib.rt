@@ -1,4 +1,4 @@
-//! Scripts as text: the reader of their lines, and replies as they are printed.
+//! Reads scripts from text, and prints replies.
 #![tactic(auto)]
 
 mod error;

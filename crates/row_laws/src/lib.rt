@@ -1,9 +1,10 @@
-//! Laws on rows: each call has an empty body, and its clause is a law about what a compaction makes of rows. A caller
-//! takes a law by calling it. The statements stand in specs/.
+//! Laws on rows. Each function has an empty body, and its clause states a law about what a
+//! compaction job makes of rows. A caller uses a law by calling its function. The statements are in
+//! specs/.
 //!
-//! A job is what a compaction makes of its sources' rows. It is whole where the merge operator refuses no fold. Its cut
-//! is the sequence at or below which it folds operands and drops older versions. Rows are ordered where keys rise and,
-//! within a key, sequences fall.
+//! A job is what a compaction makes of its sources' rows. It is whole if the merge operator refuses
+//! no fold. Its cut is the sequence at or below which it folds operands and drops older versions.
+//! Rows are strictly ordered if keys rise and, within a key, sequences fall.
 #![tactic(auto)]
 
 mod folding;

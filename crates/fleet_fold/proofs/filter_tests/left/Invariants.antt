@@ -1,7 +1,0 @@
-use Rattle.std.specs.Prelude.{⊤}
-use Rattle.fleet_iter.specs.List.{giving}
-use Rattle.fleet_fold.specs.FilterState.{IsSound}
-use Rattle.fleet_fold.proofs.filter_tests.left.Given as goal
-
-abbrev pub invariant-rows : goal.invariant-rows
-invariant-rows g l = IsSound (λ _. ⊤) giving g.F.CompactionFilter.is_closed l.source

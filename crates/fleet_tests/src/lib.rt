@@ -1,0 +1,23 @@
+//! Tests of what the cases of `fleet_cases` cannot show: iterators that fail after some rows,
+//! iterators in boxes, and calls that come too early. There are also tests of copies, of printed
+//! texts and of hashes.
+#![tactic(auto)]
+
+#[cfg(test)]
+mod boxes;
+#[cfg(test)]
+mod failing;
+#[cfg(test)]
+mod failures;
+#[cfg(test)]
+mod looks;
+#[cfg(test)]
+mod parts;
+#[cfg(test)]
+mod ranges;
+#[cfg(test)]
+mod tables;
+#[cfg(test)]
+mod told;
+#[cfg(test)]
+mod values;
