@@ -1,4 +1,5 @@
--- What a job makes of rows in bounds is in bounds, and so are the rows of a range.
+-- What a job makes of rows in bounds is in bounds. The rows of a range are in bounds if its sources' rows
+-- are.
 use Rattle.std.proofs.Common.{◌≡◌, sym, refl, subst, ℕ, ℤ, ◌<◌, ◌^◌, List, [], ◌∷◌, map, length, Bool, true, false, Option, Some, None, arith}
 use Rattle.std.specs.Prelude.{flat_map, option_map, if◌then◌else◌, ⊤}
 use Rattle.std.specs.List.{AllByRecursion}
@@ -27,7 +28,7 @@ use Rattle.fleet_exec.proofs.Opened.{flat_in}
 abbrev AreInBounds : List Row → Type 0
 AreInBounds rows = AllByRecursion IsInBounds rows
 
--- a row that becomes a tombstone stays in bounds
+-- A row in bounds that becomes a tombstone stays in bounds.
 bounds_stay : (tick : ℤ) (r : Row) → IsInBounds r → IsInBounds (as_tombstone_if_expired tick r)
 bounds_stay tick r h = by (is_expired r tick)
   where
@@ -141,7 +142,7 @@ module _ (merge : Operator) (lawful : IsLawful merge) where
       by None later is rest = tt
       by (Some kept) later is rest = all-both IsInBounds bounds_stay kept later.rows (key_bounds settings (elements g) kept h.0 is) rest
 
--- what a job makes of rows in bounds is in bounds
+-- If rows are in bounds, so is what a job makes of them.
 pub job_bounds : (merge : Operator) → IsLawful merge → (settings : Settings) (rows : List Row) → AllByRecursion IsInBounds rows → AllByRecursion IsInBounds (job_rows merge settings rows).rows
 job_bounds merge lawful settings rows h = keys_bounds merge lawful settings (chunk_by same_key rows) (chunk_bounds same_key rows h)
 
@@ -164,7 +165,7 @@ merged_bounds range sources h =
     sorted_bounds (flat_map (λ rows. rows) (ranged range sources))
     (subst AreInBounds (sym (flat_in range sources)) (all_filter IsInBounds (λ r. is_in_range range r.key) (flat_map source_rows sources) h))
 
--- and so are the rows of a range of sources in bounds, from a cursor's key on
+-- If the sources' rows are in bounds, so are their rows in a range from a cursor's key on.
 pub range_bounds : (range : Range) (cursor : Option Cursor) (sources : List (List (List Row))) → AllByRecursion IsInBounds (flat_map source_rows sources) → AllByRecursion IsInBounds (rows_from range cursor sources)
 range_bounds range None sources h = merged_bounds range sources h
 range_bounds range (Some cursor) sources h = from_bounds cursor.0 (merged_rows (ranged range sources)) (merged_bounds range sources h)

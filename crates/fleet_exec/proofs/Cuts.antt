@@ -1,4 +1,4 @@
--- A table that is filled row by row.
+-- A table is filled row by row.
 use Rattle.std.proofs.Common.{◌≡◌, ◌≢◌, ◌∙◌, sym, refl, ap, subst, ℕ, ◌+◌, ◌<◌, List, [], ◌∷◌, ◌++◌, length, Bool, true, false, Option, Some, append-nil, arith}
 use Rattle.std.specs.Prelude.{flat_map, nat_lt, if◌then◌else◌}
 use Rattle.std.specs.List.{AllByRecursion}
@@ -16,12 +16,12 @@ use Rattle.fleet_rows.specs.declared.row.RowEntry.{RowEntry}
 use Rattle.fleet_exec.specs.Cut.{open_with, before_tables, TakesTable}
 use Rattle.fleet_exec.specs.Taking.{left_behind, ReadsOn, Takes}
 
--- a row that is taken is the first that is left
+-- If one row is taken, it is the first of the rows left.
 pub first_left : (cursor : Option Cursor) (old new : IteratorState) (o : Option RowEntry) (row : RowEntry) → Takes 1 cursor old (option_to_list o) new → o ≡ Some row
     → left_behind cursor old.rows ≡ row_of row ∷ left_behind cursor new.rows
 first_left cursor old new o row takes is = takes.rows ∙ ap (λ (o : Option RowEntry). rows_of (option_to_list o) ++ left_behind cursor new.rows) is
 
--- reading, and reading on
+-- Reading rows and then further rows is reading rows.
 pub reads_further : {a b c : IteratorState} → ReadsOn a b → ReadsOn b c → ReadsOn a c
 reads_further first second = record { readable = second.readable; whole = second.whole ∙ first.whole; refusal = second.refusal ∙ first.refusal }
 
@@ -53,7 +53,7 @@ module _ (size : ℕ) where
   rows-snoc : (table : List RowEntry) (row : RowEntry) → rows_of (table ++ row ∷ []) ≡ rows_of table ++ row_of row ∷ []
   rows-snoc table row = map-append row_of table (row ∷ [])
 
-  -- a row that leaves room
+  -- A row that leaves room in the table keeps what was known of the tables.
   pub goes_on : (filled : ℕ) (table all : List RowEntry) (row : RowEntry) (left rest : List Row) (tables : List (List Row)) → left ≡ row_of row ∷ rest → all ≡ table ++ row ∷ []
       → false ≡ nat_lt size (filled + estimated_size (row_of row)) → tables ≡ open_with (rows_of table) (cut_from size filled left)
       → tables ≡ open_with (rows_of all) (cut_from size (filled + estimated_size (row_of row)) rest)
@@ -64,7 +64,7 @@ module _ (size : ℕ) where
       ∙ (sym (open_snoc (rows_of table) (row_of row) (cut_from size (filled + estimated_size (row_of row)) rest))
       ∙ ap (λ (w : List Row). open_with w (cut_from size (filled + estimated_size (row_of row)) rest)) (sym (ap (λ (w : List RowEntry). rows_of w) more ∙ rows-snoc table row)))))
 
-  -- a row that fills the table
+  -- A row that fills the table ends it.
   pub ends_full : (filled : ℕ) (table all : List RowEntry) (row : RowEntry) (left rest : List Row) (tables : List (List Row)) → left ≡ row_of row ∷ rest → all ≡ table ++ row ∷ []
       → true ≡ nat_lt size (filled + estimated_size (row_of row)) → tables ≡ open_with (rows_of table) (cut_from size filled left)
       → tables ≡ before_tables (rows_of all) (cut_tables size rest)
@@ -76,7 +76,7 @@ module _ (size : ℕ) where
       ∙ (before_some (rows_of table) (row_of row) (cut_from size 0 rest)
       ∙ ap (λ (w : List Row). before_tables w (cut_from size 0 rest)) (sym (ap (λ (w : List RowEntry). rows_of w) more ∙ rows-snoc table row))))))
 
-  -- no row is left
+  -- If no row is left, the table ends.
   pub ends_last : (filled : ℕ) (table : List RowEntry) (left rest : List Row) (tables : List (List Row)) → left ≡ [] → rest ≡ [] → tables ≡ open_with (rows_of table) (cut_from size filled left) → tables ≡ before_tables (rows_of table) (cut_tables size rest)
   ends_last filled table left rest tables none same so_far =
       so_far

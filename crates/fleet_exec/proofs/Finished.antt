@@ -1,4 +1,4 @@
--- Ranges finished one after the other.
+-- Ranges are finished one after the other.
 use Rattle.std.proofs.Common.{◌≡◌, ◌∙◌, sym, ap, subst, ℕ, ◌+◌, ◌<◌, zero, suc, List, [], ◌∷◌, ◌++◌, map, take, drop, length, get_or, true, arith}
 use Rattle.std.specs.List.{AllByRecursion}
 use Rattle.std.proofs.lemmas.List.{map-append, take_more}
@@ -7,8 +7,8 @@ use Rattle.row_model.specs.Rows.{Row}
 use Rattle.row_model.specs.Tables.{cut_tables}
 use Rattle.fleet_range.specs.Keys.{range_of}
 use Rattle.fleet_rows.specs.declared.errors.SlateDBError.{SlateDBError}
-use Rattle.fleet_exec.specs.Cut.{IsFinished, RefusesRangeUnless, AreFinished, RefusesFirstUnless, made_of}
-use Rattle.fleet_exec.specs.Ranges.{rows_from}
+use Rattle.fleet_exec.specs.Cut.{IsFinished, RefusesRangeUnless, AreFinished, RefusesFirstUnless}
+use Rattle.fleet_exec.specs.Ranges.{made_of, rows_from}
 use Rattle.fleet_exec.specs.declared.range_job.RangeJob.{RangeJob}
 
 all_snoc : {A : Type 0} (P : A → Type 0) (xs : List A) (x : A) → AllByRecursion P xs → P x → AllByRecursion P (xs ++ x ∷ [])

@@ -1,4 +1,4 @@
--- The ranges of a plan that one call finishes.
+-- One call finishes the ranges of a plan.
 use Rattle.std.proofs.Common.{◌≡◌, ◌∙◌, sym, refl, ap, subst, ℕ, List, [], ◌∷◌, map, true, Option, None}
 use Rattle.std.specs.List.{AllByRecursion}
 use Rattle.row_model.specs.Fold.{Operator}
@@ -10,8 +10,7 @@ use Rattle.row_model.specs.Tables.{cut_tables}
 use Rattle.row_laws.specs.Resume.{Cursor, cursor_after}
 use Rattle.row_laws.specs.Turns.{AreCut}
 use Rattle.fleet_range.specs.Keys.{range_of}
-use Rattle.fleet_exec.specs.Cut.{made_of}
-use Rattle.fleet_exec.specs.Ranges.{left_of}
+use Rattle.fleet_exec.specs.Ranges.{left_of, made_of}
 use Rattle.fleet_exec.specs.Turns.{BegunRange, IsBegun, RangeTurns, AreMade, rows_of_all, finished_at, FinishMakesJob}
 use Rattle.fleet_exec.proofs.Turns.{ranges_make_job}
 
@@ -22,7 +21,7 @@ module _ (merge : Operator) (settings : Settings) (sources : List (List (List Ro
   abbrev L : BegunRange → JobRows
   L b = left_of merge settings (range_of b.job.range) (cursor_after None (rows_of_all b.taken)) sources
 
-  -- what the call makes of a range is what is left behind the tables that were taken of it
+  -- What the call makes of a range is what is left after the tables that were taken of it.
   left_is : (b : BegunRange) → IsBegun merge settings sources b → made_of merge sources b.job ≡ L b
   left_is b h =
       ap (λ (s : Settings). left_of merge s (range_of b.job.range) b.job.cursor sources) h.same

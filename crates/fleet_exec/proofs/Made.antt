@@ -1,4 +1,4 @@
--- What is taken of a range is what a job makes of it.
+-- The rows taken of a range are rows that a job makes of it.
 use Rattle.std.proofs.Common.{◌≡◌, ◌≢◌, ◌∙◌, sym, refl, ap, subst, ℕ, zero, suc, ◌≤◌, ◌<◌, List, [], ◌∷◌, ◌++◌, map, take, length, Bool, true, false, Option, Some, None, arith, append-nil}
 use Rattle.std.specs.Prelude.{filter}
 use Rattle.std.specs.List.{AllByRecursion}
@@ -29,7 +29,7 @@ use Rattle.fleet_exec.specs.Taking.{is_left, left_behind, Takes, RefusesTaking}
 use Rattle.fleet_exec.proofs.Bounded.{job_bounds}
 use Rattle.fleet_exec.proofs.Opened.{ordered, from_is_filter}
 
--- ---- the rows from a cursor's key on, made anew
+-- ---- what a job makes of the rows from a cursor's key on
 
 module _ (merge : Operator) (settings : Settings) (range : Range) (sources : List (List (List Row))) where
   abbrev left_from : Option Cursor → List Row → JobRows
@@ -81,7 +81,7 @@ module _ (merge : Operator) (settings : Settings) (cursor : Option Cursor) (rows
   abbrev L : List Row → List Row
   L w = left_behind cursor w
 
-  -- what is left of the job, behind the rows that were taken
+  -- What is left of the job's rows begins with the rows taken. The rows left after them follow.
   behind : (taken : List RowEntry) (new : IteratorState) → Takes most cursor s taken new → (rest : List Row) → s.rows ++ rest ≡ J.rows → L J.rows ≡ rows_of taken ++ (L new.rows ++ L rest)
   behind taken new takes rest is =
       ap L (sym is) ∙ (filter-append (is_left cursor) s.rows rest ∙ (ap (λ (w : List Row). w ++ L rest) takes.rows ∙ append_assoc (rows_of taken) (L new.rows) (L rest)))

@@ -40,7 +40,7 @@ pub all_steady : (range : Range) (sources : List (List (List Row))) → are_stea
 all_steady range [] = refl
 all_steady range (tables ∷ sources) = all_steady range sources
 
--- ---- their order
+-- ---- the order of the sources' rows
 
 ordered_in : (range : Range) (sources : List (List (List Row))) → AllByRecursion (λ tables. IsStrictlyOrdered (source_rows tables)) sources → AllByRecursion IsStrictlyOrdered (ranged range sources)
 ordered_in range [] h = tt
@@ -63,7 +63,7 @@ apart_in : (range : Range) (sources : List (List (List Row))) → AreApart (flat
 apart_in range sources h = subst AreApart (sym (flat_in range sources)) (pairs_filter _ (λ r. is_in_range range r.key) (flat_map source_rows sources) h)
 
 module _ (range : Range) (sources : List (List (List Row))) (h : AreSources sources) where
-  -- the merge has them in order
+  -- The merge gives the sources' rows in order.
   pub merged_in : MergesSort → merged Ascending (ranged range sources) ≡ merged_rows (ranged range sources)
   merged_in sort = sort (ranged range sources) (ordered_in range sources h.ordered) (apart_in range sources h.apart)
 
@@ -90,13 +90,13 @@ from_ordered range None sources h = ordered range sources h
 from_ordered range (Some cursor) sources h =
     subst IsStrictlyOrdered (sym (from_is_filter cursor.0 (merged_rows (ranged range sources)) (ordered range sources h))) (ordered_filter (is_from cursor.0) (merged_rows (ranged range sources)) (ordered range sources h))
 
--- ---- as iterators
+-- ---- the sources and their merge as iterators
 
 pub none_failed : (range : Range) (sources : List (List (List Row))) → NoneFailed (opened range sources)
 none_failed range [] = tt
 none_failed range (tables ∷ sources) = (refl, none_failed range sources)
 
--- the merge before it is made ready, without dedup
+-- The merge, without dedup, before it is initialised.
 abbrev unready : List Row → IteratorState
 unready rows = record { rows = rows; initialised = false; failure = None; whole = true; steady = true; refusal = None }
 
@@ -109,7 +109,7 @@ starts range sources ss m made rows is begun all same =
     ∙ (ap (λ (b : Bool). record (unready (merged Ascending (ranged range sources))) { whole = b; steady = are_steady ss }) (ap are_whole is ∙ all_whole range sources)
     ∙ ap (λ (b : Bool). record (unready (merged Ascending (ranged range sources))) { steady = b }) (ap are_steady is ∙ all_steady range sources))))
 
--- a merge that is whole fails for want of memory alone
+-- If the merge fails to initialise, the error is out of memory.
 pub init_memory : (s t : IteratorState) (e : SlateDBError) (rows : List Row) → s ≡ unready rows → Inits s t (Err e) → e ≡ Memory
 init_memory s t e rows is inits = (inits.answers (ap (λ (s : IteratorState). s.failure) is)).cause.memory (ap (λ (s : IteratorState). s.whole) is)
 

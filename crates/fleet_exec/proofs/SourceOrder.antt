@@ -1,4 +1,5 @@
--- Merged rows stand in order exactly where each list does and no two rows of all have key and sequence in common.
+-- Merged rows are in order exactly where each list is in order and no two rows of the lists have both key and
+-- sequence in common.
 use Rattle.std.proofs.Common.{◌≡◌, ◌≢◌, ◌∙◌, sym, ap, subst, List, [], ◌∷◌, ◌++◌, cond, Bool, true, false}
 use Rattle.std.specs.Prelude.{flat_map, IsTrue}
 use Rattle.std.specs.List.{AllByRecursion}
@@ -18,7 +19,7 @@ use Rattle.fleet_table.proofs.Ordered.{decided}
 use Rattle.fleet_exec.specs.Ranges.{source_rows, ranged, AreSources}
 use Rattle.fleet_exec.proofs.Opened.{flat_in, merged_in, ordered}
 
--- ---- all of a merge are all of its lists
+-- ---- if all rows of a merge have a property, so have all rows of its lists
 
 all_of_two : (P : Row → Type 0) (xs ys : List Row) → AllByRecursion P (merge_two Ascending xs ys) → AllByRecursion P xs × AllByRecursion P ys
 all_of_two P [] ys h = (tt, h)
@@ -58,7 +59,7 @@ record InOrder (xs ys : List Row) : Type 0 where
   second : IsStrictlyOrdered ys
   apart : AllByRecursion (λ x. Apart x ys) xs
 
--- one row more of either list, before all of both
+-- A row that is before all rows of two lists may be put in front of the first list.
 first_is_least : (x : Row) (xs ys : List Row) → AllByRecursion (λ q. row_cmp x q ≡ Less) xs × AllByRecursion (λ q. row_cmp x q ≡ Less) ys → InOrder xs ys → InOrder (x ∷ xs) ys
 unfolding IsStrictlySortedBy
 first_is_least x xs ys least o = record {
@@ -88,7 +89,7 @@ two_in_order (x ∷ xs) (y ∷ ys) h = by (goes_first Ascending x y) h (two_in_o
     by true o left right = first_is_least x xs (y ∷ ys) (all_of_two (λ q. row_cmp x q ≡ Less) xs (y ∷ ys) o.0) (left o.1)
     by false o left right = second_is_least y (x ∷ xs) ys (all_of_two (λ q. row_cmp y q ≡ Less) (x ∷ xs) ys o.0) (right o.1)
 
--- ---- of several lists
+-- ---- a merge of several lists
 
 apart_joined : (xs ys : List Row) → AreApart xs → AreApart ys → AllByRecursion (λ x. Apart x ys) xs → AreApart (xs ++ ys)
 apart_joined [] ys h g across = g
@@ -107,7 +108,7 @@ merged_in_order (rows ∷ lists) h =
     let all = flat_map (λ (w : List Row). w) lists in
     ((o.first, later.0), apart_joined rows all (ordered_are_apart rows o.first) later.1 (all_weaken (λ x. Apart x (merged Ascending lists)) (λ x. Apart x all) (λ x. all_of_merged (λ q. row_cmp x q ≢ Equal) lists) rows o.apart))
 
--- ---- so the order of the merge of all rows tells whether they are sources
+-- ---- the order of the merge of all rows decides whether they are sources
 
 all_mapped : (sources : List (List (List Row))) → AllByRecursion IsStrictlyOrdered (ranged all_keys sources) → AllByRecursion (λ tables. IsStrictlyOrdered (source_rows tables)) sources
 all_mapped [] h = tt

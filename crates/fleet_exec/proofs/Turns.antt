@@ -1,4 +1,4 @@
--- Ranges taken table by table and then finished make the job.
+-- Ranges that are taken table by table and then finished make the job.
 use Rattle.std.proofs.Common.{◌≡◌, refl, sym, ◌∙◌, ap, subst, ℕ, List, [], ◌∷◌, ◌++◌, map, Bool, true, take, drop, sum, Option, Some, None}
 use Rattle.std.specs.Prelude.{flat_map}
 use Rattle.std.specs.List.{AllByRecursion}
@@ -40,11 +40,11 @@ module _ (merge : Operator) (settings : Settings) (range : Range) (sources : Lis
   abbrev J : JobRows
   J = job_rows merge settings (rows_in range (all_rows sources))
 
-  -- behind written rows the others are left
+  -- After written rows that begin what a job makes, exactly the other rows are left.
   left_is : (written rest : List Row) → J.rows ≡ written ++ rest → left_of merge settings range (cursor_after None written) sources ≡ record { rows = rest; whole = J.whole }
   left_is written rest is = sources_resume_after merge settings range (map source_rows sources) written rest (all_ordered sources h) is
 
-  -- and tables that are taken there have the first of them
+  -- Tables that are taken after written rows have the first of the rows left.
   first_behind : (sizes : List ℕ) (tables : List (List RowEntry)) (written rest : List Row) → J.rows ≡ written ++ rest
       → AreTaken merge settings range sources (cursor_after None written) sizes tables → rows_of_all tables ≡ take (sum sizes) rest
   first_behind [] [] written rest is taken = refl
@@ -63,7 +63,7 @@ module _ (merge : Operator) (settings : Settings) (range : Range) (sources : Lis
   first_taken : (sizes : List ℕ) (tables : List (List RowEntry)) → AreTaken merge settings range sources None sizes tables → rows_of_all tables ≡ take (sum sizes) J.rows
   first_taken sizes tables taken = first_behind sizes tables [] J.rows refl taken
 
-  -- behind them the others are left
+  -- After tables taken from the start of the range, exactly the other rows are left.
   left_taken : (sizes : List ℕ) (tables : List (List RowEntry)) → AreTaken merge settings range sources None sizes tables
       → left_of merge settings range (cursor_after None (rows_of_all tables)) sources ≡ record { rows = drop (sum sizes) J.rows; whole = J.whole }
   left_taken sizes tables taken =

@@ -1,4 +1,4 @@
--- Rows of a range taken table by table.
+-- The rows of a range, taken table by table.
 use Rattle.std.specs.Prelude.{◌≡◌, ◌≢◌, ℕ, true, false, map, List, [], ◌∷◌, ◌++◌, Option, Some}
 use Rattle.std.specs.List.{AllByRecursion}
 use Rattle.row_model.specs.Fold.{Operator}
@@ -12,64 +12,70 @@ use Rattle.fleet_rows.specs.declared.row.RowEntry.{RowEntry}
 use Rattle.fleet_rows.specs.declared.errors.SlateDBError.{SlateDBError}
 use Rattle.fleet_rows.specs.declared.errors.SlateDBError.TheVariants.{Memory}
 use Rattle.fleet_fold.specs.Jobs.{IsOfOperator}
-use Rattle.fleet_range.specs.Keys.{range_of}
-use Rattle.fleet_rows.specs.Settings.{settings_of}
-use Rattle.fleet_exec.specs.Ranges.{left_of, rows_from}
+use Rattle.fleet_exec.specs.Ranges.{Tables, Sources, made_of, rows_read}
 use Rattle.fleet_exec.specs.Taking.{left_behind, ReadsOn}
 use Rattle.fleet_exec.specs.declared.range_job.RangeJob.{RangeJob}
 
--- rows put before tables, into the first of them
-abbrev pub open_with : List Row → List (List Row) → List (List Row)
+-- The tables after these rows are put in front of the first table's rows. If there are no tables, the rows
+-- become one.
+abbrev pub open_with : List Row → Tables → Tables
 open_with [] tables = tables
 open_with (r ∷ rows) tables = with_row false r (open_with rows tables)
 
--- a table, and those of the rows behind it; none where none are left
-abbrev pub before_tables : List Row → List (List Row) → List (List Row)
+-- A table of these rows, followed by the other tables. If there are no rows, there are no tables.
+abbrev pub before_tables : List Row → Tables → Tables
 before_tables [] tables = []
 before_tables (r ∷ rows) tables = (r ∷ rows) ∷ tables
 
+-- The next table is taken. It is the first of the tables into which the rows left are cut. It is empty only
+-- if the iterator is whole.
 pub record TakesTable (size : ℕ) (cursor : Option Cursor) (old : IteratorState) (table : List RowEntry) (new : IteratorState) : Type 0 where
   pub tables : cut_tables size (left_behind cursor old.rows) ≡ before_tables (rows_of table) (cut_tables size (left_behind cursor new.rows))
   pub reads : ReadsOn old new
   pub ends : table ≡ [] → old.whole ≡ true
 
--- a refusal; where the one behind the rows is known it is that
+-- Reading all rows is refused with `e`. If the refusal after the rows is known, and `e` is not out of memory,
+-- `e` is that refusal.
 pub record RefusesAll (old : IteratorState) (e : SlateDBError) : Type 0 where
   pub cause : CanFail old.whole e
   pub known : (behind : SlateDBError) → old.refusal ≡ Some behind → e ≢ Memory → e ≡ behind
 
--- all tables of what is made, where no fold refuses
-pub record IsFinished (size : ℕ) (made : JobRows) (tables : List (List Row)) : Type 0 where
+-- No fold refuses, and these tables are all that is made, cut at `size`.
+pub record IsFinished (size : ℕ) (made : JobRows) (tables : Tables) : Type 0 where
   pub cut : tables ≡ cut_tables size made.rows
   pub whole : made.whole ≡ true
 
--- and where one does, what the operator answered
+-- A fold refuses in what is made, and `e` is what the operator answered.
 pub record RefusesRange (merge : Operator) (rows : List Row) (made : JobRows) (e : SlateDBError) : Type 0 where
   pub refused : made.whole ≡ false
   pub operator : IsOfOperator merge rows e
 
+-- If the error is not out of memory, the range is refused as `RefusesRange` says.
 abbrev pub RefusesRangeUnless : Operator → List Row → JobRows → SlateDBError → Type 0
 RefusesRangeUnless merge rows made e = e ≢ Memory → RefusesRange merge rows made e
 
--- ---- ranges in turn
+-- If the error is not out of memory, what is left of this range of a job is refused as `RefusesRange` says.
+abbrev pub RefusesJobRange : Operator → Sources → RangeJob → SlateDBError → Type 0
+RefusesJobRange merge sources job e = RefusesRangeUnless merge (rows_read sources job) (made_of merge sources job) e
 
--- what a job makes of one of its ranges
-abbrev pub made_of : Operator → List (List (List Row)) → RangeJob → JobRows
-made_of merge sources job = left_of merge (settings_of job.settings) (range_of job.range) job.cursor sources
+-- ---- one range after the other
 
--- all are finished
-pub record AreFinished (merge : Operator) (sources : List (List (List Row))) (size : ℕ) (jobs : List RangeJob) (ranges : List (List (List Row))) : Type 0 where
+-- No fold refuses in any of the ranges, and these are the tables of what is left of each range, cut at
+-- `size`.
+pub record AreFinished (merge : Operator) (sources : Sources) (size : ℕ) (jobs : List RangeJob) (ranges : List Tables) : Type 0 where
   pub cut : ranges ≡ map (λ job. cut_tables size (made_of merge sources job).rows) jobs
   pub whole : AllByRecursion (λ job. (made_of merge sources job).whole ≡ true) jobs
 
--- or the first is refused in which a fold refuses
-pub record RefusesFirst (merge : Operator) (sources : List (List (List Row))) (jobs : List RangeJob) (e : SlateDBError) : Type 0 where
+-- A fold refuses in this range and in no range before it. The error is what the operator answered in this
+-- range.
+pub record RefusesFirst (merge : Operator) (sources : Sources) (jobs : List RangeJob) (e : SlateDBError) : Type 0 where
   pub before : List RangeJob
   pub job : RangeJob
   pub later : List RangeJob
   pub parts : jobs ≡ before ++ job ∷ later
   pub whole : AllByRecursion (λ job. (made_of merge sources job).whole ≡ true) before
-  pub refuses : RefusesRange merge (rows_from (range_of job.range) job.cursor sources) (made_of merge sources job) e
+  pub refuses : RefusesRange merge (rows_read sources job) (made_of merge sources job) e
 
-abbrev pub RefusesFirstUnless : Operator → List (List (List Row)) → List RangeJob → SlateDBError → Type 0
+-- If the error is not out of memory, a range is refused as `RefusesFirst` says.
+abbrev pub RefusesFirstUnless : Operator → Sources → List RangeJob → SlateDBError → Type 0
 RefusesFirstUnless merge sources jobs e = e ≢ Memory → RefusesFirst merge sources jobs e

@@ -1,17 +1,15 @@
-//! All that is left of ranges.
+//! Finishing ranges: making all that is left of them.
 
-ghost use Rattle.std.specs.Prelude.{◌≡◌, ◌≢◌, ◌≤◌, ◌<◌, ◌+◌, ◌^◌, [], nat_lt, flat_map, length, true, IfOk, IfErr};
+ghost use Rattle.std.specs.Prelude.{◌≡◌, ◌≢◌, ◌≤◌, ◌<◌, ◌+◌, ◌^◌, [], nat_lt, flat_map, length, map, true, IfOk, IfErr};
 ghost use Rattle.std.specs.List.{AllByRecursion};
 ghost use Rattle.row_model.specs.Bounds.{IsInBounds};
 ghost use Rattle.row_model.specs.Fold.{IsLawful};
 ghost use Rattle.row_model.specs.Sizes.{estimated_size};
 ghost use Rattle.row_model.specs.Tables.{cut_tables};
-ghost use Rattle.fleet_range.specs.Keys.{range_of};
-ghost use Rattle.fleet_rows.specs.Row.{row_of};
-ghost use Rattle.fleet_rows.specs.Settings.{settings_of};
+ghost use Rattle.fleet_rows.specs.Row.{row_of, rows_of};
 ghost use Rattle.fleet_fold.specs.Retention.{IsReadable};
-ghost use Rattle.fleet_exec.specs.Cut.{TakesTable, RefusesAll, IsFinished, RefusesRangeUnless, AreFinished, RefusesFirstUnless};
-ghost use Rattle.fleet_exec.specs.Ranges.{AreSources, source_rows, left_of, rows_from};
+ghost use Rattle.fleet_exec.specs.Cut.{TakesTable, RefusesAll, IsFinished, RefusesJobRange, AreFinished, RefusesFirstUnless};
+ghost use Rattle.fleet_exec.specs.Ranges.{AreSources, source_rows, made_of};
 ghost use Rattle.fleet_exec.specs.Taking.{left_behind};
 
 use crate::open::open_range;
@@ -20,11 +18,11 @@ use crate::{RangeGate, RangeJob, RangeTables, SourceSet};
 use bytes::Bytes;
 use fleet_fold::{BatchMerger, MergeOperator};
 use fleet_iter::RowSource;
-use fleet_rows::{RowEntry, SlateDBError};
+use fleet_rows::{ListOf, RowEntry, SlateDBError};
 use fleet_table::{RunData, TableData};
 use std::alloc::Global;
 
-// Whether a row exceeds the size of a table that is filled so far.
+// Whether a row exceeds the size of a table that has `filled` bytes so far.
 fn is_full(size: u64, filled: u64, row: &RowEntry) -> bool
     requires in_bounds { IsInBounds (row_of row.now) }
     requires filled { filled ≤ size }
@@ -33,7 +31,8 @@ fn is_full(size: u64, filled: u64, row: &RowEntry) -> bool
     row.estimated_size() as u64 > size - filled
 }
 
-// The rows of the next table: it ends with the row with which it exceeds the size, or where no rows are left.
+// The rows of the next table. It ends with the row with which it exceeds `size` bytes, or when no
+// rows are left.
 fn take_table<T: RowSource>(
     alloc: Global,
     source: &mut T,
@@ -42,8 +41,10 @@ fn take_table<T: RowSource>(
 ) -> Result<Vec<RowEntry>, SlateDBError>
     requires sound { T.sound source.old }
     requires readable { IsReadable (T.state source.old) }
-    requires bounded { AllByRecursion IsInBounds (left_behind cursor.now (T.state source.old).rows) }
-    ensures ok { IfOk result (λ table. TakesTable size cursor.now (T.state source.old) table.items (T.state source.new)) }
+    requires bounded { AllByRecursion IsInBounds
+        (left_behind cursor.now (T.state source.old).rows) }
+    ensures ok { IfOk result (λ table.
+        TakesTable size cursor.now (T.state source.old) table.items (T.state source.new)) }
     ensures err { IfErr result (RefusesAll (T.state source.old)) }
     ensures sound { T.sound source.new }
 {
@@ -61,15 +62,15 @@ fn take_table<T: RowSource>(
     Ok(table)
 }
 
-// Tells a gate of the last of the tables that a range has given.
+// Reports to the gate the last of the tables that a range has given.
 fn tell_gate<G: RangeGate>(gate: &G, range: u32, tables: &RangeTables)
     requires { tables.now ≢ [] }
 {
-    let count = u32::try_from(tables.tables().len()).unwrap_or(u32::MAX);
+    let count = u32::try_from(tables.len()).unwrap_or(u32::MAX);
     gate.given(range, count);
 }
 
-// All tables of a range. The gate is told of each.
+// All tables of a range. Each table is reported to the gate.
 fn take_tables<T: RowSource, G: RangeGate>(
     alloc: Global,
     source: &mut T,
@@ -80,8 +81,10 @@ fn take_tables<T: RowSource, G: RangeGate>(
 ) -> Result<RangeTables, SlateDBError>
     requires sound { T.sound source.old }
     requires readable { IsReadable (T.state source.old) }
-    requires bounded { AllByRecursion IsInBounds (left_behind cursor.now (T.state source.old).rows) }
-    ensures ok { IfOk result (λ tables. tables ≡ cut_tables size (left_behind cursor.now (T.state source.old).rows)) }
+    requires bounded { AllByRecursion IsInBounds
+        (left_behind cursor.now (T.state source.old).rows) }
+    ensures ok { IfOk result (λ tables.
+        map rows_of tables ≡ cut_tables size (left_behind cursor.now (T.state source.old).rows)) }
     ensures whole { IfOk result (λ tables. (T.state source.old).whole ≡ true) }
     ensures err { IfErr result (RefusesAll (T.state source.old)) }
 {
@@ -91,12 +94,12 @@ fn take_tables<T: RowSource, G: RangeGate>(
         if table.is_empty() {
             return Ok(tables);
         }
-        tables.push(table)?;
+        tables.push(ListOf::from_vec(table))?;
         tell_gate(gate, number, &tables);
     }
 }
 
-// The rows of a table are in bounds, as its type says, and so are those of a run and of all sources.
+// The rows of a table are in bounds, as the invariant of its type says.
 fn table_is_bounded(table: &TableData)
     ensures { AllByRecursion IsInBounds table.now }
 {
@@ -120,10 +123,10 @@ fn are_bounded(sources: &[RunData])
 }
 
 fn is_lawful<B: BatchMerger>(_operator: &B)
-    ensures { IsLawful (B.merged (B.settings _operator.now)) }
+    ensures { IsLawful (B.fold _operator.now) }
 {}
 
-// All that is left of a range.
+// All that is left of a range, cut into tables. `number` is the range's number, counted from 1.
 fn finish_range<O: MergeOperator, G: RangeGate>(
     alloc: Global,
     job: &RangeJob,
@@ -134,8 +137,10 @@ fn finish_range<O: MergeOperator, G: RangeGate>(
     gate: &G,
 ) -> Result<RangeTables, SlateDBError>
     requires { AreSources sources.now }
-    ensures ok { IfOk result (λ tables. IsFinished size (left_of (O.merged (O.settings operator.now)) (settings_of job.now.settings) (range_of job.now.range) job.now.cursor sources.now) tables) }
-    ensures err { IfErr result (RefusesRangeUnless (O.merged (O.settings operator.now)) (rows_from (range_of job.now.range) job.now.cursor sources.now) (left_of (O.merged (O.settings operator.now)) (settings_of job.now.settings) (range_of job.now.range) job.now.cursor sources.now)) }
+    ensures ok { IfOk result (λ tables. IsFinished size
+        (made_of (O.merged (O.settings operator.now)) sources.now job.now) (map rows_of tables)) }
+    ensures err { IfErr result
+        (RefusesJobRange (O.merged (O.settings operator.now)) sources.now job.now) }
 {
     is_lawful(operator);
     are_bounded(sources);
@@ -143,9 +148,10 @@ fn finish_range<O: MergeOperator, G: RangeGate>(
     Ok(take_tables(alloc, &mut left, &job.cursor, size, number, gate)?)
 }
 
-/// All that is left of each range behind its cursor, as a job makes it, cut into tables: a table ends with the row with which
-/// its sum of `estimated_size` exceeds `max_sst_size`, or at the range's end. The gate is told of each table when it is made.
-/// Where the operator refuses in several ranges, the answer is the refusal of the first of them.
+/// Makes all that is left of each range after its cursor, and cuts it into tables. A table ends
+/// with the row with which its sum of `estimated_size` exceeds `max_sst_size` bytes, or at the
+/// range's end. Each table is reported to the gate when it is made. If the operator refuses in
+/// several ranges, the error is the refusal in the first of them.
 pub fn finish_ranges<O: MergeOperator, G: RangeGate>(
     alloc: Global,
     jobs: &[RangeJob],
@@ -156,8 +162,10 @@ pub fn finish_ranges<O: MergeOperator, G: RangeGate>(
 ) -> Result<Vec<RangeTables>, SlateDBError>
     requires few { length jobs.now < 2 ^ 32 }
     requires sources { AreSources sources.now }
-    ensures tables { IfOk result (λ ranges. AreFinished (O.merged (O.settings operator.now)) sources.now max_sst_size jobs.now ranges.items) }
-    ensures refused { IfErr result (RefusesFirstUnless (O.merged (O.settings operator.now)) sources.now jobs.now) }
+    ensures tables { IfOk result (λ ranges. AreFinished (O.merged (O.settings operator.now))
+        sources.now max_sst_size jobs.now (map (map rows_of) ranges.items)) }
+    ensures refused { IfErr result
+        (RefusesFirstUnless (O.merged (O.settings operator.now)) sources.now jobs.now) }
 {
     let mut ranges = Vec::new(alloc);
     let mut number = 0;

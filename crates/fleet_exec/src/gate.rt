@@ -1,12 +1,13 @@
-//! What a caller is told as tables are made.
+//! Reports of tables while they are made.
 
-/// Is told of each table of a range, and may wait before the next one is made.
+/// A gate gets a report of each table of a range. It may wait, and so delay the next table.
 pub trait RangeGate: Sync {
-    /// A range has given a table. Both are counted from 1, and the second stands still at `u32::MAX`.
+    /// Reports that a range has given a table. Ranges and a range's tables are counted from 1. The
+    /// number of the table stops at `u32::MAX`.
     fn given(&self, range: u32, table: u32);
 }
 
-/// Lets each range go on at once.
+/// A gate that never waits.
 #[derive(Clone, Copy, Debug, PartialEq, Eq)]
 pub struct OpenGate;
 

@@ -1,28 +1,34 @@
-//! Laws on what the calls of this crate give of ranges. Each call has an empty body, and its clause is the law.
+//! Laws about what the calls of this crate make of ranges. Each law is a function with an empty
+//! body, and its clause states the law.
 
 ghost use Rattle.row_model.specs.Fold.{Operator};
 ghost use Rattle.fleet_exec.specs.Turns.{FinishMakesJob, RangesMakeJob, TakenAndFinishedMakeAll, TakenAreFirst};
 
-/// Tables that `next_table` gives, each behind the last row of the one before, have the first rows of what a job makes of the
-/// range: as many as were asked for, or all.
+/// Let `next_table` give tables of a range one after the other, each after the last row of the
+/// table before. Then the tables have the first rows of what a job makes of the range. They have as
+/// many rows as were asked for, or all rows if there are fewer.
 pub fn taken_are_first()
     ensures { (merge : Operator) → TakenAreFirst merge }
 {}
 
-/// Where all that is left behind such tables is finished, the tables and those of the finish have, in their order, all that a
-/// job makes of the range, and no fold refuses in it.
+/// Let a range be taken table by table, and let all that is left after these tables be finished.
+/// Then all its tables have, in order, all that a job makes of the range, and no fold refuses in
+/// it.
 pub fn taken_and_finished_make_all()
     ensures { (merge : Operator) → TakenAndFinishedMakeAll merge }
 {}
 
-/// Where the ranges of a plan are each taken table by table and then finished, their rows, one range after the other, are all
-/// that the job makes at once. Each range may be taken by its own numbers of rows, and so be cut between two versions of a key.
+/// Let ranges follow each other and have every key, as the ranges of a plan do. Let each be taken
+/// table by table and then finished. Then their rows, one range after the other, are all that the
+/// job makes at once. Each range may be taken by its own numbers of rows, and so be cut between two
+/// versions of a key.
 pub fn ranges_make_job()
     ensures { (merge : Operator) → RangesMakeJob merge }
 {}
 
-/// Where one call of `finish_ranges` finishes the ranges of a plan, each behind the tables that were taken of it, what was taken and
-/// what the call gives are, one range after the other, all that the job makes.
+/// Let ranges follow each other and have every key. Let tables be taken of each, and let one call
+/// of `finish_ranges` finish all of them. Then the rows taken and the rows of the call are, one
+/// range after the other, all that the job makes.
 pub fn finish_makes_job()
     ensures { (merge : Operator) → FinishMakesJob merge }
 {}

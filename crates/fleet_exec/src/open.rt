@@ -10,10 +10,9 @@ ghost use Rattle.fleet_rows.specs.declared.errors.SlateDBError.TheVariants as Sl
 ghost use Rattle.fleet_rows.specs.Settings.{settings_of};
 ghost use Rattle.fleet_table.specs.Iterator.{state_of};
 ghost use Rattle.fleet_fold.specs.Jobs.{GivesJob};
-ghost use Rattle.fleet_fold.specs.Merging as merging;
 ghost use Rattle.fleet_fold.specs.Retention.{IsReadable};
-ghost use Rattle.fleet_fold.specs.State as retention;
-ghost use Rattle.fleet_exec.specs.Ranges.{AreSources, opened, ranged, rows_from, reading};
+ghost use Rattle.fleet_fold.specs.JobState as job_state;
+ghost use Rattle.fleet_exec.specs.Ranges.{AreSources, opened, ranged, rows_read, reading};
 
 use crate::RangeJob;
 use fleet_fold::{JobIterator, MergeOperator, job_iterator};
@@ -23,13 +22,14 @@ use fleet_rows::SlateDBError;
 use fleet_table::{RunData, RunIterator};
 use std::alloc::Global;
 
-// The rows of each source that lie in a range.
+// An iterator for each source over its rows in the range.
 fn range_iterators<'s>(
     alloc: Global,
     sources: &'s [RunData],
     range: &'s BytesRange,
 ) -> Result<Vec<RunIterator<'s>>, SlateDBError>
-    ensures rows { IfOk result (λ iterators. map state_of iterators.items ≡ opened (range_of range.now) sources.now) }
+    ensures rows { IfOk result
+        (λ iterators. map state_of iterators.items ≡ opened (range_of range.now) sources.now) }
     ensures memory { IsOkUnless result SlateDBError.Memory }
 {
     let mut iterators = Vec::with_capacity(alloc, sources.len())?;
@@ -39,13 +39,14 @@ fn range_iterators<'s>(
     Ok(iterators)
 }
 
-// The merge of all sources in a range.
+/// An initialised merge of the sources' rows in a range, without dedup.
 pub(crate) fn merged_in<'s>(
     alloc: Global,
     sources: &'s [RunData],
     range: &'s BytesRange,
 ) -> Result<MergeIterator<RunIterator<'s>>, SlateDBError>
-    ensures rows { IfOk result (λ rows. merge.state_of state_of rows ≡ reading (merged Ascending (ranged (range_of range.now) sources.now))) }
+    ensures rows { IfOk result (λ rows. merge.state_of state_of rows
+        ≡ reading (merged Ascending (ranged (range_of range.now) sources.now))) }
     ensures sound { IfOk result (λ rows. merge.IsSound (λ _. ⊤) state_of rows) }
     ensures memory { IsOkUnless result SlateDBError.Memory }
 {
@@ -55,14 +56,15 @@ pub(crate) fn merged_in<'s>(
     Ok(rows)
 }
 
-// Their rows in order.
+// A merge that gives the sources' rows in a range in order.
 fn ready_merge<'s>(
     alloc: Global,
     sources: &'s [RunData],
     range: &'s BytesRange,
 ) -> Result<MergeIterator<RunIterator<'s>>, SlateDBError>
     requires { AreSources sources.now }
-    ensures rows { IfOk result (λ rows. merge.state_of state_of rows ≡ reading (merged_rows (ranged (range_of range.now) sources.now))) }
+    ensures rows { IfOk result (λ rows. merge.state_of state_of rows
+        ≡ reading (merged_rows (ranged (range_of range.now) sources.now))) }
     ensures sound { IfOk result (λ rows. merge.IsSound (λ _. ⊤) state_of rows) }
     ensures memory { IsOkUnless result SlateDBError.Memory }
 {
@@ -70,14 +72,15 @@ fn ready_merge<'s>(
     Ok(merged_in(alloc, sources, range)?)
 }
 
-// And from its cursor's key on.
+/// A merge that gives the sources' rows in a job's range in order, from its cursor's key on.
 pub(crate) fn merged_sources<'s>(
     alloc: Global,
     job: &'s RangeJob,
     sources: &'s [RunData],
 ) -> Result<MergeIterator<RunIterator<'s>>, SlateDBError>
     requires { AreSources sources.now }
-    ensures rows { IfOk result (λ rows. merge.state_of state_of rows ≡ reading (rows_from (range_of job.now.range) job.now.cursor sources.now)) }
+    ensures rows { IfOk result (λ rows. merge.state_of state_of rows
+        ≡ reading (rows_read sources.now job.now)) }
     ensures sound { IfOk result (λ rows. merge.IsSound (λ _. ⊤) state_of rows) }
     ensures memory { IsOkUnless result SlateDBError.Memory }
 {
@@ -92,7 +95,8 @@ pub(crate) fn merged_sources<'s>(
     }
 }
 
-/// What a job makes of a range, from its cursor's key on.
+/// What a job makes of a range, from its cursor's key on. Rows of that key that are written already
+/// are not left out.
 pub(crate) fn open_range<'s, 'o, O: MergeOperator>(
     alloc: Global,
     job: &'s RangeJob,
@@ -100,9 +104,14 @@ pub(crate) fn open_range<'s, 'o, O: MergeOperator>(
     operator: &'o O,
 ) -> Result<JobIterator<'o, O, MergeIterator<RunIterator<'s>>>, SlateDBError>
     requires { AreSources sources.now }
-    ensures job { IfOk result (λ rows. GivesJob (O.merged (O.settings operator.now)) (settings_of job.now.settings) (rows_from (range_of job.now.range) job.now.cursor sources.now) (retention.state_of (merging.state_of O.settings O.merged (merge.state_of state_of)) rows)) }
-    ensures readable { IfOk result (λ rows. IsReadable (retention.state_of (merging.state_of O.settings O.merged (merge.state_of state_of)) rows)) }
-    ensures sound { IfOk result (λ rows. retention.IsSound (merging.IsSound (merge.IsSound (λ _. ⊤) state_of) (merge.state_of state_of)) (merging.state_of O.settings O.merged (merge.state_of state_of)) rows) }
+    ensures job { IfOk result
+        (λ rows. GivesJob (O.merged (O.settings operator.now)) (settings_of job.now.settings)
+        (rows_read sources.now job.now)
+        (job_state.state_of O.settings O.merged (merge.state_of state_of) rows)) }
+    ensures readable { IfOk result (λ rows. IsReadable
+        (job_state.state_of O.settings O.merged (merge.state_of state_of) rows)) }
+    ensures sound { IfOk result (λ rows. job_state.IsSound O.settings O.merged
+        (merge.IsSound (λ _. ⊤) state_of) (merge.state_of state_of) rows) }
     ensures memory { IsOkUnless result SlateDBError.Memory }
 {
     let rows = merged_sources(alloc, job, sources)?;

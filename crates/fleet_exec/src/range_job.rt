@@ -1,20 +1,15 @@
-//! What a range is made of, and what becomes of it.
-
-ghost use Rattle.std.specs.Prelude.{◌≡◌, ◌++◌, ◌∷◌, [], map, OnOk, OnErr, IsOkUnless};
-ghost use Rattle.fleet_rows.specs.Row.{rows_of};
-ghost use Rattle.fleet_rows.specs.declared.errors.SlateDBError.TheVariants as SlateDBError;
+//! The sources of a job, its ranges, and their tables.
 
 use bytes::Bytes;
 use fleet_range::BytesRange;
-use fleet_rows::{ListOf, RowEntry, Settings, SlateDBError};
+use fleet_rows::{ListOf, RowEntry, Settings};
 use fleet_table::RunData;
-use std::alloc::Global;
-use std::marker::Model;
 
-/// The sources of a job: tables of the first level, each as a run of its own, and runs.
+/// The sources of a job. Each table of level 0 is a run of its own.
 pub type SourceSet = ListOf<RunData>;
 
-/// A range of a job that is made, from behind a cursor: the key and sequence of the row that was written last.
+/// A range of a job that is to be made. The cursor is the key and the sequence of the row that was
+/// written last. The range is resumed after it.
 #[derive(Debug, Drop)]
 pub struct RangeJob {
     pub range: BytesRange,
@@ -22,53 +17,5 @@ pub struct RangeJob {
     pub settings: Settings,
 }
 
-/// The rows of a range, cut into tables.
-#[derive(Debug, Drop)]
-pub struct RangeTables {
-    tables: Vec<Vec<RowEntry>>,
-}
-
-impl Model for RangeTables {
-    ghost use Rattle.std.specs.Prelude.{List, map};
-    ghost use Rattle.row_model.specs.Rows.{Row};
-    ghost use Rattle.fleet_rows.specs.Row.{rows_of};
-
-    ghost Value = { List (List Row) };
-
-    ghost view = { λ r. map (λ table. rows_of table.items) r.tables.items };
-}
-
-impl RangeTables {
-    /// No tables.
-    pub fn new(alloc: Global) -> RangeTables
-        ensures { result ≡ [] }
-    {
-        RangeTables {
-            tables: Vec::new(alloc),
-        }
-    }
-
-    /// Adds a table at the end. Where memory is wanted, it is dropped.
-    pub fn push(&mut self, table: Vec<RowEntry>) -> Result<(), SlateDBError>
-        ensures ok { OnOk result (self.new ≡ self.old ++ rows_of table.items ∷ []) }
-        ensures err { OnErr result (self.new ≡ self.old) }
-        ensures memory { IsOkUnless result SlateDBError.Memory }
-    {
-        Ok(self.tables.push(table)?)
-    }
-
-    /// The tables, in the order of their rows.
-    pub fn tables(&self) -> &[Vec<RowEntry>]
-        ensures { map (λ table. rows_of table.items) result.now ≡ self.now }
-    {
-        self.tables.as_slice()
-    }
-
-    /// The tables, in the memory that they have.
-    pub fn into_vec(self) -> Vec<Vec<RowEntry>>
-        ensures { map (λ table. rows_of table.items) result.items ≡ self }
-    {
-        let RangeTables { tables } = self;
-        tables
-    }
-}
+/// The tables of a range, in order, each as its rows.
+pub type RangeTables = ListOf<ListOf<RowEntry>>;

@@ -1,4 +1,4 @@
-//! Whether sources are as ranges ask.
+//! A test of what is required of a job's sources.
 
 ghost use Rattle.std.specs.Prelude.{◌≡◌, ◌↔◌, IsTrue, IfOk, IfErr, IsOkUnless};
 ghost use Rattle.std.specs.Ordering.{is_lt};
@@ -16,7 +16,7 @@ use fleet_range::BytesRange;
 use fleet_rows::{RowEntry, SlateDBError};
 use std::alloc::Global;
 
-// Whether a row stands before another: by a lesser key, or by a greater sequence.
+// Whether a row comes before another: it has a lesser key, or an equal key and a greater sequence.
 fn stands_before(row: &RowEntry, other: &RowEntry) -> bool
     ensures { result ≡ is_lt (row_cmp (row_of row.now) (row_of other.now)) }
 {
@@ -24,7 +24,7 @@ fn stands_before(row: &RowEntry, other: &RowEntry) -> bool
     keys.then(other.seq.cmp(&row.seq)).is_lt()
 }
 
-// Whether each row stands before the next.
+// Whether each row comes before the next.
 fn stand_in_order<T: RowSource>(alloc: Global, source: &mut T) -> Result<bool, SlateDBError>
     requires sound { T.sound source.old }
     requires readable { IsReadable (T.state source.old) }
@@ -44,8 +44,9 @@ fn stand_in_order<T: RowSource>(alloc: Global, source: &mut T) -> Result<bool, S
     Ok(true)
 }
 
-/// Whether each source is strictly ordered, and no two rows have key and sequence in common: what `next_table` and `finish_ranges`
-/// ask of their sources. All rows are read once, as a merge gives them.
+/// Whether each source is strictly ordered, and no two rows of the sources have both key and
+/// sequence in common. `next_table` and `finish_ranges` require this. Each row is read at most
+/// once, as a merge gives it.
 pub fn are_sources(alloc: Global, sources: &SourceSet) -> Result<bool, SlateDBError>
     ensures answer { IfOk result (λ answer. IsTrue answer ↔ AreSources sources.now) }
     ensures memory { IsOkUnless result SlateDBError.Memory }

@@ -1,4 +1,4 @@
-//! Rows taken of a range, behind its cursor.
+//! Taking rows of a range that are left after its cursor.
 
 ghost use Rattle.std.specs.Prelude.{◌≡◌, IfOk, IfErr};
 ghost use Rattle.std.specs.Option.{option_to_list};
@@ -11,7 +11,8 @@ use fleet_iter::RowSource;
 use fleet_rows::{RowEntry, SlateDBError};
 use std::alloc::Global;
 
-// Whether a row does not stand written before a cursor.
+// Whether a row is left. It is not left if it has the cursor's key and at least the cursor's
+// sequence.
 fn is_left(row: &RowEntry, cursor: &Option<(Bytes, u64)>) -> bool
     ensures { result ≡ is_left cursor.now (row_of row.now) }
 {
@@ -21,7 +22,7 @@ fn is_left(row: &RowEntry, cursor: &Option<(Bytes, u64)>) -> bool
     }
 }
 
-// The next row that does not stand written.
+/// The next row that is left after the cursor.
 pub(crate) fn next_left<T: RowSource>(
     alloc: Global,
     source: &mut T,
@@ -29,7 +30,8 @@ pub(crate) fn next_left<T: RowSource>(
 ) -> Result<Option<RowEntry>, SlateDBError>
     requires sound { T.sound source.old }
     requires readable { IsReadable (T.state source.old) }
-    ensures ok { IfOk result (λ row. Takes 1 cursor.now (T.state source.old) (option_to_list row) (T.state source.new)) }
+    ensures ok { IfOk result
+        (λ row. Takes 1 cursor.now (T.state source.old) (option_to_list row) (T.state source.new)) }
     ensures err { IfErr result (RefusesTaking 1 cursor.now (T.state source.old)) }
     ensures sound { T.sound source.new }
 {
@@ -41,7 +43,7 @@ pub(crate) fn next_left<T: RowSource>(
     Ok(None)
 }
 
-/// The next rows that do not stand written, at most so many.
+/// The next rows that are left after the cursor, at most `most` of them.
 pub(crate) fn take_rows<T: RowSource>(
     alloc: Global,
     source: &mut T,
@@ -50,7 +52,8 @@ pub(crate) fn take_rows<T: RowSource>(
 ) -> Result<Vec<RowEntry>, SlateDBError>
     requires sound { T.sound source.old }
     requires readable { IsReadable (T.state source.old) }
-    ensures ok { IfOk result (λ rows. Takes most cursor.now (T.state source.old) rows.items (T.state source.new)) }
+    ensures ok { IfOk result
+        (λ rows. Takes most cursor.now (T.state source.old) rows.items (T.state source.new)) }
     ensures err { IfErr result (RefusesTaking most cursor.now (T.state source.old)) }
     ensures sound { T.sound source.new }
 {

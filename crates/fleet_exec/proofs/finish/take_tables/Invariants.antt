@@ -1,7 +1,8 @@
-use Rattle.std.proofs.Common.{◌≡◌, ◌++◌, length}
+use Rattle.std.proofs.Common.{◌≡◌, ◌++◌, length, map}
 use Rattle.std.specs.List.{AllByRecursion}
 use Rattle.row_model.specs.Bounds.{IsInBounds}
 use Rattle.row_model.specs.Tables.{cut_tables}
+use Rattle.fleet_rows.specs.Row.{rows_of}
 use Rattle.fleet_exec.specs.Taking.{left_behind, ReadsOn}
 use Rattle.fleet_exec.proofs.finish.take_tables.Given as goal
 
@@ -13,7 +14,7 @@ invariant-tables g l =
       sound : g.T.RowSource.sound l.source;
       reads : ReadsOn old s;
       bounded : AllByRecursion IsInBounds (left_behind l.cursor s.rows);
-      tables : cut_tables l.size (left_behind l.cursor old.rows) ≡ l.tables ++ cut_tables l.size (left_behind l.cursor s.rows);
+      tables : cut_tables l.size (left_behind l.cursor old.rows) ≡ map rows_of l.tables ++ cut_tables l.size (left_behind l.cursor s.rows);
     }
 
 abbrev pub decreases-tables : goal.decreases-tables

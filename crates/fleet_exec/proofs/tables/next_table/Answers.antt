@@ -4,8 +4,7 @@ use Rattle.std.proofs.lemmas.Result.{err_from_is_err_and}
 use Rattle.row_model.specs.JobRows.{JobRows}
 use Rattle.row_model.specs.Rows.{Row}
 use Rattle.fleet_fold.specs.Jobs.{GivesJob}
-use Rattle.fleet_fold.specs.Merging as merging
-use Rattle.fleet_fold.specs.State as retention
+use Rattle.fleet_fold.specs.JobState as job_state
 use Rattle.fleet_iter.specs.MergeState as merge
 use Rattle.fleet_range.specs.Keys.{range_of}
 use Rattle.fleet_rows.specs.Settings.{settings_of}
@@ -22,7 +21,7 @@ returns-in_err-table-clause-refused g c =
     let job = c.args.job.now in
     let settings = settings_of job.settings in
     let range = range_of job.range in
-    let s = retention.state_of (merging.state_of g.O.MergeOperator.settings g.O.MergeOperator.merged (merge.state_of state_of)) c.in_ok-left.left in
+    let s = job_state.state_of g.O.MergeOperator.settings g.O.MergeOperator.merged (merge.state_of state_of) c.in_ok-left.left in
     let gives = subst (λ (all : List (List (List Row))). GivesJob folds settings (rows_from range job.cursor all) s) c.as_slice.ensures c.in_ok-left.ensures.job in
     let rows = rows_from range job.cursor c.args.sources.now in
     let p = err_from_is_err_and c.from_residual-in_err-table.result c.from_residual-in_err-table.ensures.1 in
@@ -36,7 +35,7 @@ returns-then-is_empty-clause-table g c =
     let job = c.args.job.now in
     let settings = settings_of job.settings in
     let range = range_of job.range in
-    let state = retention.state_of (merging.state_of g.O.MergeOperator.settings g.O.MergeOperator.merged (merge.state_of state_of)) in
+    let state = job_state.state_of g.O.MergeOperator.settings g.O.MergeOperator.merged (merge.state_of state_of) in
     let gives = subst (λ (all : List (List (List Row))). GivesJob folds settings (rows_from range job.cursor all) (state c.in_ok-left.left)) c.as_slice.ensures c.in_ok-left.ensures.job in
     let none : c.in_ok-table.table.items ≡ [] = grind (arith, common_steps) in
     subst (λ (made : JobRows). GivesTable made c.args.rows None) (sym (made_is_left folds settings range c.args.sources.now job.cursor c.requires.sources))
@@ -48,7 +47,7 @@ returns-clause-table g c =
     let job = c.args.job.now in
     let settings = settings_of job.settings in
     let range = range_of job.range in
-    let state = retention.state_of (merging.state_of g.O.MergeOperator.settings g.O.MergeOperator.merged (merge.state_of state_of)) in
+    let state = job_state.state_of g.O.MergeOperator.settings g.O.MergeOperator.merged (merge.state_of state_of) in
     let gives = subst (λ (all : List (List (List Row))). GivesJob folds settings (rows_from range job.cursor all) (state c.in_ok-left.left)) c.as_slice.ensures c.in_ok-left.ensures.job in
     subst (λ (made : JobRows). GivesTable made c.args.rows (Some c.in_ok-table.table.items)) (sym (made_is_left folds settings range c.args.sources.now job.cursor c.requires.sources))
     (next_is folds settings job.cursor (rows_from range job.cursor c.args.sources.now) c.args.rows (state c.in_ok-left.left) gives c.in_ok-table.table.items (state c.take_rows.new.source) c.in_ok-table.ensures.ok (λ e. grind (arith, common_steps, e)))
