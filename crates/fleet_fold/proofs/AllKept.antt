@@ -1,4 +1,4 @@
--- What holds of rows, also where they become tombstones, holds of those that are kept of them.
+-- What holds of rows, and of the tombstones that they may become, holds of the rows that are kept of them.
 use Rattle.std.proofs.Common.{ℕ, ℤ, List, [], ◌∷◌, ◌++◌, Bool, true, false}
 use Rattle.std.specs.Prelude.{flat_map, nat_le, if◌then◌else◌}
 use Rattle.std.specs.List.{AllByRecursion}

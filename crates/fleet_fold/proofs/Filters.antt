@@ -1,5 +1,6 @@
--- A filter that goes on, row by row.
+-- A filter that is shown one row after the other.
 use Rattle.std.proofs.Common.{◌≡◌, ◌≢◌, ◌∙◌, sym, refl, ap, subst, ℕ, List, [], ◌∷◌, ◌++◌, ◌&&◌, Bool, true, false, Option, Some, None, Result, Ok, Err}
+use Rattle.std.proofs.lemmas.Bool.{true_from_ne_false}
 use Rattle.std.specs.List.{AllByRecursion}
 use Rattle.std.specs.Ordering.{is_gt}
 use Rattle.row_model.specs.Rows.{Row, key_cmp}
@@ -10,7 +11,6 @@ use Rattle.fleet_rows.specs.Errors.{raised_by_filter}
 use Rattle.fleet_rows.specs.declared.row.RowEntry.{RowEntry}
 use Rattle.fleet_rows.specs.declared.errors.CompactionFilterError.TheVariants as filter
 use Rattle.fleet_rows.specs.declared.errors.SlateDBError.{SlateDBError}
-use Rattle.fleet_rows.specs.declared.errors.SlateDBError.TheVariants.{CompactionFilter}
 use Rattle.fleet_iter.specs.Iteration.{IteratorState, AreRising, KeepsRefusal, Moves, Nexts, NextAnswers, Seeks, is_exact, without_first}
 use Rattle.fleet_iter.specs.Resume.{is_written}
 use Rattle.fleet_iter.proofs.Failures.{next_refused, seek_refused}
@@ -25,50 +25,60 @@ filtered_alike a b e f h g (r ∷ rows) =
     ∙ ap (λ w. before_refused (b [] r) r w) (filtered_alike (λ seen. a (r ∷ seen)) (λ seen. b (r ∷ seen)) (λ seen. e (r ∷ seen)) (λ seen. f (r ∷ seen)) (λ seen q. h (r ∷ seen) q) (λ seen. g (r ∷ seen)) rows)
 
 module _ (a a' : Answers) (e e' : Closing) (r : Row) (rows : List Row) where
-  -- a row is decided, and the filter goes on
+  -- The filter decides about a row and goes on with the later ones.
   pub goes_on : (decision : CompactionFilterDecision) → Ok decision ≡ a [] r → GoesOn r a e a' e'
       → filtered a e (r ∷ rows) ≡ record { rows = decided decision r ++ (filtered a' e' rows).rows; end = (filtered a' e' rows).end }
   goes_on decision is on =
       ap (λ w. before_refused w r (filtered (λ seen. a (r ∷ seen)) (λ seen. e (r ∷ seen)) rows)) (sym is)
       ∙ ap (λ w. before_refused (Ok decision) r w) (sym (filtered_alike a' (λ seen. a (r ∷ seen)) e' (λ seen. e (r ∷ seen)) on.rows on.end rows))
 
-  -- a row that is left out
+  -- If the filter drops the first row, it leaves what it leaves of the later rows.
   pub leaves_out : (decision : CompactionFilterDecision) → Ok decision ≡ a [] r → GoesOn r a e a' e' → decided decision r ≡ [] → filtered a' e' rows ≡ filtered a e (r ∷ rows)
   leaves_out decision is on none = sym (goes_on decision is on ∙ ap (λ (w : List Row). record { rows = w ++ (filtered a' e' rows).rows; end = (filtered a' e' rows).end }) none)
 
-  -- a row that is left in
+  -- If the filter leaves a row in place of the first one, that row comes first in what it leaves.
   pub leaves_in : (decision : CompactionFilterDecision) (q : Row) → Ok decision ≡ a [] r → GoesOn r a e a' e' → decided decision r ≡ q ∷ [] → filtered a e (r ∷ rows) ≡ record (filtered a' e' rows) { rows = q ∷ (filtered a' e' rows).rows }
   leaves_in decision q is on one = goes_on decision is on ∙ ap (λ (w : List Row). record { rows = w ++ (filtered a' e' rows).rows; end = (filtered a' e' rows).end }) one
 
-  -- a row that is refused
+  -- If the filter refuses the first row, it leaves no row, and the end is its error.
   pub refuses : (x : CompactionFilterError) → Err x ≡ a [] r → filtered a e (r ∷ rows) ≡ record { rows = []; end = Err x }
   refuses x is = ap (λ w. before_refused w r (filtered (λ seen. a (r ∷ seen)) (λ seen. e (r ∷ seen)) rows)) (sym is)
 
--- a filter's refusal is that of the call
+-- The error with which the filter refuses a row is the error of the call.
 pub refused_by : (a : Answers) (e : Closing) (r : Row) (rows : List Row) (told : Filtered) (inner : IteratorState) (x : CompactionFilterError) → told ≡ filtered a e (r ∷ rows) → IsTold (a [] r) (Err x) → Refuses {A = Option RowEntry} told inner (Err (raised_by_filter x))
 refused_by a e r rows told inner x is answer = by x (λ far. is ∙ refuses a a e e r rows x (answer far))
   where
-    named : (x : CompactionFilterError) → told ≡ record { rows = []; end = Err x } → raised_by_filter x ≡ CompactionFilter x → Refuses {A = Option RowEntry} told inner (Err (raised_by_filter x))
-    named x e named_so = record {
-      cause = λ y same ok. let one : raised_by_filter x ≡ CompactionFilter y = cc same in
-          let two : CompactionFilter x ≡ CompactionFilter y = sym named_so ∙ one in
-          let three : x ≡ y = cc two in
-          (ap (λ (f : Filtered). f.rows) e, ap (λ (f : Filtered). f.end) e ∙ ap Err three);
+    named : (x : CompactionFilterError) → told ≡ record { rows = []; end = Err x } → Refuses {A = Option RowEntry} told inner (Err (raised_by_filter x))
+    named x e = record {
+      cause = λ y same ok far. let one : y ≡ raised_by_filter x = cc same in
+          record { rows = ap (λ (f : Filtered). f.rows) e; cause = x; end = ap (λ (f : Filtered). f.end) e; same = one };
       comes = λ y none end ok far. let one : Err x ≡ Err y = sym (ap (λ (f : Filtered). f.end) e) ∙ end in
           let two : x ≡ y = cc one in
           ap (λ z. Err (raised_by_filter z)) two;
     }
 
     by : (x : CompactionFilterError) → (◌≢◌ {A = Result CompactionFilterDecision CompactionFilterError} (Err x) (Err filter.Memory) → told ≡ record { rows = []; end = Err x }) → Refuses {A = Option RowEntry} told inner (Err (raised_by_filter x))
-    by (filter.CreationError t) h = named (filter.CreationError t) (h (λ q. cc q)) refl
-    by (filter.FilterError t) h = named (filter.FilterError t) (h (λ q. cc q)) refl
-    by (filter.CompactionEndError t) h = named (filter.CompactionEndError t) (h (λ q. cc q)) refl
+    by (filter.CreationError t) h = named (filter.CreationError t) (h (λ q. cc q))
+    by (filter.FilterError t) h = named (filter.FilterError t) (h (λ q. cc q))
+    by (filter.CompactionEndError t) h = named (filter.CompactionEndError t) (h (λ q. cc q))
     by filter.Memory h = record {
-      cause = λ y same ok. absurd (cc same);
+      cause = λ y same ok far. absurd (far (cc same));
       comes = λ y none end ok far. absurd (far refl);
     }
 
--- the next row was read
+-- A filter's error that the iterator keeps as its failure is still the filter's error.
+pub refuses_kept : (told : Filtered) (inner : IteratorState) (e answer : SlateDBError) (old new : Option SlateDBError) → KeepsRefusal e old new answer → Refuses {A = Option RowEntry} told inner (Err e) → Refuses {A = Option RowEntry} told inner (Err answer)
+refuses_kept told inner e answer old new keeps h = record {
+  cause = λ x is ok far.
+      let one : answer ≡ x = cc is in
+      let two : answer ≡ e = keeps.same (λ m. far (sym one ∙ m)) in
+      h.cause x (ap Err (sym two ∙ one)) ok far;
+  comes = λ x none end ok far.
+      let two : answer ≡ e = keeps.same (λ m. far (ap Err m)) in
+      ap Err two ∙ h.comes x none end ok (λ m. far (ap Err two ∙ m));
+}
+
+-- The next row is read from the inner iterator.
 pub record Reads (s t : IteratorState) (o : Option RowEntry) : Type 0 where
   pub rows : from_ahead o t ≡ s.rows
   pub readable : IsReadable t
@@ -92,11 +102,7 @@ reads s t o k n = by o (n.answers k.0 k.1)
       ended = λ none. absurd (cc none);
     }
 
--- ---- rows that a filter leaves rise as those that it is shown
-
-all_appended : (P : Row → Type 0) (xs ys : List Row) → AllByRecursion P xs → AllByRecursion P ys → AllByRecursion P (xs ++ ys)
-all_appended P [] ys h g = g
-all_appended P (x ∷ xs) ys h g = (h.0, all_appended P xs ys h.1 g)
+-- ---- the rows that a filter leaves rise if those that it is shown do
 
 all_filtered : (P : List ℕ → Type 0) (answers : Answers) (closing : Closing) (rows : List Row) → AllByRecursion (λ r. P r.key) rows → AllByRecursion (λ r. P r.key) (filtered answers closing rows).rows
 all_filtered P answers closing [] all = tt
@@ -135,12 +141,8 @@ module _ (answers : Answers) (closing : Closing) (failure : Option SlateDBError)
   as_open : (kept : Option SlateDBError) (s : IteratorState) → F kept s ≡ filtering kept false answers closing s
   as_open kept s = ap (λ (b : Bool). filtering kept b answers closing s) opened
 
-  true_or : (b : Bool) → (b ≡ false → ⊥) → b ≡ true
-  true_or true h = refl
-  true_or false h = absurd (h refl)
-
   was_initialised : (key : List ℕ) → Seeks key inner after (Ok tt) → inner.initialised ≡ true
-  was_initialised key seeks = true_or inner.initialised (λ i. let e = (seeks.uninitialised knows.alive i).answer in cc e)
+  was_initialised key seeks = true_from_ne_false inner.initialised (λ i. let e = (seeks.uninitialised knows.alive i).answer in cc e)
 
   pub seeks_filtered : (key : List ℕ) → Seeks key inner after (Ok tt) → Seeks key (F failure inner) (F failure after) (Ok tt)
   seeks_filtered key seeks =
@@ -197,7 +199,7 @@ module _ (answers : Answers) (closing : Closing) (failure : Option SlateDBError)
         subst (λ (b : Bool). Seeks key (filtering failure b answers closing inner) (filtering kept b answers closing after) (Err answer)) (sym opened)
         (seek_refused (filtering failure false answers closing inner) (filtering kept false answers closing after) inner after e answer alive knows.alive keeps refl (stays false) key (λ exact. absurd (cc exact)) seeks)
 
--- the law of a resumed filter
+-- The law on a filter under an iterator that resumes.
 pub filters_see_the_key : FiltersSeeTheKey
 filters_see_the_key answers closing inner left new cursor moves is =
     ap (λ (s : IteratorState). s.rows) is ∙ ap (λ (s : IteratorState). without_first (is_written cursor) (filtered answers closing s.rows).rows) moves

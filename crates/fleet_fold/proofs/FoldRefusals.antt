@@ -1,4 +1,4 @@
--- What refuses the next of folded rows.
+-- What refuses the next of the folded rows.
 use Rattle.std.proofs.Common.{◌≡◌, ◌≢◌, ◌∙◌, sym, refl, ap, subst, ℕ, List, [], ◌∷◌, map, ◌&&◌, Bool, true, false, length, Option, Some, None, Ok, Err}
 use Rattle.std.specs.Prelude.{Result, if◌then◌else◌, reverse}
 use Rattle.std.specs.Option.{is_none}
@@ -19,7 +19,7 @@ use Rattle.fleet_fold.specs.Merging.{merging}
 use Rattle.fleet_fold.specs.Retention.{from_ahead}
 use Rattle.fleet_fold.specs.declared.group.GroupRule.{GroupRule}
 
--- it is want of memory, or it is not
+-- An error that cannot differ from `Memory` is `Memory`.
 memory_or : (e : SlateDBError) → (e ≢ Memory → ⊥) → e ≡ Memory
 memory_or IteratorNotInitialized h = absurd (h (λ is. cc is))
 memory_or IteratorFailed h = absurd (h (λ is. cc is))
@@ -36,7 +36,7 @@ memory_or (Conflict seen) h = absurd (h (λ is. cc is))
 memory_or (Generate message) h = absurd (h (λ is. cc is))
 memory_or Memory h = refl
 
--- ---- what a fold refuses with says nothing of the iterator
+-- ---- the error of a fold is no error of an iterator
 
 abbrev OfFold : SlateDBError → Type 0
 OfFold e = (e ≢ IteratorNotInitialized) × (e ≢ IteratorFailed)
@@ -89,7 +89,7 @@ module _ (merge : Operator) where
         by true h = of_group (r, joining rule r rows) e (head _ (Err e) _ others h)
         by false h = let clash : ◌≡◌ {A = Result Row SlateDBError} (Ok r) (Err e) = head (Ok r) (Err e) _ others h in absurd (cc clash)
 
-    -- an answer that is a refusal comes behind no row
+    -- If the first answer is an error, no row comes before it.
     refused : (rows : List Row) (e : SlateDBError) (others : List (Result Row SlateDBError)) → folded_behind merge rule 0 rows ≡ Err e ∷ others → folded merge rule rows ≡ record { rows = []; refusal = Some e }
     refused rows e others h = ap up_to_refusal h
 
@@ -98,7 +98,7 @@ module _ (merge : Operator) where
     both true false h = absurd (cc h)
     both false b h = absurd (cc h)
 
-    -- rows of which the first was read ahead
+    -- What refuses the next row is the same whether or not the first row was read ahead.
     pub next_handed : (ahead : Option RowEntry) (inner read after : IteratorState) (first : Row) (e : SlateDBError) → from_ahead ahead inner ≡ first ∷ read.rows → inner.whole ≡ read.whole
         → RefusesNext merge rule (first ∷ read.rows) read after e → RefusesNext merge rule (from_ahead ahead inner) inner after e
     next_handed ahead inner read after first e rows whole refuses = record {
@@ -107,7 +107,7 @@ module _ (merge : Operator) where
       merged = λ ok other. let (others, is) = refuses.merged ok other in (others, ap (folded_behind merge rule 0) rows ∙ is);
     }
 
-    -- a refusal that was kept
+    -- What refuses the next row still does once the iterator has kept the error.
     pub next_kept : (rows : List Row) (old after : IteratorState) (e answer : SlateDBError) → (answer ≢ Memory → answer ≡ e) → (e ≡ Memory → answer ≡ Memory) → RefusesNext merge rule rows old after e → RefusesNext merge rule rows old after answer
     next_kept rows old after e answer same memory refuses = record {
       read = λ failed. kept_cause old.whole old.whole e answer (λ all. all) same memory (refuses.read failed);
@@ -155,7 +155,7 @@ module _ (merge : Operator) where
                   let clash : false ≡ true = sym (ap is_none some) ∙ (both inner.whole _ w).1 in cc clash);
             }
 
-    -- what refuses the first answer is not that the iterator was not initialised
+    -- The error that refuses the next row is not `IteratorNotInitialized`.
     pub not_early : (rows : List Row) (old after : IteratorState) (r : Row) (rest : List Row) (e : SlateDBError) → rows ≡ r ∷ rest → RefusesNext merge rule rows old after e → e ≢ IteratorNotInitialized
     not_early rows old after r rest e is refuses early = by after.failure refl
       where

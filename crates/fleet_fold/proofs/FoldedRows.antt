@@ -1,4 +1,4 @@
--- The row that a group becomes, and what is behind it.
+-- The row that a group becomes, and the rows after the group.
 use Rattle.std.proofs.Common.{◌≡◌, ◌∙◌, refl, ap, subst, List, [], ◌∷◌, ◌++◌, Bool, true, false, length, Option, None, Ok}
 use Rattle.std.specs.Prelude.{Result, if◌then◌else◌}
 use Rattle.std.specs.Option.{option_to_list}
@@ -26,7 +26,7 @@ module _ (merge : Operator) (rule : GroupRule) where
     steady = steady;
   }
 
-  -- a group that was read is refused
+  -- A group whose rows were all read is refused if it cannot be closed.
   pub refuses_joined : (first : Row) (old : IteratorState) (base : Option RowEntry) (g : Group) (later : Option RowEntry) (new : IteratorState) (e : SlateDBError) → Joins merge rule first old base g later new → new.failure ≡ None
       → RefusesClose merge g (rows_of (option_to_list base)) e → RefusesGroup merge rule first old new e
   refuses_joined first old base g later new e h alive refuses = record {
@@ -35,7 +35,7 @@ module _ (merge : Operator) (rule : GroupRule) where
     merged = λ _ other. ap (λ (rows : List Row). merged_group merge (first, rows)) h.joined ∙ refuses first h.taken h.gathers other;
   }
 
-  -- behind the rows that a group has taken
+  -- The rows that a group has taken are skipped.
   behind_taken : (xs later : List Row) → folded_behind merge rule (length xs) (xs ++ later) ≡ folded_behind merge rule 0 later
   behind_taken [] later = refl
   behind_taken (x ∷ xs) later = behind_taken xs later

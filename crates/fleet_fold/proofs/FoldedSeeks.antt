@@ -1,5 +1,6 @@
--- Folded rows from a key on are those of the rows from the key on, and folded rows rise as the rows do.
+-- The folded rows from a key on are what the rows from the key on fold to. Folded rows rise if the rows do.
 use Rattle.std.proofs.Common.{◌≡◌, ◌∙◌, sym, refl, ap, subst, ℕ, zero, suc, List, [], ◌∷◌, ◌++◌, cond, ◌&&◌, Bool, true, false, length, Option, Some, None, Ok, Err}
+use Rattle.std.proofs.lemmas.Bool.{and_parts, and_right, true_from_ne_false}
 use Rattle.std.specs.Prelude.{Result, if◌then◌else◌, bytes_eq}
 use Rattle.std.specs.List.{AllByRecursion}
 use Rattle.std.specs.Option.{is_none, option_to_list}
@@ -19,24 +20,25 @@ use Rattle.fleet_fold.specs.Merging.{merging, ReadsGroups}
 use Rattle.fleet_fold.specs.Retention.{from_ahead}
 use Rattle.fleet_fold.specs.declared.group.GroupRule.{GroupRule}
 use Rattle.fleet_fold.proofs.Keys.{seek-through, rising_back}
+use Rattle.fleet_fold.proofs.Plain.{inexact}
 
 module _ (merge : Operator) (rule : GroupRule) where
-  abbrev U : ℕ → List Row → Folded
+  abbrev pub U : ℕ → List Row → Folded
   U taken rows = up_to_refusal (folded_behind merge rule taken rows)
 
-  -- what a row and those behind it become
-  abbrev made_of : Bool → Row → List Row → Folded
+  -- What a row and the rows after it become.
+  abbrev pub made_of : Bool → Row → List Row → Folded
   made_of opened r rows =
       up_to_refusal (if opened then merged_group merge (r, joining rule r rows) ∷ folded_behind merge rule (length (joining rule r rows)) rows else Ok r ∷ folded_behind merge rule 0 rows)
 
-  merged_key : (g : Chunk Row) (q : Row) → merged_group merge g ≡ Ok q → q.key ≡ g.0.key
+  pub merged_key : (g : Chunk Row) (q : Row) → merged_group merge g ≡ Ok q → q.key ≡ g.0.key
   merged_key g q h = by (group_answer merge g) h
     where
       by : (answer : Result (List ℕ) SlateDBError) → row_of_answer g answer ≡ Ok q → q.key ≡ g.0.key
       by (Ok bytes) h = let e : merged_row g bytes ≡ q = cc in sym (ap (λ (r : Row). r.key) e)
       by (Err e) h = absurd (cc h)
 
-  -- each row that is made has the key of one of the rows
+  -- Each folded row has the key of one of the rows.
   all_made : (P : List ℕ → Type 0) (taken : ℕ) (rows : List Row) → AllByRecursion (λ r. P r.key) rows → AllByRecursion (λ r. P r.key) (U taken rows).rows
   all_made P taken [] all = tt
   all_made P (suc taken) (r ∷ rows) all = all_made P taken rows all.1
@@ -67,7 +69,7 @@ module _ (merge : Operator) (rule : GroupRule) where
   -- ---- from a key on
 
   module _ (key : List ℕ) where
-    -- the first rows, so many, are below the key
+    -- The first rows, up to the given number, are below the key.
     abbrev AreBelow : ℕ → List Row → Type 0
     AreBelow zero rows = Unit {0}
     AreBelow (suc n) [] = Unit {0}
@@ -80,7 +82,7 @@ module _ (merge : Operator) (rule : GroupRule) where
     and_left true b h = refl
     and_left false b h = h
 
-    -- a row's group is below the key as the row is
+    -- If a row is below the key, the rows that join its group are too.
     joining_below : (r : Row) (rows : List Row) → is_below key r ≡ true → AreBelow (length (joining rule r rows)) rows
     joining_below r [] h = tt
     joining_below r (q ∷ rows) h = by (same_group rule r.key r.expires q) refl (is_operand q) (joining_below r rows h)
@@ -103,12 +105,12 @@ module _ (merge : Operator) (rule : GroupRule) where
     keep_first : (q : Row) (rows : List Row) → is_below key q ≡ false → from_key key (q ∷ rows) ≡ q ∷ rows
     keep_first q rows h = ap (λ (b : Bool). cond b (from_key key rows) (q ∷ rows)) h
 
-    -- rows of which the first is not below the key stay
+    -- If the first row is not below the key, all rows stay.
     stays : (answer : Result Row SlateDBError) (later : Folded) → ((q : Row) → answer ≡ Ok q → is_below key q ≡ false) → (before_refusal answer later).refusal ≡ None → before_refusal answer later ≡ From (before_refusal answer later)
     stays (Err e) later at none = absurd (cc none)
     stays (Ok q) later at none = ap (F (q ∷ later.rows)) none ∙ ap (λ (w : List Row). F w None) (sym (keep_first q later.rows (at q refl)))
 
-    -- a first row that is below it goes
+    -- If the first row is below the key, it is dropped.
     goes : (answer : Result Row SlateDBError) (later : Folded) → ((q : Row) → answer ≡ Ok q → is_below key q ≡ true) → (before_refusal answer later).refusal ≡ None → From (before_refusal answer later) ≡ From later
     goes (Err e) later below none = absurd (cc none)
     goes (Ok q) later below none = ap (λ (w : List Row). F w None) (pass_first q later.rows (below q refl))
@@ -160,19 +162,6 @@ module _ (key : List ℕ) (merge : Operator) (rule : GroupRule) (ahead later : O
   abbrev S : List Row → Bool → Bool → Bool → Option SlateDBError → IteratorState
   S rows initialised steady whole refusal = record { rows = rows; initialised = initialised; failure = None; whole = whole; steady = steady; refusal = refusal }
 
-  parts : (a b : Bool) → a && b ≡ true → (a ≡ true) × (b ≡ true)
-  parts true b h = (refl, h)
-  parts false b h = absurd (cc h)
-
-  never : (a b : Bool) → b ≡ false → a && b ≡ false
-  never true b h = h
-  never false b h = refl
-
-  inexact : (a b c : Bool) → a && b ≡ false → a && (b && c) ≡ false
-  inexact true true c h = absurd (cc h)
-  inexact true false c h = refl
-  inexact false b c h = refl
-
   left_over : from_ahead later after ≡ after.rows
   left_over = ap (λ (o : Option RowEntry). rows_of (option_to_list o) ++ after.rows) gone
 
@@ -189,9 +178,9 @@ module _ (key : List ℕ) (merge : Operator) (rule : GroupRule) (ahead later : O
 
   moved : AreRising inner.rows → (exact : Bool) → is_exact inner ≡ exact → (o : Option SlateDBError) → (folded merge rule R).refusal ≡ o → Moves exact key inner after → Moves (inner.steady && W) key A B
   moved rising true exact None eo m =
-      let ew : inner.whole ≡ true = (parts inner.steady inner.whole exact).1 in
+      let ew : inner.whole ≡ true = (and_parts inner.steady inner.whole exact).1 in
       let w_true : W ≡ true = ap (λ (b : Bool). b && is_none (folded merge rule R).refusal) ew ∙ ap is_none eo in
-      let was : inner.steady && W ≡ true = ap (λ (b : Bool). b && W) (parts inner.steady inner.whole exact).0 ∙ w_true in
+      let was : inner.steady && W ≡ true = ap (λ (b : Bool). b && W) (and_parts inner.steady inner.whole exact).0 ∙ w_true in
       let rows : from_ahead later after ≡ from_key key R = left_over ∙ (ap (λ (s : IteratorState). s.rows) m ∙ sym through) in
       let made : folded merge rule (from_ahead later after) ≡ record { rows = from_key key (folded merge rule R).rows; refusal = None } = ap (folded merge rule) rows ∙ folded_from merge rule key 0 R tt eo in
       let left : B.rows ≡ from_key key A.rows = ap (λ (f : Folded). f.rows) made in
@@ -209,40 +198,36 @@ module _ (key : List ℕ) (merge : Operator) (rule : GroupRule) (ahead later : O
       ∙ (ap (λ (b : Bool). S (from_key key A.rows) inner.initialised b B.whole B.refusal) steady
       ∙ (ap (λ (b : Bool). S (from_key key A.rows) inner.initialised inner.steady b B.refusal) whole ∙ ap (S (from_key key A.rows) inner.initialised inner.steady A.whole) (none_left ∙ sym none_there)))))
   moved rising true exact (Some e) eo m =
-      passes (never inner.steady W (never inner.whole (is_none (folded merge rule R).refusal) (ap is_none eo))) (ap (λ (s : IteratorState). s.initialised) m) (moves_rising key inner after true m rising)
+      passes (and_right inner.steady W (and_right inner.whole (is_none (folded merge rule R).refusal) (ap is_none eo))) (ap (λ (s : IteratorState). s.initialised) m) (moves_rising key inner after true m rising)
   moved rising false exact o eo m = passes (inexact inner.steady inner.whole (is_none (folded merge rule R).refusal) exact) m.initialised m.rising
 
-true_or : (b : Bool) → (b ≡ false → ⊥) → b ≡ true
-true_or true h = refl
-true_or false h = absurd (h refl)
-
-pub seeks_folded : (key : List ℕ) (merge : Operator) (rule : GroupRule) (failure : Option SlateDBError) (ahead later : Option RowEntry) (inner after : IteratorState) → failure ≡ None → ReadsGroups failure ahead inner
+pub seeks_folded : (key : List ℕ) (merge : Operator) (rule : GroupRule) (failure : Option SlateDBError) (ahead later : Option RowEntry) (inner after : IteratorState) → failure ≡ None → ReadsGroups merge rule failure ahead inner → AreRising (from_ahead ahead inner)
     → rows_of (option_to_list later) ≡ from_key key (rows_of (option_to_list ahead)) → later ≡ None → Seeks key inner after (Ok tt) → Seeks key (merging failure merge rule ahead inner) (merging failure merge rule later after) (Ok tt)
-seeks_folded key merge rule (Some e) ahead later inner after alive k at gone seeks = absurd (cc alive)
-seeks_folded key merge rule None ahead later inner after alive k at gone seeks =
-    let begun : inner.initialised ≡ true = true_or inner.initialised (λ i. let e = (seeks.uninitialised k.0 i).answer in cc e) in
+seeks_folded key merge rule (Some e) ahead later inner after alive k rises at gone seeks = absurd (cc alive)
+seeks_folded key merge rule None ahead later inner after alive k rises at gone seeks =
+    let begun : inner.initialised ≡ true = true_from_ne_false inner.initialised (λ i. let e = (seeks.uninitialised k.0 i).answer in cc e) in
     let moves : Moves (is_exact inner) key inner after = seeks.answers k.0 begun in
     record {
       failed = λ q. absurd (q refl);
       uninitialised = λ _ i. let e = sym begun ∙ i in absurd (cc e);
-      answers = λ _ _. moved key merge rule ahead later inner after at gone (rising_back (rows_of (option_to_list ahead)) inner.rows k.2) (is_exact inner) refl (folded merge rule (from_ahead ahead inner)).refusal refl moves;
+      answers = λ _ _. moved key merge rule ahead later inner after at gone (rising_back (rows_of (option_to_list ahead)) inner.rows rises) (is_exact inner) refl (folded merge rule (from_ahead ahead inner)).refusal refl moves;
     }
 
-pub reads_groups : (key : List ℕ) (failure : Option SlateDBError) (ahead later : Option RowEntry) (inner after : IteratorState) → ReadsGroups failure ahead inner → later ≡ None → Seeks key inner after (Ok tt) → ReadsGroups failure later after
-reads_groups key (Some e) ahead later inner after k gone seeks = tt
-reads_groups key None ahead later inner after k gone seeks =
-    let begun : inner.initialised ≡ true = true_or inner.initialised (λ i. let e = (seeks.uninitialised k.0 i).answer in cc e) in
+pub reads_groups : (key : List ℕ) (merge : Operator) (rule : GroupRule) (failure : Option SlateDBError) (ahead later : Option RowEntry) (inner after : IteratorState) → ReadsGroups merge rule failure ahead inner → AreRising (from_ahead ahead inner) → later ≡ None → Seeks key inner after (Ok tt) → ReadsGroups merge rule failure later after
+reads_groups key merge rule (Some e) ahead later inner after k rises gone seeks = tt
+reads_groups key merge rule None ahead later inner after k rises gone seeks =
+    let begun : inner.initialised ≡ true = true_from_ne_false inner.initialised (λ i. let e = (seeks.uninitialised k.0 i).answer in cc e) in
     let moves : Moves (is_exact inner) key inner after = seeks.answers k.0 begun in (
       moves_alive key inner after (is_exact inner) moves ∙ k.0,
       (λ other. absurd (other gone)),
-      subst (λ (o : Option RowEntry). AreRising (rows_of (option_to_list o) ++ after.rows)) (sym gone) (moves_rising key inner after (is_exact inner) moves (rising_back (rows_of (option_to_list ahead)) inner.rows k.2)),
+      (λ _. subst (λ (o : Option RowEntry). AreRising (rows_of (option_to_list o) ++ after.rows)) (sym gone) (moves_rising key inner after (is_exact inner) moves (rising_back (rows_of (option_to_list ahead)) inner.rows rises))),
     )
 
-pub reads_alive : (failure : Option SlateDBError) (ahead : Option RowEntry) (inner : IteratorState) → failure ≡ None → ReadsGroups failure ahead inner → inner.failure ≡ None
-reads_alive (Some e) ahead inner alive k = absurd (cc alive)
-reads_alive None ahead inner alive k = k.0
+pub reads_alive : (merge : Operator) (rule : GroupRule) (failure : Option SlateDBError) (ahead : Option RowEntry) (inner : IteratorState) → failure ≡ None → ReadsGroups merge rule failure ahead inner → inner.failure ≡ None
+reads_alive merge rule (Some e) ahead inner alive k = absurd (cc alive)
+reads_alive merge rule None ahead inner alive k = k.0
 
--- one that has failed knows nothing
-pub reads_failed : (failure : Option SlateDBError) (ahead : Option RowEntry) (inner : IteratorState) (e : SlateDBError) → failure ≡ Some e → ReadsGroups failure ahead inner
-reads_failed (Some x) ahead inner e is = tt
-reads_failed None ahead inner e is = absurd (cc is)
+-- Nothing has to hold of the inner iterator once the outer one has failed.
+pub reads_failed : (merge : Operator) (rule : GroupRule) (failure : Option SlateDBError) (ahead : Option RowEntry) (inner : IteratorState) (e : SlateDBError) → failure ≡ Some e → ReadsGroups merge rule failure ahead inner
+reads_failed merge rule (Some x) ahead inner e is = tt
+reads_failed merge rule None ahead inner e is = absurd (cc is)

@@ -1,4 +1,4 @@
--- A fold that is refused on its way.
+-- A fold that is refused before its end.
 use Rattle.std.proofs.Common.{◌≡◌, ◌∙◌, ap, sym, refl, subst, ℕ, ◌+◌, ◌<◌, List, [], ◌∷◌, map, drop, Option, Some, None, Err, length, add-one, get_or, drop-cons}
 use Rattle.std.specs.Prelude.{option_map}
 use Rattle.row_model.specs.Fold.{Operator, Outcome, Merged, Refused, merge_one, fold, fold_bytes}
@@ -7,12 +7,12 @@ use Rattle.fleet_rows.specs.declared.errors.MergeOperatorError.TheVariants.{Empt
 use Rattle.fleet_fold.specs.Operator.{Answers, AnswersBatch}
 
 module _ (merge : Operator) (key : List ℕ) where
-  -- one operand onto an existing value or none
+  -- Merging one operand onto an existing value, or without one, has the operator's answer.
   pub onto_existing : (e : Option (List ℕ)) (x : List ℕ) → merge_one merge key (option_map Merged e) (Merged x) ≡ merge key e x
   onto_existing None x = refl
   onto_existing (Some bytes) x = refl
 
-  -- a refusal is kept
+  -- Once a fold is refused, it stays refused with the same message.
   stays : (message : List ℕ) (xs : List Outcome) → fold merge key (Some (Refused message)) xs ≡ Some (Refused message)
   stays message [] = refl
   stays message (x ∷ xs) = stays message xs
@@ -22,7 +22,7 @@ module _ (merge : Operator) (key : List ℕ) where
   memory_answers (Some (Merged bytes)) = tt
   memory_answers (Some (Refused message)) = tt
 
-  -- what refuses a fold on the way is its answer
+  -- An error of the operator before the end of a fold is the answer of the whole fold.
   refused : (o : Outcome) (xs : List Outcome) (e : MergeOperatorError) → Answers o (Err e) → AnswersBatch (fold merge key (Some o) xs) (Err e)
   refused o xs Memory h = memory_answers (fold merge key (Some o) xs)
   refused (Merged bytes) xs EmptyBatch h = absurd h
@@ -30,7 +30,7 @@ module _ (merge : Operator) (key : List ℕ) where
   refused (Merged bytes) xs (Callback said) h = absurd h
   refused (Refused message) xs (Callback said) h = rw stays h
 
-  -- a call that is refused in the midst of a fold
+  -- If the operator's call for one operand fails, its error is the answer of the whole fold.
   pub refused_at : (e : Option (List ℕ)) (operands : List (List ℕ)) (i : ℕ) (x y : List ℕ) (whole : Option Outcome) (err : MergeOperatorError)
       → i < length operands → x ≡ get_or operands i x → y ≡ x → fold_bytes merge key e (drop i operands) ≡ whole → Answers (merge key e y) (Err err) → AnswersBatch whole (Err err)
   refused_at e operands i x y whole err lt is same so_far h =

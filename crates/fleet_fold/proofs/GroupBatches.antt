@@ -1,4 +1,4 @@
--- A group's operands cut into batches, and the batches' answers.
+-- The operands of a group cut into batches, and the batches' answers.
 use Rattle.std.proofs.Common.{◌≡◌, refl, ap, ℕ, suc, ◌+◌, ◌≤◌, List, [], ◌∷◌, ◌++◌, map, length, Bool, true, false, Ok, Err, arith}
 use Rattle.std.specs.Prelude.{nat_le, Result, if◌then◌else◌}
 use Rattle.std.proofs.lemmas.Bool.{leb-true, leb-false}
@@ -7,7 +7,7 @@ use Rattle.row_laws.specs.Batches.{put_first, batches_from}
 use Rattle.fleet_rows.specs.declared.errors.SlateDBError.{SlateDBError}
 use Rattle.fleet_fold.specs.Folded.{one_more, all_answers}
 
--- elements that fill a batch are the first one
+-- Elements that fill a batch are the first batch.
 pub full_first : (n standing : ℕ) (x : Row) (xs later : List Row) → length xs + suc standing ≡ n → batches_from n standing (x ∷ (xs ++ later)) ≡ (x ∷ xs) ∷ batches_from n 0 later
 full_first n standing x [] later h = by (nat_le n (standing + 1)) refl
   where
@@ -21,7 +21,7 @@ full_first n standing x (y ∷ ys) later h = by (nat_le n (standing + 1)) refl (
     by true e rest = let least = leb-true n (standing + 1) e in absurd (omega arith)
     by false e rest = ap (put_first false x) rest
 
--- elements that do not overfill one are the only batch
+-- Elements that do not exceed one batch are the only batch.
 pub one_batch : (n standing : ℕ) (x : Row) (xs : List Row) → length xs + suc standing ≤ n → batches_from n standing (x ∷ xs) ≡ (x ∷ xs) ∷ []
 one_batch n standing x [] h = by (nat_le n (standing + 1))
   where
@@ -40,7 +40,7 @@ module _ {A : Type 0} where
   all_ok [] = refl
   all_ok (x ∷ xs) = ap (one_more (Ok x)) (all_ok xs)
 
-  -- the first refusal is the answer
+  -- The first error is the answer.
   pub first_refused : (xs : List A) (e : SlateDBError) (later : List (Result A SlateDBError)) → all_answers (map Ok xs ++ Err e ∷ later) ≡ Err e
   first_refused [] e later = refl
   first_refused (x ∷ xs) e later = ap (one_more (Ok x)) (first_refused xs e later)

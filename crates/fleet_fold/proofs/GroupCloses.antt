@@ -42,7 +42,7 @@ over_a_base (Value own) bytes is = refl
 over_a_base (Merge own) bytes is = absurd (cc is)
 over_a_base Tombstone bytes is = refl
 
--- ---- its row
+-- ---- the row of a group
 
 abbrev row_with : Content → List ℕ → ℕ → Option ℤ → Option ℤ → Row
 row_with content key seq created expires = record { key = key; content = content; seq = seq; created = created; expires = expires }
@@ -53,7 +53,7 @@ same_row a b k k' s s' c c' e e' h p q r t =
     ∙ (ap (λ (w : Option ℤ). row_with b k' s' w e) r ∙ ap (λ (w : Option ℤ). row_with b k' s' c' w) t)))
 
 module _ (merge : Operator) where
-  -- the answer over a base that is no operand, or over none
+  -- The answer of a group, over a base that is no operand or without a base.
   answer_at : (first : Row) (taken base : List Row) (g : Group) → IsMerged merge first taken g → operands_in base ≡ [] → base_among base ≡ base → group_answer merge (first, taken ++ base) ≡ over_base merge first base (Ok g.folded.items)
   answer_at first taken base g h none own =
       let A : List Row → Result (List ℕ) SlateDBError = batch_answer merge first in
@@ -62,7 +62,7 @@ module _ (merge : Operator) where
       (ap (λ (w : List Row). all_answers (map A (batches batch_len (first ∷ w)))) (operands_in-append taken base h.operands.1 ∙ (ap (λ (w : List Row). taken ++ w) none ∙ append-nil taken))
       ∙ (ap all_answers h.folded ∙ all_ok g.folded.items))
 
-  -- without a base
+  -- A group without a base becomes its row.
   pub closes_alone : (old g : Group) (bytes : List ℕ) → Flushes merge old g → answer_of (fold_bytes merge g.key None (reverse g.folded.items)) ≡ Ok bytes → Closes merge old [] (with_value g (Merge bytes))
   closes_alone old g bytes flushes is first taken gathers =
       let h = all_merged merge old g first taken gathers flushes in
@@ -73,7 +73,7 @@ module _ (merge : Operator) where
       (ap (λ (w : List Row). greatest_created (first ∷ w)) (append-nil taken) ∙ sym h.created)
       (ap (λ (w : List Row). least_expiry (first ∷ w)) (append-nil taken) ∙ sym h.expires))
 
-  -- the fold over a base that was noted, as the group's answer
+  -- The answer of a group is the fold over the base, which was noted.
   noted_answer : (first : Row) (taken : List Row) (g noted : Group) (r : Row) → IsMerged merge first taken g → Notes g r noted → is_operand r ≡ false
       → group_answer merge (first, taken ++ r ∷ []) ≡ in_order noted.seq noted.late (answer_of (fold_bytes merge noted.key (base_bytes (group_base (r ∷ []))) (reverse noted.folded.items)))
   noted_answer first taken g noted r h notes plain =
@@ -108,7 +108,7 @@ module _ (merge : Operator) where
       (greatest-snoc (first ∷ taken) r ∙ sym (notes.created ∙ ap (λ (w : Option ℤ). greater_stamp w r.created) h.created))
       (least-snoc (first ∷ taken) r ∙ sym (notes.expires ∙ ap (λ (w : Option ℤ). lesser_stamp w r.expires) h.expires)))
 
-  -- ---- what refuses it
+  -- ---- what refuses to close a group
 
   pub refuses_flush : (old : Group) (base : List Row) (e : SlateDBError) → operands_in base ≡ [] → RefusesFlush merge old e → RefusesClose merge old base e
   refuses_flush old base e none refuses first taken gathers = refuses_last merge old e refuses first taken base gathers none

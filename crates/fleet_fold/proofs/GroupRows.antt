@@ -1,4 +1,4 @@
--- One more row in a group: its operands, its stamps and its order; and the group's operands and its base.
+-- One more row in a group: its operands, its stamps and its order. The operands of a group, and its base.
 use Rattle.std.proofs.Common.{◌≡◌, ◌∙◌, sym, refl, ap, ℕ, ℤ, pos, negsuc, List, [], ◌∷◌, ◌++◌, Bool, true, false, cond, Option, Some, None, arith}
 use Rattle.std.specs.Prelude.{int_le, not, if◌then◌else◌}
 use Rattle.std.specs.Option.{option_or}
@@ -90,7 +90,7 @@ pub operands-snoc : (xs : List Row) (q : Row) → AllOperands xs → is_operand 
 operands-snoc [] q h is = (is, tt)
 operands-snoc (x ∷ xs) q h is = (h.0, operands-snoc xs q h.1 is)
 
--- operands behind rows that are operands are older
+-- `group_operands` gives the oldest operand first, so the operands of later rows come first.
 pub group_operands-append : (xs ys : List Row) → AllOperands xs → group_operands (xs ++ ys) ≡ group_operands ys ++ group_operands xs
 group_operands-append [] ys h = sym (append-nil (group_operands ys))
 group_operands-append (x ∷ xs) ys h = by x.content h.0 (group_operands-append xs ys h.1)
@@ -110,7 +110,8 @@ group_base-append (x ∷ xs) ys h = by x.content h.0 (group_base-append xs ys h.
     by (Merge bytes) is rest = rest
     by Tombstone is rest = absurd (cc is)
 
--- the operands of a group, and its base
+-- If the first rows are operands, the operands of all rows are these, followed by the operands of the later
+-- rows.
 pub operands_in-append : (xs ys : List Row) → AllOperands xs → operands_in (xs ++ ys) ≡ xs ++ operands_in ys
 operands_in-append [] ys h = refl
 operands_in-append (x ∷ xs) ys h =

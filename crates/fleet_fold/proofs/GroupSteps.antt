@@ -1,4 +1,4 @@
--- What the steps of a group keep, and what refuses it.
+-- What the steps of a group keep, and what refuses a group.
 use Rattle.std.proofs.Common.{◌≡◌, ◌≢◌, ◌∙◌, sym, refl, ap, subst, ℕ, ℤ, ◌+◌, ◌<◌, ◌≤◌, suc, List, [], ◌∷◌, ◌++◌, map, reverse, length, Bool, true, Option, Some, None, Ok, Err, arith}
 use Rattle.std.specs.Prelude.{Result, if◌then◌else◌}
 use Rattle.std.proofs.lemmas.Bool.{le-leb}
@@ -78,7 +78,7 @@ module _ (merge : Operator) where
 -- ---- a batch is merged
 
 module _ (merge : Operator) where
-  -- the operands that are not merged yet answer as a batch
+  -- The operands that wait to be merged have the answer of a batch.
   as_batch : (first : Row) (taken : List Row) (most : ℕ) (g : Group) (h : GathersUpTo most merge first taken g) → pending_answer merge g ≡ batch_answer merge first h.pending
   as_batch first taken most g h =
       ap (λ (n : ℕ). in_order n g.late (answer_of (fold_bytes merge g.key None (reverse g.batch.items)))) h.seq
@@ -86,7 +86,7 @@ module _ (merge : Operator) where
       ∙ (ap (λ (k : List ℕ). in_order first.seq (last_above first.seq h.pending) (answer_of (fold_bytes merge k None (reverse g.batch.items)))) h.key
       ∙ ap (λ (w : List (List ℕ)). in_order first.seq (last_above first.seq h.pending) (answer_of (fold_bytes merge first.key None w))) h.batch))
 
-  -- there is one where there are such operands
+  -- There is an answer if operands wait to be merged.
   has_answer : (answer : Result (List ℕ) SlateDBError) (batch : List (List ℕ)) (p : Row) (pending : List Row) → length batch ≡ length (p ∷ pending) → left_to_merge answer batch ≡ answer ∷ []
   has_answer answer [] p pending h = absurd (cc h)
   has_answer answer (x ∷ batch) p pending h = refl
@@ -98,7 +98,7 @@ module _ (merge : Operator) where
   is_filled : (batch : List (List ℕ)) (p : Row) (pending : List Row) → length batch ≡ length (p ∷ pending) → batch ≢ []
   is_filled batch p pending h e = let none : length batch ≡ 0 = ap length e in absurd (omega arith)
 
-  -- the results of all batches, with that of a last one
+  -- The results of all batches, with the result of a last batch.
   with_last : (first : Row) (done : List (List Row)) (p : Row) (pending : List Row) (old new : Group) → map (batch_answer merge first) done ≡ map Ok old.folded.items → length old.batch.items ≡ length (p ∷ pending)
       → pending_answer merge old ≡ batch_answer merge first (p ∷ pending) → Flushes merge old new → map (batch_answer merge first) (done ++ (p ∷ pending) ∷ []) ≡ map Ok new.folded.items
   with_last first done p pending old new folded count same flushes =
@@ -107,7 +107,7 @@ module _ (merge : Operator) where
       ∙ (ap (λ (a : Result (List ℕ) SlateDBError). map Ok old.folded.items ++ a ∷ []) (sym same)
       ∙ (ap (λ (w : List (Result (List ℕ) SlateDBError)). map Ok old.folded.items ++ w) (sym (has_answer (pending_answer merge old) old.batch.items p pending count)) ∙ sym flushes.folded)))
 
-  -- a batch that is not full stays
+  -- A batch that is not full is not merged.
   pub stays_open : (g : Group) → length g.batch.items < batch_len → FlushesFull merge g g
   stays_open g short first taken h = record {
     key = h.key;
@@ -155,7 +155,7 @@ module _ (merge : Operator) where
             room = omega arith;
           }
 
-  -- a batch that is refused
+  -- If a group's answer is an error, the group is refused with it.
   refused_answer : (first : Row) (rows : List Row) (e : SlateDBError) → group_answer merge (first, rows) ≡ Err e → merged_group merge (first, rows) ≡ Err e
   refused_answer first rows e h = ap (row_of_answer (first, rows)) h
 

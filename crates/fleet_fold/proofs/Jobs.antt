@@ -1,4 +1,4 @@
--- Key after key, what is kept of folded rows is a job's rows.
+-- What is kept of the folded rows, key after key, is the job's rows.
 use Rattle.std.proofs.Common.{◌≡◌, ◌∙◌, sym, refl, ap, subst, ℕ, zero, suc, ◌≤◌, List, [], ◌∷◌, ◌++◌, map, length, ◌&&◌, Bool, true, false, Option, Some, None, Ok, Err, arith}
 use Rattle.std.specs.Prelude.{bytes_eq, flat_map, option_map, Result, if◌then◌else◌}
 use Rattle.std.specs.List.{AllByRecursion}
@@ -50,7 +50,7 @@ module _ (merge : Operator) (rule : GroupRule) where
       by true false rest = omega arith
       by false operand rest = omega arith
 
-  -- a group of the one takes no row of the other
+  -- A group in the first list takes no row of the second list.
   behind-append : (taken : ℕ) (xs ys : List Row) → taken ≤ length xs → AreApart xs ys → folded_behind merge rule taken (xs ++ ys) ≡ folded_behind merge rule taken xs ++ folded_behind merge rule 0 ys
   behind-append zero [] ys few apart = refl
   behind-append (suc taken) [] ys few apart = absurd (omega arith)
@@ -143,7 +143,7 @@ module _ (settings : Settings) where
 
 -- ---- key after key
 
--- what a job makes of keys
+-- What a job makes of the given keys.
 abbrev pub keys_job : Operator → Settings → List (Chunk Row) → JobRows
 keys_job merge settings gs = joined_keys (map (λ g. key_rows merge settings (elements g)) gs)
 
@@ -163,7 +163,7 @@ module _ (merge : Operator) (lawful : IsLawful merge) (settings : Settings) (g :
   apart : AreApart (elements g) (flat gs)
   apart = apart_key g.0.key (elements g) (flat gs) whole.0.keys whole.1
 
-  -- a key in which no fold refuses
+  -- What the job makes of a key in which no fold refuses.
   pub made_here : here.refusal ≡ None → key_rows merge settings (elements g) ≡ Some (kept_rows settings here.rows)
   made_here none = ap (option_map (kept_rows settings)) (sym is_model ∙ ap (λ (e : Option SlateDBError). if is_none e then Some here.rows else None) none)
 
@@ -173,7 +173,7 @@ module _ (merge : Operator) (lawful : IsLawful merge) (settings : Settings) (g :
   pub folded_on : here.refusal ≡ None → folded merge (job_rule settings.cut) (elements g ++ flat gs) ≡ folded_of (here.rows ++ later.rows) later.refusal
   folded_on none = folded-append merge (job_rule settings.cut) (elements g) (flat gs) apart none
 
-  -- one in which a fold refuses
+  -- The job makes nothing of a key in which a fold refuses.
   pub refused_here : (e : SlateDBError) → here.refusal ≡ Some e → key_rows merge settings (elements g) ≡ None
   refused_here e some = ap (option_map (kept_rows settings)) (sym is_model ∙ ap (λ (e : Option SlateDBError). if is_none e then Some here.rows else None) some)
 
@@ -189,7 +189,8 @@ module _ (merge : Operator) (lawful : IsLawful merge) (settings : Settings) (g :
   pub later_keys : HaveOthers g.0.key later.rows
   later_keys = folded_keys merge (job_rule settings.cut) (λ k. bytes_eq g.0.key k ≡ false) (flat gs) whole.1
 
--- folded rows and a job's rows
+-- Folded rows and a job agree. Folding is refused exactly if the job is not whole, and otherwise the kept
+-- rows are the job's rows.
 abbrev Agree : Settings → Folded → JobRows → Type 0
 Agree settings f job = (is_none f.refusal ≡ job.whole) × (job.whole ≡ true → kept_of_keys settings f.rows ≡ job.rows)
 

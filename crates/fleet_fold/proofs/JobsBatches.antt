@@ -1,4 +1,5 @@
--- Batches of what a list is mapped to, what holds of the elements of batches, and answers without their refusals.
+-- Batches of the images of a list, what holds of the elements of batches, and answers of which an error
+-- becomes None.
 use Rattle.std.proofs.Common.{◌≡◌, ◌∙◌, refl, ap, ℕ, ◌+◌, List, [], ◌∷◌, map, Bool, true, false, Ok, Err}
 use Rattle.std.specs.Prelude.{nat_le, Result, if◌then◌else◌}
 use Rattle.std.specs.List.{AllByRecursion}
@@ -41,7 +42,7 @@ module _ {A : Type 0} (P : A → Type 0) where
   pub batches_all : (n : ℕ) (xs : List A) → AllByRecursion P xs → AllIn (batches n xs)
   batches_all n xs all = from_all n 0 xs all
 
--- one answer more, where refusals are none
+-- One answer before all others, where an error becomes None.
 
 module _ {A : Type 0} where
   pub more_ok : (a : Result A SlateDBError) (others : Result (List A) SlateDBError) → result_ok (one_more a others) ≡ cons_both (result_ok a) (result_ok others)

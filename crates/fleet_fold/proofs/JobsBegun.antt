@@ -1,4 +1,4 @@
--- Folded rows begin a job's rows, also where a fold refuses.
+-- Folded rows begin a job's rows, even if a fold refuses.
 use Rattle.std.proofs.Common.{◌≡◌, ◌≢◌, ◌∙◌, sym, refl, ap, subst, ℕ, List, [], ◌∷◌, ◌++◌, map, Bool, true, false, Option, Some, None}
 use Rattle.std.specs.Prelude.{bytes_eq, filter, if◌then◌else◌}
 use Rattle.std.specs.List.{AllByRecursion}
@@ -67,14 +67,14 @@ module _ (merge : Operator) (lawful : IsLawful merge) (settings : Settings) (g :
   unfolding IsStrictlySortedBy
   after = ordered.0
 
-  -- none is below the first, nor below a key that the first is not below
+  -- If the first row is not below a key, no row is.
   none_lower : (key : List ℕ) → is_below key g.0 ≡ false → AllByRecursion (λ q. is_below key q ≡ false) all
   none_lower key high = (high, none_below key g.0 (g.1 ++ flat gs) high after)
 
   own_lower : AllByRecursion (λ q. is_below g.0.key q ≡ false) all
   own_lower = none_lower g.0.key (ap is_lt (key_alike g.0.key))
 
-  -- the first key is below the others
+  -- The first key is below all later keys.
   under : AllByRecursion (λ q. is_below q.key g.0 ≡ true) (flat gs)
   under = both (flat gs) (all_back (λ q. row_cmp g.0 q ≡ Less) g.1 (flat gs) after) whole.1
     where
@@ -82,7 +82,8 @@ module _ (merge : Operator) (lawful : IsLawful merge) (settings : Settings) (g :
       both [] before others = tt
       both (q ∷ qs) before others = (lesser g.0 q before.0 others.0, both qs before.1 others.1)
 
-  -- so the rows below a key are those of the first key, where that is below it, and those of the others
+  -- If the first key is below a key, the rows below that key are the first key's rows and the other rows
+  -- below it.
   lows : (key : List ℕ) → is_below key g.0 ≡ true → filter (is_below key) all ≡ elements g ++ filter (is_below key) (flat gs)
   lows key low =
       filter-append (is_below key) (elements g) (flat gs)
@@ -143,7 +144,7 @@ module _ (merge : Operator) (lawful : IsLawful merge) (settings : Settings) (g :
           (both_begin (kept_rows settings here.rows) (kept_given settings false later.rows) (keys_job merge settings gs).rows rest)
       by (Some e) some rows is = nothing_begins (kept_given settings false (folded merge rule all).rows) made (ends_alone (rows_end e some))
 
-  -- ---- how far it reaches
+  -- ---- how far the kept rows reach
 
   abbrev Reaches : List Row → List Row → Row → Type 0
   Reaches rows made q = (made ≢ []) × IsPrefixOf (make (filter (is_below q.key) rows)).rows (kept_given settings false made)

@@ -21,12 +21,12 @@ use Rattle.fleet_fold.proofs.Rising.{all_front}
 abbrev pub HaveOthers : List ℕ → List Row → Type 0
 HaveOthers key rows = AllByRecursion (λ q. bytes_eq key q.key ≡ false) rows
 
--- each chunk has the rows of a key, and no later one has a row of it
+-- Each chunk has the rows of one key, and no later chunk has a row of that key.
 abbrev pub AreWholeKeys : List (Chunk Row) → Type 0
 AreWholeKeys [] = ⊤
 AreWholeKeys (g ∷ gs) = AreOfKey g.0.key (elements g) × HaveOthers g.0.key (flat gs) × AreWholeKeys gs
 
--- a later row of the same key has a lesser sequence
+-- A later row of the same key has a lesser sequence.
 falls : (r q : Row) → row_cmp r q ≡ Less → r.key ≡ q.key → q.seq < r.seq
 falls r q before alike =
     ranked q.seq r.seq Less (sym (ap (λ o. ordering_then o (nat_cmp q.seq r.seq)) (sym (ap (key_cmp r.key) (sym alike) ∙ key_alike r.key)) ∙ before))
@@ -35,7 +35,7 @@ all_fall : (r : Row) (rows : List Row) → AllByRecursion (λ q. row_cmp r q ≡
 all_fall r [] before keys = tt
 all_fall r (q ∷ rows) before keys = (falls r q before.0 (sym keys.0), all_fall r rows before.1 keys.1)
 
--- a row of another key that stands before one has a lesser key
+-- A row that is before a row of another key has a lesser key.
 pub lesser : (r q : Row) → row_cmp r q ≡ Less → same_key r q ≡ false → is_below q.key r ≡ true
 lesser r q before other = by (key_cmp r.key q.key) refl before
   where

@@ -1,4 +1,4 @@
--- The row that a group becomes is the model's row of it.
+-- The row that a group becomes is the model's row of that group.
 use Rattle.std.proofs.Common.{◌≡◌, ◌∙◌, sym, refl, ap, ℕ, ◌<◌, ◌≤◌, List, [], ◌∷◌, ◌++◌, map, reverse, Bool, true, false, not, cond, ℤ, pos, negsuc, Option, Some, None, Ok, Err, arith}
 use Rattle.std.specs.Prelude.{int_le, option_map, Result, if◌then◌else◌}
 use Rattle.std.specs.List.{AllByRecursion}
@@ -49,7 +49,7 @@ no_base (Value bytes) older h = absurd (cc h)
 no_base (Merge bytes) older h = refl
 no_base Tombstone older h = absurd (cc h)
 
--- of rows that are operands, oldest first
+-- The bytes of operands, in reverse, are the operands of the group, oldest first.
 operands_back : (rows : List Row) → AllByRecursion IsOperand rows → reverse (map row_bytes rows) ≡ group_operands rows
 operands_back [] all = refl
 operands_back (r ∷ rows) all =
@@ -65,7 +65,7 @@ pass_operands (r ∷ rows) = by (is_operand r) refl (pass_operands rows)
     by true e rest = (e, rest)
     by false e rest = rest
 
--- ---- the rows behind the first of a group: operands, and at most one other row, which is the last
+-- ---- the rows after the first of a group: operands, and at most one other row, which is the last
 
 in_operands : (q : Row) (rows : List Row) (b : Bool) → is_operand q ≡ b → operands_in (q ∷ rows) ≡ cond b (q ∷ operands_in rows) (operands_in rows)
 in_operands q rows b e = ap (λ c. cond c (q ∷ operands_in rows) (operands_in rows)) e
@@ -163,7 +163,7 @@ merged_as (Some base) (Some (Refused message)) = refl
 abbrev pub UpTo : ℕ → Row → Type 0
 UpTo seq q = q.seq ≤ seq
 
--- no row is above the first, so the order refuses nothing
+-- If no row is above the first one, the order refuses nothing.
 none_above : (seq : ℕ) (rows : List Row) → AllByRecursion (UpTo seq) rows → last_above seq rows ≡ None
 none_above seq [] all = refl
 none_above seq (q ∷ rows) all =

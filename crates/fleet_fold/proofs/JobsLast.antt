@@ -1,4 +1,4 @@
--- The keys before the last, and how lists begin.
+-- The keys before the last one, and beginnings of lists.
 use Rattle.std.proofs.Common.{◌≡◌, ◌≢◌, ◌∙◌, sym, refl, ap, ℕ, List, [], ◌∷◌, ◌++◌, length, Bool, true, false, None, Ok, Err}
 use Rattle.std.specs.Prelude.{flat_map, Result, if◌then◌else◌}
 use Rattle.std.specs.List.{AllByRecursion}
@@ -65,12 +65,12 @@ module _ (settings : Settings) (key : List ℕ) where
   pub whole_chunk : (r : Row) (rows : List Row) → AllByRecursion (λ q. q.key ≡ key) (r ∷ rows) → chunk_by same_key (r ∷ rows) ≡ (r, rows) ∷ []
   whole_chunk r rows keys = one_chunk r rows key (all_weaken (λ q. q.key ≡ key) (λ q. key ≡ q.key) (λ q h. sym h) (r ∷ rows) keys)
 
-  -- one key is the last
+  -- If there is only one key, it is the last one, and nothing is given of it.
   pub before_alone : (rows : List Row) → AllByRecursion (λ q. q.key ≡ key) rows → kept_given settings false rows ≡ []
   before_alone [] keys = refl
   before_alone (r ∷ rows) keys = ap (λ (gs : List (Chunk Row)). flat_map kept (front gs)) (whole_chunk r rows keys)
 
-  -- one before others is not
+  -- A key with other keys after it is not the last one, so its kept rows are given.
   pub before_on : (xs ys : List Row) → AllByRecursion (λ q. q.key ≡ key) xs → HaveOthers key ys → xs ≢ [] → ys ≢ [] → kept_given settings false (xs ++ ys) ≡ kept_rows settings xs ++ kept_given settings false ys
   before_on [] ys keys others some more = absurd (some refl)
   before_on (x ∷ xs) [] keys others some more = absurd (more refl)
@@ -79,7 +79,7 @@ module _ (settings : Settings) (key : List ℕ) where
       ap (λ (gs : List (Chunk Row)). flat_map kept (front gs)) (chunk_by-append same_key (x ∷ xs) (y ∷ ys) (apart_key key (x ∷ xs) (y ∷ ys) keys others) ∙ ap (λ (gs : List (Chunk Row)). gs ++ later) (whole_chunk x xs keys))
       ∙ ap (flat_map kept) (before_cons (x, xs) later (chunks_some y ys))
 
--- ---- what rows become, where none is refused, is not nothing
+-- ---- rows that are not refused become at least one row
 
 module _ (merge : Operator) (rule : GroupRule) where
   pub folds_some : (r : Row) (rows : List Row) → (folded merge rule (r ∷ rows)).refusal ≡ None → (folded merge rule (r ∷ rows)).rows ≢ []

@@ -1,4 +1,4 @@
--- Of one key's rows folded rows are the model's.
+-- The folded rows of one key's rows are the model's folded rows.
 use Rattle.std.proofs.Common.{◌≡◌, ◌∙◌, sym, refl, ap, ℕ, zero, suc, ◌≤◌, List, [], ◌∷◌, map, length, ◌&&◌, Bool, true, false, ℤ, Option, Some, None, Ok, Err, arith}
 use Rattle.std.specs.Prelude.{bytes_eq, Result, if◌then◌else◌}
 use Rattle.std.specs.List.{AllByRecursion}
@@ -47,7 +47,7 @@ left_shorter stamp (q ∷ rows) = by (same_stamp stamp q.expires) (is_operand q)
     by true false rest = omega arith
     by false operand rest = omega arith
 
--- what is left is the end of the rows
+-- The rows left after a group are the end of the rows.
 module _ (stamp : Option ℤ) where
   left_all : (P : Row → Type 0) (rows : List Row) → AllByRecursion P rows → AllByRecursion P (left stamp rows)
   left_all P [] all = tt

@@ -1,4 +1,4 @@
--- What refuses a job of strictly ordered rows is the operator, in a group of a key's rows.
+-- A job of strictly ordered rows is refused only by the operator, in a group of one key's rows.
 use Rattle.std.proofs.Common.{◌≡◌, ◌≢◌, ◌∙◌, sym, refl, ap, subst, inl, inr, ℕ, zero, suc, ◌<◌, ◌≤◌, ◌+◌, List, [], ◌∷◌, ◌++◌, map, length, not, cond, Bool, true, false, Option, Some, None, Ok, Err, arith}
 use Rattle.std.specs.Prelude.{◌⊎◌, bytes_eq, nat_le, reverse, Contains, Result, if◌then◌else◌}
 use Rattle.std.specs.Cmp.{ranked}
@@ -110,7 +110,7 @@ batches_some n x xs =
     let full : Bool = nat_le n (0 + 1) in
     put_some full x (batches_from n (if full then 0 else 0 + 1) xs)
 
--- as many results as there are batches, so there are some
+-- There are as many results as batches, so there are some.
 results_some : {A : Type 0} (answers : List (Result A SlateDBError)) (results : List A) → answers ≢ [] → all_answers answers ≡ Ok results → results ≢ []
 results_some [] results some is = absurd (some refl)
 results_some {A} (a ∷ answers) results some is = by a (all_answers answers) is
@@ -123,7 +123,7 @@ results_some {A} (a ∷ answers) results some is = by a (all_answers answers) is
 -- ---- a fold that refuses
 
 module _ (merge : Operator) (key : List ℕ) where
-  -- what an error is, where a fold's answer is one
+  -- What an error is if it is the answer of a fold: the operator's refusal.
   abbrev IsRefusal : Option Outcome → SlateDBError → Type 0
   IsRefusal o e = (message : List ℕ) × (e ≡ MergeOperator (Callback message)) × (o ≡ Some (Refused message))
 
@@ -137,7 +137,7 @@ module _ (merge : Operator) (key : List ℕ) where
   answer_merged (Some (Merged found)) bytes is = let same : found ≡ bytes = cc in ap (λ (b : List ℕ). Some (Merged b)) same
   answer_merged (Some (Refused message)) bytes is = absurd (cc is)
 
-  -- of operands there are some
+  -- A fold of at least one operand has an outcome.
   snoc_some : (e : Option (List ℕ)) (xs : List (List ℕ)) (y : List ℕ) → fold_bytes merge key e (xs ++ y ∷ []) ≢ None
   snoc_some e xs y none =
       let clash : ◌≡◌ {A = Option Outcome} (Some (merge_one merge key (fold_bytes merge key e xs) (Merged y))) None = sym (fold_bytes-snoc merge key e xs y) ∙ none in
@@ -245,7 +245,8 @@ module _ (merge : Operator) (first : Row) where
 
 -- ---- group after group
 
--- rows of a key in front of others
+-- If the first rows have a key, the rows of the key are these, followed by those of the key among the later
+-- rows.
 of_key_in_front : (key : List ℕ) (rows later : List Row) → AllByRecursion (λ q. key ≡ q.key) rows → rows_of_key key (rows ++ later) ≡ rows ++ rows_of_key key later
 of_key_in_front key [] later all = refl
 of_key_in_front key (q ∷ rows) later all =

@@ -24,15 +24,15 @@ module _ (rule : GroupRule) (first : Row) where
   joining_none q rows e = ap (λ (b : Bool). if b then q ∷ (if is_operand q then joining rule first rows else []) else []) e
 
 module _ (merge : Operator) (rule : GroupRule) (first : Row) (old : IteratorState) where
-  -- nothing was taken yet
+  -- No row after the first one was taken yet.
   pub joins_nothing : (g : Group) → Gathers merge first [] g → JoinsSoFar merge rule first old g old
   joins_nothing g h = record { taken = []; gathers = h; joined = refl; parts = refl }
 
-  -- the test of a row, at the group's first row
+  -- A row that is tested against the group is tested against the group's first row.
   own_test : (g : Group) (taken : List Row) (q : Row) (b : Bool) → Gathers merge first taken g → same_group rule g.key g.stamp q ≡ b → same_group rule first.key first.expires q ≡ b
   own_test g taken q b h is = ap (λ (k : List ℕ). same_group rule k first.expires q) (sym h.key) ∙ (ap (λ (s : Option ℤ). same_group rule g.key s q) (sym h.stamp) ∙ is)
 
-  -- one more operand joined
+  -- One more operand joins the group.
   pub joins_operand : (g more : Group) (s new : IteratorState) (row : RowEntry) → s ≡ record new { rows = row_of row ∷ new.rows } → same_group rule g.key g.stamp (row_of row) ≡ true → is_operand (row_of row) ≡ true
       → Adds merge g (row_of row) more → JoinsSoFar merge rule first old g s → JoinsSoFar merge rule first old more new
   joins_operand g more s new row next takes operand adds h =
@@ -46,7 +46,7 @@ module _ (merge : Operator) (rule : GroupRule) (first : Row) (old : IteratorStat
         parts = h.parts ∙ (ap (λ (t : IteratorState). h.taken ++ t.rows) next ∙ sym (append_assoc h.taken (q ∷ []) new.rows));
       }
 
-  -- the next row does not join
+  -- The next row does not join the group.
   pub joins_no_more : (g : Group) (s new : IteratorState) (row : RowEntry) → s ≡ record new { rows = row_of row ∷ new.rows } → same_group rule g.key g.stamp (row_of row) ≡ false
       → JoinsSoFar merge rule first old g s → Joins merge rule first old None g (Some row) new
   joins_no_more g s new row next takes h =
@@ -59,7 +59,7 @@ module _ (merge : Operator) (rule : GroupRule) (first : Row) (old : IteratorStat
         parts = h.parts ∙ (ap (λ (t : IteratorState). h.taken ++ t.rows) next ∙ ap (λ (w : List Row). w ++ (q ∷ new.rows)) (sym (joined ∙ append-nil h.taken)));
       }
 
-  -- the next row is the base
+  -- The next row joins the group as its base.
   pub joins_base : (g : Group) (s new : IteratorState) (row : RowEntry) → s ≡ record new { rows = row_of row ∷ new.rows } → same_group rule g.key g.stamp (row_of row) ≡ true → is_operand (row_of row) ≡ false
       → JoinsSoFar merge rule first old g s → Joins merge rule first old (Some row) g None new
   joins_base g s new row next takes plain h =
@@ -72,17 +72,17 @@ module _ (merge : Operator) (rule : GroupRule) (first : Row) (old : IteratorStat
         parts = h.parts ∙ (ap (λ (t : IteratorState). h.taken ++ t.rows) next ∙ (sym (append_assoc h.taken (q ∷ []) new.rows) ∙ ap (λ (w : List Row). w ++ new.rows) (sym joined)));
       }
 
-  -- no row is left
+  -- No row is left to join the group.
   pub joins_all : (g : Group) (s : IteratorState) → s.rows ≡ [] → JoinsSoFar merge rule first old g s → Joins merge rule first old None g None s
   joins_all g s none h =
       let joined = h.joined ∙ ap (λ (w : List Row). h.taken ++ joining rule first w) none in
       record { taken = h.taken; gathers = h.gathers; joined = joined; parts = h.parts ∙ ap (λ (w : List Row). w ++ s.rows) (sym (joined ∙ append-nil h.taken)) }
 
-  -- the inner iterator failed
+  -- The inner iterator failed while the group was read.
   pub refuses_read : (s : IteratorState) (new : IteratorState) (e : SlateDBError) → s.whole ≡ old.whole → new.failure ≡ Some e → CanFail s.whole e → RefusesGroup merge rule first old new e
   refuses_read s new e same failed h = record { read = λ _. subst (λ (w : Bool). CanFail w e) same h; handed = λ _ _. failed; merged = λ alive. let clash = sym failed ∙ alive in absurd (cc clash) }
 
-  -- an operand was refused
+  -- The group refused to take an operand.
   pub refuses_operand : (g : Group) (s new : IteratorState) (row : RowEntry) (e : SlateDBError) → s ≡ record new { rows = row_of row ∷ new.rows } → same_group rule g.key g.stamp (row_of row) ≡ true → is_operand (row_of row) ≡ true → new.failure ≡ None
       → JoinsSoFar merge rule first old g s → RefusesAdd merge g (row_of row) e → RefusesGroup merge rule first old new e
   refuses_operand g s new row e next takes operand alive h refuses =

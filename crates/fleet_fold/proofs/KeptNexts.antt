@@ -1,5 +1,6 @@
--- What a call of `next` in retention answers.
+-- What `next` of a retention iterator answers.
 use Rattle.std.proofs.Common.{◌≡◌, ◌∙◌, sym, refl, ap, subst, List, [], ◌++◌, Bool, true, false, Option, Some, None, Ok, Err}
+use Rattle.std.proofs.lemmas.Bool.{true_from_ne_false}
 use Rattle.std.specs.Option.{option_to_list}
 use Rattle.std.specs.Prelude.{Result, reverse}
 use Rattle.std.proofs.lemmas.List.{reverse-append}
@@ -13,7 +14,7 @@ use Rattle.fleet_rows.specs.declared.errors.SlateDBError.{SlateDBError}
 use Rattle.fleet_rows.specs.declared.errors.SlateDBError.TheVariants.{IteratorNotInitialized}
 use Rattle.fleet_fold.specs.Retention.{kept_given, from_ahead, retained, Begins, Fills, RefusesFill}
 
--- the row that stands last in a buffer is the next one
+-- The last element of the buffer is the next row.
 pub popped : (rows left : List RowEntry) (row : Option RowEntry) → rows ≡ left ++ option_to_list row → reverse rows ≡ option_to_list row ++ reverse left
 popped rows left row is = ap reverse is ∙ (reverse-append left (option_to_list row) ∙ ap (λ (w : List RowEntry). w ++ reverse left) (one row))
   where
@@ -21,16 +22,12 @@ popped rows left row is = ap reverse is ∙ (reverse-append left (option_to_list
     one None = refl
     one (Some x) = refl
 
-true_or : (b : Bool) → (b ≡ false → ⊥) → b ≡ true
-true_or true h = refl
-true_or false h = absurd (h refl)
-
--- a row is read ahead where none was
+-- A row is read ahead if none was.
 pub begins_next : (inner mid : IteratorState) (ahead row : Option RowEntry) → ahead ≡ None → inner.failure ≡ None → Nexts inner mid (Ok row) → Begins ahead inner row mid
 begins_next inner mid ahead row none alive nexts = subst (λ (o : Option RowEntry). Begins o inner row mid) (sym none) (by row (nexts.answers alive begun))
   where
     begun : inner.initialised ≡ true
-    begun = true_or inner.initialised (λ i. let clash : ◌≡◌ {A = Result (Option RowEntry) SlateDBError} (Ok row) (Err IteratorNotInitialized) = (nexts.uninitialised alive i).answer in cc clash)
+    begun = true_from_ne_false inner.initialised (λ i. let clash : ◌≡◌ {A = Result (Option RowEntry) SlateDBError} (Ok row) (Err IteratorNotInitialized) = (nexts.uninitialised alive i).answer in cc clash)
 
     by : (row : Option RowEntry) → NextAnswers inner mid (Ok row) → Begins None inner row mid
     by None h = record {
@@ -55,7 +52,7 @@ none_kept settings true rows none = ap (kept_given settings true) none
 none_kept settings false rows none = ap (kept_given settings false) none
 
 module _ (settings : Settings) (failure : Option SlateDBError) (alive : failure ≡ None) (buffer : List RowEntry) (ahead read : Option RowEntry) (inner mid : IteratorState) (begins : Begins ahead inner read mid) where
-  -- what is left before a row is read ahead, and after that
+  -- Reading a row ahead does not change the rows left.
   same_rows : rows_of buffer ++ kept_given settings inner.whole (from_ahead ahead inner) ≡ rows_of buffer ++ kept_given settings mid.whole (from_ahead read mid)
   same_rows =
       ap (λ (w : Bool). rows_of buffer ++ kept_given settings w (from_ahead ahead inner)) (sym begins.whole)

@@ -1,4 +1,4 @@
--- A key's rows from the newest on, and at the old end.
+-- The rows of a key from the newest one on, and at their old end.
 use Rattle.std.proofs.Common.{◌≡◌, ◌∙◌, sym, refl, ap, ℕ, ℤ, List, [], ◌∷◌, ◌++◌, Bool, true, false, not, cond, ◌&&◌, Option, Some, None, length, ◌-◌, suc, arith, append-nil}
 use Rattle.std.specs.Prelude.{slice_get, nat_le, reverse, if◌then◌else◌}
 use Rattle.std.specs.Option.{option_to_list}
@@ -32,19 +32,19 @@ walk-kept cut tick r rows h = by (is_operand r) (is_expired r tick) refl (nat_le
     by false expired e true h = refl
     by false expired e false h = refl
 
--- a row taken from the end of rows that are turned round
+-- A row that is taken from the end of reversed rows is the first of the rows.
 pub turned : (xs ys : List RowEntry) (o : Option RowEntry) (row : RowEntry) → xs ≡ ys ++ option_to_list o → o ≡ Some row → rows_of (reverse xs) ≡ row_of row ∷ rows_of (reverse ys)
 turned xs ys o row f e =
     ap (λ (w : List RowEntry). rows_of (reverse w)) (f ∙ ap (λ (z : Option RowEntry). ys ++ option_to_list z) e) ∙ ap (λ (w : List RowEntry). rows_of w) (reverse-append ys (row ∷ []))
 
 module _ (cut : ℕ) (tick : ℤ) where
-  -- an expired operand is passed over
+  -- An expired operand is dropped, and the walk goes on.
   pub passed_over : (kept xs ys : List RowEntry) (o : Option RowEntry) (row : RowEntry) (whole : List Row) → is_dropped tick (row_of row) ≡ true → xs ≡ ys ++ option_to_list o → o ≡ Some row
       → rows_of kept ++ retention_walk cut tick (rows_of (reverse xs)) ≡ whole → rows_of kept ++ retention_walk cut tick (rows_of (reverse ys)) ≡ whole
   passed_over kept xs ys o row whole drops f e so_far =
       ap (λ (w : List Row). rows_of kept ++ w) (sym (ap (retention_walk cut tick) (turned xs ys o row f e) ∙ walk-dropped cut tick (row_of row) (rows_of (reverse ys)) drops)) ∙ so_far
 
-  -- a kept row stands behind those before it
+  -- A kept row comes after the rows that were kept before.
   pub more_kept : (kept all xs ys : List RowEntry) (o : Option RowEntry) (row given : RowEntry) (whole : List Row) (b : Bool) → is_dropped tick (row_of row) ≡ false
       → row_of given ≡ as_tombstone_if_expired tick (row_of row) → all ≡ kept ++ given ∷ [] → xs ≡ ys ++ option_to_list o → o ≡ Some row → ends_walk cut (row_of row) ≡ b
       → rows_of kept ++ retention_walk cut tick (rows_of (reverse xs)) ≡ whole
@@ -60,7 +60,7 @@ module _ (cut : ℕ) (tick : ℤ) where
 
 -- ---- the old end
 
--- a row that is no tombstone ends what is left
+-- If the oldest row is no tombstone, no row is removed.
 strip-whole : (xs : List Row) (x : Row) → is_tombstone x.content ≡ false → without_old_tombstones (xs ++ x ∷ []) ≡ xs ++ x ∷ []
 strip-whole [] x h = rw h refl
 strip-whole (y ∷ ys) x h = ap (before_old_tombstones y) (strip-whole ys x h) ∙ long ys y where
@@ -68,12 +68,12 @@ strip-whole (y ∷ ys) x h = ap (before_old_tombstones y) (strip-whole ys x h) �
   long [] y = refl
   long (z ∷ zs) y = refl
 
--- a tombstone at the old end goes
+-- If the oldest row is a tombstone, it is removed.
 strip-one : (xs : List Row) (x : Row) → is_tombstone x.content ≡ true → without_old_tombstones (xs ++ x ∷ []) ≡ without_old_tombstones xs
 strip-one [] x h = rw h refl
 strip-one (y ∷ ys) x h = ap (before_old_tombstones y) (strip-one ys x h)
 
--- a list with a last row is a front and that row
+-- A list with a last element is a front followed by that element.
 last_splits : (xs : List RowEntry) (x : RowEntry) → slice_get xs (length xs - 1) ≡ Some x → (front : List RowEntry) × (xs ≡ front ++ x ∷ [])
 last_splits [] x h = absurd (cc)
 last_splits (y ∷ []) x h = let e : y ≡ x = cc in ([], ap (λ (z : RowEntry). z ∷ []) e)
@@ -83,7 +83,7 @@ last_splits (y ∷ (z ∷ zs)) x h =
     let r = last_splits (z ∷ zs) x k in
     (y ∷ r.0, ap (λ (w : List RowEntry). y ∷ w) r.1)
 
--- a list ends in one way
+-- Two equal lists have equal fronts.
 same_front : (cs ds : List RowEntry) (a b : RowEntry) → cs ++ a ∷ [] ≡ ds ++ b ∷ [] → cs ≡ ds
 same_front [] [] a b h = refl
 same_front [] (c ∷ cs) a b h = absurd (longer cs (cc))

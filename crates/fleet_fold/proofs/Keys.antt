@@ -1,4 +1,4 @@
--- Rows key after key: the first key's, and what a seek leaves.
+-- Rows key after key: the rows of the first key, and what a seek leaves.
 use Rattle.std.proofs.Common.{◌≡◌, ◌≢◌, ◌∙◌, sym, refl, ap, subst, ℕ, ℤ, List, [], ◌∷◌, ◌++◌, Bool, true, false, cond, Option, None, append-nil}
 use Rattle.std.specs.Prelude.{flat_map, if◌then◌else◌, bytes_eq}
 use Rattle.std.specs.List.{AllByRecursion}
@@ -28,7 +28,7 @@ use Rattle.fleet_fold.proofs.AllKept.{all_kept}
 same : (a b : Row) → same_key a b ≡ true → a.key ≡ b.key
 same a b h = (bytes_eq-Decides a.key b.key).0 h
 
--- rows of one key's first row join each other
+-- Rows of one key join one another.
 joined : (r x : Row) (rows : List Row) → same_key r x ≡ true → AllByRecursion (λ q. same_key r q ≡ true) rows → IsJoined same_key x rows
 joined r x [] h all = tt
 joined r x (y ∷ rows) h all = ((bytes_eq-Decides x.key y.key).1 (sym (same r x h) ∙ same r y all.0), joined r y rows all.0 all.1)
@@ -46,7 +46,7 @@ none_kept settings = by settings.last_run
     by true = refl
     by false = refl
 
--- the first key's rows, and then the others
+-- What is kept of all rows is what is kept of the first key, followed by what is kept of the others.
 pub first_key : (settings : Settings) (rows later : List Row) → HaveOneKey rows → AreEndedBy rows later → kept_of_keys settings (rows ++ later) ≡ kept_rows settings rows ++ kept_of_keys settings later
 first_key settings [] later alike ended =
     ap (λ (w : List Row). w ++ kept_of_keys settings later) (sym (none_kept settings))
@@ -54,13 +54,13 @@ first_key settings (r ∷ rows) later alike ended =
     let own : same_key r r ≡ true = (bytes_eq-Decides r.key r.key).1 refl in
     ap (λ (gs : List (Chunk Row)). flat_map (λ g. kept_rows settings (elements g)) gs) (chunk_is_walked Row same_key r rows later (joined r r rows own alike) (loose r r rows later own alike ended))
 
--- ---- the keys whose rows are all there
+-- ---- keys whose rows are all there
 
--- Retention keeps rows of some keys, one key after the other.
+-- What retention keeps of the given keys, one key after the other.
 abbrev pub of_chunks : Settings → List (Chunk Row) → List Row
 of_chunks settings gs = flat_map (λ g. kept_rows settings (elements g)) gs
 
--- what stands before a list's last element stays before it
+-- An element before the last one is in the front of a list.
 front-more : (c : Chunk Row) (q : Row) (gs : List (Chunk Row)) → front (c ∷ put_before same_key q gs) ≡ c ∷ front (put_before same_key q gs)
 front-more c q [] = refl
 front-more c q (g ∷ gs) = by (same_key q g.0)
@@ -74,7 +74,7 @@ first_chunk r rows later alike ended =
     let own : same_key r r ≡ true = (bytes_eq-Decides r.key r.key).1 refl in
     chunk_is_walked Row same_key r rows later (joined r r rows own alike) (loose r r rows later own alike ended)
 
--- the first key's rows, and then those of the others
+-- What is given of all rows is what is kept of the first key, followed by what is given of the others.
 pub first_given : (settings : Settings) (whole : Bool) (rows later : List Row) → HaveOneKey rows → AreEndedBy rows later → (later ≡ [] → whole ≡ true)
     → kept_given settings whole (rows ++ later) ≡ kept_rows settings rows ++ kept_given settings whole later
 first_given settings true rows later alike ended all = first_key settings rows later alike ended
@@ -83,13 +83,13 @@ first_given settings false (r ∷ rows) [] alike ended all = let clash : false �
 first_given settings false (r ∷ rows) (q ∷ later) alike ended all =
     ap (λ (gs : List (Chunk Row)). of_chunks settings (front gs)) (first_chunk r rows (q ∷ later) alike ended) ∙ ap (of_chunks settings) (front-more (r, rows) q (chunk_by same_key later))
 
--- where a refusal may stand behind rows of one key, none of them is kept
+-- If an error may come after rows of one key, nothing is given of them.
 pub none_given : (settings : Settings) (rows : List Row) → HaveOneKey rows → kept_given settings false rows ≡ []
 none_given settings [] alike = refl
 none_given settings (r ∷ rows) alike =
     ap (λ (w : List Row). kept_given settings false (r ∷ w)) (sym (append-nil rows)) ∙ ap (λ (gs : List (Chunk Row)). of_chunks settings (front gs)) (first_chunk r rows [] alike tt)
 
--- rows that are kept of all keys but the last begin those of all
+-- What is kept of all keys but the last one begins what is kept of all keys.
 pub front_begins : (settings : Settings) (gs : List (Chunk Row)) → (rest : List Row) × (of_chunks settings (front gs) ++ rest ≡ of_chunks settings gs)
 front_begins settings [] = ([], refl)
 front_begins settings (g ∷ []) = (of_chunks settings (g ∷ []), refl)
@@ -101,12 +101,12 @@ pub all_back : (P : Row → Type 0) (xs ys : List Row) → AllByRecursion P (xs 
 all_back P [] ys h = h
 all_back P (x ∷ xs) ys h = all_back P xs ys h.1
 
--- what stands behind rising rows rises
+-- The later rows of rising rows rise.
 pub rising_back : (xs ys : List Row) → AreRising (xs ++ ys) → AreRising ys
 rising_back [] ys h = h
 rising_back (x ∷ xs) ys h = rising_back xs ys h.1
 
--- a key is read and kept
+-- Reading a key and keeping its rows does not change what is given in all.
 pub key_kept : (settings : Settings) (whole : Bool) (ahead later : Option RowEntry) (old new : IteratorState) (rows kept turned : List RowEntry) → ReadsKey ahead old rows later new → new.whole ≡ whole
     → rows_of kept ≡ kept_rows settings (rows_of rows) → turned ≡ kept
     → kept_given settings whole (from_ahead ahead old) ≡ rows_of turned ++ kept_given settings whole (from_ahead later new)
@@ -115,7 +115,7 @@ key_kept settings whole ahead later old new rows kept turned h same is back =
     ∙ (first_given settings whole (rows_of rows) (from_ahead later new) h.alike h.ended (λ none. sym same ∙ h.all none)
     ∙ ap (λ (w : List Row). w ++ kept_given settings whole (from_ahead later new)) (sym is ∙ ap (λ (w : List RowEntry). rows_of w) (sym back)))
 
--- reading is refused before any row is kept
+-- Reading is refused before any row is kept.
 pub fill_refused : (settings : Settings) (buffer left : List RowEntry) (ahead later : Option RowEntry) (old s new : IteratorState) (e : SlateDBError) → RefusesKey later s new e → s.whole ≡ old.whole → s.refusal ≡ old.refusal
     → rows_of buffer ++ kept_given settings old.whole (from_ahead ahead old) ≡ rows_of left ++ kept_given settings old.whole (from_ahead later s) → left ≡ [] → RefusesFill settings buffer ahead old new e
 fill_refused settings buffer left ahead later old s new e refuses whole refusal so_far empty = record {
@@ -132,7 +132,7 @@ fill_refused settings buffer left ahead later old s new e refuses whole refusal 
 -- ---- what a seek leaves
 
 module _ (key : List ℕ) where
-  -- the rows that a seek drops
+  -- The rows that a seek drops.
   abbrev low : List Row → List Row
   low [] = []
   low (r ∷ rows) = if is_below key r then r ∷ low rows else []
@@ -156,7 +156,7 @@ module _ (key : List ℕ) where
       by true e rest = (e, rest)
       by false e rest = tt
 
-  -- a row that is not before a row at or above the key is there too
+  -- If a row is not below the key, no row after it in order is below the key.
   at_or_above : (r q : Row) → is_below key r ≡ false → is_gt (key_cmp r.key q.key) ≡ false → is_below key q ≡ false
   at_or_above r q high not_after = false_or (is_below key q) (λ low. by (lt_is (key_cmp q.key key) low) (key_cmp r.key q.key) refl not_after)
     where
@@ -177,7 +177,7 @@ module _ (key : List ℕ) where
       by true e rest = rest
       by false e rest = (e, all_above r rows e rising.0)
 
-  -- a row that is below the key has another key than one that is not
+  -- A row below the key and a row that is not have different keys.
   other_key : (r q : Row) → is_below key r ≡ true → is_below key q ≡ false → same_key r q ≡ false
   other_key r q low high = false_or (same_key r q) (λ alike. let clash : true ≡ false = sym low ∙ (ap (λ k. is_lt (key_cmp k key)) (same r q alike) ∙ high) in cc clash)
 
@@ -189,7 +189,7 @@ module _ (key : List ℕ) where
   all_others [] ys low high = tt
   all_others (x ∷ xs) ys low high = (others x ys low.0 high, all_others xs ys low.1 high)
 
-  -- kept rows stand where their key's rows stand
+  -- A row and the tombstone that it may become are either both below the key or neither is.
   below_stays : (b : Bool) (tick : ℤ) (r : Row) → is_below key r ≡ b → is_below key (as_tombstone_if_expired tick r) ≡ b
   below_stays b tick r h = by (is_expired r tick)
     where
@@ -210,7 +210,7 @@ module _ (key : List ℕ) where
       let f = λ (g : Chunk Row). kept_rows settings (elements g) in
       ap (flat_map f) (chunk_by-append same_key xs ys (all_others xs ys low high)) ∙ flat_map-append f (chunk_by same_key xs) (chunk_by same_key ys)
 
-  -- of rising rows the kept ones may be sought, or those below
+  -- For rising rows, a seek in the kept rows leaves what is kept of the rows that a seek leaves.
   pub sought : (settings : Settings) (rows : List Row) → AreRising rows → from_key key (kept_of_keys settings rows) ≡ kept_of_keys settings (from_key key rows)
   sought settings rows rising =
       let xs = low rows in
@@ -221,7 +221,7 @@ module _ (key : List ℕ) where
       ∙ (ap (from_key key) (keys-append settings xs ys below above)
       ∙ (dropped (kept_of_keys settings xs) (kept_of_keys settings ys) (all_kept (λ r. is_below key r ≡ true) (λ tick r h. below_stays true tick r h) settings xs below) ∙ stays (kept_of_keys settings ys) (all_kept (λ r. is_below key r ≡ false) (λ tick r h. below_stays false tick r h) settings ys above)))
 
-  -- a seek in the first of two lists, where it drops all of that and where it does not
+  -- A seek that drops the whole first list goes on in the second one.
   pub seek-through : (xs ys : List Row) → from_key key xs ≡ [] → from_key key (xs ++ ys) ≡ from_key key ys
   seek-through [] ys h = refl
   seek-through (x ∷ xs) ys h = by (is_below key x) h (seek-through xs ys)

@@ -24,3 +24,4 @@ pub mod Keys
 pub mod Plain
 pub mod Rising
 pub mod Seeks
+pub mod Unfolded

@@ -1,5 +1,6 @@
 -- What a seek leaves of rows without operands.
 use Rattle.std.proofs.Common.{◌≡◌, ◌∙◌, sym, refl, ap, subst, ℕ, List, [], ◌∷◌, ◌&&◌, not, Bool, true, false, cond, if◌then◌else◌, Option, Some, None, Ok, Err}
+use Rattle.std.proofs.lemmas.Bool.{and_parts, and_right, true_from_ne_false}
 use Rattle.std.specs.List.{AllByRecursion}
 use Rattle.row_model.specs.Rows.{Row, is_operand}
 use Rattle.fleet_rows.specs.declared.errors.SlateDBError.{SlateDBError}
@@ -27,7 +28,7 @@ rising_before (r ∷ rows) h = by (is_operand r) (rising_before rows h.1) (all_b
     by true rest all = tt
     by false rest all = (all, rest)
 
--- where there is no operand all rows are given
+-- If there is no operand, all rows are given.
 all_given : (rows : List Row) → has_operand rows ≡ false → before_operand rows ≡ rows
 all_given [] h = refl
 all_given (r ∷ rows) h = by (is_operand r) h (all_given rows)
@@ -45,6 +46,12 @@ none_from key (r ∷ rows) none = by (is_operand r) none (is_below key r) (none_
     by false h true rest = rest h
     by false h false rest = none
 
+-- If an inner iterator is not exact, an outer one that needs more to be exact is not exact either.
+pub inexact : (a b c : Bool) → a && b ≡ false → a && (b && c) ≡ false
+inexact true true c h = absurd (cc h)
+inexact true false c h = refl
+inexact false b c h = refl
+
 module _ (key : List ℕ) (inner after : IteratorState) (rising : AreRising inner.rows) where
   abbrev A : IteratorState
   A = without_operands None inner
@@ -52,27 +59,14 @@ module _ (key : List ℕ) (inner after : IteratorState) (rising : AreRising inne
   abbrev B : IteratorState
   B = without_operands None after
 
-  parts : (a b : Bool) → a && b ≡ true → (a ≡ true) × (b ≡ true)
-  parts true b h = (refl, h)
-  parts false b h = absurd (cc h)
-
-  never : (a b : Bool) → b ≡ false → a && b ≡ false
-  never true b h = h
-  never false b h = refl
-
-  inexact : (a b c : Bool) → a && b ≡ false → a && (b && c) ≡ false
-  inexact true true c h = absurd (cc h)
-  inexact true false c h = refl
-  inexact false b c h = refl
-
   abbrev W : Bool
   W = inner.whole && not (has_operand inner.rows)
 
   moved : (exact : Bool) → is_exact inner ≡ exact → (o : Bool) → has_operand inner.rows ≡ o → Moves exact key inner after → Moves (inner.steady && W) key A B
   moved true exact false eo m =
-      let ew : inner.whole ≡ true = (parts inner.steady inner.whole exact).1 in
+      let ew : inner.whole ≡ true = (and_parts inner.steady inner.whole exact).1 in
       let w_true : W ≡ true = ap (λ b. b && not (has_operand inner.rows)) ew ∙ ap not eo in
-      let was : inner.steady && W ≡ true = ap (λ (b : Bool). b && W) (parts inner.steady inner.whole exact).0 ∙ w_true in
+      let was : inner.steady && W ≡ true = ap (λ (b : Bool). b && W) (and_parts inner.steady inner.whole exact).0 ∙ w_true in
       let left : after.rows ≡ from_key key inner.rows = ap (λ (s : IteratorState). s.rows) m in
       let none : has_operand after.rows ≡ false = ap has_operand left ∙ none_from key inner.rows eo in
       let rows : before_operand after.rows ≡ from_key key (before_operand inner.rows) = all_given after.rows none ∙ (left ∙ ap (from_key key) (sym (all_given inner.rows eo))) in
@@ -84,7 +78,7 @@ module _ (key : List ℕ) (inner after : IteratorState) (rising : AreRising inne
       ap (λ b. if b then Some MergeOperatorMissing else None) (ap (λ (s : IteratorState). s.whole && has_operand after.rows) m ∙ (ap (λ b. inner.whole && b) (none ∙ sym eo))) in
       subst (λ b. Moves b key A B) (sym was) (cc (rows, begun, steady, whole, behind))
   moved true exact true eo m =
-      subst (λ b. Moves b key A B) (sym (never inner.steady W (never inner.whole (not (has_operand inner.rows)) (ap not eo))))
+      subst (λ b. Moves b key A B) (sym (and_right inner.steady W (and_right inner.whole (not (has_operand inner.rows)) (ap not eo))))
       (record { initialised = ap (λ (s : IteratorState). s.initialised) m; failure = refl; rising = rising_before after.rows (moves_rising key inner after true m rising) })
   moved false exact o eo m =
       subst (λ b. Moves b key A B) (sym (inexact inner.steady inner.whole (not (has_operand inner.rows)) exact))
@@ -98,14 +92,10 @@ seeks_plain key None inner after alive k seeks = record {
   answers = λ q i. moved key inner after k.1 (is_exact inner) refl (has_operand inner.rows) refl (seeks.answers k.0 i);
 }
 
-true_or : (b : Bool) → (b ≡ false → ⊥) → b ≡ true
-true_or true h = refl
-true_or false h = absurd (h refl)
-
 pub reads_plain : (key : List ℕ) (failure : Option SlateDBError) (inner after : IteratorState) → ReadsPlain failure inner → Seeks key inner after (Ok tt) → ReadsPlain failure after
 reads_plain key (Some e) inner after k seeks = tt
 reads_plain key None inner after k seeks =
-    let begun : inner.initialised ≡ true = true_or inner.initialised (λ i. let e = (seeks.uninitialised k.0 i).answer in cc e) in
+    let begun : inner.initialised ≡ true = true_from_ne_false inner.initialised (λ i. let e = (seeks.uninitialised k.0 i).answer in cc e) in
     let moves : Moves (is_exact inner) key inner after = seeks.answers k.0 begun in
     (moves_alive key inner after (is_exact inner) moves ∙ k.0, moves_rising key inner after (is_exact inner) moves k.1)
 

@@ -19,7 +19,7 @@ IsUpTo r q = is_gt (key_cmp r.key q.key) ≡ false
 abbrev AreUpTo : List Row → List Row → Type 0
 AreUpTo xs ys = AllByRecursion (λ x. AllByRecursion (IsUpTo x) ys) xs
 
--- a tombstone stands where its row stands
+-- A row that becomes a tombstone keeps its place in the order of keys.
 stays_behind : (r : Row) (tick : ℤ) (q : Row) → IsUpTo r q → IsUpTo r (as_tombstone_if_expired tick q)
 stays_behind r tick q h = by (is_expired q tick)
   where
@@ -109,7 +109,7 @@ module _ (settings : Settings) where
   pub kept_rise : (rows : List Row) → AreRising rows → AreRising (kept_of_keys settings rows)
   kept_rise rows h = rising-chunks (chunk_by same_key rows) (subst AreRising (sym (flat-chunk_by same_key rows)) h)
 
-  -- and so do those of all keys but the last
+  -- What is given of rising rows rises, even without the last key.
   pub given_rise : (whole : Bool) (rows : List Row) → AreRising rows → AreRising (kept_given settings whole rows)
   given_rise true rows h = kept_rise rows h
   given_rise false rows h =

@@ -1,5 +1,6 @@
--- What a seek in retention answers.
+-- What a seek of a retention iterator answers.
 use Rattle.std.proofs.Common.{◌≡◌, ◌∙◌, sym, refl, ap, subst, ℕ, List, [], ◌∷◌, ◌++◌, ◌&&◌, Bool, true, false, Option, Some, None, Ok, Err}
+use Rattle.std.proofs.lemmas.Bool.{true_from_ne_false}
 use Rattle.std.specs.Option.{option_to_list}
 use Rattle.row_model.specs.KeptRows.{kept_of_keys}
 use Rattle.row_model.specs.Rows.{Row}
@@ -26,15 +27,11 @@ apart : (b : Bool) → b ≡ true → b ≡ false → ⊥
 apart true h g = cc g
 apart false h g = cc h
 
-true_or : (b : Bool) → (b ≡ false → ⊥) → b ≡ true
-true_or true h = refl
-true_or false h = absurd (h refl)
-
 module _ (key : List ℕ) (settings : Settings) (failure : Option SlateDBError) (alive : failure ≡ None) where
   abbrev K : List Row → List Row
   K = kept_of_keys settings
 
-  -- some rows of the buffer are left, so some were there
+  -- If rows of the buffer are left, the buffer had rows.
   was_some : (buffer left : List RowEntry) → rows_of left ≡ from_key key (rows_of buffer) → (left ≡ [] → ⊥) → buffer ≡ [] → ⊥
   was_some [] [] h some e = some refl
   was_some [] (r ∷ left) h some e = cc h
@@ -61,7 +58,7 @@ module _ (key : List ℕ) (settings : Settings) (failure : Option SlateDBError) 
             (ap (λ (w : List Row). w ++ kept) is ∙ sym (seek-within key (rows_of buffer) kept (λ none. some (none_of left (is ∙ none))))));
       }
 
-  -- nothing of the buffer is left
+  -- If no row of the buffer is left, the seek goes on in the rows after it.
   behind : (buffer left : List RowEntry) (ahead : Option RowEntry) (inner : IteratorState) → ReadsOn buffer ahead inner → rows_of left ≡ from_key key (rows_of buffer) → left ≡ []
       → K (from_key key (from_ahead ahead inner)) ≡ from_key key (rows_of buffer ++ K (from_ahead ahead inner))
   behind buffer left ahead inner knows is none =
@@ -76,7 +73,7 @@ module _ (key : List ℕ) (settings : Settings) (failure : Option SlateDBError) 
   none_ahead None h = refl
   none_ahead (Some r) h = absurd (cc h)
 
-  -- rows that are kept of those that are left; of a whole iterator they are told
+  -- What is kept of the rows left, if the inner iterator is whole.
   module _ (buffer left : List RowEntry) (ahead later : Option RowEntry) (inner : IteratorState) (knows : ReadsOn buffer ahead inner) (is : rows_of left ≡ from_key key (rows_of buffer)) (none : left ≡ []) where
     told : (rows : List Row) → inner.whole ≡ true → rows ≡ from_key key (from_ahead ahead inner) → rows_of left ++ kept_given settings inner.whole rows ≡ from_key key (rows_of buffer ++ kept_given settings inner.whole (from_ahead ahead inner))
     told rows all from =
@@ -88,7 +85,7 @@ module _ (key : List ℕ) (settings : Settings) (failure : Option SlateDBError) 
     rises : (whole : Bool) (rows : List Row) → AreRising rows → AreRising (rows_of left ++ kept_given settings whole rows)
     rises whole rows rising = subst (λ (w : List RowEntry). AreRising (rows_of w ++ kept_given settings whole rows)) (sym none) (given_rise settings whole rows rising)
 
-    -- a row that was read ahead stays
+    -- A row that was read ahead stays, since it is not below the key.
     pub at_ahead : rows_of (option_to_list later) ≡ from_key key (rows_of (option_to_list ahead)) → (later ≡ None → ⊥) → AreRising (retained failure settings buffer ahead inner).rows
         → Seeks key (retained failure settings buffer ahead inner) (retained failure settings left later inner) (Ok tt)
     at_ahead at some rising = record {
@@ -108,7 +105,7 @@ module _ (key : List ℕ) (settings : Settings) (failure : Option SlateDBError) 
             subst (λ w. Moves w key (retained failure settings buffer ahead inner) (retained failure settings left later inner)) (sym e)
             (record { initialised = refl; failure = refl; rising = rises inner.whole (from_ahead later inner) (subst AreRising (sym from) (rising_from key (from_ahead ahead inner) knows.rising)) })
 
-    -- the inner iterator moved on
+    -- The inner iterator is sought.
     moved : (after : IteratorState) → rows_of (option_to_list later) ≡ from_key key (rows_of (option_to_list ahead)) → later ≡ None → AreRising (retained failure settings buffer ahead inner).rows
         → (exact : Bool) → is_exact inner ≡ exact → Moves exact key inner after → Moves (is_exact inner) key (retained failure settings buffer ahead inner) (retained failure settings left later after)
     moved after at gone rising true e moves =
@@ -123,9 +120,9 @@ module _ (key : List ℕ) (settings : Settings) (failure : Option SlateDBError) 
         subst (λ w. Moves w key (retained failure settings buffer ahead inner) (retained failure settings left later after)) (sym e)
         (record { initialised = moves.initialised; failure = refl; rising = rises after.whole (from_ahead later after) (subst AreRising (sym left_over) moves.rising) })
 
-  -- a seek that succeeded had an initialised iterator
+  -- An iterator of which a seek succeeded was initialised.
   was_initialised : (inner after : IteratorState) → inner.failure ≡ None → Seeks key inner after (Ok tt) → inner.initialised ≡ true
-  was_initialised inner after clean seeks = true_or inner.initialised (λ i. let e = (seeks.uninitialised clean i).answer in cc e)
+  was_initialised inner after clean seeks = true_from_ne_false inner.initialised (λ i. let e = (seeks.uninitialised clean i).answer in cc e)
 
   pub in_inner : (buffer left : List RowEntry) (ahead later : Option RowEntry) (inner after : IteratorState) → ReadsOn buffer ahead inner → rows_of left ≡ from_key key (rows_of buffer) → left ≡ []
       → rows_of (option_to_list later) ≡ from_key key (rows_of (option_to_list ahead)) → later ≡ None → AreRising (retained failure settings buffer ahead inner).rows → Seeks key inner after (Ok tt)

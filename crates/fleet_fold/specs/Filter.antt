@@ -1,4 +1,4 @@
--- What a filter makes of rows that it is shown one after the other.
+-- What a filter leaves of rows that it is shown one after the other.
 use Rattle.std.specs.Prelude.{◌≡◌, ◌≢◌, ℕ, List, [], ◌∷◌, ◌++◌, Option, Some, None, Bool, true, false, ◌&&◌, Result, Ok, Err, is_ok, if◌then◌else◌, ⊤}
 use Rattle.row_model.specs.Rows.{Row, is_tombstone}
 use Rattle.fleet_rows.specs.Row.{row_of, content_of}
@@ -15,23 +15,25 @@ use Rattle.fleet_iter.specs.Resume.{is_written}
 use Rattle.fleet_fold.specs.declared.filter.CompactionFilterDecision.{CompactionFilterDecision}
 use Rattle.fleet_fold.specs.declared.filter.CompactionFilterDecision.TheVariants.{Keep, Drop, Modify}
 
--- what a filter answers of a row behind those that it was shown, and what it answers at the end of them
+-- What a filter answers to a row, given the rows that it was shown before.
 abbrev pub Answers : Type 0
 Answers = List Row → Row → Result CompactionFilterDecision CompactionFilterError
 
+-- What a filter answers when it is closed, given the rows that it was shown.
 abbrev pub Closing : Type 0
 Closing = List Row → Result (Unit {0}) CompactionFilterError
 
--- an answer, unless memory is wanted
+-- The answer is the stated one, or the error `Memory`.
 abbrev pub IsTold : {A : Type 0} → Result A CompactionFilterError → Result A CompactionFilterError → Type 0
 IsTold told answer = answer ≢ Err filter.Memory → answer ≡ told
 
--- a filter goes on behind a row that it was shown
+-- A filter was shown row `r`. It now answers to later rows, and when it is closed, what it would have
+-- answered before for rows that begin with `r`.
 pub record GoesOn (r : Row) (old : Answers) (closing : Closing) (new : Answers) (closing' : Closing) : Type 0 where
   pub rows : (seen : List Row) (q : Row) → new seen q ≡ old (r ∷ seen) q
   pub end : (seen : List Row) → closing' seen ≡ closing (r ∷ seen)
 
--- another value keeps key, sequence and moment of creation; a tombstone has no moment of expiry
+-- The row with another value. It keeps key, sequence and stamps, but a tombstone has no expiry.
 abbrev pub modified : ValueDeletable → Row → Row
 modified value r = record r { content = content_of value; expires = if is_tombstone (content_of value) then None else r.expires }
 
@@ -40,7 +42,8 @@ decided Keep r = r ∷ []
 decided Drop r = []
 decided (Modify value) r = modified value r ∷ []
 
--- the rows before the first that is refused, and how they end: well, or with the refusal of a row or of the end
+-- The rows that a filter leaves, up to the first row that it refuses. The end is `Ok`, or the error of that
+-- row or of the closing.
 pub record Filtered : Type 0 where
   pub rows : List Row
   pub end : Result (Unit {0}) CompactionFilterError
@@ -53,28 +56,36 @@ abbrev pub filtered : Answers → Closing → List Row → Filtered
 filtered answers closing [] = record { rows = []; end = closing [] }
 filtered answers closing (r ∷ rows) = before_refused (answers [] r) r (filtered (λ seen. answers (r ∷ seen)) (λ seen. closing (r ∷ seen)) rows)
 
--- whether they end well
+-- Whether the filter refuses no row and can be closed.
 abbrev pub ends_well : Filtered → Bool
 ends_well f = is_ok f.end
 
--- what is left where a filter was closed, and where it was not
+-- The state of a filtered iterator. If the filter was closed, no row is left.
 abbrev pub filtering : Option SlateDBError → Bool → Answers → Closing → IteratorState → IteratorState
 filtering failure true answers closing inner = record { rows = []; initialised = inner.initialised; failure = failure; whole = true; steady = false; refusal = None }
 filtering failure false answers closing inner =
     let f = filtered answers closing inner.rows in
     record { rows = f.rows; initialised = inner.initialised; failure = failure; whole = inner.whole && ends_well f; steady = false; refusal = None }
 
--- the next row that is kept, or that the filter was closed
+-- The call gives the next row that the filter leaves, or it closes the filter at the end of the rows.
 abbrev pub Gives : Filtered → Bool → Option RowEntry → Filtered → Bool → IteratorState → Type 0
 Gives old whole None new closed inner = (old.rows ≡ []) × (old.end ≡ Ok tt) × (whole ≡ true) × (closed ≡ true)
 Gives old whole (Some row) new closed inner = (old ≡ record new { rows = row_of row ∷ new.rows }) × (inner.whole ≡ whole) × (closed ≡ false)
 
--- a filter refuses in a call exactly where no row is kept before what it refuses
+-- The filter leaves no row before it refuses, and the error is the one with which it refuses.
+pub record IsFiltersRefusal (told : Filtered) (e : SlateDBError) : Type 0 where
+  pub rows : told.rows ≡ []
+  pub cause : CompactionFilterError
+  pub end : told.end ≡ Err cause
+  pub same : e ≡ raised_by_filter cause
+
+-- What a call answers if the inner iterator does not fail in it. It answers the filter's error exactly if the
+-- filter leaves no row before that error. It may answer `Memory` instead.
 pub record Refuses {A : Type 0} (told : Filtered) (inner : IteratorState) (answer : Result A SlateDBError) : Type 0 where
-  pub cause : (e : CompactionFilterError) → answer ≡ Err (CompactionFilter e) → inner.failure ≡ None → (told.rows ≡ []) × (told.end ≡ Err e)
+  pub cause : (e : SlateDBError) → answer ≡ Err e → inner.failure ≡ None → e ≢ Memory → IsFiltersRefusal told e
   pub comes : (e : CompactionFilterError) → told.rows ≡ [] → told.end ≡ Err e → inner.failure ≡ None → answer ≢ Err Memory → answer ≡ Err (raised_by_filter e)
 
--- what holds inside until a call fails
+-- What holds inside a filtered iterator until a call fails it.
 pub record Knows (ended is_closed : Bool) (inner : IteratorState) : Type 0 where
   pub alive : inner.failure ≡ None
   pub rising : AreRising inner.rows
@@ -85,14 +96,15 @@ abbrev pub KnowsUnlessFailed : Option SlateDBError → Bool → Bool → Iterato
 KnowsUnlessFailed (Some e) ended is_closed inner = ⊤
 KnowsUnlessFailed None ended is_closed inner = Knows ended is_closed inner
 
--- What a seek leaves: nothing where the filter was closed, and else what it makes of the rows that the inner iterator leaves: those that were passed
--- it is not shown.
+-- What a seek leaves. If the filter was closed, no row is left. Otherwise the filter is shown the rows that
+-- the seek leaves of the inner iterator, and not the rows that it drops.
 pub record SeeksFiltered (sought : List ℕ → IteratorState → Type 0) (ended : Bool) (answers : Answers) (closing : Closing) (inner : IteratorState) (key : List ℕ) (new : IteratorState) : Type 0 where
   pub stays : ended ≡ true → new ≡ filtering None true answers closing inner
   pub goes_on : ended ≡ false → SoughtThrough sought (filtering None false answers closing) inner key new
 
--- Behind a cursor a filter is shown the rows from the cursor's key on, also those of that key that stand written, and of what it leaves those
--- that stand written are not given again.
+-- An iterator that resumes after a cursor, over a filter, shows the filter all rows from the cursor's key on.
+-- These include rows of that key that are written already. Of what the filter leaves, the first rows that are
+-- written already are dropped.
 abbrev pub FiltersSeeTheKey : Type 0
 FiltersSeeTheKey = (answers : Answers) (closing : Closing) (inner left new : IteratorState) (cursor : Cursor) → Moves true cursor.0 inner left
     → new ≡ record (filtering None false answers closing left) { rows = without_first (is_written cursor) (filtering None false answers closing left).rows }

@@ -1,4 +1,4 @@
--- A group of which some rows were taken, and the calls that take and merge them.
+-- A group of operands while its rows are taken, and the calls that take and merge them.
 use Rattle.std.specs.Prelude.{◌≡◌, ◌≢◌, ℕ, ◌≤◌, length, true, false, List, [], ◌∷◌, ◌++◌, Option, Some, None, reverse, map, Result, Ok, Err, ⊤}
 use Rattle.std.specs.List.{AllByRecursion}
 use Rattle.std.specs.Option.{option_or, option_to_list}
@@ -16,13 +16,14 @@ use Rattle.fleet_fold.specs.Folded.{above, last_above, in_order, answer_of, batc
 use Rattle.fleet_fold.specs.declared.group.Group.{Group}
 use Rattle.fleet_fold.specs.declared.group.GroupRule.{GroupRule}
 
--- a call that answers so, unless memory is wanting
+-- An error other than `Memory` is the error of this answer.
 abbrev pub RefusesAs : {A : Type 0} → Result A SlateDBError → SlateDBError → Type 0
 RefusesAs answer e = e ≢ Memory → answer ≡ Err e
 
 -- ---- the rows in a group
 
--- It has a first row and operands behind it. Those of the full batches are merged, and at most so many are not.
+-- The group has its first row, and the operands `taken` after it. Full batches are merged, and at most `most`
+-- operands wait to be merged.
 pub record GathersUpTo (most : ℕ) (merge : Operator) (first : Row) (taken : List Row) (g : Group) : Type 0 where
   pub key : g.key ≡ first.key
   pub seq : g.seq ≡ first.seq
@@ -40,10 +41,11 @@ pub record GathersUpTo (most : ℕ) (merge : Operator) (first : Row) (taken : Li
   pub late : g.late ≡ last_above first.seq pending
   pub room : length pending ≤ most
 
+-- The group has gathered these operands, and fewer than a full batch of them wait to be merged.
 abbrev pub Gathers : Operator → Row → List Row → Group → Type 0
 Gathers merge first taken g = GathersUpTo 99 merge first taken g
 
--- and all operands are merged
+-- The group has its first row, and the operands `taken` after it. All of its operands are merged.
 pub record IsMerged (merge : Operator) (first : Row) (taken : List Row) (g : Group) : Type 0 where
   pub key : g.key ≡ first.key
   pub seq : g.seq ≡ first.seq
@@ -55,7 +57,7 @@ pub record IsMerged (merge : Operator) (first : Row) (taken : List Row) (g : Gro
 
 -- ---- what is done to a group
 
--- a row is noted, which is not yet among the operands
+-- The group notes a row's stamps and sequence. It does not take the row as an operand.
 pub record Notes (old : Group) (r : Row) (new : Group) : Type 0 where
   pub key : new.key ≡ old.key
   pub seq : new.seq ≡ old.seq
@@ -66,15 +68,16 @@ pub record Notes (old : Group) (r : Row) (new : Group) : Type 0 where
   pub batch : new.batch.items ≡ old.batch.items
   pub folded : new.folded.items ≡ old.folded.items
 
--- the answer of the operands that are not merged yet, if there are any
+-- The answer of merging the operands that wait to be merged.
 abbrev pub pending_answer : Operator → Group → Result (List ℕ) SlateDBError
 pending_answer merge g = in_order g.seq g.late (answer_of (fold_bytes merge g.key None (reverse g.batch.items)))
 
+-- The answer for the operands that wait to be merged, or no answer if none waits.
 abbrev pub left_to_merge : Result (List ℕ) SlateDBError → List (List ℕ) → List (Result (List ℕ) SlateDBError)
 left_to_merge answer [] = []
 left_to_merge answer (x ∷ batch) = answer ∷ []
 
--- they are merged into one
+-- The operands that wait to be merged, if there are any, are merged into one result.
 pub record Flushes (merge : Operator) (old new : Group) : Type 0 where
   pub key : new.key ≡ old.key
   pub seq : new.seq ≡ old.seq
@@ -89,28 +92,29 @@ pub record Flushes (merge : Operator) (old new : Group) : Type 0 where
 abbrev pub RefusesFlush : Operator → Group → SlateDBError → Type 0
 RefusesFlush merge g e = e ≢ Memory → left_to_merge (pending_answer merge g) g.batch.items ≡ Err e ∷ []
 
--- and so they are where they fill a batch
+-- If the operands that wait to be merged fill a batch, they are merged.
 abbrev pub FlushesFull : Operator → Group → Group → Type 0
 FlushesFull merge old new = (first : Row) (taken : List Row) → GathersUpTo batch_len merge first taken old → Gathers merge first taken new
 
 abbrev pub RefusesFull : Operator → Group → SlateDBError → Type 0
 RefusesFull merge g e = (first : Row) (taken later : List Row) → GathersUpTo batch_len merge first taken g → RefusesAs (merged_group merge (first, taken ++ later)) e
 
--- one more operand, which is not merged yet, and one that may fill a batch
+-- The group takes one more operand, which waits to be merged and may fill a batch.
 abbrev pub Pushes : Group → Row → Group → Type 0
 Pushes old r new = (merge : Operator) (first : Row) (taken : List Row) → Gathers merge first taken old → GathersUpTo batch_len merge first (taken ++ r ∷ []) new
 
+-- The group takes one more operand, and a batch that this one fills is merged.
 abbrev pub Adds : Operator → Group → Row → Group → Type 0
 Adds merge old r new = (first : Row) (taken : List Row) → Gathers merge first taken old → Gathers merge first (taken ++ r ∷ []) new
 
 abbrev pub RefusesAdd : Operator → Group → Row → SlateDBError → Type 0
 RefusesAdd merge g r e = (first : Row) (taken later : List Row) → Gathers merge first taken g → RefusesAs (merged_group merge (first, taken ++ r ∷ later)) e
 
--- the row with a merged value
+-- The group's row with this content.
 abbrev pub with_value : Group → Content → Row
 with_value g content = record { key = g.key; content = content; seq = g.seq; created = g.created; expires = g.expires }
 
--- a group becomes a row, over a base, if there is one
+-- The group becomes a row, over the base if there is one.
 abbrev pub Closes : Operator → Group → List Row → Row → Type 0
 Closes merge g base r = (first : Row) (taken : List Row) → Gathers merge first taken g → merged_group merge (first, taken ++ base) ≡ Ok r
 
@@ -119,20 +123,21 @@ RefusesClose merge g base e = (first : Row) (taken : List Row) → Gathers merge
 
 -- ---- a group and the rows of an iterator
 
--- rows joined a group until one did not, or was the base
+-- A group has taken all rows that join it. The first row after them may have been read ahead.
 pub record Joins (merge : Operator) (rule : GroupRule) (first : Row) (old : IteratorState) (base : Option RowEntry) (g : Group) (later : Option RowEntry) (new : IteratorState) : Type 0 where
   pub taken : List Row
   pub gathers : Gathers merge first taken g
   pub joined : joining rule first old.rows ≡ taken ++ rows_of (option_to_list base)
   pub parts : old.rows ≡ joining rule first old.rows ++ from_ahead later new
 
--- and so far
+-- A group has taken some of the rows that join it, and the others are still to be read.
 pub record JoinsSoFar (merge : Operator) (rule : GroupRule) (first : Row) (old : IteratorState) (g : Group) (new : IteratorState) : Type 0 where
   pub taken : List Row
   pub gathers : Gathers merge first taken g
   pub joined : joining rule first old.rows ≡ taken ++ joining rule first new.rows
   pub parts : old.rows ≡ taken ++ new.rows
 
+-- The base, if there is one, is no operand.
 abbrev pub IsPlain : Option RowEntry → Type 0
 IsPlain None = ⊤
 IsPlain (Some row) = is_operand (row_of row) ≡ false
@@ -146,20 +151,21 @@ pub record TakesRows (merge : Operator) (rule : GroupRule) (g : Group) (old : It
 
 -- ---- refusals in the midst of reading
 
--- the inner iterator failed, or answers were as refused
+-- What refuses a call that reads rows: the inner iterator, if it failed, and otherwise this answer. The error
+-- may be `Memory` instead.
 pub record RefusesReading {A : Type 0} (answer : Result A SlateDBError) (old new : IteratorState) (e : SlateDBError) : Type 0 where
   pub read : new.failure ≢ None → CanFail old.whole e
   pub handed : new.failure ≢ None → IsHandedOn new e
   pub merged : new.failure ≡ None → RefusesAs answer e
 
--- a group that a row opens
+-- What refuses the group that a row opens: the inner iterator, or the merge of the group.
 abbrev pub RefusesGroup : Operator → GroupRule → Row → IteratorState → IteratorState → SlateDBError → Type 0
 RefusesGroup merge rule first old new e = RefusesReading (merged_group merge (first, joining rule first old.rows)) old new e
 
 abbrev pub RefusesRows : Operator → GroupRule → Group → IteratorState → IteratorState → SlateDBError → Type 0
 RefusesRows merge rule g old new e = (first : Row) → Gathers merge first [] g → RefusesGroup merge rule first old new e
 
--- the group that a row opens is folded
+-- The group that a row opens becomes row `r`.
 pub record FoldsGroup (merge : Operator) (rule : GroupRule) (first : Row) (old : IteratorState) (r : Row) (later : Option RowEntry) (new : IteratorState) : Type 0 where
   pub group : merged_group merge (first, joining rule first old.rows) ≡ Ok r
   pub parts : old.rows ≡ joining rule first old.rows ++ from_ahead later new
@@ -167,7 +173,7 @@ pub record FoldsGroup (merge : Operator) (rule : GroupRule) (first : Row) (old :
   pub whole : new.whole ≡ old.whole
   pub steady : new.steady ≡ old.steady
 
--- the first row that is made of a row and those behind it
+-- The next row that is made of the first row and the rows after it is `r`.
 pub record Folds (merge : Operator) (rule : GroupRule) (first : Row) (old : IteratorState) (r : Row) (later : Option RowEntry) (new : IteratorState) : Type 0 where
   pub rows : folded_behind merge rule 0 (first ∷ old.rows) ≡ Ok r ∷ folded_behind merge rule 0 (from_ahead later new)
   pub readable : IsReadable new
@@ -175,7 +181,7 @@ pub record Folds (merge : Operator) (rule : GroupRule) (first : Row) (old : Iter
   pub steady : new.steady ≡ old.steady
   pub rising : AreRising old.rows → AreRising (from_ahead later new)
 
--- what refuses the first answer of these rows
+-- What refuses the next row that is made of some rows: the inner iterator, or the merge of the first group.
 pub record RefusesNext (merge : Operator) (rule : GroupRule) (rows : List Row) (old new : IteratorState) (e : SlateDBError) : Type 0 where
   pub read : new.failure ≢ None → CanFail old.whole e
   pub handed : new.failure ≢ None → IsHandedOn new e

@@ -3,9 +3,9 @@ pub mod FilterState
 pub mod Folded
 pub mod Groups
 pub mod Jobs
+pub mod JobState
 pub mod Merging
 pub mod Operator
 pub mod Required
 pub mod Retention
 pub mod State
-pub mod TestOperators

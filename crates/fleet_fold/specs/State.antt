@@ -1,4 +1,4 @@
--- What a retention iterator has left, and what holds inside it.
+-- The state of a retention iterator, and what holds inside it.
 use Rattle.std.specs.Prelude.{ℕ, List, reverse}
 use Rattle.fleet_iter.specs.Iteration.{IteratorState}
 use Rattle.fleet_fold.specs.declared.retention.RetentionIterator.{RetentionIterator}
@@ -11,6 +11,6 @@ state_of state r = retained r.failure (settings_of r.settings) (reverse r.buffer
 abbrev pub IsSound : {T : Type 0} → (T → Type 0) → (T → IteratorState) → RetentionIterator T → Type 0
 IsSound sound state r = sound r.inner × Knows r.failure (reverse r.buffer.items) r.ahead (state r.inner)
 
--- what a seek leaves
+-- What a seek of a retention iterator leaves.
 abbrev pub Sought : {T : Type 0} → (T → IteratorState) → (T → List ℕ → IteratorState → Type 0) → RetentionIterator T → List ℕ → IteratorState → Type 0
 Sought state sought r key new = SeeksKept (sought r.inner) (settings_of r.settings) (reverse r.buffer.items) r.ahead (state r.inner) key new

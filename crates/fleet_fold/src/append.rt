@@ -1,4 +1,4 @@
-//! The operator that joins bytes.
+//! The merge operator that joins bytes.
 
 ghost use Rattle.std.specs.Prelude.{[]};
 ghost use Rattle.row_model.specs.Append.{append};
@@ -9,10 +9,11 @@ use bytes::Bytes;
 use fleet_rows::{MergeOperatorError, Text};
 use std::alloc::Global;
 
-/// Every joined value is shorter than this.
+// The limit on the length of a joined value, in bytes. Each one is shorter.
 const JOINED_LEN_LIMIT: usize = 1 << 32;
 
-/// Joins the bytes of what there is and of the operand. A value that would be too long is refused with `value too long`.
+/// The merge operator that joins the operand's bytes to those of the existing value. It refuses a
+/// value of 2^32 bytes or more with `value too long`.
 #[derive(Clone, Copy, Debug, PartialEq, Eq)]
 pub struct AppendOperator;
 

@@ -1,4 +1,4 @@
-//! Filters that a caller hands in.
+//! Compaction filters, which a caller supplies.
 
 ghost use Rattle.std.specs.Prelude.{◌≡◌, ℕ, [], ◌∷◌, Bool, true, false, IfOk, IsOkUnless};
 ghost use Rattle.fleet_rows.specs.Row.{row_of};
@@ -8,7 +8,7 @@ ghost use Rattle.fleet_fold.specs.Filter.{Answers, Closing, IsTold, GoesOn};
 use fleet_rows::{CompactionFilterError, RowEntry, SlateDBError, ValueDeletable};
 use std::alloc::Global;
 
-/// What a filter decides of a row: that it stays, that it goes, or that it gets another value.
+/// What a filter decides about a row: to keep it, to drop it, or to give it another value.
 #[derive(Clone, Debug, Drop, PartialEq, Eq)]
 pub enum CompactionFilterDecision {
     Keep,
@@ -17,7 +17,7 @@ pub enum CompactionFilterDecision {
 }
 
 impl CompactionFilterDecision {
-    /// A copy.
+    /// A copy of the decision. It fails only with `SlateDBError::Memory`.
     pub fn clone(&self) -> Result<CompactionFilterDecision, SlateDBError>
         ensures copy { IfOk result (λ copy. copy ≡ self.now) }
         ensures memory { IsOkUnless result fleet.Memory }
@@ -26,31 +26,33 @@ impl CompactionFilterDecision {
     }
 }
 
-/// What a filter is made for.
+/// The job for which a filter is made.
 #[derive(Clone, Copy, Debug, PartialEq, Eq)]
 pub struct CompactionJobContext {
-    /// The run that the job writes.
+    /// The sorted run that the job writes, by its id.
     pub destination: u32,
-    /// Whether nothing stands below that run.
+    /// Whether nothing in the tree is older than that run.
     pub is_dest_last_run: bool,
-    /// The moment at which rows count as expired.
+    /// The moment of the job, in milliseconds. A row whose expiry is at most this moment counts as
+    /// expired.
     pub compaction_clock_tick: i64,
-    /// The least sequence that a snapshot reads, where there is one.
+    /// The least sequence that a snapshot reads, if there is a snapshot.
     pub retention_min_seq: Option<u64>,
 }
 
-/// Looks at the rows that a compaction writes, one after the other, and is closed once.
+/// A filter. It is shown the rows that a compaction writes, one after the other, and is closed at
+/// most once.
 pub trait CompactionFilter: Send + Sync + Drop {
-    /// What it answers of a row behind others.
+    /// What the filter answers to a row, given the rows that it was shown before.
     ghost answers: { Self → Answers };
 
-    /// What it answers at the end of rows.
+    /// What the filter answers when it is closed, given the rows that it was shown.
     ghost closing: { Self → Closing };
 
-    /// Whether it was closed.
+    /// Whether the filter was closed.
     ghost is_closed: { Self → Bool };
 
-    /// What becomes of a row.
+    /// Decides what becomes of a row.
     fn filter(
         &mut self,
         alloc: Global,
@@ -58,21 +60,23 @@ pub trait CompactionFilter: Send + Sync + Drop {
     ) -> Result<CompactionFilterDecision, CompactionFilterError>
         requires { is_closed self.old ≡ false }
         ensures answer { IsTold (answers self.old [] (row_of entry.now)) result }
-        ensures later { IfOk result (λ _. GoesOn (row_of entry.now) (answers self.old) (closing self.old) (answers self.new) (closing self.new)) }
+        ensures later { IfOk result (λ _. GoesOn (row_of entry.now)
+            (answers self.old) (closing self.old) (answers self.new) (closing self.new)) }
         ensures open { is_closed self.new ≡ false };
 
-    /// Called once, behind the last row. It is not called where the rows do not come to their end.
+    /// Closes the filter. It is called once, after the last row. It is not called if the rows do
+    /// not come to their end.
     fn on_compaction_end(&mut self, alloc: Global) -> Result<(), CompactionFilterError>
         requires { is_closed self.old ≡ false }
         ensures answer { IsTold (closing self.old []) result }
         ensures closed { is_closed self.new ≡ true };
 }
 
-/// Makes the filter of a job.
+/// A supplier of filters, which makes the filter of a job.
 pub trait CompactionFilterSupplier: Send + Sync {
     type Filter: CompactionFilter;
 
-    /// A filter that was shown nothing yet.
+    /// Makes a filter that was not shown any row yet.
     fn create_compaction_filter(
         &self,
         alloc: Global,
@@ -81,8 +85,8 @@ pub trait CompactionFilterSupplier: Send + Sync {
         ensures { IfOk result (λ filter. Self.Filter.is_closed filter ≡ false) };
 }
 
-/// A filter as the functions of an adapter take it, which need not send it to another thread. Each `CompactionFilter` is one.
-/// docs/DECISIONS.md says why its methods stand here once more.
+/// A filter as adapters use it inside: it need not be `Send` or `Sync`. Every `CompactionFilter` is
+/// a `RowFilter`. docs/DECISIONS.md says why the methods are declared again.
 pub trait RowFilter {
     ghost answers: { Self → Answers };
 
@@ -90,7 +94,7 @@ pub trait RowFilter {
 
     ghost is_closed: { Self → Bool };
 
-    /// As `filter`.
+    /// Does what `CompactionFilter::filter` does.
     fn filter_row(
         &mut self,
         alloc: Global,
@@ -98,10 +102,11 @@ pub trait RowFilter {
     ) -> Result<CompactionFilterDecision, CompactionFilterError>
         requires { is_closed self.old ≡ false }
         ensures answer { IsTold (answers self.old [] (row_of entry.now)) result }
-        ensures later { IfOk result (λ _. GoesOn (row_of entry.now) (answers self.old) (closing self.old) (answers self.new) (closing self.new)) }
+        ensures later { IfOk result (λ _. GoesOn (row_of entry.now)
+            (answers self.old) (closing self.old) (answers self.new) (closing self.new)) }
         ensures open { is_closed self.new ≡ false };
 
-    /// As `on_compaction_end`.
+    /// Does what `CompactionFilter::on_compaction_end` does.
     fn close(&mut self, alloc: Global) -> Result<(), CompactionFilterError>
         requires { is_closed self.old ≡ false }
         ensures answer { IsTold (closing self.old []) result }

@@ -1,4 +1,4 @@
-//! The rows that a filter leaves.
+//! Iterators over the rows that a filter leaves.
 
 ghost use Rattle.std.specs.Prelude.{◌≡◌, ◌≢◌, ◌&&◌, Bool, true, false, [], None, OnOk, IfOk, IfErr};
 ghost use Rattle.std.specs.Option.{option_to_list};
@@ -13,18 +13,19 @@ use fleet_iter::{Failure, RowEntryIterator, RowSource, TrackedRowEntryIterator};
 use fleet_rows::{RowEntry, SlateDBError};
 use std::alloc::Global;
 
-/// The rows of an iterator that a filter leaves. A filter answers by the rows that it was shown: a seek shows it only the rows
-/// from its key on, and so may change what it answers of them.
+/// An iterator over the rows that a filter leaves of an inner iterator's rows. The filter's answers
+/// depend on the rows that it was shown. A seek shows it only the rows from the key on, and so may
+/// change its answers.
 #[derive(Drop)]
 pub struct CompactionFilterIterator<T: RowEntryIterator, F: CompactionFilter> {
     inner: T,
     filter: F,
-    // Whether the rows have ended, and the filter was closed.
+    // Whether the rows have ended and the filter was closed.
     ended: bool,
     failure: Failure,
 }
 
-// What a decision leaves of a row.
+// What a decision leaves of a row: the row, the row with another value, or nothing.
 fn decided(row: RowEntry, decision: CompactionFilterDecision) -> Option<RowEntry>
     ensures { rows_of (option_to_list result) ≡ decided decision (row_of row) }
 {
@@ -48,7 +49,8 @@ fn decided(row: RowEntry, decision: CompactionFilterDecision) -> Option<RowEntry
     }
 }
 
-// The next row that a filter leaves, of one that was read and those behind it. At the end the filter is closed.
+// Shows rows to the filter, from `first` on, until it leaves one, and gives that row. At the end it
+// closes the filter and gives None.
 fn next_left<T: RowSource, F: RowFilter>(
     alloc: Global,
     inner: &mut T,
@@ -59,14 +61,21 @@ fn next_left<T: RowSource, F: RowFilter>(
     requires readable { IsReadable (T.state inner.old) }
     requires open { F.is_closed filter.old ≡ false }
     requires rising { AreRising (from_ahead first (T.state inner.old)) }
-    requires ended { first ≡ None → ((T.state inner.old).rows ≡ []) × ((T.state inner.old).whole ≡ true) }
-    ensures ok { IfOk result (λ row. Gives (filtered (F.answers filter.old) (F.closing filter.old) (from_ahead first (T.state inner.old))) (T.state inner.old).whole row (filtered (F.answers filter.new) (F.closing filter.new) (T.state inner.new).rows) (F.is_closed filter.new) (T.state inner.new)) }
+    requires ended { first
+        ≡ None → ((T.state inner.old).rows ≡ []) × ((T.state inner.old).whole ≡ true) }
+    ensures ok { IfOk result (λ row. Gives (filtered (F.answers filter.old)
+        (F.closing filter.old) (from_ahead first (T.state inner.old))) (T.state inner.old).whole row
+        (filtered (F.answers filter.new) (F.closing filter.new) (T.state inner.new).rows)
+        (F.is_closed filter.new) (T.state inner.new)) }
     ensures readable { IfOk result (λ _. IsReadable (T.state inner.new)) }
     ensures rising { IfOk result (λ _. AreRising (T.state inner.new).rows) }
-    ensures err { IfErr result (CanFail ((T.state inner.old).whole && ends_well (filtered (F.answers filter.old) (F.closing filter.old) (from_ahead first (T.state inner.old))))) }
+    ensures err { IfErr result (CanFail ((T.state inner.old).whole && ends_well (filtered
+        (F.answers filter.old) (F.closing filter.old) (from_ahead first (T.state inner.old))))) }
     ensures open { (T.state inner.new).failure ≢ None → F.is_closed filter.new ≡ false }
-    ensures handed { IfErr result (λ e. (T.state inner.new).failure ≢ None → IsHandedOn (T.state inner.new) e) }
-    ensures refused { Refuses (filtered (F.answers filter.old) (F.closing filter.old) (from_ahead first (T.state inner.old))) (T.state inner.new) result }
+    ensures handed { IfErr result
+        (λ e. (T.state inner.new).failure ≢ None → IsHandedOn (T.state inner.new) e) }
+    ensures refused { Refuses (filtered (F.answers filter.old)
+        (F.closing filter.old) (from_ahead first (T.state inner.old))) (T.state inner.new) result }
     ensures sound { T.sound inner.new }
 {
     let mut next = first;
@@ -82,14 +91,15 @@ fn next_left<T: RowSource, F: RowFilter>(
 }
 
 impl<T: RowEntryIterator, F: CompactionFilter> CompactionFilterIterator<T, F> {
-    /// What `filter` leaves of the rows that `inner` has left.
+    /// Makes an iterator over the rows that `filter` leaves of those that `inner` has left.
     #[tactic(auto, using(crate::proofs::Filters::filtered_rise))]
     pub fn new(inner: T, filter: F) -> Self
         requires sound { T.sound inner }
         requires alive { (T.state inner).failure ≡ None }
         requires rising { AreRising (T.state inner).rows }
         requires open { F.is_closed filter ≡ false }
-        ensures rows { state_of T.state F.answers F.closing result ≡ filtering None false (F.answers filter) (F.closing filter) (T.state inner) }
+        ensures rows { state_of T.state F.answers F.closing result
+            ≡ filtering None false (F.answers filter) (F.closing filter) (T.state inner) }
         ensures sound { IsSound T.sound T.state F.is_closed result }
         ensures rising { AreRising (state_of T.state F.answers F.closing result).rows }
     {
@@ -113,8 +123,10 @@ impl<T: RowEntryIterator, F: CompactionFilter> RowEntryIterator for CompactionFi
 
     fn init(&mut self, alloc: Global) -> Result<(), SlateDBError>
         requires { IsSound T.sound T.state F.is_closed self.old }
-        ensures init { Inits (state_of T.state F.answers F.closing self.old) (state_of T.state F.answers F.closing self.new) result }
-        ensures handed { HandsOn (state_of T.state F.answers F.closing self.old) (T.state self.new.inner) result }
+        ensures init { Inits (state_of T.state F.answers F.closing self.old)
+            (state_of T.state F.answers F.closing self.new) result }
+        ensures handed { HandsOn
+            (state_of T.state F.answers F.closing self.old) (T.state self.new.inner) result }
         ensures sound { IsSound T.sound T.state F.is_closed self.new }
     {
         self.failure.check()?;
@@ -127,13 +139,16 @@ impl<T: RowEntryIterator, F: CompactionFilter> RowEntryIterator for CompactionFi
         }
     }
 
-    /// The next row that the filter leaves. Where the rows end the filter is closed, once.
+    /// Gives the next row that the filter leaves. At the end of the rows it closes the filter,
+    /// once.
     fn next(&mut self, alloc: Global) -> Result<Option<RowEntry>, SlateDBError>
         requires { IsSound T.sound T.state F.is_closed self.old }
-        ensures next { Nexts (state_of T.state F.answers F.closing self.old) (state_of T.state F.answers F.closing self.new) result }
+        ensures next { Nexts (state_of T.state F.answers F.closing self.old)
+            (state_of T.state F.answers F.closing self.new) result }
         ensures closes { IfOk result (λ row. row ≡ None → IsClosed F.is_closed self.new) }
         ensures open { StaysOpen T.state F.is_closed self.old self.new }
-        ensures handed { (T.state self.new.inner).failure ≢ None → HandsOn (state_of T.state F.answers F.closing self.old) (T.state self.new.inner) result }
+        ensures handed { (T.state self.new.inner).failure ≢ None → HandsOn
+            (state_of T.state F.answers F.closing self.old) (T.state self.new.inner) result }
         ensures refused { RefusesIn T.state F.answers F.closing self.old self.new result }
         ensures sound { IsSound T.sound T.state F.is_closed self.new }
     {
@@ -157,10 +172,13 @@ impl<T: RowEntryIterator, F: CompactionFilter> RowEntryIterator for CompactionFi
     fn seek(&mut self, alloc: Global, next_key: &[u8]) -> Result<(), SlateDBError>
         requires sound { IsSound T.sound T.state F.is_closed self.old }
         requires rising { AreRising (state_of T.state F.answers F.closing self.old).rows }
-        ensures seek { Seeks next_key.now (state_of T.state F.answers F.closing self.old) (state_of T.state F.answers F.closing self.new) result }
-        ensures sought { OnOk result (Sought T.state T.sought F.answers F.closing self.old next_key.now (state_of T.state F.answers F.closing self.new)) }
+        ensures seek { Seeks next_key.now (state_of T.state F.answers F.closing self.old)
+            (state_of T.state F.answers F.closing self.new) result }
+        ensures sought { OnOk result (Sought T.state T.sought F.answers
+            F.closing self.old next_key.now (state_of T.state F.answers F.closing self.new)) }
         ensures uncounted { T.processed self.new.inner ≡ T.processed self.old.inner }
-        ensures handed { HandsOn (state_of T.state F.answers F.closing self.old) (T.state self.new.inner) result }
+        ensures handed { HandsOn
+            (state_of T.state F.answers F.closing self.old) (T.state self.new.inner) result }
         ensures sound { IsSound T.sound T.state F.is_closed self.new }
     {
         self.failure.check()?;

@@ -1,4 +1,4 @@
-//! The rows that groups of operands become, one after the other.
+//! Folding rows: each group of operands becomes one row.
 
 ghost use Rattle.std.specs.Prelude.{◌≡◌, ◌∷◌, ◌&&◌, None, true, IfOk, IfErr};
 ghost use Rattle.row_model.specs.Rows.{is_operand};
@@ -14,7 +14,8 @@ use fleet_iter::RowSource;
 use fleet_rows::{RowEntry, SlateDBError};
 use std::alloc::Global;
 
-// Takes the rows that belong to a group, and gives its base, if it has one. The row behind a group without a base is read too.
+// Takes the rows that join a group, and gives its base, if it has one. If it has none, the first
+// row after the group is read ahead.
 fn take_rows<B: BatchMerger, T: RowSource>(
     alloc: Global,
     operator: &B,
@@ -26,8 +27,10 @@ fn take_rows<B: BatchMerger, T: RowSource>(
     requires sound { T.sound inner.old }
     requires readable { IsReadable (T.state inner.old) }
     requires none { ahead.old ≡ None }
-    ensures ok { IfOk result (λ base. TakesRows (B.merged (B.settings operator.now)) rule group.old (T.state inner.old) base group.new ahead.new (T.state inner.new)) }
-    ensures err { IfErr result (RefusesRows (B.merged (B.settings operator.now)) rule group.old (T.state inner.old) (T.state inner.new)) }
+    ensures ok { IfOk result (λ base. TakesRows (B.fold operator.now) rule group.old
+        (T.state inner.old) base group.new ahead.new (T.state inner.new)) }
+    ensures err { IfErr result (RefusesRows (B.fold operator.now) rule group.old
+        (T.state inner.old) (T.state inner.new)) }
     ensures sound { T.sound inner.new }
 {
     'rows: while let Some(row) = inner.next_row(alloc)? {
@@ -43,7 +46,7 @@ fn take_rows<B: BatchMerger, T: RowSource>(
     Ok(None)
 }
 
-// The row of the group that a row opens.
+// Makes the row of the group that `first` opens.
 fn fold_group<B: BatchMerger, T: RowSource>(
     alloc: Global,
     operator: &B,
@@ -56,8 +59,10 @@ fn fold_group<B: BatchMerger, T: RowSource>(
     requires readable { IsReadable (T.state inner.old) }
     requires none { ahead.old ≡ None }
     requires operand { is_operand (row_of first) ≡ true }
-    ensures ok { IfOk result (λ row. FoldsGroup (B.merged (B.settings operator.now)) rule (row_of first) (T.state inner.old) (row_of row) ahead.new (T.state inner.new)) }
-    ensures err { IfErr result (RefusesGroup (B.merged (B.settings operator.now)) rule (row_of first) (T.state inner.old) (T.state inner.new)) }
+    ensures ok { IfOk result (λ row. FoldsGroup (B.fold operator.now) rule
+        (row_of first) (T.state inner.old) (row_of row) ahead.new (T.state inner.new)) }
+    ensures err { IfErr result (RefusesGroup (B.fold operator.now) rule
+        (row_of first) (T.state inner.old) (T.state inner.new)) }
     ensures sound { T.sound inner.new }
 {
     let mut group = Group::new(alloc, first)?;
@@ -67,7 +72,7 @@ fn fold_group<B: BatchMerger, T: RowSource>(
     }
 }
 
-/// The first row that is made of a row and of those behind it.
+/// Makes the next row of `row` and the rows after it. A row that opens no group stays as it is.
 pub(crate) fn fold_next<B: BatchMerger, T: RowSource>(
     alloc: Global,
     operator: &B,
@@ -79,8 +84,10 @@ pub(crate) fn fold_next<B: BatchMerger, T: RowSource>(
     requires sound { T.sound inner.old }
     requires readable { IsReadable (T.state inner.old) }
     requires none { ahead.old ≡ None }
-    ensures ok { IfOk result (λ given. Folds (B.merged (B.settings operator.now)) rule (row_of row) (T.state inner.old) (row_of given) ahead.new (T.state inner.new)) }
-    ensures err { IfErr result (RefusesNext (B.merged (B.settings operator.now)) rule (row_of row ∷ (T.state inner.old).rows) (T.state inner.old) (T.state inner.new)) }
+    ensures ok { IfOk result (λ given. Folds (B.fold operator.now) rule
+        (row_of row) (T.state inner.old) (row_of given) ahead.new (T.state inner.new)) }
+    ensures err { IfErr result (RefusesNext (B.fold operator.now) rule
+        (row_of row ∷ (T.state inner.old).rows) (T.state inner.old) (T.state inner.new)) }
     ensures sound { T.sound inner.new }
 {
     if !opens(rule, &row) {

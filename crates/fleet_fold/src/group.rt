@@ -1,4 +1,4 @@
-//! A group of operands that become one row.
+//! A group of operands, which becomes one row.
 
 ghost use Rattle.std.specs.Prelude.{◌≡◌, [], ◌∷◌, true, false, Ok, IfOk, IfErr, OnOk, IsOkUnless};
 ghost use Rattle.row_model.specs.FoldedRows.{greater_stamp, same_stamp};
@@ -15,19 +15,19 @@ use bytes::Bytes;
 use fleet_rows::{RowEntry, SlateDBError, ValueDeletable};
 use std::alloc::{AllocError, Global};
 
-/// As many operands are merged at a time.
+// The number of operands in a full batch.
 const BATCH_LEN: usize = 100;
 
-/// Which rows make a group.
+/// The rule that says which rows make a group.
 #[derive(Clone, Copy, Debug, PartialEq, Eq)]
 pub(crate) struct GroupRule {
-    /// Whether operands of different stamps are merged.
+    /// Whether operands of different expiry are merged.
     pub merge_different_expire_ts: bool,
-    /// Operands above this sequence stay.
+    /// Operands above this sequence open no group. None sets no limit.
     pub snapshot_barrier_seq: Option<u64>,
 }
 
-// Whether a row opens a group.
+/// Whether a row opens a group: it is an operand at or below the barrier.
 pub(crate) fn opens(rule: GroupRule, row: &RowEntry) -> bool
     ensures { result ≡ opens rule (row_of row.now) }
 {
@@ -68,7 +68,7 @@ fn lesser_stamp(stamp: Option<i64>, other: Option<i64>) -> Option<i64>
     }
 }
 
-// The bytes of a value or of an operand.
+// The bytes of a value or of an operand. None for a tombstone.
 fn into_bytes(value: ValueDeletable) -> Option<Bytes>
     ensures { result ≡ bytes_of value }
 {
@@ -86,34 +86,37 @@ fn merge_batch<B: BatchMerger>(
     existing_value: Option<Bytes>,
     operands: &[Bytes],
 ) -> Result<Bytes, SlateDBError>
-    ensures ok { IfOk result (λ bytes. answer_of (fold_bytes (B.merged (B.settings operator.now)) key.now existing_value operands.now) ≡ Ok bytes) }
-    ensures err { IfErr result (RefusesAs (answer_of (fold_bytes (B.merged (B.settings operator.now)) key.now existing_value operands.now))) }
+    ensures ok { IfOk result (λ bytes. answer_of (fold_bytes
+        (B.fold operator.now) key.now existing_value operands.now) ≡ Ok bytes) }
+    ensures err { IfErr result (RefusesAs (answer_of
+        (fold_bytes (B.fold operator.now) key.now existing_value operands.now))) }
 {
     Ok(operator.merged_batch(alloc, key, existing_value, operands)?)
 }
 
-// A group of which some rows were taken.
+/// A group while its rows are taken.
 #[derive(Drop)]
 pub(crate) struct Group {
     key: Bytes,
     seq: u64,
-    // The first row's stamp of expiry.
+    // The expiry of the first row.
     stamp: Option<i64>,
     created: Option<i64>,
     expires: Option<i64>,
-    // The sequence of the last row that is above the first one's.
+    // The sequence of the last row whose sequence is above that of the first row.
     late: Option<u64>,
-    // The operands that are not merged yet, as they were found: newest first.
+    // The operands that wait to be merged, in the order in which they came: newest first.
     batch: Vec<Bytes>,
-    // The merged batches, as they were found.
+    // The results of the merged batches, in the order in which they came: newest first.
     folded: Vec<Bytes>,
 }
 
 impl Group {
-    /// The group that a row opens.
+    /// Makes the group that a row opens.
     pub(crate) fn new(alloc: Global, row: RowEntry) -> Result<Group, SlateDBError>
         requires operand { is_operand (row_of row) ≡ true }
-        ensures ok { IfOk result (λ group. (merge : Operator) → Gathers merge (row_of row) [] group) }
+        ensures ok { IfOk result
+            (λ group. (merge : Operator) → Gathers merge (row_of row) [] group) }
         ensures memory { IsOkUnless result SlateDBError.Memory }
     {
         let RowEntry {
@@ -139,7 +142,8 @@ impl Group {
         })
     }
 
-    /// Whether a row belongs to the group.
+    /// Whether a row belongs to the group. It has the group's key, and the expiry of the first row
+    /// unless the rule merges different ones.
     pub(crate) fn takes(&self, rule: GroupRule, row: &RowEntry) -> bool
         ensures { result ≡ same_group rule self.now.key self.now.stamp (row_of row.now) }
     {
@@ -147,7 +151,7 @@ impl Group {
             && (rule.merge_different_expire_ts || same_stamp(self.stamp, row.expire_ts))
     }
 
-    // Takes note of a row's sequence and stamps.
+    // Notes a row's sequence and stamps.
     fn note(&mut self, row: &RowEntry)
         ensures { Notes self.old (row_of row.now) self.new }
     {
@@ -158,7 +162,8 @@ impl Group {
         }
     }
 
-    // Refuses rows whose sequence is above the first one's.
+    // Refuses the group with `InvalidSequenceOrder` if a row has a sequence above that of the first
+    // row.
     fn check(&self) -> Result<(), SlateDBError>
         ensures { result ≡ in_order self.now.seq self.now.late (Ok tt) }
     {
@@ -171,10 +176,10 @@ impl Group {
         }
     }
 
-    // Merges the operands that are left.
+    // Merges the operands that wait to be merged, if there are any, into one result.
     fn flush<B: BatchMerger>(&mut self, alloc: Global, operator: &B) -> Result<(), SlateDBError>
-        ensures ok { OnOk result (Flushes (B.merged (B.settings operator.now)) self.old self.new) }
-        ensures err { IfErr result (RefusesFlush (B.merged (B.settings operator.now)) self.old) }
+        ensures ok { OnOk result (Flushes (B.fold operator.now) self.old self.new) }
+        ensures err { IfErr result (RefusesFlush (B.fold operator.now) self.old) }
     {
         if self.batch.is_empty() {
             return Ok(());
@@ -187,14 +192,15 @@ impl Group {
         Ok(())
     }
 
-    // Merges a batch that is full.
+    // Merges the operands that wait to be merged, if they fill a batch.
     fn flush_if_full<B: BatchMerger>(
         &mut self,
         alloc: Global,
         operator: &B,
     ) -> Result<(), SlateDBError>
-        ensures ok { OnOk result (FlushesFull (B.merged (B.settings operator.now)) self.old self.new) }
-        ensures err { IfErr result (RefusesFull (B.merged (B.settings operator.now)) self.old) }
+        ensures ok { OnOk result
+            (FlushesFull (B.fold operator.now) self.old self.new) }
+        ensures err { IfErr result (RefusesFull (B.fold operator.now) self.old) }
     {
         if self.batch.len() < BATCH_LEN {
             return Ok(());
@@ -203,7 +209,7 @@ impl Group {
         Ok(())
     }
 
-    // Takes an operand, which is not merged yet.
+    // Takes an operand, which then waits to be merged.
     fn push(&mut self, row: RowEntry) -> Result<(), AllocError>
         requires operand { is_operand (row_of row) ≡ true }
         ensures { OnOk result (Pushes self.old (row_of row) self.new) }
@@ -218,7 +224,7 @@ impl Group {
         }
     }
 
-    /// Takes one more operand.
+    /// Takes one more operand, and merges the batch if it is full.
     pub(crate) fn add<B: BatchMerger>(
         &mut self,
         alloc: Global,
@@ -226,29 +232,32 @@ impl Group {
         row: RowEntry,
     ) -> Result<(), SlateDBError>
         requires operand { is_operand (row_of row) ≡ true }
-        ensures ok { OnOk result (Adds (B.merged (B.settings operator.now)) self.old (row_of row) self.new) }
-        ensures err { IfErr result (RefusesAdd (B.merged (B.settings operator.now)) self.old (row_of row)) }
+        ensures ok { OnOk result
+            (Adds (B.fold operator.now) self.old (row_of row) self.new) }
+        ensures err { IfErr result
+            (RefusesAdd (B.fold operator.now) self.old (row_of row)) }
     {
         self.push(row)?;
         self.flush_if_full(alloc, operator)?;
         Ok(())
     }
 
-    // The row with a merged value.
+    // The group's row with this content.
     fn into_row(self, value: ValueDeletable) -> RowEntry
         ensures { row_of result ≡ with_value self (content_of value) }
     {
         RowEntry::new(self.key, value, self.seq, self.created, self.expires)
     }
 
-    /// The row of a group without a base.
+    /// Makes the row of a group without a base. Its content is an operand.
     pub(crate) fn close<B: BatchMerger>(
         self,
         alloc: Global,
         operator: &B,
     ) -> Result<RowEntry, SlateDBError>
-        ensures ok { IfOk result (λ row. Closes (B.merged (B.settings operator.now)) self [] (row_of row)) }
-        ensures err { IfErr result (RefusesClose (B.merged (B.settings operator.now)) self []) }
+        ensures ok { IfOk result
+            (λ row. Closes (B.fold operator.now) self [] (row_of row)) }
+        ensures err { IfErr result (RefusesClose (B.fold operator.now) self []) }
     {
         let mut group = self;
         group.flush(alloc, operator)?;
@@ -257,7 +266,7 @@ impl Group {
         Ok(group.into_row(ValueDeletable::Merge(bytes)))
     }
 
-    /// The row of a group over its base.
+    /// Makes the row of a group over its base. Its content is a value.
     pub(crate) fn close_over<B: BatchMerger>(
         self,
         alloc: Global,
@@ -265,8 +274,10 @@ impl Group {
         base: RowEntry,
     ) -> Result<RowEntry, SlateDBError>
         requires base { is_operand (row_of base) ≡ false }
-        ensures ok { IfOk result (λ row. Closes (B.merged (B.settings operator.now)) self (row_of base ∷ []) (row_of row)) }
-        ensures err { IfErr result (RefusesClose (B.merged (B.settings operator.now)) self (row_of base ∷ [])) }
+        ensures ok { IfOk result (λ row.
+            Closes (B.fold operator.now) self (row_of base ∷ []) (row_of row)) }
+        ensures err { IfErr result
+            (RefusesClose (B.fold operator.now) self (row_of base ∷ [])) }
     {
         let mut group = self;
         group.flush(alloc, operator)?;

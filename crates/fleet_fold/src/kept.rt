@@ -1,4 +1,4 @@
-//! What is kept of the rows of a key.
+//! What retention keeps of the rows of one key.
 
 ghost use Rattle.std.specs.Prelude.{◌≡◌, IfOk};
 ghost use Rattle.row_model.specs.Rows.{is_expired, is_operand, is_tombstone};
@@ -28,7 +28,7 @@ pub(crate) fn is_operand(row: &RowEntry) -> bool
     }
 }
 
-// An expired row becomes a tombstone.
+// The row, or a tombstone without expiry in its place if it is expired.
 fn as_tombstone_if_expired(row: RowEntry, tick: i64) -> RowEntry
     ensures { row_of result ≡ as_tombstone_if_expired tick (row_of row) }
 {
@@ -45,27 +45,29 @@ fn as_tombstone_if_expired(row: RowEntry, tick: i64) -> RowEntry
     }
 }
 
-// Whether a row is an expired operand.
+// Whether the walk drops a row, since it is an expired operand.
 fn is_dropped(row: &RowEntry, tick: i64) -> bool
     ensures { result ≡ is_dropped tick (row_of row.now) }
 {
     is_operand(row) && is_expired(row, tick)
 }
 
-// A kept row ends the walk where no read from the cut on sees an older one.
+// Whether the walk ends with a row. If it does, no read from the cut on sees an older one.
 fn ends_walk(row: &RowEntry, cut: u64) -> bool
     ensures { result ≡ ends_walk cut (row_of row.now) }
 {
     !is_operand(row) && row.seq <= cut
 }
 
-// Rows are kept from the newest on, up to the first that ends the walk.
+// Keeps rows from the newest one on, up to the first that ends the walk. It drops expired operands,
+// and turns other expired rows into tombstones.
 fn walked(
     alloc: Global,
     settings: Settings,
     rows: Vec<RowEntry>,
 ) -> Result<Vec<RowEntry>, AllocError>
-    ensures { IfOk result (λ kept. rows_of kept.items ≡ retention_walk settings.cut settings.tick (rows_of rows.items)) }
+    ensures { IfOk result (λ kept. rows_of kept.items
+        ≡ retention_walk settings.cut settings.tick (rows_of rows.items)) }
 {
     let mut rest = rows;
     rest.reverse();
@@ -82,7 +84,7 @@ fn walked(
     Ok(kept)
 }
 
-// Removes the tombstones at the old end.
+// Removes the tombstones at the old end of the rows.
 fn remove_old_tombstones(rows: &mut Vec<RowEntry>)
     ensures { rows_of rows.new.items ≡ without_old_tombstones (rows_of rows.old.items) }
 {
@@ -93,13 +95,14 @@ fn remove_old_tombstones(rows: &mut Vec<RowEntry>)
     }
 }
 
-/// What is kept of the rows of one key, newest first.
+/// The rows that retention keeps of the rows of one key. Both are newest first.
 pub(crate) fn kept_rows(
     alloc: Global,
     settings: Settings,
     rows: Vec<RowEntry>,
 ) -> Result<Vec<RowEntry>, AllocError>
-    ensures { IfOk result (λ kept. rows_of kept.items ≡ kept_rows (settings_of settings) (rows_of rows.items)) }
+    ensures { IfOk result
+        (λ kept. rows_of kept.items ≡ kept_rows (settings_of settings) (rows_of rows.items)) }
 {
     let mut kept = walked(alloc, settings, rows)?;
     if settings.last_run {

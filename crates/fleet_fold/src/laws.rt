@@ -1,42 +1,49 @@
-//! Laws on what the iterators of this crate make of rows. Each call has an empty body, and its clause is the law.
+//! Laws on what the iterators of this crate make of rows. Each function has an empty body, and its
+//! clause is the law.
 
 ghost use Rattle.row_model.specs.Fold.{IsLawful, Operator};
 ghost use Rattle.fleet_fold.specs.Filter.{FiltersSeeTheKey};
 ghost use Rattle.fleet_fold.specs.Jobs.{FoldsOneKey, FoldsMakeJobs, FoldsBeginJobs, JobsKeepReads, RefusesByOperator};
 
-/// Under a lawful operator, merging the operands of one key in batches, up to the cut and of one stamp, gives the model's folded
-/// rows, and refuses exactly where the model's fold does.
+/// Under a lawful operator, merging the operands of one key in batches gives the model's folded
+/// rows. Operands are merged at or below the cut, and only with the same expiry. The merge is
+/// refused exactly if the model's fold is.
 pub fn folds_one_key()
     ensures { (merge : Operator) → IsLawful merge → FoldsOneKey merge }
 {}
 
-/// Under a lawful operator, what retention keeps of folded rows is what a job makes of the rows, where that is whole; and a fold
-/// refuses exactly where it is not.
+/// Under a lawful operator and for strictly ordered rows, folding is refused exactly if the job is
+/// not whole. If the job is whole, what retention keeps of the folded rows is the job's rows.
 pub fn folds_make_jobs()
     ensures { (merge : Operator) → IsLawful merge → FoldsMakeJobs merge }
 {}
 
-/// Where a fold refuses, what retention keeps of all keys but the last that has folded rows begins what the job makes, and goes
-/// on at least to the key before the last one below the refusing key.
+/// Under a lawful operator and for strictly ordered rows, what retention keeps of the folded rows
+/// begins the job's rows, even if a fold refuses. The last key that has folded rows is left out.
+/// The kept rows have at least all that the job makes of the keys before the last key below the
+/// refusing one.
 pub fn folds_begin_jobs()
     ensures { (merge : Operator) → IsLawful merge → FoldsBeginJobs merge }
 {}
 
-/// Of strictly ordered rows nothing refuses a fold but the operator: a refusal carries the message with which it refused a fold over
-/// operands of one key of the rows. Either that fold was of a batch of them, or it was of the batches' results, over the operands'
-/// base or from none.
+/// For strictly ordered rows, only the operator refuses a fold. The error has the message with
+/// which it refused a fold over operands of one key. It refused a batch of them, or it refused the
+/// batches' results, over the value of the operands' base or without one.
 pub fn refuses_by_operator()
     ensures { (merge : Operator) → RefusesByOperator merge }
 {}
 
-/// Under a lawful operator, an iterator that gives a whole job's rows gives rows that read as the job's sources do, from the
-/// cut and the tick on, whatever stands above, and whatever stands below unless the job made a last run.
+/// Under a lawful operator and for strictly ordered rows, the rows of an iterator over a whole job
+/// read as the rows of the job's sources do. This holds at each sequence from the cut on, and at
+/// each moment from the tick on. Any rows may come before them. Any rows may come after them,
+/// unless the job made the last run.
 pub fn jobs_keep_reads()
     ensures { (merge : Operator) → IsLawful merge → JobsKeepReads merge }
 {}
 
-/// Where a filter stands above rows that are taken up again behind a cursor, it is shown all rows from the cursor's key on, also
-/// those of that key that stand written; of what it leaves, those that stand written are not given again.
+/// An iterator that resumes after a cursor, over a filter, shows the filter all rows from the
+/// cursor's key on. These include rows of that key that are written already. Of what the filter
+/// leaves, the first rows that are written already are not given again.
 pub fn filters_see_the_key()
     ensures { FiltersSeeTheKey }
 {}

@@ -1,8 +1,8 @@
-//! The rows of an iterator with their operands merged.
+//! Iterators that merge operands.
 
 ghost use Rattle.std.specs.Prelude.{◌≡◌, None, OnOk};
 ghost use Rattle.fleet_iter.specs.Iteration.{Inits, Nexts, Seeks, HandsOn, AreRising};
-ghost use Rattle.fleet_fold.specs.Merging.{merging, state_of, IsSound, Sought, HandsOnOrRefuses};
+ghost use Rattle.fleet_fold.specs.Merging.{merging, state_of, IsSound, RisesIfRefused, Sought, HandsOnOrRefuses};
 
 use crate::MergeOperator;
 use crate::fold::fold_next;
@@ -12,24 +12,31 @@ use fleet_iter::{Failure, RowEntryIterator, TrackedRowEntryIterator};
 use fleet_rows::{RowEntry, SlateDBError};
 use std::alloc::Global;
 
-/// The rows of an iterator, of which operands of a key that stand together are one row.
+/// An iterator that merges the operands of an inner iterator's rows: each group of operands becomes
+/// one row.
 #[derive(Drop)]
 pub struct MergeOperatorIterator<'o, O: MergeOperator, T: RowEntryIterator> {
     operator: &'o O,
     delegate: T,
     rule: GroupRule,
-    // The row behind the last group, which did not belong to it.
+    // The row that was read after the last group and does not belong to it.
     ahead: Option<RowEntry>,
     failure: Failure,
 }
 
 impl<'o, O: MergeOperator, T: RowEntryIterator> MergeOperatorIterator<'o, O, T> {
-    /// The rows that `delegate` has left. An operand at or below the barrier, or any where there is none, opens a group. The
-    /// operands of its key behind it join it, of any stamp or of the same one, and the first other row is its base. Operands go
-    /// to the operator in batches of at most 100, and the results over the base's value: a lone operand is merged too. The row
-    /// that a group becomes has the first row's sequence, the greatest `create_ts` and the least `expire_ts`.
+    /// Makes an iterator over the rows that `delegate` has left. An operand opens a group if it is
+    /// at or below the barrier, or if there is no barrier. The next operands of its key join the
+    /// group. If `merge_different_expire_ts` is false, only those with its expiry do. The first
+    /// other row that may join is the group's base. Operands go to the operator in batches of at
+    /// most 100, and the batches' results then go to it over the base's value. A lone operand goes
+    /// to it too. The group's row has the first row's sequence, the greatest `create_ts` and the
+    /// least `expire_ts`.
     ///
-    /// A row whose sequence is above that of its group's first row is refused with `InvalidSequenceOrder`.
+    /// It refuses a row whose sequence is above that of its group's first row with
+    /// `InvalidSequenceOrder`.
+    ///
+    /// If no fold of the rows refuses, they may fall, as those of a descending merge do.
     #[tactic(auto, using(crate::proofs::FoldedSeeks::folded_rise))]
     pub fn new(
         operator: &'o O,
@@ -39,10 +46,20 @@ impl<'o, O: MergeOperator, T: RowEntryIterator> MergeOperatorIterator<'o, O, T> 
     ) -> Self
         requires sound { T.sound delegate }
         requires alive { (T.state delegate).failure ≡ None }
-        requires rising { AreRising (T.state delegate).rows }
-        ensures rows { state_of O.settings O.merged T.state result ≡ merging None (O.merged (O.settings operator.now)) (record { merge_different_expire_ts = merge_different_expire_ts; snapshot_barrier_seq = snapshot_barrier_seq }) None (T.state delegate) }
-        ensures sound { IsSound T.sound T.state result }
-        ensures rising { AreRising (state_of O.settings O.merged T.state result).rows }
+        requires rising { RisesIfRefused (O.merged (O.settings operator.now))
+            (record {
+              merge_different_expire_ts = merge_different_expire_ts;
+              snapshot_barrier_seq = snapshot_barrier_seq;
+            }) (T.state delegate).rows }
+        ensures rows { state_of O.settings O.merged T.state result
+            ≡ merging None (O.merged (O.settings operator.now))
+            (record {
+              merge_different_expire_ts = merge_different_expire_ts;
+              snapshot_barrier_seq = snapshot_barrier_seq;
+            }) None (T.state delegate) }
+        ensures sound { IsSound O.settings O.merged T.sound T.state result }
+        ensures rising { AreRising (T.state delegate).rows
+            → AreRising (state_of O.settings O.merged T.state result).rows }
     {
         MergeOperatorIterator {
             operator,
@@ -60,17 +77,19 @@ impl<'o, O: MergeOperator, T: RowEntryIterator> MergeOperatorIterator<'o, O, T> 
 impl<O: MergeOperator, T: RowEntryIterator> RowEntryIterator for MergeOperatorIterator<'_, O, T> {
     ghost state = { state_of O.settings O.merged T.state };
 
-    ghost sound = { IsSound T.sound T.state };
+    ghost sound = { IsSound O.settings O.merged T.sound T.state };
 
     ghost sought = { Sought O.settings O.merged T.state T.sought };
 
     ghost processed = { λ i. T.processed i.delegate };
 
     fn init(&mut self, alloc: Global) -> Result<(), SlateDBError>
-        requires { IsSound T.sound T.state self.old }
-        ensures init { Inits (state_of O.settings O.merged T.state self.old) (state_of O.settings O.merged T.state self.new) result }
-        ensures handed { HandsOn (state_of O.settings O.merged T.state self.old) (T.state self.new.delegate) result }
-        ensures sound { IsSound T.sound T.state self.new }
+        requires { IsSound O.settings O.merged T.sound T.state self.old }
+        ensures init { Inits (state_of O.settings O.merged T.state self.old)
+            (state_of O.settings O.merged T.state self.new) result }
+        ensures handed { HandsOn
+            (state_of O.settings O.merged T.state self.old) (T.state self.new.delegate) result }
+        ensures sound { IsSound O.settings O.merged T.sound T.state self.new }
     {
         self.failure.check()?;
         match self.delegate.init(alloc) {
@@ -80,10 +99,11 @@ impl<O: MergeOperator, T: RowEntryIterator> RowEntryIterator for MergeOperatorIt
     }
 
     fn next(&mut self, alloc: Global) -> Result<Option<RowEntry>, SlateDBError>
-        requires { IsSound T.sound T.state self.old }
-        ensures next { Nexts (state_of O.settings O.merged T.state self.old) (state_of O.settings O.merged T.state self.new) result }
+        requires { IsSound O.settings O.merged T.sound T.state self.old }
+        ensures next { Nexts (state_of O.settings O.merged T.state self.old)
+            (state_of O.settings O.merged T.state self.new) result }
         ensures handed { HandsOnOrRefuses O.settings O.merged T.state self.old self.new result }
-        ensures sound { IsSound T.sound T.state self.new }
+        ensures sound { IsSound O.settings O.merged T.sound T.state self.new }
     {
         self.failure.check()?;
         let row = match self.ahead.take() {
@@ -109,13 +129,16 @@ impl<O: MergeOperator, T: RowEntryIterator> RowEntryIterator for MergeOperatorIt
     }
 
     fn seek(&mut self, alloc: Global, next_key: &[u8]) -> Result<(), SlateDBError>
-        requires sound { IsSound T.sound T.state self.old }
+        requires sound { IsSound O.settings O.merged T.sound T.state self.old }
         requires rising { AreRising (state_of O.settings O.merged T.state self.old).rows }
-        ensures seek { Seeks next_key.now (state_of O.settings O.merged T.state self.old) (state_of O.settings O.merged T.state self.new) result }
-        ensures sought { OnOk result (Sought O.settings O.merged T.state T.sought self.old next_key.now (state_of O.settings O.merged T.state self.new)) }
+        ensures seek { Seeks next_key.now (state_of O.settings O.merged T.state self.old)
+            (state_of O.settings O.merged T.state self.new) result }
+        ensures sought { OnOk result (Sought O.settings O.merged T.state
+            T.sought self.old next_key.now (state_of O.settings O.merged T.state self.new)) }
         ensures uncounted { T.processed self.new.delegate ≡ T.processed self.old.delegate }
-        ensures handed { HandsOn (state_of O.settings O.merged T.state self.old) (T.state self.new.delegate) result }
-        ensures sound { IsSound T.sound T.state self.new }
+        ensures handed { HandsOn
+            (state_of O.settings O.merged T.state self.old) (T.state self.new.delegate) result }
+        ensures sound { IsSound O.settings O.merged T.sound T.state self.new }
     {
         self.failure.check()?;
         drop_if_below(&mut self.ahead, next_key);

@@ -8,18 +8,20 @@ use bytes::Bytes;
 use fleet_rows::MergeOperatorError;
 use std::alloc::Global;
 
-/// The name under which operands are counted.
+/// The name of the metric that counts operands.
 pub const MERGE_OPERATOR_OPERANDS: &str = "slatedb.merge_operator_operands";
 
-/// Merges operands of a key into one value. Its answers are those of its settings and of the arguments alone.
+/// A merge operator, which merges operands of a key into one value. Its answers depend only on its
+/// settings and on the arguments.
 pub trait MergeOperator: Sync {
-    /// What it was made with, which never changes; empty for an operator without fields.
+    /// What the operator was made with. It never changes, and is empty for an operator without
+    /// fields.
     ghost settings: { Self → List ℕ };
 
-    /// What a merge answers, by the settings.
+    /// What a merge of one operand answers, given the settings.
     ghost merged: { List ℕ → Operator };
 
-    /// One operand onto what there is.
+    /// Merges one operand onto the existing value, if there is one.
     fn merge(
         &self,
         alloc: Global,
@@ -29,7 +31,8 @@ pub trait MergeOperator: Sync {
     ) -> Result<Bytes, MergeOperatorError>
         ensures { Answers (merged (settings self.now) key.now existing_value value) result };
 
-    /// All operands, the oldest first. `EmptyBatch` comes exactly where there is neither an operand nor an existing value.
+    /// Merges all operands, oldest first, onto the existing value, if there is one. It fails with
+    /// `EmptyBatch` only if there is neither an operand nor an existing value.
     fn merge_batch(
         &self,
         alloc: Global,
@@ -37,7 +40,8 @@ pub trait MergeOperator: Sync {
         existing_value: Option<Bytes>,
         operands: &[Bytes],
     ) -> Result<Bytes, MergeOperatorError>
-        ensures { AnswersBatch (fold_bytes (merged (settings self.now)) key.now existing_value operands.now) result }
+        ensures { AnswersBatch
+            (fold_bytes (merged (settings self.now)) key.now existing_value operands.now) result }
     {
         let mut value = existing_value;
         'operands: for operand in operands {
@@ -49,18 +53,18 @@ pub trait MergeOperator: Sync {
         }
     }
 
-    /// Later operands may be folded for themselves, and answers are short.
+    /// The operator is lawful: newer operands may be folded by themselves first, and answers have
+    /// fewer than 2^32 bytes.
     ghost lawful: { (s : List ℕ) → IsLawful (merged s) };
 }
 
-/// An operator as the functions of an adapter take it, which need not share it with another thread. Each `MergeOperator` is
-/// one. docs/DECISIONS.md says why its methods stand here once more.
+/// A merge operator as adapters use it inside: it need not be `Sync`. Every `MergeOperator` is a
+/// `BatchMerger`. docs/DECISIONS.md says why the methods are declared again.
 pub trait BatchMerger {
-    ghost settings: { Self → List ℕ };
+    /// What a merge of one operand answers.
+    ghost fold: { Self → Operator };
 
-    ghost merged: { List ℕ → Operator };
-
-    /// As `merge_batch`.
+    /// Does what `MergeOperator::merge_batch` does.
     fn merged_batch(
         &self,
         alloc: Global,
@@ -68,17 +72,16 @@ pub trait BatchMerger {
         existing_value: Option<Bytes>,
         operands: &[Bytes],
     ) -> Result<Bytes, MergeOperatorError>
-        ensures { AnswersBatch (fold_bytes (merged (settings self.now)) key.now existing_value operands.now) result };
+        ensures { AnswersBatch
+            (fold_bytes (fold self.now) key.now existing_value operands.now) result };
 
-    ghost lawful: { (s : List ℕ) → IsLawful (merged s) };
+    ghost lawful: { (merger : Self) → IsLawful (fold merger) };
 }
 
 impl<O: MergeOperator> BatchMerger for O {
-    ghost settings = { O.settings };
+    ghost fold = { λ o. O.merged (O.settings o) };
 
-    ghost merged = { O.merged };
-
-    ghost lawful = { O.lawful };
+    ghost lawful = { λ o. O.lawful (O.settings o) };
 
     fn merged_batch(
         &self,

@@ -1,4 +1,4 @@
-//! Rows that have no operator to merge them.
+//! Rows for which there is no merge operator.
 
 ghost use Rattle.std.specs.Prelude.{◌≡◌, None, OnOk};
 ghost use Rattle.fleet_iter.specs.Iteration.{Inits, Nexts, Seeks, HandsOn, AreRising};
@@ -9,8 +9,8 @@ use fleet_iter::{Failure, RowEntryIterator, TrackedRowEntryIterator};
 use fleet_rows::{RowEntry, SlateDBError};
 use std::alloc::Global;
 
-/// The rows of an iterator, up to the first operand: that one is refused with `MergeOperatorMissing`. A seek passes operands
-/// below its key.
+/// An iterator over the rows of an inner iterator, up to the first operand. It refuses that one
+/// with `MergeOperatorMissing`. A seek passes operands below its key.
 #[derive(Drop)]
 pub struct MergeOperatorRequiredIterator<T: RowEntryIterator> {
     delegate: T,
@@ -18,7 +18,7 @@ pub struct MergeOperatorRequiredIterator<T: RowEntryIterator> {
 }
 
 impl<T: RowEntryIterator> MergeOperatorRequiredIterator<T> {
-    /// The rows that `delegate` has left.
+    /// Makes an iterator over the rows that `delegate` has left.
     #[tactic(auto, using(crate::proofs::Plain::rising_before))]
     pub fn new(delegate: T) -> Self
         requires sound { T.sound delegate }
@@ -60,7 +60,8 @@ impl<T: RowEntryIterator> RowEntryIterator for MergeOperatorRequiredIterator<T> 
     fn next(&mut self, alloc: Global) -> Result<Option<RowEntry>, SlateDBError>
         requires { IsSound T.sound T.state self.old }
         ensures next { Nexts (state_of T.state self.old) (state_of T.state self.new) result }
-        ensures missing { MissesOperator (T.state self.old.delegate).rows (state_of T.state self.old) (T.state self.new.delegate) result }
+        ensures missing { MissesOperator (T.state self.old.delegate).rows
+            (state_of T.state self.old) (T.state self.new.delegate) result }
         ensures sound { IsSound T.sound T.state self.new }
     {
         self.failure.check()?;
@@ -80,8 +81,10 @@ impl<T: RowEntryIterator> RowEntryIterator for MergeOperatorRequiredIterator<T> 
     fn seek(&mut self, alloc: Global, next_key: &[u8]) -> Result<(), SlateDBError>
         requires sound { IsSound T.sound T.state self.old }
         requires rising { AreRising (state_of T.state self.old).rows }
-        ensures seek { Seeks next_key.now (state_of T.state self.old) (state_of T.state self.new) result }
-        ensures sought { OnOk result (Sought T.state T.sought self.old next_key.now (state_of T.state self.new)) }
+        ensures seek { Seeks next_key.now
+            (state_of T.state self.old) (state_of T.state self.new) result }
+        ensures sought { OnOk result
+            (Sought T.state T.sought self.old next_key.now (state_of T.state self.new)) }
         ensures uncounted { T.processed self.new.delegate ≡ T.processed self.old.delegate }
         ensures handed { HandsOn (state_of T.state self.old) (T.state self.new.delegate) result }
         ensures sound { IsSound T.sound T.state self.new }

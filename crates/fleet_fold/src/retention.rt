@@ -1,4 +1,4 @@
-//! Retention, a key at a time.
+//! Retention, one key at a time.
 
 ghost use Rattle.std.specs.Prelude.{◌≡◌, ◌++◌, reverse, false, [], None, OnOk, IfOk, IfErr};
 ghost use Rattle.std.specs.Option.{option_to_list};
@@ -14,25 +14,28 @@ use fleet_rows::{RowEntry, Settings, SlateDBError};
 use std::alloc::Global;
 use std::cmp::Ordering;
 
-/// What retention keeps of the rows of an iterator, one key after the other.
+/// An iterator over the rows that retention keeps of an inner iterator's rows, key after key.
 #[derive(Drop)]
 pub struct RetentionIterator<T: RowEntryIterator> {
     inner: T,
     settings: Settings,
-    // Kept rows of a key, of which the next stands last.
+    // The kept rows of a key, in reverse: the next row is the last element.
     buffer: Vec<RowEntry>,
-    // The first row of the next key.
+    // The first row of the next key, if it was read ahead.
     ahead: Option<RowEntry>,
     failure: Failure,
 }
 
 impl<T: RowEntryIterator> RetentionIterator<T> {
-    /// Retention of the rows that `inner` has left.
+    /// Makes an iterator over the rows that retention keeps of those that `inner` has left.
     pub fn new(alloc: Global, inner: T, settings: Settings) -> Self
         requires sound { T.sound inner }
         requires alive { (T.state inner).failure ≡ None }
         requires rising { AreRising (T.state inner).rows }
-        ensures rows { state_of T.state result ≡ record (T.state inner) { rows = kept_given (settings_of settings) (T.state inner).whole (T.state inner).rows } }
+        ensures rows { state_of T.state result ≡ record (T.state inner) {
+          rows = kept_given
+              (settings_of settings) (T.state inner).whole (T.state inner).rows;
+        } }
         ensures sound { IsSound T.sound T.state result }
         ensures rising { AreRising (state_of T.state result).rows }
     {
@@ -55,7 +58,8 @@ fn has_key(rows: &[RowEntry], row: &RowEntry) -> bool
     }
 }
 
-// Reads a row ahead, unless one is there or some are kept: so an iterator that is not initialised is found out.
+// Reads a row ahead, unless one was read already or kept rows are left. This shows whether the
+// inner iterator is initialised.
 fn begin<T: RowSource>(
     alloc: Global,
     inner: &mut T,
@@ -65,7 +69,8 @@ fn begin<T: RowSource>(
     requires sound { T.sound inner.old }
     requires reads { ReadsOn (reverse buffer.now) ahead.old (T.state inner.old) }
     ensures ok { OnOk result (Begins ahead.old (T.state inner.old) ahead.new (T.state inner.new)) }
-    ensures err { IfErr result (RefusesBeginning (reverse buffer.now) ahead.old (T.state inner.old) ahead.new (T.state inner.new)) }
+    ensures err { IfErr result (RefusesBeginning
+        (reverse buffer.now) ahead.old (T.state inner.old) ahead.new (T.state inner.new)) }
     ensures sound { T.sound inner.new }
 {
     if !buffer.is_empty() || ahead.is_some() {
@@ -75,7 +80,7 @@ fn begin<T: RowSource>(
     Ok(())
 }
 
-// The rows of the next key, none at the end. The row behind them is read too.
+// Takes the rows of the next key, or none at the end. It reads the first row after them ahead.
 fn read_key<T: RowSource>(
     alloc: Global,
     inner: &mut T,
@@ -83,7 +88,8 @@ fn read_key<T: RowSource>(
 ) -> Result<Vec<RowEntry>, SlateDBError>
     requires sound { T.sound inner.old }
     requires readable { IsReadable (T.state inner.old) }
-    ensures ok { IfOk result (λ rows. ReadsKey ahead.old (T.state inner.old) rows.items ahead.new (T.state inner.new)) }
+    ensures ok { IfOk result
+        (λ rows. ReadsKey ahead.old (T.state inner.old) rows.items ahead.new (T.state inner.new)) }
     ensures err { IfErr result (RefusesKey ahead.old (T.state inner.old) (T.state inner.new)) }
     ensures sound { T.sound inner.new }
 {
@@ -102,7 +108,7 @@ fn read_key<T: RowSource>(
     Ok(rows)
 }
 
-// Keeps rows, a key after the other, until some are kept or none are left.
+// Reads and keeps one key after the other, until some rows are kept or none are left to read.
 fn fill<T: RowSource>(
     alloc: Global,
     settings: Settings,
@@ -112,8 +118,10 @@ fn fill<T: RowSource>(
 ) -> Result<(), SlateDBError>
     requires sound { T.sound inner.old }
     requires readable { IsReadable (T.state inner.old) }
-    ensures ok { OnOk result (Fills (settings_of settings) (reverse buffer.old.items) ahead.old (T.state inner.old) (reverse buffer.new.items) ahead.new (T.state inner.new)) }
-    ensures err { IfErr result (RefusesFill (settings_of settings) (reverse buffer.old.items) ahead.old (T.state inner.old) (T.state inner.new)) }
+    ensures ok { OnOk result (Fills (settings_of settings) (reverse buffer.old.items) ahead.old
+        (T.state inner.old) (reverse buffer.new.items) ahead.new (T.state inner.new)) }
+    ensures err { IfErr result (RefusesFill (settings_of settings)
+        (reverse buffer.old.items) ahead.old (T.state inner.old) (T.state inner.new)) }
     ensures sound { T.sound inner.new }
 {
     'keys: while buffer.is_empty() {
@@ -128,9 +136,10 @@ fn fill<T: RowSource>(
     Ok(())
 }
 
-// Drops the rows below a key, of rows of which the next stands last.
+// Drops the rows below a key from the buffer, whose last element is the next row.
 fn drop_below(buffer: &mut Vec<RowEntry>, key: &[u8])
-    ensures { rows_of (reverse buffer.new.items) ≡ from_key key.now (rows_of (reverse buffer.old.items)) }
+    ensures { rows_of (reverse buffer.new.items)
+        ≡ from_key key.now (rows_of (reverse buffer.old.items)) }
 {
     'below: while let Some(row) = buffer.last()
         && row.key.as_slice().cmp(key) == Ordering::Less
@@ -139,9 +148,10 @@ fn drop_below(buffer: &mut Vec<RowEntry>, key: &[u8])
     }
 }
 
-// Drops a row that is below a key.
+/// Drops the row that was read ahead, if it is below the key.
 pub(crate) fn drop_if_below(ahead: &mut Option<RowEntry>, key: &[u8])
-    ensures { rows_of (option_to_list ahead.new) ≡ from_key key.now (rows_of (option_to_list ahead.old)) }
+    ensures { rows_of (option_to_list ahead.new)
+        ≡ from_key key.now (rows_of (option_to_list ahead.old)) }
 {
     if let Some(row) = ahead
         && row.key.as_slice().cmp(key) == Ordering::Less
@@ -198,8 +208,10 @@ impl<T: RowEntryIterator> RowEntryIterator for RetentionIterator<T> {
     fn seek(&mut self, alloc: Global, next_key: &[u8]) -> Result<(), SlateDBError>
         requires sound { IsSound T.sound T.state self.old }
         requires rising { AreRising (state_of T.state self.old).rows }
-        ensures seek { Seeks next_key.now (state_of T.state self.old) (state_of T.state self.new) result }
-        ensures sought { OnOk result (Sought T.state T.sought self.old next_key.now (state_of T.state self.new)) }
+        ensures seek { Seeks next_key.now
+            (state_of T.state self.old) (state_of T.state self.new) result }
+        ensures sought { OnOk result
+            (Sought T.state T.sought self.old next_key.now (state_of T.state self.new)) }
         ensures uncounted { T.processed self.new.inner ≡ T.processed self.old.inner }
         ensures handed { HandsOn (state_of T.state self.old) (T.state self.new.inner) result }
         ensures sound { IsSound T.sound T.state self.new }

@@ -4,7 +4,7 @@ use Rattle.fleet_fold.specs.Retention.{IsReadable, from_ahead}
 use Rattle.fleet_fold.specs.Filter.{filtered}
 use Rattle.fleet_fold.proofs.filtering.next_left.Given as goal
 
--- what is left gives what all gave
+-- The filter leaves of the rows still to be shown what it left of all rows at first.
 abbrev pub invariant-rows : goal.invariant-rows
 invariant-rows g l =
     let s = g.T.RowSource.state l.inner in

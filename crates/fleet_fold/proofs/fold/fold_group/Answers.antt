@@ -9,13 +9,13 @@ use Rattle.fleet_fold.proofs.fold.fold_group.Goals as goal
 
 pub returns-in_err-base-clause-err : goal.returns-in_err-base-clause-err
 returns-in_err-base-clause-err g c =
-    let merge = g.B.BatchMerger.merged (g.B.BatchMerger.settings c.args.operator.now) in
+    let merge = g.B.BatchMerger.fold c.args.operator.now in
     let p = err_from_is_err_and c.from_residual-in_err-base.result c.from_residual-in_err-base.ensures.1 in
     rw (p.1, p.2) (c.in_err-base.ensures.err (row_of c.args.first) (c.in_ok-group.ensures.ok merge))
 
 pub returns-in_err-close_over-in-Some-clause-err : goal.returns-in_err-close_over-in-Some-clause-err
 returns-in_err-close_over-in-Some-clause-err g c =
-    let merge = g.B.BatchMerger.merged (g.B.BatchMerger.settings c.args.operator.now) in
+    let merge = g.B.BatchMerger.fold c.args.operator.now in
     let f = g.T.RowSource.state in
     let p = err_from_is_err_and c.from_residual-in_err-close_over-in-Some.result c.from_residual-in_err-close_over-in-Some.ensures.1 in
     let e = c.in_err-close_over-in-Some.field-0.0 in
@@ -25,7 +25,7 @@ returns-in_err-close_over-in-Some-clause-err g c =
 
 pub returns-in_err-close-in-None-clause-err : goal.returns-in_err-close-in-None-clause-err
 returns-in_err-close-in-None-clause-err g c =
-    let merge = g.B.BatchMerger.merged (g.B.BatchMerger.settings c.args.operator.now) in
+    let merge = g.B.BatchMerger.fold c.args.operator.now in
     let f = g.T.RowSource.state in
     let p = err_from_is_err_and c.from_residual-in_err-close-in-None.result c.from_residual-in_err-close-in-None.ensures.1 in
     let e = c.in_err-close-in-None.field-0.0 in
@@ -35,7 +35,7 @@ returns-in_err-close-in-None-clause-err g c =
 
 pub returns-in_ok-close_over-in-Some-clause-ok : goal.returns-in_ok-close_over-in-Some-clause-ok
 returns-in_ok-close_over-in-Some-clause-ok g c =
-    let merge = g.B.BatchMerger.merged (g.B.BatchMerger.settings c.args.operator.now) in
+    let merge = g.B.BatchMerger.fold c.args.operator.now in
     let f = g.T.RowSource.state in
     let takes = c.in_ok-base.ensures.ok in
     let joins = takes.group (row_of c.args.first) (c.in_ok-group.ensures.ok merge) in
@@ -45,7 +45,7 @@ returns-in_ok-close_over-in-Some-clause-ok g c =
 
 pub returns-in_ok-close-in-None-clause-ok : goal.returns-in_ok-close-in-None-clause-ok
 returns-in_ok-close-in-None-clause-ok g c =
-    let merge = g.B.BatchMerger.merged (g.B.BatchMerger.settings c.args.operator.now) in
+    let merge = g.B.BatchMerger.fold c.args.operator.now in
     let f = g.T.RowSource.state in
     let takes = c.in_ok-base.ensures.ok in
     let joins = takes.group (row_of c.args.first) (c.in_ok-group.ensures.ok merge) in

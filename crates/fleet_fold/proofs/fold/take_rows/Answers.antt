@@ -11,7 +11,7 @@ use Rattle.fleet_fold.proofs.fold.take_rows.Goals as goal
 
 pub returns-then-not-takes-clause-ok : goal.returns-then-not-takes-clause-ok
 returns-then-not-takes-clause-ok g c =
-    let merge = g.B.BatchMerger.merged (g.B.BatchMerger.settings c.args.operator.now) in
+    let merge = g.B.BatchMerger.fold c.args.operator.now in
     let old = g.T.RowSource.state c.args.inner.now in
     let s = g.T.RowSource.state c.rows.inner in
     let new = g.T.RowSource.state c.next_row.new.self in
@@ -27,7 +27,7 @@ returns-then-not-takes-clause-ok g c =
 
 pub returns-then-not-is_operand-clause-ok : goal.returns-then-not-is_operand-clause-ok
 returns-then-not-is_operand-clause-ok g c =
-    let merge = g.B.BatchMerger.merged (g.B.BatchMerger.settings c.args.operator.now) in
+    let merge = g.B.BatchMerger.fold c.args.operator.now in
     let old = g.T.RowSource.state c.args.inner.now in
     let s = g.T.RowSource.state c.rows.inner in
     let new = g.T.RowSource.state c.next_row.new.self in
@@ -45,7 +45,7 @@ returns-then-not-is_operand-clause-ok g c =
 
 pub rows-preserved : goal.rows-preserved
 rows-preserved g c =
-    let merge = g.B.BatchMerger.merged (g.B.BatchMerger.settings c.args.operator.now) in
+    let merge = g.B.BatchMerger.fold c.args.operator.now in
     let old = g.T.RowSource.state c.args.inner.now in
     let s = g.T.RowSource.state c.rows.inner in
     let new = g.T.RowSource.state c.next_row.new.self in
@@ -63,7 +63,7 @@ rows-preserved g c =
 
 pub returns-in_err-add-clause-err : goal.returns-in_err-add-clause-err
 returns-in_err-add-clause-err g c =
-    let merge = g.B.BatchMerger.merged (g.B.BatchMerger.settings c.args.operator.now) in
+    let merge = g.B.BatchMerger.fold c.args.operator.now in
     let old = g.T.RowSource.state c.args.inner.now in
     let s = g.T.RowSource.state c.rows.inner in
     let new = g.T.RowSource.state c.next_row.new.self in
@@ -76,7 +76,7 @@ returns-in_err-add-clause-err g c =
 
 pub returns-clause-ok : goal.returns-clause-ok
 returns-clause-ok g c =
-    let merge = g.B.BatchMerger.merged (g.B.BatchMerger.settings c.args.operator.now) in
+    let merge = g.B.BatchMerger.fold c.args.operator.now in
     let old = g.T.RowSource.state c.args.inner.now in
     let s = g.T.RowSource.state c.rows.inner in
     let new = g.T.RowSource.state c.next_row.new.self in

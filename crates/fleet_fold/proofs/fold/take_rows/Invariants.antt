@@ -8,7 +8,7 @@ abbrev pub invariant-rows : goal.invariant-rows
 invariant-rows g l =
     let s = g.T.RowSource.state l.inner in
     let old = g.T.RowSource.state l.fn.inner in
-    let merge = g.B.BatchMerger.merged (g.B.BatchMerger.settings l.operator) in
+    let merge = g.B.BatchMerger.fold l.operator in
     record {
       sound : g.T.RowSource.sound l.inner;
       readable : IsReadable s;

@@ -9,7 +9,7 @@ use Rattle.fleet_fold.proofs.group.Group.add.Goals as goal
 
 pub returns-in_err-flush_if_full-clause-err : goal.returns-in_err-flush_if_full-clause-err
 returns-in_err-flush_if_full-clause-err g c =
-    let merge = g.B.BatchMerger.merged (g.B.BatchMerger.settings c.args.operator.now) in
+    let merge = g.B.BatchMerger.fold c.args.operator.now in
     let p = err_from_is_err_and c.from_residual-in_err-flush_if_full.result c.from_residual-in_err-flush_if_full.ensures.1 in
     let e = c.in_err-flush_if_full.field-0.0 in
     let r = row_of c.args.row in

@@ -9,13 +9,13 @@ use Rattle.fleet_fold.proofs.group.Group.close.Goals as goal
 
 pub returns-in_err-flush-clause-err : goal.returns-in_err-flush-clause-err
 returns-in_err-flush-clause-err g c =
-    let merge = g.B.BatchMerger.merged (g.B.BatchMerger.settings c.args.operator.now) in
+    let merge = g.B.BatchMerger.fold c.args.operator.now in
     let p = err_from_is_err_and c.from_residual.result c.from_residual.ensures.1 in
     rw (p.1, p.2) (refuses_flush merge c.args.self [] c.in_err-flush.field-0.0 refl c.in_err-flush.ensures.err)
 
 pub returns-in_err-bytes-clause-err : goal.returns-in_err-bytes-clause-err
 returns-in_err-bytes-clause-err g c =
-    let merge = g.B.BatchMerger.merged (g.B.BatchMerger.settings c.args.operator.now) in
+    let merge = g.B.BatchMerger.fold c.args.operator.now in
     let p = err_from_is_err_and c.from_residual-in_err-bytes.result c.from_residual-in_err-bytes.ensures.1 in
     let e = c.in_err-bytes.field-0.0 in
     let flushed = c.flush.new.self in
@@ -24,7 +24,7 @@ returns-in_err-bytes-clause-err g c =
 
 pub returns-clause-ok : goal.returns-clause-ok
 returns-clause-ok g c =
-    let merge = g.B.BatchMerger.merged (g.B.BatchMerger.settings c.args.operator.now) in
+    let merge = g.B.BatchMerger.fold c.args.operator.now in
     let flushed = c.flush.new.self in
     subst (λ (r : Row). Closes merge c.args.self [] r) (sym c.into_row.ensures)
     (closes_alone merge c.args.self flushed c.in_ok-bytes.bytes c.in_ok-flush.ensures.ok

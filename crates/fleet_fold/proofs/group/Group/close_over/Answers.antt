@@ -11,20 +11,20 @@ use Rattle.fleet_fold.proofs.group.Group.close_over.Goals as goal
 
 pub returns-in_err-flush-clause-err : goal.returns-in_err-flush-clause-err
 returns-in_err-flush-clause-err g c =
-    let merge = g.B.BatchMerger.merged (g.B.BatchMerger.settings c.args.operator.now) in
+    let merge = g.B.BatchMerger.fold c.args.operator.now in
     let p = err_from_is_err_and c.from_residual.result c.from_residual.ensures.1 in
     let base = row_of c.args.base in
     rw (p.1, p.2) (refuses_flush merge c.args.self (base ∷ []) c.in_err-flush.field-0.0 (no_operand base c.requires.base) c.in_err-flush.ensures.err)
 
 pub returns-in_err-check-clause-err : goal.returns-in_err-check-clause-err
 returns-in_err-check-clause-err g c =
-    let merge = g.B.BatchMerger.merged (g.B.BatchMerger.settings c.args.operator.now) in
+    let merge = g.B.BatchMerger.fold c.args.operator.now in
     let p = err_from_is_err_and c.from_residual-in_err-check.result c.from_residual-in_err-check.ensures.1 in
     rw (p.1, p.2) (refuses_base merge c.args.self c.flush.new.self c.note.new.self (row_of c.args.base) c.in_err-check.field-0.0 c.in_ok-flush.ensures.ok c.note.ensures c.requires.base (sym c.in_err-check.ensures))
 
 pub returns-in_err-bytes-clause-err : goal.returns-in_err-bytes-clause-err
 returns-in_err-bytes-clause-err g c =
-    let merge = g.B.BatchMerger.merged (g.B.BatchMerger.settings c.args.operator.now) in
+    let merge = g.B.BatchMerger.fold c.args.operator.now in
     let p = err_from_is_err_and c.from_residual-in_err-bytes.result c.from_residual-in_err-bytes.ensures.1 in
     let e = c.in_err-bytes.field-0.0 in
     let noted = c.note.new.self in
@@ -35,7 +35,7 @@ returns-in_err-bytes-clause-err g c =
 
 pub returns-clause-ok : goal.returns-clause-ok
 returns-clause-ok g c =
-    let merge = g.B.BatchMerger.merged (g.B.BatchMerger.settings c.args.operator.now) in
+    let merge = g.B.BatchMerger.fold c.args.operator.now in
     let noted = c.note.new.self in
     let bytes = c.in_ok-bytes.bytes in
     let base = c.into_bytes-existing.ensures ∙ sym (base_is c.args.base.value c.requires.base) in

@@ -6,11 +6,11 @@ use Rattle.fleet_fold.proofs.group.Group.flush_if_full.Goals as goal
 
 pub returns-in_err-flush-clause-err : goal.returns-in_err-flush-clause-err
 returns-in_err-flush-clause-err g c =
-    let merge = g.B.BatchMerger.merged (g.B.BatchMerger.settings c.args.operator.now) in
+    let merge = g.B.BatchMerger.fold c.args.operator.now in
     let p = err_from_is_err_and c.from_residual.result c.from_residual.ensures.1 in
     rw (p.1, p.2) (refuses_full merge c.args.self.now c.in_err-flush.field-0.0 (grind (arith, common_steps)) c.in_err-flush.ensures.err)
 
 pub returns-clause-ok : goal.returns-clause-ok
 returns-clause-ok g c =
-    let merge = g.B.BatchMerger.merged (g.B.BatchMerger.settings c.args.operator.now) in
+    let merge = g.B.BatchMerger.fold c.args.operator.now in
     flushes_full merge c.args.self.now c.flush.new.self (grind (arith, common_steps)) c.in_ok-flush.ensures.ok

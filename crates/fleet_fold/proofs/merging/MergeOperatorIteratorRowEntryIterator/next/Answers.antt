@@ -42,4 +42,4 @@ returns-in-Err-fold_next-clause-sound g c =
     let after = f c.fold_next.new.inner in
     let refuses : RefusesNext merge c.args.self.now.rule (row_of c.match-take.row ∷ read.rows) read after c.in-Err-fold_next.error = search rules in
     let begins = not_early merge c.args.self.now.rule (row_of c.match-take.row ∷ read.rows) read after (row_of c.match-take.row) read.rows c.in-Err-fold_next.error refl refuses in
-    (c.in-Err-fold_next.ensures.sound, reads_failed c.fail-in-Err-fold_next.new.self c.fold_next.new.ahead after c.fail-in-Err-fold_next.result (c.fail-in-Err-fold_next.ensures.kept begins))
+    (c.in-Err-fold_next.ensures.sound, reads_failed (g.O.MergeOperator.merged (g.O.MergeOperator.settings c.match-take.self.operator.now)) c.match-take.self.rule c.fail-in-Err-fold_next.new.self c.fold_next.new.ahead after c.fail-in-Err-fold_next.result (c.fail-in-Err-fold_next.ensures.kept begins))
