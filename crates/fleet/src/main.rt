@@ -1,4 +1,5 @@
-//! The fleet's program: `fleet run` runs the script on standard input, and writes its replies to standard output.
+//! The fleet's program. `fleet run` runs the script on standard input and writes its replies to
+//! standard output.
 #![tactic(auto)]
 
 mod standard;
@@ -9,10 +10,10 @@ use std::io::ErrorKind;
 use std::process::ExitCode;
 use std::{env, io};
 
-/// What the program ends with where a word is not UTF-8.
+// The status if a word of the command line is not UTF-8.
 const USAGE: u8 = 2;
 
-/// What it ends with where it finds no memory for its words.
+// The status if there is no memory for the words of the command line or for the fleet.
 const MEMORY: u8 = 6;
 
 fn main(rt: HostRuntime) -> ExitCode {

@@ -1,5 +1,6 @@
-//! Standard input and output as a source and a sink: the edge of what is proved. They tell no bytes, since no contract
-//! can say what a stream gives or takes.
+//! Standard input and output as a source and a sink. They are trusted: no contract can say which
+//! bytes a stream gives or takes. Contracts see only how many bytes were given or taken, and how
+//! many calls failed.
 
 ghost use Rattle.std.specs.Prelude.{◌≡◌, None, false};
 ghost use Rattle.fleet_run.specs.Outside.{SourceView, SinkView};
@@ -7,7 +8,8 @@ ghost use Rattle.fleet_run.specs.Outside.{SourceView, SinkView};
 use fleet_run::{Failed, Sink, Source};
 use std::io::{Read, Write};
 
-/// Reads from a stream, and counts what it gave and which reads failed.
+/// A source that reads from a stream. It counts the bytes that the stream gave and the reads that
+/// failed.
 #[derive(Drop)]
 pub struct StandardSource<R> {
     reader: R,
@@ -30,7 +32,8 @@ impl<R: Read> StandardSource<R> {
 }
 
 impl<R: Read> Source for StandardSource<R> {
-    ghost told = { λ s. record { left = None; given = s.given; ended = s.ended; faults = s.faults } };
+    ghost told = { λ s.
+        record { left = None; given = s.given; ended = s.ended; faults = s.faults } };
 
     fn read(&mut self, into: &mut [u8]) -> Result<usize, Failed> {
         match self.reader.read(into) {
@@ -50,7 +53,8 @@ impl<R: Read> Source for StandardSource<R> {
     }
 }
 
-/// Writes to a stream, and counts what it took and which writes failed. A write that took nothing has failed.
+/// A sink that writes to a stream. It counts the bytes that the stream took and the writes that
+/// failed. A write that takes nothing of a piece that is not empty has failed.
 #[derive(Drop)]
 pub struct StandardSink<W> {
     writer: W,
@@ -93,7 +97,8 @@ mod tests {
     use std::io::{self, ErrorKind};
     use std::test::Fail;
 
-    /// Gives and takes two bytes, then fails once, and then gives and takes nothing.
+    // A stream that first gives or takes two bytes, then fails once, and then gives and takes
+    // nothing.
     #[derive(Drop)]
     struct Stream {
         calls: u64,

@@ -1,4 +1,4 @@
-//! The program's core where memory runs out.
+//! Tests of the program when memory runs out.
 
 ghost use Rattle.std.specs.Prelude.{None};
 ghost use Rattle.fleet_run.specs.Outside.{SinkView};
@@ -37,7 +37,7 @@ const DELETED_KEY_REPLIES: &str = "ok\n\
      none\n\
      notretained 3 0\n";
 
-/// Keeps the first bytes that it takes, and asks for no memory.
+// A sink that keeps the first 512 bytes that it takes, and allocates nothing.
 #[derive(Drop)]
 struct ShortSink {
     bytes: [u8; 512],
@@ -61,7 +61,8 @@ impl Sink for ShortSink {
     }
 }
 
-/// Where a growth is refused, on whatever way, the status is 6 and whole replies stand. With ample memory it is 0.
+// If any growth of memory is refused, the status is 6 and only whole replies were written. With
+// ample memory it is 0.
 #[test]
 fn memory_ends_between_replies(rt: HostRuntime) -> Result<(), Fail> {
     let rows: [(&str, &str); 2] = [

@@ -1,5 +1,7 @@
-//! A program to measure with: `fleet_bench N P STEP` makes N rows in eight sources, P of 100 of them operands, takes them through
-//! the steps up to STEP (rows, merge, fold, job; or tables, range, ranges), and says how many were made and how many given.
+//! A program for measurements. `fleet_bench N P STEP` makes N rows in eight sources, and P of each
+//! 100 rows are operands. The rows go through the steps up to STEP: `rows`, `merge`, `fold` and
+//! `job`, or `tables` and then `range` or `ranges`. The program prints how many rows were made, and
+//! how many the last step gave.
 #![tactic(auto)]
 
 mod ranges;
@@ -12,10 +14,10 @@ use std::process::ExitCode;
 use std::rt::Env;
 use steps::{Step, count};
 
-/// What the program ends with where its words are not `N P STEP`.
+// The exit status if the words are not `N P STEP`.
 const USAGE: u8 = 2;
 
-// What the words ask for.
+// The load and the step that the command line asks for. None if its words are not `N P STEP`.
 fn told(rt: &(impl Env + Alloc)) -> Option<(Load, Step)> {
     let mut words = env::args(rt).ok()?.skip(1);
     let rows = words.next()?.parse::<u64>().ok()?;

@@ -1,4 +1,4 @@
-//! The same rows in tables, and all that is left of their ranges.
+//! The sources as tables, and the finishing of their ranges.
 
 ghost use Rattle.std.specs.Prelude.{IfOk};
 ghost use Rattle.fleet_exec.specs.Ranges.{AreSources};
@@ -13,10 +13,11 @@ use fleet_table::{RunData, TableData, are_in_bounds, are_strictly_ordered};
 use std::alloc::Global;
 use std::ops::Bound;
 
-/// The size that a table exceeds with its last row.
+// A table ends with the row with which it exceeds this many bytes.
 const TABLE_SIZE: u64 = 16 << 20;
 
-// A source of one table.
+// A source of one table with these rows. It is an error if there are no rows, or if they are not
+// ordered or not in bounds.
 fn run_of(alloc: Global, rows: Vec<RowEntry>) -> Result<RunData, SlateDBError> {
     if rows.is_empty() || !are_strictly_ordered(&rows) || !are_in_bounds(&rows) {
         return Err(SlateDBError::InvalidDBState);
@@ -26,7 +27,7 @@ fn run_of(alloc: Global, rows: Vec<RowEntry>) -> Result<RunData, SlateDBError> {
     Ok(run)
 }
 
-/// All sources.
+/// All sources, each with one table.
 pub fn make_runs(alloc: Global, load: Load) -> Result<SourceSet, SlateDBError>
     ensures { IfOk result (λ runs. AreSources runs) }
 {
@@ -41,7 +42,7 @@ pub fn make_runs(alloc: Global, load: Load) -> Result<SourceSet, SlateDBError>
     }
 }
 
-/// How many rows sources have.
+/// The number of rows in the sources.
 pub fn count_rows(sources: &SourceSet) -> u64 {
     let mut rows: u64 = 0;
     'sources: for run in sources.as_slice() {
@@ -67,7 +68,7 @@ fn range_of(
     }
 }
 
-// So many ranges of about as many rows.
+// All keys, cut into `count` ranges with about equally many rows. The ranges have no cursors.
 fn ranges_of(
     alloc: Global,
     load: Load,
@@ -88,14 +89,14 @@ fn ranges_of(
 fn count_given(ranges: &[RangeTables]) -> u64 {
     let mut given: u64 = 0;
     'ranges: for tables in ranges {
-        'tables: for table in tables.tables() {
-            given = given.saturating_add(table.len() as u64);
+        'tables: for table in tables.as_slice() {
+            given = given.saturating_add(table.len());
         }
     }
     given
 }
 
-/// How many rows are given of so many ranges.
+/// Finishes this many ranges, and counts the rows given. More than 64 ranges are an error.
 pub fn count_finished(
     alloc: Global,
     load: Load,

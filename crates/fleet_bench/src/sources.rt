@@ -1,4 +1,4 @@
-//! The rows that are merged.
+//! The rows that are made.
 
 ghost use Rattle.std.specs.Prelude.{◌≤◌, IfOk};
 ghost use Rattle.std.specs.List.{AllByRecursion};
@@ -9,20 +9,20 @@ use fleet_iter::{ListIterator, are_rising};
 use fleet_rows::{RowEntry, SlateDBError, ValueDeletable};
 use std::alloc::Global;
 
-/// How many sources there are.
+/// The number of sources.
 pub const SOURCES: u64 = 8;
 
-/// How many rows a key has, the last one perhaps fewer.
+// The number of rows of a key. The last key may have fewer.
 const VERSIONS: u64 = 4;
 
-/// What is made: how many rows, and how many of 100 are operands.
+/// What is made: the number of rows, and how many of each 100 rows are operands.
 #[derive(Clone, Copy, Debug)]
 pub struct Load {
     pub rows: u64,
     pub operands: u64,
 }
 
-// The source in which a row lies. The rows of a key lie in two sources, in turn.
+// The source of a row. The rows of a key are spread over two sources, by turns.
 fn source_of(row: u64) -> u64 {
     let key = row / VERSIONS;
     match row % 2 {
@@ -31,14 +31,15 @@ fn source_of(row: u64) -> u64 {
     }
 }
 
-/// The key of a row: 16 bytes, which rise with the rows.
+/// The key of a row: 16 decimal digits. Keys rise with the rows.
 pub fn key_of(alloc: Global, row: u64) -> Result<Bytes, SlateDBError> {
     let key = row / VERSIONS;
     let digits = format!(in alloc; "{key:016}")?;
     Ok(Bytes::copy_from_slice(alloc, digits.as_bytes())?)
 }
 
-// 100 bytes, of a value or of an operand. As many of each 100 rows are operands as the load says, spread evenly.
+// 100 bytes, as a value or as an operand. The load says how many of each 100 rows are operands.
+// They are spread evenly.
 fn value_of(alloc: Global, load: Load, row: u64) -> Result<ValueDeletable, SlateDBError> {
     let bytes = Bytes::copy_from_slice(alloc, &[b'v'; 100])?;
     if row % 100 * 37 % 100 < load.operands {
@@ -48,7 +49,7 @@ fn value_of(alloc: Global, load: Load, row: u64) -> Result<ValueDeletable, Slate
     }
 }
 
-// A row. The sequences fall from the number of rows on.
+// A row. The sequences fall from row to row, and the first one is the number of rows.
 fn entry(alloc: Global, load: Load, row: u64) -> Result<RowEntry, SlateDBError>
     requires { row ≤ load.rows }
 {
@@ -57,7 +58,7 @@ fn entry(alloc: Global, load: Load, row: u64) -> Result<RowEntry, SlateDBError>
     Ok(RowEntry::new(key, value, load.rows - row, None, None))
 }
 
-/// The rows of a source.
+/// The rows of a source, in order.
 pub fn rows_of(alloc: Global, load: Load, source: u64) -> Result<Vec<RowEntry>, SlateDBError> {
     let mut rows = Vec::new(alloc);
     for row in 0..load.rows {
@@ -68,7 +69,7 @@ pub fn rows_of(alloc: Global, load: Load, source: u64) -> Result<Vec<RowEntry>, 
     Ok(rows)
 }
 
-/// Sources whose rows rise, and how many rows they have.
+/// Sources whose rows rise, and the number of their rows.
 #[derive(Drop)]
 pub struct Sources {
     pub lists: Vec<ListIterator>,
@@ -76,7 +77,7 @@ pub struct Sources {
 }
 
 impl Sources {
-    // Adds the rows of one more source.
+    // Adds a source with these rows. It is an error if their keys do not rise.
     fn add(&mut self, rows: Vec<RowEntry>) -> Result<(), SlateDBError>
         requires { AllByRecursion (λ l. AreRising l.rows) self.old.lists.items }
         ensures { AllByRecursion (λ l. AreRising l.rows) self.new.lists.items }
@@ -91,7 +92,7 @@ impl Sources {
     }
 }
 
-/// All sources.
+/// All sources, as lists of rows.
 pub fn make_sources(alloc: Global, load: Load) -> Result<Sources, SlateDBError>
     ensures { IfOk result (λ sources. AllByRecursion (λ l. AreRising l.rows) sources.lists.items) }
 {

@@ -13,26 +13,27 @@ use fleet_iter::{ListIterator, MergeIterator, RowEntryIterator, merges_rise};
 use fleet_rows::{Settings, SlateDBError};
 use std::alloc::Global;
 
-/// How far rows go.
+/// The last step that the rows go through.
 #[derive(Clone, Copy, Debug, PartialEq, Eq)]
 pub enum Step {
-    /// They are made.
+    /// The rows are made.
     Rows,
-    /// They are merged.
+    /// The rows are merged.
     Merge,
-    /// And their operands are folded.
+    /// The rows are merged, and their operands are folded.
     Fold,
-    /// And those are kept that a job writes which makes the last run.
+    /// The rows are merged and folded, and retention keeps some, as in a job that writes the last
+    /// run.
     Job,
-    /// They are put into tables, and tested.
+    /// The rows are put into tables, and the tables are tested as sources.
     Tables,
-    /// And one range of all keys is finished, as such a job does.
+    /// One range of all keys is finished from the tables, as in a job that writes the last run.
     Range,
-    /// And four ranges are, instead.
+    /// Four ranges are finished from the tables, as in a job that writes the last run.
     Ranges,
 }
 
-/// All steps.
+// All steps.
 const STEPS: [Step; 7] = [
     Step::Rows,
     Step::Merge,
@@ -44,7 +45,7 @@ const STEPS: [Step; 7] = [
 ];
 
 impl Step {
-    /// The word for it.
+    /// The word for the step on the command line.
     pub fn name(self) -> &'static str {
         match self {
             Step::Rows => "rows",
@@ -57,13 +58,13 @@ impl Step {
         }
     }
 
-    /// The step of a word.
+    /// The step with this word, if there is one.
     pub fn named(word: &str) -> Option<Step> {
         STEPS.iter().copied().find(|step| step.name() == word)
     }
 }
 
-// How many rows an iterator gives.
+// The number of rows that an iterator gives.
 fn count_given<T: RowEntryIterator>(alloc: Global, iterator: T) -> Result<u64, SlateDBError>
     requires { T.sound iterator }
 {
@@ -77,7 +78,7 @@ fn count_given<T: RowEntryIterator>(alloc: Global, iterator: T) -> Result<u64, S
     Ok(u64::MAX)
 }
 
-// The merge of lists whose rows rise, with all their rows.
+// A merge of lists whose rows rise, without dedup.
 fn merge(alloc: Global, lists: Vec<ListIterator>) -> MergeIterator<ListIterator>
     requires { AllByRecursion (λ l. AreRising l.rows) lists.items }
     ensures sound { IsSound (λ _. ⊤) giving result }
@@ -88,7 +89,7 @@ fn merge(alloc: Global, lists: Vec<ListIterator>) -> MergeIterator<ListIterator>
     MergeIterator::new(alloc, lists).with_dedup(false)
 }
 
-// What a job goes by that makes the last run.
+// The settings of a job that writes the last run. No sequence of the load is above the cut.
 fn settings_of(load: Load) -> Settings {
     Settings {
         floor: load.rows,
@@ -98,7 +99,8 @@ fn settings_of(load: Load) -> Settings {
     }
 }
 
-// The steps of lists.
+// Takes the rows as lists through the steps up to this one. Returns how many were made, and how
+// many the last step gave.
 fn count_listed(alloc: Global, load: Load, step: Step) -> Result<(u64, u64), SlateDBError> {
     let sources = make_sources(alloc, load)?;
     let rows = sources.rows;
@@ -117,7 +119,8 @@ fn count_listed(alloc: Global, load: Load, step: Step) -> Result<(u64, u64), Sla
     Ok((rows, count_given(alloc, kept)?))
 }
 
-// The steps of tables: so many ranges are finished.
+// Puts the rows into tables, and finishes this many ranges. Returns how many rows were made, and
+// how many were given.
 fn count_ranged(alloc: Global, load: Load, ranges: u64) -> Result<(u64, u64), SlateDBError> {
     let runs = make_runs(alloc, load)?;
     let rows = count_rows(&runs);
@@ -130,7 +133,8 @@ fn count_ranged(alloc: Global, load: Load, ranges: u64) -> Result<(u64, u64), Sl
     ))
 }
 
-/// How many rows were made, and how many were given behind a step.
+/// Takes the rows through the steps up to this one. Returns how many were made, and how many the
+/// last step gave.
 pub fn count(alloc: Global, load: Load, step: Step) -> Result<(u64, u64), SlateDBError> {
     match step {
         Step::Tables => count_ranged(alloc, load, 0),

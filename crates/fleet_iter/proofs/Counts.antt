@@ -11,7 +11,7 @@ use Rattle.fleet_iter.specs.Merge.{best, passes, hides, merged, lists, rows_left
 use Rattle.fleet_iter.specs.Tracked.{row_bytes, first_bytes, counted, kept_back, taken_at_once}
 use Rattle.fleet_iter.proofs.Merges.{first_left, none_left, takes_head}
 
--- the rows that a row keeps back, and the others
+-- The rows are those that a row hides, followed by the others.
 split : (r : Row) (rows : List Row) → rows ≡ kept_back r rows ++ without_first (hides r) rows
 split r [] = refl
 split r (q ∷ rows) = by (hides r q) (split r rows)
@@ -20,7 +20,7 @@ split r (q ∷ rows) = by (hides r q) (split r rows)
     by true rest = ap (λ (w : List Row). q ∷ w) rest
     by false rest = refl
 
--- all that one `next` takes stood in front of what is left
+-- The rows left before one `next` are those that it takes, followed by those left after it.
 pub takes_in_front : (order : IterationOrder) (hs hs1 hs' : List (Option RowEntry)) (ss ss1 ss' : List IteratorState) (x : RowEntry) → Takes order false hs ss hs1 ss1 (Some x) → Skips order (hides (row_of x)) hs1 ss1 hs' ss'
     → merged_left order hs ss ≡ taken_at_once true (merged_left order hs ss) ++ merged_left order hs' ss'
 takes_in_front order hs hs1 hs' ss ss1 ss' x t s =
@@ -30,7 +30,7 @@ takes_in_front order hs hs1 hs' ss ss1 ss' x t s =
     ∙ (ap (λ (w : List Row). r ∷ w) (split r m ∙ ap (λ (w : List Row). kept_back r m ++ w) (sym s.rows))
     ∙ sym (ap (λ (w : List Row). taken_at_once true w ++ merged_left order hs' ss') t.rows))
 
--- a row that is kept back is dropped, and counts
+-- A hidden row is dropped, and its bytes are counted.
 pub counts_step : (order : IterationOrder) (row : Row) (hs hs' : List (Option RowEntry)) (ss ss' : List IteratorState) (count bytes more : ℕ) → AllTaken hs ss → passes (hides row) (best order hs) ≡ true → Drops order hs ss hs' ss'
     → bytes ≡ first_bytes (merged_left order hs ss) → more ≡ saturated (count + bytes) → counted more (kept_back row (merged_left order hs' ss')) ≡ counted count (kept_back row (merged_left order hs ss))
 counts_step order row hs hs' ss ss' count bytes more a low d e q =
@@ -41,7 +41,7 @@ counts_step order row hs hs' ss ss' count bytes more a low d e q =
     ap (λ (w : List Row). counted more (kept_back row w)) later
     ∙ (ap (λ (n : ℕ). counted n (kept_back row f.1)) (q ∙ ap (λ (b : ℕ). saturated (count + b)) size) ∙ sym (ap (counted count) kept))
 
--- where the first row is not kept back, none is
+-- If the first row is not hidden, no row is.
 pub counts_end : (order : IterationOrder) (row : Row) (hs : List (Option RowEntry)) (ss : List IteratorState) → AllTaken hs ss → passes (hides row) (best order hs) ≡ false → kept_back row (merged_left order hs ss) ≡ []
 counts_end order row hs ss a high = by (best order hs) refl high
   where

@@ -1,4 +1,4 @@
--- Rows that are kept back, and rows that a seek drops.
+-- Rows that dedup hides, and rows that a seek drops.
 use Rattle.std.proofs.Common.{◌≡◌, ◌∙◌, sym, refl, ap, subst, ℕ, List, [], ◌∷◌, ◌&&◌, not, Option, Some, None, Ok, Bool, true, false, cond}
 use Rattle.std.specs.Ordering.{is_lt}
 use Rattle.std.proofs.lemmas.Slice.Eq.{bytes_eq-Decides}
@@ -14,7 +14,8 @@ use Rattle.fleet_iter.proofs.RisingRows.{moves_on}
 use Rattle.fleet_iter.proofs.RisingMerges.{rising_given_too}
 use Rattle.fleet_iter.specs.Merge.{hides, given_behind, deduplicated, given, merged_left, are_whole, are_steady, are_exact, all_whole, all_steady, is_told, Takes, Skips, SkipsTo, merging}
 
--- what a row keeps back is skipped, and from there on all goes as from a first row
+-- After a given row, dedup skips the rows that this row hides and treats the rest as rows from their
+-- beginning.
 pub given_behind_skipped : (r : Row) (rows : List Row) → given_behind r rows ≡ deduplicated (without_first (hides r) rows)
 given_behind_skipped r [] = refl
 given_behind_skipped r (q ∷ rows) = by (hides r q) (given_behind_skipped r rows)
@@ -24,7 +25,7 @@ given_behind_skipped r (q ∷ rows) = by (hides r q) (given_behind_skipped r row
     by true rest = rest
     by false rest = refl
 
--- a row is taken, and then what it keeps back
+-- A step with dedup takes a row, and then the rows that it hides.
 pub takes_given : (order : IterationOrder) (hs hs1 hs' : List (Option RowEntry)) (ss ss1 ss' : List IteratorState) (x : RowEntry)
     → Takes order false hs ss hs1 ss1 (Some x) → Skips order (hides (row_of x)) hs1 ss1 hs' ss' → Takes order true hs ss hs' ss' (Some x)
 takes_given order hs hs1 hs' ss ss1 ss' x t s =
@@ -35,7 +36,7 @@ takes_given order hs hs1 hs' ss ss1 ss' x t s =
       ends = λ n. absurd (cc n);
     }
 
--- none is taken
+-- A step that takes no row without dedup takes none with dedup.
 pub takes_none_given : (order : IterationOrder) (hs hs' : List (Option RowEntry)) (ss ss' : List IteratorState) → Takes order false hs ss hs' ss' None → Takes order true hs ss hs' ss' None
 takes_none_given order hs hs' ss ss' t = record { rows = ap deduplicated t.rows; taken = t.taken; same_manner = t.same_manner; ends = t.ends }
 
@@ -53,7 +54,7 @@ hides_key r q h = (bytes_eq-Decides r.key q.key).0 (second (not (is_operand r)) 
 below_key : (key : List ℕ) (r q : Row) → r.key ≡ q.key → is_below key r ≡ is_below key q
 below_key key r q e = ap (λ (k : List ℕ). is_lt (key_cmp k key)) e
 
--- behind a row below the key, the rows that are given from the key on are those of all rows from the key on
+-- After a row below the key, dedup gives from the key on what it gives of all the rows from the key on.
 seek_behind : (key : List ℕ) (r : Row) (rows : List Row) → is_below key r ≡ true → from_key key (given_behind r rows) ≡ deduplicated (from_key key rows)
 seek_behind key r [] low = refl
 seek_behind key r (q ∷ rows) low = by (hides r q) refl (is_below key q) refl (seek_behind key r rows low) (seek_behind key q rows)
@@ -83,12 +84,12 @@ seek_deduplicated key (r ∷ rows) = by (is_below key r) refl
         ap (λ c. cond c (from_key key (given_behind r rows)) (r ∷ given_behind r rows)) e
         ∙ sym (ap (λ c. deduplicated (cond c (from_key key rows) (r ∷ rows))) e)
 
--- rows below a key may be dropped before those that are kept back, or after
+-- The rows below a key may be dropped before dedup or after it.
 pub seek_given : (dedup : Bool) (key : List ℕ) (rows : List Row) → given dedup (without_first (is_below key) rows) ≡ from_key key (given dedup rows)
 seek_given true key rows = ap deduplicated (sym (from_key_skipped key rows)) ∙ sym (seek_deduplicated key rows)
 seek_given false key rows = sym (from_key_skipped key rows)
 
--- what a seek leaves
+-- What a seek of a merge leaves.
 module _ (key : List ℕ) (dedup initialised : Bool) (failure : Option SlateDBError) (hs hs' : List (Option RowEntry)) (ss ss' : List IteratorState) where
   abbrev state : IterationOrder → List (Option RowEntry) → List IteratorState → IteratorState
   state order heads sources = merging order dedup initialised failure heads sources
@@ -112,7 +113,7 @@ module _ (key : List ℕ) (dedup initialised : Bool) (failure : Option SlateDBEr
     answers = λ _ _. moves order (are_exact ss) refl rising s;
   }
 
-  -- of an exact merge all rows are told
+  -- If all sources are exact, a seek leaves exactly the merged rows from the key on.
   pub seeks_all : (order : IterationOrder) → are_exact ss ≡ true → SkipsTo (is_told order (are_exact ss)) order key hs ss hs' ss' → merged_left order hs' ss' ≡ from_key key (merged_left order hs ss)
   seeks_all Ascending e s = (subst (λ b. SkipsTo b Ascending key hs ss hs' ss') e s).rows ∙ sym (from_key_skipped key (merged_left Ascending hs ss))
   seeks_all Descending e s = s.rows ∙ sym (from_key_skipped key (merged_left Descending hs ss))

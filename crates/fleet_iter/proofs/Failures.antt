@@ -1,4 +1,4 @@
--- What an iterator answers whose inner iterator refused.
+-- The answers of an outer iterator whose inner iterator failed.
 use Rattle.std.proofs.Common.{◌≡◌, ◌≢◌, ◌∙◌, sym, refl, ap, List, ℕ, Bool, true, false, Option, Some, None, Err}
 use Rattle.std.specs.Prelude.{Result}
 use Rattle.fleet_rows.specs.declared.row.RowEntry.{RowEntry}
@@ -9,7 +9,8 @@ use Rattle.fleet_iter.specs.Iteration.{IteratorState, CanFail, IsKnown, Fails, N
 error_of : {A : Type 0} (x y : SlateDBError) → ◌≡◌ {A = Result A SlateDBError} (Err x) (Err y) → x ≡ y
 error_of x y same = cc same
 
--- a refusal that can fail an iterator can fail one that is whole only where that one is
+-- An error that may fail the inner iterator may fail the outer one, if the outer one is whole only where the
+-- inner one is.
 pub kept_cause : (inner outer : Bool) (e answer : SlateDBError) → (outer ≡ true → inner ≡ true) → (answer ≢ Memory → answer ≡ e) → (e ≡ Memory → answer ≡ Memory) → CanFail inner e → CanFail outer answer
 kept_cause inner outer e answer weaker same memory cause = record {
   initialised = λ is. cause.initialised (sym (same (λ m. let k = sym is ∙ m in cc k)) ∙ is);
@@ -22,7 +23,7 @@ kept_known s e answer same memory known behind is other =
     let (none, as_told) = known behind is (λ m. other (memory m)) in
     (none, same other ∙ as_told)
 
--- the answer of an iterator, of which these states and that of the inner one are known
+-- The answers of an outer iterator, whose states and inner states before and after the call are given.
 module _ (old new inner after : IteratorState) (e answer : SlateDBError) (alive : old.failure ≡ None) (inner_alive : inner.failure ≡ None) (keeps : KeepsRefusal e old.failure new.failure answer) where
   pub init_refused : (old.whole ≡ true → inner.whole ≡ true) → Inits inner after (Err e) → Inits old new (Err answer)
   init_refused weaker inits =
@@ -61,7 +62,7 @@ module _ (old new inner after : IteratorState) (e answer : SlateDBError) (alive 
           record { failed = keeps.kept fails.cause.initialised; cause = kept_cause (is_exact inner) (is_exact old) e answer weaker keeps.same keeps.memory fails.cause };
     }
 
--- ---- and what it hands on
+-- ---- the errors that an outer iterator hands on
 
 module _ (old inner after : IteratorState) (e answer : SlateDBError) (inner_alive : inner.failure ≡ None) (kept : Option SlateDBError) (keeps : KeepsRefusal e old.failure kept answer) where
   of_inner : after.failure ≡ Some e → answer ≢ Memory → after.failure ≡ Some answer

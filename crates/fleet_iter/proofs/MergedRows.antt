@@ -45,7 +45,7 @@ pub all_merged : (P : Row → Type 0) (xs ys : List Row) → AllByRecursion P xs
 all_merged P [] ys h g = g
 all_merged P (x ∷ xs) ys h g = all_into P x (merge_two Ascending xs) (λ zs k. all_merged P xs zs h.1 k) ys h.0 g
 
--- a row before all of one list comes first
+-- A row that is before all rows of a list comes first in the merge.
 comes_first : (y : Row) (xs ys : List Row) → Before y xs → merge_two Ascending xs (y ∷ ys) ≡ y ∷ merge_two Ascending xs ys
 comes_first y [] ys h = refl
 comes_first y (x ∷ xs) ys h = ap (λ o. cond (not (is_gt o)) (x ∷ merge_two Ascending xs (y ∷ ys)) (y ∷ merge_into Ascending x (merge_two Ascending xs) ys)) (turned_back x y h.0)
@@ -64,7 +64,7 @@ into_is_put x xs (y ∷ ys) before ordered apart = by (row_cmp x y) refl (into_i
         ap (λ (w : List Row). y ∷ w) rest
         ∙ (sym (ap (λ o. cond (is_lt o) (x ∷ y ∷ merge_two Ascending xs ys) (y ∷ insert_row x (merge_two Ascending xs ys))) e) ∙ sym (ap (insert_row x) first))
 
--- rows put among rows, one after the other
+-- Rows are put in their places among other rows, one after the other.
 abbrev put_all : List Row → List Row → List Row
 put_all [] ys = ys
 put_all (x ∷ xs) ys = insert_row x (put_all xs ys)

@@ -1,8 +1,9 @@
--- The least head of a merge, and a step of it.
+-- The least head of a merge, and a step of the merge.
 use Rattle.std.proofs.Common.{◌≡◌, ◌∙◌, sym, refl, ap, subst, ℕ, ◌+◌, ◌<◌, List, [], ◌∷◌, ◌++◌, suc, zero, Ok, Err, inl, inr, Option, Some, None, Bool, true, false, cond, drop, drop-cons, add-one, get_or, length, arith, zero-add, add-zero, ◌-◌, ◌≤◌}
 use Rattle.std.specs.Option.{option_to_list, option_map}
 use Rattle.std.specs.List.{AllByRecursion}
 use Rattle.std.specs.Prelude.{map, ◌&&◌}
+use Rattle.std.proofs.lemmas.Bool.{and_parts}
 use Rattle.std.proofs.lemmas.List.{drop_all, length-map, map-set}
 use Rattle.std.proofs.Math.ListN.{get_or-map, set}
 use Rattle.row_model.specs.Rows.{Row}
@@ -13,12 +14,12 @@ use Rattle.fleet_iter.specs.Iteration.{IteratorState, Nexts, NextAnswers, CanFai
 use Rattle.fleet_iter.specs.declared.iterator.IterationOrder.{IterationOrder}
 use Rattle.fleet_iter.specs.Merge.{best, choose, goes_first, goes_ahead, passes, merged, merge_two, merge_into, merged_left, lists, rows_left, AllTaken, IsTaken, are_whole, are_steady, are_exact, manner, manners, OneFailedBy, Steps, Takes, Drops, AllBegun}
 
--- a place counted from further in front
+-- What was found, with its place counted from i places further in front.
 abbrev pub shifted : ℕ → Option (ℕ × RowEntry) → Option (ℕ × RowEntry)
 shifted i None = None
 shifted i (Some p) = Some (p.0 + i, p.1)
 
--- the less of a head and what was found
+-- The lesser of a head and of what was found after it.
 abbrev pub pick : (order : IterationOrder) → ℕ → Option RowEntry → Option (ℕ × RowEntry) → Option (ℕ × RowEntry)
 pick order i None f = f
 pick order i (Some x) None = Some (i, x)
@@ -33,13 +34,13 @@ choose_shifted order i (Some x) (Some p) = by_test (goes_first order (row_of x) 
   by_test true = ap (λ (n : ℕ). Some (n, x)) (zero-add i)
   by_test false = let e : (p.0 + 1) + i ≡ p.0 + (i + 1) = omega arith in ap (λ (n : ℕ). Some (n, p.1)) e
 
--- one head more
+-- A search from a place on picks between the head there and what was found after it.
 best_from : (order : IterationOrder) → (hs : List (Option RowEntry)) (i : ℕ) (h : Option RowEntry) → i < length hs → h ≡ get_or hs i h → shifted i (best order (drop i hs)) ≡ pick order i h (shifted (i + 1) (best order (drop (i + 1) hs)))
 best_from order hs i h lt is =
     let e : drop i hs ≡ h ∷ drop (i + 1) hs = rw (add-one, drop-cons hs i h, ← is) in
     ap (λ (z : List (Option RowEntry)). shifted i (best order z)) e ∙ choose_shifted order i h (best order (drop (i + 1) hs))
 
--- a head that goes ahead is picked
+-- A head that goes before what was found is picked.
 pub picked : (order : IterationOrder) → (i : ℕ) (x : RowEntry) (f : Option (ℕ × RowEntry)) → goes_ahead order x f ≡ true → pick order i (Some x) f ≡ Some (i, x)
 picked order i x None h = refl
 picked order i x (Some q) h = ap (λ b. cond b (Some (i, x)) (Some q)) h
@@ -48,7 +49,7 @@ pub passed : (order : IterationOrder) → (i : ℕ) (x : RowEntry) (f : Option (
 passed order i x None h = absurd (cc)
 passed order i x (Some q) h = ap (λ b. cond b (Some (i, x)) (Some q)) h
 
--- the search goes on by one head
+-- The search goes on by one head, towards the front.
 pub found_more : (order : IterationOrder) → (hs : List (Option RowEntry)) (n : ℕ) (h : Option RowEntry) (f g : Option (ℕ × RowEntry)) → 0 < n → n ≤ length hs → h ≡ get_or hs (n - 1) h → f ≡ shifted n (best order (drop n hs)) → g ≡ pick order (n - 1) h f → g ≡ shifted (n - 1) (best order (drop (n - 1) hs))
 found_more order hs n h f g pos le is inv e =
     let one : (n - 1) + 1 ≡ n = omega arith in
@@ -56,7 +57,7 @@ found_more order hs n h f g pos le is inv e =
     let b = best_from order hs (n - 1) h lt is in
     e ∙ (ap (pick order (n - 1) h) inv ∙ sym (subst (λ m. shifted (n - 1) (best order (drop (n - 1) hs)) ≡ pick order (n - 1) h (shifted m (best order (drop m hs)))) one b))
 
--- nothing stands behind all heads
+-- No head is found after all heads.
 pub found_none : (order : IterationOrder) → (hs : List (Option RowEntry)) → None ≡ shifted (length hs) (best order (drop (length hs) hs))
 found_none order hs = rw (drop_all (length hs) hs (omega arith)) refl
 
@@ -79,7 +80,7 @@ some_head order x (Some p) e = tested (goes_first order (row_of x) (row_of p.1))
   tested true e = cc
   tested false e = cc
 
--- where no head is left, no row is, and nothing was kept back
+-- If no head is left, no row is left, and all sources are whole.
 pub none_left : (order : IterationOrder) → (hs : List (Option RowEntry)) (ss : List IteratorState) → AllTaken hs ss → best order hs ≡ None → (merged order (lists hs (rows_left ss)) ≡ []) × (are_whole ss ≡ true)
 none_left order [] [] a e = (refl, refl)
 none_left order [] (s ∷ ss) a e = absurd a
@@ -89,12 +90,12 @@ none_left order (None ∷ hs) (s ∷ ss) a e =
     (ap (λ (w : List Row). merge_two order w (merged order (lists hs (rows_left ss)))) a.0.2 ∙ rest.0, ap (λ b. cond b (are_whole ss) false) a.0.3 ∙ rest.1)
 none_left order (Some x ∷ hs) (s ∷ ss) a e = absurd (some_head order x (best order hs) e)
 
--- the least head is the first row of the merge
+-- The least head is the first row of the merge, and its place has this head.
 pub record Heads (order : IterationOrder) (hs : List (Option RowEntry)) (rs : List (List Row)) (k : ℕ) (x : RowEntry) : Type 0 where
   pub rows : merged order (lists hs rs) ≡ row_of x ∷ merged order (lists (set hs k None) rs)
   pub head : (d : Option RowEntry) → get_or hs k d ≡ Some x
 
--- what stands at the place and what it is, moved along equations
+-- A place and a row may be replaced by equal ones.
 heads_at : (order : IterationOrder) → (hs : List (Option RowEntry)) (rs : List (List Row)) (k j : ℕ) (x y : RowEntry) → k ≡ j → x ≡ y → Heads order hs rs j y → Heads order hs rs k x
 heads_at order hs rs k j x y e f h = subst (λ n. Heads order hs rs n x) (sym e) (subst (λ z. Heads order hs rs j z) (sym f) h)
 
@@ -145,7 +146,7 @@ takes_head order (Some z ∷ hs) (s ∷ ss) a k x e = by_best (λ j y q. takes_h
       (first (none_left order hs ss a.1 q).0)
   by_best ih (Some p) q f = by_test p (ih p.0 p.1 q) (goes_first order (row_of z) (row_of p.1)) refl f
 
--- the source's next row takes the head's place
+-- The next row of a source takes the place of its head.
 pub record Refills (hs : List (Option RowEntry)) (ss : List IteratorState) (k : ℕ) (t : IteratorState) (h : Option RowEntry) : Type 0 where
   pub same : lists (set hs k None) (rows_left ss) ≡ lists (set hs k h) (rows_left (set ss k t))
   pub taken : AllTaken (set hs k h) (set ss k t)
@@ -162,7 +163,7 @@ refilled (g ∷ hs) (r ∷ ss) a (suc k) x e s t h is st =
     let ih = refilled hs ss a.1 k x e s t h is st in
     record { same = ap (λ (w : List (List Row)). (rows_of (option_to_list g) ++ r.rows) ∷ w) ih.same; taken = (a.0, ih.taken); same_manner = ap (λ (ms : List (Bool × Bool)). manner r ∷ ms) ih.same_manner }
 
--- the whole step
+-- A step of a merge takes the least head and refills its place.
 pub takes_all : (order : IterationOrder) → (hs : List (Option RowEntry)) (ss : List IteratorState) → AllTaken hs ss → (k : ℕ) (x : RowEntry) → best order hs ≡ Some (k, x) → (s t : IteratorState) (h : Option RowEntry) → s ≡ get_or ss k s → Steps s t h → Takes order false hs ss (set hs k h) (set ss k t) (Some x)
 takes_all order hs ss a k x e s t h is st =
     let p = takes_head order hs ss a k x e in
@@ -180,7 +181,7 @@ pub begun : (g : Option RowEntry) (s : IteratorState) → IsTaken g s → s.init
 begun None s a = a.1
 begun (Some x) s a = a.1
 
--- what a source's answer says of a source whose head was taken
+-- A source whose head was taken, and which answers `next`, has made a step.
 pub steps_of : (g : Option RowEntry) (s t : IteratorState) (h : Option RowEntry) → IsTaken g s → Nexts s t (Ok h) → Steps s t h
 steps_of g s t h a n = by_answer h (n.answers (clean g s a) (begun g s a)) where
   by_answer : (h : Option RowEntry) → NextAnswers s t (Ok h) → Steps s t h
@@ -188,7 +189,7 @@ steps_of g s t h a n = by_answer h (n.answers (clean g s a) (begun g s a)) where
       (ap (λ (z : IteratorState). z.rows) (sym b.same), (ap (λ (z : IteratorState). z.failure) b.same ∙ clean g s a, ap (λ (z : IteratorState). z.initialised) b.same ∙ begun g s a, ap (λ (z : IteratorState). z.rows) b.same ∙ b.rows, ap (λ (z : IteratorState). z.whole) b.same ∙ b.whole), ap manner b.same)
   by_answer (Some x) b = (ap (λ (z : IteratorState). z.rows) b, (sym (ap (λ (z : IteratorState). z.failure) b) ∙ clean g s a, sym (ap (λ (z : IteratorState). z.initialised) b) ∙ begun g s a), sym (ap manner b))
 
--- the place that a search answers
+-- If a search answers a place, it has found a row there.
 pub placed : (b : Option (ℕ × RowEntry)) (k : ℕ) → Some k ≡ option_map (λ p. p.0) b → (x : RowEntry) × (b ≡ Some (k, x))
 placed None k e = absurd (cc)
 placed (Some p) k e = let q : k ≡ p.0 = cc in (p.1, ap (λ (n : ℕ). Some (n, p.1)) (sym q))
@@ -235,7 +236,8 @@ taken_at (h ∷ hs) [] a k lt s is = absurd a
 taken_at (h ∷ hs) (r ∷ ss) a zero lt s is = (h, subst (IsTaken h) (sym is) a.0)
 taken_at (h ∷ hs) (r ∷ ss) a (suc k) lt s is = taken_at hs ss a.1 k (omega arith) s is
 
--- all are whole where one is, so what a source refuses with, a merge may
+-- If all sources are whole, the source at any place is whole. So only what may fail the merge may fail the
+-- source.
 pub one_whole : (ss : List IteratorState) (k : ℕ) (s : IteratorState) → k < length ss → s ≡ get_or ss k s → are_whole ss ≡ true → s.whole ≡ true
 one_whole [] k s lt is all = absurd (omega arith)
 one_whole (r ∷ ss) zero s lt is all = ap (λ (z : IteratorState). z.whole) is ∙ first r.whole all
@@ -262,16 +264,12 @@ one_steady (r ∷ ss) (suc k) s lt is all = one_steady ss k s (omega arith) is (
     rest true h = h
     rest false h = absurd (cc h)
 
-pub both_parts : (a b : Bool) → a && b ≡ true → (a ≡ true) × (b ≡ true)
-both_parts true b h = (refl, h)
-both_parts false b h = absurd (cc h)
-
 both_hold : (a b : Bool) → a ≡ true → b ≡ true → a && b ≡ true
 both_hold a b h g = ap (λ x. x && b) h ∙ g
 
 pub one_exact : (ss : List IteratorState) (k : ℕ) (s : IteratorState) → k < length ss → s ≡ get_or ss k s → are_exact ss ≡ true → is_exact s ≡ true
 one_exact ss k s lt is all =
-    let parts = both_parts (are_steady ss) (are_whole ss) all in
+    let parts = and_parts (are_steady ss) (are_whole ss) all in
     both_hold s.steady s.whole (one_steady ss k s lt is parts.0) (one_whole ss k s lt is parts.1)
 
 pub refused : (g : Option RowEntry) (ss : List IteratorState) (k : ℕ) (s t : IteratorState) (e : SlateDBError) → k < length ss → s ≡ get_or ss k s → IsTaken g s → Nexts s t (Err e) → CanFail (are_whole ss) e
@@ -279,7 +277,7 @@ refused g ss k s t e lt is a n =
     let cause = (n.answers (clean g s a) (begun g s a)).cause in
     record { initialised = cause.initialised; alive = cause.alive; memory = λ all. cause.memory (one_whole ss k s lt is all) }
 
--- a source that refuses has failed
+-- A source that refuses has failed with its error.
 pub refusal_marks : (g : Option RowEntry) (s t : IteratorState) (e : SlateDBError) → IsTaken g s → Nexts s t (Err e) → t.failure ≡ Some e
 refusal_marks g s t e a n = (n.answers (clean g s a) (begun g s a)).failed
 
@@ -290,18 +288,18 @@ fails_at (s ∷ ss) (suc k) t e lt failed = inr (fails_at ss k t e (omega arith)
 
 -- ---- a source at its place
 
--- its state
+-- The state of the source at a place.
 pub state_at : {T : Type 0} (f : T → IteratorState) (xs : List T) (k : ℕ) (x : T) → x ≡ get_or xs k x → f x ≡ get_or (map f xs) k (f x)
 state_at f xs k x is = ap f is ∙ sym (get_or-map f xs k x)
 
--- it is one of as many states, and one of as many heads
+-- The place of a source is within the list of states.
 pub state_within : {T : Type 0} (f : T → IteratorState) (xs all : List T) (k : ℕ) → length xs ≡ length all → k < length all → k < length (map f xs)
 state_within f xs all k same lt = let count : length (map f xs) ≡ length xs = length-map _ _ in omega (arith, count, same, lt)
 
 pub head_within : {T : Type 0} (f : T → IteratorState) (hs : List (Option RowEntry)) (xs all : List T) (k : ℕ) → AllTaken hs (map f xs) → length xs ≡ length all → k < length all → k < length hs
 head_within f hs xs all k taken same lt = let count = same_count hs (map f xs) taken in omega (arith, count, state_within f xs all k same lt)
 
--- where it has failed, one has
+-- If the source at a place has failed, one of the sources has failed.
 pub one_failed : {T : Type 0} (f : T → IteratorState) (xs : List T) (k : ℕ) (y : T) (e : SlateDBError) → k < length (map f xs) → (f y).failure ≡ Some e → OneFailedBy (map f (set xs k y)) e
 one_failed f xs k y e lt failed = subst (λ (w : List IteratorState). OneFailedBy w e) (sym (map-set f xs k y)) (fails_at (map f xs) k (f y) e lt failed)
 
@@ -319,7 +317,7 @@ all_set P (y ∷ xs) (suc k) x h all = (all.0, all_set P xs k x h all.1)
 
 -- ---- the first rows
 
--- a source is initialised, and its first row taken
+-- A source that is initialised, and then answers `next`, has made a step.
 pub steps_first : (s i t : IteratorState) (h : Option RowEntry) → s.failure ≡ None → i ≡ record s { initialised = true } → Nexts i t (Ok h) → Steps s t h
 steps_first s i t h alive is n = by_answer h (n.answers (ap (λ (z : IteratorState). z.failure) is ∙ alive) (ap (λ (z : IteratorState). z.initialised) is)) where
   by_answer : (h : Option RowEntry) → NextAnswers i t (Ok h) → Steps s t h
@@ -370,7 +368,7 @@ one_inexact ss k s e lt is cause = record { initialised = cause.initialised; ali
 
 -- ---- rows that are skipped
 
--- the least head is the first row
+-- If the least head passes a test, it is the first row of the merge, and passes it.
 pub first_left : (order : IterationOrder) (test : Row → Bool) (hs : List (Option RowEntry)) (ss : List IteratorState) → AllTaken hs ss → passes test (best order hs) ≡ true
     → (r : Row) × (rest : List Row) × (merged_left order hs ss ≡ r ∷ rest) × (test r ≡ true)
 first_left order test hs ss a low = by (best order hs) refl low
@@ -379,7 +377,7 @@ first_left order test hs ss a low = by (best order hs) refl low
     by None f low = absurd (cc low)
     by (Some p) f low = (row_of p.1, merged order (lists (set hs p.0 None) (rows_left ss)), (takes_head order hs ss a p.0 p.1 f).rows, low)
 
--- one that passes is dropped, and fewer are left
+-- If the least head passes the test, it is dropped, and fewer rows are left.
 pub skip_step : (order : IterationOrder) (test : Row → Bool) (hs hs' : List (Option RowEntry)) (ss ss' : List IteratorState) → AllTaken hs ss → passes test (best order hs) ≡ true → Drops order hs ss hs' ss'
     → (without_first test (merged_left order hs ss) ≡ without_first test (merged_left order hs' ss')) × (length (merged_left order hs' ss') < length (merged_left order hs ss))
 skip_step order test hs hs' ss ss' a low d =
@@ -389,7 +387,7 @@ skip_step order test hs hs' ss ss' a low d =
     let less : length (merged_left order hs' ss') ≡ length f.1 = ap length later in
     (ap (without_first test) f.2 ∙ (ap (λ b. cond b (without_first test f.1) (f.0 ∷ f.1)) f.3 ∙ sym (ap (without_first test) later)), omega (arith, size, less))
 
--- where the first does not pass, none is skipped
+-- If the least head does not pass the test, no row is skipped.
 pub skip_end : (order : IterationOrder) (test : Row → Bool) (hs : List (Option RowEntry)) (ss : List IteratorState) → AllTaken hs ss → passes test (best order hs) ≡ false → merged_left order hs ss ≡ without_first test (merged_left order hs ss)
 skip_end order test hs ss a high = by (best order hs) refl high
   where
@@ -400,7 +398,7 @@ skip_end order test hs ss a high = by (best order hs) refl high
         let rest = merged order (lists (set hs p.0 None) (rows_left ss)) in
         is ∙ (sym (ap (λ b. cond b (without_first test rest) (row_of p.1 ∷ rest)) high) ∙ sym (ap (without_first test) is))
 
--- what is taken is dropped
+-- A step that takes the first row drops it.
 pub dropped : (order : IterationOrder) (hs hs' : List (Option RowEntry)) (ss ss' : List IteratorState) (o : Option RowEntry) → Takes order false hs ss hs' ss' o → Drops order hs ss hs' ss'
 dropped order hs hs' ss ss' o t = record { rows = by o t.rows t.ends; taken = t.taken; same_manner = t.same_manner }
   where

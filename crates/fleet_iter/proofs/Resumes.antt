@@ -1,4 +1,4 @@
--- Ordered rows behind a cursor.
+-- Strictly ordered rows after a cursor.
 use Rattle.std.proofs.Common.{◌≡◌, ◌∙◌, sym, refl, ap, subst, Some, ℕ, ◌<◌, ◌≤◌, List, [], ◌∷◌, ◌&&◌, not, Bool, true, false, cond, Option, arith}
 use Rattle.std.specs.Prelude.{filter, bytes_eq, nat_le}
 use Rattle.std.specs.List.{AllByRecursion}
@@ -7,7 +7,7 @@ use Rattle.std.specs.declared.cmp.Ordering.{Ordering}
 use Rattle.std.specs.declared.cmp.Ordering.TheVariants.{Less, Equal, Greater}
 use Rattle.std.specs.Ordering.{is_lt, ordering_then, nat_cmp}
 use Rattle.std.proofs.lemmas.Slice.Eq.{bytes_eq-Decides}
-use Rattle.std.proofs.lemmas.Bool.{le-leb, leb-true}
+use Rattle.std.proofs.lemmas.Bool.{le-leb, leb-true, and_from, and_parts}
 use Rattle.std.specs.Cmp.{ranked}
 use Rattle.row_model.specs.Lists.{Pairs}
 use Rattle.row_model.specs.Rows.{Row, key_cmp, row_cmp, IsStrictlyOrdered}
@@ -21,7 +21,7 @@ use Rattle.fleet_iter.specs.Resume.{is_written, Resumes, ResumesBy, ResumesBehin
 use Rattle.fleet_iter.proofs.RisingRows.{rising_without}
 use Rattle.fleet_iter.proofs.Dedup.{from_key_skipped}
 
--- each row that passes has only such before it
+-- Before each row that passes the test, all rows pass it.
 abbrev StandsFirst : (Row → Bool) → List Row → Type 0
 StandsFirst test rows = Pairs (λ r q. test q ≡ true → test r ≡ true) rows
 
@@ -43,22 +43,11 @@ unfolding IsStrictlySortedBy
 below_first key [] h = tt
 below_first key (r ∷ rows) h = (all_weaken (λ q. row_cmp r q ≡ Less) (λ q. is_below key q ≡ true → is_below key r ≡ true) (λ q less low. below_too key r q less low) rows h.0, below_first key rows h.1)
 
-first_part : (a b : Bool) → a && b ≡ true → a ≡ true
-first_part true b h = refl
-first_part false b h = absurd (cc h)
-
-second_part : (a b : Bool) → a && b ≡ true → b ≡ true
-second_part true b h = h
-second_part false b h = absurd (cc h)
-
-both : (a b : Bool) → a ≡ true → b ≡ true → a && b ≡ true
-both a b h g = ap (λ x. x && b) h ∙ g
-
 written_back : (c : Cursor) (r q : Row) → row_cmp r q ≡ Less → is_from c.0 r ≡ true → is_written c q ≡ true → is_written c r ≡ true
 written_back c r q before high written = by (key_cmp r.key q.key) refl before
   where
     same : q.key ≡ c.0
-    same = (bytes_eq-Decides q.key c.0).0 (first_part (bytes_eq q.key c.0) (nat_le c.1 q.seq) written)
+    same = (bytes_eq-Decides q.key c.0).0 (and_parts (bytes_eq q.key c.0) (nat_le c.1 q.seq) written).0
 
     by : (o : Ordering) → key_cmp r.key q.key ≡ o → ordering_then o (nat_cmp q.seq r.seq) ≡ Less → is_written c r ≡ true
     by Less e h =
@@ -68,8 +57,8 @@ written_back c r q before high written = by (key_cmp r.key q.key) refl before
     by Equal e h =
         let here : r.key ≡ c.0 = exact r.key q.key e ∙ same in
         let falls : q.seq < r.seq = ranked q.seq r.seq Less (sym h) in
-        let least : c.1 ≤ q.seq = leb-true c.1 q.seq (second_part (bytes_eq q.key c.0) (nat_le c.1 q.seq) written) in
-        both (bytes_eq r.key c.0) (nat_le c.1 r.seq) ((bytes_eq-Decides r.key c.0).1 here) (le-leb c.1 r.seq (omega arith))
+        let least : c.1 ≤ q.seq = leb-true c.1 q.seq (and_parts (bytes_eq q.key c.0) (nat_le c.1 q.seq) written).1 in
+        and_from (bytes_eq r.key c.0) (nat_le c.1 r.seq) ((bytes_eq-Decides r.key c.0).1 here) (le-leb c.1 r.seq (omega arith))
     by Greater e h = absurd (cc h)
 
 written_first : (c : Cursor) (rows : List Row) → IsStrictlyOrdered rows → AllByRecursion (λ r. is_from c.0 r ≡ true) rows → StandsFirst (is_written c) rows
@@ -83,7 +72,8 @@ resumes_behind c rows ordered =
     ap (without_first (is_written c)) from
     ∙ first_are_filtered (is_written c) (filter (is_from c.0) rows) (written_first c (filter (is_from c.0) rows) (ordered_filter (is_from c.0) rows ordered) (passes (is_from c.0) rows))
 
--- what is left behind a cursor, of rows that were sought
+-- A seek to the cursor's key, and dropping the first rows that are written already, leaves what `Resumes`
+-- states.
 pub resumes : (whole : Bool) (c : Cursor) (old sought new : IteratorState) → Moves whole c.0 old sought → new ≡ record sought { rows = without_first (is_written c) sought.rows } → Resumes whole (Some c) old new
 resumes true c old sought new m e = e ∙ ap (λ (s : IteratorState). record s { rows = without_first (is_written c) s.rows }) m
 resumes false c old sought new m e = record {
@@ -95,6 +85,7 @@ resumes false c old sought new m e = record {
 pub resumes_at : (whole : Bool) (cursor : Option Cursor) (c : Cursor) (key : List ℕ) (old sought new : IteratorState) → cursor ≡ Some c → key ≡ c.0 → Moves whole key old sought → new ≡ record sought { rows = without_first (is_written c) sought.rows } → Resumes whole cursor old new
 resumes_at whole cursor c key old sought new is same m e = subst (λ w. Resumes whole w old new) (sym is) (resumes whole c old sought new (subst (λ (w : List ℕ). Moves whole w old sought) same m) e)
 
--- and that it is what the seek left
+-- What is left after a cursor is what a seek to its key left, without the first rows that are written
+-- already.
 pub resumes_by : (told : List ℕ → IteratorState → Type 0) (cursor : Option Cursor) (c : Cursor) (key : List ℕ) (old left new : IteratorState) → cursor ≡ Some c → key ≡ c.0 → told key left → new ≡ record left { rows = without_first (is_written c) left.rows } → ResumesBy told cursor old new
 resumes_by told cursor c key old left new is same h e = subst (λ w. ResumesBy told w old new) (sym is) (record { left = left; told = subst (λ (w : List ℕ). told w left) same h; rows = e })

@@ -1,4 +1,4 @@
--- Rising rows by neighbours.
+-- Rising rows, by each row and the next.
 use Rattle.std.proofs.Common.{◌≡◌, refl, sym, ◌∙◌, ap, subst, ◌<◌, ℕ, List, [], ◌∷◌, length, ◌&&◌, not, Bool, true, false, cond, IsTrue, arith, rules}
 use Rattle.row_laws.specs.Keys.{is_below}
 use Rattle.std.specs.List.Sorted.{IsStrictlySortedBy}
@@ -62,7 +62,7 @@ rising_short [] h = refl
 rising_short (r ∷ []) h = refl
 rising_short (r ∷ q ∷ rows) h = absurd (omega arith)
 
--- rows from a key on rise
+-- Of rising rows, those from a key on rise.
 pub rising_from : (key : List ℕ) (rows : List Row) → AreRising rows → AreRising (from_key key rows)
 rising_from key [] h = tt
 rising_from key (r ∷ rows) h = by (is_below key r) (rising_from key rows h.1)
@@ -71,7 +71,7 @@ rising_from key (r ∷ rows) h = by (is_below key r) (rising_from key rows h.1)
     by true rest = rest
     by false rest = h
 
--- what a seek drops is told
+-- A seek that drops exactly the rows below the key satisfies `Moves` for every iterator.
 pub moves_on : (key : List ℕ) (s t : IteratorState) → AreRising s.rows → t ≡ record s { rows = from_key key s.rows } → Moves (is_exact s) key s t
 moves_on key s t rising e = by (is_exact s)
   where
@@ -79,7 +79,7 @@ moves_on key s t rising e = by (is_exact s)
     by true = e
     by false = record { initialised = ap (λ (z : IteratorState). z.initialised) e; failure = ap (λ (z : IteratorState). z.failure) e; rising = subst AreRising (sym (ap (λ (z : IteratorState). z.rows) e)) (rising_from key s.rows rising) }
 
--- and so do those behind the first that pass a test
+-- Rising rows without the first ones that pass a test rise.
 pub rising_without : (test : Row → Bool) (rows : List Row) → AreRising rows → AreRising (without_first test rows)
 rising_without test [] h = tt
 rising_without test (r ∷ rows) h = by (test r) (rising_without test rows h.1)
@@ -88,7 +88,7 @@ rising_without test (r ∷ rows) h = by (test r) (rising_without test rows h.1)
     by true rest = rest
     by false rest = h
 
--- after a seek an iterator has not failed, and its rows rise
+-- A successful seek leaves the failure as it was.
 pub moves_alive : (key : List ℕ) (s t : IteratorState) (whole : Bool) → Moves whole key s t → t.failure ≡ s.failure
 moves_alive key s t true m = ap (λ (z : IteratorState). z.failure) m
 moves_alive key s t false m = m.failure

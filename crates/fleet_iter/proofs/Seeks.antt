@@ -1,4 +1,4 @@
--- What a seek of a merge leaves as it is.
+-- What a seek of a merge leaves unchanged.
 use Rattle.std.proofs.Common.{◌≡◌, ◌≢◌, ◌∙◌, sym, refl, ap, ℕ, List, [], ◌∷◌, suc, zero, Option, Some, true, false, get_or, slice_get}
 use Rattle.std.proofs.lemmas.Option.{get_or_from_slice_get}
 use Rattle.std.proofs.Math.ListN.{set}
@@ -13,7 +13,7 @@ set_elsewhere (x ∷ xs) zero (suc i) y far = refl
 set_elsewhere (x ∷ xs) (suc k) zero y far = refl
 set_elsewhere (x ∷ xs) (suc k) (suc i) y far = set_elsewhere xs k i y (λ e. far (ap suc e))
 
--- a head that is below the key is none that is not, so what happens at its place leaves the others
+-- A step at a place whose head is below the key changes no source whose head is not below the key.
 pub leaves_step : {T : Type 0} (key : List ℕ) (hs hs1 : List (Option RowEntry)) (xs xs1 : List T) (k : ℕ) (g h : Option RowEntry) (y : T) → g ≡ get_or hs1 k g → head_passes (is_below key) g ≡ true → LeavesFrom key hs xs hs1 xs1 → LeavesFrom key hs xs (set hs1 k h) (set xs1 k y)
 leaves_step key hs hs1 xs xs1 k g h y e low left i x at high =
     let before = left i x at high in

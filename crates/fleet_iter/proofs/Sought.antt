@@ -1,4 +1,4 @@
--- Sources of a merge that are sought, one after the other.
+-- The sources of a merge, sought one after the other.
 use Rattle.std.proofs.Common.{◌≡◌, ◌∙◌, ◌<◌, ◌≤◌, sym, refl, ap, subst, ℕ, List, [], ◌∷◌, ◌++◌, suc, zero, map, length, Option, Some, None, Bool, true, false, cond, get_or, arith}
 use Rattle.std.specs.Option.{option_to_list}
 use Rattle.std.specs.Prelude.{◌&&◌}
@@ -19,7 +19,7 @@ use Rattle.fleet_iter.specs.declared.iterator.IterationOrder.TheVariants.{Ascend
 use Rattle.fleet_iter.specs.Merge.{head_passes, merged, lists, rows_left, merged_left, AllTaken, IsTaken, Steps, StepsFrom, SkipsTo, is_told, manner, manners, all_whole, all_steady, are_exact}
 use Rattle.fleet_iter.proofs.SoughtMerges.{parts_rise, seek_merged}
 
--- the first lists are sought
+-- The lists, of which the first n are sought to the key.
 abbrev pub sought : List ℕ → ℕ → List (List Row) → List (List Row)
 sought key zero ls = ls
 sought key (suc n) [] = []
@@ -90,7 +90,7 @@ head_taken (g ∷ hs) [] a i h s lt e f = absurd a
 head_taken (g ∷ hs) (r ∷ ss) a zero h s lt e f = subst (λ w. IsTaken w s) (sym e) (subst (IsTaken g) (sym f) a.0)
 head_taken (g ∷ hs) (r ∷ ss) a (suc i) h s lt e f = head_taken hs ss a.1 i h s (omega arith) e f
 
--- ---- a step
+-- ---- a step of a seek
 
 pub record Sought (order : IterationOrder) (key : List ℕ) (i : ℕ) (ls : List (List Row)) (hs : List (Option RowEntry)) (ss old : List IteratorState) : Type 0 where
   pub rows : is_told order (are_exact old) ≡ true → lists hs (rows_left ss) ≡ sought key i ls
@@ -117,7 +117,7 @@ rising_set i [] l r all = tt
 rising_set zero (x ∷ ls) l r all = (r, all.1)
 rising_set (suc i) (x ∷ ls) l r all = (all.0, rising_set i ls l r all.1)
 
--- a source may be sought
+-- The rows of a source rise, so it may be sought.
 pub source_rises : (order : IterationOrder) (key : List ℕ) (i : ℕ) (ls : List (List Row)) (hs : List (Option RowEntry)) (ss old : List IteratorState) (g : Option RowEntry) (s : IteratorState) → i < length ss → Sought order key i ls hs ss old
     → g ≡ get_or hs i g → s ≡ get_or ss i s → AreRising s.rows
 source_rises order key i ls hs ss old g s lt k e f = by g (subst AreRising (lists_at hs ss k.taken i g s lt e f) (rising_at i (lists hs (rows_left ss)) k.rising))
@@ -134,7 +134,7 @@ step_taken : (told : Bool) (key : List ℕ) (s t : IteratorState) (h : Option Ro
 step_taken true key s t h st = st.1
 step_taken false key s t h st = st.0
 
--- the head is below the key: the source goes on to the key
+-- If the head is below the key, the source moves on to the key.
 pub sought_step : (order : IterationOrder) (key : List ℕ) (i : ℕ) (ls : List (List Row)) (hs : List (Option RowEntry)) (ss old : List IteratorState) (g h : Option RowEntry) (s t : IteratorState) → i < length ls → i < length ss → Sought order key i ls hs ss old
     → g ≡ get_or hs i g → s ≡ get_or ss i s → head_passes (is_below key) g ≡ true → StepsFrom (is_told order (is_exact s)) key s t h → Sought order key (suc i) ls (set hs i h) (set ss i t) old
 sought_step order key i ls hs ss old g h s t lt lt2 k e f low st = record {
@@ -159,13 +159,13 @@ sought_step order key i ls hs ss old g h s t lt lt2 k e f low st = record {
             let left : from_key key (get_or ls i []) ≡ rows_of (option_to_list h) ++ t.rows = ap (from_key key) all ∙ (ap (λ c. cond c (from_key key s.rows) (row_of x ∷ s.rows)) low ∙ exact.0) in
             lists_set hs ss k.taken i h t ∙ (ap (λ (w : List Row). set (lists hs (rows_left ss)) i w) (sym left) ∙ (ap (λ (w : List (List Row)). set w i (from_key key (get_or ls i []))) (k.rows told) ∙ sym (sought_more key i ls lt)))
 
--- what stands at a place
+-- There is a state at each place within the list.
 state_at : (ss : List IteratorState) (i : ℕ) → i < length ss → (s : IteratorState) × (s ≡ get_or ss i s)
 state_at [] i lt = absurd (omega arith)
 state_at (r ∷ ss) zero lt = (r, refl)
 state_at (r ∷ ss) (suc i) lt = state_at ss i (omega arith)
 
--- the head is not: the source is left
+-- If the head is not below the key, the source is left as it is.
 pub sought_left : (order : IterationOrder) (key : List ℕ) (i : ℕ) (ls : List (List Row)) (hs : List (Option RowEntry)) (ss old : List IteratorState) (g : Option RowEntry) → i < length ls → i < length ss → Sought order key i ls hs ss old
     → g ≡ get_or hs i g → head_passes (is_below key) g ≡ false → Sought order key (suc i) ls hs ss old
 sought_left order key i ls hs ss old g lt lt2 k e high = record {
@@ -186,7 +186,7 @@ sought_left order key i ls hs ss old g lt lt2 k e high = record {
         let here : get_or ls i [] ≡ rows_of (option_to_list g) ++ at.0.rows = sym (sought_at key i ls) ∙ (ap (λ (w : List (List Row)). get_or w i []) (sym (k.rows told)) ∙ lists_at hs ss k.taken i g at.0 lt2 e at.1) in
         ap (from_key key) here ∙ (by at.0 g (head_taken hs ss k.taken i g at.0 lt2 e at.1) high ∙ sym here)
 
--- all sources went on
+-- Once all sources have moved on, the merge has dropped its rows below the key.
 pub sought_merge : (order : IterationOrder) (key : List ℕ) (n : ℕ) (hs0 hs : List (Option RowEntry)) (ss old : List IteratorState) → length (lists hs0 (rows_left old)) ≤ n → AreRising (merged_left order hs0 old) → Sought order key n (lists hs0 (rows_left old)) hs ss old
     → SkipsTo (is_told order (are_exact old)) order key hs0 old hs ss
 sought_merge order key n hs0 hs ss old le rising k = by (is_told order (are_exact old)) refl
@@ -206,7 +206,7 @@ sought_merge order key n hs0 hs ss old le rising k = by (is_told order (are_exac
 pub sought_none : (order : IterationOrder) (key : List ℕ) (hs : List (Option RowEntry)) (ss : List IteratorState) → AllTaken hs ss → AreRising (merged_left order hs ss) → Sought order key 0 (lists hs (rows_left ss)) hs ss ss
 sought_none order key hs ss taken rising = record { rows = λ _. refl; rising = parts_rise order (lists hs (rows_left ss)) rising; taken = taken; same_manner = λ _. refl; later = λ j d le. refl }
 
--- how many lists there are
+-- The place of a source is within the lists of heads and rows.
 pub within_lists : {T : Type 0} (f : T → IteratorState) (hs : List (Option RowEntry)) (all : List T) (k : ℕ) → AllTaken hs (map f all) → k < length all → k < length (lists hs (rows_left (map f all)))
 within_lists f hs all k taken lt =
     let count = lists_count hs (map f all) taken in

@@ -1,4 +1,4 @@
--- The merge of lists that are sought is the merge, sought.
+-- The merge of lists that are all sought to a key is their merge, sought to the key.
 use Rattle.std.proofs.Common.{◌≡◌, ◌∙◌, sym, refl, ap, subst, ℕ, List, [], ◌∷◌, map, Bool, true, false, cond}
 use Rattle.std.specs.List.{AllByRecursion}
 use Rattle.std.specs.declared.cmp.Ordering.{Ordering}
@@ -114,7 +114,7 @@ seek_merged order key (l ∷ ls) r =
     let p = parts_two order l (merged order ls) r in
     ap (merge_two order (from_key key l)) (seek_merged order key ls p.1) ∙ seek_two order key l (merged order ls) r
 
--- ---- where the rows that are given rise, all do
+-- ---- if the rows that are given rise, all merged rows rise
 
 alike : (o : Ordering) → o ≡ ordering_reverse o → is_gt o ≡ false
 alike Less e = absurd (cc e)

@@ -1,4 +1,4 @@
--- The order of a merge's entries.
+-- The order of the entries of a merge.
 use Rattle.std.specs.Prelude.{◌≡◌, ℕ, List, refl}
 use Rattle.std.specs.declared.cmp.Ordering.{Ordering}
 use Rattle.std.specs.declared.cmp.Ordering.TheVariants.{Less, Equal, Greater}
@@ -10,21 +10,23 @@ use Rattle.fleet_iter.specs.declared.iterator.IterationOrder.TheVariants.{Ascend
 use Rattle.fleet_iter.specs.declared.entry.MergeIteratorHeapEntry.{MergeIteratorHeapEntry}
 use Rattle.fleet_iter.specs.Merge.{keys_in}
 
--- by order, and then by key in it
+-- The order of iteration orders: Ascending is less than Descending.
 abbrev pub order_cmp : IterationOrder → IterationOrder → Ordering
 order_cmp Ascending Ascending = Equal
 order_cmp Ascending Descending = Less
 order_cmp Descending Ascending = Greater
 order_cmp Descending Descending = Equal
 
+-- Keys are compared by their iteration order, and keys of one iteration order are compared in it.
 abbrev pub key_cmp_in : IterationOrder × List ℕ → IterationOrder × List ℕ → Ordering
 key_cmp_in a b = ordering_then (order_cmp a.0 b.0) (keys_in a.0 a.1 b.1)
 
--- by order, by key in it, by falling sequence, and then by source
+-- Entries are compared by iteration order, by key in it, by falling sequence, and then by the place of their
+-- source.
 abbrev pub entry_cmp : MergeIteratorHeapEntry → MergeIteratorHeapEntry → Ordering
 entry_cmp a b = ordering_then (key_cmp_in (a.order, a.row.key) (b.order, b.row.key)) (ordering_then (nat_cmp b.row.seq a.row.seq) (nat_cmp a.index b.index))
 
--- ---- it is a total order
+-- ---- the order of entries is total
 
 keys_total : (order : IterationOrder) → IsTotalOrder (keys_in order)
 keys_total Ascending = nat_list_cmp_total

@@ -3,12 +3,12 @@ use Rattle.std.specs.Prelude.{ℕ, List, None, true}
 use Rattle.row_model.specs.Rows.{Row}
 use Rattle.fleet_iter.specs.Iteration.{IteratorState}
 
--- a list as it is given: the rows left, and the bytes of those that were given
+-- A list iterator as contracts see it: the rows left, and the bytes of the rows that it has given.
 pub record Listed : Type 0 where
   pub rows : List Row
   pub processed : ℕ
 
--- these rows are left; it needs no init, and never fails
+-- The state of an iterator with these rows left that needs no `init` and never fails.
 abbrev pub left : List Row → IteratorState
 left rows = record { rows = rows; initialised = true; failure = None; whole = true; steady = true; refusal = None }
 

@@ -1,4 +1,5 @@
--- The merge of lists of rows: always the least head, and of alike heads the earlier list's.
+-- The merge of lists of rows. Its next row is always the least first row of a list, and of equal ones that of
+-- the earliest list.
 use Rattle.std.specs.Prelude.{◌≡◌, ◌≢◌, ◌⊎◌, ℕ, ◌+◌, List, [], ◌∷◌, ◌++◌, Option, Some, None, Bool, true, false, not, ◌&&◌, ⊤, map, flat_map, if◌then◌else◌}
 use Rattle.std.specs.Option.{option_to_list}
 use Rattle.std.specs.Borrow.{Bor}
@@ -17,19 +18,20 @@ use Rattle.fleet_iter.specs.Iteration.{IteratorState, AreRising, behind_first, f
 use Rattle.fleet_iter.specs.declared.iterator.IterationOrder.{IterationOrder}
 use Rattle.fleet_iter.specs.declared.iterator.IterationOrder.TheVariants.{Ascending, Descending}
 
--- keys in an order, and within a key falling sequences
+-- Keys are compared in an iteration order.
 abbrev pub keys_in : IterationOrder → List ℕ → List ℕ → Ordering
 keys_in Ascending a b = key_cmp a b
 keys_in Descending a b = key_cmp b a
 
+-- Rows are compared by key in an iteration order, and rows of one key by falling sequence.
 abbrev pub cmp_in : IterationOrder → Row → Row → Ordering
 cmp_in order a b = ordering_then (keys_in order a.key b.key) (nat_cmp b.seq a.seq)
 
--- whether a row goes before another, or stands where it stands
+-- Whether a row is before another one in an iteration order, or has the same key and sequence.
 abbrev pub goes_first : IterationOrder → Row → Row → Bool
 goes_first order a b = not (is_gt (cmp_in order a b))
 
--- a row and what goes on from it, merged with a list
+-- The merge of a list with a row and the rows after it. The function merges the rows after it with a list.
 abbrev pub merge_into : IterationOrder → Row → (List Row → List Row) → List Row → List Row
 merge_into order r rest [] = r ∷ rest []
 merge_into order r rest (q ∷ rows) = if goes_first order r q then r ∷ rest (q ∷ rows) else q ∷ merge_into order r rest rows
@@ -42,11 +44,12 @@ abbrev pub merged : IterationOrder → List (List Row) → List Row
 merged order [] = []
 merged order (rows ∷ lists) = merge_two order rows (merged order lists)
 
--- whether a row keeps back one that comes after it: a row of the same key, unless it is an operand that is merged onto it
+-- Whether a row hides a later one: both have the same key, and the first one is no operand.
 abbrev pub hides : Row → Row → Bool
 hides r q = not (is_operand r) && same_key r q
 
--- the rows behind a row, without those that the row given last keeps back
+-- The rows that dedup gives after a row that it has given. It leaves out each row that the row given last
+-- hides.
 abbrev pub given_behind : Row → List Row → List Row
 given_behind r [] = []
 given_behind r (q ∷ rows) = if hides r q then given_behind r rows else q ∷ given_behind q rows
@@ -55,12 +58,12 @@ abbrev pub deduplicated : List Row → List Row
 deduplicated [] = []
 deduplicated (r ∷ rows) = r ∷ given_behind r rows
 
--- the rows that a merge gives of its merged ones, with dedup or without
+-- The rows that a merge gives of its merged rows, with dedup if the flag is true.
 abbrev pub given : Bool → List Row → List Row
 given true rows = deduplicated rows
 given false rows = rows
 
--- lists whose first rows were taken
+-- The lists of rows left, each with the head that was taken from it put back in front.
 abbrev pub lists : List (Option RowEntry) → List (List Row) → List (List Row)
 lists [] ls = ls
 lists (h ∷ hs) [] = []
@@ -69,42 +72,44 @@ lists (h ∷ hs) (l ∷ ls) = (rows_of (option_to_list h) ++ l) ∷ lists hs ls
 abbrev pub rows_left : List IteratorState → List (List Row)
 rows_left ss = map (λ s. s.rows) ss
 
--- the merge of what heads and sources have left
+-- The merge of all rows that heads and sources have left.
 abbrev pub merged_left : IterationOrder → List (Option RowEntry) → List IteratorState → List Row
 merged_left order hs ss = merged order (lists hs (rows_left ss))
 
--- the place and the row of the least head
+-- The lesser of a head and of the least head after it, with its place. Of equal ones the head comes first.
 abbrev pub choose : IterationOrder → Option RowEntry → Option (ℕ × RowEntry) → Option (ℕ × RowEntry)
 choose order None None = None
 choose order None (Some p) = Some (p.0 + 1, p.1)
 choose order (Some x) None = Some (0, x)
 choose order (Some x) (Some p) = if goes_first order (row_of x) (row_of p.1) then Some (0, x) else Some (p.0 + 1, p.1)
 
+-- The least head with its place. None if there is no head.
 abbrev pub best : IterationOrder → List (Option RowEntry) → Option (ℕ × RowEntry)
 best order [] = None
 best order (h ∷ hs) = choose order h (best order hs)
 
--- what a search found, by its value
+-- The place and the row that a search found, with the row by value.
 abbrev pub found_row : Option (ℕ × Bor RowEntry) → Option (ℕ × RowEntry)
 found_row None = None
 found_row (Some p) = Some (p.0, p.1.now)
 
--- whether a row goes before what was found behind it
+-- Whether a row goes before the row that was found among the heads after it. It does if none was found.
 abbrev pub goes_ahead : IterationOrder → RowEntry → Option (ℕ × RowEntry) → Bool
 goes_ahead order x None = true
 goes_ahead order x (Some p) = goes_first order (row_of x) (row_of p.1)
 
--- whether the row that was found passes a test
+-- Whether a row was found and passes a test.
 abbrev pub passes : (Row → Bool) → Option (ℕ × RowEntry) → Bool
 passes test None = false
 passes test (Some p) = test (row_of p.1)
 
--- whether a head, if there is one, passes a test
+-- Whether a head is there and passes a test.
 abbrev pub head_passes : (Row → Bool) → Option RowEntry → Bool
 head_passes test None = false
 head_passes test (Some x) = test (row_of x)
 
--- a source whose first row was taken; none is only where it has ended
+-- A source whose first row was taken as its head. It is initialised and has not failed. Without a head, it is
+-- whole and has no row left.
 abbrev pub IsTaken : Option RowEntry → IteratorState → Type 0
 IsTaken (Some x) s = (s.failure ≡ None) × (s.initialised ≡ true)
 IsTaken None s = (s.failure ≡ None) × (s.initialised ≡ true) × (s.rows ≡ []) × (s.whole ≡ true)
@@ -115,14 +120,14 @@ AllTaken (h ∷ hs) (s ∷ ss) = IsTaken h s × AllTaken hs ss
 AllTaken [] (s ∷ ss) = ⊥
 AllTaken (h ∷ hs) [] = ⊥
 
--- what no step of a source changes: whether it is whole, and whether it is steady
+-- What no step of a source changes: whether the source is whole, and whether it is steady.
 abbrev pub manner : IteratorState → Bool × Bool
 manner s = (s.whole, s.steady)
 
 abbrev pub manners : List IteratorState → List (Bool × Bool)
 manners ss = map manner ss
 
--- whether all are whole, and whether all are steady
+-- Whether all sources are whole.
 abbrev pub all_whole : List (Bool × Bool) → Bool
 all_whole [] = true
 all_whole (m ∷ ms) = if m.0 then all_whole ms else false
@@ -140,34 +145,37 @@ are_steady ss = all_steady (manners ss)
 abbrev pub are_exact : List IteratorState → Bool
 are_exact ss = are_steady ss && are_whole ss
 
--- a step of a source: the row that is its next head
+-- A step of a source: its first row becomes its next head. There is no head if no row is left.
 abbrev pub Steps : IteratorState → IteratorState → Option RowEntry → Type 0
 Steps s t h = (s.rows ≡ rows_of (option_to_list h) ++ t.rows) × IsTaken h t × (manner t ≡ manner s)
 
--- whether it is told what a seek of a source leaves: in descending order the source is read on in place of being sought
+-- Whether it is known which rows a seek of a source leaves. In descending order it always is, since a merge
+-- then reads the source row by row instead of seeking it.
 abbrev pub is_told : IterationOrder → Bool → Bool
 is_told Ascending exact = exact
 is_told Descending exact = true
 
--- a source's next head from a key on; where it is not told which rows are left, they rise
+-- A step of a source to its first row at or after a key. If the flag is false, it is only known that the
+-- source's rows rise.
 abbrev pub StepsFrom : Bool → List ℕ → IteratorState → IteratorState → Option RowEntry → Type 0
 StepsFrom true key s t h = Steps (record s { rows = from_key key s.rows }) t h
 StepsFrom false key s t h = IsTaken h t × AreRising (rows_of (option_to_list h) ++ t.rows)
 
--- the first row that is given is taken, and with it the rows that it keeps back
+-- A step of a merge takes the first row that is given, and with dedup the rows that this one hides. If it
+-- takes no row, none is left and all sources are whole.
 pub record Takes (order : IterationOrder) (dedup : Bool) (hs : List (Option RowEntry)) (ss : List IteratorState) (hs' : List (Option RowEntry)) (ss' : List IteratorState) (o : Option RowEntry) : Type 0 where
   pub rows : given dedup (merged_left order hs ss) ≡ rows_of (option_to_list o) ++ given dedup (merged_left order hs' ss')
   pub taken : AllTaken hs' ss'
   pub same_manner : manners ss' ≡ manners ss
   pub ends : o ≡ None → (merged_left order hs ss ≡ []) × (are_whole ss ≡ true)
 
--- the first row is dropped, if there is one
+-- A merge drops its first row, if it has one.
 pub record Drops (order : IterationOrder) (hs : List (Option RowEntry)) (ss : List IteratorState) (hs' : List (Option RowEntry)) (ss' : List IteratorState) : Type 0 where
   pub rows : merged_left order hs' ss' ≡ behind_first (merged_left order hs ss)
   pub taken : AllTaken hs' ss'
   pub same_manner : manners ss' ≡ manners ss
 
--- a source whose head is not below a key is left as it is, and its head stays
+-- Each source whose head is not below the key stays as it is, and so does its head.
 abbrev pub LeavesFrom : {T : Type 0} → List ℕ → List (Option RowEntry) → List T → List (Option RowEntry) → List T → Type 0
 LeavesFrom key hs xs hs' xs' = (place : ℕ) (x : RowEntry) → slice_get hs place ≡ Some (Some x) → is_below key (row_of x) ≡ false → (slice_get hs' place ≡ Some (Some x)) × (slice_get xs' place ≡ slice_get xs place)
 
@@ -175,56 +183,59 @@ abbrev pub NoneFailed : List IteratorState → Type 0
 NoneFailed [] = ⊤
 NoneFailed (s ∷ ss) = (s.failure ≡ None) × NoneFailed ss
 
--- one of them has failed by this refusal
+-- At least one source has failed with this error.
 abbrev pub OneFailedBy : List IteratorState → SlateDBError → Type 0
 OneFailedBy [] e = ⊥
 OneFailedBy (s ∷ ss) e = (s.failure ≡ Some e) ⊎ OneFailedBy ss e
 
--- a refusal, unless it is want of memory, is the one by which a source failed
+-- An error other than `Memory` is the one with which a source failed.
 abbrev pub IsHandedOn : List IteratorState → SlateDBError → Type 0
 IsHandedOn ss e = e ≢ Memory → OneFailedBy ss e
 
--- the first rows of the first sources were taken, and none has failed
+-- Of each head's source the first row was taken. None of the other sources has failed.
 abbrev pub AllBegun : List (Option RowEntry) → List IteratorState → Type 0
 AllBegun [] ss = NoneFailed ss
 AllBegun (h ∷ hs) [] = ⊥
 AllBegun (h ∷ hs) (s ∷ ss) = IsTaken h s × AllBegun hs ss
 
--- the first row of each source is taken
+-- The first row of each source is taken as its head.
 pub record Begins (ss : List IteratorState) (hs' : List (Option RowEntry)) (ss' : List IteratorState) : Type 0 where
   pub rows : lists hs' (rows_left ss') ≡ rows_left ss
   pub taken : AllTaken hs' ss'
   pub same_manner : manners ss' ≡ manners ss
 
--- the rows that pass a test are taken, up to the first that does not
+-- A merge drops its first rows that pass a test, up to the first row that does not.
 pub record Skips (order : IterationOrder) (test : Row → Bool) (hs : List (Option RowEntry)) (ss : List IteratorState) (hs' : List (Option RowEntry)) (ss' : List IteratorState) : Type 0 where
   pub rows : merged_left order hs' ss' ≡ without_first test (merged_left order hs ss)
   pub taken : AllTaken hs' ss'
   pub same_manner : manners ss' ≡ manners ss
 
--- the rows below a key are dropped; where it is not told which are left, they rise
+-- A merge drops its rows below a key. If the flag is false, it is only known that the rows left rise.
 abbrev pub SkipsTo : Bool → IterationOrder → List ℕ → List (Option RowEntry) → List IteratorState → List (Option RowEntry) → List IteratorState → Type 0
 SkipsTo true order key hs ss hs' ss' = Skips order (is_below key) hs ss hs' ss'
 SkipsTo false order key hs ss hs' ss' = AllTaken hs' ss' × AreRising (merged_left order hs' ss')
 
--- a merge's flags, heads and sources fit
+-- How a merge's failure, its `initialised` flag, its heads and its sources fit together. After a failure
+-- nothing is known.
 abbrev pub Fits : Option SlateDBError → Bool → List (Option RowEntry) → List IteratorState → Type 0
 Fits (Some e) initialised hs ss = ⊤
 Fits None true hs ss = AllTaken hs ss
 Fits None false hs ss = (hs ≡ []) × NoneFailed ss
 
+-- The state of a merge with these flags, heads and sources.
 abbrev pub merging : IterationOrder → Bool → Bool → Option SlateDBError → List (Option RowEntry) → List IteratorState → IteratorState
 merging order dedup initialised failure hs ss =
     record { rows = given dedup (merged_left order hs ss); initialised = initialised; failure = failure; whole = are_whole ss; steady = are_steady ss; refusal = None }
 
--- a merge with dedup that is not initialised
+-- The state of a merge with dedup that is not initialised.
 abbrev pub starting : IterationOrder → List IteratorState → IteratorState
 starting order ss = record { rows = deduplicated (merged order (rows_left ss)); initialised = false; failure = None; whole = are_whole ss; steady = are_steady ss; refusal = None }
 
--- The ascending merge of ordered lists, of which no two have a row with key and sequence in common, has all their rows in order.
+-- If each list is strictly ordered and no two rows share key and sequence, the ascending merge has all rows
+-- in order.
 abbrev pub MergesSort : Type 0
 MergesSort = (ls : List (List Row)) → AllByRecursion IsStrictlyOrdered ls → AreApart (flat_map (λ rows. rows) ls) → merged Ascending ls ≡ merged_rows ls
 
--- The ascending merge of rising lists rises, with dedup or without, so it may be sought.
+-- The ascending merge of rising lists rises, with or without dedup. So it may be sought.
 abbrev pub MergesRise : Type 0
 MergesRise = (dedup : Bool) (ls : List (List Row)) → AllByRecursion AreRising ls → AreRising (given dedup (merged Ascending ls))

@@ -1,4 +1,4 @@
--- What a merge has left, and what holds inside it.
+-- The state of a merge, and what holds inside it.
 use Rattle.std.specs.Prelude.{List, map}
 use Rattle.std.specs.List.{AllByRecursion}
 use Rattle.row_model.specs.Rows.{Row}
@@ -6,7 +6,7 @@ use Rattle.fleet_iter.specs.Iteration.{IteratorState}
 use Rattle.fleet_iter.specs.Merge.{merging, merged_left, Fits}
 use Rattle.fleet_iter.specs.declared.merge.MergeIterator.{MergeIterator}
 
--- the rows that its sources have left, in its order: those that it gives, and those that they keep back
+-- All rows that a merge has left, in its order. With dedup this includes the rows that it will not give.
 abbrev pub merge_of : {T : Type 0} → (T → IteratorState) → MergeIterator T → List Row
 merge_of state m = merged_left m.order m.heads.items (map state m.sources.items)
 

@@ -1,26 +1,29 @@
--- Rows taken up again behind a cursor, the key and sequence of the row that was written last.
+-- Rows after a cursor, which is the key and the sequence of the row that was written last.
 use Rattle.std.specs.Prelude.{◌≡◌, ℕ, nat_le, ◌&&◌, bytes_eq, List, filter, Bool, true, false, Option, Some, None}
 use Rattle.row_model.specs.Rows.{Row, IsStrictlyOrdered}
 use Rattle.row_laws.specs.Keys.{is_from}
 use Rattle.row_laws.specs.Resume.{Cursor, is_unwritten}
 use Rattle.fleet_iter.specs.Iteration.{IteratorState, Passes, from_key, without_first}
 
--- a row of the cursor's key whose sequence is not below the cursor's
+-- Whether a row has the cursor's key and a sequence that is not below the cursor's. Such a row is written
+-- already.
 abbrev pub is_written : Cursor → Row → Bool
 is_written cursor r = bytes_eq r.key cursor.0 && nat_le cursor.1 r.seq
 
--- from the cursor's key on, without the first rows that stand written
+-- The rows from the cursor's key on, without the first ones that are written already. Without a cursor these
+-- are all rows.
 abbrev pub rows_behind : Option Cursor → List Row → List Row
 rows_behind None rows = rows
 rows_behind (Some cursor) rows = without_first (is_written cursor) (from_key cursor.0 rows)
 
--- what an iterator has left behind a cursor; by the flag, one that is not exact may have passed rows that it would have refused, or give others
+-- What an iterator has left after a cursor. If the flag is false, the iterator is not exact, and it is only
+-- known that the rows left rise.
 abbrev pub Resumes : Bool → Option Cursor → IteratorState → IteratorState → Type 0
 Resumes true cursor old new = new ≡ record old { rows = rows_behind cursor old.rows }
 Resumes false None old new = new ≡ old
 Resumes false (Some cursor) old new = Passes old new
 
--- what a seek to the cursor's key leaves, without the first rows that stand written
+-- What a seek to the cursor's key leaves, without the first rows that are written already.
 pub record SoughtBehind (sought : List ℕ → IteratorState → Type 0) (cursor : Cursor) (new : IteratorState) : Type 0 where
   pub left : IteratorState
   pub told : sought cursor.0 left
@@ -30,6 +33,7 @@ abbrev pub ResumesBy : (List ℕ → IteratorState → Type 0) → Option Cursor
 ResumesBy sought None old new = new ≡ old
 ResumesBy sought (Some cursor) old new = SoughtBehind sought cursor new
 
--- Of ordered rows these are exactly those of the cursor's key and later ones that do not stand written.
+-- Of strictly ordered rows, those after a cursor are exactly the rows from its key on that are not written
+-- yet.
 abbrev pub ResumesBehind : Type 0
 ResumesBehind = (cursor : Cursor) (rows : List Row) → IsStrictlyOrdered rows → rows_behind (Some cursor) rows ≡ filter (is_unwritten cursor) (filter (is_from cursor.0) rows)

@@ -1,4 +1,4 @@
--- What a resumed iterator has left, and what holds inside it.
+-- The state of a resumed iterator, and what holds inside it.
 use Rattle.std.specs.Prelude.{ℕ, List}
 use Rattle.fleet_iter.specs.Iteration.{IteratorState}
 use Rattle.fleet_iter.specs.PeekState as peek
@@ -10,6 +10,6 @@ state_of state r = peek.state_of state r.inner
 abbrev pub IsSound : {T : Type 0} → (T → Type 0) → (T → IteratorState) → ResumingIterator T → Type 0
 IsSound sound state r = peek.IsSound sound state r.inner
 
--- what a seek leaves
+-- What a seek of a resumed iterator leaves.
 abbrev pub Sought : {T : Type 0} → (T → IteratorState) → (T → List ℕ → IteratorState → Type 0) → ResumingIterator T → List ℕ → IteratorState → Type 0
 Sought state sought r key new = peek.Sought state sought r.inner key new

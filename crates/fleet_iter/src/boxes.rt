@@ -1,4 +1,4 @@
-//! Boxed iterators.
+//! Iterators in boxes.
 
 use crate::{RowEntryIterator, TrackedRowEntryIterator};
 use fleet_rows::{RowEntry, SlateDBError};

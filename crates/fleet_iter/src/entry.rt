@@ -1,4 +1,4 @@
-//! Rows as a merge compares them.
+//! Entries of a merge, and their order.
 
 ghost use Rattle.std.specs.Prelude.{◌≡◌};
 ghost use Rattle.fleet_iter.specs.Entry.{order_cmp, entry_cmp};
@@ -8,7 +8,8 @@ use crate::merge::compare;
 use fleet_rows::RowEntry;
 use std::cmp::Ordering;
 
-/// A row that was read ahead of a source, beside the merge's order, in which it is compared, and the place of its source.
+/// A row that was read ahead from a source, with the order of the merge and the place of the
+/// source.
 #[derive(Debug, Drop)]
 pub struct MergeIteratorHeapEntry {
     pub order: IterationOrder,
@@ -79,7 +80,8 @@ impl PartialOrd for MergeIteratorHeapEntry {
 
     ghost partial_cmp = { λ a b. Some (entry_cmp a b) };
 
-    ghost laws = { partial_order_from_agreeing_total entry_cmp entry_total (λ a b. refl) (λ a b. refl) };
+    ghost laws = { partial_order_from_agreeing_total entry_cmp entry_total
+        (λ a b. refl) (λ a b. refl) };
 
     fn partial_cmp(&self, other: &MergeIteratorHeapEntry) -> Option<Ordering> {
         Some(compare_entries(self, other))

@@ -1,4 +1,4 @@
-//! The refusal by which an iterator failed.
+//! The error with which an iterator failed.
 
 ghost use Rattle.std.specs.Prelude.{◌≡◌, ◌≢◌, Some, None, OnOk, IfErr};
 ghost use Rattle.fleet_iter.specs.Iteration.{KeepsRefusal};
@@ -7,8 +7,8 @@ ghost use Rattle.fleet_rows.specs.declared.errors.SlateDBError.TheVariants as Sl
 use fleet_rows::SlateDBError;
 use std::marker::Model;
 
-/// The refusal by which a call failed an iterator, where one has. An iterator that fails keeps it in its state, so that its
-/// contracts can say with what it failed.
+/// The error with which a call failed an iterator, if one did. An iterator keeps this error in its
+/// state, so that its contracts can state it.
 #[derive(Debug, Drop)]
 pub struct Failure {
     cause: Option<SlateDBError>,
@@ -24,14 +24,14 @@ impl Model for Failure {
 }
 
 impl Failure {
-    /// None yet.
+    /// The failure of an iterator that has not failed.
     pub fn new() -> Failure
         ensures { result ≡ None }
     {
         Failure { cause: None }
     }
 
-    /// Refuses a call of an iterator that has failed.
+    /// Answers `IteratorFailed` if the iterator has failed.
     pub fn check(&self) -> Result<(), SlateDBError>
         ensures alive { OnOk result (self.now ≡ None) }
         ensures failed { IfErr result (λ e. e ≡ SlateDBError.IteratorFailed) }
@@ -43,15 +43,17 @@ impl Failure {
         Ok(())
     }
 
-    /// Fails an iterator by a refusal that the caller names once more, as it can one without a text.
+    /// Fails the iterator with this error. The caller answers with the same error, which it makes
+    /// anew: this needs no copy, and so no memory, if the error holds no text.
     pub fn set(&mut self, error: SlateDBError)
         ensures { self.new ≡ Some error }
     {
         self.cause = Some(error);
     }
 
-    /// Fails an iterator by a refusal, and gives it back to be handed on. Keeping it takes memory, and where that is wanting,
-    /// the iterator fails by `Memory` in its place. `IteratorNotInitialized` fails none.
+    /// Fails the iterator with this error, and gives the error back for the caller to answer.
+    /// Keeping it takes memory. If memory runs out, both the failure and the answer are `Memory`.
+    /// `IteratorNotInitialized` fails no iterator.
     pub fn fail(&mut self, error: SlateDBError) -> SlateDBError
         ensures { KeepsRefusal error self.old self.new result }
     {

@@ -1,4 +1,4 @@
-//! What an iterator over rows does.
+//! Iterators over rows.
 
 ghost use Rattle.std.specs.Prelude.{◌≡◌, ℕ, List, ⊤, OnOk};
 ghost use Rattle.fleet_iter.specs.Iteration.{IteratorState, Inits, Nexts, Seeks, AreRising};
@@ -6,46 +6,51 @@ ghost use Rattle.fleet_iter.specs.Iteration.{IteratorState, Inits, Nexts, Seeks,
 use fleet_rows::{RowEntry, SlateDBError};
 use std::alloc::Global;
 
-/// The order in which keys are given. Sequences fall within a key in both.
+/// The order in which an iterator gives keys. Within a key, sequences fall in both orders.
 #[derive(Clone, Copy, Debug, PartialEq, Eq)]
 pub enum IterationOrder {
     Ascending,
     Descending,
 }
 
-/// Rows, one after the other. An answer that is an error, other than `IteratorNotInitialized`, fails the iterator, and it is
-/// made anew.
+/// An iterator over rows. A call that answers an error other than `IteratorNotInitialized` fails
+/// the iterator. A failed iterator stays failed, and a new one has to be made.
 pub trait RowEntryIterator: Send + Sync + Drop {
-    /// The rows left, whether it was initialised, the refusal by which it failed, whether nothing but want of memory may fail
-    /// it, whether a seek leaves later rows as they are, and the refusal that stands behind the rows, where it is known: but for
-    /// want of memory, `next` gives them all before it refuses, and then with that one.
+    /// The state of the iterator. It says which rows are left, whether the iterator is initialised,
+    /// and with which error it failed, if it did. It says whether only running out of memory can
+    /// fail the iterator, and whether a seek leaves later rows as they are. It also gives the error
+    /// that comes after the rows, if that is known: `next` then gives all rows before it answers
+    /// this error, unless memory runs out.
     ghost state: { Self → IteratorState };
 
-    /// What holds inside it: so it is made, and so each call leaves it.
+    /// What holds inside the iterator when it is made and after each call.
     ghost sound: { Self → Type 0 };
 
-    /// What a seek to a key leaves where it goes well, for an iterator that tells more of it than `seek` asks of all.
+    /// What a successful seek to a key leaves. An iterator may say more here than `seek` asks of
+    /// all iterators.
     ghost sought: { Self → List ℕ → IteratorState → Type 0 } = { λ _ _ _. ⊤ };
 
-    /// The bytes that it has counted, where it counts: see `TrackedRowEntryIterator`.
+    /// The bytes that the iterator has counted. It is 0 for an iterator that counts none. See
+    /// `TrackedRowEntryIterator`.
     ghost processed: { Self → ℕ } = { λ _. 0 };
 
-    /// Makes it ready. A second call does nothing more.
+    /// Makes the iterator ready for `next` and `seek`. A second call does nothing.
     fn init(&mut self, alloc: Global) -> Result<(), SlateDBError>
         requires { sound self.old }
         ensures init { Inits (state self.old) (state self.new) result }
         ensures sound { sound self.new };
 
-    /// The first row left.
+    /// Takes the first row left, or gives None if no row is left.
     fn next(&mut self, alloc: Global) -> Result<Option<RowEntry>, SlateDBError>
         requires { sound self.old }
         ensures next { Nexts (state self.old) (state self.new) result }
         ensures sound { sound self.new };
 
-    /// Drops the rows below a key, and counts none of them. An iterator that may refuse at a row may pass it here: then it is
-    /// not told which rows are left, but by `sought`. The rows have to rise, and so the iterators of this crate and of those
-    /// that stand on it ask for rising rows when they are made: an iterator may not know by itself which of its rows a seek may
-    /// drop.
+    /// Drops the rows below a key, and counts none of them. An iterator that may refuse a row may
+    /// pass it here, and then only `sought` may say which rows are left. The rows left have to
+    /// rise. An adapter whose own rows do not show whether its inner rows rise asks for rising
+    /// inner rows when it is made: its seek needs them. Folded rows show it unless a fold refuses,
+    /// so an iterator that folds asks only if one does.
     fn seek(&mut self, alloc: Global, next_key: &[u8]) -> Result<(), SlateDBError>
         requires sound { sound self.old }
         requires rising { AreRising (state self.old).rows }
@@ -55,8 +60,8 @@ pub trait RowEntryIterator: Send + Sync + Drop {
         ensures sound { sound self.new };
 }
 
-/// An iterator as the functions of a merge or an adapter take it, which need not send it to another thread. Each
-/// `RowEntryIterator` is one. docs/DECISIONS.md says why its methods stand here once more.
+/// An iterator as merges and adapters use it inside: it need not be `Send` or `Sync`. Every
+/// `RowEntryIterator` is a `RowSource`. docs/DECISIONS.md says why the methods are declared again.
 pub trait RowSource {
     ghost state: { Self → IteratorState };
 
@@ -64,19 +69,19 @@ pub trait RowSource {
 
     ghost sought: { Self → List ℕ → IteratorState → Type 0 };
 
-    /// As `init`.
+    /// Does what `RowEntryIterator::init` does.
     fn init_source(&mut self, alloc: Global) -> Result<(), SlateDBError>
         requires { sound self.old }
         ensures init { Inits (state self.old) (state self.new) result }
         ensures sound { sound self.new };
 
-    /// As `next`.
+    /// Does what `RowEntryIterator::next` does.
     fn next_row(&mut self, alloc: Global) -> Result<Option<RowEntry>, SlateDBError>
         requires { sound self.old }
         ensures next { Nexts (state self.old) (state self.new) result }
         ensures sound { sound self.new };
 
-    /// As `seek`.
+    /// Does what `RowEntryIterator::seek` does.
     fn seek_row(&mut self, alloc: Global, next_key: &[u8]) -> Result<(), SlateDBError>
         requires sound { sound self.old }
         requires rising { AreRising (state self.old).rows }

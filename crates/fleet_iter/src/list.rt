@@ -13,12 +13,12 @@ use std::alloc::Global;
 use std::cmp::Ordering;
 use std::marker::Model;
 
-/// No rows.
+/// An iterator without rows.
 #[derive(Debug, Drop)]
 pub struct EmptyIterator {}
 
 impl EmptyIterator {
-    /// An iterator without rows.
+    /// Makes an iterator without rows. It needs no `init`.
     pub fn new() -> EmptyIterator {
         EmptyIterator {}
     }
@@ -42,10 +42,11 @@ impl RowEntryIterator for EmptyIterator {
     }
 }
 
-/// The rows of a list, one after the other. Contracts see the rows left, and the bytes of those that were given.
+/// An iterator over the rows of a list. Contracts see the rows left, and the bytes of the rows
+/// given.
 #[derive(Debug, Drop)]
 pub struct ListIterator {
-    // The next row stands last.
+    // The rows left, in reverse: the next row is the last element.
     rows: Vec<RowEntry>,
     processed: u64,
 }
@@ -61,7 +62,7 @@ impl Model for ListIterator {
 }
 
 impl ListIterator {
-    /// These rows, in their own memory.
+    /// Makes an iterator over these rows. It keeps the vector's memory and copies nothing.
     pub fn new(rows: Vec<RowEntry>) -> ListIterator
         ensures { result ≡ record { rows = rows_of rows.items; processed = 0 } }
     {
@@ -87,7 +88,8 @@ impl RowEntryIterator for ListIterator {
 
     fn next(&mut self, _alloc: Global) -> Result<Option<RowEntry>, SlateDBError>
         ensures next { Nexts (giving self.old) (giving self.new) result }
-        ensures processed { self.new.processed ≡ counted self.old.processed (taken_at_once false self.old.rows) }
+        ensures processed { self.new.processed
+            ≡ counted self.old.processed (taken_at_once false self.old.rows) }
     {
         let Some(row) = self.rows.pop() else {
             return Ok(None);

@@ -1,4 +1,4 @@
-//! The rows of several iterators, in order.
+//! Merges, which give the rows of several iterators in order.
 
 ghost use Rattle.std.specs.Prelude.{◌≡◌, ◌≢◌, ◌++◌, map, true, false, [], Some, None, IfOk, IfErr, OnOk};
 ghost use Rattle.std.specs.Option.{option_map};
@@ -28,21 +28,22 @@ fn compare_keys(order: IterationOrder, key: &Bytes, other: &Bytes) -> Ordering
     }
 }
 
-// By key, and then by falling sequence.
+/// Compares rows by key in an iteration order, and rows of one key by falling sequence.
 pub(crate) fn compare(order: IterationOrder, row: &RowEntry, other: &RowEntry) -> Ordering
     ensures { result ≡ cmp_in order (row_of row.now) (row_of other.now) }
 {
     compare_keys(order, &row.key, &other.key).then(other.seq.cmp(&row.seq))
 }
 
-// Whether a row keeps back one behind it.
+// Whether a row hides a later one: both have the same key, and the first one is no operand.
 fn hides(row: &RowEntry, other: &RowEntry) -> bool
     ensures { result ≡ hides (row_of row.now) (row_of other.now) }
 {
     !matches!(row.value, ValueDeletable::Merge(_)) && row.key == other.key
 }
 
-// Whether a row goes before what was found behind it.
+// Whether a row goes before the row that was found among the heads after it. It does if none was
+// found.
 fn goes_ahead(order: IterationOrder, row: &RowEntry, found: &Option<(usize, &RowEntry)>) -> bool
     ensures { result ≡ goes_ahead order row.now (found_row found.now) }
 {
@@ -52,7 +53,7 @@ fn goes_ahead(order: IterationOrder, row: &RowEntry, found: &Option<(usize, &Row
     }
 }
 
-// The least head and its place.
+// The least head with its place. None if there is no head.
 fn least_row(order: IterationOrder, heads: &[Option<RowEntry>]) -> Option<(usize, &RowEntry)>
     ensures { found_row result ≡ best order heads.now }
 {
@@ -67,7 +68,7 @@ fn least_row(order: IterationOrder, heads: &[Option<RowEntry>]) -> Option<(usize
     found
 }
 
-// The place of the least head.
+// The place of the least head. None if there is no head.
 fn least(order: IterationOrder, heads: &[Option<RowEntry>]) -> Option<usize>
     ensures { result ≡ option_map (λ p. p.0) (best order heads.now) }
 {
@@ -77,7 +78,7 @@ fn least(order: IterationOrder, heads: &[Option<RowEntry>]) -> Option<usize>
     }
 }
 
-// Whether a row keeps back the least head.
+// Whether there is a least head and the row hides it.
 fn least_is_hidden(order: IterationOrder, heads: &[Option<RowEntry>], row: &RowEntry) -> bool
     ensures { result ≡ passes (hides (row_of row.now)) (best order heads.now) }
 {
@@ -87,7 +88,7 @@ fn least_is_hidden(order: IterationOrder, heads: &[Option<RowEntry>], row: &RowE
     }
 }
 
-// Takes the least head, and its source's next row in its place.
+// Takes the least head, and reads the next row of its source as its new head.
 fn take_least<T: RowSource>(
     alloc: Global,
     order: IterationOrder,
@@ -96,7 +97,8 @@ fn take_least<T: RowSource>(
 ) -> Result<Option<RowEntry>, SlateDBError>
     requires taken { AllTaken heads.old.items (map T.state sources.old.items) }
     requires sound { AllByRecursion T.sound sources.old.items }
-    ensures ok { IfOk result (Takes order false heads.old.items (map T.state sources.old.items) heads.new.items (map T.state sources.new.items)) }
+    ensures ok { IfOk result (Takes order false heads.old.items
+        (map T.state sources.old.items) heads.new.items (map T.state sources.new.items)) }
     ensures err { IfErr result (CanFail (are_whole (map T.state sources.old.items))) }
     ensures handed { IfErr result (IsHandedOn (map T.state sources.new.items)) }
     ensures sound { AllByRecursion T.sound sources.new.items }
@@ -108,7 +110,7 @@ fn take_least<T: RowSource>(
     Ok(mem::replace(&mut heads[place], head))
 }
 
-// A source's first row.
+// Initialises a source and takes its first row.
 fn first_row<T: RowSource>(alloc: Global, source: &mut T) -> Result<Option<RowEntry>, SlateDBError>
     requires sound { T.sound source.old }
     requires alive { (T.state source.old).failure ≡ None }
@@ -121,7 +123,7 @@ fn first_row<T: RowSource>(alloc: Global, source: &mut T) -> Result<Option<RowEn
     source.next_row(alloc)
 }
 
-// Takes the first row of each source.
+// Initialises each source and takes its first row as its head.
 fn take_heads<T: RowSource>(
     alloc: Global,
     sources: &mut Vec<T>,
@@ -130,7 +132,8 @@ fn take_heads<T: RowSource>(
     requires none { heads.old.items ≡ [] }
     requires alive { NoneFailed (map T.state sources.old.items) }
     requires sound { AllByRecursion T.sound sources.old.items }
-    ensures ok { OnOk result (Begins (map T.state sources.old.items) heads.new.items (map T.state sources.new.items)) }
+    ensures ok { OnOk result
+        (Begins (map T.state sources.old.items) heads.new.items (map T.state sources.new.items)) }
     ensures err { IfErr result (CanFail (are_whole (map T.state sources.old.items))) }
     ensures handed { IfErr result (IsHandedOn (map T.state sources.new.items)) }
     ensures sound { AllByRecursion T.sound sources.new.items }
@@ -142,7 +145,8 @@ fn take_heads<T: RowSource>(
     Ok(())
 }
 
-// Drops the least head, and answers its bytes.
+// Drops the least head, and answers the bytes of its key and value. It answers 0 if there is no
+// head.
 fn drop_least<T: RowSource>(
     alloc: Global,
     order: IterationOrder,
@@ -151,8 +155,10 @@ fn drop_least<T: RowSource>(
 ) -> Result<u64, SlateDBError>
     requires taken { AllTaken heads.old.items (map T.state sources.old.items) }
     requires sound { AllByRecursion T.sound sources.old.items }
-    ensures ok { IfOk result (λ _. Drops order heads.old.items (map T.state sources.old.items) heads.new.items (map T.state sources.new.items)) }
-    ensures bytes { IfOk result (λ bytes. bytes ≡ first_bytes (merged_left order heads.old.items (map T.state sources.old.items))) }
+    ensures ok { IfOk result (λ _. Drops order heads.old.items
+        (map T.state sources.old.items) heads.new.items (map T.state sources.new.items)) }
+    ensures bytes { IfOk result (λ bytes. bytes
+        ≡ first_bytes (merged_left order heads.old.items (map T.state sources.old.items))) }
     ensures err { IfErr result (CanFail (are_whole (map T.state sources.old.items))) }
     ensures handed { IfErr result (IsHandedOn (map T.state sources.new.items)) }
     ensures sound { AllByRecursion T.sound sources.new.items }
@@ -163,7 +169,7 @@ fn drop_least<T: RowSource>(
     }
 }
 
-// Whether a head is below a key.
+// Whether a head is there and is below a key.
 fn is_head_below(head: &Option<RowEntry>, key: &[u8]) -> bool
     ensures { result ≡ head_passes (is_below key.now) head.now }
 {
@@ -173,7 +179,7 @@ fn is_head_below(head: &Option<RowEntry>, key: &[u8]) -> bool
     }
 }
 
-// A source's first row that is not below a key, by a seek.
+// Takes a source's first row that is not below a key. It seeks the source to the key.
 fn first_sought<T: RowSource>(
     alloc: Global,
     source: &mut T,
@@ -183,7 +189,8 @@ fn first_sought<T: RowSource>(
     requires alive { (T.state source.old).failure ≡ None }
     requires initialised { (T.state source.old).initialised ≡ true }
     requires rising { AreRising (T.state source.old).rows }
-    ensures ok { IfOk result (StepsFrom (is_exact (T.state source.old)) key.now (T.state source.old) (T.state source.new)) }
+    ensures ok { IfOk result (StepsFrom
+        (is_exact (T.state source.old)) key.now (T.state source.old) (T.state source.new)) }
     ensures err { IfErr result (CanFail (is_exact (T.state source.old))) }
     ensures handed { IfErr result (λ e. (T.state source.new).failure ≡ Some e) }
     ensures sound { T.sound source.new }
@@ -192,7 +199,7 @@ fn first_sought<T: RowSource>(
     source.next_row(alloc)
 }
 
-// The same, row by row.
+// Takes a source's first row that is not below a key. It reads the source row by row.
 fn first_read<T: RowSource>(
     alloc: Global,
     source: &mut T,
@@ -201,7 +208,8 @@ fn first_read<T: RowSource>(
     requires sound { T.sound source.old }
     requires alive { (T.state source.old).failure ≡ None }
     requires initialised { (T.state source.old).initialised ≡ true }
-    ensures ok { IfOk result (Steps (record (T.state source.old) { rows = from_key key.now (T.state source.old).rows }) (T.state source.new)) }
+    ensures ok { IfOk result (Steps (record (T.state source.old)
+        { rows = from_key key.now (T.state source.old).rows }) (T.state source.new)) }
     ensures err { IfErr result (CanFail (T.state source.old).whole) }
     ensures handed { IfErr result (λ e. (T.state source.new).failure ≡ Some e) }
     ensures sound { T.sound source.new }
@@ -214,8 +222,9 @@ fn first_read<T: RowSource>(
     Ok(None)
 }
 
-// A source's first row that is not below a key. In descending order it is not sought, since a source that passes rows which
-// it would have refused may leave rows that do not rise in the merge.
+// Takes a source's first row that is not below a key. In descending order it does not seek the
+// source: a seek may pass rows that the source would have refused, and the merge of the rows left
+// might then not rise.
 fn first_from<T: RowSource>(
     alloc: Global,
     order: IterationOrder,
@@ -226,7 +235,8 @@ fn first_from<T: RowSource>(
     requires alive { (T.state source.old).failure ≡ None }
     requires initialised { (T.state source.old).initialised ≡ true }
     requires rising { AreRising (T.state source.old).rows }
-    ensures ok { IfOk result (StepsFrom (is_told order (is_exact (T.state source.old))) key.now (T.state source.old) (T.state source.new)) }
+    ensures ok { IfOk result (StepsFrom (is_told order (is_exact (T.state source.old))) key.now
+        (T.state source.old) (T.state source.new)) }
     ensures err { IfErr result (CanFail (is_exact (T.state source.old))) }
     ensures handed { IfErr result (λ e. (T.state source.new).failure ≡ Some e) }
     ensures sound { T.sound source.new }
@@ -237,7 +247,7 @@ fn first_from<T: RowSource>(
     }
 }
 
-// Drops the rows below a key, by a step of each source whose head is below it.
+// Drops the rows below a key. It makes one step of each source whose head is below the key.
 fn skip_below<T: RowSource>(
     alloc: Global,
     order: IterationOrder,
@@ -246,10 +256,14 @@ fn skip_below<T: RowSource>(
     key: &[u8],
 ) -> Result<(), SlateDBError>
     requires taken { AllTaken heads.old.items (map T.state sources.old.items) }
-    requires rising { AreRising (merged_left order heads.old.items (map T.state sources.old.items)) }
+    requires rising { AreRising
+        (merged_left order heads.old.items (map T.state sources.old.items)) }
     requires sound { AllByRecursion T.sound sources.old.items }
-    ensures ok { OnOk result (SkipsTo (is_told order (are_exact (map T.state sources.old.items))) order key.now heads.old.items (map T.state sources.old.items) heads.new.items (map T.state sources.new.items)) }
-    ensures leaves { OnOk result (LeavesFrom key.now heads.old.items sources.old.items heads.new.items sources.new.items) }
+    ensures ok { OnOk result (SkipsTo
+        (is_told order (are_exact (map T.state sources.old.items))) order key.now heads.old.items
+        (map T.state sources.old.items) heads.new.items (map T.state sources.new.items)) }
+    ensures leaves { OnOk result
+        (LeavesFrom key.now heads.old.items sources.old.items heads.new.items sources.new.items) }
     ensures err { IfErr result (CanFail (are_exact (map T.state sources.old.items))) }
     ensures handed { IfErr result (IsHandedOn (map T.state sources.new.items)) }
     ensures sound { AllByRecursion T.sound sources.new.items }
@@ -264,7 +278,7 @@ fn skip_below<T: RowSource>(
     Ok(())
 }
 
-// Drops the rows that a row keeps back, and adds their bytes to a count.
+// Drops the rows that a row hides, and adds their bytes to the count.
 fn skip_hidden<T: RowSource>(
     alloc: Global,
     order: IterationOrder,
@@ -275,8 +289,10 @@ fn skip_hidden<T: RowSource>(
 ) -> Result<u64, SlateDBError>
     requires taken { AllTaken heads.old.items (map T.state sources.old.items) }
     requires sound { AllByRecursion T.sound sources.old.items }
-    ensures ok { IfOk result (λ _. Skips order (hides (row_of row.now)) heads.old.items (map T.state sources.old.items) heads.new.items (map T.state sources.new.items)) }
-    ensures bytes { IfOk result (λ count. count ≡ counted processed (kept_back (row_of row.now) (merged_left order heads.old.items (map T.state sources.old.items)))) }
+    ensures ok { IfOk result (λ _. Skips order (hides (row_of row.now)) heads.old.items
+        (map T.state sources.old.items) heads.new.items (map T.state sources.new.items)) }
+    ensures bytes { IfOk result (λ count. count ≡ counted processed (kept_back
+        (row_of row.now) (merged_left order heads.old.items (map T.state sources.old.items)))) }
     ensures err { IfErr result (CanFail (are_whole (map T.state sources.old.items))) }
     ensures handed { IfErr result (IsHandedOn (map T.state sources.new.items)) }
     ensures sound { AllByRecursion T.sound sources.new.items }
@@ -289,7 +305,8 @@ fn skip_hidden<T: RowSource>(
     Ok(count)
 }
 
-// Takes the next row that is given, and with it those that it keeps back. All their bytes are added to the count.
+// Takes the next row that the merge gives, and with dedup the rows that it hides. It adds the bytes
+// of all of them to the count.
 fn take_given<T: RowSource>(
     alloc: Global,
     order: IterationOrder,
@@ -300,9 +317,14 @@ fn take_given<T: RowSource>(
 ) -> Result<Option<RowEntry>, SlateDBError>
     requires taken { AllTaken heads.old.items (map T.state sources.old.items) }
     requires sound { AllByRecursion T.sound sources.old.items }
-    ensures ok { IfOk result (Takes order dedup heads.old.items (map T.state sources.old.items) heads.new.items (map T.state sources.new.items)) }
-    ensures all { IfOk result (λ _. merged_left order heads.old.items (map T.state sources.old.items) ≡ taken_at_once dedup (merged_left order heads.old.items (map T.state sources.old.items)) ++ merged_left order heads.new.items (map T.state sources.new.items)) }
-    ensures bytes { IfOk result (λ _. processed.new ≡ counted processed.old (taken_at_once dedup (merged_left order heads.old.items (map T.state sources.old.items)))) }
+    ensures ok { IfOk result (Takes order dedup heads.old.items
+        (map T.state sources.old.items) heads.new.items (map T.state sources.new.items)) }
+    ensures all { IfOk result
+        (λ _. merged_left order heads.old.items (map T.state sources.old.items)
+        ≡ taken_at_once dedup (merged_left order heads.old.items (map T.state sources.old.items))
+        ++ merged_left order heads.new.items (map T.state sources.new.items)) }
+    ensures bytes { IfOk result (λ _. processed.new ≡ counted processed.old
+        (taken_at_once dedup (merged_left order heads.old.items (map T.state sources.old.items)))) }
     ensures unchanged { IfErr result (λ _. processed.new ≡ processed.old) }
     ensures err { IfErr result (CanFail (are_whole (map T.state sources.old.items))) }
     ensures handed { IfErr result (IsHandedOn (map T.state sources.new.items)) }
@@ -320,11 +342,12 @@ fn take_given<T: RowSource>(
     Ok(Some(row))
 }
 
-/// The rows of several iterators, always the least first, and of alike rows that of the earlier iterator.
+/// An iterator that merges the rows of several iterators. It always takes the least next row, and
+/// of rows with the same key and sequence that of the earlier iterator.
 #[derive(Drop)]
 pub struct MergeIterator<T: RowEntryIterator> {
     sources: Vec<T>,
-    // The next row of each source, once they are initialised.
+    // The next row of each source. There are none until the sources are initialised.
     heads: Vec<Option<RowEntry>>,
     order: IterationOrder,
     dedup: bool,
@@ -334,12 +357,14 @@ pub struct MergeIterator<T: RowEntryIterator> {
 }
 
 impl<T: RowEntryIterator> MergeIterator<T> {
-    /// The ascending merge of these iterators, with dedup.
+    /// Makes the ascending merge of these iterators, with dedup.
     pub fn new(alloc: Global, iterators: Vec<T>) -> Self
         requires sound { AllByRecursion T.sound iterators.items }
         requires alive { NoneFailed (map T.state iterators.items) }
-        ensures rows { state_of T.state result ≡ starting in_order.Ascending (map T.state iterators.items) }
-        ensures all { merge_of T.state result ≡ merged in_order.Ascending (rows_left (map T.state iterators.items)) }
+        ensures rows { state_of T.state result
+            ≡ starting in_order.Ascending (map T.state iterators.items) }
+        ensures all { merge_of T.state result
+            ≡ merged in_order.Ascending (rows_left (map T.state iterators.items)) }
         ensures dedup { result.dedup ≡ true }
         ensures processed { result.processed ≡ 0 }
         ensures sound { IsSound T.sound T.state result }
@@ -347,12 +372,14 @@ impl<T: RowEntryIterator> MergeIterator<T> {
         MergeIterator::new_with_order(alloc, iterators, IterationOrder::Ascending)
     }
 
-    /// The merge of these iterators in an order, with dedup. One that is descending may be sought only where one key is left.
+    /// Makes the merge of these iterators in this order, with dedup. A descending merge may be
+    /// sought only if all rows left have one key.
     pub fn new_with_order(alloc: Global, iterators: Vec<T>, order: IterationOrder) -> Self
         requires sound { AllByRecursion T.sound iterators.items }
         requires alive { NoneFailed (map T.state iterators.items) }
         ensures rows { state_of T.state result ≡ starting order (map T.state iterators.items) }
-        ensures all { merge_of T.state result ≡ merged order (rows_left (map T.state iterators.items)) }
+        ensures all { merge_of T.state result
+            ≡ merged order (rows_left (map T.state iterators.items)) }
         ensures dedup { result.dedup ≡ true }
         ensures processed { result.processed ≡ 0 }
         ensures sound { IsSound T.sound T.state result }
@@ -368,10 +395,12 @@ impl<T: RowEntryIterator> MergeIterator<T> {
         }
     }
 
-    /// The same merge, with or without dedup: whether a row that is no operand keeps back the rows of its key behind it.
+    /// Switches dedup on or off for this merge. With dedup, a row that is no operand hides the
+    /// later rows of its key.
     pub fn with_dedup(self, dedup: bool) -> Self
         requires { IsSound T.sound T.state self }
-        ensures rows { state_of T.state result ≡ record (state_of T.state self) { rows = given dedup (merge_of T.state self) } }
+        ensures rows { state_of T.state result
+            ≡ record (state_of T.state self) { rows = given dedup (merge_of T.state self) } }
         ensures all { merge_of T.state result ≡ merge_of T.state self }
         ensures dedup { result.dedup ≡ dedup }
         ensures processed { result.processed ≡ self.processed }
@@ -392,7 +421,8 @@ impl<T: RowEntryIterator> RowEntryIterator for MergeIterator<T> {
         requires { IsSound T.sound T.state self.old }
         ensures init { Inits (state_of T.state self.old) (state_of T.state self.new) result }
         ensures all { OnOk result (merge_of T.state self.new ≡ merge_of T.state self.old) }
-        ensures handed { self.old.failure ≡ None → IfErr result (IsHandedOn (map T.state self.new.sources.items)) }
+        ensures handed { self.old.failure
+            ≡ None → IfErr result (IsHandedOn (map T.state self.new.sources.items)) }
         ensures idle { self.old.failure ≢ None → self.new ≡ self.old }
         ensures sound { IsSound T.sound T.state self.new }
         ensures dedup { self.new.dedup ≡ self.old.dedup }
@@ -414,12 +444,15 @@ impl<T: RowEntryIterator> RowEntryIterator for MergeIterator<T> {
     fn next(&mut self, alloc: Global) -> Result<Option<RowEntry>, SlateDBError>
         requires { IsSound T.sound T.state self.old }
         ensures next { Nexts (state_of T.state self.old) (state_of T.state self.new) result }
-        ensures all { IfOk result (λ _. merge_of T.state self.old ≡ taken_at_once self.old.dedup (merge_of T.state self.old) ++ merge_of T.state self.new) }
+        ensures all { IfOk result (λ _. merge_of T.state self.old ≡ taken_at_once self.old.dedup
+            (merge_of T.state self.old) ++ merge_of T.state self.new) }
         ensures sound { IsSound T.sound T.state self.new }
         ensures dedup { self.new.dedup ≡ self.old.dedup }
-        ensures processed { IfOk result (λ _. self.new.processed ≡ counted self.old.processed (taken_at_once self.old.dedup (merge_of T.state self.old))) }
+        ensures processed { IfOk result (λ _. self.new.processed ≡ counted self.old.processed
+            (taken_at_once self.old.dedup (merge_of T.state self.old))) }
         ensures unprocessed { IfErr result (λ _. self.new.processed ≡ self.old.processed) }
-        ensures handed { self.old.failure ≡ None → self.old.initialised ≡ true → IfErr result (IsHandedOn (map T.state self.new.sources.items)) }
+        ensures handed { self.old.failure ≡ None → self.old.initialised
+            ≡ true → IfErr result (IsHandedOn (map T.state self.new.sources.items)) }
         ensures idle { self.old.failure ≢ None → self.new ≡ self.old }
         ensures early { self.old.initialised ≡ false → self.new ≡ self.old }
     {
@@ -445,10 +478,14 @@ impl<T: RowEntryIterator> RowEntryIterator for MergeIterator<T> {
     fn seek(&mut self, alloc: Global, next_key: &[u8]) -> Result<(), SlateDBError>
         requires sound { IsSound T.sound T.state self.old }
         requires rising { AreRising (state_of T.state self.old).rows }
-        ensures seek { Seeks next_key.now (state_of T.state self.old) (state_of T.state self.new) result }
-        ensures all { is_exact (state_of T.state self.old) ≡ true → OnOk result (merge_of T.state self.new ≡ from_key next_key.now (merge_of T.state self.old)) }
-        ensures leaves { OnOk result (LeavesFrom next_key.now self.old.heads.items self.old.sources.items self.new.heads.items self.new.sources.items) }
-        ensures handed { self.old.failure ≡ None → self.old.initialised ≡ true → IfErr result (IsHandedOn (map T.state self.new.sources.items)) }
+        ensures seek { Seeks next_key.now
+            (state_of T.state self.old) (state_of T.state self.new) result }
+        ensures all { is_exact (state_of T.state self.old) ≡ true → OnOk result
+            (merge_of T.state self.new ≡ from_key next_key.now (merge_of T.state self.old)) }
+        ensures leaves { OnOk result (LeavesFrom next_key.now self.old.heads.items
+            self.old.sources.items self.new.heads.items self.new.sources.items) }
+        ensures handed { self.old.failure ≡ None → self.old.initialised
+            ≡ true → IfErr result (IsHandedOn (map T.state self.new.sources.items)) }
         ensures idle { self.old.failure ≢ None → self.new ≡ self.old }
         ensures early { self.old.initialised ≡ false → self.new ≡ self.old }
         ensures sound { IsSound T.sound T.state self.new }
@@ -473,12 +510,13 @@ impl<T: RowEntryIterator> TrackedRowEntryIterator for MergeIterator<T> {
     }
 }
 
-/// The ascending merge without dedup of strictly ordered rows is strictly ordered, and has all rows, where no two have key and sequence in common.
+/// If each list is strictly ordered and no two rows share key and sequence, the ascending merge
+/// without dedup has all rows in order.
 pub fn merges_sort()
     ensures { MergesSort }
 {}
 
-/// The ascending merge of iterators whose rows rise may be sought, with dedup or without.
+/// The ascending merge of rising lists rises, with or without dedup, so it may be sought.
 pub fn merges_rise()
     ensures { MergesRise }
 {}

@@ -14,12 +14,12 @@ use std::cmp::Ordering;
 #[derive(Drop)]
 pub struct PeekingIterator<T: RowEntryIterator> {
     pub(crate) inner: T,
-    // The next row, where it was read ahead.
+    /// The next row, if it was read ahead.
     pub(crate) peeked: Option<RowEntry>,
 }
 
 impl<T: RowEntryIterator> PeekingIterator<T> {
-    /// The rows that an iterator has left.
+    /// Makes an iterator over the rows that `iterator` has left.
     pub fn new(iterator: T) -> Self
         requires sound { T.sound iterator }
         requires alive { (T.state iterator).failure ≡ None }
@@ -32,8 +32,8 @@ impl<T: RowEntryIterator> PeekingIterator<T> {
         }
     }
 
-    /// The next row, which stays the next one. While it is held no contract tells what the iterator has left: a caller that
-    /// goes on takes `look_ahead` and `peeked`.
+    /// Shows the next row, and does not take it. While the row is borrowed, no contract says what
+    /// the iterator has left. A caller that needs this uses `look_ahead` and `peeked`.
     pub fn peek(&mut self, alloc: Global) -> Result<Option<&RowEntry>, SlateDBError>
         requires { IsSound T.sound T.state self.old }
         ensures { Looks (state_of T.state self.old) (shown result) }
@@ -42,10 +42,12 @@ impl<T: RowEntryIterator> PeekingIterator<T> {
         Ok(self.peeked())
     }
 
-    /// Reads the next row ahead, if none was, for `peeked` to show. It stays the next one.
+    /// Reads the next row ahead for `peeked`, unless one was read ahead already. It does not take
+    /// the row.
     pub fn look_ahead(&mut self, alloc: Global) -> Result<(), SlateDBError>
         requires { IsSound T.sound T.state self.old }
-        ensures peeks { Peeks (state_of T.state self.old) (state_of T.state self.new) (filled result self.new.peeked) }
+        ensures peeks { Peeks (state_of T.state self.old)
+            (state_of T.state self.new) (filled result self.new.peeked) }
         ensures sound { IsSound T.sound T.state self.new }
     {
         if self.peeked.is_none() {
@@ -54,7 +56,7 @@ impl<T: RowEntryIterator> PeekingIterator<T> {
         Ok(())
     }
 
-    /// The next row, where it was read ahead.
+    /// The next row, if it was read ahead. A row that was read ahead is still left to `next`.
     pub fn peeked(&self) -> Option<&RowEntry>
         ensures { option_copied result ≡ self.now.peeked }
     {

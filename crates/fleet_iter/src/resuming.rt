@@ -1,4 +1,4 @@
-//! Iterators taken up again behind a cursor.
+//! Iterators that resume after a cursor.
 
 ghost use Rattle.std.specs.Prelude.{◌≡◌, None, true, OnOk, IfOk, IfErr};
 ghost use Rattle.std.specs.Option.{option_copied};
@@ -13,14 +13,15 @@ use bytes::Bytes;
 use fleet_rows::{RowEntry, SlateDBError};
 use std::alloc::Global;
 
-// Whether a row has a key, and a sequence that is not below one.
+// Whether a row has this key and a sequence of at least `seq`.
 fn is_written(row: &RowEntry, key: &Bytes, seq: u64) -> bool
     ensures { result ≡ is_written (key.now, seq) (row_of row.now) }
 {
     row.key == *key && seq <= row.seq
 }
 
-// The first row left that does not stand written.
+// Takes rows up to the first one that is not written yet, and gives that row. None if there is
+// none.
 fn first_unwritten<T: RowSource>(
     alloc: Global,
     source: &mut T,
@@ -30,7 +31,8 @@ fn first_unwritten<T: RowSource>(
     requires sound { T.sound source.old }
     requires alive { (T.state source.old).failure ≡ None }
     requires initialised { (T.state source.old).initialised ≡ true }
-    ensures rows { IfOk result (λ row. ahead row (T.state source.new) ≡ record (T.state source.old) { rows = without_first (is_written (key.now, seq)) (T.state source.old).rows }) }
+    ensures rows { IfOk result (λ row. ahead row (T.state source.new) ≡ record (T.state source.old)
+        { rows = without_first (is_written (key.now, seq)) (T.state source.old).rows }) }
     ensures begun { IfOk result (λ row. HasBegun row (T.state source.new)) }
     ensures err { IfErr result (CanFail (T.state source.old).whole) }
     ensures sound { T.sound source.new }
@@ -43,7 +45,8 @@ fn first_unwritten<T: RowSource>(
     Ok(None)
 }
 
-// The first row left behind a cursor, where there is one.
+// Takes rows up to the first one after the cursor, and gives that row. Without a cursor it takes
+// none.
 fn first_behind<T: RowSource>(
     alloc: Global,
     source: &mut T,
@@ -53,8 +56,10 @@ fn first_behind<T: RowSource>(
     requires alive { (T.state source.old).failure ≡ None }
     requires initialised { (T.state source.old).initialised ≡ true }
     requires rising { AreRising (T.state source.old).rows }
-    ensures rows { IfOk result (λ row. Resumes (is_exact (T.state source.old)) cursor.now (T.state source.old) (ahead row (T.state source.new))) }
-    ensures sought { IfOk result (λ row. ResumesBy (T.sought source.old) cursor.now (T.state source.old) (ahead row (T.state source.new))) }
+    ensures rows { IfOk result (λ row. Resumes (is_exact (T.state source.old)) cursor.now
+        (T.state source.old) (ahead row (T.state source.new))) }
+    ensures sought { IfOk result (λ row. ResumesBy
+        (T.sought source.old) cursor.now (T.state source.old) (ahead row (T.state source.new))) }
     ensures begun { IfOk result (λ row. HasBegun row (T.state source.new)) }
     ensures err { IfErr result (CanFail (is_exact (T.state source.old))) }
     ensures sound { T.sound source.new }
@@ -69,7 +74,8 @@ fn first_behind<T: RowSource>(
     }
 }
 
-/// An iterator taken up again behind a cursor, which is the key and sequence of the row that was written last.
+/// An iterator that resumes after a cursor, which is the key and the sequence of the row that was
+/// written last.
 #[derive(Drop)]
 pub struct ResumingIterator<T: RowEntryIterator> {
     inner: PeekingIterator<T>,
@@ -77,7 +83,8 @@ pub struct ResumingIterator<T: RowEntryIterator> {
 }
 
 impl<T: RowEntryIterator> ResumingIterator<T> {
-    /// The rows of an iterator from the cursor's key on, without those of that key whose sequence is not below the cursor's.
+    /// Makes an iterator of the rows from the cursor's key on, without the first rows of that key
+    /// whose sequence is at least the cursor's. Without a cursor it gives all rows.
     pub fn new(
         alloc: Global,
         iterator: T,
@@ -87,8 +94,10 @@ impl<T: RowEntryIterator> ResumingIterator<T> {
         requires alive { (T.state iterator).failure ≡ None }
         requires initialised { (T.state iterator).initialised ≡ true }
         requires rising { AreRising (T.state iterator).rows }
-        ensures rows { IfOk result (λ r. Resumes (is_exact (T.state iterator)) resume_cursor (T.state iterator) (state_of T.state r)) }
-        ensures sought { IfOk result (λ r. ResumesBy (T.sought iterator) resume_cursor (T.state iterator) (state_of T.state r)) }
+        ensures rows { IfOk result (λ r. Resumes
+            (is_exact (T.state iterator)) resume_cursor (T.state iterator) (state_of T.state r)) }
+        ensures sought { IfOk result (λ r.
+            ResumesBy (T.sought iterator) resume_cursor (T.state iterator) (state_of T.state r)) }
         ensures start { IfOk result (λ r. r.start ≡ resume_cursor) }
         ensures sound { IfOk result (λ r. IsSound T.sound T.state r) }
         ensures err { IfErr result (CanFail (is_exact (T.state iterator))) }
@@ -105,7 +114,7 @@ impl<T: RowEntryIterator> ResumingIterator<T> {
         })
     }
 
-    /// The cursor.
+    /// The cursor after which the iterator resumes, if there is one.
     pub fn start(&self) -> Option<&(Bytes, u64)>
         ensures { option_copied result ≡ self.now.start }
     {
@@ -143,8 +152,10 @@ impl<T: RowEntryIterator> RowEntryIterator for ResumingIterator<T> {
     fn seek(&mut self, alloc: Global, next_key: &[u8]) -> Result<(), SlateDBError>
         requires sound { IsSound T.sound T.state self.old }
         requires rising { AreRising (state_of T.state self.old).rows }
-        ensures seek { Seeks next_key.now (state_of T.state self.old) (state_of T.state self.new) result }
-        ensures sought { OnOk result (Sought T.state T.sought self.old next_key.now (state_of T.state self.new)) }
+        ensures seek { Seeks next_key.now
+            (state_of T.state self.old) (state_of T.state self.new) result }
+        ensures sought { OnOk result
+            (Sought T.state T.sought self.old next_key.now (state_of T.state self.new)) }
         ensures uncounted { T.processed self.new.inner.inner ≡ T.processed self.old.inner.inner }
         ensures start { self.new.start ≡ self.old.start }
         ensures sound { IsSound T.sound T.state self.new }
@@ -159,7 +170,8 @@ impl<T: TrackedRowEntryIterator> TrackedRowEntryIterator for ResumingIterator<T>
     }
 }
 
-/// Ordered rows behind a cursor are exactly those that do not stand written.
+/// Of strictly ordered rows, those after a cursor are exactly the rows from its key on that are not
+/// written yet.
 pub fn resumes_behind()
     ensures { ResumesBehind }
 {}

@@ -29,7 +29,7 @@ fn has_greater_key(row: &RowEntry, other: &RowEntry) -> bool
     row.key.cmp(&other.key) == Ordering::Greater
 }
 
-/// Strictly ordered rows rise, so they may be sought.
+/// Strictly ordered rows rise, so iterators over them may be sought.
 pub fn ordered_rows_rise()
     ensures { OrderedRowsRise }
 {}

@@ -1,4 +1,4 @@
--- A claim's cut is never above the floor. Where it knows a retention, it is low enough for every read that was possible
+-- A claim's cut is at most the floor. Under a retention, it is low enough for every read that was possible
 -- within it.
 use Rattle.std.specs.Prelude.{◌≡◌, ◌≢◌, ℕ, ◌-◌, ◌≤◌, IsTrue}
 use Rattle.std.specs.List.{AllByRecursion}
@@ -8,14 +8,16 @@ use Rattle.fleet_model.specs.Store.{Manifest, cut_at}
 use Rattle.fleet_model.specs.Tracker.{is_retained}
 use Rattle.fleet_laws.specs.Midway.{midway_store}
 
--- The cut is never above the floor. A cut that knows the retention is at most the sequence before each flush within it,
--- or 0 where there is none before: what was readable before that flush came stays readable.
+-- A claim's cut is at most the floor. Under a retention, the manifest's cut is also at most the sequence
+-- before the least one of each flush within it. If that least one is 0, the cut is 0. So what was readable
+-- before the flush stays readable.
 pub record CutsAreLow (manifest : Manifest) (moment retention : ℕ) : Type 0 where
   pub floor : (release : Release) → claim_cut release manifest moment retention ≤ manifest.floor
   pub flushes : retention ≢ 0 → AllByRecursion (λ flush. IsTrue (is_retained moment retention flush) → cut_at manifest moment retention ≤ flush.least_seq - 1) manifest.tracker
 
--- A flush with the least sequence 3 came at moment 0, and the retention is 1,000 ms: until then it holds the cut below
--- the floor. A worker of release 1 takes the floor all the same.
+-- A flush with the least sequence 3 came at moment 0, and the retention is 1,000 ms. Before moment 1,000,
+-- that flush holds the cut of a worker of release 2 at 2, and from then on the cut is the floor 4. A worker
+-- of release 1 takes the floor even before.
 pub record MidwayCuts : Type 0 where
   pub within : claim_cut Two midway_store.manifest 999 1000 ≡ 2
   pub after : claim_cut Two midway_store.manifest 1000 1000 ≡ 4

@@ -1,37 +1,37 @@
--- A fleet is in the midst of a job, and its store keeps what was readable within 1,000 ms. A flush came at moment 0. A
--- worker took the job at moment 500, wrote the first two of three versions of a key into a table, and published that
--- table with a heartbeat. The floor is 4, and the cut is 2, which is below the flush's least sequence: so the third
--- version stays.
-use Rattle.std.specs.Prelude.{ℕ, ◌+◌, ◌^◌, List, [], ◌∷◌, true, pos, Some, None}
+-- A fleet in the midst of a job, whose store keeps what was readable within 1,000 ms. A flush came at
+-- moment 0. A worker took the job at moment 500, wrote the first two of three versions of a key into a
+-- table, and published that table with a heartbeat. The floor is 4. The cut is 2, which is below the
+-- flush's least sequence, so the third version stays.
+use Rattle.std.specs.Prelude.{ℕ, ◌+◌, List, [], ◌∷◌, true, pos, Some, None}
 use Rattle.row_model.specs.Rows.{Row, Value}
 use Rattle.row_model.specs.Ranges.{all_keys}
 use Rattle.fleet_model.specs.Nodes.{L0, Tables}
-use Rattle.fleet_model.specs.Jobs.{Job, Running, Context, JobSpec, Two}
+use Rattle.fleet_model.specs.Jobs.{drawn_base, Job, Running, Context, JobSpec, Two}
 use Rattle.fleet_model.specs.History.{Entry, Worker, PutRecords, Beat, Done, Party, Writer, Submitter, Coordinator, Event, Answer, PutManifest, Flush, ManifestEpoch, RecordsEpoch, Submit, Polled, PollChange, Claim, GetManifest, Plan}
 use Rattle.fleet_model.specs.Store.{Store}
 use Rattle.fleet_model.specs.Parties.{Parties}
 
--- A version of the key "a" has one byte.
+-- A version of the key "a", with a value of one byte.
 abbrev pub version : ℕ → ℕ → Row
 version byte seq = record { key = 0x61 ∷ []; content = Value (byte ∷ []); seq = seq; created = None; expires = None }
 
--- The worker drew this id and put this table.
+-- The id that the worker drew, for the table that it put.
 abbrev pub drawn : ℕ
-drawn = 2 ^ 79 + 1
+drawn = drawn_base + 1
 
--- The flush's table and the worker's were put.
+-- The tables that were put: the flush's table and the worker's table.
 abbrev pub tables : Tables
 tables = (1, version 0x35 5 ∷ version 0x34 4 ∷ version 0x33 3 ∷ []) ∷ (drawn, version 0x35 5 ∷ version 0x34 4 ∷ []) ∷ []
 
--- The worker published this context.
+-- The context that the worker published.
 abbrev pub context : Context
 context = record { settings = record { floor = 4; tick = pos 0; last_run = true; cut = 2 }; has_cut = true; ranges = (all_keys, drawn ∷ []) ∷ [] }
 
--- The job makes the run 0 of the flush.
+-- The spec of the job, which makes the run 0 of the flush.
 abbrev pub spec : JobSpec
 spec = record { segment = []; sources = L0 1 ∷ []; destination = Some 0 }
 
--- The job is Running.
+-- The record of the job, which is Running.
 abbrev pub job : Job
 job = record {
   id = 1;
@@ -45,15 +45,16 @@ job = record {
   kept_cut = None;
 }
 
--- An entry has these parts.
+-- An entry of the history with these parts.
 abbrev pub entry : ℕ → Party → Event → Answer → Entry
 entry line party event answer = record { line = line; party = party; event = event; answer = answer }
 
--- The poll opened the job.
+-- The change of the poll that opened the job.
 abbrev pub opened : PollChange
 opened = record { freed = []; completed = []; failed = []; added = []; scheduled = 1 ∷ [] }
 
--- The history has all puts of the manifest and of the records, the get after the claim, and the plan of one range.
+-- The history: all puts of the manifest and of the records, the get after the claim, and the plan of one
+-- range.
 abbrev pub history : List Entry
 history =
     entry 1 Writer (PutManifest (Flush 1 [] 4 (pos 0))) (Done 2)
@@ -67,7 +68,7 @@ history =
     ∷ entry 8 (Worker 1) (PutRecords (Beat 1 ((1, 1) ∷ []))) (Done 5)
     ∷ []
 
--- The store is written out, with its history.
+-- The store of the fleet, with its history.
 abbrev pub midway_store : Store
 midway_store = record {
   manifest = record {
@@ -87,7 +88,7 @@ midway_store = record {
   history = history;
 }
 
--- One coordinator and one worker are live.
+-- The live parties of the fleet: one coordinator and one worker.
 abbrev pub midway_parties : Parties
 midway_parties = record {
   coordinators = record { number = 1; epoch = 1 } ∷ [];

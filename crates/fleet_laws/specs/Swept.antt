@@ -1,22 +1,23 @@
--- The job of the fleet in its midst is finished and its run joined. Then the put of the records is lost, and a sweep
--- comes. The job is still Compacted, the flush's table is deleted, and reads from the horizon on answer as before.
-use Rattle.std.specs.Prelude.{◌≡◌, ℕ, ◌+◌, ◌^◌, List, [], ◌∷◌, ◌++◌, pos, Some, None}
+-- The fleet of the module Midway, later: its job is finished and the job's run is joined. Then the put of
+-- the records is lost, and a sweep comes. The job is still Compacted, the flush's table is deleted, and
+-- reads from the horizon on answer as before.
+use Rattle.std.specs.Prelude.{◌≡◌, ℕ, ◌+◌, List, [], ◌∷◌, ◌++◌, pos, Some, None}
 use Rattle.fleet_model.specs.Nodes.{Run, Tables}
-use Rattle.fleet_model.specs.Jobs.{Job, Compacted}
+use Rattle.fleet_model.specs.Jobs.{drawn_base, Job, Compacted}
 use Rattle.fleet_model.specs.History.{Entry, Worker, Coordinator, Sweeper, GetManifest, GetRecords, PutManifest, PutRecords, Commit, Join, Finish, Polled, PollChange, ListTables, DeleteTable, Done, Lost}
 use Rattle.fleet_model.specs.Store.{Store}
 use Rattle.fleet_model.specs.Sweeps.{swept_tables}
 use Rattle.fleet_laws.specs.Midway.{version, drawn, tables, spec, entry, history, midway_store}
 
--- The finish put the third version into this table.
+-- The id of the table into which the finish put the third version.
 abbrev pub last_drawn : ℕ
-last_drawn = 2 ^ 79 + 2
+last_drawn = drawn_base + 2
 
--- The finish's table was put too.
+-- The tables that were put, with the table of the finish.
 abbrev pub all_tables : Tables
 all_tables = tables ++ (last_drawn, version 0x33 3 ∷ []) ∷ []
 
--- The job keeps the cut of the attempt that finished it.
+-- The record of the finished job, which keeps the cut of the attempt that finished it.
 abbrev pub finished : Job
 finished = record {
   id = 1;
@@ -30,11 +31,12 @@ finished = record {
   kept_cut = Some 2;
 }
 
--- The poll would have completed the job.
+-- The change of the poll that would have completed the job.
 abbrev pub completed : PollChange
 completed = record { freed = []; completed = 1 ∷ []; failed = []; added = []; scheduled = [] }
 
--- The history goes on with the puts of the manifest and of the records that the finish and the poll made.
+-- The history, which goes on with the puts of the manifest and of the records that the finish and the poll
+-- made.
 abbrev pub later_history : List Entry
 later_history =
     history
@@ -43,7 +45,7 @@ later_history =
     ∷ entry 10 (Coordinator 1) (PutRecords (Polled completed)) Lost
     ∷ []
 
--- The join has put the run in place of the flush, and has raised the horizon to the kept cut.
+-- The store after the join: the run has replaced the flush, and the horizon has risen to the kept cut.
 abbrev pub joined_store : Store
 joined_store = record {
   manifest = record {
@@ -63,7 +65,7 @@ joined_store = record {
   history = later_history;
 }
 
--- A sweep has deleted the flush's table, which neither the tree nor the job's outputs name.
+-- The store after a sweep has deleted the flush's table, which neither the tree nor the job's outputs name.
 abbrev pub swept_store : Store
 swept_store = record joined_store {
   deleted = 1 ∷ [];
@@ -76,8 +78,9 @@ swept_store = record joined_store {
       ∷ [];
 }
 
--- While the worker runs the job, a sweep finds nothing: the tree names the flush's table, and the context names the
--- other one. After the join it finds the flush's table, unless that is pinned.
+-- While the worker runs the job, a sweep finds nothing: the tree names the flush's table, and the context
+-- names the worker's table. After the join, a sweep finds the flush's table, unless that is pinned. After
+-- the sweep, another one finds nothing.
 pub record Sweeps : Type 0 where
   pub midway : swept_tables [] midway_store ≡ []
   pub joined : swept_tables [] joined_store ≡ 1 ∷ []

@@ -1,12 +1,12 @@
--- Each call of the store has its answer and leaves a store. A fault may strike a call.
+-- The calls of the store, with their answers and the stores that they leave. A fault may strike a call.
 use Rattle.std.specs.Prelude.{ℕ, ◌+◌, ◌-◌, Bool, true, false, ◌&&◌, ◌==◌, if◌then◌else◌, List, [], ◌∷◌, ◌++◌, length, Option, Some, None}
 use Rattle.row_model.specs.Rows.{Row}
 use Rattle.fleet_model.specs.Jobs.{Jobs, id_of, table_id_of}
 use Rattle.fleet_model.specs.History.{Party, Event, GetManifest, GetRecords, PutTable, PutManifest, PutRecords, DrawJob, DrawTable, ListTables, DeleteTable, ManifestChange, RecordChange, Answer, Done, Absent, Conflict, Lost, Stands, is_get_or_put, GetTable}
 use Rattle.fleet_model.specs.Store.{Manifest, Records, Store, held_tables, is_held}
 
--- A call of the store is a get or a note, which its event tells whole, a draw of the next number under a moment, a put
--- with its value, a list of the held tables, or the deletion of one.
+-- A call of the store. `Plain` is a get or a note, which its event describes completely. The other calls
+-- draw the next number for an id with this moment, put a value, list the held tables, or delete a table.
 pub data Exchange : Type 0 where
   Plain : (event : Event) → Exchange
   DrawsJob : (moment : ℕ) → Exchange
@@ -17,15 +17,15 @@ pub data Exchange : Type 0 where
   ListsTables : Exchange
   DeletesTable : (table : ℕ) → Exchange
 
--- The next draw for a job gives this id.
+-- The id that the next draw for a job gives at this moment.
 abbrev pub next_job_id : ℕ → Store → ℕ
 next_job_id moment store = id_of moment (store.jobs_drawn + 1)
 
--- The next draw for a table gives this id.
+-- The id that the next draw for a table gives at this moment.
 abbrev pub next_table_id : ℕ → Store → ℕ
 next_table_id moment store = table_id_of moment (store.tables_drawn + 1)
 
--- The history tells a call by this event.
+-- The event that the history has for a call.
 abbrev pub event_of : Exchange → Store → Event
 event_of (Plain event) store = event
 event_of (DrawsJob moment) store = DrawJob (next_job_id moment store)
@@ -36,23 +36,23 @@ event_of (PutsRecords version change epoch jobs) store = PutRecords change
 event_of ListsTables store = ListTables (length (held_tables store))
 event_of (DeletesTable table) store = DeleteTable table
 
--- Records that are not there have version 0.
+-- The version of the records, or 0 if there are none.
 abbrev pub records_version : Option Records → ℕ
 records_version None = 0
 records_version (Some records) = records.version
 
--- A get of the records answers their version, or that they are absent.
+-- The answer to a get of the records: their version, or Absent if there are none.
 abbrev pub records_answer : Option Records → Answer
 records_answer None = Absent
 records_answer (Some records) = Done records.version
 
--- A put is done where its version is the stored one, which it raises by one. Else it is in conflict with the stored
--- one.
+-- The answer to a put. If its version is the stored one, the put is done and raises that version by one.
+-- Otherwise it is in conflict with the stored version.
 abbrev pub put_answer : ℕ → ℕ → Answer
 put_answer version there = if version == there then Done (there + 1) else Conflict there
 
--- A call that no fault strikes has this answer. A get answers the version stored, and a table that is not held is
--- absent.
+-- The answer to a call that no fault strikes. A get of the manifest or the records answers the stored
+-- version. A get of a table that is not held answers Absent.
 abbrev pub answer_of : Exchange → Store → Answer
 answer_of (Plain GetManifest) store = Done store.manifest.version
 answer_of (Plain GetRecords) store = records_answer store.records
@@ -66,7 +66,7 @@ answer_of (PutsRecords version change epoch jobs) store = put_answer version (re
 answer_of ListsTables store = Done 0
 answer_of (DeletesTable table) store = Done 0
 
--- A call that no fault strikes leaves this store, its entry in the history aside.
+-- The store after a call that no fault strikes, without the call's entry in the history.
 abbrev pub performed : Exchange → Store → Store
 performed (Plain event) store = store
 performed (DrawsJob moment) store = record store { jobs_drawn = store.jobs_drawn + 1 }
@@ -77,44 +77,48 @@ performed (PutsRecords version change epoch jobs) store = if version == records_
 performed ListsTables store = store
 performed (DeletesTable table) store = record store { deleted = store.deleted ++ table ∷ [] }
 
--- An entry comes to the end of the history.
+-- Adds an entry to the end of the history.
 abbrev pub logged : ℕ → Party → Event → Answer → Store → Store
 logged line party event answer store = record store { history = store.history ++ record { line = line; party = party; event = event; answer = answer } ∷ [] }
 
--- A call that no fault strikes leaves this store, with its entry.
+-- The store after a call that no fault strikes, with the call's entry in the history.
 abbrev pub answered : ℕ → Party → Exchange → Store → Store
 answered line party x store = logged line party (event_of x store) (answer_of x store) (performed x store)
 
--- A fault waits for the k-th get or put from now on. A put that it strikes stands or is lost.
+-- A fault waits for the k-th get or put from now on. A put that it strikes stands, which means that it
+-- takes effect, or is lost.
 pub record Fault : Type 0 where
-  pub k : ℕ  -- 1 where the next get or put is struck
+  pub k : ℕ  -- 1 if the next get or put is struck
   pub stands : Bool
 
--- The fault strikes this event, which is the get or put that it waits for.
+-- True if the fault strikes this event: it is the get or put that the fault waits for.
 abbrev pub strikes : Event → Option Fault → Bool
 strikes event None = false
 strikes event (Some fault) = is_get_or_put event && (fault.k == 1)
 
--- A get or a put brings the fault nearer by one.
+-- Brings the fault nearer by one, if the event counts as a get or a put.
 abbrev pub one_less : Bool → Fault → Fault
 one_less counts fault = record fault { k = if counts then fault.k - 1 else fault.k }
 
--- After an event that it does not strike, a fault goes on waiting.
+-- The fault after an event that it does not strike, if there is a fault.
 abbrev pub waiting_after : Event → Option Fault → Option Fault
 waiting_after event None = None
 waiting_after event (Some fault) = Some (one_less (is_get_or_put event) fault)
 
--- The fault lets a put that it strikes stand.
+-- True if there is a fault, and a put that it strikes stands.
 abbrev pub does_stand : Option Fault → Bool
 does_stand None = false
 does_stand (Some fault) = fault.stands
 
--- A struck put that would be refused is lost, whatever the fault: nothing stood.
+-- The answer to a struck call, given its answer without a fault, if the fault lets calls stand. A put that
+-- would be in conflict is lost, since it changes nothing.
 abbrev pub stands_or_lost : Answer → Answer
 stands_or_lost (Conflict version) = Lost
 stands_or_lost _ = Stands
 
--- A struck call has the fault's answer. A call that stands is performed, and one that is lost changes nothing.
+-- The store after a struck call. If the flag is true, the call is performed and stands, except that a put
+-- in conflict is lost. If the flag is false, the call is lost. In both cases the history has an entry for
+-- the call.
 abbrev pub struck_by : Bool → ℕ → Party → Exchange → Store → Store
 struck_by true line party x store = logged line party (event_of x store) (stands_or_lost (answer_of x store)) (performed x store)
 struck_by false line party x store = logged line party (event_of x store) Lost store

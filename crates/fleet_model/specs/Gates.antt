@@ -1,4 +1,5 @@
--- A job must pass rules as it is opened and as it is committed. Replies and lists name a rule by its number.
+-- The rules that a job must pass when it is opened and when it is committed. Replies and lists give a rule
+-- by its number.
 use Rattle.std.specs.Prelude.{ℕ, Bool, true, false, not, ◌&&◌, ◌||◌, ◌==◌, if◌then◌else◌, List, [], ◌∷◌, Option, Some, None, is_some, bytes_eq}
 use Rattle.std.specs.List.{list_all}
 use Rattle.fleet_model.specs.Nodes.{NodeName, L0, Run, is_l0, names_contain, Tree, names, Trees, segment_at, tree_at}
@@ -6,51 +7,55 @@ use Rattle.fleet_model.specs.Jobs.{JobSpec, nodes_of, is_drain, Job, Jobs, Sched
 use Rattle.fleet_model.specs.Trees.{source_pieces}
 use Rattle.fleet_model.specs.Sources.{run_ids, is_apart, all_run_ids, is_whole_stretch, is_lowest_or_above}
 
--- The rules are asked one after the other, and the first that fails is named by its number.
+-- The number of the first rule in the list that fails, or None if all rules hold.
 abbrev pub first_failing : List (ℕ × Bool) → Option ℕ
 first_failing [] = None
 first_failing (rule ∷ rules) = if rule.1 then first_failing rules else Some rule.0
 
--- No node is named twice.
+-- True if no node is named twice.
 abbrev pub are_distinct : List NodeName → Bool
 are_distinct [] = true
 are_distinct (x ∷ xs) = not (names_contain xs x) && are_distinct xs
 
--- The list has an element.
+-- True if the list has an element.
 abbrev pub is_nonempty : {A : Type 0} → List A → Bool
 is_nonempty [] = false
 is_nonempty (x ∷ xs) = true
 
--- Every flush that is older than the newest named one is named too.
+-- True if every flush that is older than the newest named flush is named too.
 abbrev pub names_older : List NodeName → List NodeName → Bool
 names_older sources [] = true
 names_older sources (L0 name ∷ rest) = if names_contain sources (L0 name) then list_all (λ other. not (is_l0 other) || names_contain sources other) rest else names_older sources rest
 names_older sources (Run id ∷ rest) = names_older sources rest
 
--- Rule 7 holds of the destination.
+-- True if there is no destination, or if it passes rule 7. It must not be 4,294,967,295. It must be the
+-- lowest source run or, if no run is a source, above all runs of all trees.
 abbrev pub destination_fits : Trees → List NodeName → Option ℕ → Bool
 destination_fits trees sources None = true
 destination_fits trees sources (Some id) = not (id == 4294967295) && is_lowest_or_above id (run_ids sources) (all_run_ids trees)
 
--- A Scheduled, Running or Compacted job holds its sources and its destination.
+-- True if the job holds its sources and its destination. A Scheduled, Running or Compacted job holds them.
 abbrev pub reserves_nodes : Job → Bool
 reserves_nodes job = has_status Scheduled job || has_status Running job || has_status Compacted job
 
--- The job touches no node that another job holds. Those that a poll's commits lost to the scheduler's rule still hold
--- theirs.
+-- True if the job touches no node that another job holds. A job whose commit failed in this poll by the
+-- scheduler's rule still holds its nodes.
 abbrev pub is_free : Jobs → List ℕ → Job → Bool
 is_free jobs lost job = list_all (λ other. (job.id == other.id) || not (reserves_nodes other || contains lost other.id) || is_apart (nodes_of job.spec) (nodes_of other.spec)) jobs
 
--- These rules are asked in this order, and a reply names the first that fails by its number.
--- 1: there are sources, and each is named once.
--- 2: a drain is not of the root.
--- 3: the segment has a tree.
--- 4: every source is in it.
--- 5: the sources of a run stand in it one after the other, and reach its oldest flush where they name one.
--- 6: a drain names every flush older than its newest one.
--- 7: the run is not 4,294,967,295, and is the lowest source run or, where there is none, above all runs of all trees.
--- 8: no other job holds a source or the destination.
--- 0: the scheduler accepts the job.
+-- The rules for a submitted job, in the order in which they are asked. A reply gives the number of the first
+-- rule that fails.
+-- 1: There are sources, and each is named once.
+-- 2: A drain is not of the root segment.
+-- 3: The segment has a tree.
+-- 4: Every source is in that tree.
+-- 5: The sources of a run are in the tree one after the other. If one is a flush, they reach the oldest
+--    flush.
+-- 6: A drain names every flush that is older than the newest flush that it names.
+-- 7: A run's id is not 4,294,967,295. It is the lowest source run or, if no run is a source, is above all
+--    runs of all trees.
+-- 8: No other job holds a source or the destination.
+-- 0: The scheduler accepts the job.
 abbrev pub submitted_rules : Trees → Jobs → List ℕ → (JobSpec → Bool) → Job → Tree → List (ℕ × Bool)
 submitted_rules trees jobs lost accepts job tree =
     let spec = job.spec in
@@ -65,12 +70,12 @@ submitted_rules trees jobs lost accepts job tree =
     ∷ (0, accepts spec)
     ∷ []
 
--- A submitted job passes the gate, or it fails by this rule.
+-- The number of the first rule that a submitted job fails, or None if the job passes the gate.
 abbrev pub submit_gate : Trees → Jobs → List ℕ → (JobSpec → Bool) → Job → Option ℕ
 submit_gate trees jobs lost accepts job = first_failing (submitted_rules trees jobs lost accepts job (tree_at job.spec.segment trees))
 
--- A Compacted job passes the gate, or it fails by this rule. Rule 10 asks that its sources hold the tables that they
--- held as it was opened.
+-- The number of the first rule that a Compacted job fails, or None if the job passes the gate. Rule 10 says
+-- that its sources have the tables that they had when the job was opened.
 abbrev pub commit_gate : Trees → (JobSpec → Bool) → Job → Option ℕ
 commit_gate trees accepts job =
     let spec = job.spec in

@@ -1,4 +1,4 @@
--- A handle tells of a table what is known without its rows.
+-- A handle describes a table without its rows.
 use Rattle.std.specs.Prelude.{◌≡◌, ℕ, IsTrue, List, [], ◌∷◌, ◌++◌, map, flat_map, length, Option, Some, None}
 use Rattle.std.specs.List.{concat, AllByRecursion}
 use Rattle.row_model.specs.Rows.{Row}
@@ -7,22 +7,23 @@ use Rattle.fleet_model.specs.Nodes.{Tables, table_rows, is_among, Segment, Trees
 use Rattle.fleet_model.specs.Jobs.{Context, Job, Jobs}
 use Rattle.fleet_model.specs.Trees.{first_key, last_key}
 
--- A handle has the keys at both ends of a table, the sequence of its last row, its sizes and its blocks.
+-- A handle has the first and the last key of a table, the sequence of its last row, its sizes and its
+-- blocks.
 pub record Handle : Type 0 where
   pub id : ℕ
   pub first_key : List ℕ
   pub last_key : List ℕ
-  pub last_seq : ℕ  -- of the last row
+  pub last_seq : ℕ  -- the sequence of the last row
   pub rows : ℕ  -- how many rows it has
   pub size : ℕ  -- the sum of its rows' estimated sizes, in bytes
   pub blocks : List Block
 
--- The last row has this sequence.
+-- The sequence of the last row, or the given sequence if there are no rows.
 abbrev pub seq_of_last : ℕ → List Row → ℕ
 seq_of_last seq [] = seq
 seq_of_last seq (r ∷ rows) = seq_of_last r.seq rows
 
--- A table of these rows has this handle.
+-- The handle of a table with this id and these rows.
 abbrev pub describe : ℕ → List Row → Handle
 describe id rows = record {
   id = id;
@@ -34,31 +35,31 @@ describe id rows = record {
   blocks = blocks rows;
 }
 
--- These tables have these handles.
+-- The handles of the tables with these ids.
 abbrev pub described : Tables → List ℕ → List Handle
 described tables ids = map (λ id. describe id (table_rows tables id)) ids
 
--- A context names the tables noted for its ranges.
+-- The tables that are noted for the ranges of a context, if there is a context.
 abbrev pub context_tables : Option Context → List ℕ
 context_tables None = []
 context_tables (Some context) = flat_map (λ range. range.1) context.ranges
 
--- A tree names the tables of its nodes.
+-- The tables of the nodes of a segment's tree.
 abbrev pub tree_tables : Segment → List ℕ
 tree_tables s = flat_map (λ node. node.pieces) s.tree
 
--- A job names tables in its context and in its outputs.
+-- The tables that a job names in its context and in its outputs.
 abbrev pub job_tables : Job → List ℕ
 job_tables job = context_tables job.context ++ concat job.outputs
 
--- Trees and jobs name these tables.
+-- The tables that trees and jobs name.
 abbrev pub named_tables : Trees → Jobs → List ℕ
 named_tables trees jobs = flat_map tree_tables trees ++ flat_map job_tables jobs
 
--- This handle is the one that a table of these has.
+-- A table among these has this handle.
 abbrev pub HandleFits : Tables → Handle → Type 0
 HandleFits tables h = IsTrue (is_among tables h.id) × (h ≡ describe h.id (table_rows tables h.id))
 
--- Each of these handles is the one that a table of these has.
+-- Each of these handles is the handle of a table among these.
 abbrev pub HandlesFit : Tables → List Handle → Type 0
 HandlesFit tables handles = AllByRecursion (HandleFits tables) handles

@@ -1,48 +1,54 @@
--- A compaction job has a spec, and its record tells how far it is, who works at it and what it wrote.
+-- A compaction job has a spec. Its record gives its status, the worker that has it and the tables that it
+-- wrote.
 use Rattle.std.specs.Prelude.{ℕ, ◌*◌, ◌+◌, ◌%◌, ◌^◌, Bool, true, false, ◌||◌, ◌==◌, nat_lt, if◌then◌else◌, List, [], ◌∷◌, map, find, Option, Some, None, ◌-◌, ◌&&◌}
 use Rattle.fleet_model.specs.Nodes.{NodeName, Run}
 use Rattle.row_model.specs.Settings.{Settings}
 use Rattle.row_model.specs.Ranges.{Range}
 
--- An id is its moment's low 48 bits above a number of 80 bits.
+-- The id with this moment and number: the low 48 bits of the moment, above 80 bits for the number.
 abbrev pub id_of : ℕ → ℕ → ℕ
 id_of moment number = (moment % 2 ^ 48) * 2 ^ 80 + number
 
--- An id's number is its low 80 bits. Jobs are numbered from 1.
+-- The number of an id, which is its low 80 bits. Jobs are numbered from 1.
 abbrev pub number_of : ℕ → ℕ
 number_of id = id % 2 ^ 80
 
--- The tables that jobs write are numbered from 2^79 + 1.
-abbrev pub table_id_of : ℕ → ℕ → ℕ
-table_id_of moment number = id_of moment (2 ^ 79 + number)
+-- Tables that jobs write have numbers above this one. Flushed tables and jobs have numbers below it.
+abbrev pub drawn_base : ℕ
+drawn_base = 2 ^ 79
 
--- A job takes these nodes of a segment and makes a run of them with the destination as its id. A job without a
--- destination is a drain, which drops the nodes.
+-- The id of a table that a job writes, by the moment and the number of its draw, from 1.
+abbrev pub table_id_of : ℕ → ℕ → ℕ
+table_id_of moment number = id_of moment (drawn_base + number)
+
+-- The spec of a job: it takes these source nodes of a segment, and makes of them a run with the destination
+-- as its id. A job without a destination is a drain, which drops the source nodes.
 pub record JobSpec : Type 0 where
   pub segment : List ℕ
   pub sources : List NodeName
   pub destination : Option ℕ
 
--- A drain has no destination.
+-- True if there is no destination, so the job is a drain.
 abbrev pub is_drain_to : Option ℕ → Bool
 is_drain_to None = true
 is_drain_to (Some run) = false
 
--- The job is a drain.
+-- True if the job is a drain.
 abbrev pub is_drain : JobSpec → Bool
 is_drain spec = is_drain_to spec.destination
 
--- The destination, where there is one, is put before the sources.
+-- Puts the destination, if there is one, in front of the sources.
 abbrev pub with_destination : Option ℕ → List NodeName → List NodeName
 with_destination None sources = sources
 with_destination (Some run) sources = Run run ∷ sources
 
--- A job touches its sources and its destination.
+-- The nodes that a job touches: its destination, if it has one, and its sources.
 abbrev pub nodes_of : JobSpec → List NodeName
 nodes_of spec = with_destination spec.destination spec.sources
 
--- A Submitted job is asked for, a Scheduled one waits for a worker, and a worker has a Running one. A Compacted job has
--- written its tables and waits for its commit. A Completed or Failed job is over.
+-- The status of a job. A Submitted job was asked for, a Scheduled job waits for a worker, and a Running job
+-- has a worker. A Compacted job has written its tables and waits for its commit. A Completed or Failed job
+-- is over.
 pub data Status : Type 0 where
   Submitted : Status
   Scheduled : Status
@@ -51,7 +57,7 @@ pub data Status : Type 0 where
   Completed : Status
   Failed : Status
 
--- A finished job is over.
+-- True if a job with this status is over.
 abbrev pub is_finished : Status → Bool
 is_finished Submitted = false
 is_finished Scheduled = false
@@ -60,7 +66,7 @@ is_finished Compacted = false
 is_finished Completed = true
 is_finished Failed = true
 
--- Two statuses are the same.
+-- True if both statuses are equal.
 abbrev pub status_eq : Status → Status → Bool
 status_eq Submitted Submitted = true
 status_eq Scheduled Scheduled = true
@@ -70,18 +76,18 @@ status_eq Completed Completed = true
 status_eq Failed Failed = true
 status_eq _ _ = false
 
--- A worker is of one of two releases. One of release 1 knows no cut, and goes by its floor.
+-- The release of a worker. A worker of release 1 knows no cut, and uses its floor instead.
 pub data Release : Type 0 where
   One : Release
   Two : Release
 
--- A worker of release 2 knows cuts.
+-- True if a worker of this release knows cuts, as a worker of release 2 does.
 abbrev pub knows_cut : Release → Bool
 knows_cut One = false
 knows_cut Two = true
 
--- A context has an attempt's settings, and its ranges with the tables made for each so far. A worker of release 1
--- publishes it without a cut: then the cut of the settings is their floor.
+-- The context of an attempt: its settings, and its ranges with the tables made for each so far. A worker of
+-- release 1 publishes it without a cut, and then the cut of the settings is their floor.
 pub record Context : Type 0 where
   pub settings : Settings
   pub has_cut : Bool
@@ -92,7 +98,7 @@ pub record Lease : Type 0 where
   pub worker : ℕ
   pub heartbeat : ℕ  -- in milliseconds
 
--- The record of a job tells how far it is, who works at it, and what it wrote.
+-- The record of a job: its spec, its status, the worker that has it, and the tables that it wrote.
 pub record Job : Type 0 where
   pub id : ℕ
   pub spec : JobSpec
@@ -102,68 +108,69 @@ pub record Job : Type 0 where
   pub source_tables : List ℕ  -- the source nodes' tables as the job was opened
   pub context : Option Context  -- as the last heartbeat published it
   pub outputs : List (List ℕ)  -- range by range, the tables of a job that was made Compacted
-  pub kept_cut : Option ℕ  -- the cut of the attempt that made the job Compacted, where its worker knew one
+  pub kept_cut : Option ℕ  -- the cut of the attempt that made the job Compacted, if its worker knew one
 
--- Jobs stand by rising id.
+-- Jobs, by rising id.
 abbrev pub Jobs : Type 0
 Jobs = List Job
 
--- The job has this status.
+-- True if the job has this status.
 abbrev pub has_status : Status → Job → Bool
 has_status status job = status_eq status job.status
 
--- A job is active until it is finished.
+-- True if the job is not finished.
 abbrev pub is_active : Job → Bool
 is_active job = if is_finished job.status then false else true
 
--- A job is found by its id.
+-- The job with this id, if there is one.
 abbrev pub job_with : ℕ → Jobs → Option Job
 job_with id jobs = find (λ job. id == job.id) jobs
 
--- The jobs have these ids.
+-- The ids of the jobs, in their order.
 abbrev pub ids : Jobs → List ℕ
 ids jobs = map (λ job. job.id) jobs
 
--- The number stands in the list.
+-- True if the number is in the list.
 abbrev pub contains : List ℕ → ℕ → Bool
 contains [] n = false
 contains (x ∷ xs) n = if x == n then true else contains xs n
 
--- An id is put before the first greater one.
+-- Inserts an id in front of the first greater id.
 abbrev pub put_id : ℕ → List ℕ → List ℕ
 put_id id [] = id ∷ []
 put_id id (other ∷ others) = if nat_lt id other then id ∷ other ∷ others else other ∷ put_id id others
 
--- The ids stand in rising order.
+-- The ids in rising order.
 abbrev pub in_id_order : List ℕ → List ℕ
 in_id_order [] = []
 in_id_order (id ∷ others) = put_id id (in_id_order others)
 
--- The jobs of these ids are changed, and all others stay.
+-- Changes the jobs with these ids, and leaves all others as they are.
 abbrev pub changed : (Job → Job) → List ℕ → Jobs → Jobs
 changed change these jobs = map (λ job. if contains these job.id then change job else job) jobs
 
--- A job is put among others by its id.
+-- Inserts a job in front of the first job with a greater id.
 abbrev pub put_job : Job → Jobs → Jobs
 put_job new [] = new ∷ []
 put_job new (job ∷ jobs) = if nat_lt new.id job.id then new ∷ job ∷ jobs else job ∷ put_job new jobs
 
--- A lease is overdue where more than the timeout, in milliseconds, went by since its heartbeat. A job without a lease
--- is overdue too.
+-- True if more than the timeout, in milliseconds, has passed since the lease's last heartbeat, or if there
+-- is no lease.
 abbrev pub is_overdue : ℕ → ℕ → Option Lease → Bool
 is_overdue timeout moment None = true
 is_overdue timeout moment (Some lease) = nat_lt timeout (moment - lease.heartbeat)
 
--- A Running job is stale where its lease is overdue.
+-- True if the job is Running and its lease is overdue.
 abbrev pub is_stale : ℕ → ℕ → Job → Bool
 is_stale timeout moment job = has_status Running job && is_overdue timeout moment job.lease
 
--- One of these jobs is finished.
+-- True if one of these jobs is finished.
 abbrev pub finished_later : Jobs → Bool
 finished_later [] = false
 finished_later (job ∷ jobs) = is_finished job.status || finished_later jobs
 
--- A put of the records keeps the active jobs, and of the finished ones only that of greatest id.
+-- The jobs that a put of the records keeps: all active jobs and, of the finished jobs, the one with the
+-- greatest id.
 abbrev pub trimmed : Jobs → Jobs
 trimmed [] = []
 trimmed (job ∷ jobs) = if is_active job then job ∷ trimmed jobs else (if finished_later jobs then trimmed jobs else job ∷ trimmed jobs)

@@ -9,16 +9,17 @@ use Rattle.fleet_model.specs.Records.{new_job, to_waiting, to_scheduled, to_comp
 use Rattle.fleet_model.specs.Gates.{submit_gate, commit_gate, is_nonempty}
 pub use Rattle.fleet_model.specs.PollStates.{PollOptions, PollInput, PollState, begun, view_of, accepts}
 
--- The jobs of these ids are freed.
+-- Frees the jobs with these ids, so that they wait for a worker again.
 abbrev pub with_freed : List ℕ → PollState → PollState
 with_freed these p = record p { jobs = changed to_waiting these p.jobs; freed = these }
 
--- Step 1: stale jobs wait for a worker again.
+-- Step 1 frees the stale jobs, so that they wait for a worker again.
 abbrev pub free_stale : PollInput → PollState → PollState
 free_stale input p = with_freed (ids (filter (is_stale input.options.timeout input.moment) p.jobs)) p
 
--- Step 2: the run of a Compacted job comes in place of its sources, and the horizon rises to its cut, or to the floor
--- where the job kept no cut. Or the job fails.
+-- Step 2, for one job. If a rule of the gate failed, the job fails. Otherwise its run replaces its sources.
+-- The horizon rises to the cut that the job kept, or to the floor if it kept none, unless it is higher
+-- already.
 abbrev pub commit_by : PollInput → Job → Option ℕ → PollState → PollState
 commit_by input job (Some rule) p = record p { jobs = changed to_failed (job.id ∷ []) p.jobs; lost = p.lost ++ (job.id, rule) ∷ [] }
 commit_by input job None p = record p {
@@ -29,55 +30,58 @@ commit_by input job None p = record p {
   done = p.done ++ job.id ∷ [];
 }
 
--- A Compacted job passes the gate or fails it.
+-- Commits a Compacted job that passes the gate. A job that does not pass fails.
 abbrev pub commit_job : PollInput → Job → PollState → PollState
 commit_job input job p = commit_by input job (commit_gate p.trees (accepts input p) job) p
 
--- A step is taken for each job, in order.
+-- Takes a step for each job, in order.
 abbrev pub each : (Job → PollState → PollState) → Jobs → PollState → PollState
 each step [] p = p
 each step (job ∷ jobs) p = each step jobs (step job p)
 
--- All Compacted jobs are committed or fail.
+-- Step 2 commits all Compacted jobs that pass the gate. The others fail.
 abbrev pub commit_finished : PollInput → PollState → PollState
 commit_finished input p = each (commit_job input) (filter (has_status Compacted) p.jobs) p
 
--- Two specs make the same run, or are drains of one segment.
+-- True if both destinations are the same run, or if both jobs are drains and of one segment.
 abbrev pub same_target : Option ℕ → Option ℕ → Bool → Bool
 same_target None None same_segment = same_segment
 same_target None (Some b) same_segment = false
 same_target (Some a) None same_segment = false
 same_target (Some a) (Some b) same_segment = a == b
 
--- The job is active, and the spec clashes with it.
+-- True if the job is active and has the target of the spec: both make the same run, or both are drains of
+-- one segment.
 abbrev pub clashes : JobSpec → Job → Bool
 clashes spec job = is_active job && same_target spec.destination job.spec.destination (bytes_eq spec.segment job.spec.segment)
 
--- Step 3: a proposal becomes a job, or it is dropped where it clashes with an active job.
+-- Step 3, for one proposal. It is dropped if it clashes with an active job, and becomes a job otherwise.
 abbrev pub add_by : ℕ → ℕ → JobSpec → Bool → PollState → PollState
 add_by id place spec true p = record p { dropped = p.dropped ++ place ∷ [] }
 add_by id place spec false p = record p { jobs = put_job (new_job (id, spec)) p.jobs; added = p.added ++ (id, spec) ∷ [] }
 
--- An id was drawn for each proposal, also for one that is dropped. The places of proposals count on from the one given.
+-- Step 3 adds the proposals. An id was drawn for each of them, even for one that is dropped. Their places
+-- count on from the given one.
 abbrev pub add_drawn : ℕ → List (ℕ × JobSpec) → PollState → PollState
 add_drawn place [] p = p
 add_drawn place (drawn ∷ others) p = add_drawn (place + 1) others (add_by drawn.0 place drawn.1 (list_any (clashes drawn.1) p.jobs) p)
 
--- Proposals are taken up to the capacity that Running jobs leave.
+-- The proposals that a poll takes, at most as many as the Running jobs leave room for.
 abbrev pub proposals : PollInput → PollState → List JobSpec
 proposals input p = take (input.options.concurrent - count_by (has_status Running) p.jobs) (input.scheduler.propose (view_of input p))
 
--- Step 4: a job can be moved where its source tables lie apart and there is at least one.
+-- True if step 4 can move a job: moves are allowed, its sources have at least one table, and, in order of
+-- first key, each table ends before the next one begins.
 abbrev pub can_move : PollInput → Trees → JobSpec → Bool
 can_move input trees spec =
     let pieces = by_first_key input.tables (source_pieces spec.sources (tree_at spec.segment trees)) in
     input.options.moves && is_nonempty pieces && are_apart input.tables pieces
 
--- These jobs lost their commits to the scheduler's rule.
+-- The jobs whose commits failed by the scheduler's rule, which is rule 0.
 abbrev pub lost_to_scheduler : List (ℕ × ℕ) → List ℕ
 lost_to_scheduler lost = firsts (filter (λ l. l.1 == 0) lost)
 
--- A step on the trees completes the job at once.
+-- Takes a step on the trees that completes the job at once.
 abbrev pub at_once : PollInput → Step → Job → PollState → PollState
 at_once input step job p = record p {
   trees = stepped_in input.tables step job.spec [] p.trees;
@@ -85,38 +89,39 @@ at_once input step job p = record p {
   steps = p.steps ++ step ∷ [];
 }
 
--- A drain is done at once.
+-- Drains the sources of a job, which completes the job at once.
 abbrev pub drain_job : PollInput → Job → PollState → PollState
 drain_job input job p = let q = at_once input (Drain job.id) job p in record q { drained = q.drained ++ job.id ∷ [] }
 
--- A move is done at once.
+-- Moves the tables of a job's sources, which completes the job at once.
 abbrev pub move_job : PollInput → Job → PollState → PollState
 move_job input job p = let q = at_once input (Move job.id) job p in record q { moved = q.moved ++ job.id ∷ [] }
 
--- A job is opened with the tables that its sources have now.
+-- Opens a job with the tables that its sources have now. The job then waits for a worker.
 abbrev pub schedule_job : Job → PollState → PollState
 schedule_job job p = record p { jobs = changed (to_scheduled (tables_now p.trees)) (job.id ∷ []) p.jobs; opened = p.opened ++ job.id ∷ [] }
 
--- A submitted job is drained, moved or opened, or it fails.
+-- Step 4, for one job. If a rule of the gate failed, the job fails. Otherwise it is drained, moved or
+-- opened.
 abbrev pub open_by : PollInput → Job → Option ℕ → PollState → PollState
 open_by input job (Some rule) p = record p { jobs = changed to_failed (job.id ∷ []) p.jobs; refused = p.refused ++ (job.id, rule) ∷ [] }
 open_by input job None p =
     if is_drain job.spec then drain_job input job p
     else (if can_move input p.trees job.spec then move_job input job p else schedule_job job p)
 
--- A submitted job passes the gate or fails it.
+-- Opens, moves or drains a submitted job that passes the gate. A job that does not pass fails.
 abbrev pub open_job : PollInput → Job → PollState → PollState
 open_job input job p = open_by input job (submit_gate p.trees p.jobs (lost_to_scheduler p.lost) (accepts input p) job) p
 
--- All submitted jobs are opened or fail.
+-- Step 4 opens, moves or drains all submitted jobs that pass the gate. The others fail.
 abbrev pub open_submitted : PollInput → PollState → PollState
 open_submitted input p = each (open_job input) (filter (has_status Submitted) p.jobs) p
 
--- A coordinator that only commits takes the second step alone.
+-- The state after the poll of a coordinator that only commits: it takes step 2 alone.
 unfoldable pub committed : PollInput → PollState
 committed input = commit_finished input (begun input.manifest.trees input.manifest.horizon input.records.jobs)
 
--- A poll puts this change of the records, with each of its lists by rising id.
+-- The change of the records that a poll puts. The completed and the failed jobs are by rising id.
 abbrev pub change_of : PollState → PollChange
 change_of p = record {
   freed = p.freed;
@@ -126,6 +131,6 @@ change_of p = record {
   scheduled = p.opened;
 }
 
--- The change names no job.
+-- True if the change names no job.
 abbrev pub is_nothing : PollChange → Bool
 is_nothing c = not (is_nonempty c.freed || is_nonempty c.completed || is_nonempty c.failed || is_nonempty (firsts c.added) || is_nonempty c.scheduled)

@@ -1,4 +1,4 @@
--- A scheduler is shown a view, and proposes, accepts and generates jobs.
+-- A scheduler is shown a view. It proposes jobs, accepts or refuses them, and generates jobs for requests.
 use Rattle.std.specs.Prelude.{ℕ, Bool, List, not, [], ◌∷◌, filter, filter_map, Option, Some, None}
 use Rattle.fleet_model.specs.Nodes.{Tables, is_l0, names, Segment, segment_at}
 use Rattle.fleet_model.specs.Jobs.{Jobs, JobSpec, is_active}
@@ -6,8 +6,9 @@ use Rattle.fleet_model.specs.Store.{Manifest, Records}
 use Rattle.fleet_model.specs.Sources.{run_ids}
 use Rattle.fleet_model.specs.Handles.{Handle, described, named_tables}
 
--- The scheduler is shown the manifest, the active jobs with the version and epoch of their object, and the handles of
--- all tables that these name, in that order.
+-- What the scheduler is shown: the manifest, the version and epoch of the job records, the active jobs, and
+-- handles of tables. The handles are of all tables that the trees name, and then of all that these jobs
+-- name.
 pub record View : Type 0 where
   pub manifest : Manifest
   pub records_version : ℕ
@@ -15,7 +16,7 @@ pub record View : Type 0 where
   pub jobs : Jobs
   pub handles : List Handle
 
--- A view shows only active jobs.
+-- The view of a manifest, records and jobs. It shows only the active jobs.
 abbrev pub shown : Tables → Manifest → Records → Jobs → View
 shown tables manifest records jobs =
     let active = filter is_active jobs in
@@ -27,50 +28,50 @@ shown tables manifest records jobs =
       handles = described tables (named_tables manifest.trees active);
     }
 
--- A user asks to compact every tree whole, one tree whole, or by one spec.
+-- A request of a user: to compact every tree whole, one tree whole, or by one spec.
 pub data Request : Type 0 where
   Full : Request
   FullSegment : (segment : List ℕ) → Request
   OneSpec : (spec : JobSpec) → Request
 
--- The answer has specs, or it refuses the request, with a message or without.
+-- The answer to a request: specs of jobs, or a refusal with or without a message.
 pub data Generated : Type 0 where
   Specs : (specs : List JobSpec) → Generated
   Invalid : Generated
   Declined : (message : List ℕ) → Generated
 
--- The answers of a scheduler are functions of what it is shown.
+-- A scheduler. Its answers are functions of what it is shown.
 pub record Scheduler : Type 0 where
   pub propose : View → List JobSpec
   pub validate : View → JobSpec → Bool  -- the job is accepted
   pub generate : View → Request → Generated
 
--- The list ends with this number, unless it is empty.
+-- The last number of the list, or None if the list is empty.
 abbrev pub last_of : List ℕ → Option ℕ
 last_of [] = None
 last_of (x ∷ []) = Some x
 last_of (x ∷ y ∷ xs) = last_of (y ∷ xs)
 
--- All runs of the tree go into this one.
+-- The spec that merges all runs of the tree into the given run, if one is given.
 abbrev pub into_lowest : Segment → Option ℕ → Option JobSpec
 into_lowest s None = None
 into_lowest s (Some lowest) = Some (record { segment = s.prefix; sources = filter (λ name. not (is_l0 name)) (names s.tree); destination = Some lowest })
 
--- All runs of a tree go into its lowest one. There is no spec where the tree has no runs.
+-- The spec that merges all runs of a tree into the last run. It is None if the tree has no runs.
 abbrev pub full_spec : Segment → Option JobSpec
 full_spec s = into_lowest s (last_of (run_ids (names s.tree)))
 
--- A request that has no spec is invalid.
+-- The answer with one spec, or Invalid if there is no spec.
 abbrev pub one_or_invalid : Option JobSpec → Generated
 one_or_invalid None = Invalid
 one_or_invalid (Some spec) = Specs (spec ∷ [])
 
--- A segment that is not there has no spec.
+-- The spec that merges all runs of a segment's tree. It is None if there is no segment or no run.
 abbrev pub full_spec_at : Option Segment → Option JobSpec
 full_spec_at None = None
 full_spec_at (Some s) = full_spec s
 
--- A scheduler that has no answer of its own generates these.
+-- The answer of a scheduler that has no answer of its own to requests.
 abbrev pub default_generate : View → Request → Generated
 default_generate view Full = Specs (filter_map full_spec view.manifest.trees)
 default_generate view (FullSegment segment) = one_or_invalid (full_spec_at (segment_at segment view.manifest.trees))

@@ -6,141 +6,144 @@ use Rattle.fleet_model.specs.Nodes.{Tables, table_rows, NodeName, L0, Run, names
 use Rattle.fleet_model.specs.Jobs.{JobSpec}
 use Rattle.fleet_model.specs.History.{Step, Join, Move, Drain}
 
--- The sources are these nodes of the tree, in the order of their names.
+-- The nodes of the tree that are sources, in the order of the sources' names.
 abbrev pub source_nodes : List NodeName → Tree → List Node
 source_nodes sources tree = filter_map (λ name. node_named name tree) sources
 
--- The tree is left without the sources.
+-- The tree without the sources.
 abbrev pub without : List NodeName → Tree → Tree
 without sources tree = filter (λ node. not (names_contain sources node.name)) tree
 
--- The node is a run of a lower id.
+-- True if the node is a run with a lower id.
 abbrev pub is_run_below : ℕ → NodeName → Bool
 is_run_below id (L0 name) = false
 is_run_below id (Run other) = nat_lt other id
 
--- A run is put among the others, which stand by falling id.
+-- Inserts a run in front of the first run with a lower id. The runs of a tree are by falling id.
 abbrev pub put_run : ℕ → Node → Tree → Tree
 put_run id run [] = run ∷ []
 put_run id run (node ∷ tree) = if is_run_below id node.name then run ∷ node ∷ tree else node ∷ put_run id run tree
 
--- The sources go, and one run of these tables comes, with all flushes of the sources.
+-- Replaces the sources of a tree by one run with these tables. The run has all flushes of the sources.
 abbrev pub with_run_for : List NodeName → ℕ → List ℕ → Tree → Tree
 with_run_for sources id pieces tree =
     put_run id (record { name = Run id; flushes = flat_map (λ node. node.flushes) (source_nodes sources tree); pieces = pieces }) (without sources tree)
 
--- The first row has this key.
+-- The key of the first row, or the empty key if there are no rows.
 abbrev pub first_key : List Row → List ℕ
 first_key [] = []
 first_key (r ∷ rows) = r.key
 
--- A table is put before the first one whose first key is not below its own.
+-- Inserts a table in front of the first table whose first key is not below its own.
 abbrev pub put_by_first_key : Tables → ℕ → List ℕ → List ℕ
 put_by_first_key tables piece [] = piece ∷ []
 put_by_first_key tables piece (q ∷ pieces) =
     if is_lt (key_cmp (first_key (table_rows tables q)) (first_key (table_rows tables piece))) then q ∷ put_by_first_key tables piece pieces else piece ∷ q ∷ pieces
 
--- The tables stand by rising first key.
+-- The tables, sorted by rising first key.
 abbrev pub by_first_key : Tables → List ℕ → List ℕ
 by_first_key tables [] = []
 by_first_key tables (piece ∷ pieces) = put_by_first_key tables piece (by_first_key tables pieces)
 
--- The sources have these tables.
+-- The tables of the sources.
 abbrev pub source_pieces : List NodeName → Tree → List ℕ
 source_pieces sources tree = flat_map (λ node. node.pieces) (source_nodes sources tree)
 
--- A step that makes a run has a destination.
+-- Changes a tree by a step that makes a run. Without a destination the tree stays as it is.
 abbrev pub to_run : (ℕ → Tree → Tree) → Option ℕ → Tree → Tree
 to_run change None tree = tree
 to_run change (Some id) tree = change id tree
 
--- A step changes the tree of its job's segment, given the job's spec and the tables that it recorded: a join brings a
--- run of the recorded tables, a move one of the sources' own tables, and a drain drops the sources.
+-- The tree of a job's segment after a step, given the job's spec and the tables that it recorded. A join
+-- replaces the sources by a run of the recorded tables, and a move replaces them by a run of their own
+-- tables. A drain drops the sources.
 abbrev pub stepped : Tables → Step → JobSpec → List ℕ → Tree → Tree
 stepped tables (Join job) spec outputs tree = to_run (λ id. with_run_for spec.sources id outputs) spec.destination tree
 stepped tables (Move job) spec outputs tree = to_run (λ id. with_run_for spec.sources id (by_first_key tables (source_pieces spec.sources tree))) spec.destination tree
 stepped tables (Drain job) spec outputs tree = without spec.sources tree
 
--- The mark moves to a flush, and stays at a run.
+-- The name of a flush, or the given mark for a run.
 abbrev pub l0_or : Option ℕ → NodeName → Option ℕ
 l0_or mark (L0 name) = Some name
 l0_or mark (Run id) = mark
 
--- The watermark becomes the newest flush among the sources, and stays where there is none.
+-- The watermark after a step: the newest flush among the sources, or the old watermark if no source is a
+-- flush.
 abbrev pub watermark_after : List NodeName → Tree → Option ℕ → Option ℕ
 watermark_after sources [] mark = mark
 watermark_after sources (node ∷ tree) mark = if names_contain sources node.name then l0_or mark node.name else watermark_after sources tree mark
 
--- The segment of this prefix changes, and all others stay.
+-- Changes the tree and the watermark of the segment with this prefix, and leaves any other segment as it
+-- is.
 abbrev pub on_segment : List ℕ → List NodeName → (Tree → Tree) → Segment → Segment
 on_segment prefix sources change s =
     if bytes_eq prefix s.prefix then record s { tree = change s.tree; watermark = watermark_after sources s.tree s.watermark } else s
 
--- A step changes the tree of its job's segment, and no other one.
+-- The trees after a step, which changes only the tree of its job's segment.
 abbrev pub stepped_in : Tables → Step → JobSpec → List ℕ → Trees → Trees
 stepped_in tables step spec outputs trees = map (on_segment spec.segment spec.sources (stepped tables step spec outputs)) trees
 
--- The greater of two sequences is taken.
+-- The greater of two sequences, or the second if there is no first.
 abbrev pub greater_seq : Option ℕ → ℕ → Option ℕ
 greater_seq None seq = Some seq
 greater_seq (Some last) seq = Some (max last seq)
 
--- The greatest sequence of these rows, and of what came before, is taken.
+-- The greatest of the given sequence, if there is one, and the sequences of the rows.
 abbrev pub greatest_seq : Option ℕ → List Row → Option ℕ
 greatest_seq last [] = last
 greatest_seq last (r ∷ rows) = greatest_seq (greater_seq last r.seq) rows
 
--- A flush comes to the front of a tree.
+-- The segment after a flush, which comes to the front of its tree.
 abbrev pub flushed_on : ℕ → List Row → Segment → Segment
 flushed_on name rows s = record s { tree = record { name = L0 name; flushes = name ∷ []; pieces = name ∷ [] } ∷ s.tree; last_seq = greatest_seq s.last_seq rows }
 
--- A segment begins without a tree.
+-- A new segment, with an empty tree and no flush so far.
 abbrev pub empty_segment : List ℕ → Segment
 empty_segment prefix = record { prefix = prefix; tree = []; last_seq = None; watermark = None }
 
--- A flush comes to its segment's tree, which is made where there is none.
+-- The trees after a flush into the segment with this prefix. The segment is made if there is none.
 abbrev pub flushed : List ℕ → ℕ → List Row → Trees → Trees
 flushed prefix name rows [] = flushed_on name rows (empty_segment prefix) ∷ []
 flushed prefix name rows (s ∷ trees) =
     if bytes_eq prefix s.prefix then flushed_on name rows s ∷ trees
     else (if is_lt (key_cmp prefix s.prefix) then flushed_on name rows (empty_segment prefix) ∷ s ∷ trees else s ∷ flushed prefix name rows trees)
 
--- A step is taken for this job.
+-- The job that a step is taken for.
 abbrev pub job_of : Step → ℕ
 job_of (Join job) = job
 job_of (Move job) = job
 job_of (Drain job) = job
 
--- The steps of a commit are taken in order, given each job's spec and recorded tables.
+-- The trees after the steps of a commit, taken in order, given each job's spec and recorded tables.
 abbrev pub stepped_all : Tables → (ℕ → JobSpec × List ℕ) → List Step → Trees → Trees
 stepped_all tables jobs [] trees = trees
 stepped_all tables jobs (step ∷ steps) trees =
     stepped_all tables jobs steps (stepped_in tables step (jobs (job_of step)).0 (jobs (job_of step)).1 trees)
 
--- A join raises the horizon to the cut that its job kept, or to the stored floor where it kept none. A move and a drain
--- leave the horizon as it is.
+-- The horizon after a step. A join raises it to the cut that its job kept, or to the stored floor if the
+-- job kept none, unless it is higher already. A move and a drain leave it as it is.
 abbrev pub horizon_after : ℕ → Step → Option ℕ → ℕ → ℕ
 horizon_after floor (Join job) None horizon = max horizon floor
 horizon_after floor (Join job) (Some cut) horizon = max horizon cut
 horizon_after floor (Move job) kept_cut horizon = horizon
 horizon_after floor (Drain job) kept_cut horizon = horizon
 
--- The steps of a commit move the horizon in order, given the cut that each job kept.
+-- The horizon after the steps of a commit, taken in order, given the cut that each job kept.
 abbrev pub horizon_after_all : ℕ → (ℕ → Option ℕ) → List Step → ℕ → ℕ
 horizon_after_all floor cuts [] horizon = horizon
 horizon_after_all floor cuts (step ∷ steps) horizon = horizon_after_all floor cuts steps (horizon_after floor step (cuts (job_of step)) horizon)
 
--- The last row has this key; without rows it is the one given.
+-- The key of the last row, or the given key if there are no rows.
 abbrev pub last_key : List ℕ → List Row → List ℕ
 last_key key [] = key
 last_key key (r ∷ rows) = last_key r.key rows
 
--- The last key of each table is below the first key of the next.
+-- True if the last key of each table is below the first key of the next table.
 abbrev pub are_apart : Tables → List ℕ → Bool
 are_apart tables [] = true
 are_apart tables (a ∷ []) = true
 are_apart tables (a ∷ b ∷ pieces) = is_lt (key_cmp (last_key [] (table_rows tables a)) (first_key (table_rows tables b))) && are_apart tables (b ∷ pieces)
 
--- The sources of a job have these tables in the trees.
+-- The tables that the sources of a job have in the trees now.
 abbrev pub tables_now : Trees → JobSpec → List ℕ
 tables_now trees spec = source_pieces spec.sources (tree_at spec.segment trees)

@@ -1,4 +1,4 @@
--- The keys at which ranges begin: they rise, and each key lies in one of the ranges.
+-- The keys at which ranges begin rise, and each key lies in exactly one of the ranges.
 use Rattle.std.proofs.Common.{◌≡◌, ◌<◌, ◌≤◌, refl, sym, ◌∙◌, ap, subst, ℕ, ◌+◌, ◌/◌, cond, Bool, true, false, not, ◌&&◌, List, [], ◌∷◌, ◌++◌, length, arith}
 use Rattle.std.specs.Prelude.{◌||◌, ◌==◌, nat_le, nat_lt, max, sum_by, filter}
 use Rattle.std.specs.List.Sorted.{IsStrictlySortedBy}
@@ -21,13 +21,13 @@ use Rattle.fleet_range.specs.Keys.{model_bound, range_of}
 use Rattle.fleet_range.specs.Ranges.{Ends, is_non_empty}
 use Rattle.fleet_plan.specs.Boundaries.{HoldEveryKeyOnce, boundary_keys, ranges_of}
 
--- keys that rise, and are above the start of a range
+-- The keys rise, and are above the start of a range. The start is never an excluded key.
 abbrev pub RiseFrom : Bound (List ℕ) → List (List ℕ) → Type 0
 RiseFrom Unbounded keys = IsStrictlySortedBy key_cmp keys
 RiseFrom (Included key) keys = IsStrictlySortedBy key_cmp (key ∷ keys)
 RiseFrom (Excluded key) keys = ⊥
 
--- there are none, or the cuts of some target
+-- A property holds for the boundary keys if it holds for no keys and for the cuts with each target.
 either : (P : List (List ℕ) → Type 0) (anchors : List Anchor) (most least : ℕ) → P [] → ((target : ℕ) → 0 < most → P (cut_anchors most target (anchors_by_key anchors))) → P (boundary_keys anchors most least)
 either P anchors most least none some = by (nat_le most 1) (target == 0) (nat_le total target) refl
   where
@@ -43,7 +43,7 @@ either P anchors most least none some = by (nat_le most 1) (target == 0) (nat_le
     by false false true e = none
     by false false false e = some target (grind (arith, common_steps))
 
--- ---- they rise
+-- ---- the cuts rise
 
 lowered : (low key : List ℕ) (keys : List (List ℕ)) → key_cmp low key ≡ Less → IsStrictlySortedBy key_cmp (key ∷ keys) → IsStrictlySortedBy key_cmp (low ∷ key ∷ keys)
 unfolding IsStrictlySortedBy
@@ -67,7 +67,7 @@ pub boundaries_rise : (anchors : List Anchor) (most least : ℕ) → IsStrictlyS
 unfolding IsStrictlySortedBy
 boundaries_rise anchors most least = either (IsStrictlySortedBy key_cmp) anchors most least tt (λ target room. (cut_rises most target 0 0 target (smallest_key (anchors_by_key anchors)) (anchors_by_key anchors)).1)
 
--- ---- there are at most so many
+-- ---- there are fewer cuts than ranges asked for
 
 cuts_few : (most target standing before threshold : ℕ) (last : List ℕ) (anchors : List Anchor) → standing < most → standing + length (cuts most target standing before threshold last anchors) < most
 cuts_few most target standing before threshold last [] room = omega (arith, room)
@@ -97,9 +97,9 @@ few_ranges anchors most least = either (λ keys. length (ranges_from model.Unbou
     let count = ranges_count model.Unbounded (cut_anchors most target (anchors_by_key anchors)) in
     omega (arith, few, count))
 
--- ---- each key lies in one of the ranges
+-- ---- each key lies in exactly one of the ranges
 
--- the keys rise, and are above the start
+-- The keys rise, and are above the start of a range. The start is never an excluded key.
 RisesAfter : model.Bound → List (List ℕ) → Type 0
 RisesAfter model.Unbounded keys = IsStrictlySortedBy key_cmp keys
 RisesAfter (model.Included from) keys = IsStrictlySortedBy key_cmp (from ∷ keys)
@@ -123,7 +123,7 @@ counted : (first : Bool) (range : Range) (ranges : List Range) (n : ℕ) → len
 counted true range ranges n e = omega (arith, e)
 counted false range ranges n e = omega (arith, e)
 
--- a key from the next start on is after this one
+-- A key that is not below the next start is after this one.
 after_too : (start : model.Bound) (next : List ℕ) (keys : List (List ℕ)) (key : List ℕ) → RisesAfter start (next ∷ keys) → is_lt (key_cmp key next) ≡ false → is_after_start start key ≡ true
 unfolding RisesAfter IsStrictlySortedBy
 after_too model.Unbounded next keys key rises from_next = refl
@@ -142,7 +142,8 @@ later_rises model.Unbounded next keys rises = rises
 later_rises (model.Included from) next keys rises = rises.1
 later_rises (model.Excluded from) next keys rises = absurd rises
 
--- it lies in one of the ranges from a start on if it is after the start, and else in none
+-- A key lies in exactly one of the ranges from a start on if it is after the start, and in none of them
+-- otherwise.
 holders_from : (start : model.Bound) (keys : List (List ℕ)) (key : List ℕ) → RisesAfter start keys → holders key (ranges_from start keys) ≡ one_if (is_after_start start key)
 holders_from start [] key rises = by (is_after_start start key)
   where
@@ -174,7 +175,7 @@ every_key_once keys rises key = holders_from model.Unbounded keys key rises
 
 -- ---- ranges one by one
 
--- what a key leaves behind a start
+-- The range from the start up to the next key is not empty.
 pub leaves_room : (start : Bound (List ℕ)) (key : List ℕ) (keys : List (List ℕ)) → RiseFrom start (key ∷ keys) → is_non_empty key_cmp (start, Excluded key) ≡ true
 unfolding IsStrictlySortedBy
 leaves_room Unbounded key keys rises = refl
@@ -187,7 +188,8 @@ rise_on Unbounded key keys rises = rises
 rise_on (Included from) key keys rises = rises.1
 rise_on (Excluded from) key keys rises = absurd rises
 
--- the ranges so far with one more, and those behind it
+-- The ranges so far and one more, followed by the ranges after it, are the ranges so far followed by the
+-- ranges from the start on.
 one_more : (ranges : List (Ends (List ℕ))) (start : Bound (List ℕ)) (key : List ℕ) (keys : List (List ℕ))
     → ranges_of (ranges ++ (start, Excluded key) ∷ []) ++ ranges_from (model.Included key) keys ≡ ranges_of ranges ++ ranges_from (model_bound start) (key ∷ keys)
 one_more ranges start key keys =
@@ -195,7 +197,7 @@ one_more ranges start key keys =
     ap (λ made. made ++ ranges_from (model.Included key) keys) (map-append range_of ranges ((start, Excluded key) ∷ []))
     ∙ append_assoc (ranges_of ranges) last (ranges_from (model.Included key) keys)
 
--- so a step of the loop over the keys keeps what it has
+-- A step of the loop over the keys keeps its invariant.
 pub keys_step : (ranges made : List (Ends (List ℕ))) (start : Bound (List ℕ)) (key : List ℕ) (left rest keys : List (List ℕ))
     → made ≡ ranges ++ (start, Excluded key) ∷ [] → left ≡ key ∷ rest
     → (ranges_of ranges ++ ranges_from (model_bound start) left ≡ ranges_from model.Unbounded keys) × RiseFrom start left

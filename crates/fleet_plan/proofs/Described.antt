@@ -1,4 +1,4 @@
--- What is planned by descriptions of tables is what is planned by their rows.
+-- A plan from descriptions of tables is the plan from their rows.
 use Rattle.std.proofs.Common.{◌≡◌, refl, sym, ◌∙◌, ap, ℕ, ◌≤◌, ◌+◌, ◌-◌, ◌/◌, ◌%◌, max, arith, cond, Bool, true, false, not, ◌&&◌, List, [], ◌∷◌, ◌++◌, length, map}
 use Rattle.std.specs.Prelude.{◌==◌, ◌||◌, nat_le, filter, flat_map, sum_by}
 use Rattle.std.specs.List.{AllByRecursion}
@@ -20,7 +20,7 @@ use Rattle.fleet_model.specs.Trees.{first_key, last_key}
 use Rattle.fleet_table.specs.Views.{View}
 use Rattle.fleet_plan.specs.Plans.{AreOfRows, IsOfRows, greatest_view_size, planned_of, view_anchors}
 
--- ---- a fact of each row's key is one of each anchor's
+-- ---- a property of each row's key is a property of each anchor's key
 
 module _ (P : List ℕ → Type 0) where
   blocks_have : (offset filled : ℕ) (rows : List Row) → AllByRecursion (λ r. P r.key) rows → AllByRecursion (λ b. P b.first_key) (blocks_from offset filled rows)
@@ -48,7 +48,7 @@ same_filter : (p q : Anchor → Bool) (anchors : List Anchor) → AllByRecursion
 same_filter p q [] all = refl
 same_filter p q (a ∷ anchors) all = ap (λ b. cond b (a ∷ filter p anchors) (filter p anchors)) all.0 ∙ ap (λ rest. cond (q a) (a ∷ rest) rest) (same_filter p q anchors all.1)
 
--- ---- each row's key lies between the first and the last
+-- ---- each row's key lies between the first key and the last
 
 abbrev AtMost : List ℕ → List ℕ → Type 0
 AtMost low high = is_lt (key_cmp high low) ≡ false
@@ -99,7 +99,7 @@ keys_within (r ∷ rows) ordered = both (r ∷ rows) (from_first r rows ordered)
       both qs low.1 high.1,
     )
 
--- so the range of a table leaves none of its anchors out
+-- The range from a table's first key to its last leaves out none of the table's anchors.
 sampled_whole : (rows : List Row) (end most : ℕ) → IsStrictlyOrdered rows → sample_anchors (blocks rows) end most (span_of rows) ≡ sample_anchors (blocks rows) end most all_keys
 sampled_whole rows end most ordered =
     let groups = max most 1 in
@@ -135,7 +135,7 @@ module _ (rows : View → List Row) where
       ap (λ anchors. select_boundaries anchors most (greatest_view_size views)) (anchors_same views are)
       ∙ ap (select_boundaries (flat_map (λ table. sample_anchors (blocks table) (table_size table) max_anchors all_keys) (map rows views)) most) (greatest_same views are)
 
--- one range has all keys, whatever the anchors are
+-- If at most one range is asked for, it has all keys, whatever the anchors and the target are.
 pub one_range : (anchors others : List Anchor) (most least size : ℕ) → most ≤ 1 → select_boundaries anchors most least ≡ select_boundaries others most size
 one_range anchors others most least size few =
     let test : nat_le most 1 ≡ true = grind (arith, common_steps) in

@@ -1,4 +1,4 @@
--- The tables of a job, taken run by run.
+-- The anchors and the greatest size of a job's tables, taken run by run.
 use Rattle.std.proofs.Common.{◌≡◌, sym, ◌∙◌, ap, ℕ, max, List, [], ◌∷◌, ◌++◌, arith}
 use Rattle.std.specs.Prelude.{flat_map}
 use Rattle.std.proofs.lemmas.Grind.{flat_map-append}
@@ -14,7 +14,8 @@ greatest-append (view ∷ xs) ys =
     let rest = greatest-append xs ys in
     omega (arith, rest)
 
--- these anchors and sizes, and those of the runs left, are all
+-- The anchors so far, followed by the anchors of the runs left, are all anchors. The greatest size so far and
+-- the one in the runs left give the greatest size of all.
 abbrev pub Known : List model.Anchor → ℕ → List model.Anchor → ℕ → List SortedRun → Type 0
 Known all greatest anchors size left = (anchors ++ flat_map view_anchors (views_of [] left) ≡ all) × (max size (greatest_view_size (views_of [] left)) ≡ greatest)
 

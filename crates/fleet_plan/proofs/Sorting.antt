@@ -1,4 +1,4 @@
--- Elements in order of which those that tie keep their order: there is one such list.
+-- There is only one way to sort a list if tied elements keep their order.
 use Rattle.std.proofs.Common.{◌≡◌, refl, sym, ◌∙◌, ap, subst, ℕ, suc, ◌+◌, cond, Bool, true, false, not, ◌&&◌, List, [], ◌∷◌, arith}
 use Rattle.std.specs.Prelude.{filter, ⊤}
 use Rattle.std.specs.List.{AllByRecursion}
@@ -37,7 +37,7 @@ module _ {X : Type 0} (lt : X → X → Bool) (order : IsStrictWeakOrder lt) whe
   tie_self : (x : X) → ties lt x x ≡ true
   tie_self x = tie x x (irreflexive x) (irreflexive x)
 
-  -- an element that a test finds first is one of the list
+  -- If all elements have a property, the first element that passes a test has it.
   found : (P : X → Type 0) (p : X → Bool) (ys : List X) (z : X) (rest : List X) → filter p ys ≡ z ∷ rest → AllByRecursion P ys → P z
   found P p [] z rest e all = absurd (cc e)
   found P p (y ∷ ys) z rest e all = by (p y) e (λ h. found P p ys z rest h all.1)
@@ -71,7 +71,7 @@ module _ {X : Type 0} (lt : X → X → Bool) (order : IsStrictWeakOrder lt) whe
       let rest = one_sorting ys zs up.1 up'.1 (λ x. tail_same (ties lt x y) y (filter (ties lt x) ys) (filter (ties lt x) zs) (same x ∙ ap (λ w. filter (ties lt x) (w ∷ zs)) first)) in
       ap (λ w. w ∷ ys) (sym first) ∙ ap (λ ws. z ∷ ws) rest
 
-  -- what a sort says by places, by recursion
+  -- A sorted list rises. The sort says so by places, and this says so by recursion.
   pub rises_of : (xs : List X) → IsSortedBy lt xs → Rises xs
   rises_of [] up = tt
   rises_of (x ∷ xs) up =
@@ -115,7 +115,7 @@ module _ {X : Type 0} (lt : X → X → Bool) (order : IsStrictWeakOrder lt) whe
   sorted_rises [] = tt
   sorted_rises (x ∷ xs) = put_rises x (sorted xs) (sorted_rises xs)
 
-  -- of two elements in order, not both tie with a third
+  -- If one element is below another, a third does not tie with both.
   not_both : (x y w : X) → lt y x ≡ true → ties lt w x ≡ true → ties lt w y ≡ true → ⊥
   not_both x y w below with_x with_y =
       let low : lt y w ≡ false = second (lt w y) (lt y w) with_y in
@@ -153,11 +153,11 @@ module _ {X : Type 0} (lt : X → X → Bool) (order : IsStrictWeakOrder lt) whe
   sorted_keeps w [] = refl
   sorted_keeps w (x ∷ xs) = put_keeps w x (sorted xs) ∙ ap (λ rest. cond (ties lt w x) (x ∷ rest) rest) (sorted_keeps w xs)
 
-  -- a sort that keeps the order of ties gives this list
+  -- A stable sort gives the list `sorted`.
   pub sorting_is : (xs ys : List X) → IsSortedBy lt ys → IsStableBy lt xs ys → ys ≡ sorted xs
   sorting_is xs ys up stable = one_sorting ys (sorted xs) (rises_of ys up) (sorted_rises xs) (λ w. stable w ∙ sym (sorted_keeps w xs))
 
--- ---- anchors by their keys
+-- ---- anchors in order of their keys
 
 abbrev pub is_below : Anchor → Anchor → Bool
 is_below a b = is_lt (key_cmp a.key b.key)

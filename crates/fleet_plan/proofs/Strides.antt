@@ -1,4 +1,4 @@
--- Blocks in groups of a stride, one group after the other.
+-- Blocks in groups of equal size, one group after the other.
 use Rattle.std.proofs.Common.{◌≡◌, refl, sym, ◌∙◌, ap, subst, ℕ, zero, suc, ◌<◌, ◌≤◌, ◌+◌, ◌*◌, ◌-◌, ◌/◌, ◌%◌, min, cond, Bool, true, false, List, [], ◌∷◌, ◌++◌, length, drop, arith}
 use Rattle.std.specs.Prelude.{◌==◌, filter}
 use Rattle.std.specs.Int.{div_ceil}
@@ -13,7 +13,7 @@ use Rattle.fleet_table.specs.declared.block.BlockMeta.{BlockMeta}
 use Rattle.fleet_table.specs.Handles.{block_of, blocks_of}
 use Rattle.fleet_plan.specs.Anchors.{end_of}
 
--- two ways to round a quotient up
+-- Two ways to round a quotient up give equal results.
 pub rounded_up : (n g : ℕ) → 0 < g → div_ceil n g ≡ (n + g - 1) / g
 rounded_up n g some = by (n % g) refl
   where
@@ -34,7 +34,7 @@ rounded_up n g some = by (n % g) refl
         let one : n / g + min 1 (n % g) ≡ n / g + 1 = omega (arith, e) in
         one ∙ sym (div-mul-add (n / g + 1) g r low) ∙ ap (λ m. m / g) sum
 
--- a group of blocks has at least one
+-- The size of a group is at least one if there are blocks and groups.
 pub some_stride : (n g : ℕ) → 0 < n → 0 < g → 0 < (n + g - 1) / g
 some_stride n g some groups =
     let rounded = rounded_up n g groups in
@@ -56,7 +56,7 @@ every_period stride i (b ∷ bs) =
 not-zero : (n : ℕ) → 0 < n → (n == 0) ≡ false
 not-zero n h = grind (arith, common_steps)
 
--- within a group nothing is taken, up to the next one
+-- From inside a group, no block is taken before the next group begins.
 next_group : (stride i k : ℕ) (bs : List Block) → 0 < i → i + k ≡ stride → every stride i bs ≡ every stride 0 (drop k bs)
 next_group stride i zero bs low e =
     let at : i ≡ 0 + stride = omega (arith, e) in
@@ -84,11 +84,12 @@ span_first stride end b (c ∷ cs) =
     ap (λ rest. spans end (b ∷ rest)) (at_start stride c cs)
     ∙ ap (λ rest. anchor_at end b (c ∷ cs) ∷ spans end rest) (sym (at_start stride c cs))
 
--- the anchors of blocks in groups, by a test of their keys
+-- The anchors of blocks in groups, where the key passes a test.
 abbrev pub grouped : (List ℕ → Bool) → ℕ → ℕ → List Block → List model.Anchor
 grouped within stride end bs = filter (λ a. within a.key) (spans end (every stride 0 bs))
 
--- the first group, and those after it
+-- The anchors of all blocks are the one of the first group, if its key passes the test, and then the ones of
+-- the later groups.
 grouped_first : (within : List ℕ → Bool) (stride end : ℕ) (b : BlockMeta) (bs : List BlockMeta) → 0 < stride
     → grouped within stride end (blocks_of (b ∷ bs))
     ≡ cond (within b.first_key) (anchor_at end (block_of b) (blocks_of (drop stride (b ∷ bs))) ∷ grouped within stride end (blocks_of (drop stride (b ∷ bs)))) (grouped within stride end (blocks_of (drop stride (b ∷ bs))))
@@ -98,7 +99,8 @@ grouped_first within stride end b bs some =
     ∙ ap (λ xs. filter (λ a. within a.key) (spans end (block_of b ∷ every stride 0 xs))) (drop-map block_of stride (b ∷ bs))
     ∙ ap (filter (λ a. within a.key)) (span_first stride end (block_of b) (blocks_of later))
 
--- the anchors so far, and those of the blocks left, are all; no more are left than there were
+-- The anchors so far, followed by the anchors of the blocks left, are all anchors. No more blocks are left
+-- than there were at first.
 abbrev pub SoFar : (List ℕ → Bool) → ℕ → ℕ → List BlockMeta → List model.Anchor → List model.Anchor → List BlockMeta → Type 0
 SoFar within stride end blocks all anchors rest = (anchors ++ grouped within stride end (blocks_of rest) ≡ all) × (length rest ≤ length blocks)
 

@@ -1,4 +1,4 @@
--- The bytes of anchors together.
+-- The sum of the bytes of anchors.
 use Rattle.std.proofs.Common.{◌≡◌, refl, sym, ◌∙◌, ap, ◌+◌, List, [], ◌∷◌}
 use Rattle.std.specs.Prelude.{fold, sum_by}
 use Rattle.std.proofs.lemmas.List.Sums.{sum_by-cons}

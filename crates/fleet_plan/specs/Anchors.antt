@@ -1,4 +1,4 @@
--- Anchors as a program keeps them, seen as the model's.
+-- These functions turn a program's anchors into anchors of the model.
 use Rattle.std.specs.Prelude.{ℕ, List, [], ◌∷◌, map}
 use Rattle.row_model.specs.Sizes.{Block}
 use Rattle.row_model.specs.Plan as model
@@ -10,7 +10,8 @@ anchor_of anchor = record { key = anchor.key; bytes = anchor.bytes }
 abbrev pub anchors_of : List Anchor → List model.Anchor
 anchors_of anchors = map anchor_of anchors
 
--- where what is before these blocks ends: at the first of them, or at the end of all
+-- The offset at which the blocks before these end. It is the offset of the first of these blocks, or `end` if
+-- there are none.
 abbrev pub end_of : ℕ → List Block → ℕ
 end_of end [] = end
 end_of end (b ∷ bs) = b.offset

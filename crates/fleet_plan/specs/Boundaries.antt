@@ -1,4 +1,4 @@
--- The keys at which the ranges of a job begin, and which range a key lies in.
+-- The keys at which the ranges of a job begin, and the ranges in which a key lies.
 use Rattle.std.specs.Prelude.{◌≡◌, ℕ, ◌/◌, ◌||◌, ◌==◌, nat_le, max, if◌then◌else◌, List, [], map, filter, length, sum_by}
 use Rattle.row_model.specs.Ranges.{Range, is_in_range}
 use Rattle.row_model.specs.Sizes.{saturated}
@@ -9,11 +9,12 @@ use Rattle.fleet_range.specs.Ranges.{Ends}
 abbrev pub ranges_of : List (Ends (List ℕ)) → List Range
 ranges_of ranges = map range_of ranges
 
--- each key lies in exactly one of the ranges
+-- Each key lies in exactly one of the ranges.
 abbrev pub HoldEveryKeyOnce : List Range → Type 0
 HoldEveryKeyOnce ranges = (key : List ℕ) → length (filter (λ range. is_in_range range key) ranges) ≡ 1
 
--- none where one range has all keys
+-- The keys at which the ranges after the first one begin. There are none where one range has all keys: if at
+-- most one range is asked for, if the target is 0, or if all bytes do not exceed the target.
 abbrev pub boundary_keys : List Anchor → ℕ → ℕ → List (List ℕ)
 boundary_keys anchors max_ranges min_range_bytes =
     let total = saturated (sum_by (λ a. a.bytes) anchors) in

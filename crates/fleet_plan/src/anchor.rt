@@ -1,4 +1,4 @@
-//! Keys of a table with the bytes that begin there.
+//! Anchors: keys of a table with the bytes that follow them.
 
 ghost use Rattle.std.specs.Prelude.{◌≡◌, ◌-◌, ◌+◌, ◌/◌, drop, length, max, IfOk, IsOkUnless};
 ghost use Rattle.row_model.specs.Plan.{sample_anchors};
@@ -12,18 +12,20 @@ use fleet_rows::SlateDBError;
 use fleet_table::BlockMeta;
 use std::alloc::Global;
 
-/// How many anchors a table gives at most.
+/// The greatest number of anchors that a plan takes from one table.
 pub const MAX_ANCHORS_PER_SST: u64 = 128;
 
-/// A key, and how many bytes of its table begin with it.
+/// An anchor: the first key of a group of blocks, and the size of the group in bytes.
 #[derive(Debug, Drop, PartialEq, Eq)]
 pub struct Anchor {
     pub key: Bytes,
     pub bytes: u64,
 }
 
-/// The anchors of a table with these blocks, whose data ends there. Its blocks are taken in groups, at most `max_anchors` of them,
-/// where 0 counts as 1, and each gives its first key. Those outside the range are left out.
+/// The anchors of a table with these blocks. The blocks are put into at most `max_anchors` groups
+/// of neighbours, where 0 counts as 1. Each group gives an anchor with its first key and its bytes,
+/// unless the key lies outside `effective_range`. The last group ends at `data_end_offset`, in
+/// bytes.
 pub fn sample_anchors(
     alloc: Global,
     blocks: &[BlockMeta],
@@ -31,7 +33,8 @@ pub fn sample_anchors(
     max_anchors: u64,
     effective_range: &BytesRange,
 ) -> Result<Vec<Anchor>, SlateDBError>
-    ensures anchors { IfOk result (λ anchors. anchors_of anchors.items ≡ sample_anchors (blocks_of blocks.now) data_end_offset max_anchors (range_of effective_range.now)) }
+    ensures anchors { IfOk result (λ anchors. anchors_of anchors.items ≡ sample_anchors
+        (blocks_of blocks.now) data_end_offset max_anchors (range_of effective_range.now)) }
     ensures memory { IsOkUnless result SlateDBError.Memory }
 {
     let stride = stride(blocks, max_anchors);
@@ -51,7 +54,7 @@ pub fn sample_anchors(
     Ok(anchors)
 }
 
-/// How many blocks a group has.
+// The number of blocks in a group. The last group may have fewer.
 fn stride(blocks: &[BlockMeta], max_anchors: u64) -> usize
     ensures { result ≡ (length blocks.now + max max_anchors 1 - 1) / max max_anchors 1 }
 {
@@ -59,14 +62,14 @@ fn stride(blocks: &[BlockMeta], max_anchors: u64) -> usize
     (blocks.len() as u64).div_ceil(groups) as usize
 }
 
-/// The blocks behind the first group.
+// The blocks after the first group.
 fn behind_group<'a>(blocks: &'a [BlockMeta], stride: usize) -> &'a [BlockMeta]
     ensures { result.now ≡ drop stride blocks.now }
 {
     &blocks[stride.min(blocks.len())..]
 }
 
-/// Where a group ends that these blocks follow.
+// The offset, in bytes, at which the group before these blocks ends.
 fn end_of_group(later: &[BlockMeta], data_end_offset: u64) -> u64
     ensures { result ≡ end_of data_end_offset (blocks_of later.now) }
 {

@@ -1,4 +1,4 @@
-//! Where keys are cut into ranges, by the bytes of the anchors before the cut.
+//! Cutting all keys into ranges, by the bytes of anchors.
 
 ghost use Rattle.std.specs.Prelude.{◌≡◌, ◌≤◌, ◌+◌, length, max, sum_by, IfOk, IsOkUnless};
 ghost use Rattle.std.specs.List.Sorted.{IsStrictlySortedBy};
@@ -17,18 +17,21 @@ use fleet_rows::SlateDBError;
 use std::alloc::{AllocError, Global};
 use std::ops::Bound;
 
-/// The ranges of keys for the parts of a job. Keys are cut where the bytes of all anchors before reach a threshold. The threshold
-/// rises at each cut by the target, which is the share of one range in all bytes, but no less than `min_range_bytes`. A range may
-/// still have fewer bytes than that: behind an anchor of many bytes the threshold is reached at once.
+/// The ranges of keys for the subcompactions of a job. A cut is made at an anchor where the bytes
+/// of all anchors before it reach a threshold. The threshold begins with the target, and rises by
+/// the target at each cut. The target is the share of one range in all bytes, but at least
+/// `min_range_bytes`. A range may still have fewer bytes than the target: after an anchor of many
+/// bytes, the next threshold may be reached at once.
 pub fn select_boundaries(
     alloc: Global,
     anchors: Vec<Anchor>,
     max_subcompactions: u64,
     min_range_bytes: u64,
 ) -> Result<Vec<BytesRange>, SlateDBError>
-    ensures ranges { IfOk result (λ ranges. ranges_of ranges.items ≡ select_boundaries (anchors_of anchors.items) max_subcompactions min_range_bytes) }
+    ensures ranges { IfOk result (λ ranges. ranges_of ranges.items
+        ≡ select_boundaries (anchors_of anchors.items) max_subcompactions min_range_bytes) }
     ensures at_most { IfOk result (λ ranges. length ranges.items ≤ max max_subcompactions 1) }
-    // They follow each other at rising edges.
+    // The ranges follow one another, cut at rising edges.
     ensures rising { IfOk result (λ ranges. AreCut (ranges_of ranges.items)) }
     ensures every_key { IfOk result (λ ranges. HoldEveryKeyOnce (ranges_of ranges.items)) }
     ensures memory { IsOkUnless result SlateDBError.Memory }
@@ -37,14 +40,15 @@ pub fn select_boundaries(
     ranges_between(alloc, &keys)
 }
 
-/// The keys at which a range begins that is not the first.
+// The keys at which the ranges after the first one begin.
 fn boundary_keys(
     alloc: Global,
     anchors: Vec<Anchor>,
     max_subcompactions: u64,
     min_range_bytes: u64,
 ) -> Result<Vec<Bytes>, AllocError>
-    ensures { IfOk result (λ keys. keys.items ≡ boundary_keys (anchors_of anchors.items) max_subcompactions min_range_bytes) }
+    ensures { IfOk result (λ keys. keys.items
+        ≡ boundary_keys (anchors_of anchors.items) max_subcompactions min_range_bytes) }
 {
     if max_subcompactions <= 1 {
         return Ok(Vec::new(alloc));
@@ -69,16 +73,18 @@ fn with_bytes(total: u64, anchor: &Anchor) -> u64
     total.saturating_add(anchor.bytes)
 }
 
-/// By rising key; those of one key keep their order.
+// The anchors by rising key. Anchors of one key keep their order.
 fn by_key(anchors: Vec<Anchor>) -> Result<Vec<Anchor>, AllocError>
-    ensures { IfOk result (λ sorted. anchors_of sorted.items ≡ anchors_by_key (anchors_of anchors.items)) }
+    ensures { IfOk result
+        (λ sorted. anchors_of sorted.items ≡ anchors_by_key (anchors_of anchors.items)) }
 {
     let mut sorted = anchors;
     sorted.sort_by(|a, b| a.key.cmp(&b.key))?;
     Ok(sorted)
 }
 
-/// The keys at which a range begins. A threshold that stands at the greatest number stays there.
+// The keys at which the ranges after the first one begin, for anchors by rising key. The threshold
+// and the sum of bytes stop at `u64::MAX`.
 fn cut_keys(
     alloc: Global,
     anchors: &[Anchor],
@@ -106,10 +112,12 @@ fn cut_keys(
     Ok(keys)
 }
 
-/// The ranges that begin at the keys, and before them the one of all lesser keys.
+// The ranges into which these keys cut all keys. The first one ends before the first key, and each
+// later one begins at a key.
 fn ranges_between(alloc: Global, keys: &[Bytes]) -> Result<Vec<BytesRange>, SlateDBError>
     requires { IsStrictlySortedBy key_cmp keys.now }
-    ensures ranges { IfOk result (λ ranges. ranges_of ranges.items ≡ ranges_from Unbounded keys.now) }
+    ensures ranges { IfOk result
+        (λ ranges. ranges_of ranges.items ≡ ranges_from Unbounded keys.now) }
     ensures memory { IsOkUnless result SlateDBError.Memory }
 {
     let mut ranges = Vec::new(alloc);

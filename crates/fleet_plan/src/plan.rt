@@ -1,4 +1,4 @@
-//! The ranges for a job over tables of which descriptions are kept.
+//! The ranges for a job over tables that are described.
 
 ghost use Rattle.std.specs.Prelude.{◌≡◌, ◌≤◌, ◌++◌, [], List, flat_map, length, map, max, IfOk, IsOkUnless, OnOk};
 ghost use Rattle.row_model.specs.Plan.{planned};
@@ -15,19 +15,23 @@ use fleet_rows::SlateDBError;
 use fleet_table::{SortedRun, SsTableView};
 use std::alloc::Global;
 
-/// The ranges of keys for the parts of a job over these flushes and runs. They are those of `select_boundaries`, with a target that
-/// is no less than the size of the greatest table. For one part the tables are not looked at.
+/// The ranges of keys for the subcompactions of a job over these flushes and runs. They are the
+/// ranges of `select_boundaries` for the anchors of the tables, with the size of the greatest table
+/// as `min_range_bytes`. If at most one range is asked for, the tables are not looked at.
 pub fn plan_subcompaction_ranges(
     alloc: Global,
     l0: &[SsTableView],
     runs: &[SortedRun],
     max_subcompactions: u64,
 ) -> Result<Vec<BytesRange>, SlateDBError>
-    ensures ranges { IfOk result (λ ranges. ranges_of ranges.items ≡ planned_of max_subcompactions (views_of l0.now runs.now)) }
-    // Of tables with known rows these are the ranges of the definitions.
-    ensures planned { IfOk result (λ ranges. (rows : View → List Row) → AreOfRows rows (views_of l0.now runs.now) → ranges_of ranges.items ≡ planned max_subcompactions (map rows (views_of l0.now runs.now))) }
+    ensures ranges { IfOk result (λ ranges. ranges_of ranges.items
+        ≡ planned_of max_subcompactions (views_of l0.now runs.now)) }
+    // If the rows of the tables are known, these are the ranges that the model plans for them.
+    ensures planned { IfOk result (λ ranges. (rows : View → List Row)
+        → AreOfRows rows (views_of l0.now runs.now) → ranges_of ranges.items
+        ≡ planned max_subcompactions (map rows (views_of l0.now runs.now))) }
     ensures at_most { IfOk result (λ ranges. length ranges.items ≤ max max_subcompactions 1) }
-    // They follow each other at rising edges.
+    // The ranges follow one another, cut at rising edges.
     ensures rising { IfOk result (λ ranges. AreCut (ranges_of ranges.items)) }
     ensures every_key { IfOk result (λ ranges. HoldEveryKeyOnce (ranges_of ranges.items)) }
     ensures memory { IsOkUnless result SlateDBError.Memory }
@@ -48,7 +52,7 @@ pub fn plan_subcompaction_ranges(
     )
 }
 
-/// What is known of tables for a plan.
+// What a plan needs of the tables: their anchors, and the size of the greatest table in bytes.
 #[derive(Drop)]
 struct Inputs {
     anchors: Vec<Anchor>,
@@ -67,8 +71,10 @@ impl Inputs {
     }
 
     fn add(&mut self, alloc: Global, views: &[SsTableView]) -> Result<(), SlateDBError>
-        ensures anchors { OnOk result (anchors_of self.new.anchors.items ≡ anchors_of self.old.anchors.items ++ flat_map view_anchors views.now) }
-        ensures greatest_size { OnOk result (self.new.greatest_size ≡ max self.old.greatest_size (greatest_view_size views.now)) }
+        ensures anchors { OnOk result (anchors_of self.new.anchors.items
+            ≡ anchors_of self.old.anchors.items ++ flat_map view_anchors views.now) }
+        ensures greatest_size { OnOk result
+            (self.new.greatest_size ≡ max self.old.greatest_size (greatest_view_size views.now)) }
         ensures memory { IsOkUnless result SlateDBError.Memory }
     {
         'views: for view in views {

@@ -9,7 +9,7 @@ use fleet_table::{SsTableHandle, TableList};
 use std::alloc::{AllocError, Global};
 use std::marker::Model;
 
-/// The keys of a job that are made together, and the tables that were written of them so far. Contracts see both.
+/// A range of a job's keys, and the tables that were written for it so far. Contracts see both.
 #[derive(Debug, Drop, PartialEq, Eq)]
 pub struct Subcompaction {
     range: BytesRange,
@@ -27,7 +27,7 @@ impl Model for Subcompaction {
 }
 
 impl Subcompaction {
-    /// A range of which no table is written yet.
+    /// A subcompaction of this range, without tables.
     pub fn new(alloc: Global, range: BytesRange) -> Subcompaction
         ensures { result ≡ record { range = range; output_ssts = [] } }
     {
@@ -37,7 +37,7 @@ impl Subcompaction {
         }
     }
 
-    /// The same range with these tables.
+    /// The subcompaction with these tables in place of its own.
     pub fn with_output_ssts(self, output_ssts: TableList) -> Subcompaction
         ensures { result ≡ record { range = self.range; output_ssts = output_ssts } }
     {
@@ -45,7 +45,7 @@ impl Subcompaction {
         Subcompaction { range, output_ssts }
     }
 
-    /// The keys.
+    /// The range of keys.
     pub fn range(&self) -> &BytesRange
         ensures { result.now ≡ self.now.range }
     {
@@ -59,7 +59,7 @@ impl Subcompaction {
         self.output_ssts.as_slice()
     }
 
-    /// Puts a longer list of tables in the place of the one that begins it.
+    /// Replaces the list of tables by one that begins with it.
     pub fn set_output_ssts(&mut self, output_ssts: TableList)
         requires { IsPrefixOf self.old.output_ssts output_ssts }
         ensures { self.new ≡ record { range = self.old.range; output_ssts = output_ssts } }

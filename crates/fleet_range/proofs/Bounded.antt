@@ -1,4 +1,5 @@
--- Cuts above a key, for the greater and the lesser of two.
+-- The greater of two elements is above a third one exactly if one of the two is. The lesser is above it
+-- exactly if both are.
 use Rattle.std.specs.Prelude.{◌≡◌, Bool, true, false, ◌&&◌, ◌||◌, cond}
 use Rattle.std.proofs.Common.{refl, sym, ap, ◌∙◌}
 use Rattle.std.proofs.lemmas.Cmp.{upto}
@@ -32,7 +33,7 @@ turned r Equal e = ap is_lt e
 turned r Greater e = ap is_lt e
 
 module _ {X : Type 0} {C : X → X → Ordering} (o : IsTotalOrder C) where
-  -- a cut above the key stays so where it rises
+  -- If x is at most y, and y is at most z, then x is at most z.
   pub rises : (x y z : X) → is_gt (C x y) ≡ false → is_gt (C y z) ≡ false → is_gt (C x z) ≡ false
   rises x y z h e = upto o x y z h e
 

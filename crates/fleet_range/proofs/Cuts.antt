@@ -1,4 +1,5 @@
--- Ranges as pairs of cuts: a key lies in one exactly where the start is not above the cut below it, and the end is.
+-- Ranges as pairs of cuts. A key lies in a range exactly if the cut of the end is above the key and the cut
+-- of the start is not.
 use Rattle.std.specs.Prelude.{◌≡◌, Bool, true, false, ◌&&◌, not}
 use Rattle.std.proofs.Common.{refl, sym, ap, ◌∙◌}
 use Rattle.std.specs.Cmp.{IsTotalOrder}
@@ -10,7 +11,7 @@ use Rattle.std.specs.declared.ops.Bound.TheVariants.{Included, Excluded, Unbound
 use Rattle.fleet_range.specs.Sides.{Cut, below, cut_cmp, end_cut, start_cut, then_equal}
 use Rattle.fleet_range.specs.Ranges.{is_from_start, is_in, is_to_end, leaves_room, touches}
 
--- whether a cut is above the key
+-- Whether a cut is above the key.
 abbrev pub past : {K : Type 0} → (K → K → Ordering) → K → Cut K → Bool
 past R key cut = is_gt (cut_cmp R cut (below key))
 

@@ -1,4 +1,4 @@
--- Membership as the model says it, and in the range of a prefix.
+-- Which keys lie in a range of the model, and which keys lie in the range of a prefix.
 use Rattle.std.specs.Prelude.{◌≡◌, ℕ, ◌<◌, Bool, true, false, ◌&&◌, not, List, [], ◌∷◌, ◌++◌, Option, Some, None, IfSome, IfNone, nat_eq}
 use Rattle.std.proofs.Common.{refl, sym, ap, ◌∙◌}
 use Rattle.std.specs.List.{starts_with}
@@ -26,7 +26,7 @@ end_in_model Unbounded key = refl
 end_in_model (Included x) key = refl
 end_in_model (Excluded x) key = refl
 
--- the model's membership is that of the order of keys
+-- A key lies in the model's range exactly if it lies between the bounds in the order of keys.
 pub in_model : (ends : Ends (List ℕ)) (key : List ℕ) → is_in_range (range_of ends) key ≡ is_in key_cmp ends key
 in_model ends key = sym (λ i. start_in_model ends.0 key i && end_in_model ends.1 key i)
 
@@ -48,7 +48,7 @@ to_end_before : (end : Option (List ℕ)) (key : List ℕ) → is_to_end key_cmp
 to_end_before None key = refl
 to_end_before (Some end) key = refl
 
--- the keys with a prefix
+-- A key of bytes lies in the range of the prefix exactly if it begins with the prefix.
 pub keys_of_prefix : (prefix key : List ℕ) → IsBytes key → is_in_range (range_of (prefix_ends prefix)) key ≡ starts_with nat_eq key prefix
 keys_of_prefix prefix key bytes =
     in_model (prefix_ends prefix) key
@@ -65,7 +65,7 @@ end_placed prefix suffix Unbounded = to_end_before (successor prefix) (prefix ++
 end_placed prefix suffix (Included y) = ap (λ r. not (is_gt r)) (key_cmp-append prefix suffix y)
 end_placed prefix suffix (Excluded y) = ap is_lt (key_cmp-append prefix suffix y)
 
--- behind the prefix, the placed range holds what the subrange holds
+-- The prefix with a suffix lies in the placed range exactly if the suffix lies in the subrange.
 pub placed_inside : (prefix : List ℕ) (ends : Ends (List ℕ)) (suffix : List ℕ) → is_in_range (range_of (placed_ends prefix ends)) (prefix ++ suffix) ≡ is_in_range (range_of ends) suffix
 placed_inside prefix ends suffix =
     in_model (placed_ends prefix ends) (prefix ++ suffix)
@@ -94,7 +94,7 @@ right_of : (a b : Bool) → (a && b) ≡ true → b ≡ true
 right_of true b h = h
 right_of false b h = cc
 
--- and nothing but keys with the prefix
+-- Every key of bytes in the placed range begins with the prefix.
 pub placed_outside : (prefix : List ℕ) (ends : Ends (List ℕ)) (key : List ℕ) → IsBytes key → is_in_range (range_of (placed_ends prefix ends)) key ≡ true → starts_with nat_eq key prefix ≡ true
 placed_outside prefix ends key bytes h =
     let inside = sym (in_model (placed_ends prefix ends) key) ∙ h in
@@ -102,7 +102,7 @@ placed_outside prefix ends key bytes h =
     let short = short_of_placed prefix key ends.1 (right_of _ _ inside) in
     sym (prefix_keys prefix key (recursion_from_All (λ b. b < 256) key bytes)) ∙ (λ i. not (from i) && short i)
 
--- where the placed bounds leave no room, the subrange holds no key
+-- If the placed bounds leave no room, no key lies in the subrange.
 pub placed_none : (prefix : List ℕ) (ends : Ends (List ℕ)) → is_non_empty key_cmp (placed_ends prefix ends) ≡ false → (suffix : List ℕ) → is_in_range (range_of ends) suffix ≡ false
 placed_none prefix ends h suffix =
     sym (placed_inside prefix ends suffix)

@@ -1,4 +1,4 @@
--- The greater start and the lesser end of two ranges, as `ComparableRange` shows them.
+-- The bounds that a `ComparableRange` shows of the greater start and the lesser end of two ranges.
 use Rattle.std.specs.Prelude.{◌≡◌, Bool, true, false, cond, Result, Ok, Err, IfOk}
 use Rattle.std.proofs.Common.{refl, ap, ◌∙◌}
 use Rattle.std.specs.Ordering.{is_lt, ord_max, ord_min}

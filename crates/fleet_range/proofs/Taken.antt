@@ -1,4 +1,4 @@
--- The keys of two ranges taken together.
+-- The keys of the intersection and of the union of two ranges.
 use Rattle.std.specs.Prelude.{◌≡◌, Bool, true, false, ◌&&◌, ◌||◌, not, cond, Option, Some, None, IfSome, IfNone}
 use Rattle.std.proofs.Common.{refl, sym, subst, ap, ◌∙◌}
 use Rattle.std.proofs.lemmas.Cmp.{tied_itself}
@@ -41,7 +41,7 @@ module _ {K : Type 0} {R : K → K → Ordering} (o : IsTotalOrder R) where
   past_lesser_end : (a b : Bound K) (key : K) → past R key (end_cut (ord_min (end_cmp R) a b)) ≡ (past R key (end_cut a) && past R key (end_cut b))
   past_lesser_end a b key = past_min (cut_total o) end_cut a b (below key) (is_lt (end_cmp R b a)) (ap is_lt (sym (end_cuts R b a)))
 
-  -- a key lies in the overlap exactly where it lies in both
+  -- A key lies in the overlap of two ranges exactly if it lies in both.
   pub in_overlap : (a b : Ends K) (key : K) → is_in R (overlap R a b) key ≡ (is_in R a key && is_in R b key)
   in_overlap a b key =
       in_cuts o (ord_max (start_cmp R) a.0 b.0) (ord_min (end_cmp R) a.1 b.1) key
@@ -49,7 +49,7 @@ module _ {K : Type 0} {R : K → K → Ordering} (o : IsTotalOrder R) where
       ∙ both_of (past R key (start_cut a.0)) (past R key (start_cut b.0)) (past R key (end_cut a.1)) (past R key (end_cut b.1))
       ∙ sym (λ i. in_cuts o a.0 a.1 key i && in_cuts o b.0 b.1 key i)
 
-  -- where the bounds leave no room, no key lies in the range
+  -- If the bounds of a range leave no room, no key lies in the range.
   pub in_none : (ends : Ends K) (key : K) → is_non_empty R ends ≡ false → is_in R ends key ≡ false
   in_none ends key h = in_cuts o ends.0 ends.1 key ∙ outside (past R key (start_cut ends.0)) (past R key (end_cut ends.1)) (rises (cut_total o) (end_cut ends.1) (start_cut ends.0) (below key) backward)
     where
@@ -72,7 +72,7 @@ module _ {K : Type 0} {R : K → K → Ordering} (o : IsTotalOrder R) where
       right_of true q h = cc
       right_of false q h = h
 
-  -- two ranges that intersect or touch: the second starts no later than the first ends
+  -- If two ranges overlap or touch, the second one starts no later than the first one ends.
   starts_by_end : (a b : Ends K) → (is_non_empty R (overlap R a b) || touches R b.0 a.1) ≡ true → is_gt (cut_cmp R (start_cut b.0) (end_cut a.1)) ≡ false
   starts_by_end a b h = by_case (is_non_empty R (overlap R a b)) refl h
     where
@@ -95,7 +95,7 @@ module _ {K : Type 0} {R : K → K → Ordering} (o : IsTotalOrder R) where
   pub joined_near : (a b : Ends K) → (is_non_empty R (overlap R a b) || touches R b.0 a.1) ≡ true → joined R a b ≡ Some (a.0, ord_max (end_cmp R) a.1 b.1)
   joined_near a b h = ap (λ t. cond t (Some (a.0, ord_max (end_cmp R) a.1 b.1)) None) h
 
-  -- what is said of an answer that may be None, by the ends that it shows
+  -- Statements about an answer that may be None, by the bounds that the answer shows.
   module _ {X : Type 0} (ends_of : X → Ends K) where
     pub intersection_both : (a b : Ends K) (r : Option X) → option_map ends_of r ≡ intersection R a b → IfSome r (λ x. (key : K) → is_in R (ends_of x) key ≡ (is_in R a key && is_in R b key))
     intersection_both a b None e = tt
@@ -137,7 +137,8 @@ module _ {K : Type 0} {R : K → K → Ordering} (o : IsTotalOrder R) where
     second_starts Equal s h = refl
     second_starts Greater s h = refl
 
-    -- where the first range is before the second, and where it is not
+    -- If the first range is before the second one, a key lies in their union exactly if it lies in one of the
+    -- two.
     pub joined_before : (a b : Ends K) (r : Option X) → is_lt (ends_cmp R a b) ≡ true → option_map ends_of r ≡ joined R a b → IfSome r (λ x. (key : K) → is_in R (ends_of x) key ≡ (is_in R a key || is_in R b key))
     joined_before a b r h e = joined_either a b r (first_starts _ _ h) e
 
@@ -145,7 +146,7 @@ module _ {K : Type 0} {R : K → K → Ordering} (o : IsTotalOrder R) where
     joined_behind a b None h e = tt
     joined_behind a b (Some x) h e = λ key. joined_either b a (Some x) (lesser_first (start_total o) b.0 a.0 (second_starts _ _ h)) e key ∙ or_turned (is_in R b key) (is_in R a key)
 
--- of bounds that may leave no room: what holds of them holds of the answer, or there is none
+-- What holds of bounds holds of the range that is made of them, if they leave room.
 pub if_room : {K : Type 0} (R : K → K → Ordering) (ends : Ends K) (r : Option (Ends K)) → r ≡ if_non_empty R ends → (P : Ends K → Type 0) → P ends → IfSome r P
 if_room R ends None e P holds = tt
 if_room {K} R ends (Some x) e P holds = by_test (is_non_empty R ends) e

@@ -1,4 +1,4 @@
--- Ranges of byte strings: the model's range of one, and the keys with a prefix.
+-- Ranges of byte strings as ranges of the model, and the range of the keys that begin with a prefix.
 use Rattle.std.specs.Prelude.{ℕ, ◌+◌, ◌<◌, Bool, true, false, List, [], ◌∷◌, ◌++◌, Option, Some, None, All, nat_lt, bytes_eq, if◌then◌else◌}
 use Rattle.std.specs.declared.ops.Bound.{Bound}
 use Rattle.std.specs.declared.ops.Bound.TheVariants.{Included, Excluded, Unbounded}
@@ -11,18 +11,21 @@ model_bound Unbounded = model.Unbounded
 model_bound (Included key) = model.Included key
 model_bound (Excluded key) = model.Excluded key
 
--- the model's range of what a `BytesRange` shows
+-- The model's range with these bounds.
 abbrev pub range_of : Ends (List ℕ) → Range
 range_of ends = record { from = model_bound ends.0; to = model_bound ends.1 }
 
 abbrev pub IsBytes : List ℕ → Type 0
 IsBytes key = All (λ b. b < 256) key
 
+-- A byte put before the successor of a rest. If the rest has none, the byte itself is raised by one, and a
+-- byte of 0xff gives None.
 abbrev pub raised : ℕ → Option (List ℕ) → Option (List ℕ)
 raised b (Some rest) = Some (b ∷ rest)
 raised b None = if nat_lt b 255 then Some ((b + 1) ∷ []) else None
 
--- the last byte below ff raised by one, and what follows cut; None where all bytes are ff
+-- The prefix up to its last byte below 0xff, with that byte raised by one. None if the prefix has no such
+-- byte.
 abbrev pub successor : List ℕ → Option (List ℕ)
 successor [] = None
 successor (b ∷ prefix) = raised b (successor prefix)
@@ -38,7 +41,8 @@ prefix_start (b ∷ prefix) = Included (b ∷ prefix)
 abbrev pub prefix_ends : List ℕ → Ends (List ℕ)
 prefix_ends prefix = (prefix_start prefix, end_before (successor prefix))
 
--- a bound on what follows the prefix, as a bound on the whole key; this side of the prefix's range where there is none
+-- A bound on what follows the prefix, as a bound on the whole key. Unbounded becomes `whole`, the bound that
+-- the prefix's range has on this side.
 abbrev pub placed : List ℕ → Bound (List ℕ) → Bound (List ℕ) → Bound (List ℕ)
 placed prefix whole Unbounded = whole
 placed prefix whole (Included suffix) = Included (prefix ++ suffix)
@@ -59,6 +63,6 @@ point_between (Included x) Unbounded = None
 point_between (Excluded x) end = None
 point_between Unbounded end = None
 
--- the one key of a range whose bounds are both Included at it
+-- The only key of a range whose two bounds are Included at that key. Any other range gives None.
 abbrev pub point_of : Ends (List ℕ) → Option (List ℕ)
 point_of ends = point_between ends.0 ends.1

@@ -1,4 +1,4 @@
--- What the types of bounds and ranges show.
+-- The bounds of a `StartBound`, of an `EndBound` and of a `ComparableRange`.
 use Rattle.std.specs.declared.ops.Bound.{Bound}
 use Rattle.fleet_range.specs.Ranges.{Ends}
 use Rattle.fleet_range.specs.declared.start_bound.StartBound.{StartBound}

@@ -1,4 +1,4 @@
--- The two sides of a range: their orders, equality and what is hashed.
+-- The starts and ends of ranges: their orders, their equality, and what they feed a hasher.
 use Rattle.std.specs.Prelude.{◌≡◌, ℕ, ◌++◌, Option, Some, None, Bool, true, false, ⊤, refl}
 use Rattle.std.specs.Hash as fed
 use Rattle.std.specs.Ordering.{nat_cmp, on, then_cmp, ordering_then, eq_by_cmp, is_eq}
@@ -12,7 +12,7 @@ use Rattle.std.specs.declared.ops.Bound.{Bound}
 use Rattle.std.specs.declared.ops.Bound.TheVariants.{Included, Excluded, Unbounded}
 
 module _ {K : Type 0} (R : K → K → Ordering) where
-  -- where a range starts: Unbounded is least, and at one key Included is below Excluded
+  -- The order of starts. Unbounded is the least start, and at one key Included is less than Excluded.
   abbrev pub start_cmp : Bound K → Bound K → Ordering
   start_cmp Unbounded Unbounded = Equal
   start_cmp Unbounded (Included y) = Less
@@ -24,7 +24,7 @@ module _ {K : Type 0} (R : K → K → Ordering) where
   start_cmp (Excluded x) (Included y) = ordering_then (R x y) Greater
   start_cmp (Excluded x) (Excluded y) = R x y
 
-  -- where a range ends: Unbounded is greatest, and at one key Included is above Excluded
+  -- The order of ends. Unbounded is the greatest end, and at one key Included is greater than Excluded.
   abbrev pub end_cmp : Bound K → Bound K → Ordering
   end_cmp Unbounded Unbounded = Equal
   end_cmp Unbounded (Included y) = Greater
@@ -36,11 +36,12 @@ module _ {K : Type 0} (R : K → K → Ordering) where
   end_cmp (Excluded x) (Included y) = ordering_then (R x y) Less
   end_cmp (Excluded x) (Excluded y) = R x y
 
--- a cut between keys: (0, None) is below all, (2, None) above all, and the others stand just below a key or just above it
+-- A cut between keys. (0, None) is below all keys, and (2, None) is above all keys. (1, Some (key, 0)) is
+-- just below the key, and (1, Some (key, 1)) is just above it.
 abbrev pub Cut : Type 0 → Type 0
 Cut K = ℕ × Option (K × ℕ)
 
--- by key, and at one key by the side of it
+-- The order of spots at keys: by key, and at one key by side, where 0 is below the key and 1 is above it.
 abbrev pub spot_cmp : {K : Type 0} → (K → K → Ordering) → K × ℕ → K × ℕ → Ordering
 spot_cmp R = then_cmp (on (λ p. p.0) R) (on (λ p. p.1) nat_cmp)
 
@@ -102,7 +103,7 @@ start_total {K} {R} o = subst IsTotalOrder (λ i a b. start_cuts R a b i) (on_to
 pub end_total : {K : Type 0} {R : K → K → Ordering} → IsTotalOrder R → IsTotalOrder (end_cmp R)
 end_total {K} {R} o = subst IsTotalOrder (λ i a b. end_cuts R a b i) (on_total end_cut (cut_total o))
 
--- equal sides, by equal keys
+-- Two bounds are equal if they are of one kind and their keys, where there are any, are equal.
 abbrev pub bound_eq : {K : Type 0} → (K → K → Bool) → Bound K → Bound K → Bool
 bound_eq E Unbounded Unbounded = true
 bound_eq E (Included x) (Included y) = E x y
@@ -146,7 +147,7 @@ end_ties E R t (Included x) (Excluded y) = sym (then_greater (R x y))
 end_ties E R t (Excluded x) (Included y) = sym (then_less (R x y))
 end_ties E R t (Excluded x) (Excluded y) = t x y
 
--- false is not true
+-- This type has an element for false and none for true, so it shows that false is not true.
 abbrev IsFalse : Bool → Type 0
 IsFalse true = ⊥
 IsFalse false = ⊤
@@ -188,7 +189,7 @@ bound_alike s (Excluded x) (Excluded y) (Excluded z) h = s x y z h
 pub bound_equiv : {K : Type 0} {E : K → K → Bool} → IsEquivalence E → IsEquivalence (bound_eq E)
 bound_equiv o = record { refl = bound_itself o; symm = bound_flip o.symm; congr = bound_alike o.congr }
 
--- what is fed to a hasher
+-- What a bound feeds a hasher: one byte for its kind, and then what its key feeds, where it has one.
 abbrev pub bound_input : {K : Type 0} → (K → fed.HashWrites) → Bound K → fed.HashWrites
 bound_input f Unbounded = fed.u8 0
 bound_input f (Included x) = fed.u8 1 ++ f x

@@ -1,4 +1,4 @@
-//! What has bounds that are byte strings.
+//! Types whose values are ranges of byte strings.
 
 ghost use Rattle.std.specs.Prelude.{◌≡◌, List, ℕ};
 ghost use Rattle.std.specs.Range.Bound.{bound_map};
@@ -7,16 +7,16 @@ ghost use Rattle.fleet_range.specs.Ranges.{Ends};
 use std::convert::AsSlice;
 use std::ops::{Bound, Range, RangeFrom, RangeFull, RangeInclusive, RangeTo, RangeToInclusive};
 
-/// A range of byte strings.
+/// A type whose values are ranges of byte strings.
 pub trait ByteRangeBounds {
-    // Where it starts, and where it ends.
+    /// The start and the end of the range.
     ghost ends: { Self → Ends (List ℕ) };
 
-    /// Where the range starts.
+    /// The start of the range, with its key borrowed.
     fn start_bound(&self) -> Bound<&[u8]>
         ensures { bound_map (λ key. key.now) result ≡ (ends self.now).0 };
 
-    /// Where the range ends.
+    /// The end of the range, with its key borrowed.
     fn end_bound(&self) -> Bound<&[u8]>
         ensures { bound_map (λ key. key.now) result ≡ (ends self.now).1 };
 }
@@ -39,7 +39,11 @@ impl<K: AsSlice<u8>> ByteRangeBounds for RangeInclusive<K> {
     ghost use Rattle.std.specs.declared.ops.Bound.TheVariants.{Included};
     ghost use Rattle.std.specs.Range.{range_inclusive_start, range_inclusive_end};
 
-    ghost ends = { λ r. (Included (K.items (range_inclusive_start r)), Included (K.items (range_inclusive_end r))) };
+    ghost ends = { λ r. (
+      Included
+          (K.items (range_inclusive_start r)),
+      Included (K.items (range_inclusive_end r)),
+    ) };
 
     fn start_bound(&self) -> Bound<&[u8]> {
         Bound::Included(self.start().as_slice())

@@ -35,11 +35,13 @@ impl Model for BytesRange {
 
     ghost view = { λ r. (r.range.start.bound, r.range.end.bound) };
 
-    ghost inverse = { λ v. record { range = record { start = record { bound = v.0 }; end = record { bound = v.1 } } } };
+    ghost inverse = { λ v. record {
+      range = record { start = record { bound = v.0 }; end = record { bound = v.1 } };
+    } };
 }
 
 impl BytesRange {
-    /// The range between these bounds. `try_new` tests whether they leave room.
+    /// Makes the range between bounds that leave room. `try_new` takes any bounds.
     pub fn new(start: Bound<Bytes>, end: Bound<Bytes>) -> BytesRange
         requires { is_non_empty key_cmp (start, end) ≡ true }
         ensures { result ≡ (start, end) }
@@ -49,7 +51,7 @@ impl BytesRange {
         }
     }
 
-    /// The range between these bounds, or None where they leave no room.
+    /// The range between these bounds, or None if they leave no room.
     pub fn try_new(start: Bound<Bytes>, end: Bound<Bytes>) -> Option<BytesRange>
         ensures { result ≡ if_non_empty key_cmp (start, end) }
     {
@@ -61,14 +63,14 @@ impl BytesRange {
         }
     }
 
-    /// All keys.
+    /// The range of all keys.
     pub fn unbounded() -> BytesRange
         ensures { result ≡ (Unbounded, Unbounded) }
     {
         BytesRange::new(Bound::Unbounded, Bound::Unbounded)
     }
 
-    /// A range that holds no key. Its bounds leave no room either.
+    /// A range that holds no key: both bounds are Excluded at the same key, so they leave no room.
     pub fn new_empty(alloc: Global) -> Result<BytesRange, SlateDBError>
         ensures bounds { IfOk result (λ r. r ≡ (Excluded (0 ∷ []), Excluded (0 ∷ []))) }
         ensures memory { IsOkUnless result fleet.Memory }
@@ -80,7 +82,7 @@ impl BytesRange {
         })
     }
 
-    /// A copy of a range of keys.
+    /// A copy of a range of `Bytes`. The copy has keys of its own.
     pub fn from<T: RangeBounds<Bytes>>(range: T) -> Result<BytesRange, SlateDBError>
         requires known { T.has_bounds range }
         requires non_empty { is_non_empty key_cmp (T.start_bound range, T.end_bound range) ≡ true }
@@ -92,14 +94,21 @@ impl BytesRange {
         Ok(BytesRange::new(start, end))
     }
 
-    /// A copy of a range of slices.
+    /// A copy of a range of slices. The copy has keys of its own.
     pub fn from_slice<'a, T: RangeBounds<&'a [u8]>>(
         alloc: Global,
         range: T,
     ) -> Result<BytesRange, SlateDBError>
         requires known { T.has_bounds range }
-        requires non_empty { is_non_empty key_cmp (bound_map (λ key. key.now) (T.start_bound range), bound_map (λ key. key.now) (T.end_bound range)) ≡ true }
-        ensures bounds { IfOk result (λ r. r ≡ (bound_map (λ key. key.now) (T.start_bound range), bound_map (λ key. key.now) (T.end_bound range))) }
+        requires non_empty { is_non_empty key_cmp (
+          bound_map (λ key. key.now) (T.start_bound range),
+          bound_map (λ key. key.now) (T.end_bound range),
+        ) ≡ true }
+        ensures bounds { IfOk result (λ r. r
+            ≡ (
+              bound_map (λ key. key.now) (T.start_bound range),
+              bound_map (λ key. key.now) (T.end_bound range),
+            )) }
         ensures memory { IsOkUnless result fleet.Memory }
     {
         let start = copied(alloc, range.start_bound())?;
@@ -107,10 +116,11 @@ impl BytesRange {
         Ok(BytesRange::new(start, end))
     }
 
-    /// The keys that begin with the prefix.
+    /// The range of the keys that begin with the prefix.
     pub fn from_prefix(alloc: Global, prefix: &[u8]) -> Result<BytesRange, SlateDBError>
         ensures bounds { IfOk result (λ r. r ≡ prefix_ends prefix.now) }
-        ensures keys { IfOk result (λ r. (key : List ℕ) → IsBytes key → is_in_range (range_of r) key ≡ starts_with nat_eq key prefix.now) }
+        ensures keys { IfOk result (λ r. (key : List ℕ)
+            → IsBytes key → is_in_range (range_of r) key ≡ starts_with nat_eq key prefix.now) }
         ensures memory { IsOkUnless result fleet.Memory }
     {
         let start = prefix_start(alloc, prefix)?;
@@ -120,18 +130,25 @@ impl BytesRange {
         })
     }
 
-    /// The keys that begin with the prefix and go on with a key of the subrange, or None where the bounds leave no room.
+    /// The range of the keys that begin with the prefix and go on with a key of the subrange. None
+    /// if the bounds of such keys leave no room.
     pub fn from_prefix_and_subrange<R: ByteRangeBounds + Drop>(
         alloc: Global,
         prefix: &[u8],
         subrange: R,
     ) -> Result<Option<BytesRange>, SlateDBError>
-        ensures bounds { IfOk result (λ r. r ≡ if_non_empty key_cmp (placed_ends prefix.now (R.ends subrange))) }
-        // Behind the prefix, the keys of the subrange.
-        ensures inside { IfOk result (λ r. IfSome r (λ range. (suffix : List ℕ) → is_in_range (range_of range) (prefix.now ++ suffix) ≡ is_in_range (range_of (R.ends subrange)) suffix)) }
-        // And no other keys.
-        ensures prefixed { IfOk result (λ r. IfSome r (λ range. (key : List ℕ) → IsBytes key → is_in_range (range_of range) key ≡ true → starts_with nat_eq key prefix.now ≡ true)) }
-        ensures none { IfOk result (λ r. IfNone r ((suffix : List ℕ) → is_in_range (range_of (R.ends subrange)) suffix ≡ false)) }
+        ensures bounds { IfOk result
+            (λ r. r ≡ if_non_empty key_cmp (placed_ends prefix.now (R.ends subrange))) }
+        // The prefix with a suffix lies in the range exactly if the suffix lies in the subrange.
+        ensures inside { IfOk result
+            (λ r. IfSome r (λ range. (suffix : List ℕ)
+            → is_in_range (range_of range) (prefix.now ++ suffix)
+            ≡ is_in_range (range_of (R.ends subrange)) suffix)) }
+        // Every key in the range begins with the prefix.
+        ensures prefixed { IfOk result (λ r. IfSome r (λ range. (key : List ℕ) → IsBytes key
+            → is_in_range (range_of range) key ≡ true → starts_with nat_eq key prefix.now ≡ true)) }
+        ensures none { IfOk result (λ r. IfNone r
+            ((suffix : List ℕ) → is_in_range (range_of (R.ends subrange)) suffix ≡ false)) }
         ensures memory { IsOkUnless result fleet.Memory }
     {
         let start = placed_start(alloc, prefix, subrange.start_bound())?;
@@ -139,7 +156,7 @@ impl BytesRange {
         Ok(BytesRange::try_new(start, end))
     }
 
-    /// A copy.
+    /// A copy of the range. It fails only with `SlateDBError::Memory`.
     pub fn clone(&self) -> Result<BytesRange, SlateDBError>
         ensures copy { IfOk result (λ copy. copy ≡ self.now) }
         ensures memory { IsOkUnless result fleet.Memory }
@@ -147,11 +164,15 @@ impl BytesRange {
         Ok(Clone::clone(self)?)
     }
 
-    /// The greater start and the lesser end, or None where they leave no room.
+    /// The range from the greater start to the lesser end, or None if these bounds leave no room.
     pub fn intersect(&self, other: &BytesRange) -> Result<Option<BytesRange>, SlateDBError>
         ensures bounds { IfOk result (λ r. r ≡ intersection key_cmp self.now other.now) }
-        ensures both { IfOk result (λ r. IfSome r (λ range. (key : List ℕ) → is_in_range (range_of range) key ≡ (is_in_range (range_of self.now) key && is_in_range (range_of other.now) key))) }
-        ensures none { IfOk result (λ r. IfNone r ((key : List ℕ) → (is_in_range (range_of self.now) key && is_in_range (range_of other.now) key) ≡ false)) }
+        ensures both { IfOk result
+            (λ r. IfSome r (λ range. (key : List ℕ) → is_in_range (range_of range) key
+            ≡ (is_in_range (range_of self.now) key && is_in_range (range_of other.now) key))) }
+        ensures none { IfOk result (λ r. IfNone r ((key : List ℕ)
+            → (is_in_range (range_of self.now) key && is_in_range (range_of other.now) key)
+            ≡ false)) }
         ensures memory { IsOkUnless result fleet.Memory }
     {
         match self.range.intersect(&other.range)? {
@@ -184,7 +205,8 @@ impl BytesRange {
         !matches!(self.range.start().as_bound(), Bound::Excluded(_))
     }
 
-    /// The key at which both bounds are Included.
+    /// The only key of a range whose two bounds are Included at that key. Any other range gives
+    /// None.
     pub fn as_point(&self) -> Option<&Bytes>
         ensures { option_copied result ≡ point_of self.now }
     {
@@ -194,14 +216,14 @@ impl BytesRange {
         }
     }
 
-    /// The start, with its key borrowed.
+    /// The start of the range, with its key borrowed.
     pub fn comparable_start_bound(&self) -> StartBound<&Bytes>
         ensures { bound_map (λ key. key.now) (start_of result) ≡ self.now.0 }
     {
         self.range.comparable_start_bound()
     }
 
-    /// The end, with its key borrowed.
+    /// The end of the range, with its key borrowed.
     pub fn comparable_end_bound(&self) -> EndBound<&Bytes>
         ensures { bound_map (λ key. key.now) (end_of result) ≡ self.now.1 }
     {
@@ -263,7 +285,7 @@ impl RangeBounds<Bytes> for BytesRange {
     }
 }
 
-/// The bound with a key of its own.
+// The bound with a copy of its key.
 fn cloned(bound: Bound<&Bytes>) -> Result<Bound<Bytes>, AllocError>
     ensures { IfOk result (λ b. b ≡ bound_map (λ key. key.now) bound.entry) }
 {
@@ -274,7 +296,7 @@ fn cloned(bound: Bound<&Bytes>) -> Result<Bound<Bytes>, AllocError>
     })
 }
 
-/// The bound with a key of its own, copied from a slice.
+// The bound with a copy of its key, made from a slice.
 fn copied(alloc: Global, bound: Bound<&&[u8]>) -> Result<Bound<Bytes>, AllocError>
     ensures { IfOk result (λ b. b ≡ bound_map (λ key. key.now.now) bound.entry) }
 {

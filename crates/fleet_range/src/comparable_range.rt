@@ -1,4 +1,4 @@
-//! Ranges of keys of any order.
+//! Ranges of keys of any ordered type.
 
 ghost use Rattle.std.specs.Prelude.{◌≡◌, ◌&&◌, ◌||◌, false, IfOk, IfSome, IfNone, IsOkUnless};
 ghost use Rattle.std.specs.Option.{option_map};
@@ -12,7 +12,7 @@ use crate::{EndBound, StartBound};
 use fleet_rows::SlateDBError;
 use std::ops::{Bound, RangeBounds};
 
-/// A range of keys. It may hold none.
+/// A range of keys of an ordered type. It may hold no key.
 #[derive(Clone, Debug, Drop, PartialEq, Eq, PartialOrd, Ord, Hash)]
 pub struct ComparableRange<T: Ord> {
     start: StartBound<T>,
@@ -20,7 +20,7 @@ pub struct ComparableRange<T: Ord> {
 }
 
 impl<T: Ord> ComparableRange<T> {
-    /// The range between these bounds.
+    /// The range between these bounds, even if they leave no room.
     pub fn new(start: Bound<T>, end: Bound<T>) -> ComparableRange<T>
         ensures { ends_of result ≡ (start, end) }
     {
@@ -30,23 +30,24 @@ impl<T: Ord> ComparableRange<T> {
         }
     }
 
-    /// The start.
+    /// The start of the range.
     pub(crate) fn start(&self) -> &StartBound<T>
         ensures { result.now ≡ self.now.start }
     {
         &self.start
     }
 
-    /// The end.
+    /// The end of the range.
     pub(crate) fn end(&self) -> &EndBound<T>
         ensures { result.now ≡ self.now.end }
     {
         &self.end
     }
 
-    /// Whether this range and one that is not before it intersect or touch.
+    // Whether this range overlaps or touches the other one, which is not before this one.
     fn is_near(&self, other: &ComparableRange<T>) -> bool
-        ensures { result ≡ (is_non_empty T.cmp (overlap T.cmp (ends_of self.now) (ends_of other.now)) || touches T.cmp (ends_of other.now).0 (ends_of self.now).1) }
+        ensures { result ≡ (is_non_empty T.cmp (overlap T.cmp (ends_of self.now) (ends_of other.now))
+            || touches T.cmp (ends_of other.now).0 (ends_of self.now).1) }
     {
         have_room(
             greater(&self.start, &other.start),
@@ -54,21 +55,22 @@ impl<T: Ord> ComparableRange<T> {
         ) || meet(&other.start, &self.end)
     }
 
-    /// Whether the bounds leave room: so also of two keys, both Excluded, with no key between.
+    /// Whether the bounds leave room. Two Excluded bounds at rising keys leave room even if no key
+    /// lies between them.
     pub fn non_empty(&self) -> bool
         ensures { result ≡ is_non_empty T.cmp (ends_of self.now) }
     {
         have_room(&self.start, &self.end)
     }
 
-    /// The start, with its key borrowed.
+    /// The start of the range, with its key borrowed.
     pub fn comparable_start_bound(&self) -> StartBound<&T>
         ensures { bound_map (λ key. key.now) (start_of result) ≡ (ends_of self.now).0 }
     {
         StartBound::from(borrowed(self.start.as_bound()))
     }
 
-    /// The end, with its key borrowed.
+    /// The end of the range, with its key borrowed.
     pub fn comparable_end_bound(&self) -> EndBound<&T>
         ensures { bound_map (λ key. key.now) (end_of result) ≡ (ends_of self.now).1 }
     {
@@ -77,7 +79,7 @@ impl<T: Ord> ComparableRange<T> {
 }
 
 impl<T: Ord + Clone> ComparableRange<T> {
-    /// A copy.
+    /// A copy of the range. It fails only with `SlateDBError::Memory`.
     pub fn clone(&self) -> Result<ComparableRange<T>, SlateDBError>
         requires { ClonesEqual T.is_clone }
         ensures copy { IfOk result (λ copy. copy ≡ self.now) }
@@ -86,15 +88,18 @@ impl<T: Ord + Clone> ComparableRange<T> {
         Ok(Clone::clone(self)?)
     }
 
-    /// The greater start and the lesser end, or None where they leave no room.
+    /// The range from the greater start to the lesser end, or None if these bounds leave no room.
     pub fn intersect(
         &self,
         other: &ComparableRange<T>,
     ) -> Result<Option<ComparableRange<T>>, SlateDBError>
         requires { ClonesEqual T.is_clone }
-        ensures bounds { IfOk result (λ r. option_map ends_of r ≡ intersection T.cmp (ends_of self.now) (ends_of other.now)) }
-        ensures both { IfOk result (λ r. IfSome r (λ range. (key : T) → is_in T.cmp (ends_of range) key ≡ (is_in T.cmp (ends_of self.now) key && is_in T.cmp (ends_of other.now) key))) }
-        ensures none { IfOk result (λ r. IfNone r ((key : T) → (is_in T.cmp (ends_of self.now) key && is_in T.cmp (ends_of other.now) key) ≡ false)) }
+        ensures bounds { IfOk result (λ r. option_map ends_of r
+            ≡ intersection T.cmp (ends_of self.now) (ends_of other.now)) }
+        ensures both { IfOk result (λ r. IfSome r (λ range. (key : T) → is_in T.cmp (ends_of range) key
+            ≡ (is_in T.cmp (ends_of self.now) key && is_in T.cmp (ends_of other.now) key))) }
+        ensures none { IfOk result (λ r. IfNone r ((key : T) → (is_in T.cmp (ends_of self.now) key
+            && is_in T.cmp (ends_of other.now) key) ≡ false)) }
         ensures memory { IsOkUnless result fleet.Memory }
     {
         let start = greater(&self.start, &other.start);
@@ -109,14 +114,18 @@ impl<T: Ord + Clone> ComparableRange<T> {
         }
     }
 
-    /// The least start and the greatest end, or None where the two neither intersect nor touch.
+    /// The range from the lesser start to the greater end, or None if the two ranges neither
+    /// overlap nor touch.
     pub fn union(
         &self,
         other: &ComparableRange<T>,
     ) -> Result<Option<ComparableRange<T>>, SlateDBError>
         requires { ClonesEqual T.is_clone }
-        ensures bounds { IfOk result (λ r. option_map ends_of r ≡ union_of T.cmp (ends_of self.now) (ends_of other.now)) }
-        ensures either { IfOk result (λ r. IfSome r (λ range. (key : T) → is_in T.cmp (ends_of range) key ≡ (is_in T.cmp (ends_of self.now) key || is_in T.cmp (ends_of other.now) key))) }
+        ensures bounds { IfOk result
+            (λ r. option_map ends_of r ≡ union_of T.cmp (ends_of self.now) (ends_of other.now)) }
+        ensures either { IfOk result
+            (λ r. IfSome r (λ range. (key : T) → is_in T.cmp (ends_of range) key
+            ≡ (is_in T.cmp (ends_of self.now) key || is_in T.cmp (ends_of other.now) key))) }
         ensures memory { IsOkUnless result fleet.Memory }
     {
         if self.cmp(other).is_lt() {
@@ -126,10 +135,12 @@ impl<T: Ord + Clone> ComparableRange<T> {
         }
     }
 
-    /// The union with a range that is not before this one.
+    // The union of this range with one that is not before it, or None if the two neither overlap
+    // nor touch.
     fn united(&self, other: &ComparableRange<T>) -> Result<Option<ComparableRange<T>>, SlateDBError>
         requires { ClonesEqual T.is_clone }
-        ensures bounds { IfOk result (λ r. option_map ends_of r ≡ joined T.cmp (ends_of self.now) (ends_of other.now)) }
+        ensures bounds { IfOk result
+            (λ r. option_map ends_of r ≡ joined T.cmp (ends_of self.now) (ends_of other.now)) }
         ensures memory { IsOkUnless result fleet.Memory }
     {
         if self.is_near(other) {
@@ -161,7 +172,7 @@ impl<T: Ord + Drop> RangeBounds<T> for ComparableRange<T> {
     }
 }
 
-/// The bound at a borrowed key.
+/// The bound with its key borrowed.
 pub(crate) fn borrowed<T>(bound: &Bound<T>) -> Bound<&T>
     ensures { bound_map (λ key. key.now) result ≡ bound.now }
 {
@@ -172,7 +183,7 @@ pub(crate) fn borrowed<T>(bound: &Bound<T>) -> Bound<&T>
     }
 }
 
-/// Whether this start and this end leave room.
+// Whether a start and an end leave room.
 fn have_room<T: Ord>(start: &StartBound<T>, end: &EndBound<T>) -> bool
     ensures { result ≡ leaves_room T.cmp (start_of start.now) (end_of end.now) }
 {
@@ -186,7 +197,7 @@ fn have_room<T: Ord>(start: &StartBound<T>, end: &EndBound<T>) -> bool
     }
 }
 
-/// Whether a range that starts so begins where one that ends so stops.
+// Whether a range with this start begins exactly where a range with this end stops.
 fn meet<T: Ord>(start: &StartBound<T>, end: &EndBound<T>) -> bool
     ensures { result ≡ touches T.cmp (start_of start.now) (end_of end.now) }
 {
@@ -197,14 +208,14 @@ fn meet<T: Ord>(start: &StartBound<T>, end: &EndBound<T>) -> bool
     }
 }
 
-/// The greater of two, the second where they are equal.
+// The greater of two values, or the second one if they are equal.
 fn greater<'a, K: Ord>(a: &'a K, b: &'a K) -> &'a K
     ensures { result.now ≡ ord_max K.cmp a.now b.now }
 {
     if b.cmp(a).is_lt() { a } else { b }
 }
 
-/// The lesser of two, the first where they are equal.
+// The lesser of two values, or the first one if they are equal.
 fn lesser<'a, K: Ord>(a: &'a K, b: &'a K) -> &'a K
     ensures { result.now ≡ ord_min K.cmp a.now b.now }
 {

@@ -1,4 +1,4 @@
-//! Where a range ends.
+//! The ends of ranges.
 
 ghost use Rattle.std.specs.Prelude.{◌≡◌, IfOk, IsOkUnless};
 ghost use Rattle.std.specs.Range.Bound.{bound_map};
@@ -11,14 +11,15 @@ use std::cmp::Ordering;
 use std::hash::{Hash, Hasher};
 use std::ops::Bound;
 
-/// Where a range ends. Unbounded is greatest, and at one key Included is above Excluded.
+/// The end of a range. Unbounded is the greatest end, and at one key Included is greater than
+/// Excluded.
 #[derive(Clone, Debug, Drop)]
 pub struct EndBound<T: Ord> {
     bound: Bound<T>,
 }
 
 impl<T: Ord> EndBound<T> {
-    /// The bound of std.
+    /// The end as a `Bound`.
     pub(crate) fn as_bound(&self) -> &Bound<T>
         ensures { result.now ≡ self.now.bound }
     {
@@ -27,7 +28,7 @@ impl<T: Ord> EndBound<T> {
 }
 
 impl<T: Ord + Clone> EndBound<T> {
-    /// A copy.
+    /// A copy of the end. It fails only with `SlateDBError::Memory`.
     pub fn clone(&self) -> Result<EndBound<T>, SlateDBError>
         requires { ClonesEqual T.is_clone }
         ensures copy { IfOk result (λ copy. copy ≡ self.now) }
@@ -38,7 +39,7 @@ impl<T: Ord + Clone> EndBound<T> {
 }
 
 impl<'a, T: Ord + Clone> EndBound<&'a T> {
-    /// The same bound with a key of its own.
+    /// The end with a copy of its borrowed key.
     pub fn cloned(&self) -> Result<EndBound<T>, SlateDBError>
         requires { ClonesEqual T.is_clone }
         ensures copy { IfOk result (λ b. end_of b ≡ bound_map (λ key. key.now) (end_of self.now)) }
@@ -128,7 +129,9 @@ impl<T: Ord> PartialOrd for EndBound<T> {
 
     ghost partial_cmp = { λ a b. Some (end_cmp T.cmp (end_of a) (end_of b)) };
 
-    ghost laws = { partial_order_from_agreeing_total (λ a b. end_cmp T.cmp (end_of a) (end_of b)) (on_total end_of (end_total T.total)) (λ a b. refl) (λ a b. end_ties T.eq T.cmp T.matches_eq (end_of a) (end_of b)) };
+    ghost laws = { partial_order_from_agreeing_total
+        (λ a b. end_cmp T.cmp (end_of a) (end_of b)) (on_total end_of (end_total T.total))
+        (λ a b. refl) (λ a b. end_ties T.eq T.cmp T.matches_eq (end_of a) (end_of b)) };
 
     fn partial_cmp(&self, other: &EndBound<T>) -> Option<Ordering> {
         Some(self.cmp(other))
@@ -140,7 +143,8 @@ impl<T: Ord + Hash> Hash for EndBound<T> {
 
     ghost hash_input = { λ a. bound_input T.hash_input (end_of a) };
 
-    ghost respects_eq = { λ a b h. bound_alike_input T.eq T.hash_input T.respects_eq (end_of a) (end_of b) h };
+    ghost respects_eq = { λ a b h.
+        bound_alike_input T.eq T.hash_input T.respects_eq (end_of a) (end_of b) h };
 
     fn hash<H: Hasher>(&self, state: &mut H) {
         match &self.bound {

@@ -1,4 +1,4 @@
-//! The bounds of the keys with a prefix.
+//! The bounds of the keys that begin with a prefix.
 
 ghost use Rattle.std.specs.Prelude.{◌≡◌, ◌++◌, IfOk};
 ghost use Rattle.std.specs.Range.Bound.{bound_map};
@@ -8,7 +8,8 @@ use bytes::Bytes;
 use std::alloc::{AllocError, Global};
 use std::ops::Bound;
 
-/// The prefix with its last byte below ff raised by one and what follows cut, None where all bytes are ff.
+// The prefix up to its last byte below 0xff, with that byte raised by one. None if the prefix has
+// no such byte.
 fn successor(alloc: Global, prefix: &[u8]) -> Result<Option<Bytes>, AllocError>
     ensures { IfOk result (λ end. end ≡ successor prefix.now) }
 {
@@ -25,7 +26,7 @@ fn successor(alloc: Global, prefix: &[u8]) -> Result<Option<Bytes>, AllocError>
     Ok(None)
 }
 
-/// The prefix, and behind it the suffix.
+// The prefix followed by the suffix.
 fn concatenated(alloc: Global, prefix: &[u8], suffix: &[u8]) -> Result<Bytes, AllocError>
     ensures { IfOk result (λ key. key ≡ prefix.now ++ suffix.now) }
 {
@@ -34,7 +35,7 @@ fn concatenated(alloc: Global, prefix: &[u8], suffix: &[u8]) -> Result<Bytes, Al
     Ok(Bytes::from_vec(key)?)
 }
 
-/// Where the keys with the prefix start.
+/// The start of the range of the keys that begin with the prefix.
 pub(crate) fn prefix_start(alloc: Global, prefix: &[u8]) -> Result<Bound<Bytes>, AllocError>
     ensures { IfOk result (λ start. start ≡ prefix_start prefix.now) }
 {
@@ -45,7 +46,7 @@ pub(crate) fn prefix_start(alloc: Global, prefix: &[u8]) -> Result<Bound<Bytes>,
     }
 }
 
-/// Where the keys with the prefix end.
+/// The end of the range of the keys that begin with the prefix.
 pub(crate) fn prefix_end(alloc: Global, prefix: &[u8]) -> Result<Bound<Bytes>, AllocError>
     ensures { IfOk result (λ end. end ≡ end_before (successor prefix.now)) }
 {
@@ -55,13 +56,15 @@ pub(crate) fn prefix_end(alloc: Global, prefix: &[u8]) -> Result<Bound<Bytes>, A
     }
 }
 
-/// Where the keys with the prefix start whose rest starts so.
+/// The start of the range of the keys that begin with the prefix and whose rest is in a range with
+/// this start.
 pub(crate) fn placed_start(
     alloc: Global,
     prefix: &[u8],
     start: Bound<&[u8]>,
 ) -> Result<Bound<Bytes>, AllocError>
-    ensures { IfOk result (λ b. b ≡ placed prefix.now (prefix_start prefix.now) (bound_map (λ key. key.now) start.entry)) }
+    ensures { IfOk result (λ b. b
+        ≡ placed prefix.now (prefix_start prefix.now) (bound_map (λ key. key.now) start.entry)) }
 {
     match start {
         Bound::Included(suffix) => Ok(Bound::Included(concatenated(alloc, prefix, suffix)?)),
@@ -70,13 +73,15 @@ pub(crate) fn placed_start(
     }
 }
 
-/// Where the keys with the prefix end whose rest ends so.
+/// The end of the range of the keys that begin with the prefix and whose rest is in a range with
+/// this end.
 pub(crate) fn placed_end(
     alloc: Global,
     prefix: &[u8],
     end: Bound<&[u8]>,
 ) -> Result<Bound<Bytes>, AllocError>
-    ensures { IfOk result (λ b. b ≡ placed prefix.now (end_before (successor prefix.now)) (bound_map (λ key. key.now) end.entry)) }
+    ensures { IfOk result (λ b. b ≡ placed prefix.now
+        (end_before (successor prefix.now)) (bound_map (λ key. key.now) end.entry)) }
 {
     match end {
         Bound::Included(suffix) => Ok(Bound::Included(concatenated(alloc, prefix, suffix)?)),

@@ -1,4 +1,4 @@
-//! Where a range starts.
+//! The starts of ranges.
 
 ghost use Rattle.std.specs.Prelude.{◌≡◌, IfOk, IsOkUnless};
 ghost use Rattle.std.specs.Range.Bound.{bound_map};
@@ -11,14 +11,15 @@ use std::cmp::Ordering;
 use std::hash::{Hash, Hasher};
 use std::ops::Bound;
 
-/// Where a range starts. Unbounded is least, and at one key Included is below Excluded.
+/// The start of a range. Unbounded is the least start, and at one key Included is less than
+/// Excluded.
 #[derive(Clone, Debug, Drop)]
 pub struct StartBound<T: Ord> {
     bound: Bound<T>,
 }
 
 impl<T: Ord> StartBound<T> {
-    /// The bound of std.
+    /// The start as a `Bound`.
     pub(crate) fn as_bound(&self) -> &Bound<T>
         ensures { result.now ≡ self.now.bound }
     {
@@ -27,7 +28,7 @@ impl<T: Ord> StartBound<T> {
 }
 
 impl<T: Ord + Clone> StartBound<T> {
-    /// A copy.
+    /// A copy of the start. It fails only with `SlateDBError::Memory`.
     pub fn clone(&self) -> Result<StartBound<T>, SlateDBError>
         requires { ClonesEqual T.is_clone }
         ensures copy { IfOk result (λ copy. copy ≡ self.now) }
@@ -38,10 +39,11 @@ impl<T: Ord + Clone> StartBound<T> {
 }
 
 impl<'a, T: Ord + Clone> StartBound<&'a T> {
-    /// The same bound with a key of its own.
+    /// The start with a copy of its borrowed key.
     pub fn cloned(&self) -> Result<StartBound<T>, SlateDBError>
         requires { ClonesEqual T.is_clone }
-        ensures copy { IfOk result (λ b. start_of b ≡ bound_map (λ key. key.now) (start_of self.now)) }
+        ensures copy { IfOk result
+            (λ b. start_of b ≡ bound_map (λ key. key.now) (start_of self.now)) }
         ensures memory { IsOkUnless result fleet.Memory }
     {
         let bound = match self.as_bound() {
@@ -128,7 +130,9 @@ impl<T: Ord> PartialOrd for StartBound<T> {
 
     ghost partial_cmp = { λ a b. Some (start_cmp T.cmp (start_of a) (start_of b)) };
 
-    ghost laws = { partial_order_from_agreeing_total (λ a b. start_cmp T.cmp (start_of a) (start_of b)) (on_total start_of (start_total T.total)) (λ a b. refl) (λ a b. start_ties T.eq T.cmp T.matches_eq (start_of a) (start_of b)) };
+    ghost laws = { partial_order_from_agreeing_total
+        (λ a b. start_cmp T.cmp (start_of a) (start_of b)) (on_total start_of (start_total T.total))
+        (λ a b. refl) (λ a b. start_ties T.eq T.cmp T.matches_eq (start_of a) (start_of b)) };
 
     fn partial_cmp(&self, other: &StartBound<T>) -> Option<Ordering> {
         Some(self.cmp(other))
@@ -140,7 +144,8 @@ impl<T: Ord + Hash> Hash for StartBound<T> {
 
     ghost hash_input = { λ a. bound_input T.hash_input (start_of a) };
 
-    ghost respects_eq = { λ a b h. bound_alike_input T.eq T.hash_input T.respects_eq (start_of a) (start_of b) h };
+    ghost respects_eq = { λ a b h.
+        bound_alike_input T.eq T.hash_input T.respects_eq (start_of a) (start_of b) h };
 
     fn hash<H: Hasher>(&self, state: &mut H) {
         match &self.bound {

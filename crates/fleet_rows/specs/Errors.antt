@@ -1,4 +1,4 @@
--- What the refusal of an operator or of a filter becomes.
+-- How an error of a merge operator or of a compaction filter becomes an error of the fleet.
 use Rattle.fleet_rows.specs.declared.errors.MergeOperatorError.{MergeOperatorError}
 use Rattle.fleet_rows.specs.declared.errors.MergeOperatorError.TheVariants as merge
 use Rattle.fleet_rows.specs.declared.errors.CompactionFilterError.{CompactionFilterError}
@@ -6,13 +6,13 @@ use Rattle.fleet_rows.specs.declared.errors.CompactionFilterError.TheVariants as
 use Rattle.fleet_rows.specs.declared.errors.SlateDBError.{SlateDBError}
 use Rattle.fleet_rows.specs.declared.errors.SlateDBError.TheVariants.{MergeOperator, CompactionFilter, Memory}
 
--- an operator's refusal; want of memory stays want of memory
+-- The error of the fleet for an error of a merge operator. `Memory` stays `Memory`.
 abbrev pub raised : MergeOperatorError → SlateDBError
 raised merge.EmptyBatch = MergeOperator merge.EmptyBatch
 raised (merge.Callback message) = MergeOperator (merge.Callback message)
 raised merge.Memory = Memory
 
--- a filter's refusal
+-- The error of the fleet for an error of a compaction filter. `Memory` stays `Memory`.
 abbrev pub raised_by_filter : CompactionFilterError → SlateDBError
 raised_by_filter (filter.CreationError text) = CompactionFilter (filter.CreationError text)
 raised_by_filter (filter.FilterError text) = CompactionFilter (filter.FilterError text)

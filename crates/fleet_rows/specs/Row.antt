@@ -1,4 +1,4 @@
--- A row as it is stored, seen as the model's row.
+-- The program's rows as rows of the model.
 use Rattle.std.specs.Prelude.{ℕ, List, map, Option, Some, None}
 use Rattle.row_model.specs.Rows.{Row, Content}
 use Rattle.row_model.specs.Rows as model
@@ -17,7 +17,7 @@ row_of r = record { key = r.key; content = content_of r.value; seq = r.seq; crea
 abbrev pub rows_of : List RowEntry → List Row
 rows_of rows = map row_of rows
 
--- the bytes of a value or of an operand; a tombstone has none
+-- The bytes of a value or of an operand. A tombstone has none.
 abbrev pub bytes_of : ValueDeletable → Option (List ℕ)
 bytes_of (Value bytes) = Some bytes
 bytes_of (Merge bytes) = Some bytes

@@ -1,4 +1,4 @@
--- The settings as the program holds them, seen as the model's.
+-- The program's settings as settings of the model.
 use Rattle.row_model.specs.Settings as model
 use Rattle.fleet_rows.specs.declared.settings.Settings.{Settings}
 

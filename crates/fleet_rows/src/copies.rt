@@ -1,4 +1,4 @@
-//! Copies that equal what they were made of.
+//! Copies that equal their sources.
 
 ghost use Rattle.std.specs.Prelude.{◌≡◌, IfOk};
 
@@ -6,9 +6,10 @@ use crate::{RowEntry, Text, Ulid, ValueDeletable};
 use bytes::Bytes;
 use std::alloc::AllocError;
 
-/// What can be an item of a list that is cloned: its copy is the same value.
+/// A type whose values can be copied, as the items of a list are when the list is cloned. Each copy
+/// equals its source.
 pub trait Copies {
-    /// The copy. Only want of memory refuses it.
+    /// A copy of the value. It fails only if memory runs out.
     fn copied(&self) -> Result<Self, AllocError>
     where
         Self: Sized,

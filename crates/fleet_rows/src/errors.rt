@@ -1,4 +1,4 @@
-//! What a call of the fleet may be refused with.
+//! The errors of the fleet, of merge operators and of compaction filters.
 
 ghost use Rattle.std.specs.Prelude.{◌≡◌, IfOk, IsOkUnless};
 ghost use Rattle.fleet_rows.specs.declared.errors.CompactionFilterError.TheVariants as filter;
@@ -10,7 +10,7 @@ use crate::Text;
 use std::alloc::{AllocError, AllocFailed};
 use thiserror::Error;
 
-/// Why a merge operator gave no answer.
+/// The reason why a merge operator gave no result.
 #[derive(Clone, Debug, Drop, Error)]
 pub enum MergeOperatorError {
     #[error("merge_batch called with empty operands and no existing value")]
@@ -22,7 +22,7 @@ pub enum MergeOperatorError {
 }
 
 impl MergeOperatorError {
-    /// A copy.
+    /// A copy of the error. It fails only with `SlateDBError::Memory`.
     pub fn clone(&self) -> Result<MergeOperatorError, SlateDBError>
         ensures copy { IfOk result (λ copy. copy ≡ self.now) }
         ensures memory { IsOkUnless result SlateDBError.Memory }
@@ -47,7 +47,7 @@ impl<T: Drop> From<AllocFailed<T>> for MergeOperatorError {
     }
 }
 
-/// Why a compaction filter gave no answer.
+/// The reason why a compaction filter gave no result.
 #[derive(Clone, Debug, Drop, Error)]
 pub enum CompactionFilterError {
     #[error("filter creation failed: {0}")]
@@ -61,7 +61,7 @@ pub enum CompactionFilterError {
 }
 
 impl CompactionFilterError {
-    /// A copy.
+    /// A copy of the error. It fails only with `SlateDBError::Memory`.
     pub fn clone(&self) -> Result<CompactionFilterError, SlateDBError>
         ensures copy { IfOk result (λ copy. copy ≡ self.now) }
         ensures memory { IsOkUnless result SlateDBError.Memory }
@@ -86,7 +86,7 @@ impl<T: Drop> From<AllocFailed<T>> for CompactionFilterError {
     }
 }
 
-/// Why a call of the fleet was refused.
+/// The reason why a call of the fleet failed.
 #[derive(Clone, Debug, Drop, Error)]
 pub enum SlateDBError {
     #[error("IteratorNotInitialized")]
@@ -120,7 +120,7 @@ pub enum SlateDBError {
 }
 
 impl SlateDBError {
-    /// A copy.
+    /// A copy of the error. It fails only with `SlateDBError::Memory`.
     pub fn clone(&self) -> Result<SlateDBError, SlateDBError>
         ensures copy { IfOk result (λ copy. copy ≡ self.now) }
         ensures memory { IsOkUnless result SlateDBError.Memory }

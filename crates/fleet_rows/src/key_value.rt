@@ -1,4 +1,4 @@
-//! A key with its value.
+//! Keys with their values.
 
 ghost use Rattle.std.specs.Prelude.{◌≡◌, IfOk, IsOkUnless};
 ghost use Rattle.fleet_rows.specs.KeyValue.{key_value_of};
@@ -6,7 +6,7 @@ ghost use Rattle.fleet_rows.specs.KeyValue.{key_value_of};
 use crate::{RowEntry, SlateDBError, ValueDeletable};
 use bytes::Bytes;
 
-/// A key with its value, or with the operand that stands for it.
+/// A key with the bytes of its value or of an operand, and with the row's sequence and stamps.
 #[derive(Clone, Debug, Drop, PartialEq, Eq, PartialOrd, Ord, Hash)]
 pub struct KeyValue {
     pub key: Bytes,
@@ -17,7 +17,8 @@ pub struct KeyValue {
 }
 
 impl KeyValue {
-    /// What a row holds, None exactly for a tombstone. A moment of creation that is not there becomes 0.
+    /// The key-value pair of a row, or None if the row is a tombstone. A missing time of creation
+    /// becomes 0.
     pub fn from_row(entry: RowEntry) -> Option<KeyValue>
         ensures { result ≡ key_value_of entry }
     {
@@ -41,7 +42,7 @@ impl KeyValue {
         })
     }
 
-    /// A copy.
+    /// A copy of the pair. The only error is `Memory`.
     pub fn clone(&self) -> Result<KeyValue, SlateDBError>
         ensures copy { IfOk result (λ copy. copy ≡ self.now) }
         ensures memory { IsOkUnless result SlateDBError.Memory }

@@ -1,4 +1,4 @@
-//! Lists that contracts see as lists.
+//! Vectors that contracts see as lists.
 
 ghost use Rattle.std.specs.Prelude.{◌≡◌, ◌↔◌, ◌≤◌, ◌<◌, ◌++◌, [], ◌∷◌, drop, length, slice_get, slice_set, take, IsTrue, OnOk, OnErr, IfOk, IsOkUnless};
 ghost use Rattle.std.specs.Option.{option_copied};
@@ -8,7 +8,7 @@ use crate::{Copies, SlateDBError, Ulid};
 use std::alloc::{AllocError, Global};
 use std::marker::Model;
 
-/// Items in order, seen as a list.
+/// A vector of items, in order. Contracts see it as the list of these items.
 #[derive(Debug, Drop)]
 pub struct ListOf<T> {
     items: Vec<T>,
@@ -35,14 +35,14 @@ impl<T: Drop> ListOf<T> {
         }
     }
 
-    /// The list of these items, in their own memory.
+    /// Makes a list of the vector's items. It keeps the vector's memory and copies nothing.
     pub fn from_vec(items: Vec<T>) -> Self
         ensures { result ≡ items.items }
     {
         ListOf { items }
     }
 
-    /// The items, in the memory that they have.
+    /// Gives the items as a vector. It keeps the list's memory and copies nothing.
     pub fn into_vec(self) -> Vec<T>
         ensures { result.items ≡ self }
     {
@@ -50,7 +50,7 @@ impl<T: Drop> ListOf<T> {
         items
     }
 
-    /// Adds an item at the end. Where memory is wanted, the item is dropped.
+    /// Adds an item at the end. If memory runs out, the item is dropped.
     pub fn push(&mut self, item: T) -> Result<(), SlateDBError>
         ensures ok { OnOk result (self.new ≡ self.old ++ item ∷ []) }
         ensures err { OnErr result (self.new ≡ self.old) }
@@ -59,7 +59,8 @@ impl<T: Drop> ListOf<T> {
         Ok(self.items.push(item)?)
     }
 
-    /// Puts an item before the one at this place, counted from 0, or at the end. Where memory is wanted, the item is dropped.
+    /// Inserts an item before the one at `place`, counted from 0, or at the end if `place` is the
+    /// length. If memory runs out, the item is dropped.
     pub fn insert(&mut self, place: u64, item: T) -> Result<(), SlateDBError>
         requires { place ≤ length self.old }
         ensures ok { OnOk result (self.new ≡ take place self.old ++ item ∷ drop place self.old) }
@@ -69,7 +70,7 @@ impl<T: Drop> ListOf<T> {
         Ok(self.items.insert(place as usize, item)?)
     }
 
-    /// Puts an item in the place of another, counted from 0, which is dropped.
+    /// Puts an item in the place of the one at `place`, counted from 0. The old item is dropped.
     pub fn replace(&mut self, place: u64, item: T)
         requires { place < length self.old }
         ensures { self.new ≡ slice_set self.old place item }
@@ -77,21 +78,21 @@ impl<T: Drop> ListOf<T> {
         self.items[place as usize] = item;
     }
 
-    /// How many items there are.
+    /// The number of items.
     pub fn len(&self) -> u64
         ensures { result ≡ length self.now }
     {
         self.items.len() as u64
     }
 
-    /// Whether there is no item.
+    /// Whether the list has no items.
     pub fn is_empty(&self) -> bool
         ensures { IsTrue result ↔ (self.now ≡ []) }
     {
         self.items.is_empty()
     }
 
-    /// The item at this place, counted from 0.
+    /// The item at `place`, counted from 0, or None if `place` is not below the length.
     pub fn get(&self, place: u64) -> Option<&T>
         ensures { option_copied result ≡ slice_get self.now place }
     {
@@ -107,7 +108,7 @@ impl<T: Drop> ListOf<T> {
 }
 
 impl<T: Copies + Drop> ListOf<T> {
-    /// A copy.
+    /// A copy of the list and of its items. The only error is `Memory`.
     pub fn clone(&self) -> Result<ListOf<T>, SlateDBError>
         ensures copy { IfOk result (λ copy. copy ≡ self.now) }
         ensures memory { IsOkUnless result SlateDBError.Memory }
@@ -148,11 +149,12 @@ impl<T: Eq> Eq for ListOf<T> {
     ghost laws = { lists_equiv T.Eq.laws };
 }
 
-/// Ids of jobs or of tables.
+/// A list of ids of jobs or of tables.
 pub type JobList = ListOf<Ulid>;
 
-/// Jobs, each with the number of the rule that it failed.
+/// A list of jobs, each with the number of the rule that it failed.
 pub type RuleList = ListOf<(Ulid, u8)>;
 
-/// Places of a scheduler's proposals, counted from 1, each with the number of the rule that it failed.
+/// A list of a scheduler's proposals. Each is given by its place, counted from 1, and the number of
+/// the rule that it failed.
 pub type PlaceList = ListOf<(u64, u8)>;

@@ -1,4 +1,4 @@
-//! One row: a key at a sequence, with its value.
+//! Rows: a row gives a key a value, an operand or a tombstone at a sequence.
 
 ghost use Rattle.std.specs.Prelude.{◌≡◌, ◌↔◌, ◌≤◌, ◌+◌, length, IsTrue, IfOk, IsOkUnless};
 ghost use Rattle.row_model.specs.Bounds.{IsInBounds};
@@ -9,7 +9,8 @@ ghost use Rattle.fleet_rows.specs.Row.{bytes_of, content_of, row_of};
 use crate::SlateDBError;
 use bytes::Bytes;
 
-/// What a row says of its key: a value, an operand to merge, or that it is deleted.
+/// The content of a row: the key's value, an operand to merge, or a tombstone, which deletes the
+/// key.
 #[derive(Clone, Debug, Drop, PartialEq, Eq)]
 pub enum ValueDeletable {
     Value(Bytes),
@@ -18,7 +19,7 @@ pub enum ValueDeletable {
 }
 
 impl ValueDeletable {
-    /// The length of the value, 0 for a tombstone.
+    /// The length of the value or operand, in bytes. A tombstone has length 0.
     pub fn len(&self) -> usize
         ensures { result ≡ content_len (content_of self.now) }
     {
@@ -28,21 +29,22 @@ impl ValueDeletable {
         }
     }
 
-    /// Whether there are no bytes: so of a tombstone, and of an empty value.
+    /// Whether there are no bytes. This holds of a tombstone, an empty value and an empty operand.
     pub fn is_empty(&self) -> bool
         ensures { IsTrue result ↔ (content_len (content_of self.now) ≡ 0) }
     {
         self.len() == 0
     }
 
-    /// Whether the key is deleted here.
+    /// Whether this is a tombstone, which deletes its key.
     pub fn is_tombstone(&self) -> bool
         ensures { result ≡ is_tombstone (content_of self.now) }
     {
         matches!(self, ValueDeletable::Tombstone)
     }
 
-    /// A copy of the bytes, None exactly for a tombstone.
+    /// A copy of the bytes of the value or operand, or None for a tombstone. The only error is
+    /// `Memory`.
     pub fn as_bytes(&self) -> Result<Option<Bytes>, SlateDBError>
         ensures copy { IfOk result (λ bytes. bytes ≡ bytes_of self.now) }
         ensures memory { IsOkUnless result SlateDBError.Memory }
@@ -53,7 +55,7 @@ impl ValueDeletable {
         }
     }
 
-    /// A copy.
+    /// A copy of the content. The only error is `Memory`.
     pub fn clone(&self) -> Result<ValueDeletable, SlateDBError>
         ensures copy { IfOk result (λ copy. copy ≡ self.now) }
         ensures memory { IsOkUnless result SlateDBError.Memory }
@@ -62,13 +64,13 @@ impl ValueDeletable {
     }
 }
 
-/// The greatest length of a key.
+// The greatest length of a key, in bytes.
 const MAX_KEY_LEN: usize = 65_535;
 
-/// Every value is shorter than this.
+// The limit on the length of a value or an operand, in bytes. Each one is shorter.
 const VALUE_LEN_LIMIT: usize = 1 << 32;
 
-/// A row as a table holds it.
+/// A row as tables store it.
 #[derive(Clone, Debug, Drop, PartialEq, Eq)]
 pub struct RowEntry {
     pub key: Bytes,
@@ -79,7 +81,7 @@ pub struct RowEntry {
 }
 
 impl RowEntry {
-    /// A row of these parts, whatever its lengths are.
+    /// Makes a row of these parts. It checks no length: `is_in_bounds` does.
     pub fn new(
         key: Bytes,
         value: ValueDeletable,
@@ -87,7 +89,13 @@ impl RowEntry {
         create_ts: Option<i64>,
         expire_ts: Option<i64>,
     ) -> RowEntry
-        ensures { result ≡ record { key = key; value = value; seq = seq; create_ts = create_ts; expire_ts = expire_ts } }
+        ensures { result ≡ record {
+          key = key;
+          value = value;
+          seq = seq;
+          create_ts = create_ts;
+          expire_ts = expire_ts;
+        } }
     {
         RowEntry {
             key,
@@ -98,14 +106,15 @@ impl RowEntry {
         }
     }
 
-    /// Whether the key and the value are no longer than a table may hold.
+    /// Whether the key has at most 65,535 bytes, and the value or operand fewer than 2^32.
     pub fn is_in_bounds(&self) -> bool
         ensures { IsTrue result ↔ IsInBounds (row_of self.now) }
     {
         self.key.len() <= MAX_KEY_LEN && self.value.len() < VALUE_LEN_LIMIT
     }
 
-    /// The lengths of key and value, and 8 bytes for the sequence and for each stamp that is there.
+    /// The size in bytes by which tables and blocks are cut. It is the lengths of the key and of
+    /// the value or operand, 8 for the sequence, and 8 for each stamp that is there.
     pub fn estimated_size(&self) -> usize
         requires { IsInBounds (row_of self.now) }
         ensures { result ≡ estimated_size (row_of self.now) }
@@ -113,7 +122,8 @@ impl RowEntry {
         self.key.len() + self.value.len() + 8 + self.stamps_size()
     }
 
-    /// The size in a block, where the first `key_prefix_len` bytes of the key stand elsewhere.
+    /// The row's size in a block, in bytes. The key's first `key_prefix_len` bytes are shared with
+    /// an earlier key and do not count.
     pub fn encoded_size(&self, key_prefix_len: usize) -> usize
         requires in_bounds { IsInBounds (row_of self.now) }
         requires prefix { key_prefix_len ≤ length self.now.key }
@@ -127,7 +137,7 @@ impl RowEntry {
         }
     }
 
-    /// A copy.
+    /// A copy of the row. The only error is `Memory`.
     pub fn clone(&self) -> Result<RowEntry, SlateDBError>
         ensures copy { IfOk result (λ copy. copy ≡ self.now) }
         ensures memory { IsOkUnless result SlateDBError.Memory }
@@ -135,7 +145,7 @@ impl RowEntry {
         Ok(Clone::clone(self)?)
     }
 
-    /// The bytes of the stamps that are there.
+    // The size of the stamps in bytes: 8 for each one that is there.
     fn stamps_size(&self) -> usize
         ensures { result ≡ stamp_size self.now.create_ts + stamp_size self.now.expire_ts }
     {

@@ -1,14 +1,17 @@
-//! What a compaction goes by.
+//! The settings of a compaction.
 
-/// The settings of a compaction.
+/// The settings by which a compaction folds and keeps rows.
 #[derive(Clone, Copy, Debug, PartialEq, Eq)]
 pub struct Settings {
     /// No snapshot reads below this sequence.
     pub floor: u64,
-    /// The moment at which rows count as expired.
+    /// The moment of the compaction, in milliseconds. A row whose expiry is at most this moment
+    /// counts as expired.
     pub tick: i64,
-    /// Whether the last run of a tree is written, below which nothing stands.
+    /// Whether the compaction writes the last sorted run of its tree. Nothing is older than that
+    /// run.
     pub last_run: bool,
-    /// At or below this sequence older versions may go, and operands are folded. Every read from it on is kept.
+    /// Operands at or below this sequence are folded, and older versions at or below it may be
+    /// dropped. Every read at this sequence or above is kept.
     pub cut: u64,
 }

@@ -1,4 +1,4 @@
-//! Texts that contracts see as their bytes.
+//! Texts that contracts see as lists of bytes.
 
 ghost use Rattle.std.specs.Prelude.{◌≡◌, IfOk, IsOkUnless, Some, nat_eq, string_bytes};
 ghost use Rattle.std.specs.Cmp.{partial_equiv_from_equiv};
@@ -9,7 +9,7 @@ use std::alloc::AllocError;
 use std::fmt;
 use std::marker::Model;
 
-/// A text, seen as its bytes.
+/// A text. Contracts see it as the list of its bytes, in UTF-8.
 #[derive(Debug, Drop)]
 pub struct Text {
     text: String,
@@ -24,7 +24,7 @@ impl Model for Text {
 }
 
 impl Text {
-    /// The text as it is: no copy is made.
+    /// Makes a text of a string. It keeps the string's memory and copies nothing.
     pub fn new(text: String) -> Text
         ensures { result ≡ string_bytes text }
     {
@@ -38,7 +38,7 @@ impl Text {
         self.text.as_bytes()
     }
 
-    /// A copy.
+    /// A copy of the text. The only error is `Memory`.
     pub fn clone(&self) -> Result<Text, SlateDBError>
         ensures copy { IfOk result (λ copy. copy ≡ self.now) }
         ensures memory { IsOkUnless result SlateDBError.Memory }

@@ -4,7 +4,11 @@ ghost use Rattle.std.specs.Prelude.{◌≡◌, ◌<◌, ◌+◌, ◌*◌, ◌/�
 
 use std::marker::Model;
 
-/// An id: 48 bits of moment above an 80-bit number. Contracts see it as one number.
+/// Tables that jobs write have numbers above this one. Flushed tables and jobs have numbers below it.
+pub const DRAWN_BASE: u128 = 1 << 79;
+
+/// An id of 128 bits: a moment of 48 bits above a number of 80 bits. Contracts see it as one
+/// number.
 #[derive(Clone, Copy, Debug, PartialEq, Eq, PartialOrd, Ord, Hash)]
 pub struct Ulid {
     bits: u128,
@@ -21,7 +25,8 @@ impl Model for Ulid {
 }
 
 impl Ulid {
-    /// Of the moment, the low 48 bits are kept.
+    /// Makes an id of a moment, in milliseconds, and a number. Only the low 48 bits of the moment
+    /// are kept.
     pub fn from_parts(moment_ms: u64, number: u128) -> Ulid
         requires { number < 2 ^ 80 }
         ensures { result ≡ (moment_ms % 2 ^ 48) * 2 ^ 80 + number }
@@ -32,14 +37,14 @@ impl Ulid {
         }
     }
 
-    /// The moment in milliseconds.
+    /// The moment of the id, in milliseconds.
     pub fn moment_ms(&self) -> u64
         ensures { result ≡ self.now / 2 ^ 80 }
     {
         (self.bits / (1 << 80)) as u64
     }
 
-    /// The low 80 bits.
+    /// The number of the id, which is its low 80 bits.
     pub fn number(&self) -> u128
         ensures { result ≡ self.now % 2 ^ 80 }
     {

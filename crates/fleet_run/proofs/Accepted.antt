@@ -1,4 +1,4 @@
--- What a flush that breaks no rule is.
+-- What holds of a flush that breaks no rule.
 use Rattle.std.proofs.Common.{◌≡◌, refl, ap, ℕ, ◌<◌, ℤ, List, [], ◌∷◌, length, cond, Bool, true, false, not, ◌&&◌, Option, Some, None, arith, nat_lt, nat_le, int_lt, fold, ◌^◌}
 use Rattle.std.specs.List.{AllByRecursion, list_all}
 use Rattle.std.specs.Option.{option_or}
@@ -24,7 +24,7 @@ all_of_test p (x ∷ xs) h = by (p x) refl (all_of_test p xs) h
     by true is rest h = (is, rest h)
     by false is rest h = absurd (cc h)
 
--- a flush that breaks no rule by itself
+-- The flush breaks no rule on its own: neither for its name nor for its order.
 pub record IsSoundAlone (fleet : FleetView) (name : ℕ) (rows : List Row) : Type 0 where
   pub named : fleet.last_name < name
   pub ordered : IsStrictlyOrdered rows
@@ -67,7 +67,7 @@ rows_in_bounds (r ∷ rows) h =
     let first : IsInBounds r = record { key = h.0.key.2; content = content_in_bounds r.content h.0.content } in
     (first, rows_in_bounds rows h.1)
 
--- its rows are a table
+-- The rows of a flush that breaks no rule are a table.
 pub are_table : (fleet : FleetView) (name floor : ℕ) (tick : ℤ) (rows : List RowEntry) → 0 < length rows → AreRows (rows_of rows) → flush_fault fleet name floor tick (rows_of rows) ≡ None → IsTable (rows_of rows)
 are_table fleet name floor tick [] some fits h = absurd (omega arith)
 are_table fleet name floor tick (r ∷ rows) some fits h =
@@ -78,12 +78,12 @@ are_table fleet name floor tick (r ∷ rows) some fits h =
       in_bounds = rows_in_bounds all fits;
     }
 
--- the greatest sequence by a fold
+-- The greatest sequence, computed by a fold over the rows.
 pub fold-greatest : (last : Option ℕ) (rows : List RowEntry) → fold (λ last (row : RowEntry). greater_seq last row.seq) last rows ≡ greatest_seq last (rows_of rows)
 fold-greatest last [] = refl
 fold-greatest last (r ∷ rows) = fold-greatest (greater_seq last r.seq) rows
 
--- tests of rows are tests of what the rows are seen as
+-- A test of the program's rows gives what the test of the model's rows gives.
 pub rows_above : (last : Option ℕ) (rows : List RowEntry) → list_all (λ (row : RowEntry). is_above last row.seq) rows ≡ list_all (λ r. is_above last r.seq) (rows_of rows)
 rows_above last [] = refl
 rows_above last (r ∷ rows) = ap (λ b. is_above last r.seq && b) (rows_above last rows)

@@ -1,4 +1,5 @@
--- A course that nothing strikes and that nobody disturbs: how it leads from what is held to what is held then.
+-- Courses that no fault strikes and that run while no other party calls: how they lead from one
+-- held state to another.
 use Rattle.std.proofs.Common.{◌≡◌, refl, sym, ap, subst, ◌∙◌, ℕ, ◌+◌, ◌==◌, List, [], ◌∷◌, ◌++◌, cond, true, Option, Some, None, max, length, arith}
 use Rattle.std.specs.Prelude.{⊤}
 use Rattle.std.proofs.lemmas.Bool.Decides.{nat_tests}
@@ -13,7 +14,7 @@ use Rattle.fleet_run.specs.Holds.{Held, held}
 
 -- ---- calls
 
--- A call leaves this held, where its version is the one stored.
+-- What is held after a call whose version is the stored one.
 abbrev pub held_after : Exchange → Held → Held
 held_after (Plain event) h = h
 held_after (DrawsJob moment) h = record h { jobs_drawn = h.jobs_drawn + 1 }
@@ -41,7 +42,7 @@ last_name-append (first ∷ history) e = omega (arith, last_name-append history 
 pub same_number : (n m : ℕ) → n ≡ m → (n == m) ≡ true
 same_number n m h = grind (arith, nat_tests, h)
 
--- An entry that puts no table leaves the name as it was.
+-- An entry that puts no table leaves the last name as it was.
 name_stays : (store : Store) (e : Entry) → name_in e.event ≡ 0 → last_name (store.history ++ e ∷ []) ≡ last_name store.history
 name_stays store e h = omega (arith, last_name-append store.history e, h)
 
@@ -70,19 +71,21 @@ held_one line party (DeletesTable table) store h =
 
 -- ---- courses
 
--- The course leads from what is held to what is held then, and ends with the answer. How it goes on is decided by what is held
--- of the store that each call meets.
+-- The course leads from what is held before it to what is held after it, and ends with the answer.
+-- What is held of the store that a call meets decides how the course goes on.
 abbrev pub Leads : {A : Type 0} → Course A → Held → Held → A → Type 0
 Leads (Ends answer) h last end = (h ≡ last) × (answer ≡ end)
 Leads (Calls x next) h last end = Succeeds x h × ((met : Store) → held met ≡ h → Leads (next met) (held_after x h) last end)
 
--- The course is run alone where no fault waits: it ends with the answer, and leaves a store of which this is held.
+-- The course, run alone with no waiting fault, ends with the answer. What is held of the store that
+-- it leaves is `last`.
 pub record RunsTo {A : Type 0} (line : ℕ) (party : Party) (course : Course A) (store : Store) (last : Held) (end : A) : Type 0 where
   pub left : Store
   pub run : run_alone line party course None store ≡ record { answer = Some end; store = left; fault = None }
   pub holds : held left ≡ last
 
--- A course run alone, where no fault waits, makes its calls, each at the store that the one before left.
+-- A course that leads somewhere also runs there: alone, with no waiting fault, each call at the
+-- store that the one before it left.
 pub run_leads : {A : Type 0} (line : ℕ) (party : Party) (course : Course A) (store : Store) (last : Held) (end : A) → Leads course (held store) last end → RunsTo line party course store last end
 run_leads line party (Ends answer) store last end h =
     let is : answer ≡ end = h.1 in
@@ -93,7 +96,7 @@ run_leads {A} line party (Calls x next) store last end h =
     let r = run_leads line party (next store) after last end rest in
     record { left = r.left; run = r.run; holds = r.holds }
 
--- A course goes on by its answer.
+-- Two courses, one after the other, lead where the second leads after the answer of the first.
 pub then_leads : {A B : Type 0} (course : Course A) (rest : A → Course B) (h mid last : Held) (answer : A) (end : B) → Leads course h mid answer → Leads (rest answer) mid last end
     → Leads (then_course course rest) h last end
 then_leads (Ends given) rest h mid last answer end (here, is) later =
@@ -104,7 +107,7 @@ then_leads (Calls x next) rest h mid last answer end (succeeds, further) later =
 -- ---- the calls of steps
 
 module _ {A : Type 0} (h last : Held) (end : A) where
-  -- A call goes on by what is held of the store that it meets.
+  -- What is held of the store that a call meets decides how the course goes on.
   pub call_leads : (x : Exchange) (next : Held → Course A) → Succeeds x h → Leads (next h) (held_after x h) last end → Leads (Calls x (λ met. next (held met))) h last end
   call_leads x next succeeds rest = (succeeds, λ met same. subst (λ (k : Held). Leads (next k) (held_after x h) last end) (sym same) rest)
 

@@ -42,7 +42,7 @@ use Rattle.fleet_run.proofs.StoredRecords.{are_stored, records_kept}
 abbrev options : WorkerOptions
 options = worker_options default_options
 
--- A claim at moment 0, without a retention, goes by this.
+-- The input of a claim at moment 0 and without a retention.
 abbrev input_of : Manifest → Tables → ClaimInput
 input_of manifest tables = record { release = Two; manifest = manifest; moment = 0; retention = 0; most = 4; tables = tables }
 
@@ -75,11 +75,11 @@ first_true : (a b : Bool) → (a && b) ≡ true → a ≡ true
 first_true true b h = refl
 first_true false b h = absurd (cc h)
 
--- A claim of a worker of release 2 takes these jobs.
+-- A claim by a worker of release 2 takes such a job: it waits, and the worker does not run it.
 abbrev others : List ℕ → Job → Bool
 others running job = is_waiting job && not (contains running job.id) && may_take Two job
 
--- A claim stops these jobs.
+-- A claim stops such a job: it waits, and the worker runs it.
 abbrev own : List ℕ → Job → Bool
 own running job = is_waiting job && contains running job.id
 
@@ -101,15 +101,15 @@ take_none (suc n) = refl
 
 -- ---- what a claim calls
 
--- A worker of release 2 runs these attempts.
+-- The worker of release 2 that runs these attempts.
 abbrev pub worker_of : List Attempt → LiveWorker
 worker_of attempts = record { number = 1; release = Two; attempts = attempts }
 
--- A claim that takes nothing and stops nothing reports this.
+-- The report of a claim that takes nothing and stops nothing.
 abbrev nothing_claimed : List Attempt → Claimed
 nothing_claimed attempts = record { begun = []; stopped = []; released = []; attempts = attempts }
 
--- A claim that begins one attempt reports this.
+-- The report of a claim that begins one attempt.
 abbrev one_begun : Attempt → Claimed
 one_begun a = record { begun = a ∷ []; stopped = []; released = []; attempts = a ∷ [] }
 
@@ -133,7 +133,7 @@ none_leads left seen h attempts none stops same =
         subst (λ cs. Leads (claim_of options 0 (worker_of attempts) got cs (ids (stopped_jobs (worker_of attempts) got.jobs)) again) h h end) (sym claims)
         (subst (λ ss. Leads (claim_of options 0 (worker_of attempts) got [] (ids ss) again) h h end) (sym stopped) (refl, ap (λ these. Reports (nothing_claimed these)) same))
 
--- The records, once the job of this id is claimed.
+-- The records after the job of this id was claimed.
 abbrev claimed_records : Records → ℕ → Records
 claimed_records got id = record got { version = got.version + 1; jobs = trimmed (changed (claimed_by 1 0) (id ∷ []) got.jobs) }
 
@@ -160,7 +160,8 @@ one_leads left seen h got job a here claims stops starts_here is =
     end : StepEnd Claimed
     end = Reports (one_begun a)
 
-    -- The job starts, or it is released.
+    -- The course after the get of the manifest: the job starts if the flag holds, and is released
+    -- otherwise.
     begins_by : Bool → ClaimInput → Course (StepEnd Claimed)
     begins_by b input =
         let started = cond b (opened_job job ∷ []) [] in
@@ -175,7 +176,7 @@ one_leads left seen h got job a here claims stops starts_here is =
     begins : ClaimInput → Course (StepEnd Claimed)
     begins input = begins_by (can_start input.manifest (opened_job job)) input
 
-    -- The plan of the attempt is noted, and the claim reports it.
+    -- The course that notes the ranges of the attempt and reports the claim.
     notes : Attempt → Course (StepEnd Claimed)
     notes b = Calls (Plain (Plan b.job b.number (map (λ r. r.0) b.context.ranges))) (λ met. Ends (Reports (one_begun b)))
 
@@ -189,7 +190,7 @@ one_leads left seen h got job a here claims stops starts_here is =
 
 -- ---- the line
 
--- The line, where the worker is live or not.
+-- The course of a claim's line when these parties are live.
 abbrev line_at : State → Parties → LineCourse
 line_at s parties = if_some (worker_with 1 parties) (only_replies s no_such_party) (λ w. worker_line w s (claim options 0 w) (λ r. claim_reply r.begun r.stopped) (λ r. r.attempts) w.attempts)
 
@@ -216,7 +217,7 @@ module _ (number : ℕ) (fleet : FleetView) (store : Store) (holds : Holds fleet
   abbrev Goal : Type 0
   Goal = Serves number fleet store (claim_line 1 s) (claim_answer fleet) (after_claim fleet)
 
-  -- A claim of the live worker serves, and the fleet is left so.
+  -- The line of a claim by the live worker gives this reply and leaves this fleet.
   of_worker : (attempts : List Attempt) (new : FleetView) (answer : List ℕ) → fleet.worker ≡ true → attempts_by fleet.opened ≡ attempts → answer ≡ claim_answer fleet → new ≡ after_claim fleet
       → Serves number fleet store (line_at s (parties_with true attempts)) answer new → Goal
   of_worker attempts new answer live are told is served =
@@ -228,7 +229,7 @@ module _ (number : ℕ) (fleet : FleetView) (store : Store) (holds : Holds fleet
   abbrev ends_of : List Attempt → StepEnd Claimed → LineEnd
   ends_of attempts = line_end (λ r. claim_reply r.begun r.stopped) (λ r. running (worker_of attempts) s r.attempts) (running (worker_of attempts) s attempts)
 
-  -- No job waits.
+  -- If no job waits, no job can be claimed.
   none_claimed : fleet.worker ≡ true → waiting_job fleet.opened ≡ None → filter (others (attempt_jobs (attempts_by fleet.opened))) (open_jobs fleet.opened ++ map asked_job fleet.asked) ≡ []
       → filter (own (attempt_jobs (attempts_by fleet.opened))) (open_jobs fleet.opened ++ map asked_job fleet.asked) ≡ []
       → filter (λ (a : Attempt). true) (attempts_by fleet.opened) ≡ attempts_by fleet.opened → Goal
@@ -245,13 +246,14 @@ module _ (number : ℕ) (fleet : FleetView) (store : Store) (holds : Holds fleet
       (none_leads 63 0 (held store) attempts claims stops same) (ap (λ p. record { reply = claim_reply [] []; parties = p }) parties) holds in
       of_worker attempts fleet (claim_reply [] []) live refl (ap (claimed_reply fleet) (sym none) ∙ answer_is live) new_is served
 
-  -- A run above all others is the last one only where there is no other.
+  -- A run above all others is the last one only if there are no others.
   only_none : (runs : List (ℕ × Tables)) (id : ℕ) → AllByRecursion (λ run. run.0 < id) runs → is_last id (firsts runs) ≡ true → runs ≡ []
   only_none [] id above last = refl
   only_none (r ∷ []) id above last = absurd (let other : (r.0 == id) ≡ false = grind (arith, nat_tests, above.0) in cc (last, other))
   only_none (r ∷ q ∷ runs) id above last = absurd (cc (only_none (q ∷ runs) id above.1 last))
 
-  -- The job's flush stands in the tree with the table that the job keeps.
+  -- The job's flush is in the tree with the table that the job's record names, so the job can
+  -- start.
   starts_here : (job : AskedJob) → OpenStands fleet (record { job = job; stage = Waits }) → can_start store.manifest (opened_job job) ≡ true
   starts_here job stands =
       let n = job.source in

@@ -1,4 +1,4 @@
--- The run of a finished job comes in place of the oldest flush.
+-- A commit replaces the oldest flush with the run of the finished job.
 use Rattle.std.proofs.Common.{◌≡◌, refl, sym, ap, ◌∙◌, ℕ, ◌<◌, ◌≤◌, ◌==◌, List, [], ◌∷◌, ◌++◌, map, flat_map, cond, Bool, true, false, not, ◌&&◌, ◌||◌, Option, None, append-nil, nat_lt, arith}
 use Rattle.std.specs.Prelude.{bytes_eq}
 use Rattle.std.specs.Cmp.Lexicographic.{pointwise}
@@ -43,7 +43,7 @@ oldest_is_last [] flush n e = grind (arith, nat_tests, e)
 oldest_is_last (f ∷ []) flush n e = oldest_is_last [] flush n e
 oldest_is_last (f ∷ g ∷ newer) flush n e = oldest_is_last (g ∷ newer) flush n e
 
--- ---- the tree without it, and with the run
+-- ---- the tree after a commit
 
 other_name : (n m : ℕ) → n < m → (n == m) ≡ false
 other_name n m h = grind (arith, nat_tests, h)
@@ -88,7 +88,7 @@ stepped_root tables job out newer flush made more e sound above =
     ∙ ap (put_run d (record { name = Run d; flushes = flush.0 ∷ []; pieces = firsts out })) (without_oldest newer flush made n e (all_above_oldest newer flush more sound))
     ∙ put_above d (record { name = Run d; flushes = flush.0 ∷ []; pieces = firsts out }) newer made above
 
--- ---- and the trees
+-- ---- the trees after a commit
 
 pub committed_root : (tables : Tables) (job : AskedJob) (out : Tables) (newer : Tables) (flush : ℕ × List Row) (made : List MadeRun) (last_seq watermark : Option ℕ) (more : Tables) → flush.0 ≡ job.source
     → AreFlushes ((newer ++ flush ∷ []) ++ more) → AllByRecursion (λ m. m.id < job.destination) made
@@ -99,7 +99,7 @@ committed_root tables job out newer flush made last_seq watermark more e sound a
     let segment : Tree → Segment = λ t. record { prefix = []; tree = t; last_seq = last_seq; watermark = mark } in
     ap (λ t. segment t ∷ []) (stepped_root tables job out newer flush made more e sound above)
 
--- The oldest flush is a node of the tree, and holds the table that a job of it keeps.
+-- The oldest flush is a node of the tree, and has exactly the table that a job of it names.
 pub record OldestStands (whole : Tree) (n : ℕ) : Type 0 where
   pub there : list_all (names_contain (names whole)) (L0 n ∷ []) ≡ true
   pub kept : bytes_eq (source_pieces (L0 n ∷ []) whole) (n ∷ []) ≡ true
@@ -122,7 +122,7 @@ commit_passes job out cut newer flush made last_seq watermark e =
     ap (λ b. first_failing ((4, b) ∷ (10, bytes_eq (source_pieces (L0 n ∷ []) whole) (n ∷ [])) ∷ (0, true) ∷ [])) stands.there
     ∙ ap (λ b. first_failing ((10, b) ∷ (0, true) ∷ [])) stands.kept
 
--- the trees are not the same
+-- A commit changes the trees.
 trees_differ : (newer : Tables) (flush : ℕ × List Row) (made : List MadeRun) (m : MadeRun) → pointwise node_eq (tree (newer ++ flush ∷ []) made) (tree newer (m ∷ made)) ≡ false
 trees_differ [] flush made m = refl
 trees_differ (f ∷ newer) flush made m = by (node_eq (node_of f) (node_of f)) (trees_differ newer flush made m)

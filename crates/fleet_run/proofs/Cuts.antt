@@ -1,4 +1,4 @@
--- Rows cut into tables, row after row.
+-- Rows cut into tables, row by row.
 use Rattle.std.proofs.Common.{◌≡◌, refl, ap, sym, ◌∙◌, ℕ, ◌+◌, List, [], ◌∷◌, ◌++◌, Bool, true, false, append_assoc}
 use Rattle.std.specs.Prelude.{nat_lt, if◌then◌else◌}
 use Rattle.std.proofs.lemmas.List.{map-append}
@@ -8,13 +8,13 @@ use Rattle.row_model.specs.Tables.{with_row, cut_from}
 use Rattle.fleet_rows.specs.Row.{row_of, rows_of}
 use Rattle.fleet_rows.specs.declared.row.RowEntry.{RowEntry}
 
--- rows of a table that is not full yet, in front of the cut of the rows behind them
+-- The tables when these rows of an unfinished table come before the cut of the rows after them.
 abbrev pub behind : List Row → List (List Row) → List (List Row)
 behind [] tables = tables
 behind (r ∷ front) [] = (r ∷ front) ∷ []
 behind (r ∷ front) (table ∷ tables) = ((r ∷ front) ++ table) ∷ tables
 
--- a list of rows with one more is not empty
+-- Rows with one more at their end are not empty, so they come before the first table.
 behind-snoc : (front : List Row) (r : Row) (tables : List (List Row)) (first : List Row) → behind (front ++ r ∷ []) (first ∷ tables) ≡ ((front ++ r ∷ []) ++ first) ∷ tables
 behind-snoc [] r tables first = refl
 behind-snoc (o ∷ front) r tables first = refl
@@ -27,13 +27,13 @@ behind-first : (front first : List Row) (tables : List (List Row)) (r : Row) →
 behind-first [] first tables r = refl
 behind-first (o ∷ front) first tables r = refl
 
--- a row that fills its table ends it
+-- A row that exceeds the size of its table ends the table.
 pub cut_full : (size filled : ℕ) (front : List Row) (r : Row) (rest : List Row) → nat_lt size (filled + estimated_size r) ≡ true
     → behind front (cut_from size filled (r ∷ rest)) ≡ (front ++ r ∷ []) ∷ cut_from size 0 rest
 cut_full size filled front r rest full =
     ap (λ b. behind front (with_row b r (cut_from size (if b then 0 else filled + estimated_size r) rest))) full ∙ behind-first front [] (cut_from size 0 rest) r
 
--- and another row comes to those before it
+-- A row that does not exceed the size of its table is added to the rows before it.
 pub cut_more : (size filled : ℕ) (front : List Row) (r : Row) (rest : List Row) → nat_lt size (filled + estimated_size r) ≡ false
     → behind front (cut_from size filled (r ∷ rest)) ≡ behind (front ++ r ∷ []) (cut_from size (filled + estimated_size r) rest)
 cut_more size filled front r rest room =
@@ -43,7 +43,7 @@ cut_more size filled front r rest room =
     by [] = behind-first front [] [] r ∙ sym (behind-none front r)
     by (first ∷ tables) = behind-first front first tables r ∙ ap (λ rows. rows ∷ tables) (sym (append_assoc front (r ∷ []) first)) ∙ sym (behind-snoc front r tables first)
 
--- the same of rows as the program has them
+-- One step of the loop that cuts the program's rows into tables.
 pub more_gathered : (size filled n : ℕ) (made whole : List (List Row)) (front more rest left : List RowEntry) (row : RowEntry) (full : Bool) → rest ≡ row ∷ left → more ≡ front ++ row ∷ []
     → full ≡ nat_lt size (filled + estimated_size (row_of row)) → full ≡ false → n ≡ estimated_size (row_of row)
     → made ++ behind (rows_of front) (cut_from size filled (rows_of rest)) ≡ whole

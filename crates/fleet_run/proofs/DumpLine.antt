@@ -1,4 +1,4 @@
--- The line of a dump: the rows of the node that is found are those of its flush or of its run.
+-- The line of a dump: it shows the rows of its flush or of its run.
 use Rattle.std.proofs.Common.{◌≡◌, refl, sym, ap, ◌∙◌, subst, ℕ, ◌==◌, List, [], ◌∷◌, ◌++◌, map, flat_map, find, cond, Bool, true, false, Option, Some, None, arith, append-nil}
 use Rattle.std.specs.Prelude.{option_map}
 use Rattle.std.specs.List.{AllByRecursion}
@@ -18,11 +18,11 @@ use Rattle.fleet_run.proofs.RootTree.{tree}
 use Rattle.fleet_run.proofs.Serves.{Serves, replies_serve}
 use Rattle.fleet_run.proofs.TreeHolds.{all_front, all_back}
 
--- the rows of a node that was found
+-- The rows of a node, if it was found.
 abbrev rows_of_node : Tables → Option Node → Option (List Row)
 rows_of_node stored node = option_map (node_rows stored) node
 
--- a tree is searched with the two names in the other order
+-- Equality of two names gives the same result in both orders.
 other_way : (n m : ℕ) (b : Bool) → (n == m) ≡ b → (m == n) ≡ b
 other_way n m true h = grind (arith, nat_tests, h)
 other_way n m false h = grind (arith, nat_tests, h)

@@ -1,4 +1,5 @@
--- The line of a finish: what the job keeps of its flush is cut and put, and the job is compacted.
+-- The line of a finish: it cuts what the job keeps of its flush, puts the tables, and puts the job
+-- as Compacted.
 use Rattle.std.proofs.Common.{◌≡◌, refl, sym, ap, ◌∙◌, subst, ℕ, suc, ◌+◌, ◌^◌, ◌<◌, ◌≤◌, ◌==◌, List, [], ◌∷◌, ◌++◌, map, cond, Bool, true, false, not, ◌&&◌, Option, Some, None, arith, append_assoc, append-nil, length, codes, inl, inr}
 use Rattle.std.specs.Prelude.{flat_map}
 use Rattle.std.specs.List.{AllByRecursion}
@@ -56,7 +57,7 @@ flush_behind : (newer : Tables) (flush : ℕ × List Row) (more : Tables) → Ar
 flush_behind [] flush more sound = sound.0
 flush_behind (f ∷ newer) flush more sound = flush_behind newer flush more sound.1
 
--- All newer flushes have other names.
+-- All newer flushes have greater names.
 names_above : (newer : Tables) (flush : ℕ × List Row) (more : Tables) → AreFlushes (newer ++ flush ∷ more)
     → (flush.0 ≤ newest_name (newer ++ flush ∷ more)) × AllByRecursion (λ (f : ℕ × List Row). (f.0 == flush.0) ≡ false) newer
 names_above [] flush more sound = (omega arith, tt)
@@ -72,15 +73,15 @@ oldest_found newer flush more sound = stored_rows (newer ++ flush ∷ []) flush 
 abbrev options : WorkerOptions
 options = worker_options default_options
 
--- A finish puts the job with these outputs and this cut.
+-- What the history does not record of a finish at moment 0: its kept cut.
 abbrev finishing : ℕ → Unrecorded
 finishing cut = record { moment = 0; published = no_contexts; kept_cut = Some cut; tables_of = λ spec. [] }
 
--- The records, once the job of this id is finished.
+-- The records after the job of this id was finished.
 abbrev finished_records : Records → ℕ → ℕ → List ℕ → Records
 finished_records got id cut outputs = record got { version = got.version + 1; jobs = trimmed (changed (finished_by 1 (finishing cut) (outputs ∷ [])) (id ∷ []) got.jobs) }
 
--- A finish of the only attempt reports these outputs.
+-- The end of a finish of the worker's only attempt, with these outputs.
 abbrev finish_end : List ℕ → StepEnd FinishedJob
 finish_end outputs = Reports (record { outputs = outputs ∷ []; attempts = [] })
 
@@ -129,7 +130,7 @@ finish_leads merge h got job settings kept here live gone makes = (refl, λ met 
     end : StepEnd FinishedJob
     end = finish_end (firsts (numbered h.tables_drawn (cut_tables options.table_size kept)))
 
-    -- The job ends with these outputs.
+    -- The course that ends the job with these outputs.
     further : List ℕ → Course (StepEnd FinishedJob)
     further ids = ends_from 0 (worker_of (attempt_of job settings ∷ [])) (attempt_of job settings) (ids ∷ []) 64 0
 
@@ -142,16 +143,17 @@ finish_leads merge h got job settings kept here live gone makes = (refl, λ met 
 
 -- ---- the line
 
--- The line of a finish, where no fold refuses.
+-- The course of the line of a finish at which no fold refuses.
 abbrev line_by : Operator → State → Option (LiveWorker × Attempt) → LineCourse
 line_by merge s found = if_some found (only_replies s no_such_party) (λ f. finish_line (with_quiet_scheduler merge) s f.0 f.1 None)
 
--- No fold refuses at the finish, and its line serves.
+-- No fold refuses at the finish, and its line gives the fleet's reply and leaves the fleet after
+-- it.
 pub record FinishServes (merge : Operator) (number : ℕ) (fleet : FleetView) (store : Store) (job : ℕ) : Type 0 where
   pub may : FinishMay (with_quiet_scheduler merge) (state_of fleet store) (courses.job_at (state_of fleet store) 1 job) None
   pub serves : Serves number fleet store (line_by merge (state_of fleet store) (courses.job_at (state_of fleet store) 1 job)) (finish_answer fleet job) (after_finish fleet job)
 
--- The worker runs this attempt under the number, where it is live.
+-- The live worker with its attempt at the job of this number, if there are both.
 abbrev attempt_in : Parties → ℕ → Option (LiveWorker × Attempt)
 attempt_in parties job = if_some (worker_with 1 parties) None (λ w. if_some (attempt_numbered job w.attempts) None (λ a. Some (w, a)))
 
@@ -302,7 +304,7 @@ module _ (merge : Operator) (number : ℕ) (fleet : FleetView) (store : Store) (
           idle = λ _. refl;
         }
 
-    -- The step leads to what the new fleet holds.
+    -- The finish leads to what the fleet after it holds.
     leads : Leads (finish merge store.tables options 0 w attempt None) (held store) last_held (finish_end (firsts tables))
     leads =
         subst (λ n. Leads (finish merge store.tables options 0 w attempt None) (held store)

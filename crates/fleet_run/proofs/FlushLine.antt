@@ -33,7 +33,7 @@ use Rattle.fleet_run.proofs.TreeHolds.{all_both}
 
 -- ---- why a flush is refused
 
--- This asks for a flush into the root.
+-- The flush of these rows into the root.
 abbrev pub ask_of : ℕ → ℕ → ℤ → List Row → FlushAsk
 ask_of name floor tick rows = record { name = name; segment = []; floor = floor; tick = tick; rows = rows }
 
@@ -51,7 +51,7 @@ against_alike fleet store name floor tick rows holds = rw (holds.trees, holds.fl
 
 -- ---- tables found under their ids
 
--- A table that is found stays found where others come after it.
+-- A table that is found under its id is also found after others are appended.
 pub still_stored : (stored : Tables) (more : Tables) (table : ℕ × List Row) → IsStored stored table → IsStored (stored ++ more) table
 still_stored [] more table h = absurd (cc h)
 still_stored (t ∷ stored) more table h = by (t.0 == table.0) refl h (still_stored stored more table)
@@ -61,7 +61,7 @@ still_stored (t ∷ stored) more table h = by (t.0 == table.0) refl h (still_sto
     by true e h rest = ap (λ b. cond b (Some t) (find (λ other. other.0 == table.0) (stored ++ more))) e ∙ h
     by false e h rest = ap (λ b. cond b (Some t) (find (λ other. other.0 == table.0) (stored ++ more))) e ∙ rest h
 
--- A table that comes under a new id is found.
+-- A table is found under its id if no table before it has this id.
 pub new_stored : (stored : Tables) (table : ℕ × List Row) (more : Tables) → AllByRecursion (λ other. (other.0 == table.0) ≡ false) stored → IsStored (stored ++ table ∷ more) table
 new_stored [] table more h =
     let same : (table.0 == table.0) ≡ true = grind (arith, nat_tests) in
@@ -70,7 +70,7 @@ new_stored (t ∷ stored) table more h = ap (λ b. cond b (Some t) (find (λ oth
 
 -- ---- what a flush calls
 
--- A flush that is accepted leaves this held.
+-- What is held after an accepted flush.
 abbrev flushed_held : Held → ℕ → ℕ → ℤ → List Row → Held
 flushed_held h name floor tick rows = record h {
   manifest = record (model.with_flush 0 0 (ask_of name floor tick rows) h.manifest) { version = h.manifest.version + 1 };
@@ -118,7 +118,7 @@ open_on fleet name floor tick rows (Some o) h = record {
     on (Runs settings) g = g
     on (Wrote tables cut) g = g
 
--- What the fleet holds once the flush is accepted.
+-- The fleet after an accepted flush holds what the store has.
 accepted_holds : (fleet : FleetView) (store : Store) (name floor : ℕ) (tick : ℤ) (rows : List Row) → Holds fleet (held store) → name ≤ 1099511627775 → AllByRecursion IsPlain rows
     → flush_fault fleet name floor tick rows ≡ None → Holds (with_flush fleet name floor tick rows) (flushed_held (held store) name floor tick rows)
 accepted_holds fleet store name floor tick rows holds named plain none =
@@ -180,7 +180,7 @@ accepted_holds fleet store name floor tick rows holds named plain none =
 
 -- ---- any flush
 
--- A flush ends with this reply, and leaves this fleet, by the faults that it has.
+-- The flush leads to a reply and a fleet that its faults decide.
 record FlushLeads (fleet : FleetView) (store : Store) (name floor : ℕ) (tick : ℤ) (rows : List Row) (fault : Option FlushFault) (course : Course (StepEnd ⊤)) : Type 0 where
   last : Held
   end : StepEnd ⊤

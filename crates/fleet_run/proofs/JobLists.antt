@@ -1,4 +1,5 @@
--- The stored jobs by those that are active: one of them changed, one added, and finished ones dropped.
+-- The stored jobs, seen by their active ones: one job changed, one job added, and finished jobs
+-- dropped.
 use Rattle.std.proofs.Common.{◌≡◌, refl, sym, ap, ◌∙◌, subst, ℕ, ◌+◌, ◌<◌, ◌≤◌, ◌==◌, List, [], ◌∷◌, ◌++◌, filter, cond, Bool, true, false, ◌&&◌, Some, arith, nat_lt}
 use Rattle.std.specs.List.{AllByRecursion, list_all}
 use Rattle.std.proofs.lemmas.Bool.Decides.{nat_tests}
@@ -34,7 +35,7 @@ all_active q outside (job ∷ jobs) = by (is_active job) refl (all_active q outs
 
 -- ---- one job among others
 
--- the jobs before an active one and behind it
+-- The jobs split at an active one: those before it, and those after it.
 pub record Around (front : Jobs) (job : Job) (rest jobs : Jobs) : Type 0 where
   pub before : Jobs
   pub behind : Jobs
@@ -89,7 +90,7 @@ ids-append : (xs ys : Jobs) → ids (xs ++ ys) ≡ ids xs ++ ids ys
 ids-append [] ys = refl
 ids-append (x ∷ xs) ys = ap (λ ns. x.id ∷ ns) (ids-append xs ys)
 
--- ids before and behind one of rising ids
+-- In rising ids, the ids before one of them are less, and the ids after it are greater.
 all_less : (xs : List ℕ) (n : ℕ) (ys : List ℕ) → AreRising (xs ++ n ∷ ys) → AllByRecursion (λ x. x < n) xs
 all_less [] n ys h = tt
 all_less (x ∷ xs) n ys h = (among xs h.0, all_less xs n ys h.1)
@@ -118,7 +119,7 @@ changed-append : (f : Job → Job) (these : List ℕ) (xs ys : Jobs) → changed
 changed-append f these [] ys = refl
 changed-append f these (x ∷ xs) ys = ap (λ js. cond (contains these x.id) (f x) x ∷ js) (changed-append f these xs ys)
 
--- the change of one job changes that one
+-- A change of one job's id changes that job alone.
 one_in_place : (f : Job → Job) (before behind : Jobs) (job : Job) → AreRising (ids (before ++ job ∷ behind)) → changed f (job.id ∷ []) (before ++ job ∷ behind) ≡ before ++ f job ∷ behind
 one_in_place f before behind job rising =
     let apart = subst AreRising (ids-append before (job ∷ behind)) rising in
@@ -128,7 +129,7 @@ one_in_place f before behind job rising =
     ∙ ap (λ js. before ++ cond (cond (job.id == job.id) true false) (f job) job ∷ js) (greater_others f job.id behind (all_greater (ids before) job.id (ids behind) apart))
     ∙ ap (λ b. before ++ cond (cond b true false) (f job) job ∷ behind) same
 
--- what is active where a job is changed
+-- The active jobs after a job was changed. The flag says whether the changed job is active.
 abbrev pub if_active : Bool → Job → Jobs → Jobs
 if_active true job rest = job ∷ rest
 if_active false job rest = rest
@@ -153,7 +154,7 @@ one_changed f b front job rest drawn jobs keeps active h =
       below = subst (are_below drawn) (sym same_ids) h.below;
     }
 
--- an active job is found under its id
+-- An active job is found by its id.
 found_behind : (before : Jobs) (job : Job) (behind : Jobs) → AllByRecursion (λ id. id < job.id) (ids before) → job_with job.id (before ++ job ∷ behind) ≡ Some job
 found_behind [] job behind h =
     let same : (job.id == job.id) ≡ true = grind (arith, nat_tests) in
@@ -168,7 +169,7 @@ found_active front job rest drawn jobs h =
     let apart = subst AreRising (ids-append r.before (job ∷ r.behind)) (subst (λ js. AreRising (ids js)) r.parts h.rising) in
     ap (job_with job.id) r.parts ∙ found_behind r.before job r.behind (all_less (ids r.before) job.id (ids r.behind) apart)
 
--- ---- a job more
+-- ---- one more job
 
 weaker : (n m : ℕ) → n ≤ m → (xs : List ℕ) → are_below n xs → are_below m xs
 weaker n m le [] h = tt

@@ -1,4 +1,4 @@
--- The tables that are cut of what a job keeps of a table.
+-- The tables that are cut from the rows that a job keeps of a table.
 use Rattle.std.proofs.Common.{◌≡◌, ◌≢◌, sym, subst, ℕ, ℤ, List, [], ◌∷◌, ◌++◌, Bool, true, false, arith, None}
 use Rattle.std.specs.Prelude.{flat_map, if◌then◌else◌}
 use Rattle.std.specs.List.{AllByRecursion}
@@ -14,7 +14,7 @@ use Rattle.row_laws.proofs.Tables.{cut_flat, cut_filled}
 use Rattle.fleet_fold.proofs.AllKept.{all_kept}
 use Rattle.fleet_table.specs.Table.{IsTable}
 
--- a row that becomes a tombstone stays in bounds
+-- A row that becomes a tombstone stays in bounds.
 bounds_stay : (tick : ℤ) (r : Row) → IsInBounds r → IsInBounds (as_tombstone_if_expired tick r)
 bounds_stay tick r h = by (is_expired r tick)
   where
@@ -43,7 +43,8 @@ unfolding IsStrictlySortedBy
 ordered_back [] ys h = h
 ordered_back (x ∷ xs) ys h = ordered_back xs ys h.1
 
--- tables that together are ordered rows in bounds, of which none is empty
+-- If lists of rows are not empty, and together are strictly ordered and in bounds, each of them is
+-- a table.
 all_tables : (tables : List (List Row)) → AllByRecursion (λ table. table ≢ []) tables → IsStrictlyOrdered (flat_map (λ table. table) tables) → AllByRecursion IsInBounds (flat_map (λ table. table) tables) → AllByRecursion IsTable tables
 all_tables [] filled ordered bounds = tt
 all_tables (table ∷ tables) filled ordered bounds =

@@ -1,4 +1,4 @@
--- The last of some ids.
+-- The last one of a list of ids.
 use Rattle.std.proofs.Common.{◌≡◌, ℕ, ◌-◌, ◌<◌, ◌==◌, List, [], ◌∷◌, length, suc, get_or, arith, refl}
 use Rattle.fleet_model.specs.Attempts.{is_last}
 

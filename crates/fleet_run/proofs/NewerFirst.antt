@@ -1,4 +1,4 @@
--- Flushes, newest first: the rows of a key, flush after flush, are in order.
+-- Flushes, newest first: the rows of one key, flush after flush, are in order.
 use Rattle.std.proofs.Common.{◌≡◌, refl, ap, ◌∙◌, ℕ, List, [], ◌∷◌, ◌++◌, flat_map, cond, Bool, true, false, Option, Some, None, arith, nat_lt, ◌==◌}
 use Rattle.std.specs.Prelude.{bytes_eq}
 use Rattle.std.specs.List.{AllByRecursion}
@@ -43,7 +43,7 @@ all_append P (x ∷ xs) ys h k = (h.0, all_append P xs ys h.1 k)
 abbrev pub all_rows : Tables → List Row
 all_rows flushes = flat_map (λ flush. flush.1) flushes
 
--- no flushed row is above the greatest sequence
+-- No flushed row has a sequence above the greatest flushed sequence.
 none_above : (flushes : Tables) → AllByRecursion (IsWithin (newest_seq flushes)) (all_rows flushes)
 none_above [] = tt
 none_above (flush ∷ older) =
@@ -89,7 +89,7 @@ is_less (Some last) p q h k =
     let lt : nat_lt q p ≡ true = grind (arith, nat_tests, h, k) in
     ap (λ b. cond b Less (cond (q == p) Equal Greater)) lt
 
--- of one key, a row above a sequence stands before one that is not above it
+-- Of two rows of one key, a row above a sequence comes before a row that is not above it.
 stands_before : (key : List ℕ) (last : Option ℕ) (x y : Row) → IsThat key x.key → IsThat key y.key → is_above last x.seq ≡ true → IsWithin last y → row_cmp x y ≡ Less
 stands_before key last x y p q h k =
     let here : key ≡ x.key = (bytes_eq-Decides key x.key).0 p in

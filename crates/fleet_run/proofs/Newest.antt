@@ -29,7 +29,8 @@ newest-cons flush older key seq =
     ∙ ap (λ rows. slice_get rows 0) (filter-append (λ (r : Row). nat_le r.seq seq) newer later)
     ∙ first-append (seen_at seq newer) (seen_at seq later)
 
--- the newest row from flush i on is one of that flush, or else one of those behind it
+-- The newest row from flush i on is one of that flush, if it has one, and otherwise one of the
+-- later flushes.
 newest_step : (flushes : Tables) (i : ℕ) (flush : ℕ × List Row) (key : List ℕ) (seq : ℕ) (found : Option Row) → i < length flushes → flush ≡ get_or flushes i flush → found ≡ newest_of flush.1 key seq
     → newest_row (drop i flushes) key seq ≡ option_or found (newest_row (drop (i + 1) flushes) key seq)
 newest_step flushes i flush key seq found lt at is =

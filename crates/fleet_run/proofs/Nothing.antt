@@ -1,4 +1,4 @@
--- A poll that changes no records did nothing.
+-- A poll that changes no records has done nothing.
 use Rattle.std.proofs.Common.{◌≡◌, refl, sym, ap, ◌∙◌, ℕ, List, [], ◌∷◌, ◌++◌, ◌+◌, cond, Bool, true, false, not, ◌||◌, Option, Some, None, nat_lt, length, length-append, arith}
 use Rattle.fleet_model.specs.Records.{firsts}
 use Rattle.fleet_model.specs.Gates.{is_nonempty}
@@ -43,7 +43,7 @@ firsts_empty : (xs : List (ℕ × ℕ)) → firsts xs ≡ [] → xs ≡ []
 firsts_empty [] h = refl
 firsts_empty (x ∷ xs) h = absurd (cc h)
 
--- no job was committed, opened or refused
+-- The poll committed, opened and refused no job.
 pub record DidNothing (p : PollState) : Type 0 where
   pub done : p.done ≡ []
   pub opened : p.opened ≡ []
@@ -61,7 +61,7 @@ did_nothing p h =
       refused = firsts_empty p.refused (back_empty (firsts p.lost) (firsts p.refused) failed);
     }
 
--- each job that is looked at is opened or refused
+-- The number of jobs that were opened or refused. Each job that is looked at is one of these.
 looked_at : Judged → ℕ
 looked_at j = length j.opened + length j.refused
 

@@ -1,4 +1,5 @@
--- What a job makes of rows that are no operands: no fold refuses, and it is what retention keeps.
+-- What a job makes of rows that are no operands: no fold refuses, and the rows are those that
+-- retention keeps.
 use Rattle.std.proofs.Common.{◌≡◌, refl, sym, ap, ◌∙◌, subst, ℕ, ◌≤◌, ℤ, List, [], ◌∷◌, map, cond, ◌&&◌, Bool, true, false, Option, Some, None, arith, slice_get, pos, negsuc}
 use Rattle.std.specs.Prelude.{flat_map, nat_le, int_le, option_map}
 use Rattle.std.specs.List.{AllByRecursion}
@@ -69,11 +70,11 @@ keys_plain merge settings (g ∷ gs) h =
     ap (λ o. before_refusal o (joined_keys (map (λ g. key_rows merge settings (elements g)) gs))) (key_plain merge settings (elements g) h.0)
     ∙ ap (before_refusal (Some (kept_rows settings (elements g)))) (keys_plain merge settings gs h.1)
 
--- a job of such rows is whole, and what retention keeps
+-- A job of rows that are no operands is whole, and its rows are those that retention keeps.
 pub job_plain : (merge : Operator) (settings : Settings) (rows : List Row) → ArePlain rows → job_rows merge settings rows ≡ record { rows = kept_of_keys settings rows; whole = true }
 job_plain merge settings rows h = keys_plain merge settings (chunk_by same_key rows) (all_chunks IsPlain plain_stays rows h)
 
--- of the kept rows those of a key are what is kept of that key's rows
+-- The kept rows of a key are what is kept of that key's rows.
 pub kept_of_key : (settings : Settings) (rows : List Row) (key : List ℕ) → IsStrictlyOrdered rows → ArePlain rows → rows_of_key key (kept_of_keys settings rows) ≡ kept_rows settings (rows_of_key key rows)
 kept_of_key settings rows key ordered h =
     let made = job_plain append settings rows h in
@@ -82,7 +83,7 @@ kept_of_key settings rows key ordered h =
 
 -- ---- reads of such rows
 
--- the value of the newest seen row, or another where none is seen
+-- The value of the newest row that is seen, or the older answer if no row is seen.
 abbrev pub or_older : Option Row → Option Outcome → Option Outcome
 or_older None older = older
 or_older (Some r) older = value_in r.content
@@ -105,8 +106,8 @@ int_le_itself : (t : ℤ) → int_le t t ≡ true
 int_le_itself (pos n) = grind (arith, nat_tests)
 int_le_itself (negsuc n) = grind (arith, nat_tests)
 
--- From the cut on the kept rows of a key read as its rows do, above what the older ones read. They may only be the oldest
--- where they were kept as such.
+-- From the cut on, reads answer the same from the kept rows of a key as from all its rows. If they
+-- were kept as the last run, there is no older answer.
 pub kept_reads : (settings : Settings) (s : ℕ) (rows : List Row) (older : Option Outcome) → settings.cut ≤ s → (settings.last_run ≡ true → older ≡ None) → ArePlain rows
     → or_older (slice_get (seen_at s (kept_rows settings rows)) 0) older ≡ or_older (slice_get (seen_at s rows) 0) older
 kept_reads settings s rows older low oldest h =

@@ -1,4 +1,4 @@
--- A read of rows that are no operands and never expire: it answers the newest of those that it sees.
+-- A read of rows that are no operands and never expire answers the newest row that it sees.
 use Rattle.std.proofs.Common.{◌≡◌, refl, ap, ℕ, ℤ, List, [], ◌∷◌, Bool, false, Option, slice_get}
 use Rattle.std.specs.Prelude.{nat_le}
 use Rattle.std.specs.List.{AllByRecursion}

@@ -8,7 +8,7 @@ use Rattle.row_model.specs.Sizes.{Block, estimated_size, saturated, table_size, 
 use Rattle.row_model.specs.Ranges.{Unbounded, all_keys, is_in_range, ranges_from}
 use Rattle.row_model.specs.Plan.{Anchor, max_anchors, every, spans, sample_anchors, anchors_by_key, cut_anchors, planned}
 
--- blocks begin one behind the other, between two places
+-- The blocks begin one after the other, between two offsets.
 abbrev Within : ℕ → ℕ → List Block → Type 0
 Within lo hi [] = ⊤
 Within lo hi (b ∷ bs) = (lo ≤ b.offset) × ((b.offset ≤ hi) × Within b.offset hi bs)
@@ -47,7 +47,7 @@ bytes-cons : (a : Anchor) (anchors : List Anchor) → bytes (a ∷ anchors) ≡ 
 unfolding bytes
 bytes-cons a anchors = sum_by-cons (λ (a : Anchor). a.bytes) a anchors
 
--- what blocks span is no more than what they lie in
+-- Blocks span no more bytes than the part of the table in which they are.
 bytes-nil : bytes [] ≡ 0
 unfolding bytes
 bytes-nil = refl
@@ -77,7 +77,7 @@ stops true b c h = refl
 stops false true c h = refl
 stops false false c h = h
 
--- one table is not cut
+-- One source table is not split into ranges.
 pub one_range : (most : ℕ) (rows : List Row) → planned most (rows ∷ []) ≡ all_keys ∷ []
 unfolding planned bytes
 one_range most rows =

@@ -1,4 +1,4 @@
--- The course of a poll by a live coordinator: what it puts, given what it reached.
+-- The course of a poll by a live coordinator: what it puts, given the state that it reached.
 use Rattle.std.proofs.Common.{◌≡◌, refl, sym, ap, ◌∙◌, subst, ℕ, suc, ◌+◌, ◌==◌, List, cond, Bool, true, false, Option, Some, None, nat_lt, arith}
 use Rattle.std.proofs.lemmas.Bool.Decides.{nat_tests}
 use Rattle.fleet_model.specs.Nodes.{Tables}
@@ -15,11 +15,12 @@ use Rattle.fleet_run.specs.Holds.{Held}
 use Rattle.fleet_run.proofs.Calls.{Leads, call_leads, gets_manifest_leads, puts_manifest_leads, puts_records_leads}
 use Rattle.fleet_run.proofs.Polls.{quiet_input, none_proposed}
 
--- The first coordinator polls by the options of a fresh fleet, and its scheduler proposes nothing.
+-- What the poll of the first coordinator is asked with: the options of a fresh fleet, and a
+-- scheduler that proposes nothing.
 abbrev pub quiet_ask : PollAsk
 quiet_ask = record { epoch = 1; options = record { timeout = 60000; concurrent = 4; moves = false }; scheduler = quiet_scheduler; moment = 0; commits_only = false }
 
--- A poll leaves this manifest and these records, by whether it changed them.
+-- The manifest after a poll. The flag says that the poll left it unchanged.
 abbrev pub polled_manifest : Manifest → PollState → Bool → Manifest
 polled_manifest manifest q true = manifest
 polled_manifest manifest q false = record manifest { trees = q.trees; horizon = q.horizon; version = manifest.version + 1 }
@@ -49,7 +50,7 @@ module _ (records : Option Records) (q : PollState) where
   abbrev got : Records
   got = records_or_none records
 
-  -- The records are put where the poll changed jobs.
+  -- The poll puts the records if it changed jobs.
   polled_leads : (left seen : ℕ) (h : Held) → h.records ≡ records → (b : Bool) → is_nothing (change_of q) ≡ b → Leads (puts_polled 1 q got (suc left) seen) h (record h { records = polled_records records q b }) (Reports q)
   polled_leads left seen h here b is = subst (λ c. Leads (cond c (Ends (Reports q)) (puts_records got (Polled (change_of q)) got.epoch (trimmed q.jobs) (Ends (Reports q)) refused)) h (record h { records = polled_records records q b }) (Reports q)) (sym is) (by b)
     where
@@ -64,7 +65,7 @@ module _ (records : Option Records) (q : PollState) where
           let last : Held = record h { records = polled_records records q false } in
           puts_records_leads h last (Reports q) got (Polled (change_of q)) got.epoch (trimmed q.jobs) (Ends (Reports q)) refused (records_versions records ∙ ap records_version (sym here)) (refl, refl)
 
-  -- The manifest is put where the poll changed it, and then the records.
+  -- The poll puts the manifest if it changed the trees or the horizon, and then the records.
   trees_leads : (left seen : ℕ) (again : ℕ → Course (StepEnd PollState)) (h : Held) → h.records ≡ records → Leads (puts_trees 1 q h.manifest got (suc left) seen again) h (record h {
     manifest = polled_manifest h.manifest q (is_unchanged h.manifest q);
     records = polled_records records q (is_nothing (change_of q));
@@ -84,8 +85,8 @@ module _ (records : Option Records) (q : PollState) where
 
 -- ---- the whole poll
 
--- A coordinator of epoch 1 polls, where both objects have that epoch. Its commits reach the first state, and it ends with the
--- last one.
+-- A coordinator of epoch 1 polls while both objects have epoch 1. Its commits reach the first
+-- state, and the poll ends with the last one.
 pub polls_leads : (left seen : ℕ) (h : Held) (first last : PollState) → h.manifest.epoch ≡ 1 → records_epoch h.records ≡ 1
     → let input = quiet_input h.tables h.manifest (records_or_none h.records) in
     commit_finished input (free_stale input (begun h.manifest.trees h.manifest.horizon (records_or_none h.records).jobs)) ≡ first → open_submitted input first ≡ last

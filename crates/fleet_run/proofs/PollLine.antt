@@ -21,7 +21,7 @@ use Rattle.fleet_run.proofs.Commits.{oldest_is_last}
 use Rattle.fleet_run.proofs.Polls.{quiet_input, At, all_refused, Outcome, NoneOpened, OneOpened, one_opened}
 use Rattle.fleet_run.proofs.TreeHolds.{TreeHolds}
 
--- ---- what a poll tells
+-- ---- what a poll replies
 
 pub reply_told : (ts : Trees) (horizon : ℕ) (active : Jobs) (drawn : ℕ) (done opened : List ℕ) (refused : List (ℕ × ℕ)) (p : PollState) → At ts horizon active drawn done opened refused p
     → poll_reply p ≡ poll_reply (record (begun [] 0 []) { done = done; opened = opened; refused = refused })
@@ -29,7 +29,7 @@ reply_told ts horizon active drawn done opened refused p at = rw (at.freed, at.d
 
 -- ---- what a poll reached
 
--- the jobs that are active behind a poll, and how the chosen one stands
+-- The state at the end of a poll: its active jobs, and what holds of the job that is open then.
 pub record PollEnds (fleet : FleetView) (made : List MadeRun) (watermark : Option ℕ) (joined : List ℕ) (k : Judged) (p : PollState) : Type 0 where
   pub at : At (root fleet.flushes made fleet.last_seq watermark) fleet.horizon (open_jobs (opened_after fleet.opened k.opened k.held) ++ []) fleet.jobs_drawn joined k.opened k.refused p
   pub stands : IfOpen (record fleet { asked = []; opened = opened_after fleet.opened k.opened k.held }) (opened_after fleet.opened k.opened k.held)
@@ -39,7 +39,7 @@ pub record PollEnds (fleet : FleetView) (made : List MadeRun) (watermark : Optio
 abbrev pub begin : FleetView → Judged
 begin fleet = record { held = held_by fleet.opened; opened = []; refused = [] }
 
--- the oldest flush, by its name
+-- The oldest of these flushes has this name.
 record HasOldest (flushes : Tables) (n : ℕ) : Type 0 where
   newer : Tables
   flush : ℕ × List Row
@@ -87,7 +87,7 @@ module _ (stored : Tables) (manifest : Manifest) (records : Records) (fleet : Fl
   abbrev EndsWith : Option OpenJob → PollState → Type 0
   EndsWith opened p = At reached fleet.horizon (open_jobs opened ++ []) fleet.jobs_drawn joined last_judged.opened last_judged.refused p
 
-  -- where the opened job stays, or none is opened
+  -- The end of a poll that opens no job: the job that was open stays open.
   ends_same : (p : PollState) → last_judged.opened ≡ [] → IfOpen fleet fleet.opened → EndsWith fleet.opened p → PollEnds fleet made watermark joined last_judged p
   ends_same p none stands at =
       let same : opened_after fleet.opened last_judged.opened last_judged.held ≡ fleet.opened = ap (λ os. opened_after fleet.opened os last_judged.held) none in

@@ -1,4 +1,4 @@
--- A poll of a live coordinator answers what it reached, and leaves what it put.
+-- A poll of a live coordinator replies what it did, and leaves what it put.
 use Rattle.std.proofs.Common.{◌≡◌, refl, sym, ap, ◌∙◌, subst, ℕ, ◌+◌, ◌==◌, List, [], ◌∷◌, ◌++◌, map, filter, cond, Bool, true, false, ◌&&◌, max, Option, Some, None, take, length, ◌-◌}
 use Rattle.std.specs.Cmp.Lexicographic.{pointwise}
 use Rattle.std.specs.List.{AllByRecursion}
@@ -39,11 +39,12 @@ pub epochs : (manifest : Manifest) (records : Option Records) → AreRecords tru
 epochs manifest None h = absurd h
 epochs manifest (Some r) h = h
 
--- The fleet after the commits of a poll has these flushes, runs and jobs, and this horizon.
+-- The fleet after the commits of a poll, with these flushes and runs, this horizon and this open
+-- job.
 abbrev behind : FleetView → Tables → List (ℕ × Tables) → ℕ → Option OpenJob → FleetView
 behind fleet flushes runs horizon opened = record fleet { flushes = flushes; runs = runs; horizon = horizon; opened = opened }
 
--- The commits of a poll leave this.
+-- What the commits of a poll leave.
 record Commits (fleet : FleetView) (store : Store) (flushes : Tables) (runs : List (ℕ × Tables)) (horizon : ℕ) (opened : Option OpenJob) (made : List MadeRun) (watermark : Option ℕ) : Type 0 where
   fleet_is : committed fleet ≡ behind fleet flushes runs horizon opened
   judged_is : judged fleet ≡ judge_all (firsts flushes) (firsts (map run_of made)) (begin (behind fleet flushes runs horizon opened)) fleet.asked
@@ -118,7 +119,7 @@ module _ (merge : Operator) (number : ℕ) (fleet : FleetView) (store : Store) (
     answer_is = reply_told reached highest (open_jobs chosen ++ []) fleet.jobs_drawn (done_ids (done_job fleet.opened)) k.opened k.refused q ends.at
         ∙ sym (ap (λ b. cond b (polled_reply (done_ids (done_job fleet.opened)) (judged fleet)) no_such_party) live ∙ ap (polled_reply (done_ids (done_job fleet.opened))) commits.judged_is)
 
-    -- A manifest and records that fit the fleet after the poll are held by it.
+    -- The manifest fits the fleet after the poll. With fitting records, that fleet holds it.
     record Fit (manifest : Manifest) : Type 0 where
       trees : manifest.trees ≡ reached
       floor : manifest.floor ≡ fleet.floor
@@ -154,7 +155,7 @@ module _ (merge : Operator) (number : ℕ) (fleet : FleetView) (store : Store) (
       idle = λ off. (ends.attempts ∙ commits.attempts) ∙ holds.idle off;
     }
 
-    -- Where the poll changed no records, these have the jobs that they had.
+    -- If the poll changed no records, the stored jobs are those of the fleet after it.
     unchanged : is_nothing (change_of q) ≡ true → JobsAre (open_jobs chosen ++ []) fleet.jobs_drawn jobs
     unchanged nothing =
         let none = did_nothing q nothing in
@@ -212,7 +213,7 @@ module _ (merge : Operator) (number : ℕ) (fleet : FleetView) (store : Store) (
         subst (λ on. Serves number fleet store (at on) (poll_answer fleet) (after_poll fleet)) (sym live)
         (subst (λ f. Serves number fleet store (at true) (poll_answer fleet) f) new_is served)
 
-  -- ---- where no job has finished
+  -- ---- polls when no job has finished
 
   runs_are : judged_after fleet None ≡ judge_all (firsts fleet.flushes) (firsts (map run_of holds.made)) (begin fleet) fleet.asked
   runs_are = ap (λ (rs : List (ℕ × Tables)). judge_all (firsts fleet.flushes) (firsts rs) (begin fleet) fleet.asked) holds.runs
@@ -247,7 +248,7 @@ module _ (merge : Operator) (number : ℕ) (fleet : FleetView) (store : Store) (
         same_jobs = λ _. ap (λ (p : PollState). p.jobs) here;
       }
 
-  -- ---- where one has
+  -- ---- polls when a job has finished
 
   one_done : (job : AskedJob) (out : Tables) (cut : ℕ) → fleet.opened ≡ Some (record { job = job; stage = Wrote out cut }) → (stands : OpenStands fleet (record { job = job; stage = Wrote out cut }))
       → Commits fleet store stands.newer ((job.destination, out) ∷ fleet.runs) (max fleet.horizon cut) None (record { id = job.destination; tables = out; flush = stands.flush } ∷ holds.made)
@@ -304,7 +305,7 @@ module _ (merge : Operator) (number : ℕ) (fleet : FleetView) (store : Store) (
       by None e h = idle (ap done_job e) (ap (λ o. filter (has_status Compacted) (open_jobs o ++ map asked_job fleet.asked)) e ∙ none_asked_done fleet.asked)
       by (Some o) e h = by_stage o.job o.stage e h
 
--- No coordinator is live.
+-- A poll is refused if no coordinator is live.
 pub no_poll_serves : (merge : Operator) (number : ℕ) (fleet : FleetView) (store : Store) → Holds fleet (held store) → fleet.coordinator ≡ false
     → Serves number fleet store (poll_line (with_quiet_scheduler merge) 1 (state_of fleet store)) (poll_answer fleet) (after_poll fleet)
 no_poll_serves merge number fleet store holds off =

@@ -1,4 +1,4 @@
--- A whole poll: what it reached.
+-- The steps of a whole poll, and the state that they reach.
 use Rattle.std.proofs.Common.{◌≡◌, refl, sym, ap, ◌∙◌, subst, ℕ, ◌<◌, List, [], ◌∷◌, ◌++◌, map, filter, cond, true, false, max, Option, Some, None}
 use Rattle.std.specs.List.{AllByRecursion}
 use Rattle.row_model.specs.Rows.{Row}
@@ -95,13 +95,13 @@ module _ (tables : Tables) (manifest : Manifest) (records : Records) (horizon dr
   abbrev input : PollInput
   input = quiet_input tables manifest records
 
-  -- no job has finished
+  -- If no job has finished, the commits change nothing.
   pub none_committed : (trees : Trees) (front : Jobs) (asked : List AskedJob) → filter (has_status Compacted) (front ++ map asked_job asked) ≡ [] → JobsAre (front ++ map asked_job asked) drawn jobs
       → commit_finished input (begun trees horizon jobs) ≡ begun trees horizon jobs
   none_committed trees front asked none h =
       ap (λ js. each (commit_job input) js (begun trees horizon jobs)) (with_status Compacted refl (front ++ map asked_job asked) drawn jobs h ∙ none)
 
-  -- one has
+  -- If a job has finished, the poll commits it.
   pub one_committed : (job : AskedJob) (out : Tables) (cut : ℕ) (asked : List AskedJob) (newer : Tables) (flush : ℕ × List Row) (made : List MadeRun) (last_seq watermark : Option ℕ) (more : Tables) → flush.0 ≡ job.source
       → AreFlushes ((newer ++ flush ∷ []) ++ more) → AllByRecursion (λ m. m.id < job.destination) made → JobsAre (job_at job (Wrote out cut) ∷ map asked_job asked) drawn jobs
       → At (root newer (record { id = job.destination; tables = out; flush = flush } ∷ made) last_seq (watermark_after (L0 job.source ∷ []) (tree (newer ++ flush ∷ []) made) watermark)) (max horizon cut) (map asked_job asked) drawn (job.id ∷ []) [] []
@@ -133,7 +133,7 @@ module _ (tables : Tables) (manifest : Manifest) (records : Records) (horizon dr
 
   -- ---- all steps
 
-  -- No job is stale, so a poll goes from its first jobs to its commits.
+  -- No job is stale, so the commits begin with the jobs that the poll got.
   pub none_stale : (trees : Trees) (opened : Option OpenJob) (asked : List AskedJob) → JobsAre (open_jobs opened ++ map asked_job asked) drawn jobs
       → commit_finished input (free_stale input (begun trees horizon jobs)) ≡ commit_finished input (begun trees horizon jobs)
   none_stale trees opened asked h = ap (commit_finished input) (none_freed input opened asked drawn trees horizon jobs refl refl h)

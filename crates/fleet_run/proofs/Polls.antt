@@ -1,4 +1,5 @@
--- The steps of a poll: none is stale, a finished job is committed, nothing is proposed, and submitted jobs are opened or refused.
+-- The steps of a poll: no job is stale, a finished job is committed, nothing is proposed, and
+-- submitted jobs are opened or refused.
 use Rattle.std.proofs.Common.{◌≡◌, refl, sym, ap, ◌∙◌, subst, ℕ, ◌-◌, ◌<◌, ◌==◌, List, [], ◌∷◌, ◌++◌, map, filter, cond, Bool, true, false, not, ◌&&◌, Option, Some, None, arith, take, suc, zero}
 use Rattle.std.specs.Prelude.{⊤, count_by}
 use Rattle.std.specs.List.{AllByRecursion}
@@ -21,7 +22,8 @@ use Rattle.fleet_run.proofs.RootTree.{is_flush, pieces_are}
 use Rattle.fleet_run.proofs.JobLists.{AreRising, filter_active, one_changed}
 use Rattle.fleet_run.proofs.Rules.{root, gate_is, AreHeld, IsHeldJob}
 
--- A poll is given this where nothing is proposed, nothing moves, and every job is accepted.
+-- The input of a poll whose scheduler proposes nothing and accepts every job, and which moves no
+-- job.
 abbrev pub quiet_input : Tables → Manifest → Records → PollInput
 quiet_input tables manifest records = record {
   options = record { timeout = 60000; concurrent = 4; moves = false };
@@ -32,7 +34,8 @@ quiet_input tables manifest records = record {
   moment = 0;
 }
 
--- A poll reached these trees, this horizon and these active jobs, and did this.
+-- The poll has reached these trees, this horizon and these active jobs. It committed, opened and
+-- refused these jobs.
 pub record At (reached : Trees) (highest : ℕ) (active : Jobs) (drawn : ℕ) (joined chosen : List ℕ) (failed : List (ℕ × ℕ)) (p : PollState) : Type 0 where
   pub trees : p.trees ≡ reached
   pub horizon : p.horizon ≡ highest
@@ -47,7 +50,7 @@ pub record At (reached : Trees) (highest : ℕ) (active : Jobs) (drawn : ℕ) (j
   pub drained : p.drained ≡ []
   pub refused : p.refused ≡ failed
 
--- ---- 1. none is stale
+-- ---- 1. no job is stale
 
 running_active : (status : Status) (b : Bool) → (status_eq Running status && b) ≡ true → cond (is_finished status) false true ≡ true
 running_active Submitted b h = absurd (cc h)
@@ -95,7 +98,7 @@ none_proposed tables manifest records p = take_none (4 - count_by (has_status Ru
 
 -- ---- 4. submitted jobs are opened or refused
 
--- the ids of active jobs rise as those of all jobs do
+-- What holds of the ids of all jobs holds of the ids of the active ones.
 all_filtered : (P : ℕ → Type 0) (jobs : Jobs) → AllByRecursion P (ids jobs) → AllByRecursion P (ids (filter is_active jobs))
 all_filtered P [] h = tt
 all_filtered P (job ∷ jobs) h = by (is_active job) (all_filtered P jobs h.1)
@@ -112,7 +115,7 @@ active_rising (job ∷ jobs) h = by (is_active job) (all_filtered (λ b. job.id 
     by true all rest = (all, rest)
     by false all rest = rest
 
--- the job that is held has a lesser id than one that was asked for
+-- The open job has a lesser id than a submitted one.
 other_id : (a : AskedJob) (held : AskedJob) (job : Job) (asked : List AskedJob) (drawn : ℕ) (jobs : Jobs) → job.id ≡ held.id → JobsAre (job ∷ map asked_job (a ∷ asked)) drawn jobs → (a.id == held.id) ≡ false
 other_id a held job asked drawn jobs same h =
     let rising : AreRising (ids (job ∷ map asked_job (a ∷ asked))) = subst (λ js. AreRising (ids js)) h.are (active_rising jobs h.rising) in
@@ -126,12 +129,12 @@ other_ids a (Some it) front asked drawn jobs (job, fits, one) h held is =
     let same : it ≡ held = same_Some it held is in
     subst (λ (x : AskedJob). (a.id == x.id) ≡ false) same (other_id a it job asked drawn jobs fits.id (subst (λ js. JobsAre (js ++ map asked_job (a ∷ asked)) drawn jobs) one h))
 
--- the flush of the held job is the oldest
+-- The flush of the open job is the oldest one.
 abbrev pub HeldOldest : Tables → Option AskedJob → Type 0
 HeldOldest flushes None = ⊤
 HeldOldest flushes (Some held) = is_last held.source (firsts flushes) ≡ true
 
--- a job that fails no rule
+-- The job fails no rule.
 pub record FailsNone (flushes : Tables) (runs : List ℕ) (held : Option AskedJob) (a : AskedJob) : Type 0 where
   pub there : is_flush (firsts flushes) a.source ≡ true
   pub oldest : is_last a.source (firsts flushes) ≡ true
@@ -157,7 +160,7 @@ one_last : (flushes : Tables) (n a b : ℕ) → is_flush (firsts flushes) n ≡ 
 one_last [] n a b there p q = absurd (cc there)
 one_last (f ∷ flushes) n a b there p q = last_one f.0 (firsts flushes) a b p q
 
--- where a job is held, no other passes
+-- If a job is open, no submitted job passes the rules.
 none_passes : (flushes : Tables) (runs : List ℕ) (held a : AskedJob) → HeldOldest flushes (Some held) → failed_rule (firsts flushes) runs (Some held) a ≡ None → ⊥
 none_passes flushes runs held a oldest h =
     let p = fails_none flushes runs (Some held) a h in
@@ -179,7 +182,7 @@ module _ (tables : Tables) (manifest : Manifest) (records : Records) (flushes : 
   abbrev Reached : Jobs → Judged → PollState → Type 0
   Reached active j p = At trees horizon active drawn joined j.opened j.refused p
 
-  -- the rule that a job fails
+  -- The rule that a submitted job fails, if any.
   gate_at : (a : AskedJob) (front : Jobs) (asked : List AskedJob) (j : Judged) (p : PollState) → AreHeld j.held front → Reached (front ++ map asked_job (a ∷ asked)) j p
       → submit_gate p.trees p.jobs (lost_to_scheduler p.lost) (λ spec. true) (asked_job a) ≡ failed_rule (firsts flushes) runs j.held a
   gate_at a front asked j p are at =
@@ -227,7 +230,7 @@ module _ (tables : Tables) (manifest : Manifest) (records : Records) (flushes : 
     refused = at.refused;
   }
 
-  -- where a job is held, all others are refused
+  -- If a job is open, all submitted jobs are refused.
   pub record AllRefused (front : Jobs) (j : Judged) (asked : List AskedJob) (p : PollState) : Type 0 where
     pub held : (judge_all (firsts flushes) runs j asked).held ≡ j.held
     pub opened : (judge_all (firsts flushes) runs j asked).opened ≡ j.opened
@@ -259,7 +262,7 @@ module _ (tables : Tables) (manifest : Manifest) (records : Records) (flushes : 
                 (subst (λ r. Reached (front ++ []) (judge_all (firsts flushes) runs k asked) (each (open_job input) (map asked_job asked) r)) (sym reached_is) later.at);
           }
 
-  -- where none is held, all are refused, or one is opened
+  -- If no job is open, either all submitted jobs are refused, or one of them is opened.
   pub data Outcome (j : Judged) (asked : List AskedJob) (p : PollState) : Type 0 where
     NoneOpened : (held : (judge_all (firsts flushes) runs j asked).held ≡ None) → (opened : (judge_all (firsts flushes) runs j asked).opened ≡ j.opened)
         → (at : Reached [] (judge_all (firsts flushes) runs j asked) (each (open_job input) (map asked_job asked) p)) → Outcome j asked p

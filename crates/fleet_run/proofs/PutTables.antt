@@ -1,4 +1,4 @@
--- The tables that a job writes: their numbers, and what they leave held.
+-- The tables that a job writes: their ids, and what is held after their puts.
 use Rattle.std.proofs.Common.{◌≡◌, refl, sym, ap, ◌∙◌, subst, ℕ, ◌+◌, ◌^◌, ◌<◌, ◌≤◌, ◌==◌, List, [], ◌∷◌, ◌++◌, cond, false, max, arith, append_assoc, append-nil, nat_lt, length}
 use Rattle.std.specs.Prelude.{flat_map}
 use Rattle.std.specs.List.{AllByRecursion}
@@ -31,7 +31,7 @@ pub numbered_rows : (drawn : ℕ) (cut : List (List Row)) → rows_in_tables (nu
 numbered_rows drawn [] = refl
 numbered_rows drawn (rows ∷ cut) = ap (λ rs. rows ++ rs) (numbered_rows (drawn + 1) cut)
 
--- they lie behind all that were drawn
+-- The table's number was drawn after the first `drawn` ones and is at most the `last` one.
 abbrev IsDrawn : ℕ → ℕ → ℕ × List Row → Type 0
 IsDrawn drawn last table = (2 ^ 79 + drawn < table.0) × (table.0 ≤ 2 ^ 79 + last)
 
@@ -62,17 +62,17 @@ numbered_stored stored drawn (rows ∷ cut) h =
 
 -- ---- what is held
 
--- The tables and their draws leave this held.
+-- What is held after these tables were drawn and put.
 abbrev pub after_puts : Tables → Held → Held
 after_puts tables h = record h { tables = h.tables ++ tables; tables_drawn = h.tables_drawn + length tables }
 
--- A drawn table is no flush, so no name is used.
+-- The put of a drawn table uses no name of a flush.
 no_name : (drawn rows : ℕ) (h : Held) → max h.name (name_in (PutTable (table_id_of 0 (drawn + 1)) rows)) ≡ h.name
 no_name drawn rows h =
     let large : nat_lt (table_id_of 0 (drawn + 1)) (2 ^ 79) ≡ false = grind (arith, nat_tests, table_id (drawn + 1)) in
     ap (λ b. max h.name (cond b (table_id_of 0 (drawn + 1)) 0)) large ∙ omega arith
 
--- A table that is drawn and put leaves this held.
+-- What is held after one table was drawn and put.
 one_put : (drawn : ℕ) (rows : List Row) (h : Held)
     → held_after (PutsTable (table_id_of 0 (drawn + 1)) rows) (held_after (DrawsTable 0) h) ≡ after_puts ((table_id_of 0 (drawn + 1), rows) ∷ []) h
 one_put drawn rows h = ap (λ name. record h { tables = h.tables ++ (table_id_of 0 (drawn + 1), rows) ∷ []; tables_drawn = h.tables_drawn + 1; name = name }) (no_name drawn (length rows) h)
@@ -88,7 +88,7 @@ no_puts h =
     let same : h.tables_drawn + 0 ≡ h.tables_drawn = omega arith in
     ap (λ ts. record h { tables = ts; tables_drawn = h.tables_drawn + 0 }) (append-nil h.tables) ∙ ap (λ n. record h { tables_drawn = n }) same
 
--- Tables are put one after the other under the next ids, and a course goes on with these.
+-- Tables are put in order under the next ids, and the course goes on with these ids.
 pub puts_tables_leads : {A : Type 0} (cut : List (List Row)) (next : List ℕ → Course A) (h last : Held) (end : A)
     → Leads (next (firsts (numbered h.tables_drawn cut))) (after_puts (numbered h.tables_drawn cut) h) last end → Leads (puts_tables 0 cut next) h last end
 puts_tables_leads [] next h last end rest = subst (λ (k : Held). Leads (next []) k last end) (no_puts h) rest

@@ -1,4 +1,5 @@
--- The line of a read: from the horizon on, the stored rows answer what the flushed ones do.
+-- The line of a read: from the horizon on, the stored rows give the same answer as the flushed
+-- rows.
 use Rattle.std.proofs.Common.{◌≡◌, refl, sym, ap, ◌∙◌, subst, ℕ, ◌≤◌, ℤ, List, [], ◌∷◌, ◌++◌, map, cond, Bool, true, false, ◌||◌, Option, Some, None, arith, append-nil, slice_get, nat_lt, int_lt}
 use Rattle.std.specs.Prelude.{flat_map}
 use Rattle.std.specs.List.{AllByRecursion}

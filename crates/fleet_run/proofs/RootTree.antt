@@ -1,4 +1,4 @@
--- The root tree by its names: what the rules of a job ask of it.
+-- The root tree by the names of its nodes, and the rules of a job on it.
 use Rattle.std.proofs.Common.{◌≡◌, refl, sym, ap, ◌∙◌, ℕ, ◌<◌, ◌==◌, List, [], ◌∷◌, ◌++◌, map, cond, Bool, true, false, ◌&&◌, ◌||◌, Option, Some, None, arith}
 use Rattle.std.specs.Prelude.{flat_map}
 use Rattle.std.specs.List.{AllByRecursion, list_any, list_all}
@@ -41,7 +41,7 @@ all_contained flushes made n = and_true (names_contain (names (tree flushes made
 
 -- ---- rule 5
 
--- names fall from the newest flush on
+-- The names of flushes fall from the newest one on.
 pub all_named_below : (flushes more : Tables) (n : ℕ) → newest_name (flushes ++ more) < n → AreFlushes (flushes ++ more) → AllByRecursion (λ flush. flush.0 < n) flushes
 all_named_below [] more n h sound = tt
 all_named_below (flush ∷ older) more n h sound = (h, all_named_below older more n (omega (arith, sound.0.named)) sound.1)
@@ -92,7 +92,7 @@ run_ids_are (f ∷ flushes) made = run_ids_are flushes made
 
 -- ---- a flush's node
 
--- a flush of this name, whose node is found
+-- A flush of this name is in the tree, and its node is found.
 pub record IsFound (n : ℕ) (t : Tree) : Type 0 where
   pub flush : ℕ × List Row
   pub node : node_named (L0 n) t ≡ Some (node_of flush)
@@ -124,7 +124,7 @@ one_node n t = by (node_named (L0 n) t) refl
 pub nodes_found : (flushes : Tables) (made : List MadeRun) (n : ℕ) (there : is_flush (firsts flushes) n ≡ true) → source_nodes (L0 n ∷ []) (tree flushes made) ≡ node_of (node_found flushes made n there).flush ∷ []
 nodes_found flushes made n there = one_node n (tree flushes made) ∙ ap nodes_by (node_found flushes made n there).node
 
--- the tables of a job's flush
+-- The tables of a job's flush: the flush's own table alone.
 pub pieces_are : (flushes : Tables) (made : List MadeRun) (n : ℕ) → is_flush (firsts flushes) n ≡ true → source_pieces (L0 n ∷ []) (tree flushes made) ≡ n ∷ []
 pieces_are flushes made n there =
     ap (λ (nodes : List Node). flat_map (λ node. node.pieces) nodes) (nodes_found flushes made n there) ∙ ap (λ id. id ∷ []) (node_found flushes made n there).named

@@ -1,4 +1,4 @@
--- The rules of a job of one flush, asked one after the other, are those of the model.
+-- The program's rules for a job of one flush give the same result as the model's rules.
 use Rattle.std.proofs.Common.{◌≡◌, refl, ap, ◌∙◌, ℕ, ◌==◌, ◌<◌, List, [], ◌∷◌, ◌++◌, map, cond, Bool, true, false, not, ◌&&◌, ◌||◌, Option, Some, None, append-nil, nat_lt, arith}
 use Rattle.std.specs.List.{AllByRecursion, list_all}
 use Rattle.std.proofs.lemmas.Bool.Decides.{nat_tests}
@@ -44,7 +44,7 @@ finished_if false h = absurd (cc h)
 inactive_clear : (job other : Job) → is_active other ≡ false → is_clear job other ≡ true
 inactive_clear job other h = of_status job other (none_reserved other.status (finished_if (is_finished other.status) h))
 
--- a job that is held: it reserves its nodes, and they are those of the request
+-- The model's job of the open request: it has the request's nodes, reserves them, and is active.
 pub record IsHeldJob (held : AskedJob) (job : Job) : Type 0 where
   pub id : job.id ≡ held.id
   pub spec : job.spec ≡ spec_of held
@@ -65,7 +65,7 @@ apart_nodes true false e t = refl
 apart_nodes false true e t = refl
 apart_nodes false false e t = refl
 
--- the held job is in the way exactly where a node is shared
+-- The open job conflicts with a submitted one exactly if they share a node.
 held_clear : (a held : AskedJob) (job : Job) → IsHeldJob held job → (a.id == held.id) ≡ false → is_clear (asked_job a) job ≡ is_apart_from (Some held) a
 held_clear a held job h other =
     let id : (a.id == job.id) ≡ false = ap (λ n. a.id == n) h.id ∙ other in
@@ -98,13 +98,13 @@ rules_asked b4 b5 b7 b8 = first_failing ((1, true) ∷ (2, true) ∷ (3, true) �
 rules_told : Bool → Bool → Bool → Bool → Option ℕ
 rules_told b4 b5 b7 b8 = first_failing ((4, b4) ∷ (5, b5) ∷ (7, b7) ∷ (8, b8) ∷ [])
 
--- rule 5 is asked only where rule 4 holds
+-- The results agree even if rule 5 agrees only where rule 4 holds.
 same_rules : (a b c d e f g h : Bool) → a ≡ b → (b ≡ true → c ≡ d) → e ≡ f → g ≡ h → rules_asked a c e g ≡ rules_told b d f h
 unfolding rules_asked rules_told
 same_rules a true c d e f g h p q r s = rw (p, q refl, r, s) refl
 same_rules a false c d e f g h p q r s = rw p refl
 
--- the root tree among the trees
+-- The trees that have the root tree alone.
 abbrev pub root : Tables → List MadeRun → Option ℕ → Option ℕ → Trees
 root flushes made last_seq watermark = record { prefix = []; tree = tree flushes made; last_seq = last_seq; watermark = watermark } ∷ []
 

@@ -1,4 +1,4 @@
--- A script as it runs, line after line.
+-- How a script runs, line after line.
 use Rattle.std.proofs.Common.{◌≡◌, refl, sym, ap, ◌∙◌, subst, ℕ, ◌+◌, List, [], ◌∷◌, ◌++◌, length, None, append_assoc, append-nil, ◌≤◌, arith}
 use Rattle.std.specs.List.{concat}
 use Rattle.std.proofs.lemmas.List.Folds.{concat-append}
@@ -18,13 +18,13 @@ use Rattle.fleet_run.specs.Served.{Ran, RanButTheEnd, RunsUpToFault, RunsFront, 
 use Rattle.fleet_run.proofs.Steps.{AreStarted, LineServes, line_serves, started_more}
 use Rattle.fleet_run.proofs.Written.{took_none, took_more, took_kept}
 
--- these lines were run so far
+-- These lines were run on a fresh fleet, and the sink took their replies.
 pub record SoFar (merge : Operator) (lines : List Line) (fleet : FleetView) (old new : SinkView) : Type 0 where
   pub ran : Ran merge lines fleet old new
   pub last : ran.last ≡ state_of fleet ran.last.store
   pub started : AreStarted lines fleet
 
--- a line in bounds brings what a fleet serves
+-- A line in bounds has what the fleet needs of it.
 served_in_bounds : (line : Line) → IsInBounds line → IsServed line
 served_in_bounds (FlushRows name segment floor tick rows) (named, prefix, low, at, some, are) = (some, are)
 served_in_bounds _ bounds = tt
@@ -100,7 +100,7 @@ so_far_more merge lines line fleet old mid new so_far fits took =
       started = started_more lines line fleet so_far.started;
     }
 
--- of the reply to one more line a front was written
+-- A front of the reply to one more line was written.
 pub so_far_part : (merge : Operator) (lines : List Line) (line : Line) (fleet : FleetView) (old mid new : SinkView) → SoFar merge lines fleet old mid
     → job_grammar lines line → TookShort (reply_to line fleet) mid new → RanButTheEnd merge (lines ++ line ∷ []) (fleet_after line fleet) old new
 so_far_part merge lines line fleet old mid new so_far fits short =
@@ -120,7 +120,7 @@ so_far_part merge lines line fleet old mid new so_far fits short =
       took = took_more old mid new (concat ran.answers) short.front ran.took short.took;
     }
 
--- of the reply to one more line nothing was written, and it left the fleet as it was
+-- Nothing of the reply to one more line was written, and the fleet stayed as it was.
 pub so_far_kept : (merge : Operator) (lines : List Line) (fleet : FleetView) (old mid new : SinkView) → SoFar merge lines fleet old mid → TookNothing mid new → Ran merge lines fleet old new
 so_far_kept merge lines fleet old mid new so_far kept =
     let ran = so_far.ran in
@@ -148,7 +148,7 @@ served_front text lines fleet old new script runs = record {
   begins = λ some. record { left = runs.left; script = subst (IsScript job_grammar text) runs.parts script };
 }
 
--- Nothing was run, and nothing was written.
+-- Nothing was run and nothing was written.
 pub served_nothing : (text : List ℕ) (sink : SinkView) → ServedFront text fresh_fleet sink sink
 served_nothing text sink = record { run = []; ran = λ merge. (so_far_none merge sink).ran; begins = λ some. absurd (some refl) }
 
@@ -158,7 +158,7 @@ served_nothing text sink = record { run = []; ran = λ merge. (so_far_none merge
 pub runs_nothing : (source_old source_new : SourceView) (sink : SinkView) → ReadFront source_old source_new → RunsFirst fresh_fleet source_old source_new sink sink
 runs_nothing source_old source_new sink front = record { run = []; front = front; ran = λ merge. (so_far_none merge sink).ran; reads = λ some. absurd (some refl) }
 
--- The first lines of a text were run, and the source gave that text to its end.
+-- The first lines of a text were run, and the source gave that text and ended.
 pub runs_first : (text : List ℕ) (fleet : FleetView) (source_old source_new : SourceView) (sink_old sink_new : SinkView) → ReadWhole text source_old source_new → ServedFront text fleet sink_old sink_new
     → RunsFirst fleet source_old source_new sink_old sink_new
 runs_first text fleet source_old source_new sink_old sink_new read served = record {
@@ -170,7 +170,7 @@ runs_first text fleet source_old source_new sink_old sink_new read served = reco
 
 -- ---- the loop over the lines
 
--- of all lines these were run so far, and those are left
+-- Of all lines, some were run so far, and these are left.
 pub record RunSoFar (all left : List Line) (fleet : FleetView) (old new : SinkView) : Type 0 where
   pub run : List Line
   pub parts : all ≡ run ++ left

@@ -1,4 +1,4 @@
--- A line that nothing strikes: what it answers, and what is held after it.
+-- Lines that no fault strikes: their replies, and what is held after them.
 use Rattle.std.proofs.Common.{◌≡◌, refl, sym, ap, subst, ℕ, List}
 use Rattle.fleet_model.specs.History.{Party}
 use Rattle.fleet_model.specs.Parties.{Parties}
@@ -11,13 +11,13 @@ use Rattle.fleet_run.specs.FleetView.{FleetView}
 use Rattle.fleet_run.specs.Holds.{Held, held, Holds, parties_of, state_of}
 use Rattle.fleet_run.proofs.Calls.{Leads, run_leads, then_leads}
 
--- The course of a line on a fleet answers so, and leaves what the new fleet holds.
+-- The course of a line on the old fleet gives this reply, and leaves what the new fleet holds.
 pub record Serves (number : ℕ) (old : FleetView) (store : Store) (c : LineCourse) (answer : List ℕ) (new : FleetView) : Type 0 where
   pub left : Store
   pub ends : run_line number (state_of old store) c ≡ (answer, state_of new left)
   pub holds : Holds new (held left)
 
--- A line ends with this reply, and leaves the parties of the fleet live.
+-- A line ends with this reply, and the parties of this fleet are live.
 abbrev pub line_end_of : List ℕ → FleetView → LineEnd
 line_end_of answer new = record { reply = answer; parties = parties_of new }
 
@@ -35,7 +35,7 @@ serves_by number old new store c answer last leads holds =
 pub replies_serve : (number : ℕ) (fleet : FleetView) (store : Store) (answer : List ℕ) → Holds fleet (held store) → Serves number fleet store (only_replies (state_of fleet store) answer) answer fleet
 replies_serve number fleet store answer holds = serves_by number fleet fleet store (only_replies (state_of fleet store) answer) answer (held store) (refl, refl) holds
 
--- A line that does one step of its party ends as that step does.
+-- A line that does one step of its party ends as the step does.
 pub step_serves : {A : Type 0} (number : ℕ) (old new : FleetView) (store : Store) (party : Party) (step : Course (StepEnd A)) (ends : StepEnd A → LineEnd) (struck : Parties) (end : StepEnd A) (answer : List ℕ) (last : Held)
     → Leads step (held store) last end → ends end ≡ line_end_of answer new → Holds new last → Serves number old store (step_line party step ends struck) answer new
 step_serves number old new store party step ends struck end answer last leads is holds =

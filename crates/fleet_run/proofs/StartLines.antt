@@ -27,7 +27,8 @@ use Rattle.fleet_run.proofs.JobLists.{one_added, trimmed_are}
 use Rattle.fleet_run.proofs.StoredRecords.{records_kept}
 use Rattle.fleet_run.proofs.Serves.{Serves, serves_by, step_serves, line_end_of}
 
--- Neither who is live, nor what is submitted, nor a number that is drawn touches what an opened job stands on.
+-- What holds of the open job stays true when parties start, jobs are submitted or numbers of jobs
+-- are drawn.
 pub open_still : (fleet : FleetView) (coordinator worker : Bool) (jobs_drawn : ℕ) (asked : List AskedJob) (opened : Option OpenJob) → IfOpen fleet opened
     → IfOpen (record fleet { coordinator = coordinator; worker = worker; jobs_drawn = jobs_drawn; asked = asked }) opened
 open_still fleet coordinator worker jobs_drawn asked None h = tt
@@ -47,11 +48,12 @@ open_still fleet coordinator worker jobs_drawn asked (Some o) h = record {
 
 -- ---- the coordinator
 
--- Nothing is stored for a coordinator that begins as the first one.
+-- What is held before the first coordinator starts: the manifest has epoch 0, and there are no
+-- records.
 abbrev unstarted : Held → Held
 unstarted h = record h { manifest = record h.manifest { epoch = 0 }; records = None }
 
--- The first coordinator puts its epoch into both objects.
+-- What is held after the first coordinator has put its epoch into both objects.
 abbrev started_held : Held → Held
 started_held h = record h { manifest = record h.manifest { epoch = 1; version = h.manifest.version + 1 }; records = Some (record { version = 1; epoch = 1; jobs = [] }) }
 
@@ -159,15 +161,15 @@ start_worker_serves number fleet store holds off =
 
 -- ---- a job
 
--- The job's spec has one flush as its source.
+-- The spec of a job of one flush.
 abbrev spec_at : ℕ → ℕ → JobSpec
 spec_at source destination = record { segment = []; sources = L0 source ∷ []; destination = Some destination }
 
--- A job is put with its id.
+-- What is held after a job with this id was put.
 abbrev submitted_held : Held → ℕ → Records → JobSpec → Held
 submitted_held h id got spec = record h { jobs_drawn = h.jobs_drawn + 1; records = Some (record got { version = got.version + 1; jobs = trimmed (put_job (new_job (id, spec)) got.jobs) }) }
 
--- Where records are stored, one job is put.
+-- A submission puts the job if there are records.
 submits_leads : (left seen : ℕ) (h : Held) (got : Records) (spec : JobSpec) → h.records ≡ Some got
     → Leads (submits_from 0 (spec ∷ []) (suc left) seen) h (submitted_held h (id_of 0 (h.jobs_drawn + 1)) got spec) (Reports (id_of 0 (h.jobs_drawn + 1) ∷ []))
 submits_leads left seen h got spec is =
@@ -182,7 +184,7 @@ submits_leads left seen h got spec is =
     call_leads h last end (DrawsJob 0) (λ k. submits_drawn 0 got ((id_of 0 (k.jobs_drawn + 1), spec) ∷ []) again) tt puts in
     gets_records_leads h last end (λ records. submit_by 0 (spec ∷ []) records again) (subst (λ records. Leads (submit_by 0 (spec ∷ []) records again) h last end) (sym is) draws)
 
--- Where none are stored, none is.
+-- A submission puts nothing if there are no records.
 refused_leads : (left seen : ℕ) (h : Held) (spec : JobSpec) → h.records ≡ None → Leads (submits_from 0 (spec ∷ []) (suc left) seen) h h NoRecords
 refused_leads left seen h spec is =
     let again : ℕ → Course (StepEnd (List ℕ)) = submits_from 0 (spec ∷ []) left in

@@ -1,4 +1,5 @@
--- A line of a script, run on a state that a fleet holds, answers and leaves what it does on the fleet.
+-- A line of a script, run on a state that a fleet holds, has the fleet's reply and leaves what the
+-- fleet after it holds.
 use Rattle.std.proofs.Common.{◌≡◌, refl, sym, ap, ◌∙◌, subst, ℕ, ◌≤◌, List, [], ◌∷◌, ◌++◌, cond, Bool, true, false, ◌||◌, Option, Some, None}
 use Rattle.std.specs.List.{list_any, AllByRecursion}
 use Rattle.std.proofs.lemmas.List.Folds.{list_any-append}
@@ -30,14 +31,15 @@ use Rattle.fleet_run.proofs.StartLines.{start_coordinator_serves, start_worker_s
 
 -- ---- what is live
 
--- the lines so far started what is live
+-- The live parties are those that the lines so far have started.
 pub record AreStarted (lines : List Line) (fleet : FleetView) : Type 0 where
   pub coordinator : fleet.coordinator ≡ list_any starts_coordinator lines
   pub worker : fleet.worker ≡ list_any starts_worker lines
 
 -- ---- a line
 
--- what the line leaves in the store
+-- The store that the line leaves: the line's step leads there, and the fleet after the line holds
+-- it.
 pub record LineServes (merge : Operator) (number : ℕ) (line : Line) (fleet : FleetView) (store : Store) : Type 0 where
   pub left : Store
   pub step : LineStep (with_quiet_scheduler merge) number (state_of fleet store) line (reply_to line fleet) (state_of (fleet_after line fleet) left)
@@ -46,7 +48,7 @@ pub record LineServes (merge : Operator) (number : ℕ) (line : Line) (fleet : F
 of_one_job : (lines : List Line) (line : Line) → job_grammar lines line → IsOfOneJob line
 of_one_job lines line fits = fits.1
 
--- A line is done by the course in which the operator refuses nothing.
+-- The line has one course, in which the operator refuses nothing.
 only_course : (merge : Operator) (number : ℕ) (line : Line) (old new : State) (answer : List ℕ) → MayRefuse (with_quiet_scheduler merge) line (prepared line old) None
     → run_line number (prepared line old) (course_of (with_quiet_scheduler merge) line None (prepared line old)) ≡ (answer, new) → OneCourse (with_quiet_scheduler merge) number old line answer new
 only_course merge number line old new answer may ends = record { course = course_of (with_quiet_scheduler merge) line None (prepared line old); does = record { refusal = None; may = may; is = refl }; ends = ends }
@@ -112,7 +114,7 @@ line_serves merge number lines line fleet store fits served started holds = absu
 
 -- ---- what is started
 
--- who is live after a line
+-- The parties that are live after a line.
 pub record AreLive (line : Line) (fleet : FleetView) : Type 0 where
   pub coordinator : (fleet_after line fleet).coordinator ≡ (fleet.coordinator || starts_coordinator line)
   pub worker : (fleet_after line fleet).worker ≡ (fleet.worker || starts_worker line)

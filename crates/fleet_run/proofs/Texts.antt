@@ -1,4 +1,4 @@
--- How a claim is told.
+-- The text of the reply to a claim.
 use Rattle.std.proofs.Common.{◌≡◌, ℕ, List, [], ◌∷◌, ◌++◌, append_assoc, ap, sym, ◌∙◌, codes, true, cond, Some}
 use Rattle.std.specs.Fmt.{digits}
 use Rattle.row_model.specs.Settings.{Settings}

@@ -1,4 +1,4 @@
--- What is told of a text that was read, and of lines that were run.
+-- The results of reading a text and of running lines.
 use Rattle.std.proofs.Common.{◌≡◌, refl, ap, ◌∙◌, ℕ, List, [], ◌∷◌, length, arith, Result, Ok, Err, ◌⊎◌, inl, inr, drop, length-drop}
 use Rattle.std.specs.Prelude.{OnOk}
 use Rattle.fleet_text.specs.declared.error.TextError.{TextError}
@@ -7,13 +7,13 @@ use Rattle.fleet_run.specs.declared.script.FleetError.{FleetError}
 use Rattle.fleet_run.specs.declared.script.FleetError.TheVariants as told
 use Rattle.fleet_run.specs.Errors.{as_fleet_error}
 
--- a bad line that the reader names is the one that the script names
+-- The reader's error, a bad line or out of memory, becomes the error of the script.
 pub told_exact : {T : Type 0} (t : TextError) (r : Result (Unit {0}) FleetError) (y : FleetError) (n : ℕ) → r ≡ Err y → y ≡ as_fleet_error t
     → ((◌≡◌ {A = Result T TextError} (Err t) (Err (read.BadLine n))) ⊎ (◌≡◌ {A = Result T TextError} (Err t) (Err read.Memory))) → (r ≡ Err (told.BadLine n)) ⊎ (r ≡ Err told.Memory)
 told_exact t r y n e is (inl h) = let same : t ≡ read.BadLine n = cc in inl (e ∙ ap (λ x. Err x) (is ∙ ap as_fleet_error same))
 told_exact t r y n e is (inr h) = let same : t ≡ read.Memory = cc in inr (e ∙ ap (λ x. Err x) (is ∙ ap as_fleet_error same))
 
--- lines that were read are not refused
+-- Lines that were read are not refused.
 pub not_refused : {T : Type 0} (r : Result T TextError) (lines : T) (n : ℕ) → r ≡ Ok lines → (r ≡ Err (read.BadLine n)) ⊎ (r ≡ Err read.Memory) → ⊥
 not_refused r lines n ok (inl e) = cc
 not_refused r lines n ok (inr e) = cc

@@ -1,4 +1,4 @@
--- What is held of the tree, apart from the jobs and their records.
+-- What a fleet holds of the tree, without the jobs and their records.
 use Rattle.std.proofs.Common.{◌≡◌, refl, sym, ap, ◌∙◌, subst, ℕ, ◌-◌, ◌^◌, ◌<◌, ◌≤◌, List, [], ◌∷◌, ◌++◌, map, flat_map, max, Some, None, append_assoc, arith, take, length, length-append}
 use Rattle.std.specs.List.{AllByRecursion}
 use Rattle.std.proofs.lemmas.List.{take-append-le, take_all}
@@ -63,12 +63,12 @@ no_runs : (made : List MadeRun) → map run_of made ≡ [] → made ≡ []
 no_runs [] h = refl
 no_runs (m ∷ made) h = absurd (cc h)
 
--- What is kept under a horizon is kept under a higher one.
+-- What is kept under a horizon is also kept under a higher one.
 kept_on : (horizon higher : ℕ) (made : List MadeRun) → horizon ≤ higher → AreKept horizon made → AreKept higher made
 kept_on horizon higher [] le h = tt
 kept_on horizon higher (m ∷ made) le h = (record { settings = h.0.settings; low = omega (arith, h.0.low, le); oldest = h.0.oldest; are = h.0.are }, kept_on horizon higher made le h.1)
 
--- The job of a fleet wrote its tables, and its run comes in place of its flush.
+-- What the fleet holds of the tree after a commit: the run of its job replaces the job's flush.
 pub tree_committed : (fleet : FleetView) (made : List MadeRun) (stored : Tables) (job : AskedJob) (out : Tables) (cut : ℕ) → fleet.opened ≡ Some (record { job = job; stage = Wrote out cut })
     → TreeHolds fleet made stored → (open_ : OpenStands fleet (record { job = job; stage = Wrote out cut }))
     → TreeHolds (record fleet { flushes = open_.newer; runs = (job.destination, out) ∷ fleet.runs; horizon = max fleet.horizon cut; opened = None }) (record { id = job.destination; tables = out; flush = open_.flush } ∷ made) stored

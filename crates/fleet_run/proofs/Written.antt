@@ -1,4 +1,4 @@
--- What a sink takes, piece after piece.
+-- What a sink takes, piece by piece.
 use Rattle.std.proofs.Common.{◌≡◌, ℕ, ◌+◌, ◌≤◌, List, [], ◌++◌, length, take, drop, Option, Some, None, sym, ap, ◌∙◌, append_assoc, append-nil, take-append-drop, length-append, arith, ◌-◌, length-drop}
 use Rattle.std.proofs.lemmas.List.{take_all, length-take-le}
 use Rattle.std.specs.Io.KnownBytes.{Appends, Keeps}
@@ -35,7 +35,7 @@ took_more a b c xs ys p q = record {
 pub took_kept : (a b c : SinkView) (xs : List ℕ) → Took xs a b → TookNothing b c → Took xs a c
 took_kept a b c xs p q = record { written = appends_kept a.written b.written c.written xs p.written q.written; taken = q.taken ∙ p.taken }
 
--- of a piece a front is taken, and the rest is left
+-- The sink took a front of the piece, and this rest is left.
 pub record TakenSoFar (piece rest : List ℕ) (old new : SinkView) : Type 0 where
   pub front : List ℕ
   pub parts : piece ≡ front ++ rest

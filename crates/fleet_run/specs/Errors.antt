@@ -1,4 +1,4 @@
--- What a script is refused with.
+-- The errors with which a script is refused.
 use Rattle.std.specs.Prelude.{⊤}
 use Rattle.fleet_text.specs.declared.error.TextError.{TextError}
 use Rattle.fleet_text.specs.declared.error.TextError.TheVariants as text_errors

@@ -1,4 +1,5 @@
--- Contracts see a fleet as the tables of the root tree, the jobs on their way, and the places from which reads are answered.
+-- How contracts see a fleet: the tables of the root tree, the open and the submitted jobs, and the
+-- bounds below which reads are refused.
 use Rattle.std.specs.Prelude.{◌≡◌, ℕ, ◌<◌, Bool, true, false, ℤ, List, [], ◌∷◌, Option, None}
 use Rattle.std.specs.List.{AllByRecursion}
 use Rattle.row_model.specs.Rows.{Row, IsStrictlyOrdered}
@@ -13,14 +14,14 @@ use Rattle.fleet_run.specs.Jobs.{OpenJob}
 pub record FleetView : Type 0 where
   pub flushes : Tables  -- the flushes that no job took yet, newest first
   pub runs : List (ℕ × Tables)  -- the id and the tables of each run, newest first
-  pub last_name : ℕ  -- the newest flush's name, 0 where there was none
+  pub last_name : ℕ  -- the newest flush's name, or 0 if there was none
   pub last_seq : Option ℕ  -- the greatest sequence that was flushed
-  pub floor : ℕ  -- the least sequence of a snapshot, which the last flush told
-  pub horizon : ℕ  -- the least sequence that is read
-  pub tick : ℤ  -- the least moment that is read at
-  pub coordinator : Bool  -- whether it is live, and so whether there are job records
-  pub worker : Bool  -- whether it is live
-  pub jobs_drawn : ℕ  -- how many ids were drawn for jobs, and for tables
+  pub floor : ℕ  -- the least sequence that snapshots need, as the last flush gave it
+  pub horizon : ℕ  -- the least sequence at which reads are answered
+  pub tick : ℤ  -- the least moment at which reads are answered
+  pub coordinator : Bool  -- whether the coordinator is live, and so whether there are job records
+  pub worker : Bool  -- whether the worker is live
+  pub jobs_drawn : ℕ  -- how many ids were drawn for jobs
   pub tables_drawn : ℕ
   pub asked : List AskedJob  -- submitted, and not looked at yet
   pub opened : Option OpenJob
@@ -42,24 +43,25 @@ fresh_fleet = record {
   opened = None;
 }
 
--- the newest flush's name, 0 where there is none
+-- The name of the newest of these flushes, or 0 if there is none.
 abbrev pub newest_name : Tables → ℕ
 newest_name [] = 0
 newest_name (flush ∷ older) = flush.0
 
--- the greatest sequence that was flushed
+-- The greatest sequence of these flushes, if any.
 abbrev pub newest_seq : Tables → Option ℕ
 newest_seq [] = None
 newest_seq (flush ∷ older) = greatest_seq (newest_seq older) flush.1
 
--- a flush above older ones: its rows are in order, and newer than all of theirs, and so is its name
+-- A flush that may come before these older ones: its name and its sequences are above all of
+-- theirs. Its rows are strictly ordered, and are values and tombstones without time stamps.
 pub record IsFlushAbove (older : Tables) (flush : ℕ × List Row) : Type 0 where
   pub named : newest_name older < flush.0
   pub ordered : IsStrictlyOrdered flush.1
   pub plain : AllByRecursion IsPlain flush.1
   pub newer : AllByRecursion (λ r. is_above (newest_seq older) r.seq ≡ true) flush.1
 
--- flushes of a root tree, newest first
+-- The flushes of a root tree, newest first.
 abbrev pub AreFlushes : Tables → Type 0
 AreFlushes [] = Unit {0}
 AreFlushes (flush ∷ older) = IsFlushAbove older flush × AreFlushes older

@@ -1,12 +1,12 @@
--- When a fleet holds what a store of the model has.
-use Rattle.std.specs.Prelude.{◌≡◌, ◌⊎◌, ℕ, ◌+◌, ◌^◌, ◌==◌, find, ◌<◌, ◌≤◌, Bool, true, false, List, [], ◌∷◌, ◌++◌, map, filter, flat_map, Option, Some, None, ⊤}
+-- What it means that a fleet holds what a store of the model has.
+use Rattle.std.specs.Prelude.{◌≡◌, ◌⊎◌, ℕ, ◌+◌, ◌==◌, find, ◌<◌, ◌≤◌, Bool, true, false, List, [], ◌∷◌, ◌++◌, map, filter, flat_map, Option, Some, None, ⊤}
 use Rattle.std.specs.List.{AllByRecursion}
 use Rattle.row_model.specs.Lists.{Pairs}
 use Rattle.row_model.specs.Rows.{Row}
 use Rattle.row_model.specs.Settings.{Settings}
 use Rattle.row_model.specs.KeptRows.{kept_of_keys}
 use Rattle.fleet_model.specs.Nodes.{Tables, Node, L0, Run, Segment}
-use Rattle.fleet_model.specs.Jobs.{JobSpec, Job, Jobs, Scheduled, Running, Compacted, is_active, ids, Two}
+use Rattle.fleet_model.specs.Jobs.{drawn_base, JobSpec, Job, Jobs, Scheduled, Running, Compacted, is_active, ids, Two}
 use Rattle.fleet_model.specs.Records.{new_job, firsts}
 use Rattle.fleet_model.specs.Parties.{Parties, LiveCoordinator, LiveWorker, Attempt}
 use Rattle.fleet_model.specs.Store.{Manifest, Records, Store, jobs_in}
@@ -17,7 +17,8 @@ use Rattle.fleet_run.specs.declared.jobs.AskedJob.{AskedJob}
 use Rattle.fleet_run.specs.Jobs.{Stage, Waits, Runs, Wrote, OpenJob, attempt_of}
 use Rattle.fleet_run.specs.FleetView.{FleetView, AreFlushes, newest_name, newest_seq}
 
--- These parts of a store decide how a line goes on. Of the history it is the highest name used.
+-- The parts of a store that decide how a line goes on. Of the history it is only the greatest name
+-- that a flush used.
 pub record Held : Type 0 where
   pub manifest : Manifest
   pub records : Option Records
@@ -38,11 +39,11 @@ held store = record {
 
 -- ---- the tree
 
--- a flush as a node of a tree
+-- A flush as a node of a tree.
 abbrev pub node_of : ℕ × List Row → Node
 node_of flush = record { name = L0 flush.0; flushes = flush.0 ∷ []; pieces = flush.0 ∷ [] }
 
--- a run, with the flush that it was made of
+-- A run, with its tables and the flush from which it was made.
 pub record MadeRun : Type 0 where
   pub id : ℕ
   pub tables : Tables
@@ -60,27 +61,27 @@ root_of fleet made watermark = record { prefix = []; tree = map node_of fleet.fl
 abbrev pub made_of : List MadeRun → Tables
 made_of made = map (λ m. m.flush) made
 
--- all flushes, also those that runs were made of
+-- All flushes: the flushes that no job took, and the flushes of which runs were made.
 abbrev pub all_flushes : FleetView → List MadeRun → Tables
 all_flushes fleet made = fleet.flushes ++ made_of made
 
 abbrev pub rows_in_tables : Tables → List Row
 rows_in_tables tables = flat_map (λ table. table.1) tables
 
--- These rows are what a job kept of a flush, under a cut that is at most the given sequence. The job took the flush for the
--- oldest one only where it is.
+-- The rows are what a job kept of a flush, under a cut of at most `highest`. If the job's settings
+-- say that it makes the last run, the flush is the oldest one.
 pub record IsKept (highest : ℕ) (IsOldest : Type 0) (flush rows : List Row) : Type 0 where
   pub settings : Settings
   pub low : settings.cut ≤ highest
   pub oldest : settings.last_run ≡ true → IsOldest
   pub are : rows ≡ kept_of_keys settings flush
 
--- The rows of each run are what a job kept of its flush, under a cut that is at most the horizon.
+-- The rows of each run are what a job kept of the run's flush, under a cut of at most the horizon.
 abbrev pub AreKept : ℕ → List MadeRun → Type 0
 AreKept horizon [] = ⊤
 AreKept horizon (m ∷ older) = IsKept horizon (older ≡ []) m.flush.1 (rows_in_tables m.tables) × AreKept horizon older
 
--- run ids fall
+-- The ids of the runs fall, from the newest run to the oldest.
 abbrev pub AreFalling : List MadeRun → Type 0
 AreFalling made = Pairs (λ m older. older.id < m.id) made
 
@@ -113,13 +114,14 @@ open_jobs (Some o) = job_at o.job o.stage ∷ []
 abbrev pub active_jobs : FleetView → Jobs
 active_jobs fleet = open_jobs fleet.opened ++ map asked_job fleet.asked
 
--- these of the jobs are active, and the ids rise up to a number
+-- The jobs whose active ones are `active`. Their ids rise, and none is above `drawn`.
 pub record JobsAre (active : Jobs) (drawn : ℕ) (jobs : Jobs) : Type 0 where
   pub are : filter is_active jobs ≡ active
   pub rising : Pairs (λ a b. a < b) (ids jobs)
   pub below : AllByRecursion (λ id. id ≤ drawn) (ids jobs)
 
--- the records are there from the coordinator's start on
+-- The manifest and the records have epoch 1 from the coordinator's start on. Before the start the
+-- epoch is 0 and there are no records.
 abbrev pub AreRecords : Bool → Manifest → Option Records → Type 0
 AreRecords false manifest records = (manifest.epoch ≡ 0) × (records ≡ None)
 AreRecords true manifest None = ⊥
@@ -135,7 +137,7 @@ stage_tables Waits = []
 stage_tables (Runs settings) = []
 stage_tables (Wrote tables cut) = tables
 
--- the opened job takes the oldest flush, and makes a run above all others
+-- The opened job takes the oldest flush, and makes a run whose id is above all others.
 pub record OpenStands (fleet : FleetView) (o : OpenJob) : Type 0 where
   pub newer : Tables
   pub flush : ℕ × List Row
@@ -152,17 +154,18 @@ abbrev pub open_tables : Option OpenJob → Tables
 open_tables None = []
 open_tables (Some o) = stage_tables o.stage
 
--- the tables that are in the tree, that runs were made of, and that a job wrote
+-- The tables in the tree, the tables of flushes of which runs were made, and the tables that the
+-- opened job wrote.
 abbrev pub known_tables : FleetView → List MadeRun → Tables
 known_tables fleet made = all_flushes fleet made ++ flat_map (λ m. m.tables) made ++ open_tables fleet.opened
 
--- the table is the one that is found under its id
+-- A look-up of the table's id in the stored tables finds this table.
 abbrev pub IsStored : Tables → ℕ × List Row → Type 0
 IsStored stored table = find (λ other. other.0 == table.0) stored ≡ Some table
 
--- the id of a flush's table, or of one that was drawn
+-- The table's id is a flush's name, at most the last one, or a number that was drawn for a table.
 abbrev pub IsUsed : FleetView → ℕ × List Row → Type 0
-IsUsed fleet table = (table.0 ≤ fleet.last_name) ⊎ ((2 ^ 79 < table.0) × (table.0 ≤ 2 ^ 79 + fleet.tables_drawn))
+IsUsed fleet table = (table.0 ≤ fleet.last_name) ⊎ ((drawn_base < table.0) × (table.0 ≤ drawn_base + fleet.tables_drawn))
 
 abbrev pub attempts_at : AskedJob → Stage → List Attempt
 attempts_at job Waits = []
@@ -173,8 +176,8 @@ abbrev pub attempts_by : Option OpenJob → List Attempt
 attempts_by None = []
 attempts_by (Some o) = attempts_at o.job o.stage
 
--- The fleet has the trees, the floor, the horizon, the tick, the active jobs and the named tables of the store, and the
--- numbers that were drawn. It keeps no history: of that it has the highest name used.
+-- The fleet has the store's trees, floor, horizon, tick, active jobs and named tables, and the
+-- counts of drawn ids. The fleet keeps no history, only the greatest name that a flush used.
 pub record Holds (fleet : FleetView) (store : Held) : Type 0 where
   pub made : List MadeRun
   pub watermark : Option ℕ
@@ -188,7 +191,7 @@ pub record Holds (fleet : FleetView) (store : Held) : Type 0 where
   pub flushes : AreFlushes (all_flushes fleet made)
   pub newest : fleet.last_name ≡ newest_name (all_flushes fleet made)
   pub last : fleet.last_seq ≡ newest_seq (all_flushes fleet made)
-  pub small : fleet.last_name < 2 ^ 79
+  pub small : fleet.last_name < drawn_base
   pub kept : AreKept fleet.horizon made
   pub tables : AllByRecursion (IsStored store.tables) (known_tables fleet made)
   pub used : AllByRecursion (IsUsed fleet) store.tables
@@ -213,6 +216,7 @@ workers true attempts = record { number = 1; release = Two; attempts = attempts 
 abbrev pub parties_of : FleetView → Parties
 parties_of fleet = record { coordinators = coordinators fleet.coordinator; workers = workers fleet.worker (attempts_by fleet.opened) }
 
--- the state of a script that runs on a fleet with such a store
+-- The state between two lines of a script: the fleet's parties with this store, the default
+-- options, moment 0 and no fault.
 abbrev pub state_of : FleetView → Store → State
 state_of fleet store = record { options = default_options; moment = 0; store = store; parties = parties_of fleet; fault = None }

@@ -1,4 +1,4 @@
--- A job of one flush, from the request to the tables that it wrote.
+-- A job of one flush, from its request to the tables that it wrote.
 use Rattle.std.specs.Prelude.{ℕ, not, ◌&&◌, ◌==◌, Bool, true, nat_lt, List, [], ◌∷◌, ◌++◌, Option, Some, None}
 use Rattle.std.specs.List.{list_all, list_any}
 use Rattle.row_model.specs.Settings.{Settings}
@@ -15,7 +15,8 @@ use Rattle.fleet_run.specs.declared.jobs.Stage as coded
 use Rattle.fleet_run.specs.declared.jobs.Stage.TheVariants as at
 use Rattle.fleet_run.specs.declared.jobs.Judged as judging
 
--- An opened job waits for a worker, runs under its settings, or wrote its tables and keeps its cut.
+-- The stage of an opened job: it waits for a worker, it runs with its settings, or its worker has
+-- written the tables and keeps the cut.
 pub data Stage : Type 0 where
   Waits : Stage
   Runs : (settings : Settings) → Stage
@@ -25,7 +26,7 @@ pub record OpenJob : Type 0 where
   pub job : AskedJob
   pub stage : Stage
 
--- as the program has them
+-- The program's stage of a job, as contracts see it.
 abbrev pub stage_of : coded.Stage → Stage
 stage_of at.Waits = Waits
 stage_of (at.Runs settings) = Runs (settings_of settings)
@@ -37,21 +38,21 @@ open_of o = record { job = o.job; stage = stage_of o.stage }
 abbrev pub run_of : AskedJob × code_settings.Settings → AskedJob × Settings
 run_of run = (run.0, settings_of run.1)
 
--- the worker's attempt at it
+-- The worker's attempt at the job. It is the first attempt and has one range of all keys.
 abbrev pub attempt_of : AskedJob → Settings → Attempt
 attempt_of job settings = record { job = job.id; number = 1; sources = job.source ∷ []; context = record { settings = settings; has_cut = true; ranges = (all_keys, []) ∷ [] } }
 
--- the job takes no flush and makes no run that the opened one does
+-- The job has another flush and another run than the open job. This holds if no job is open.
 abbrev pub is_apart_from : Option AskedJob → AskedJob → Bool
 is_apart_from None job = true
 is_apart_from (Some held) job = not (held.source == job.source) && not (held.destination == job.destination)
 
--- a run of this id may come: it is not the last id there is, and above all runs
+-- A run of this id may be made: it is not the greatest id, and is above the ids of all runs.
 abbrev pub is_above_all : List ℕ → ℕ → Bool
 is_above_all runs id = not (id == 4294967295) && list_all (λ run. nat_lt run id) runs
 
--- The first rule that a job fails, by its number: its flush is in the tree, and the oldest one there, its run is above all runs, and
--- no opened job is in its way.
+-- The number of the first rule that a job fails. Rule 4: its flush is in the tree. Rule 5: its
+-- flush is the oldest. Rule 7: its run may be made. Rule 8: no open job has its flush or its run.
 abbrev pub failed_rule : List ℕ → List ℕ → Option AskedJob → AskedJob → Option ℕ
 failed_rule flushes runs held job = first_failing (
     (4, list_any (λ flush. flush == job.source) flushes)
@@ -60,11 +61,11 @@ failed_rule flushes runs held job = first_failing (
     ∷ (8, is_apart_from held job)
     ∷ [])
 
--- which job is opened, and what became of those looked at so far
+-- The job that is open, the jobs that were opened so far, and the jobs that were refused so far.
 pub record Judged : Type 0 where
   pub held : Option AskedJob
   pub opened : List ℕ
-  pub refused : List (ℕ × ℕ)  -- with the rule
+  pub refused : List (ℕ × ℕ)  -- refused jobs, each with the rule that it fails
 
 abbrev pub judged_of : judging.Judged → Judged
 judged_of j = record { held = j.held; opened = j.opened; refused = j.refused }
@@ -76,7 +77,7 @@ judged_by j job (Some rule) = record { held = j.held; opened = j.opened; refused
 abbrev pub judge : List ℕ → List ℕ → Judged → AskedJob → Judged
 judge flushes runs j job = judged_by j job (failed_rule flushes runs j.held job)
 
--- each job in turn
+-- The result of a look at each job in order.
 abbrev pub judge_all : List ℕ → List ℕ → Judged → List AskedJob → Judged
 judge_all flushes runs j [] = j
 judge_all flushes runs j (job ∷ jobs) = judge_all flushes runs (judge flushes runs j job) jobs

@@ -1,4 +1,4 @@
--- The rules that a flush may break, seen as the model's.
+-- The program's kinds of faults of a flush, seen as the model's.
 use Rattle.step_model.specs.StepEnds as model
 use Rattle.fleet_run.specs.declared.answer.FlushFault.{FlushFault}
 use Rattle.fleet_run.specs.declared.answer.FlushFault.TheVariants.{Name, Order, Sequence, Floor, Tick}

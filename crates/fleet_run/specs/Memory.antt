@@ -1,4 +1,4 @@
--- A source and a sink in memory, as contracts see them.
+-- How contracts see the source and the sink in memory.
 use Rattle.std.specs.Prelude.{ℕ, List, Some}
 use Rattle.fleet_run.specs.Outside.{SourceView, SinkView}
 use Rattle.fleet_run.specs.declared.memory.MemSource.{MemSource}
@@ -7,7 +7,7 @@ use Rattle.fleet_run.specs.declared.memory.MemSink.{MemSink}
 abbrev pub source_view : MemSource → SourceView
 source_view s = record { left = Some s.left.now; given = s.given; ended = s.ended; faults = s.faults }
 
--- the calls that it was told to fail at, counted from 1
+-- The calls at which the source fails, counted from 1.
 abbrev pub source_failing : MemSource → List ℕ
 source_failing s = s.failing.now
 

@@ -1,4 +1,4 @@
--- The rows of several tables, as the program holds them, and their size.
+-- The rows of several tables of the program, and the size of a table.
 use Rattle.std.specs.Prelude.{ℕ, List, map}
 use Rattle.row_model.specs.Rows.{Row}
 use Rattle.fleet_rows.specs.Row.{rows_of}
@@ -8,6 +8,6 @@ use Rattle.script_model.specs.Defaults.{default_options}
 abbrev pub all_rows_of : List (List RowEntry) → List (List Row)
 all_rows_of tables = map rows_of tables
 
--- the most bytes of a table, but for the row that exceeds them
+-- The size of a table in bytes. A table ends with the row with which it exceeds this size.
 abbrev pub table_size : ℕ
 table_size = default_options.table_size

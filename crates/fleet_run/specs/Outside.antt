@@ -1,32 +1,32 @@
--- What contracts see of a source and of a sink, and how counts rise.
+-- What contracts see of a source and of a sink, and how their counts rise.
 use Rattle.std.specs.Prelude.{◌≡◌, ◌≢◌, ℕ, [], ◌≤◌, ◌+◌, ◌-◌, ◌^◌, Bool, List, ◌++◌, length, min, max, Option}
 use Rattle.std.specs.Io.KnownBytes.{Appends, Keeps}
 
 pub record SourceView : Type 0 where
-  pub left : Option (List ℕ)  -- the bytes left, where they are told
+  pub left : Option (List ℕ)  -- the bytes left, if they are known
   pub given : ℕ  -- how many bytes it gave
   pub ended : Bool  -- whether the last read into a buffer with room answered 0
   pub faults : ℕ  -- how many reads failed
 
 pub record SinkView : Type 0 where
-  pub written : Option (List ℕ)  -- the bytes written, where they are told
+  pub written : Option (List ℕ)  -- the bytes written, if they are known
   pub taken : ℕ  -- how many bytes it took
   pub faults : ℕ  -- how many writes failed
 
--- A count kept in a u64 rose. One that stands at its last value rises no further.
+-- A count in a u64 has risen by at least one. A count at the greatest u64 stays there.
 abbrev pub Rose : ℕ → ℕ → Type 0
 Rose old new = min (old + 1) (2 ^ 64 - 1) ≤ new
 
--- a count kept in a u64 after n more, which stops at the last value
+-- A count in a u64 after n more. It stops at the greatest u64.
 abbrev pub counted : ℕ → ℕ → ℕ
 counted old n = max old (min (old + n) (2 ^ 64 - 1))
 
--- the sink took exactly these bytes
+-- The sink took exactly these bytes.
 pub record Took (bytes : List ℕ) (old new : SinkView) : Type 0 where
   pub written : Appends old.written new.written bytes
   pub taken : new.taken ≡ counted old.taken (length bytes)
 
--- the sink took a front of these bytes, and not all of them
+-- The sink took a front of these bytes, and not all of them.
 pub record TookShort (bytes : List ℕ) (old new : SinkView) : Type 0 where
   pub front : List ℕ
   pub end : List ℕ
@@ -34,7 +34,7 @@ pub record TookShort (bytes : List ℕ) (old new : SinkView) : Type 0 where
   pub some_left : end ≢ []
   pub took : Took front old new
 
--- the sink took nothing
+-- The sink took nothing.
 pub record TookNothing (old new : SinkView) : Type 0 where
   pub written : Keeps old.written new.written
   pub taken : new.taken ≡ old.taken

@@ -1,4 +1,4 @@
--- A source and a sink that never fail, as contracts see them.
+-- How contracts see the source and the sink that never fail.
 use Rattle.std.specs.Prelude.{Some, None}
 use Rattle.fleet_run.specs.Outside.{SourceView, SinkView}
 use Rattle.fleet_run.specs.declared.safe.SafeSource.{SafeSource}

@@ -1,4 +1,4 @@
--- What a line makes of a fleet, and what it answers.
+-- What a line makes of a fleet, and the reply to it.
 use Rattle.std.specs.Prelude.{ℕ, ◌+◌, ◌-◌, ◌==◌, ◌||◌, nat_le, nat_lt, not, if◌then◌else◌, ℤ, int_lt, List, [], ◌∷◌, ◌++◌, flat_map, find, take, length, ◌<◌, ⊤, true, max, Option, Some, None, option_map, codes, decimal, slice_get}
 use Rattle.std.specs.List.{list_all}
 use Rattle.std.specs.Option.{option_or}
@@ -26,19 +26,20 @@ use Rattle.fleet_run.specs.declared.jobs.AskedJob.{AskedJob}
 use Rattle.fleet_run.specs.Jobs.{Stage, Waits, Runs, Wrote, OpenJob, Judged, judge_all, attempt_of}
 use Rattle.fleet_run.specs.FleetView.{FleetView}
 
--- The party that a line names is not live, or the worker does not run the job.
+-- The reply if the party that a line names is not live, or the worker does not run the job.
 abbrev pub no_such_party : List ℕ
 no_such_party = reply (codes "nosuchparty" ∷ [])
 
 -- ---- flushes
 
--- This is the first rule that a flush breaks by itself.
+-- The first rule that a flush breaks on its own: for its name or its order.
 abbrev pub fault_alone : FleetView → ℕ → List Row → Option FlushFault
 fault_alone fleet name rows =
     if nat_le name fleet.last_name then Some BadName
     else (if not (are_ordered rows) then Some BadOrder else None)
 
--- This is the first rule that a flush breaks against what was flushed before.
+-- The first rule that a flush breaks against earlier flushes: for its sequences, its floor or its
+-- tick.
 abbrev pub fault_against : FleetView → ℕ → ℤ → List Row → Option FlushFault
 fault_against fleet floor tick rows =
     if not (list_all (λ r. is_above fleet.last_seq r.seq) rows) then Some BadSequence
@@ -48,7 +49,7 @@ fault_against fleet floor tick rows =
 abbrev pub flush_fault : FleetView → ℕ → ℕ → ℤ → List Row → Option FlushFault
 flush_fault fleet name floor tick rows = option_or (fault_alone fleet name rows) (fault_against fleet floor tick rows)
 
--- A refused flush names the kind of its fault.
+-- The reply to a refused flush, with the kind of its fault.
 abbrev pub bad_flush : FlushFault → List ℕ
 bad_flush fault = reply (codes "badflush" ∷ flush_fault_text fault ∷ [])
 
@@ -66,7 +67,7 @@ after_flush fleet name floor tick rows (Some fault) = fleet
 
 -- ---- reads
 
--- the newest row of a key that is seen at a sequence
+-- The newest row of a key with sequence at most `seq`.
 abbrev pub newest_row : Tables → List ℕ → ℕ → Option Row
 newest_row tables key seq = slice_get (seen_at seq (rows_of_key key (flat_map (λ table. table.1) tables))) 0
 
@@ -79,7 +80,7 @@ abbrev pub value_of : Option Row → Option Outcome
 value_of None = None
 value_of (Some r) = value_in r.content
 
--- the tables of the tree: those of the flushes, and those of the runs
+-- The tables of all runs, run after run.
 abbrev pub run_tables : List (ℕ × Tables) → Tables
 run_tables runs = flat_map (λ run. run.1) runs
 
@@ -91,7 +92,7 @@ key_reply fleet key seq now =
     if nat_lt seq fleet.horizon || int_lt now fleet.tick then not_retained fleet.horizon fleet.tick
     else read_reply (value_of (newest_stored fleet key seq))
 
--- the rows of tables, one after the other
+-- The rows of the tables, one table after the other.
 abbrev pub rows_in : Tables → List Row
 rows_in tables = flat_map (λ table. table.1) tables
 
@@ -120,7 +121,7 @@ after_submit fleet source destination = if fleet.coordinator then with_asked fle
 
 -- ---- polls
 
--- the job that wrote its tables
+-- The job, if it has written its tables.
 abbrev pub done_at : AskedJob → Stage → Option AskedJob
 done_at job Waits = None
 done_at job (Runs settings) = None
@@ -139,7 +140,7 @@ abbrev pub done_tables : Option OpenJob → Tables
 done_tables None = []
 done_tables (Some o) = tables_at o.stage
 
--- The horizon rises to the cut of a finished job.
+-- The horizon after a commit: it rises to the cut of a job that has written its tables.
 abbrev pub horizon_at : ℕ → Stage → ℕ
 horizon_at horizon Waits = horizon
 horizon_at horizon (Runs settings) = horizon
@@ -153,7 +154,7 @@ abbrev pub done_ids : Option AskedJob → List ℕ
 done_ids None = []
 done_ids (Some job) = job.id ∷ []
 
--- its tables come as a run in place of the oldest flush
+-- The flushes after a commit. A committed job takes the oldest one.
 abbrev pub flushes_left : Tables → Option AskedJob → Tables
 flushes_left flushes None = flushes
 flushes_left flushes (Some job) = take (length flushes - 1) flushes
@@ -182,7 +183,7 @@ abbrev pub run_ids_after : List ℕ → Option AskedJob → List ℕ
 run_ids_after ids None = ids
 run_ids_after ids (Some job) = job.destination ∷ ids
 
--- what becomes of the jobs that were asked for, once the finished job is committed
+-- The result of the poll's look at the submitted jobs, after the finished job is committed.
 abbrev pub judged_after : FleetView → Option AskedJob → Judged
 judged_after fleet done =
     judge_all (firsts (flushes_left fleet.flushes done)) (run_ids_after (firsts fleet.runs) done) (record { held = held_by (opened_left fleet.opened done); opened = []; refused = [] }) fleet.asked
@@ -212,7 +213,7 @@ poll_answer fleet = if fleet.coordinator then polled_reply (done_ids (done_job f
 abbrev pub settings_now : FleetView → AskedJob → Settings
 settings_now fleet job = record { floor = fleet.floor; tick = fleet.tick; last_run = is_last job.destination (firsts fleet.runs); cut = fleet.floor }
 
--- the job that waits for a worker
+-- The job, if it waits for a worker.
 abbrev pub waiting_at : AskedJob → Stage → Option AskedJob
 waiting_at job Waits = Some job
 waiting_at job (Runs settings) = None
@@ -242,11 +243,11 @@ abbrev pub numbered : ℕ → List (List Row) → Tables
 numbered drawn [] = []
 numbered drawn (rows ∷ tables) = (table_id_of 0 (drawn + 1), rows) ∷ numbered (drawn + 1) tables
 
--- the tables that a job writes of a flush
+-- The tables that a job with these settings writes from a flush.
 abbrev pub written : FleetView → ℕ → Settings → Tables
 written fleet source settings = numbered fleet.tables_drawn (cut_tables default_options.table_size (kept_of_keys settings (table_rows fleet.flushes source)))
 
--- the job that the worker runs under a number, with its settings
+-- The job that runs under this number, with its settings.
 abbrev pub run_at : ℕ → AskedJob → Stage → Option (AskedJob × Settings)
 run_at number job Waits = None
 run_at number job (Runs settings) = if number == number_of job.id then Some (job, settings) else None
@@ -282,12 +283,13 @@ abbrev pub source_or_zero : List NodeName → ℕ
 source_or_zero (L0 name ∷ _) = name
 source_or_zero _ = 0
 
--- what a line brings that is served: a flush has rows
+-- What the fleet needs of a line before it runs it: a flush has at least one row, and its rows are
+-- in bounds.
 abbrev pub IsServed : Line → Type 0
 IsServed (FlushRows name segment floor tick rows) = (0 < length rows) × AreRows rows
 IsServed _ = ⊤
 
--- the reply to a line, and the fleet after it
+-- The reply to a line.
 abbrev pub reply_to : Line → FleetView → List ℕ
 reply_to (StartCoordinator n) fleet = started
 reply_to (StartWorker n release) fleet = ok

@@ -1,4 +1,4 @@
--- Running a script writes replies, and leaves a fleet.
+-- The result of running a script: the replies that were written, and the fleet that is left.
 use Rattle.std.specs.Prelude.{◌≡◌, ◌≢◌, ℕ, List, [], ◌∷◌, ◌++◌}
 use Rattle.std.specs.List.{concat}
 use Rattle.row_model.specs.Fold.{Operator}
@@ -12,8 +12,8 @@ use Rattle.fleet_run.specs.FleetView.{FleetView}
 use Rattle.fleet_run.specs.Holds.{held, Holds, parties_of}
 use Rattle.fleet_run.specs.Outside.{SinkView, Took}
 
--- The text is a script, these are the replies of its run on a fresh fleet, and the sink took exactly them. The fleet holds
--- the store that the run leaves, and has the parties that are live then.
+-- The text is a script. A fresh fleet ran it, and the sink took exactly the replies. The fleet
+-- holds the store at the end of the run, and has the parties that are live then.
 pub record Served (merge : Operator) (text : List ℕ) (fleet : FleetView) (old new : SinkView) : Type 0 where
   pub written : List ℕ
   pub store : Store
@@ -22,7 +22,7 @@ pub record Served (merge : Operator) (text : List ℕ) (fleet : FleetView) (old 
   pub live : follows.last.parties ≡ parties_of fleet
   pub took : Took written old new
 
--- These lines were run on a fresh fleet, and the sink took exactly their replies.
+-- A fresh fleet ran these lines, and the sink took exactly their replies.
 pub record Ran (merge : Operator) (lines : List Line) (fleet : FleetView) (old new : SinkView) : Type 0 where
   pub answers : List (List ℕ)
   pub last : State
@@ -31,7 +31,8 @@ pub record Ran (merge : Operator) (lines : List Line) (fleet : FleetView) (old n
   pub live : last.parties ≡ parties_of fleet
   pub took : Took (concat answers) old new
 
--- These lines were run, and the sink took their replies, but for the end of the last one.
+-- A fresh fleet ran these lines. The sink took all their replies, except that it did not take the
+-- last one to its end.
 pub record RanButTheEnd (merge : Operator) (lines : List Line) (fleet : FleetView) (old new : SinkView) : Type 0 where
   pub answers : List (List ℕ)
   pub answer : List ℕ
@@ -45,14 +46,16 @@ pub record RanButTheEnd (merge : Operator) (lines : List Line) (fleet : FleetVie
   pub some_left : end ≢ []
   pub took : Took (concat answers ++ front) old new
 
--- The first of these lines were run, and the sink took their replies, but for the end of the last one.
+-- A fresh fleet ran the first of these lines. The sink took their replies, except that it did not
+-- take the last one to its end.
 pub record RunsUpToFault (merge : Operator) (lines : List Line) (fleet : FleetView) (old new : SinkView) : Type 0 where
   pub run : List Line
   pub left : List Line
   pub parts : lines ≡ run ++ left
   pub ran : RanButTheEnd merge run fleet old new
 
--- The first of these lines were run, whatever the merge operator, and the sink took exactly their replies.
+-- A fresh fleet ran the first of these lines, and the sink took exactly their replies. This holds
+-- for every merge operator.
 pub record RunsFront (lines : List Line) (fleet : FleetView) (old new : SinkView) : Type 0 where
   pub run : List Line
   pub left : List Line
@@ -70,8 +73,9 @@ pub record BeginsScript (text : List ℕ) (lines : List Line) : Type 0 where
   pub left : List Line
   pub script : IsScript job_grammar text (lines ++ left)
 
--- These lines were run, if any, whatever the merge operator, and the sink took exactly their replies. A line is run only where
--- the whole text is a script.
+-- A fresh fleet ran some lines, or none, and the sink took exactly their replies. This holds for
+-- every merge operator. If a line was run, the text is a script that begins with the lines that
+-- were run.
 pub record ServedFront (text : List ℕ) (fleet : FleetView) (old new : SinkView) : Type 0 where
   pub run : List Line
   pub ran : (merge : Operator) → Ran merge run fleet old new

@@ -1,4 +1,4 @@
-//! The replies to lines, as they are printed.
+//! Builds the replies to lines.
 
 ghost use Rattle.std.specs.Prelude.{◌≡◌, ◌∷◌, ◌++◌, [], IfOk, IsOkUnless, option_map, codes};
 ghost use Rattle.std.specs.Option.{option_copied};
@@ -16,7 +16,7 @@ use fleet_rows::{JobList, RowEntry, SlateDBError, ValueDeletable};
 use fleet_text::Reply;
 use std::alloc::Global;
 
-/// Which rule a flush breaks.
+/// The rule that a flush breaks.
 #[derive(Clone, Copy, Debug, PartialEq, Eq)]
 pub(crate) enum FlushFault {
     Name,
@@ -60,9 +60,10 @@ pub(crate) fn refused_flush(alloc: Global, fault: FlushFault) -> Result<Reply, S
     Ok(reply)
 }
 
-/// The value of a row, where there is one and it has a value.
+/// The reply to a read: the row's value, or `none` if there is no row or its row is no value.
 pub(crate) fn value(alloc: Global, row: Option<&RowEntry>) -> Result<Reply, SlateDBError>
-    ensures reply { IfOk result (λ reply. reply ≡ read_reply (value_of (option_map row_of (option_copied row.entry)))) }
+    ensures reply { IfOk result
+        (λ reply. reply ≡ read_reply (value_of (option_map row_of (option_copied row.entry)))) }
     ensures memory { IsOkUnless result SlateDBError.Memory }
 {
     let mut reply = Reply::new(alloc);
@@ -82,7 +83,7 @@ pub(crate) fn value(alloc: Global, row: Option<&RowEntry>) -> Result<Reply, Slat
     Ok(reply)
 }
 
-/// A read below the horizon or before the tick is refused.
+/// The reply to a read below the horizon or before the tick.
 pub(crate) fn not_retained(alloc: Global, horizon: u64, tick: i64) -> Result<Reply, SlateDBError>
     ensures reply { IfOk result (λ reply. reply ≡ not_retained horizon tick) }
     ensures memory { IsOkUnless result SlateDBError.Memory }
@@ -96,7 +97,7 @@ pub(crate) fn not_retained(alloc: Global, horizon: u64, tick: i64) -> Result<Rep
     Ok(reply)
 }
 
-/// A reply of these words and a newline.
+// A reply of this text, which ends with a newline.
 fn words(alloc: Global, text: &str) -> Result<Reply, SlateDBError>
     ensures reply { IfOk result (λ reply. reply ≡ text.now) }
     ensures memory { IsOkUnless result SlateDBError.Memory }
@@ -120,7 +121,7 @@ pub(crate) fn no_records(alloc: Global) -> Result<Reply, SlateDBError>
     words(alloc, "invaliddbstate\n")
 }
 
-/// A coordinator began, with the first epoch.
+/// The reply to the start of a coordinator, whose epoch is 1.
 pub(crate) fn started(alloc: Global) -> Result<Reply, SlateDBError>
     ensures reply { IfOk result (λ reply. reply ≡ started) }
     ensures memory { IsOkUnless result SlateDBError.Memory }
@@ -139,9 +140,10 @@ pub(crate) fn absent(alloc: Global) -> Result<Reply, SlateDBError>
     words(alloc, "ok absent\n")
 }
 
-/// A job was submitted.
+/// The reply to a submission, with the number of its job.
 pub(crate) fn submitted(alloc: Global, job: &JobList) -> Result<Reply, SlateDBError>
-    ensures reply { IfOk result (λ answer. answer ≡ reply (codes "ok" ∷ codes "job" ∷ jobs_text job.now ∷ [])) }
+    ensures reply { IfOk result
+        (λ answer. answer ≡ reply (codes "ok" ∷ codes "job" ∷ jobs_text job.now ∷ [])) }
     ensures memory { IsOkUnless result SlateDBError.Memory }
 {
     let mut reply = Reply::new(alloc);
@@ -151,7 +153,7 @@ pub(crate) fn submitted(alloc: Global, job: &JobList) -> Result<Reply, SlateDBEr
     Ok(reply)
 }
 
-/// What a poll did.
+/// The reply to a poll: the committed job, the opened one, and the refused ones with their rules.
 pub(crate) fn polled(alloc: Global, done: &JobList, judged: &Judged) -> Result<Reply, SlateDBError>
     ensures reply { IfOk result (λ reply. reply ≡ polled_reply done.now (judged_of judged.now)) }
     ensures memory { IsOkUnless result SlateDBError.Memory }
@@ -167,9 +169,10 @@ pub(crate) fn polled(alloc: Global, done: &JobList, judged: &Judged) -> Result<R
     Ok(reply)
 }
 
-/// A job was claimed for the first time: no range has a table yet.
+/// The reply to a claim of a job. It is the job's first attempt, so no range has a table yet.
 pub(crate) fn claimed(alloc: Global, job: &JobList) -> Result<Reply, SlateDBError>
-    ensures reply { IfOk result (λ answer. answer ≡ reply (codes "ok" ∷ codes "claimed" ∷ (jobs_text job.now ++ codes ".1:-") ∷ codes "stopped" ∷ codes "-" ∷ [])) }
+    ensures reply { IfOk result (λ answer. answer ≡ reply (codes "ok" ∷ codes "claimed" ∷
+        (jobs_text job.now ++ codes ".1:-") ∷ codes "stopped" ∷ codes "-" ∷ [])) }
     ensures memory { IsOkUnless result SlateDBError.Memory }
 {
     let mut reply = Reply::new(alloc);
@@ -179,7 +182,7 @@ pub(crate) fn claimed(alloc: Global, job: &JobList) -> Result<Reply, SlateDBErro
     Ok(reply)
 }
 
-/// No job was claimed.
+/// The reply to a claim that finds no waiting job.
 pub(crate) fn claimed_none(alloc: Global) -> Result<Reply, SlateDBError>
     ensures reply { IfOk result (λ reply. reply ≡ claim_reply [] []) }
     ensures memory { IsOkUnless result SlateDBError.Memory }
@@ -187,9 +190,10 @@ pub(crate) fn claimed_none(alloc: Global) -> Result<Reply, SlateDBError>
     words(alloc, "ok claimed - stopped -\n")
 }
 
-/// A job is finished, with the tables of its one range.
+/// The reply to a finish, with the tables of the job's only range.
 pub(crate) fn finished(alloc: Global, tables: &JobList) -> Result<Reply, SlateDBError>
-    ensures reply { IfOk result (λ answer. answer ≡ reply (codes "ok" ∷ ranges_text (tables.now ∷ []) ∷ [])) }
+    ensures reply { IfOk result
+        (λ answer. answer ≡ reply (codes "ok" ∷ ranges_text (tables.now ∷ []) ∷ [])) }
     ensures memory { IsOkUnless result SlateDBError.Memory }
 {
     let mut reply = Reply::new(alloc);
@@ -199,9 +203,10 @@ pub(crate) fn finished(alloc: Global, tables: &JobList) -> Result<Reply, SlateDB
     Ok(reply)
 }
 
-/// The rows of a node.
+/// The reply that shows the rows of a node.
 pub(crate) fn rows(alloc: Global, rows: &[RowEntry]) -> Result<Reply, SlateDBError>
-    ensures reply { IfOk result (λ answer. answer ≡ reply (codes "ok" ∷ rows_text (rows_of rows.now) ∷ [])) }
+    ensures reply { IfOk result
+        (λ answer. answer ≡ reply (codes "ok" ∷ rows_text (rows_of rows.now) ∷ [])) }
     ensures memory { IsOkUnless result SlateDBError.Memory }
 {
     let mut reply = Reply::new(alloc);

@@ -1,4 +1,4 @@
-//! The fleet that a script runs on.
+//! The fleet on which a script runs.
 
 ghost use Rattle.std.specs.Prelude.{◌≡◌, ◌<◌, IfOk, OnOk, OnErr, IsOkUnless, length, option_map, [], None, fold};
 ghost use Rattle.std.specs.Option.{option_copied};
@@ -24,31 +24,31 @@ use std::alloc::Global;
 use std::collections::VecDeque;
 use std::marker::Model;
 
-/// The tables of the root tree, the jobs on their way, and the places from which reads are answered. A fleet is fresh until its
-/// first script.
+/// A fleet: the tables of the root tree, the open and the submitted jobs, and the bounds below
+/// which reads are refused. A fleet is fresh until its first script.
 #[derive(Debug, Drop)]
 pub struct Fleet {
-    /// The flushes that no job took yet, newest first.
+    /// The flushes that no job has taken, newest first.
     pub(crate) flushes: VecDeque<Table>,
     /// The runs, newest first.
     pub(crate) runs: VecDeque<Run>,
-    /// The newest flush's name, 0 where there was none.
+    /// The name of the newest flush, or 0 if there was none.
     pub(crate) last_name: u64,
-    /// The greatest flushed sequence.
+    /// The greatest sequence that was flushed, if any.
     pub(crate) last_seq: Option<u64>,
-    /// The least sequence of a snapshot, which the last flush told.
+    /// The floor that the last flush brought: the cut of jobs that are claimed from now on.
     pub(crate) floor: u64,
-    /// The least sequence that is read.
+    /// The horizon: reads at lower sequences are refused.
     pub(crate) horizon: u64,
-    /// The least moment that is read at, in milliseconds.
+    /// The tick: reads at earlier moments are refused. It is in milliseconds.
     pub(crate) tick: i64,
-    /// Whether the coordinator is live, and so whether there are job records.
+    /// Whether the coordinator is live. The job records exist from its start on.
     pub(crate) coordinator: bool,
     pub(crate) worker: bool,
-    /// How many ids were drawn for jobs, and for tables.
+    /// How many ids were drawn for jobs.
     pub(crate) jobs_drawn: u64,
     pub(crate) tables_drawn: u64,
-    /// The jobs that were submitted, and that no poll looked at yet.
+    /// The submitted jobs that no poll has looked at.
     pub(crate) asked: Vec<AskedJob>,
     pub(crate) opened: Option<OpenJob>,
 }
@@ -99,9 +99,10 @@ impl Fleet {
         })
     }
 
-    /// The first rule that a flush of the root breaks.
+    // The first rule that a flush into the root breaks.
     fn flush_fault(&self, name: u64, floor: u64, tick: i64, rows: &[RowEntry]) -> Option<FlushFault>
-        ensures { option_map fault_of result ≡ flush_fault self.now name floor tick (rows_of rows.now) }
+        ensures { option_map fault_of result
+            ≡ flush_fault self.now name floor tick (rows_of rows.now) }
     {
         if name <= self.last_name {
             return Some(FlushFault::Name);
@@ -131,8 +132,10 @@ impl Fleet {
     ) -> Result<Reply, SlateDBError>
         requires some { 0 < length rows.items }
         requires rows { AreRows (rows_of rows.items) }
-        ensures reply { IfOk result (λ reply. reply ≡ flush_reply (flush_fault self.old name floor tick (rows_of rows.items))) }
-        ensures ok { OnOk result (self.new ≡ after_flush self.old name floor tick (rows_of rows.items) (flush_fault self.old name floor tick (rows_of rows.items))) }
+        ensures reply { IfOk result (λ reply. reply
+            ≡ flush_reply (flush_fault self.old name floor tick (rows_of rows.items))) }
+        ensures ok { OnOk result (self.new ≡ after_flush self.old name floor tick
+            (rows_of rows.items) (flush_fault self.old name floor tick (rows_of rows.items))) }
         ensures err { OnErr result (self.new ≡ self.old) }
         ensures memory { IsOkUnless result SlateDBError.Memory }
     {
@@ -142,7 +145,7 @@ impl Fleet {
         }
     }
 
-    /// Puts a flush that breaks no rule in front of the others.
+    // Puts a flush that breaks no rule before the others.
     fn accept(
         &mut self,
         alloc: Global,
@@ -155,7 +158,8 @@ impl Fleet {
         requires some { 0 < length rows.items }
         requires rows { AreRows (rows_of rows.items) }
         ensures reply { IfOk result (λ reply. reply ≡ ok) }
-        ensures ok { OnOk result (self.new ≡ with_flush self.old name floor tick (rows_of rows.items)) }
+        ensures ok { OnOk result
+            (self.new ≡ with_flush self.old name floor tick (rows_of rows.items)) }
         ensures err { OnErr result (self.new ≡ self.old) }
         ensures memory { IsOkUnless result SlateDBError.Memory }
     {
@@ -182,7 +186,8 @@ impl Fleet {
         answer::value(alloc, row)
     }
 
-    /// Runs one line, and answers its reply. All memory that this takes is taken before the fleet changes.
+    /// Runs one line and returns its reply. All memory that the line needs is allocated before the
+    /// fleet changes.
     pub(crate) fn serve(&mut self, alloc: Global, line: Line) -> Result<Reply, SlateDBError>
         requires { IsServed (line_of line) }
         ensures reply { IfOk result (λ reply. reply ≡ reply_to (line_of line) self.old) }
@@ -219,7 +224,7 @@ impl Fleet {
     }
 }
 
-/// Whether each row is newer than what was flushed before.
+// Whether each row has a sequence above all that were flushed before.
 fn are_above(last_seq: Option<u64>, rows: &[RowEntry]) -> bool
     ensures { result ≡ list_all (λ r. is_above last_seq r.seq) (rows_of rows.now) }
 {
@@ -241,7 +246,7 @@ fn is_above(last_seq: Option<u64>, row: &RowEntry) -> bool
     }
 }
 
-/// The greatest sequence that was flushed, with these rows.
+// The greatest sequence that was flushed, including these rows.
 fn greatest_seq(last_seq: Option<u64>, rows: &[RowEntry]) -> Option<u64>
     ensures { result ≡ greatest_seq last_seq (rows_of rows.now) }
 {

@@ -1,4 +1,4 @@
-//! Jobs of one flush each, and the rules that they are asked as they are opened.
+//! Jobs of one flush each, and the rules that a poll checks before it opens them.
 
 ghost use Rattle.std.specs.Prelude.{◌≡◌, ◌==◌, nat_lt, [], IfOk, IsOkUnless, OnOk};
 ghost use Rattle.std.specs.List.{list_any, list_all};
@@ -11,35 +11,36 @@ use fleet_rows::{JobList, RuleList, Settings, SlateDBError, Ulid};
 use std::alloc::Global;
 use std::collections::VecDeque;
 
-/// A request to make a run of one flush.
+/// A request for a job that makes a run of one flush.
 #[derive(Clone, Copy, Debug, PartialEq, Eq)]
 pub struct AskedJob {
     pub id: Ulid,
-    /// The table of the flush.
+    /// The id of the flush's table.
     pub source: Ulid,
-    /// The id of the run.
+    /// The id of the run that the job makes.
     pub destination: u32,
 }
 
 /// How far an opened job is.
 #[derive(Debug, Drop)]
 pub enum Stage {
-    /// It waits for a worker.
+    /// The job waits for a worker.
     Waits,
-    /// The worker runs it under these settings.
+    /// The worker runs the job with these settings.
     Runs(Settings),
-    /// It wrote these tables under this cut.
+    /// The worker has written these tables, under this cut.
     Wrote { tables: VecDeque<Table>, cut: u64 },
 }
 
-/// The job that is opened.
+/// The opened job. A fleet has at most one.
 #[derive(Debug, Drop)]
 pub struct OpenJob {
     pub job: AskedJob,
     pub stage: Stage,
 }
 
-/// Which job is opened, and what became of the jobs looked at.
+/// The result of a poll's look at the submitted jobs: the job that is open now, the opened ones,
+/// and the refused ones with their rules.
 #[derive(Debug, Drop)]
 pub struct Judged {
     pub held: Option<AskedJob>,
@@ -47,14 +48,15 @@ pub struct Judged {
     pub refused: RuleList,
 }
 
-/// Whether an id is among others.
+// Whether the id is in the list.
 fn contains(ids: &[Ulid], id: Ulid) -> bool
     ensures { result ≡ list_any (λ other. other == id) ids.now }
 {
     ids.iter().any(|other| *other == id)
 }
 
-/// Whether a run of this id may come: it is not the last id there is, and above all runs.
+// Whether a run of this id may be made: the id is not the greatest one, and is above the ids of all
+// runs.
 fn is_above_all(runs: &[u32], id: u32) -> bool
     ensures { result ≡ is_above_all runs.now id }
 {
@@ -67,7 +69,7 @@ fn are_below(runs: &[u32], id: u32) -> bool
     runs.iter().all(|run| *run < id)
 }
 
-/// Whether an id is the last of others, or there are none.
+// Whether the id is the last one of the list, or the list is empty.
 fn is_last(ids: &[Ulid], id: Ulid) -> bool
     ensures { result ≡ is_last id ids.now }
 {
@@ -77,7 +79,7 @@ fn is_last(ids: &[Ulid], id: Ulid) -> bool
     }
 }
 
-/// Whether a run is the last of others, or there are none.
+/// Whether the run is the last one of the list, or the list is empty.
 pub fn is_last_run(ids: &[u32], id: u32) -> bool
     ensures { result ≡ is_last id ids.now }
 {
@@ -87,7 +89,8 @@ pub fn is_last_run(ids: &[u32], id: u32) -> bool
     }
 }
 
-/// Whether an opened job takes no flush and makes no run that this one does.
+// Whether the job has another flush and another run than the open job. This holds if no job is
+// open.
 fn is_apart_from(held: &Option<AskedJob>, job: &AskedJob) -> bool
     ensures { result ≡ is_apart_from held.now job.now }
 {
@@ -97,7 +100,7 @@ fn is_apart_from(held: &Option<AskedJob>, job: &AskedJob) -> bool
     }
 }
 
-/// The first rule that a job fails, among these flushes and runs of the tree.
+// The number of the first rule that a job fails, given the ids of the tree's flushes and runs.
 fn failed_rule(
     flushes: &[Ulid],
     runs: &[u32],
@@ -121,14 +124,15 @@ fn failed_rule(
     None
 }
 
-/// Looks at a job: it is opened, or refused with the rule that it fails. Where memory is wanted, nothing changes.
+// Looks at one job. It is opened, or refused with the rule that it fails. An error changes nothing.
 fn judge(
     flushes: &[Ulid],
     runs: &[u32],
     judged: &mut Judged,
     job: &AskedJob,
 ) -> Result<(), SlateDBError>
-    ensures ok { OnOk result (judged_of judged.new ≡ judge flushes.now runs.now (judged_of judged.old) job.now) }
+    ensures ok { OnOk result
+        (judged_of judged.new ≡ judge flushes.now runs.now (judged_of judged.old) job.now) }
     ensures memory { IsOkUnless result SlateDBError.Memory }
 {
     match failed_rule(flushes, runs, &judged.held, job) {
@@ -141,7 +145,8 @@ fn judge(
     Ok(())
 }
 
-/// Looks at each job in turn, in a tree of these flushes and runs, with the job that is opened before.
+/// Looks at each job in order, given the ids of the tree's flushes and runs, and the job that is
+/// already open.
 pub fn judge_all(
     alloc: Global,
     flushes: &[Ulid],
@@ -149,7 +154,8 @@ pub fn judge_all(
     held: Option<AskedJob>,
     jobs: &[AskedJob],
 ) -> Result<Judged, SlateDBError>
-    ensures judged { IfOk result (λ judged. judged_of judged ≡ judge_all flushes.now runs.now (record { held = held; opened = []; refused = [] }) jobs.now) }
+    ensures judged { IfOk result (λ judged. judged_of judged ≡ judge_all flushes.now runs.now
+        (record { held = held; opened = []; refused = [] }) jobs.now) }
     ensures memory { IsOkUnless result SlateDBError.Memory }
 {
     let mut judged = Judged {

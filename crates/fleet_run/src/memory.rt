@@ -6,7 +6,8 @@ ghost use Rattle.fleet_run.specs.Outside.{SourceView, SinkView};
 use crate::outside::{Failed, Sink, Source};
 use std::alloc::Global;
 
-/// Gives the bytes of a slice, as many as the buffer takes, and fails at the calls that it is told to.
+/// A source that gives the bytes of a slice, as many as the buffer takes. It fails at the calls
+/// that it was given.
 #[derive(Drop)]
 pub struct MemSource<'a> {
     left: &'a [u8],
@@ -20,10 +21,12 @@ pub struct MemSource<'a> {
 impl<'a> MemSource<'a> {
     ghost use Rattle.fleet_run.specs.Memory.{source_view, source_failing};
 
-    /// A source of these bytes. The calls of `read` are counted from 1, and those in `failing` fail.
+    /// A source of these bytes. Its calls of `read` are counted from 1, and the calls in `failing`
+    /// fail.
     pub fn new(bytes: &'a [u8], failing: &'a [u64]) -> MemSource<'a>
         ensures fails_at { source_failing result ≡ failing.now }
-        ensures told { source_view result ≡ record { left = Some bytes.now; given = 0; ended = false; faults = 0 } }
+        ensures told { source_view result
+            ≡ record { left = Some bytes.now; given = 0; ended = false; faults = 0 } }
     {
         MemSource {
             left: bytes,
@@ -60,7 +63,7 @@ impl Source for MemSource<'_> {
     }
 }
 
-/// Keeps what it takes, and fails at the calls that it is told to.
+/// A sink that keeps the bytes that it takes. It fails at the calls that it was given.
 #[derive(Drop)]
 pub struct MemSink<'a> {
     bytes: Vec<u8>,
@@ -73,7 +76,7 @@ pub struct MemSink<'a> {
 impl<'a> MemSink<'a> {
     ghost use Rattle.fleet_run.specs.Memory.{sink_view, sink_bytes, sink_failing};
 
-    /// A sink that holds nothing yet. The calls of `write` are counted from 1, and those in `failing` fail.
+    /// An empty sink. Its calls of `write` are counted from 1, and the calls in `failing` fail.
     pub fn new(alloc: Global, failing: &'a [u64]) -> MemSink<'a>
         ensures fails_at { sink_failing result ≡ failing.now }
         ensures told { sink_view result ≡ record { written = Some []; taken = 0; faults = 0 } }
@@ -87,7 +90,7 @@ impl<'a> MemSink<'a> {
         }
     }
 
-    /// The bytes that it took.
+    /// The bytes that the sink took.
     pub fn as_slice(&self) -> &[u8]
         ensures { result.now ≡ sink_bytes self.now }
     {
@@ -100,7 +103,7 @@ impl Sink for MemSink<'_> {
 
     ghost told = { sink_view };
 
-    /// Want of memory counts as a fault too.
+    /// A write that is out of memory counts as a fault.
     fn write(&mut self, from: &[u8]) -> Result<usize, Failed> {
         self.calls = self.calls.saturating_add(1);
         if self.failing.contains(&self.calls) || self.bytes.extend_from_slice(from).is_err() {

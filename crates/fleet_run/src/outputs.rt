@@ -1,4 +1,4 @@
-//! The tables that a job writes of a flush.
+//! The tables that a job writes from a flush.
 
 ghost use Rattle.std.specs.Prelude.{◌≡◌, ◌+◌, false, nat_lt, IfOk, IfErr, IsOkUnless};
 ghost use Rattle.std.specs.List.{AllByRecursion};
@@ -19,19 +19,16 @@ use crate::tables::Table;
 use fleet_fold::RetentionIterator;
 use fleet_iter::{RowEntryIterator, RowSource, ordered_rows_rise};
 use fleet_range::BytesRange;
-use fleet_rows::{ListOf, RowEntry, Settings, SlateDBError, Ulid};
+use fleet_rows::{DRAWN_BASE, ListOf, RowEntry, Settings, SlateDBError, Ulid};
 use fleet_table::{TableData, TableIterator};
 use std::alloc::Global;
 use std::collections::VecDeque;
 use std::mem;
 
-/// A table ends with the row with which its rows first exceed so many bytes.
+// The size of a table in bytes. A table ends with the row with which it exceeds this size.
 const TABLE_SIZE: usize = 268_435_456;
 
-/// The first number of a drawn table: numbers below it are those of flushes and jobs.
-const FIRST_DRAWN: u128 = 1 << 79;
-
-/// All rows that an iterator has left.
+// Reads all rows that an iterator has left.
 fn rows_left<T: RowSource>(alloc: Global, source: &mut T) -> Result<Vec<RowEntry>, SlateDBError>
     requires sound { T.sound source.old }
     requires readable { IsReadable (T.state source.old) }
@@ -45,20 +42,21 @@ fn rows_left<T: RowSource>(alloc: Global, source: &mut T) -> Result<Vec<RowEntry
     Ok(rows)
 }
 
-/// All rows of a table.
+// An iterator over all rows of a table.
 fn all_rows(table: &TableData) -> TableIterator<'_>
     ensures { result ≡ record { left = table.now; broken = false } }
 {
     table.iter(&BytesRange::unbounded())
 }
 
-/// What a job keeps of a table's rows.
+// The rows that a job keeps of a table.
 fn kept_rows(
     alloc: Global,
     settings: Settings,
     table: &TableData,
 ) -> Result<Vec<RowEntry>, SlateDBError>
-    ensures rows { IfOk result (λ rows. rows_of rows.items ≡ kept_of_keys (settings_of settings) table.now) }
+    ensures rows { IfOk result
+        (λ rows. rows_of rows.items ≡ kept_of_keys (settings_of settings) table.now) }
     ensures table { IsTable table.now }
     ensures memory { IsOkUnless result SlateDBError.Memory }
 {
@@ -69,7 +67,7 @@ fn kept_rows(
     rows_left(alloc, &mut iterator)
 }
 
-/// Whether a row exceeds the size of a table that is filled so far.
+// Whether a table with `filled` bytes exceeds its size with this row.
 fn is_full(filled: usize, row: &RowEntry) -> bool
     requires { IsInBounds (row_of row.now) }
     ensures { result ≡ nat_lt table_size (filled + estimated_size (row_of row.now)) }
@@ -77,10 +75,11 @@ fn is_full(filled: usize, row: &RowEntry) -> bool
     filled > TABLE_SIZE || row.estimated_size() > TABLE_SIZE - filled
 }
 
-/// Rows cut into the rows of tables.
+// Cuts rows into tables, in order.
 fn cut(alloc: Global, rows: Vec<RowEntry>) -> Result<VecDeque<ListOf<RowEntry>>, SlateDBError>
     requires { AllByRecursion IsInBounds (rows_of rows.items) }
-    ensures tables { IfOk result (λ tables. all_rows_of tables.items ≡ cut_tables table_size (rows_of rows.items)) }
+    ensures tables { IfOk result
+        (λ tables. all_rows_of tables.items ≡ cut_tables table_size (rows_of rows.items)) }
     ensures memory { IsOkUnless result SlateDBError.Memory }
 {
     let mut tables = VecDeque::new(alloc);
@@ -104,14 +103,16 @@ fn cut(alloc: Global, rows: Vec<RowEntry>) -> Result<VecDeque<ListOf<RowEntry>>,
     Ok(tables)
 }
 
-/// Tables of these rows, under ids that follow those drawn before, at moment 0.
+// Makes tables of these rows, with ids at moment 0. Their numbers follow the `drawn` ones before
+// them. If the numbers run out, the error is out of memory.
 fn numbered(
     alloc: Global,
     drawn: u64,
     rows: VecDeque<ListOf<RowEntry>>,
 ) -> Result<VecDeque<Table>, SlateDBError>
     requires { AllByRecursion IsTable (all_rows_of rows.items) }
-    ensures tables { IfOk result (λ tables. tables.items ≡ numbered drawn (all_rows_of rows.items)) }
+    ensures tables { IfOk result
+        (λ tables. tables.items ≡ numbered drawn (all_rows_of rows.items)) }
     ensures memory { IsOkUnless result SlateDBError.Memory }
 {
     let mut tables = VecDeque::new(alloc);
@@ -119,21 +120,23 @@ fn numbered(
     let mut rest = rows;
     'rows: while let Some(rows) = rest.pop_front() {
         number = number.checked_add(1).ok_or(SlateDBError::Memory)?;
-        let id = Ulid::from_parts(0, FIRST_DRAWN + number as u128);
+        let id = Ulid::from_parts(0, DRAWN_BASE + number as u128);
         let data = TableData::from_rows(alloc, rows.into_vec())?;
         tables.push_back(Table { id, data })?;
     }
     Ok(tables)
 }
 
-/// The tables that a job writes of a flush's table.
+/// The tables that a job writes from the table of a flush, with ids that follow the `drawn` ones
+/// before them.
 pub fn outputs(
     alloc: Global,
     drawn: u64,
     settings: Settings,
     table: &TableData,
 ) -> Result<VecDeque<Table>, SlateDBError>
-    ensures tables { IfOk result (λ tables. tables.items ≡ numbered drawn (cut_tables table_size (kept_of_keys (settings_of settings) table.now))) }
+    ensures tables { IfOk result (λ tables. tables.items
+        ≡ numbered drawn (cut_tables table_size (kept_of_keys (settings_of settings) table.now))) }
     ensures memory { IsOkUnless result SlateDBError.Memory }
 {
     let rows = kept_rows(alloc, settings, table)?;

@@ -1,20 +1,21 @@
-//! What a script comes from, and what its replies go to.
+//! Where a script comes from, and where its replies go.
 
 ghost use Rattle.std.specs.Prelude.{◌≡◌, ◌<◌, ◌≤◌, ◌==◌, false, length, IfOk, OnErr};
 ghost use Rattle.std.specs.Io.KnownBytes.{ReadConsumes, WriteAppends};
 ghost use Rattle.fleet_run.specs.Outside.{SourceView, SinkView, Rose, counted};
 
-/// A read or a write was not done.
+/// A read or a write failed.
 #[derive(Clone, Copy, Debug, PartialEq, Eq)]
 pub struct Failed;
 
-/// What gives the bytes of a script.
+/// A source of the bytes of a script.
 pub trait Source {
-    /// What it gave so far and has left, whether it has ended, and how many reads failed.
+    /// What contracts see of a source: its bytes, how many it gave, whether it has ended, and how
+    /// many reads failed.
     ghost told: { Self → SourceView };
 
-    /// Fills the front of the buffer, and answers how much of it. An answer of 0 for a buffer with room says
-    /// that the source has ended.
+    /// Fills the front of the buffer and returns the length of that front. If the buffer has room,
+    /// 0 means that the source has ended.
     fn read(&mut self, into: &mut [u8]) -> Result<usize, Failed>
         ensures at_most { IfOk result (λ n. n ≤ length into.old) }
         ensures bytes { ReadConsumes (told self.old).left (told self.new).left result into.new }
@@ -27,19 +28,21 @@ pub trait Source {
         ensures never_fall { (told self.old).faults ≤ (told self.new).faults };
 }
 
-/// What takes the replies to a script.
+/// A sink for the replies to a script.
 pub trait Sink {
-    /// What it took so far, and how many writes failed.
+    /// What contracts see of a sink: the bytes that it took, how many, and how many writes failed.
     ghost told: { Self → SinkView };
 
-    /// Takes the front of the piece, and answers how much of it. Who takes nothing of a piece that is not
-    /// empty has failed, whatever it answers.
+    /// Takes the front of the piece and returns the length of that front. A sink that takes nothing
+    /// of a piece that is not empty has failed, even if it returns Ok.
     fn write(&mut self, from: &[u8]) -> Result<usize, Failed>
         ensures at_most { IfOk result (λ n. n ≤ length from.now) }
-        ensures bytes { WriteAppends (told self.old).written (told self.new).written result from.now }
+        ensures bytes { WriteAppends
+            (told self.old).written (told self.new).written result from.now }
         ensures taken { IfOk result (λ n. (told self.new).taken ≡ counted (told self.old).taken n) }
         ensures none_taken { OnErr result ((told self.new).taken ≡ (told self.old).taken) }
         ensures failed { OnErr result (Rose (told self.old).faults (told self.new).faults) }
-        ensures took_nothing { IfOk result (λ n. n ≡ 0 → 0 < length from.now → Rose (told self.old).faults (told self.new).faults) }
+        ensures took_nothing { IfOk result (λ n. n
+            ≡ 0 → 0 < length from.now → Rose (told self.old).faults (told self.new).faults) }
         ensures never_fall { (told self.old).faults ≤ (told self.new).faults };
 }

@@ -1,4 +1,4 @@
-//! The program, but for its standard streams.
+//! The program, except its standard streams.
 
 ghost use Rattle.std.specs.Prelude.{◌≡◌, ◌≢◌, ℕ, ◌+◌, ◌<◌, ◌≤◌, ◌^◌, ◌↔◌, ◌⊎◌, [], ◌∷◌, List, Some, Err, length, map, IsTrue, IfOk, IfErr, codes};
 ghost use Rattle.std.specs.Io.KnownBytes.{Consumes};
@@ -17,12 +17,15 @@ use std::alloc::Global;
 
 const LONGEST: usize = 67_108_864;
 
-/// Reads a source to its end, or until it has given too much.
+// Reads a source to its end, or until it has given more than `LONGEST` bytes.
 fn read_all<S: Source>(alloc: Global, source: &mut S) -> Result<Vec<u8>, FleetError>
     requires { (S.told source.old).given < 2 ^ 63 }
-    ensures whole { IfOk result (λ text. ReadWhole text.items (S.told source.old) (S.told source.new)) }
-    ensures too_long { (result ≡ Err TooLong) ↔ ((S.told source.old).given + longest < (S.told source.new).given) }
-    ensures read_fault { result ≡ Err ReadFault → Rose (S.told source.old).faults (S.told source.new).faults }
+    ensures whole { IfOk result
+        (λ text. ReadWhole text.items (S.told source.old) (S.told source.new)) }
+    ensures too_long { (result
+        ≡ Err TooLong) ↔ ((S.told source.old).given + longest < (S.told source.new).given) }
+    ensures read_fault { result
+        ≡ Err ReadFault → Rose (S.told source.old).faults (S.told source.new).faults }
     ensures front { IfErr result (λ _. ReadFront (S.told source.old) (S.told source.new)) }
     ensures only { IfErr result (λ e. (e ≡ TooLong) ⊎ ((e ≡ ReadFault) ⊎ (e ≡ Memory))) }
     ensures never_fall { (S.told source.old).faults ≤ (S.told source.new).faults }
@@ -60,17 +63,17 @@ fn is_word(word: &str, name: &str) -> bool
     word == name
 }
 
-/// Carries out the words of the program, and answers its status: `run` runs the script that the source gives, and
-/// its replies go to the sink.
+/// Runs the program and returns its status. The words `run` run the script that the source gives,
+/// and write its replies to the sink.
 ///
-/// | Status | Says |
+/// | Status | Meaning |
 /// |---|---|
 /// | 0 | the script was run, and all its replies were written |
 /// | 2 | the words are not `run` |
 /// | 3 | a line of the script is outside the grammar |
 /// | 4 | the source failed |
 /// | 5 | the sink failed |
-/// | 6 | memory ran out |
+/// | 6 | out of memory |
 /// | 7 | the source gave more than 67,108,864 bytes |
 pub fn fleet_main<S: Source, K: Sink>(
     alloc: Global,
@@ -83,7 +86,8 @@ pub fn fleet_main<S: Source, K: Sink>(
     requires given { (S.told source.old).given < 2 ^ 63 }
     ensures status { IsStatus result }
 
-    ensures run { result ≡ 0 → RunsScript fleet.new (S.told source.old) (S.told source.new) (K.told sink.old) (K.told sink.new) }
+    ensures run { result ≡ 0 → RunsScript fleet.new
+        (S.told source.old) (S.told source.new) (K.told sink.old) (K.told sink.new) }
 
     ensures usage { (result ≡ 2) ↔ (map (λ word. word.now) words.now ≢ codes "run" ∷ []) }
     ensures usage_reads_nothing { result ≡ 2 → source.new ≡ source.old }
@@ -93,18 +97,23 @@ pub fn fleet_main<S: Source, K: Sink>(
     ensures read_fault { result ≡ 4 → Rose (S.told source.old).faults (S.told source.new).faults }
 
     ensures write_fault { result ≡ 5 → Rose (K.told sink.old).faults (K.told sink.new).faults }
-    ensures wrote_front { result ≡ 5 → RunsUpTo fleet.new (S.told source.old) (S.told source.new) (K.told sink.old) (K.told sink.new) }
+    ensures wrote_front { result ≡ 5 → RunsUpTo fleet.new
+        (S.told source.old) (S.told source.new) (K.told sink.old) (K.told sink.new) }
 
-    ensures memory { result ≡ 6 → RunsFirst fleet.new (S.told source.old) (S.told source.new) (K.told sink.old) (K.told sink.new) }
+    ensures memory { result ≡ 6 → RunsFirst fleet.new
+        (S.told source.old) (S.told source.new) (K.told sink.old) (K.told sink.new) }
 
-    ensures too_long { (result ≡ 7) ↔ ((S.told source.old).given + longest < (S.told source.new).given) }
+    ensures too_long { (result
+        ≡ 7) ↔ ((S.told source.old).given + longest < (S.told source.new).given) }
 
-    // Nothing was run or written.
+    // With the statuses 2, 3, 4 and 7, nothing was run or written.
     ensures took_nothing { RunsNothing result → TookNothing (K.told sink.old) (K.told sink.new) }
     ensures left_fresh { RunsNothing result → fleet.new ≡ fleet.old }
 
-    // A script that is not too long is run, unless the source or the sink fails, or memory runs out.
-    ensures complete { (text : List ℕ) (lines : List model.Line) → IsScript job_grammar text lines → length text ≤ longest → (S.told source.old).left ≡ Some text
+    // A script that is not too long is run, unless the words are not `run`, the source or the sink
+    // fails, or memory runs out.
+    ensures complete { (text : List ℕ) (lines : List model.Line) → IsScript job_grammar text lines
+        → length text ≤ longest → (S.told source.old).left ≡ Some text
         → (result ≡ 0) ⊎ (result ≡ 2) ⊎ (result ≡ 4) ⊎ (result ≡ 5) ⊎ (result ≡ 6) }
 {
     if !is_run(words) {

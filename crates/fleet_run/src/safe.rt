@@ -5,7 +5,7 @@ ghost use Rattle.fleet_run.specs.Outside.{SourceView, SinkView};
 
 use crate::outside::{Failed, Sink, Source};
 
-/// Gives the bytes of a slice, and never fails.
+/// A source that gives the bytes of a slice and never fails.
 #[derive(Drop)]
 pub struct SafeSource<'a> {
     left: &'a [u8],
@@ -17,7 +17,8 @@ impl<'a> SafeSource<'a> {
     ghost use Rattle.fleet_run.specs.Safe.{safe_source_view};
 
     pub fn new(bytes: &'a [u8]) -> SafeSource<'a>
-        ensures { safe_source_view result ≡ record { left = Some bytes.now; given = 0; ended = false; faults = 0 } }
+        ensures { safe_source_view result
+            ≡ record { left = Some bytes.now; given = 0; ended = false; faults = 0 } }
     {
         SafeSource {
             left: bytes,
@@ -45,7 +46,7 @@ impl Source for SafeSource<'_> {
     }
 }
 
-/// Counts the bytes that it takes, keeps none, and never fails.
+/// A sink that counts the bytes that it takes, keeps none of them, and never fails.
 #[derive(Clone, Copy, Debug, PartialEq, Eq)]
 pub struct SafeSink {
     taken: u64,
@@ -60,7 +61,7 @@ impl SafeSink {
         SafeSink { taken: 0 }
     }
 
-    /// How many bytes it took, at most `u64::MAX`.
+    /// The number of bytes that the sink took, at most `u64::MAX`.
     pub fn taken(&self) -> u64
         ensures { result ≡ (safe_sink_view self.now).taken }
     {

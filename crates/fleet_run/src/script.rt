@@ -1,4 +1,4 @@
-//! A whole script.
+//! Runs a whole script.
 
 ghost use Rattle.std.specs.Prelude.{◌≡◌, ℕ, ◌≤◌, [], List, Err, OnOk, OnErr, IfErr, ◌⊎◌};
 ghost use Rattle.row_model.specs.Fold.{Operator};
@@ -21,10 +21,10 @@ use std::alloc::Global;
 use std::collections::VecDeque;
 use thiserror::Error;
 
-/// Why a script was not run to its end, or a program's words were not carried out.
+/// Why a script was not run to its end, or why the program did not run one.
 #[derive(Clone, Copy, Debug, PartialEq, Eq, Error)]
 pub enum FleetError {
-    /// The first line outside the grammar, counted from 1.
+    /// The number of the first line outside the grammar, counted from 1.
     #[error("line {0} is outside the grammar")]
     BadLine(u64),
     #[error("a reply could not be written")]
@@ -50,7 +50,7 @@ impl From<TextError> for FleetError {
     }
 }
 
-/// Hands a piece to the sink, and the rest of it again where only a front was taken.
+// Writes a piece to the sink. If the sink takes only a front, the rest is written again.
 fn write_all<K: Sink>(sink: &mut K, piece: &[u8]) -> Result<(), FleetError>
     ensures ok { OnOk result (Took piece.now (K.told sink.old) (K.told sink.new)) }
     ensures rose { OnErr result (Rose (K.told sink.old).faults (K.told sink.new).faults) }
@@ -68,7 +68,7 @@ fn write_all<K: Sink>(sink: &mut K, piece: &[u8]) -> Result<(), FleetError>
     Ok(())
 }
 
-/// Runs one line, and writes its reply.
+// Runs one line and writes its reply.
 fn run_line<K: Sink>(
     alloc: Global,
     line: Line,
@@ -77,10 +77,14 @@ fn run_line<K: Sink>(
 ) -> Result<(), FleetError>
     requires { IsServed (line_of line) }
     ensures state { OnOk result (fleet.new ≡ fleet_after (line_of line) fleet.old) }
-    ensures took { OnOk result (Took (reply_to (line_of line) fleet.old) (K.told sink.old) (K.told sink.new)) }
-    ensures rose { result ≡ Err WriteFault → Rose (K.told sink.old).faults (K.told sink.new).faults }
-    ensures fault_state { result ≡ Err WriteFault → fleet.new ≡ fleet_after (line_of line) fleet.old }
-    ensures fault_took { result ≡ Err WriteFault → TookShort (reply_to (line_of line) fleet.old) (K.told sink.old) (K.told sink.new) }
+    ensures took { OnOk result
+        (Took (reply_to (line_of line) fleet.old) (K.told sink.old) (K.told sink.new)) }
+    ensures rose { result
+        ≡ Err WriteFault → Rose (K.told sink.old).faults (K.told sink.new).faults }
+    ensures fault_state { result
+        ≡ Err WriteFault → fleet.new ≡ fleet_after (line_of line) fleet.old }
+    ensures fault_took { result ≡ Err WriteFault
+        → TookShort (reply_to (line_of line) fleet.old) (K.told sink.old) (K.told sink.new) }
     ensures memory_state { result ≡ Err Memory → fleet.new ≡ fleet.old }
     ensures memory_took { result ≡ Err Memory → TookNothing (K.told sink.old) (K.told sink.new) }
     ensures only { IfErr result (λ e. (e ≡ WriteFault) ⊎ (e ≡ Memory)) }
@@ -89,7 +93,7 @@ fn run_line<K: Sink>(
     let reply = match fleet.serve(alloc, line) {
         Ok(reply) => reply,
 
-        // It fails for want of memory alone.
+        // The line fails only when out of memory.
         Err(_) => return Err(FleetError::Memory),
     };
     write_all(sink, reply.as_slice())
@@ -103,10 +107,14 @@ fn run_lines<K: Sink>(
 ) -> Result<(), FleetError>
     requires fresh { fleet.old ≡ fresh_fleet }
     requires grammar { AreLines job_grammar [] (lines_of lines) }
-    ensures ran { OnOk result ((merge : Operator) → Ran merge (lines_of lines) fleet.new (K.told sink.old) (K.told sink.new)) }
-    ensures rose { result ≡ Err WriteFault → Rose (K.told sink.old).faults (K.told sink.new).faults }
-    ensures fault { result ≡ Err WriteFault → (merge : Operator) → RunsUpToFault merge (lines_of lines) fleet.new (K.told sink.old) (K.told sink.new) }
-    ensures memory { result ≡ Err Memory → RunsFront (lines_of lines) fleet.new (K.told sink.old) (K.told sink.new) }
+    ensures ran { OnOk result ((merge : Operator)
+        → Ran merge (lines_of lines) fleet.new (K.told sink.old) (K.told sink.new)) }
+    ensures rose { result
+        ≡ Err WriteFault → Rose (K.told sink.old).faults (K.told sink.new).faults }
+    ensures fault { result ≡ Err WriteFault → (merge : Operator)
+        → RunsUpToFault merge (lines_of lines) fleet.new (K.told sink.old) (K.told sink.new) }
+    ensures memory { result
+        ≡ Err Memory → RunsFront (lines_of lines) fleet.new (K.told sink.old) (K.told sink.new) }
     ensures only { IfErr result (λ e. (e ≡ WriteFault) ⊎ (e ≡ Memory)) }
     ensures never_fall { (K.told sink.old).faults ≤ (K.told sink.new).faults }
 {
@@ -117,8 +125,8 @@ fn run_lines<K: Sink>(
     Ok(())
 }
 
-/// Runs a script on a fresh fleet. Its whole text is read first; then each line is run, and its reply is handed to
-/// the sink as one piece before the next line.
+/// Runs a script on a fresh fleet. It reads the whole text before the first line runs. It runs the
+/// lines in order, and hands each reply to the sink as one piece before the next line runs.
 pub fn run_script<K: Sink>(
     alloc: Global,
     text: &[u8],
@@ -127,23 +135,31 @@ pub fn run_script<K: Sink>(
 ) -> Result<(), FleetError>
     requires fresh { fleet.old ≡ fresh_fleet }
 
-    // The text is a script, and the sink took exactly the replies of its run.
-    ensures served { OnOk result ((merge : Operator) → Served merge text.now fleet.new (K.told sink.old) (K.told sink.new)) }
+    // On success the text is a script, and the sink took exactly the replies of its run.
+    ensures served { OnOk result
+        ((merge : Operator) → Served merge text.now fleet.new (K.told sink.old) (K.told sink.new)) }
 
-    // The first line outside the grammar is named, and nothing was run or written.
+    // BadLine names the first line outside the grammar. Nothing was run or written.
     ensures bad_line { (n : ℕ) → result ≡ Err (BadLine n) → IsBadAt job_grammar text.now n }
-    ensures bad_line_exact { (n : ℕ) → IsBadAt job_grammar text.now n → (result ≡ Err (BadLine n)) ⊎ (result ≡ Err Memory) }
+    ensures bad_line_exact { (n : ℕ)
+        → IsBadAt job_grammar text.now n → (result ≡ Err (BadLine n)) ⊎ (result ≡ Err Memory) }
     ensures bad_line_state { (n : ℕ) → result ≡ Err (BadLine n) → fleet.new ≡ fleet.old }
-    ensures bad_line_took { (n : ℕ) → result ≡ Err (BadLine n) → TookNothing (K.told sink.old) (K.told sink.new) }
+    ensures bad_line_took { (n : ℕ)
+        → result ≡ Err (BadLine n) → TookNothing (K.told sink.old) (K.told sink.new) }
 
-    // The sink failed in this call: a front of the replies was written.
-    ensures rose { result ≡ Err WriteFault → Rose (K.told sink.old).faults (K.told sink.new).faults }
-    ensures fault { result ≡ Err WriteFault → (merge : Operator) → ServedUpToFault merge text.now fleet.new (K.told sink.old) (K.told sink.new) }
+    // WriteFault comes only if the sink failed in this call. A front of the replies was written.
+    ensures rose { result
+        ≡ Err WriteFault → Rose (K.told sink.old).faults (K.told sink.new).faults }
+    ensures fault { result ≡ Err WriteFault → (merge : Operator)
+        → ServedUpToFault merge text.now fleet.new (K.told sink.old) (K.told sink.new) }
 
-    // Whole replies to the first lines were written; and where there are such lines, the whole text is a script.
-    ensures memory { result ≡ Err Memory → ServedFront text.now fleet.new (K.told sink.old) (K.told sink.new) }
+    // Memory: the sink took exactly the whole replies to the first lines. If there is such a line,
+    // the whole text is a script.
+    ensures memory { result
+        ≡ Err Memory → ServedFront text.now fleet.new (K.told sink.old) (K.told sink.new) }
 
-    ensures valid { (lines : List model.Line) → IsScript job_grammar text.now lines → IfErr result (λ e. (e ≡ WriteFault) ⊎ (e ≡ Memory)) }
+    ensures valid { (lines : List model.Line) → IsScript job_grammar text.now lines
+        → IfErr result (λ e. (e ≡ WriteFault) ⊎ (e ≡ Memory)) }
     ensures only { IfErr result IsScriptError }
     ensures never_fall { (K.told sink.old).faults ≤ (K.told sink.new).faults }
 {

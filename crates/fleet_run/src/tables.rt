@@ -1,4 +1,4 @@
-//! Tables under their ids, and runs of them.
+//! Tables with their ids, and runs of tables.
 
 ghost use Rattle.std.specs.Prelude.{◌≡◌, ◌==◌, ◌++◌, option_map, find, flat_map, IfOk, IsOkUnless, OnOk};
 ghost use Rattle.std.specs.Option.{option_copied};
@@ -13,7 +13,7 @@ use std::alloc::{AllocError, Global};
 use std::collections::VecDeque;
 use std::marker::Model;
 
-/// A table under its id. That of a flush is the flush's name, at moment 0.
+/// A table with its id. The id of a flush's table is the flush's name, at moment 0.
 #[derive(Debug, Drop)]
 pub struct Table {
     pub id: Ulid,
@@ -29,7 +29,7 @@ impl Model for Table {
     ghost view = { λ t. (t.id, t.data) };
 }
 
-/// A sorted run: its tables, one after the other.
+/// A sorted run: its tables are in the order of their keys.
 #[derive(Debug, Drop)]
 pub struct Run {
     pub id: u32,
@@ -45,14 +45,14 @@ impl Model for Run {
     ghost view = { λ r. (r.id, r.tables.items) };
 }
 
-/// The id of this number at moment 0: that of a flush is its name, and that of a job its number.
+/// The id with this number at moment 0. A flush's name and a job's number are such numbers.
 pub fn id_of_number(number: u64) -> Ulid
     ensures { result ≡ number }
 {
     Ulid::from_parts(0, number as u128)
 }
 
-/// The newest row of a key whose sequence is at most `seq`, in tables of which the newest stands first.
+/// The newest row of a key with sequence at most `seq`. The tables are newest first.
 pub fn newest_in<'a>(tables: &'a VecDeque<Table>, key: &[u8], seq: u64) -> Option<&'a RowEntry>
     ensures { option_map row_of (option_copied result) ≡ newest_row tables.now.items key.now seq }
 {
@@ -65,9 +65,10 @@ pub fn newest_in<'a>(tables: &'a VecDeque<Table>, key: &[u8], seq: u64) -> Optio
     None
 }
 
-/// The same in runs of which the newest stands first.
+/// The newest row of a key with sequence at most `seq`. The runs are newest first.
 pub fn newest_in_runs<'a>(runs: &'a VecDeque<Run>, key: &[u8], seq: u64) -> Option<&'a RowEntry>
-    ensures { option_map row_of (option_copied result) ≡ newest_row (run_tables runs.now.items) key.now seq }
+    ensures { option_map row_of (option_copied result)
+        ≡ newest_row (run_tables runs.now.items) key.now seq }
 {
     for i in 0..runs.len() {
         let newest = newest_in(&runs[i].tables, key, seq);
@@ -78,9 +79,10 @@ pub fn newest_in_runs<'a>(runs: &'a VecDeque<Run>, key: &[u8], seq: u64) -> Opti
     None
 }
 
-/// The table of an id among others.
+/// The table of this id, if it is in the list.
 pub fn table_of(tables: &VecDeque<Table>, id: Ulid) -> Option<&TableData>
-    ensures { option_copied result ≡ option_map (λ table. table.1) (find (λ table. table.0 == id) tables.now.items) }
+    ensures { option_copied result
+        ≡ option_map (λ table. table.1) (find (λ table. table.0 == id) tables.now.items) }
 {
     for i in 0..tables.len() {
         if tables[i].id == id {
@@ -90,9 +92,10 @@ pub fn table_of(tables: &VecDeque<Table>, id: Ulid) -> Option<&TableData>
     None
 }
 
-/// The tables of a run among others.
+/// The tables of the run of this id, if it is in the list.
 pub fn tables_of(runs: &VecDeque<Run>, id: u32) -> Option<&VecDeque<Table>>
-    ensures { option_map (λ tables. tables.items) (option_copied result) ≡ option_map (λ run. run.1) (find (λ run. run.0 == id) runs.now.items) }
+    ensures { option_map (λ tables. tables.items) (option_copied result)
+        ≡ option_map (λ run. run.1) (find (λ run. run.0 == id) runs.now.items) }
 {
     for i in 0..runs.len() {
         if runs[i].id == id {
@@ -102,7 +105,7 @@ pub fn tables_of(runs: &VecDeque<Run>, id: u32) -> Option<&VecDeque<Table>>
     None
 }
 
-/// The ids of tables.
+/// The ids of the tables, in order.
 pub fn ids_of(alloc: Global, tables: &VecDeque<Table>) -> Result<Vec<Ulid>, AllocError>
     ensures { IfOk result (λ ids. ids.items ≡ firsts tables.now.items) }
 {
@@ -113,7 +116,7 @@ pub fn ids_of(alloc: Global, tables: &VecDeque<Table>) -> Result<Vec<Ulid>, Allo
     Ok(ids)
 }
 
-/// The ids of runs.
+/// The ids of the runs, in order.
 pub fn run_ids_of(alloc: Global, runs: &VecDeque<Run>) -> Result<Vec<u32>, AllocError>
     ensures { IfOk result (λ ids. ids.items ≡ firsts runs.now.items) }
 {
@@ -124,12 +127,13 @@ pub fn run_ids_of(alloc: Global, runs: &VecDeque<Run>) -> Result<Vec<u32>, Alloc
     Ok(ids)
 }
 
-/// Copies of the rows of tables, one table after the other.
+/// Copies the rows of the tables, one table after the other. The error is out of memory.
 pub fn rows_of_tables(
     alloc: Global,
     tables: &VecDeque<Table>,
 ) -> Result<Vec<RowEntry>, SlateDBError>
-    ensures rows { IfOk result (λ rows. rows_of rows.items ≡ flat_map (λ table. table.1) tables.now.items) }
+    ensures rows { IfOk result
+        (λ rows. rows_of rows.items ≡ flat_map (λ table. table.1) tables.now.items) }
     ensures memory { IsOkUnless result SlateDBError.Memory }
 {
     let mut rows = Vec::new(alloc);

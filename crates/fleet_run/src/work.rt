@@ -1,4 +1,5 @@
-//! What a fleet's coordinator and worker do: jobs are submitted, opened, claimed, finished and committed.
+//! The work of a fleet's coordinator and worker: jobs are submitted, opened, claimed, finished and
+//! committed.
 
 ghost use Rattle.std.specs.Prelude.{◌≡◌, ◌<◌, ◌∷◌, [], ◌-◌, IfOk, IsOkUnless, OnOk, OnErr, true, take, length, option_map};
 ghost use Rattle.std.specs.Option.{option_copied};
@@ -47,7 +48,8 @@ impl Fleet {
         Ok(reply)
     }
 
-    /// Submits a job of one flush. Where no number is left for it, memory is said to be wanted.
+    /// Submits a job of one flush, under the next number. If no number is left, the error is out of
+    /// memory.
     pub(crate) fn submit(
         &mut self,
         alloc: Global,
@@ -77,7 +79,7 @@ impl Fleet {
         Ok(reply)
     }
 
-    /// Commits a finished job, and opens or refuses the jobs that were submitted.
+    /// Commits a finished job, and opens or refuses each submitted job.
     pub(crate) fn poll(&mut self, alloc: Global) -> Result<Reply, SlateDBError>
         ensures reply { IfOk result (λ reply. reply ≡ poll_answer self.old) }
         ensures ok { OnOk result (self.new ≡ after_poll self.old) }
@@ -102,7 +104,7 @@ impl Fleet {
         Ok(reply)
     }
 
-    /// What becomes of the jobs that were submitted, once the finished job is committed.
+    // Which submitted jobs are opened or refused, after the finished job is committed.
     fn judged(&self, alloc: Global) -> Result<Judged, SlateDBError>
         ensures judged { IfOk result (λ j. judged_of j ≡ judged self.now) }
         ensures memory { IsOkUnless result SlateDBError.Memory }
@@ -114,7 +116,7 @@ impl Fleet {
         judge_all(alloc, &flushes, &runs, held, &self.asked)
     }
 
-    /// Claims the job that waits, if there is one.
+    /// Claims the waiting job, if there is one. The job's cut is the fleet's floor.
     pub(crate) fn claim(&mut self, alloc: Global) -> Result<Reply, SlateDBError>
         ensures reply { IfOk result (λ reply. reply ≡ claim_answer self.old) }
         ensures ok { OnOk result (self.new ≡ after_claim self.old) }
@@ -144,7 +146,8 @@ impl Fleet {
         Ok(reply)
     }
 
-    /// Writes the tables of the job that the worker runs under this number.
+    /// Writes the tables of the job that the worker runs under this number. If the numbers of
+    /// tables run out, the error is out of memory.
     pub(crate) fn finish(&mut self, alloc: Global, number: u64) -> Result<Reply, SlateDBError>
         ensures reply { IfOk result (λ reply. reply ≡ finish_answer self.old number) }
         ensures ok { OnOk result (self.new ≡ after_finish self.old number) }
@@ -172,7 +175,7 @@ impl Fleet {
         Ok(reply)
     }
 
-    /// The job that the worker runs under this number, with its settings.
+    // The job that the worker runs under this number, with its settings.
     fn run_by(&self, number: u64) -> Option<(AskedJob, Settings)>
         ensures { option_map run_of result ≡ run_by self.now number }
     {
@@ -185,14 +188,15 @@ impl Fleet {
         }
     }
 
-    /// The tables that a job writes of a flush.
+    // The tables that a job writes from a flush.
     fn outputs(
         &self,
         alloc: Global,
         source: Ulid,
         settings: Settings,
     ) -> Result<VecDeque<Table>, SlateDBError>
-        ensures tables { IfOk result (λ tables. tables.items ≡ written self.now source (settings_of settings)) }
+        ensures tables { IfOk result
+            (λ tables. tables.items ≡ written self.now source (settings_of settings)) }
         ensures memory { IsOkUnless result SlateDBError.Memory }
     {
         match table_of(&self.flushes, source) {
@@ -203,7 +207,8 @@ impl Fleet {
 
     /// Shows the rows of a node.
     pub(crate) fn dump(&self, alloc: Global, node: NodeName) -> Result<Reply, SlateDBError>
-        ensures reply { IfOk result (λ reply. reply ≡ dump_reply (node_rows_or_none self.now (node_of node))) }
+        ensures reply { IfOk result
+            (λ reply. reply ≡ dump_reply (node_rows_or_none self.now (node_of node))) }
         ensures memory { IsOkUnless result SlateDBError.Memory }
     {
         match node {
@@ -224,7 +229,8 @@ fn dump_table(alloc: Global, table: Option<&TableData>) -> Result<Reply, SlateDB
 }
 
 fn dump_run(alloc: Global, tables: Option<&VecDeque<Table>>) -> Result<Reply, SlateDBError>
-    ensures reply { IfOk result (λ reply. reply ≡ dump_reply (option_map rows_in (option_map (λ tables. tables.items) (option_copied tables.entry)))) }
+    ensures reply { IfOk result (λ reply. reply ≡ dump_reply
+        (option_map rows_in (option_map (λ tables. tables.items) (option_copied tables.entry)))) }
     ensures memory { IsOkUnless result SlateDBError.Memory }
 {
     match tables {
@@ -236,7 +242,7 @@ fn dump_run(alloc: Global, tables: Option<&VecDeque<Table>>) -> Result<Reply, Sl
     }
 }
 
-/// The job that wrote its tables, if there is one.
+// The job that has written its tables, if there is one.
 fn done_job(opened: &Option<OpenJob>) -> Option<AskedJob>
     ensures { result ≡ done_job (option_map open_of opened.now) }
 {
@@ -261,7 +267,7 @@ fn done_ids(alloc: Global, opened: &Option<OpenJob>) -> Result<JobList, SlateDBE
     Ok(ids)
 }
 
-/// The job that waits for a worker, if there is one.
+// The job that waits for a worker, if there is one.
 fn waiting_job(opened: &Option<OpenJob>) -> Option<AskedJob>
     ensures { result ≡ waiting_job (option_map open_of opened.now) }
 {
@@ -275,7 +281,7 @@ fn waiting_job(opened: &Option<OpenJob>) -> Option<AskedJob>
     }
 }
 
-/// The job and its settings, where it runs under this number.
+// The job with its settings, if it runs and has this number.
 fn run_at(number: u64, job: &AskedJob, stage: &Stage) -> Option<(AskedJob, Settings)>
     ensures { option_map run_of result ≡ run_at number job.now (stage_of stage.now) }
 {
@@ -292,13 +298,14 @@ fn run_at(number: u64, job: &AskedJob, stage: &Stage) -> Option<(AskedJob, Setti
     }
 }
 
-/// The flushes that are left once a finished job is committed.
+// The ids of the flushes that are left after a finished job is committed.
 fn flush_ids_left(
     alloc: Global,
     flushes: &VecDeque<Table>,
     done: &Option<AskedJob>,
 ) -> Result<Vec<Ulid>, SlateDBError>
-    ensures ids { IfOk result (λ ids. ids.items ≡ firsts (flushes_left flushes.now.items done.now)) }
+    ensures ids { IfOk result
+        (λ ids. ids.items ≡ firsts (flushes_left flushes.now.items done.now)) }
     ensures memory { IsOkUnless result SlateDBError.Memory }
 {
     let ids = ids_of(alloc, flushes)?;
@@ -316,7 +323,7 @@ fn without_last(ids: Vec<Ulid>) -> Vec<Ulid>
     ids
 }
 
-/// The runs that are there once a finished job is committed.
+// The ids of the runs after a finished job is committed, newest first.
 fn run_ids_after(
     alloc: Global,
     runs: &VecDeque<Run>,
@@ -332,7 +339,7 @@ fn run_ids_after(
     Ok(ids)
 }
 
-/// The job that is opened once a finished one is committed.
+// The job that is still open after a finished job is committed.
 fn held_left(opened: &Option<OpenJob>, done: &Option<AskedJob>) -> Option<AskedJob>
     ensures { result ≡ held_by (opened_left (option_map open_of opened.now) done.now) }
 {
@@ -345,7 +352,8 @@ fn held_left(opened: &Option<OpenJob>, done: &Option<AskedJob>) -> Option<AskedJ
     }
 }
 
-/// Puts the run of a finished job in place of the oldest flush, and raises the horizon to the job's cut.
+// Replaces the oldest flush with the run of a finished job, and raises the horizon to the job's
+// cut. If no job has finished, nothing changes.
 fn commit(
     flushes: &mut VecDeque<Table>,
     runs: &mut VecDeque<Run>,
@@ -353,10 +361,13 @@ fn commit(
     opened: &mut Option<OpenJob>,
 )
     requires room { deque_len runs.old < deque_capacity runs.old }
-    ensures flushes { flushes.new.items ≡ flushes_left flushes.old.items (done_job (option_map open_of opened.old)) }
-    ensures runs { runs.new.items ≡ runs_after runs.old.items (done_job (option_map open_of opened.old)) (done_tables (option_map open_of opened.old)) }
+    ensures flushes { flushes.new.items
+        ≡ flushes_left flushes.old.items (done_job (option_map open_of opened.old)) }
+    ensures runs { runs.new.items ≡ runs_after runs.old.items
+        (done_job (option_map open_of opened.old)) (done_tables (option_map open_of opened.old)) }
     ensures horizon { horizon.new ≡ horizon_raised horizon.old (option_map open_of opened.old) }
-    ensures opened { option_map open_of opened.new ≡ opened_left (option_map open_of opened.old) (done_job (option_map open_of opened.old)) }
+    ensures opened { option_map open_of opened.new
+        ≡ opened_left (option_map open_of opened.old) (done_job (option_map open_of opened.old)) }
 {
     let Some(OpenJob { job, stage }) = opened.take() else {
         return;
@@ -385,9 +396,10 @@ fn commit(
     }
 }
 
-/// Opens the job that was chosen, if there is one.
+// Opens the chosen job, if the poll chose one.
 fn open(opened: &mut Option<OpenJob>, judged: &Judged)
-    ensures { option_map open_of opened.new ≡ opened_after (option_map open_of opened.old) judged.now.opened judged.now.held }
+    ensures { option_map open_of opened.new
+        ≡ opened_after (option_map open_of opened.old) judged.now.opened judged.now.held }
 {
     if judged.opened.is_empty() {
         return;

@@ -1,4 +1,4 @@
--- Rows that are cut into blocks one by one.
+-- Cutting rows into blocks, one row at a time.
 use Rattle.std.proofs.Common.{◌≡◌, refl, sym, ◌∙◌, ap, subst, ℕ, ◌<◌, ◌+◌, List, [], ◌∷◌, ◌++◌, Bool, true, false, cond, arith}
 use Rattle.std.specs.Prelude.{sum_by, ◌==◌}
 use Rattle.std.specs.List.{AllByRecursion}
@@ -9,7 +9,8 @@ use Rattle.row_model.specs.Rows.{Row}
 use Rattle.row_model.specs.Sizes.{Block, block_at, block_bytes, blocks, blocks_from, estimated_size, or_full, saturated, table_size}
 use Rattle.fleet_table.proofs.Sizes.{stops_once}
 
--- what the blocks so far and the rows left make, together, of all rows
+-- The state after some rows were cut. The blocks so far, followed by the blocks of the rest, are the blocks
+-- of all rows. The size so far and the sizes of the rest add up to the size of all rows.
 pub record IsCutSoFar (all rest : List Row) (index : List Block) (offset filled : ℕ) : Type 0 where
   pub index_is : index ++ blocks_from offset filled rest ≡ blocks all
   pub size_is : saturated (offset + sum_by estimated_size rest) ≡ table_size all

@@ -1,4 +1,4 @@
--- Where a flush finds its segment's tree, or makes it.
+-- A flush finds its segment's tree or makes it.
 use Rattle.std.proofs.Common.{◌≡◌, ◌≢◌, refl, sym, ◌∙◌, ap, ℕ, suc, ◌+◌, List, [], ◌∷◌, ◌++◌, take, drop, Bool, true, false, cond, Option, length, arith}
 use Rattle.std.specs.Prelude.{bytes_eq, ◌==◌, slice_get, slice_set}
 use Rattle.std.specs.List.{prefix_len}
@@ -21,7 +21,8 @@ module _ (prefix : List ℕ) (view : View) (seq : ℕ) where
   abbrev pub place_in : Segments → ℕ
   place_in xs = prefix_len (λ s. is_lt (key_cmp s.0 prefix)) xs
 
-  -- a segment put at a place, over the one there or before it
+  -- The segments with this one put at place `n`. It replaces the segment there if `there` is true, and is
+  -- inserted before it otherwise.
   abbrev pub put_at : Bool → ℕ → List ℕ × LsmTreeState → Segments → Segments
   put_at there n s xs = cond there (slice_set xs n s) (take n xs ++ s ∷ drop n xs)
 
@@ -43,7 +44,7 @@ module _ (prefix : List ℕ) (view : View) (seq : ℕ) where
   got_behind : (s : List ℕ × LsmTreeState) (xs : Segments) (n : ℕ) → slice_get (s ∷ xs) (1 + n) ≡ slice_get xs n
   got_behind s xs n = let e : 1 + n ≡ suc n = omega arith in ap (slice_get (s ∷ xs)) e
 
-  -- the tests of the definition, by what they answer
+  -- What `flushed` makes of `s ∷ xs`, given the answers of its two tests.
   abbrev chosen : Bool → Bool → List ℕ × LsmTreeState → Segments → Segments
   chosen same lower s xs = cond same ((prefix, flushed_on view seq s.1) ∷ xs) (cond lower ((prefix, flushed_on view seq empty_tree) ∷ s ∷ xs) (s ∷ flushed prefix view seq xs))
 
@@ -75,7 +76,7 @@ module _ (prefix : List ℕ) (view : View) (seq : ℕ) where
           let other = other_prefix s Greater e (λ h. cc h) in
           ap (λ b. put_found 0 (here b s) (s ∷ xs)) other ∙ chosen_by (bytes_eq prefix s.0) (is_lt (key_cmp prefix s.0)) false true s xs other (lower_is s Greater e)
 
-  -- so what is put at that place, over the tree found or before it, is what a flush makes
+  -- Putting the segment with the flush at the place that was looked up makes what `flushed` makes.
   pub put_is : (xs : Segments) (place : ℕ) (there : Bool) (tree made : LsmTreeState) (got : Option (List ℕ × LsmTreeState)) (key : List ℕ)
       → place ≡ place_in xs → got ≡ slice_get xs place → (there, tree) ≡ tree_or_empty prefix got → made ≡ flushed_on view seq tree → key ≡ prefix
       → put_at there place (key, made) xs ≡ flushed prefix view seq xs

@@ -1,4 +1,4 @@
--- The rows of a range among ordered rows: behind those before its start, those not behind its end.
+-- The ordered rows of a range come after the rows before its start and before the rows after its end.
 use Rattle.std.proofs.Common.{◌≡◌, refl, sym, ◌∙◌, ap, List, [], ◌∷◌, ◌&&◌, Bool, true, false, cond, ℕ}
 use Rattle.std.specs.Prelude.{filter, not}
 use Rattle.std.specs.declared.cmp.Ordering.{Ordering}
@@ -11,7 +11,7 @@ use Rattle.std.proofs.lemmas.Cmp.{nat_list_cmp_total}
 use Rattle.row_laws.proofs.KeyRows.{up_to, up_to_too}
 use Rattle.fleet_table.specs.Order.{is_before_range, is_not_behind_range}
 
--- ---- earlier rows are before a range with later ones, and not behind it with later ones
+-- ---- an earlier row passes the tests is_before_range and is_not_behind_range where a later one does
 
 not_reversed : (o : Ordering) → not (is_lt (ordering_reverse o)) ≡ not (is_gt o)
 not_reversed Less = refl
@@ -45,7 +45,7 @@ before_range_too range = before_start_too range.from
 pub not_behind_too : (range : Range) (r q : Row) → row_cmp r q ≡ Less → is_not_behind_range range q ≡ true → is_not_behind_range range r ≡ true
 not_behind_too range = before_end_too range.to
 
--- ---- two tests in turn are both of them
+-- ---- two filters in turn are one filter by both tests
 
 both : (a b : Bool) (r : Row) (rows : List Row) (q : Row → Bool) → q r ≡ b → filter q (cond a (r ∷ rows) rows) ≡ cond (a && b) (r ∷ filter q rows) (filter q rows)
 both true b r rows q e = ap (λ t. cond t (r ∷ filter q rows) (filter q rows)) e

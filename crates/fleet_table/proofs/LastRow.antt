@@ -1,4 +1,4 @@
--- The last of some rows, and the first.
+-- The first and the last of some rows.
 use Rattle.std.proofs.Common.{◌≡◌, ◌≢◌, refl, ◌∙◌, ap, ℕ, ◌-◌, List, [], ◌∷◌, length, true, arith}
 use Rattle.std.specs.Prelude.{slice_index_or}
 use Rattle.std.specs.List.{AllByRecursion}
@@ -49,7 +49,7 @@ up_to_last : (r : Row) (key : List ℕ) (rows : List Row) → is_le (key_cmp r.k
 up_to_last r key [] h after = h
 up_to_last r key (q ∷ rows) h after = up_to_last r q.key rows (not_above r q after.0) after.1
 
--- the first key is at most the last
+-- The first key is at most the last key.
 pub first_up_to_last : (rows : List Row) → rows ≢ [] → IsStrictlyOrdered rows → is_le (key_cmp (first_key rows) (last_key [] rows)) ≡ true
 unfolding IsStrictlySortedBy
 first_up_to_last [] some ordered = absurd (some refl)

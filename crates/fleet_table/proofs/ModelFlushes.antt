@@ -1,4 +1,4 @@
--- A flush of a program's manifest is the model's.
+-- A flush changes a program's manifest as the model's flush changes the model's manifest.
 use Rattle.std.proofs.Common.{◌≡◌, refl, sym, ◌∙◌, ap, ℕ, List, [], ◌∷◌, map, Bool, true, false, cond, Some}
 use Rattle.std.specs.Prelude.{bytes_eq}
 use Rattle.std.specs.Ordering.{is_lt}
@@ -18,7 +18,7 @@ module _ (flushes : ℕ → List ℕ) (prefix : List ℕ) (view : View) (seq : �
   abbrev seen : List ℕ × LsmTreeState → Segment
   seen = segment_of flushes
 
-  -- the tree that the flush comes to
+  -- The model's segment with a flush in front is what the model's flush makes of the segment.
   on_tree : (key : List ℕ) (t : LsmTreeState) → prefix ≡ key → greatest_seq t.last_seq rows ≡ Some seq → seen (prefix, flushed_on view seq t) ≡ model.flushed_on view.id rows (seen (key, t))
   on_tree key t same told =
       ap (λ piece. record (seen (prefix, t)) { tree = record { name = L0 view.id; flushes = view.id ∷ []; pieces = piece ∷ [] } ∷ tree_of flushes t; last_seq = Some seq }) own

@@ -1,4 +1,5 @@
--- The newest row of a key up to a sequence stands where the rows before that place end.
+-- The newest row of a key up to a sequence is the first row for which `is_before` is false, if it has the
+-- key.
 use Rattle.std.proofs.Common.{◌≡◌, refl, sym, ◌∙◌, ap, subst, ℕ, suc, ◌+◌, List, [], ◌∷◌, cond, Bool, true, false, Option, Some, None, arith, Bor}
 use Rattle.std.specs.Prelude.{bytes_eq, if◌then◌else◌, nat_le, option_map, slice_get}
 use Rattle.std.specs.List.{AllByRecursion, prefix_len}
@@ -18,7 +19,7 @@ use Rattle.fleet_table.specs.Order.{is_before}
 use Rattle.fleet_table.specs.Table.{IsTable}
 use Rattle.std.specs.Option.{option_copied}
 
--- a row, where it is of the key
+-- The row, if it has this key.
 abbrev pub if_of_key : List ℕ → Option Row → Option Row
 if_of_key key None = None
 if_of_key key (Some r) = if bytes_eq key r.key then Some r else None
@@ -31,7 +32,7 @@ other key r o is apart = false_or (bytes_eq key r.key) (λ same.
     let alike = ap (λ k. key_cmp k key) (sym ((bytes_eq-Decides key r.key).0 same)) ∙ key_alike key in
     apart (sym is ∙ alike))
 
--- behind a row of a greater key no row is of the key
+-- No row of the key comes after a row of a greater key.
 others_behind : (key : List ℕ) (r : Row) (rows : List Row) → key_cmp r.key key ≡ Greater → AllByRecursion (λ q. row_cmp r q ≡ Less) rows → Keys (IsOther key) rows
 others_behind key r [] high after = tt
 others_behind key r (q ∷ rows) high after = (
@@ -53,7 +54,7 @@ newer_unseen s t h = grind arith
 older_seen : (s t : ℕ) (o : Ordering) → nat_cmp s t ≡ o → (o ≡ Less → ⊥) → nat_le t s ≡ true
 older_seen s t o h apart = grind arith
 
--- a row before the place that is not seen: what is behind it decides
+-- One row is put before `rows`. If the result for `rows` is right, so is the result for all of them.
 module _ (key : List ℕ) (seq : ℕ) (r : Row) (rows : List Row) (rest : newest key seq rows ≡ if_of_key key (slice_get rows (prefix_len (is_before key seq) rows))) where
   abbrev stepped : Bool → Bool → Bool → Type 0
   stepped that seen before =
@@ -98,7 +99,7 @@ newest_is key seq (r ∷ rows) ordered =
     ∙ by_key key seq r rows (newest_is key seq rows ordered.1) (key_cmp r.key key) refl
     (λ high. of_key-others key rows (others_behind key r rows high ordered.0))
 
--- so what is got of a table's rows at that place, where it is of the key, is what is asked for
+-- The row found at that place of a table, if it has the key, is the newest row of the key up to the sequence.
 pub newest_got : (key : List ℕ) (seq : ℕ) (rows searched : List RowEntry) (table : List Row) (i : ℕ) (got : Option (Bor RowEntry)) → IsTable (rows_of rows) → rows_of rows ≡ table
     → searched ≡ rows → i ≡ prefix_len (is_before key seq) (rows_of searched) → option_copied got ≡ slice_get rows i
     → if_of_key key (option_map row_of (option_copied got)) ≡ newest key seq table

@@ -1,4 +1,4 @@
--- The order of rows by neighbours, and rows before a place among ordered rows.
+-- The order of rows tested by neighbours, and rows before a place among ordered rows.
 use Rattle.std.proofs.Common.{◌≡◌, refl, sym, ◌∙◌, ap, ℕ, zero, suc, ◌<◌, ◌≤◌, ◌+◌, cond, List, [], ◌∷◌, ◌++◌, length, take, drop, ◌&&◌, Bool, true, false, IsTrue, arith, rules}
 use Rattle.std.specs.Prelude.{slice_index_or, MatchBool, None, filter, not}
 use Rattle.std.specs.List.{AllByRecursion, AllWithin, HoldsAt, prefix_len}
@@ -24,7 +24,7 @@ both false b h = absurd (cc h)
 and_true : (a b : Bool) → a ≡ true → b ≡ true → (a && b) ≡ true
 and_true a b h g = ap (λ x. x && b) h ∙ g
 
--- rows of which each is before the next are strictly ordered
+-- If each row is before the next one, the rows are strictly ordered.
 pub ordered_of_test : (rows : List Row) → are_ordered rows ≡ true → IsStrictlyOrdered rows
 unfolding IsStrictlySortedBy
 ordered_of_test [] h = tt
@@ -41,18 +41,18 @@ test_of_ordered [] h = refl
 test_of_ordered (r ∷ []) h = refl
 test_of_ordered (r ∷ q ∷ rows) h = and_true (is_lt (row_cmp r q)) (are_ordered (q ∷ rows)) (ap is_lt h.0.0) (test_of_ordered (q ∷ rows) h.1)
 
--- so the test says whether they are
+-- The test `are_ordered` answers true exactly where the rows are strictly ordered.
 pub decided : (rows : List Row) (b : Bool) → b ≡ are_ordered rows → (IsTrue b → IsStrictlyOrdered rows) × (IsStrictlyOrdered rows → IsTrue b)
 decided rows true e = ((λ _. ordered_of_test rows (sym e)), λ _. search rules)
 decided rows false e = ((λ h. absurd (search rules)), λ ordered. let clash : false ≡ true = e ∙ test_of_ordered rows ordered in absurd (cc clash))
 
--- nothing is out of order in a list of one row or none
+-- A list of at most one row is ordered.
 pub ordered_short : (rows : List RowEntry) → length rows < 2 → are_ordered (rows_of rows) ≡ true
 ordered_short [] h = refl
 ordered_short (r ∷ []) h = refl
 ordered_short (r ∷ q ∷ rows) h = absurd (omega arith)
 
--- ---- a fact of each row, found by a test of each
+-- ---- a fact about each row, found by a test of each row
 
 holds_at : (P : Row → Type 0) (rows : List RowEntry) (j : ℕ) (d : RowEntry) → j < length rows → AllByRecursion P (rows_of rows) → P (row_of (slice_index_or rows j d))
 holds_at P [] j d lt h = absurd (omega arith)
@@ -75,7 +75,7 @@ all_decided P rows true within =
     ((λ _. all_rows P rows (recursion_from_All Q rows (All-from_all_within Q rows within))), λ _. search rules)
 all_decided P rows false fails = ((λ h. absurd (search rules)), λ h. absurd (some_fails P rows fails h))
 
--- ---- rows that pass a test which earlier rows pass with later ones
+-- ---- a test that earlier rows pass wherever a later row does
 
 module _ (p : Row → Bool) (closed : (r q : Row) → row_cmp r q ≡ Less → p q ≡ true → p r ≡ true) where
   pub partitioned : (rows : List RowEntry) → IsStrictlyOrdered (rows_of rows) → IsPartitionedBy (λ r. p (row_of r)) rows
@@ -90,7 +90,7 @@ module _ (p : Row → Bool) (closed : (r q : Row) → row_cmp r q ≡ Less → p
   prefix-mapped [] = refl
   prefix-mapped (r ∷ rows) = ap (λ n. cond (p (row_of r)) (1 + n) 0) (prefix-mapped rows)
 
-  -- where they end is how many there are
+  -- The partition point of the rows is the number of rows at the front that pass the test.
   pub place_is : (rows : List RowEntry) (i : ℕ) → i ≤ length rows → IsPartitionPoint (λ r. p (row_of r) ≡ true) (λ r. p (row_of r) ≡ false) rows i → i ≡ prefix_len p (rows_of rows)
   place_is [] i within ends = omega arith
   place_is (r ∷ rows) i within ends =
@@ -123,6 +123,6 @@ module _ (p : Row → Bool) (closed : (r q : Row) → row_cmp r q ≡ Less → p
 abbrev place_row : List ℕ → ℕ → Row
 place_row key seq = record { key = key; content = Tombstone; seq = seq; created = None; expires = None }
 
--- an earlier row of ordered rows is before each place that a later one is before
+-- If a later row is before a place, so is each earlier row.
 pub before_too : (key : List ℕ) (seq : ℕ) (r q : Row) → row_cmp r q ≡ Less → is_before key seq q ≡ true → is_before key seq r ≡ true
 before_too key seq r q before h = ap is_lt (row_total.trans r q (place_row key seq) before (lt_is (row_cmp q (place_row key seq)) h))

@@ -1,10 +1,10 @@
--- Sizes that are added up one by one.
+-- Sizes that are added one by one.
 use Rattle.std.proofs.Common.{◌≡◌, ◌∙◌, ap, ℕ, ◌+◌, List, [], ◌∷◌, arith}
 use Rattle.std.specs.Prelude.{fold, sum_by}
 use Rattle.std.proofs.lemmas.List.Sums.{sum_by-cons}
 use Rattle.row_model.specs.Sizes.{saturated}
 
--- a sum that stops may be stopped at once
+-- Stopping the first part of a sum at 2^64 - 1 does not change the stopped sum.
 pub stops_once : (a b : ℕ) → saturated (saturated a + b) ≡ saturated (a + b)
 stops_once a b = omega arith
 

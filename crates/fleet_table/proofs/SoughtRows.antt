@@ -1,4 +1,4 @@
--- Rows from a key on, where they stand in pieces.
+-- Seeks through rows that are split into parts.
 use Rattle.std.proofs.Common.{◌≡◌, ◌≢◌, refl, sym, ◌∙◌, ap, List, [], ◌∷◌, ◌++◌, Bool, true, false, cond, ℕ, ◌≤◌, ◌-◌, take, drop, length, arith}
 use Rattle.std.specs.Prelude.{slice_index_or}
 use Rattle.std.proofs.lemmas.List.{take_all}
@@ -14,7 +14,7 @@ module _ (key : List ℕ) where
   again r rows rest true e = rest
   again r rows rest false e = ap (λ b. cond b (from_key key rows) (r ∷ rows)) e
 
-  -- a second seek to the key drops nothing more
+  -- A second seek to the same key drops nothing more.
   pub sought_again : (rows : List Row) → from_key key (from_key key rows) ≡ from_key key rows
   sought_again [] = refl
   sought_again (r ∷ rows) = again r rows (sought_again rows) (is_below key r) refl
@@ -24,7 +24,7 @@ module _ (key : List ℕ) where
   front r xs ys rest true e = rest ∙ sym (ap (λ b. cond b (from_key key (xs ++ ys)) (r ∷ (xs ++ ys))) e)
   front r xs ys rest false e = refl
 
-  -- the front may be sought first
+  -- A seek in the front part may come before the seek in all rows.
   pub sought_front : (xs ys : List Row) → from_key key (from_key key xs ++ ys) ≡ from_key key (xs ++ ys)
   sought_front [] ys = refl
   sought_front (r ∷ xs) ys = front r xs ys (sought_front xs ys) (is_below key r) refl
@@ -37,7 +37,7 @@ module _ (key : List ℕ) where
       by h true = omega (arith, h)
       by h false = omega arith
 
-  -- where the front has rows, and none is below the key, all is sought
+  -- If the front part has rows and a seek leaves it as it is, a seek leaves all rows as they are.
   pub sought_all : (xs ys : List Row) → xs ≢ [] → from_key key xs ≡ xs → from_key key (xs ++ ys) ≡ xs ++ ys
   sought_all [] ys some sought = absurd (some refl)
   sought_all (r ∷ xs) ys some sought = by (is_below key r) refl sought
@@ -52,7 +52,8 @@ module _ (key : List ℕ) where
 -- ---- a seek that goes from table to table
 
 module _ (key : List ℕ) (range : Range) where
-  -- what is left of the current table is sought, and what is left of all is what a seek leaves
+  -- The current table's rows need no further seek. A seek through them and the later tables leaves what a
+  -- seek through all rows leaves.
   abbrev pub IsSought : List Row → List (List Row) → List Row → Type 0
   IsSought left later all = (from_key key left ≡ left) × (from_key key (left ++ rows_of_tables range later) ≡ from_key key all)
 

@@ -1,4 +1,4 @@
--- Flushes that are tracked, and sequences of which the least is taken.
+-- Flushes that are tracked, and the least of some sequences.
 use Rattle.std.proofs.Common.{◌≡◌, refl, sym, ◌∙◌, ap, ℕ, ◌-◌, ◌≤◌, List, [], ◌∷◌, ◌++◌, length, get_or, take, drop, Bool, true, false, cond, arith, min}
 use Rattle.std.specs.Prelude.{filter, fold, ◌==◌, if◌then◌else◌}
 use Rattle.std.proofs.lemmas.List.{map-append, take_all}

@@ -1,4 +1,4 @@
--- Descriptions of tables as a program keeps them, seen as the model's handles.
+-- These functions turn a program's descriptions of tables into handles of the model.
 use Rattle.std.specs.Prelude.{List, map}
 use Rattle.row_model.specs.Sizes.{Block}
 use Rattle.fleet_model.specs.Handles.{Handle}

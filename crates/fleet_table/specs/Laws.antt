@@ -1,4 +1,4 @@
--- What flushes make of a program's manifest, seen as the model's.
+-- A law: a flush changes a program's manifest as a flush of the model changes the model's manifest.
 use Rattle.std.specs.Prelude.{◌≡◌, ℕ, ℤ, List, [], ◌∷◌, Some, bytes_eq, if◌then◌else◌}
 use Rattle.std.specs.Ordering.{is_lt}
 use Rattle.row_model.specs.Rows.{Row, key_cmp}
@@ -11,12 +11,12 @@ use Rattle.fleet_table.specs.Views.{View}
 use Rattle.fleet_table.specs.declared.manifest.ManifestCore.{ManifestCore}
 use Rattle.fleet_table.specs.declared.tree.LsmTreeState.{LsmTreeState}
 
--- the tree that a flush of the segment comes to
+-- The tree to which a flush of this segment is added. It is empty if the segment has no tree yet.
 abbrev pub met_tree : List ℕ → List (List ℕ × LsmTreeState) → LsmTreeState
 met_tree prefix [] = empty_tree
 met_tree prefix (s ∷ trees) = if bytes_eq prefix s.0 then s.1 else (if is_lt (key_cmp prefix s.0) then empty_tree else met_tree prefix trees)
 
--- `ManifestCore::add_flush` is told this of a flush.
+-- The arguments of `ManifestCore::add_flush`.
 pub record Told : Type 0 where
   pub segment : List ℕ
   pub view : View
@@ -27,14 +27,14 @@ pub record Told : Type 0 where
   pub moment : ℕ
   pub retention : ℕ
 
--- It is told of a flush of these rows: their table stands under its own id, the last sequence is the greatest one of the tree
--- and the rows, and the least one is that of the rows.
+-- The arguments fit a flush of these rows. The view's id is its table's own id. The last sequence is the
+-- greatest among the rows and the tree's last sequence. The least sequence is the least one of the rows.
 pub record IsToldOf (rows : List Row) (told : Told) (before : ManifestCore) : Type 0 where
   pub own : told.view.sst.id ≡ told.view.id
   pub last : greatest_seq (met_tree told.segment (trees_with_prefix before)).last_seq rows ≡ Some told.last_seq
   pub least : told.least_seq ≡ least_seq_of rows
 
--- `ManifestCore::add_flush` ensures this of the manifests before and after it.
+-- `ManifestCore::add_flush` ensures this of the manifests before and after it, where it succeeds.
 pub record IsFlushed (told : Told) (before after : ManifestCore) : Type 0 where
   pub trees : trees_with_prefix after ≡ flushed told.segment told.view told.last_seq (trees_with_prefix before)
   pub floor : after.recent_snapshot_min_seq ≡ told.floor
@@ -42,8 +42,9 @@ pub record IsFlushed (told : Told) (before after : ManifestCore) : Type 0 where
   pub tracker : tracker_of after.tracker ≡ tracked_after told.moment told.retention told.least_seq (tracker_of before.tracker)
   pub horizon : after.horizon ≡ before.horizon
 
--- A flush of rows makes of the model's manifest what it makes of the program's. The flush has the name under which its table
--- stands.
+-- Let a flush take a manifest from `before` to `after`, with arguments that fit its rows. Then the model's
+-- manifest of `after` is the one of `before` after the model's flush. The floor and the tick are the given
+-- ones, and the tracker is the model's. The name of the model's flush is the view's id.
 abbrev pub FlushesAreTheModels : Type 0
 FlushesAreTheModels = (flushes : ℕ → List ℕ) (version epoch : ℕ) (rows : List Row) (told : Told) (before after : ManifestCore)
     → IsToldOf rows told before → IsFlushed told before after

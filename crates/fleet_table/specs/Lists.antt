@@ -1,4 +1,4 @@
--- What a shared list has.
+-- The items of a shared list. A list without storage has no items.
 use Rattle.std.specs.Prelude.{List, [], Option, Some, None}
 use Rattle.std.specs.Arc.{arc_value}
 use Rattle.std.specs.declared.sync.Arc.{Arc}

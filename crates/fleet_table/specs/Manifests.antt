@@ -1,4 +1,4 @@
--- Manifests as a program keeps them, seen as the model's.
+-- These functions turn a program's manifest into a manifest of the model.
 use Rattle.std.specs.Prelude.{ℕ, List, [], map}
 use Rattle.fleet_model.specs.Store.{Manifest, cut_at}
 use Rattle.fleet_model.specs.Tracker as model
@@ -12,7 +12,8 @@ tracked_of flush = record { least_seq = flush.least_seq; moment = flush.moment }
 abbrev pub tracker_of : List Tracked → List model.Tracked
 tracker_of tracker = map tracked_of tracker
 
--- A manifest is seen so under its version and its epoch. No program keeps which flushes went into a run, so they are given.
+-- The model's manifest with the contents of a program's manifest. The version and the epoch are given. A
+-- program does not keep which flushes went into a run, so they are given by the run's id.
 abbrev pub manifest_of : (flushes : ℕ → List ℕ) → (version epoch : ℕ) → ManifestCore → Manifest
 manifest_of flushes version epoch core = record {
   version = version;
@@ -24,7 +25,7 @@ manifest_of flushes version epoch core = record {
   horizon = core.horizon;
 }
 
--- The cut of a manifest is the model's. It depends on neither the version, nor the epoch, nor the flushes of runs, so it is
--- stated for some of them.
+-- The cut that the model computes for this manifest. It depends on neither the version, nor the epoch, nor
+-- the flushes of runs. So it is stated for a version and an epoch of 0, and for runs without flushes.
 abbrev pub cut_of : ManifestCore → (moment retention : ℕ) → ℕ
 cut_of core moment retention = cut_at (manifest_of (λ run. []) 0 0 core) moment retention

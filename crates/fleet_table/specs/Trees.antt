@@ -1,4 +1,4 @@
--- Trees as a program keeps them, and how they are the model's trees.
+-- Trees of a program, and how they are turned into trees of the model.
 use Rattle.std.specs.Prelude.{ℕ, Bool, true, false, ◌==◌, ◌++◌, not, take_while, List, [], ◌∷◌, map, Option, Some, None, bytes_eq, if◌then◌else◌}
 use Rattle.std.specs.Borrow.{Bor}
 use Rattle.std.specs.Ordering.{is_lt}
@@ -12,11 +12,14 @@ use Rattle.fleet_table.specs.declared.manifest.ManifestCore.{ManifestCore}
 abbrev pub empty_tree : LsmTreeState
 empty_tree = record { l0 = []; compacted = []; last_compacted_l0_sst_view_id = None; last_seq = None }
 
--- flushes before the one of this id, which are newer; all of them where none has it
+-- The views before the one with this id. They are newer, since views are ordered newest first. If there is no
+-- id, or no view has it, these are all the views.
 abbrev pub newer_than : Option ℕ → List View → List View
 newer_than None views = views
 newer_than (Some mark) views = take_while (λ view. not (view.id == mark)) views
 
+-- A compactor's tree with the flushes of its writer. It has the remote flushes that are newer than the local
+-- watermark, and the remote last sequence. The runs and the watermark are the local ones.
 abbrev pub from_writer : LsmTreeState → LsmTreeState → LsmTreeState
 from_writer local remote = record {
   l0 = newer_than local.last_compacted_l0_sst_view_id remote.l0;
@@ -25,27 +28,29 @@ from_writer local remote = record {
   last_seq = remote.last_seq;
 }
 
--- each segment's tree with its prefix: the root first, then prefixes rising
+-- The trees of a manifest, each with the prefix of its segment. The root comes first, and then the segments.
 abbrev pub trees_with_prefix : ManifestCore → List (List ℕ × LsmTreeState)
 trees_with_prefix core = ([], core.tree) ∷ core.segments
 
--- a flush in front of a tree
+-- The tree with a flush put in front. `seq` becomes the tree's last sequence.
 abbrev pub flushed_on : View → ℕ → LsmTreeState → LsmTreeState
 flushed_on view seq t = record t { l0 = view ∷ t.l0; last_seq = Some seq }
 
--- a flush comes to the front of its segment's tree, which is made where there is none
+-- The trees after a flush is put in front of its segment's tree. If the segment is not among them, it is
+-- inserted by rising prefix, with a tree of this flush alone.
 abbrev pub flushed : List ℕ → View → ℕ → List (List ℕ × LsmTreeState) → List (List ℕ × LsmTreeState)
 flushed prefix view seq [] = (prefix, flushed_on view seq empty_tree) ∷ []
 flushed prefix view seq (s ∷ trees) =
     if bytes_eq prefix s.0 then (prefix, flushed_on view seq s.1) ∷ trees
     else (if is_lt (key_cmp prefix s.0) then (prefix, flushed_on view seq empty_tree) ∷ s ∷ trees else s ∷ flushed prefix view seq trees)
 
--- the tree of a segment where it has this prefix, and whether it does
+-- Whether this segment has this prefix, and its tree if it does. Without such a segment the tree is empty.
 abbrev pub tree_or_empty : List ℕ → Option (List ℕ × LsmTreeState) → Bool × LsmTreeState
 tree_or_empty prefix None = (false, empty_tree)
 tree_or_empty prefix (Some s) = if bytes_eq prefix s.0 then (true, s.1) else (false, empty_tree)
 
--- The model's trees. Which flushes went into a run is not kept by a program, so it is given.
+-- The model's trees of a program's trees. A program does not keep which flushes went into a run, so they are
+-- given by the run's id.
 module _ (flushes : ℕ → List ℕ) where
   abbrev pub flush_node : View → Node
   flush_node view = record { name = L0 view.id; flushes = view.id ∷ []; pieces = view.sst.id ∷ [] }
@@ -62,7 +67,7 @@ module _ (flushes : ℕ → List ℕ) where
   abbrev pub trees_of : ManifestCore → Trees
   trees_of core = map segment_of (trees_with_prefix core)
 
--- the root, where it is still to come
+-- The tree of the root, as a list. It is empty if there is no root left to iterate over.
 abbrev pub root_tree : Option (Bor LsmTreeState) → List LsmTreeState
 root_tree None = []
 root_tree (Some root) = root.now ∷ []

@@ -6,8 +6,8 @@ use bytes::Bytes;
 use fleet_rows::{Copies, SlateDBError};
 use std::alloc::AllocError;
 
-/// Where a block of a table begins: its first key, and the sum of `estimated_size` of the rows before it. A block ends after the
-/// row with which its own sum reaches 4,096.
+/// A block of a table: its first key, and its offset, which is the sum of `estimated_size` of the
+/// rows before it. A block ends after the row with which its own sum reaches 4,096 bytes.
 #[derive(Clone, Debug, Drop, PartialEq, Eq)]
 pub struct BlockMeta {
     pub first_key: Bytes,

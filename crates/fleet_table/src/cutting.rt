@@ -1,4 +1,4 @@
-//! How rows are cut into blocks.
+//! Cutting rows into blocks.
 
 ghost use Rattle.std.specs.Prelude.{◌≡◌, ◌<◌, ◌+◌, ◌++◌, [], IfOk, IsOkUnless, OnOk};
 ghost use Rattle.std.specs.List.{AllByRecursion};
@@ -11,20 +11,20 @@ use crate::{BlockList, BlockMeta, SharedList};
 use fleet_rows::{RowEntry, SlateDBError};
 use std::alloc::Global;
 
-/// A block ends after the row with which its sum of `estimated_size` reaches this.
+// A block ends after the row with which its sum of `estimated_size` reaches this many bytes.
 const BLOCK_BYTES: u64 = 4096;
 
-/// The blocks of the rows so far.
+// The blocks of the rows that were added so far.
 #[derive(Drop)]
 struct BlockBuilder {
     blocks: BlockList,
-    /// The size of all rows.
+    // The size of all rows that were added, in bytes.
     offset: u64,
-    /// That of the rows of the open block, 0 where none is open.
+    // The size of the rows in the open block, in bytes. It is 0 if no block is open.
     filled: u64,
 }
 
-/// The size of rows together, and their blocks.
+/// The sum of `estimated_size` of the rows, in bytes, and the blocks into which they are cut.
 pub(crate) fn cut_blocks(alloc: Global, rows: &[RowEntry]) -> Result<(u64, BlockList), SlateDBError>
     requires { AllByRecursion IsInBounds (rows_of rows.now) }
     ensures size { IfOk result (λ cut. cut.0 ≡ table_size (rows_of rows.now)) }
@@ -45,13 +45,16 @@ pub(crate) fn cut_blocks(alloc: Global, rows: &[RowEntry]) -> Result<(u64, Block
     Ok((offset, blocks))
 }
 
-/// Adds a row, which opens a block where none is open.
+// Adds a row. If no block is open, the row opens one.
 fn take_row(builder: &mut BlockBuilder, row: &RowEntry) -> Result<(), SlateDBError>
     requires in_bounds { IsInBounds (row_of row.now) }
     requires filled { builder.old.filled < block_bytes }
-    ensures blocks { OnOk result (blocks_of builder.new.blocks ≡ blocks_of builder.old.blocks ++ block_at builder.old.offset builder.old.filled (row_of row.now) []) }
-    ensures offset { OnOk result (builder.new.offset ≡ saturated (builder.old.offset + estimated_size (row_of row.now))) }
-    ensures filled { OnOk result (builder.new.filled ≡ or_full (builder.old.filled + estimated_size (row_of row.now))) }
+    ensures blocks { OnOk result (blocks_of builder.new.blocks ≡ blocks_of builder.old.blocks
+        ++ block_at builder.old.offset builder.old.filled (row_of row.now) []) }
+    ensures offset { OnOk result
+        (builder.new.offset ≡ saturated (builder.old.offset + estimated_size (row_of row.now))) }
+    ensures filled { OnOk result
+        (builder.new.filled ≡ or_full (builder.old.filled + estimated_size (row_of row.now))) }
     ensures memory { IsOkUnless result SlateDBError.Memory }
 {
     if builder.filled == 0 {
@@ -65,7 +68,7 @@ fn take_row(builder: &mut BlockBuilder, row: &RowEntry) -> Result<(), SlateDBErr
     Ok(())
 }
 
-/// How far a block is filled: one that is full ends.
+// How far a block is filled, in bytes. A full block ends, so the next one begins with 0.
 fn or_full(filled: u64) -> u64
     ensures { result ≡ or_full filled }
 {

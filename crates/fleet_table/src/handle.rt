@@ -7,17 +7,17 @@ use bytes::Bytes;
 use fleet_rows::{Copies, SlateDBError, Ulid};
 use std::alloc::AllocError;
 
-/// What is told of a table without its rows. `TableData::describe` makes it.
+/// The description of a table, without its rows. `TableData::describe` makes it.
 #[derive(Clone, Debug, Drop, PartialEq, Eq)]
 pub struct SsTableHandle {
-    /// That of a flush's table is the flush's name, at moment 0.
+    /// A flush's table has the flush's name as its id, at moment 0.
     pub id: Ulid,
     pub first_key: Bytes,
     pub last_key: Bytes,
     /// The sequence of the last row.
     pub last_seq: u64,
     pub rows: u64,
-    /// The sum of `estimated_size` of the rows, which stops at `u64::MAX`.
+    /// The sum of `estimated_size` of the rows, in bytes. It stops at `u64::MAX`.
     pub size: u64,
     pub blocks: BlockList,
 }

@@ -1,4 +1,4 @@
-//! The rows of a table, one after the other.
+//! An iterator over the rows of a table.
 
 ghost use Rattle.std.specs.Prelude.{◌≡◌, ◌↔◌, ⊤, false, [], IsTrue};
 ghost use Rattle.fleet_iter.specs.Iteration.{from_key};
@@ -11,7 +11,8 @@ use std::alloc::Global;
 use std::cmp::Ordering;
 use std::marker::Model;
 
-/// The rows of a table, which it copies. Contracts see the rows left and whether it failed.
+/// An iterator over rows of a table. `next` copies each row. Contracts see the rows left and
+/// whether the iterator failed.
 #[derive(Debug, Drop)]
 pub struct TableIterator<'a> {
     rows: &'a [RowEntry],
@@ -45,14 +46,14 @@ impl TableIterator<'_> {
         self.failed
     }
 
-    /// Whether no row is left, and none was kept back by want of memory.
+    /// Whether no row is left, and the iterator has not failed.
     pub(crate) fn has_ended(&self) -> bool
         ensures { IsTrue result ↔ ((self.now.left ≡ []) × (self.now.broken ≡ false)) }
     {
         self.rows.is_empty() && !self.failed
     }
 
-    /// Drops the rows below a key.
+    /// Drops rows at the front while their keys are below this key.
     pub(crate) fn skip_to(&mut self, key: &[u8])
         ensures { self.new ≡ record self.old { left = from_key key.now self.old.left } }
     {
@@ -100,7 +101,7 @@ impl RowEntryIterator for TableIterator<'_> {
     }
 }
 
-// The rows from a key on.
+// The rows from the first one whose key is not below this key.
 fn rows_from<'a>(rows: &'a [RowEntry], key: &[u8]) -> &'a [RowEntry]
     ensures { rows_of result.now ≡ from_key key.now (rows_of rows.now) }
 {

@@ -1,8 +1,9 @@
-//! What calls make of a manifest, seen as the model's.
+//! What calls make of a manifest, compared with the model.
 
 ghost use Rattle.fleet_table.specs.Laws.{FlushesAreTheModels};
 
-/// What `ManifestCore::add_flush` makes of a manifest is what a flush makes of the model's manifest.
+/// A flush by `ManifestCore::add_flush` changes a manifest as the model's flush changes the model's
+/// manifest.
 pub fn flushes_are_the_models()
     ensures { FlushesAreTheModels }
 {}

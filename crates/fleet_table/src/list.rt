@@ -1,4 +1,4 @@
-//! Lists whose copies share what does not change.
+//! Lists whose copies share their items.
 
 ghost use Rattle.std.specs.Prelude.{◌≡◌, ◌↔◌, ◌≤◌, ◌<◌, ◌++◌, [], ◌∷◌, drop, length, slice_get, slice_set, take, IsTrue, OnOk, OnErr, IfOk, IsOkUnless};
 ghost use Rattle.std.specs.Option.{option_copied};
@@ -11,7 +11,8 @@ use std::alloc::{AllocError, Global};
 use std::marker::Model;
 use std::sync::Arc;
 
-/// Items in order, seen as a list. A copy takes no items along: it shares them, until either is changed.
+/// A list of items. Contracts see the list. A copy shares the items until one of the two lists
+/// changes.
 #[derive(Debug, Drop)]
 pub struct SharedList<T> {
     alloc: Global,
@@ -31,14 +32,14 @@ impl<T> Model for SharedList<T> {
 }
 
 impl<T: Drop> SharedList<T> {
-    /// An empty list, which takes no memory yet.
+    /// An empty list. It takes no memory.
     pub fn new(alloc: Global) -> Self
         ensures { result ≡ [] }
     {
         SharedList { alloc, items: None }
     }
 
-    /// The list of these items, in their own memory.
+    /// A list that takes over these items. No other list shares them yet.
     pub fn from_vec(alloc: Global, items: Vec<T>) -> Result<Self, SlateDBError>
         ensures list { IfOk result (λ list. list ≡ items.items) }
         ensures memory { IsOkUnless result SlateDBError.Memory }
@@ -50,14 +51,14 @@ impl<T: Drop> SharedList<T> {
         })
     }
 
-    /// How many items there are.
+    /// The number of items.
     pub fn len(&self) -> u64
         ensures { result ≡ length self.now }
     {
         self.as_slice().len() as u64
     }
 
-    /// Whether there is no item.
+    /// Whether the list has no items.
     pub fn is_empty(&self) -> bool
         ensures { IsTrue result ↔ (self.now ≡ []) }
     {
@@ -91,7 +92,7 @@ impl<T: Drop> SharedList<T> {
 }
 
 impl<T: Copies + Drop> SharedList<T> {
-    /// So many items from the front, in their own memory.
+    /// A list of copies of the first `count` items. It does not share this list's storage.
     pub fn first(&self, count: u64) -> Result<SharedList<T>, SlateDBError>
         requires { count ≤ length self.now }
         ensures list { IfOk result (λ list. list ≡ take count self.now) }
@@ -101,7 +102,7 @@ impl<T: Copies + Drop> SharedList<T> {
         SharedList::from_vec(self.alloc, items)
     }
 
-    /// Adds an item at the end. Where memory is wanted, the item is dropped.
+    /// Adds an item at the end. If out of memory, the item is dropped.
     pub fn push(&mut self, item: T) -> Result<(), SlateDBError>
         ensures ok { OnOk result (self.new ≡ self.old ++ item ∷ []) }
         ensures err { OnErr result (self.new ≡ self.old) }
@@ -116,7 +117,8 @@ impl<T: Copies + Drop> SharedList<T> {
         }
     }
 
-    /// Puts an item in the place of another, which is dropped. Where memory is wanted, the new item is.
+    /// Puts an item in the place of another, counted from 0. The old item is dropped. If out of
+    /// memory, the new item is dropped instead.
     pub fn replace(&mut self, place: u64, item: T) -> Result<(), SlateDBError>
         requires { place < length self.old }
         ensures ok { OnOk result (self.new ≡ slice_set self.old place item) }
@@ -132,7 +134,8 @@ impl<T: Copies + Drop> SharedList<T> {
         }
     }
 
-    /// Puts an item before the one at this place, counted from 0, or at the end. Where memory is wanted, the item is dropped.
+    /// Inserts an item before the one at this place, counted from 0, or at the end. If out of
+    /// memory, the item is dropped.
     pub fn insert(&mut self, place: u64, item: T) -> Result<(), SlateDBError>
         requires { place ≤ length self.old }
         ensures ok { OnOk result (self.new ≡ take place self.old ++ item ∷ drop place self.old) }
@@ -159,7 +162,7 @@ fn copies<T: Copies + Drop>(alloc: Global, items: &[T]) -> Result<Vec<T>, AllocE
     Ok(copies)
 }
 
-/// The list of one item.
+// A list of one item.
 fn one<T: Drop>(alloc: Global, item: T) -> Result<ListOf<T>, SlateDBError>
     ensures list { IfOk result (λ list. list ≡ item ∷ []) }
     ensures memory { IsOkUnless result SlateDBError.Memory }
@@ -204,20 +207,20 @@ impl<T: Eq + Drop> Eq for SharedList<T> {
     ghost laws = { lists_equiv T.Eq.laws };
 }
 
-/// Blocks of a table.
+/// The blocks of a table.
 pub type BlockList = SharedList<BlockMeta>;
 
 /// Descriptions of tables.
 pub type TableList = SharedList<SsTableHandle>;
 
-/// Tables of a run, or the flushes of a tree, newest first.
+/// The tables of a run, or the flushes of a tree, newest first.
 pub type ViewList = SharedList<SsTableView>;
 
-/// Runs of a tree, by falling id.
+/// The runs of a tree, by falling id.
 pub type RunList = SharedList<SortedRun>;
 
-/// Trees with the prefixes of their segments, which rise.
+/// The trees of segments, each with its prefix, by rising prefix.
 pub type SegmentList = SharedList<(Bytes, LsmTreeState)>;
 
-/// Flushes within the retention, in the order of their puts.
+/// The flushes within the retention, in the order of their puts.
 pub type TrackerList = SharedList<Tracked>;

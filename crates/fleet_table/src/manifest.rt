@@ -15,8 +15,9 @@ use bytes::Bytes;
 use fleet_rows::{Copies, SlateDBError};
 use std::alloc::{AllocError, Global};
 
-/// The trees, with the floor below which no snapshot reads, the moment by which rows expire, the flushes within the retention, and
-/// the horizon. Reads are answered from the horizon and the tick on.
+/// What a manifest keeps: the trees, the floor, the tick, the flushes within the retention, and the
+/// horizon. No snapshot reads below the floor. Rows expire by the tick. Reads are answered from the
+/// horizon and the tick on.
 #[derive(Clone, Debug, Drop, PartialEq, Eq)]
 pub struct ManifestCore {
     /// The root: the tree of the segment with the empty prefix.
@@ -26,16 +27,18 @@ pub struct ManifestCore {
     pub recent_snapshot_min_seq: u64,
     /// In milliseconds.
     pub last_l0_clock_tick: i64,
-    /// The flushes within the retention, of which a fresh manifest has none.
+    /// The flushes within the retention. A fresh manifest has none.
     pub tracker: TrackerList,
-    /// A sequence, which is 0 in a fresh manifest.
+    /// A sequence. It is 0 in a fresh manifest.
     pub horizon: u64,
 }
 
 impl ManifestCore {
-    /// The tree of a segment.
+    /// The tree of the segment with this prefix, if there is one. The empty prefix gives the root's
+    /// tree.
     pub fn tree_for_segment(&self, segment: &[u8]) -> Option<&LsmTreeState>
-        ensures { option_copied result ≡ option_map (λ s. s.1) (find (λ s. bytes_eq segment.now s.0) (trees_with_prefix self.now)) }
+        ensures { option_copied result ≡ option_map
+            (λ s. s.1) (find (λ s. bytes_eq segment.now s.0) (trees_with_prefix self.now)) }
     {
         if segment.is_empty() {
             return Some(&self.tree);
@@ -44,23 +47,24 @@ impl ManifestCore {
         Some(&found.1)
     }
 
-    /// The trees, the root first and then by rising prefix.
+    /// The trees: the root's first, and then the others by rising prefix.
     pub fn trees(&self) -> Trees<'_>
         ensures { result ≡ map (λ s. s.1) (trees_with_prefix self.now) }
     {
         Trees::new(&self.tree, self.segments.as_slice())
     }
 
-    /// The trees with the prefixes of their segments. The root's prefix is empty.
+    /// The trees, each with the prefix of its segment. The root's prefix is empty.
     pub fn trees_with_prefix(&self) -> TreesWithPrefix<'_>
         ensures { result ≡ trees_with_prefix self.now }
     {
         TreesWithPrefix::new(&self.tree, self.segments.as_slice())
     }
 
-    /// Puts a flush in front of its segment's tree, sets the floor and the tick, and tracks the flush for the retention. `last_seq`
-    /// is the greatest sequence of the segment's flushes with this one, `least_seq` the least of this one's rows, and `moment` that
-    /// of its put.
+    /// Puts a flush in front of its segment's tree, sets the floor and the tick, and tracks the
+    /// flush for the retention. `last_seq` is the greatest sequence of the segment's flushes, this
+    /// one included. `least_seq` is the least sequence of this flush's rows. `moment` is the moment
+    /// of its put, in milliseconds.
     pub fn add_flush(
         &mut self,
         alloc: Global,
@@ -73,10 +77,12 @@ impl ManifestCore {
         moment: u64,
         retention_ms: u64,
     ) -> Result<(), SlateDBError>
-        ensures trees { OnOk result (trees_with_prefix self.new ≡ flushed segment.now view last_seq (trees_with_prefix self.old)) }
+        ensures trees { OnOk result (trees_with_prefix self.new
+            ≡ flushed segment.now view last_seq (trees_with_prefix self.old)) }
         ensures floor { OnOk result (self.new.recent_snapshot_min_seq ≡ floor) }
         ensures tick { OnOk result (self.new.last_l0_clock_tick ≡ tick) }
-        ensures tracker { OnOk result (tracker_of self.new.tracker ≡ tracked_after moment retention_ms least_seq (tracker_of self.old.tracker)) }
+        ensures tracker { OnOk result (tracker_of self.new.tracker
+            ≡ tracked_after moment retention_ms least_seq (tracker_of self.old.tracker)) }
         ensures horizon { OnOk result (self.new.horizon ≡ self.old.horizon) }
         ensures err { OnErr result (self.new ≡ self.old) }
         ensures memory { IsOkUnless result SlateDBError.Memory }
@@ -96,9 +102,10 @@ impl ManifestCore {
         Ok(())
     }
 
-    /// The sequence from which a compaction at this moment keeps all reads: the floor without a retention, and else the least of
-    /// the floor and, for each tracked flush that is retained then, the sequence before its least one, which is 0 where there is none
-    /// before.
+    /// The sequence from which a compaction at this moment keeps all reads. Without a retention it
+    /// is the floor. With one it is the least of the floor and of one sequence for each flush that
+    /// is retained at this moment. That is the sequence before the flush's least one, or 0 if the
+    /// least one is 0.
     pub fn cut(&self, moment: u64, retention_ms: u64) -> u64
         ensures { result ≡ cut_of self.now moment retention_ms }
     {
@@ -119,7 +126,7 @@ impl ManifestCore {
     }
 }
 
-/// The segment of this prefix.
+// The segment with this prefix.
 fn found<'a>(
     segments: &'a [(Bytes, LsmTreeState)],
     prefix: &[u8],
@@ -129,7 +136,7 @@ fn found<'a>(
     segments.iter().find(|s| prefix == s.0.as_slice())
 }
 
-/// Puts a flush in front of the tree of its segment.
+// Puts a flush in front of the tree of its segment, which may be the root.
 fn flush_tree(
     alloc: Global,
     root: &mut LsmTreeState,
@@ -138,7 +145,8 @@ fn flush_tree(
     view: SsTableView,
     last_seq: u64,
 ) -> Result<(), SlateDBError>
-    ensures ok { OnOk result (([], root.new) ∷ segments.new ≡ flushed prefix.now view last_seq (([], root.old) ∷ segments.old)) }
+    ensures ok { OnOk result (([], root.new) ∷ segments.new
+        ≡ flushed prefix.now view last_seq (([], root.old) ∷ segments.old)) }
     ensures root { OnErr result (root.new ≡ root.old) }
     ensures segments { OnErr result (segments.new ≡ segments.old) }
     ensures memory { IsOkUnless result SlateDBError.Memory }
@@ -150,7 +158,7 @@ fn flush_tree(
     }
 }
 
-/// Puts a flush in front of the tree of a segment other than the root.
+// Puts a flush in front of the tree of a segment other than the root.
 fn flush_segment(
     alloc: Global,
     segments: &mut SegmentList,
@@ -174,13 +182,15 @@ fn flush_segment(
     }
 }
 
-/// The tree of a segment where it has this prefix, and else an empty one.
+// Whether the segment has this prefix, and a copy of its tree if it does. Otherwise the tree is
+// empty.
 fn tree_or_empty(
     alloc: Global,
     segment: Option<&(Bytes, LsmTreeState)>,
     prefix: &[u8],
 ) -> Result<(bool, LsmTreeState), SlateDBError>
-    ensures tree { IfOk result (λ found. found ≡ tree_or_empty prefix.now (option_copied segment.entry)) }
+    ensures tree { IfOk result
+        (λ found. found ≡ tree_or_empty prefix.now (option_copied segment.entry)) }
     ensures memory { IsOkUnless result SlateDBError.Memory }
 {
     match segment {
@@ -189,7 +199,7 @@ fn tree_or_empty(
     }
 }
 
-/// How many segments have a lesser prefix.
+// The number of segments at the front whose prefixes are below this one.
 fn segments_below(segments: &[(Bytes, LsmTreeState)], prefix: &[u8]) -> u64
     ensures { result ≡ prefix_len (λ s. is_lt (key_cmp s.0 prefix.now)) segments.now }
 {
@@ -222,7 +232,7 @@ impl Manifest {
     }
 }
 
-/// A manifest under its version, which each put raises by one.
+/// A manifest with its version. Each put raises the version by one.
 #[derive(Clone, Debug, Drop, PartialEq, Eq)]
 pub struct VersionedManifest {
     pub id: u64,
@@ -230,7 +240,7 @@ pub struct VersionedManifest {
 }
 
 impl VersionedManifest {
-    /// The version.
+    /// The version of the manifest.
     pub fn id(&self) -> u64
         ensures { result ≡ self.now.id }
     {

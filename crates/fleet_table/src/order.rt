@@ -1,4 +1,4 @@
-//! The order of rows, and a place among ordered rows.
+//! The order of rows, and places among ordered rows.
 
 ghost use Rattle.std.specs.Prelude.{◌≡◌, ◌↔◌, filter, IsTrue};
 ghost use Rattle.std.specs.List.{AllByRecursion, prefix_len};
@@ -14,7 +14,8 @@ use fleet_rows::RowEntry;
 use std::cmp::Ordering;
 use std::ops::Bound;
 
-/// Whether keys rise and, within a key, sequences fall.
+/// Whether the rows are strictly ordered: keys rise, sequences fall within a key, and no two rows
+/// have both in common.
 pub fn are_strictly_ordered(rows: &[RowEntry]) -> bool
     ensures test { result ≡ are_ordered (rows_of rows.now) }
     ensures ordered { IsTrue result ↔ IsStrictlyOrdered (rows_of rows.now) }
@@ -29,14 +30,14 @@ pub fn are_strictly_ordered(rows: &[RowEntry]) -> bool
     true
 }
 
-/// Whether each row's key and value are no longer than a table may hold.
+/// Whether each row's key has at most 65,535 bytes, and its value or operand fewer than 2^32 bytes.
 pub fn are_in_bounds(rows: &[RowEntry]) -> bool
     ensures { IsTrue result ↔ AllByRecursion IsInBounds (rows_of rows.now) }
 {
     rows.iter().all(|row| row.is_in_bounds())
 }
 
-/// How many of the rows stand before those of the key with sequence at most `seq`.
+/// How many of the rows come before every row of this key with a sequence of at most `seq`.
 pub(crate) fn rows_before(rows: &[RowEntry], key: &[u8], seq: u64) -> u64
     requires { IsStrictlyOrdered (rows_of rows.now) }
     ensures { result ≡ prefix_len (is_before key.now seq) (rows_of rows.now) }
@@ -55,7 +56,8 @@ pub(crate) fn rows_in<'a>(rows: &'a [RowEntry], range: &BytesRange) -> &'a [RowE
 
 fn rows_behind_start<'a>(rows: &'a [RowEntry], range: &BytesRange) -> &'a [RowEntry]
     requires { IsStrictlyOrdered (rows_of rows.now) }
-    ensures { rows_of result.now ≡ filter (λ r. is_after_start (range_of range.now).from r.key) (rows_of rows.now) }
+    ensures { rows_of result.now
+        ≡ filter (λ r. is_after_start (range_of range.now).from r.key) (rows_of rows.now) }
 {
     let start = rows.partition_point(|row| is_before_range(row, range));
     &rows[start..]
@@ -63,7 +65,8 @@ fn rows_behind_start<'a>(rows: &'a [RowEntry], range: &BytesRange) -> &'a [RowEn
 
 fn rows_to_end<'a>(rows: &'a [RowEntry], range: &BytesRange) -> &'a [RowEntry]
     requires { IsStrictlyOrdered (rows_of rows.now) }
-    ensures { rows_of result.now ≡ filter (is_not_behind_range (range_of range.now)) (rows_of rows.now) }
+    ensures { rows_of result.now
+        ≡ filter (is_not_behind_range (range_of range.now)) (rows_of rows.now) }
 {
     let end = rows.partition_point(|row| is_not_behind_range(row, range));
     &rows[..end]

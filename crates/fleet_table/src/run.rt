@@ -8,7 +8,7 @@ use crate::{SsTableView, ViewList};
 use fleet_rows::{Copies, SlateDBError};
 use std::alloc::AllocError;
 
-/// Tables whose keys rise from one to the next. There may be none.
+/// A sorted run: tables whose keys rise from one table to the next. A run may have no tables.
 #[derive(Clone, Debug, Drop, PartialEq, Eq)]
 pub struct SortedRun {
     pub id: u32,
@@ -16,21 +16,21 @@ pub struct SortedRun {
 }
 
 impl SortedRun {
-    /// The run of these tables.
+    /// A run with this id and these tables. That their keys rise is not checked.
     pub fn new(id: u32, views: ViewList) -> SortedRun
         ensures { result ≡ record { id = id; views = views } }
     {
         SortedRun { id, views }
     }
 
-    /// The tables.
+    /// The tables of the run, in order.
     pub fn sst_views(&self) -> &[SsTableView]
         ensures { result.now ≡ self.now.views }
     {
         self.views.as_slice()
     }
 
-    /// The sum of the tables' sizes, which stops at `u64::MAX`.
+    /// The sum of the tables' sizes, in bytes. It stops at `u64::MAX`.
     pub fn estimate_size(&self) -> u64
         ensures { result ≡ run_size self.now.views }
     {
@@ -52,7 +52,7 @@ impl Copies for SortedRun {
     }
 }
 
-/// The size of tables together.
+// The sum of the tables' sizes, in bytes.
 fn size_of(views: &[SsTableView]) -> u64
     ensures { result ≡ fold (λ size view. saturated (size + view.sst.size)) 0 views.now }
 {

@@ -1,4 +1,4 @@
-//! The rows of a run, table by table.
+//! The tables of a run, and an iterator over their rows.
 
 ghost use Rattle.std.specs.Prelude.{◌≡◌, ◌++◌, false, [], ◌∷◌, OnOk, OnErr, IsOkUnless, ⊤};
 ghost use Rattle.fleet_table.specs.Run.{rows_of_tables};
@@ -13,7 +13,7 @@ use fleet_rows::{RowEntry, SlateDBError};
 use std::alloc::Global;
 use std::marker::Model;
 
-/// The tables of a run, one after the other. Contracts see them as a list.
+/// The tables of a run, in order. Contracts see a list with the rows of each table.
 #[derive(Debug, Drop)]
 pub struct RunData {
     tables: SharedList<TableData>,
@@ -29,7 +29,7 @@ impl Model for RunData {
 }
 
 impl RunData {
-    /// A run of no tables.
+    /// A run without tables.
     pub fn new(alloc: Global) -> RunData
         ensures { result ≡ [] }
     {
@@ -38,7 +38,7 @@ impl RunData {
         }
     }
 
-    /// Adds a table at the end. Where memory is wanted, the table is dropped.
+    /// Adds a table at the end. If out of memory, the table is dropped.
     pub fn push(&mut self, table: TableData) -> Result<(), SlateDBError>
         ensures ok { OnOk result (self.new ≡ self.old ++ table ∷ []) }
         ensures err { OnErr result (self.new ≡ self.old) }
@@ -55,7 +55,8 @@ impl RunData {
     }
 }
 
-/// The rows of a run whose keys lie in a range. Contracts see the rows left and whether it failed.
+/// An iterator over the rows of a run that lie in a range of keys. Contracts see the rows left and
+/// whether the iterator failed.
 #[derive(Debug, Drop)]
 pub struct RunIterator<'a> {
     current: TableIterator<'a>,
@@ -71,13 +72,18 @@ impl<'a> Model for RunIterator<'a> {
 
     ghost Value = { RowsLeft };
 
-    ghost view = { λ r. record { left = r.current.left ++ rows_of_tables (range_of r.range.now) r.later.now; broken = r.current.broken } };
+    ghost view = { λ r. record {
+      left = r.current.left
+          ++ rows_of_tables (range_of r.range.now) r.later.now;
+      broken = r.current.broken;
+    } };
 }
 
 impl<'a> RunIterator<'a> {
-    /// The rows of the run's tables in turn.
+    /// An iterator over the run's tables in turn. It gives the rows whose keys lie in the range.
     pub fn new(run: &'a RunData, range: &'a BytesRange) -> RunIterator<'a>
-        ensures { result ≡ record { left = rows_of_tables (range_of range.now) run.now; broken = false } }
+        ensures { result
+            ≡ record { left = rows_of_tables (range_of range.now) run.now; broken = false } }
     {
         RunIterator {
             current: TableIterator::new(&[]),
@@ -110,13 +116,14 @@ impl RowEntryIterator for RunIterator<'_> {
     }
 }
 
-/// Goes on to the first table with rows in the range, where the current one has none left.
+// If the current table has ended, moves on to the next table that has rows in the range.
 fn to_next_table<'a>(
     current: &mut TableIterator<'a>,
     later: &mut &'a [TableData],
     range: &BytesRange,
 )
-    ensures rows { current.new.left ++ rows_of_tables (range_of range.now) later.new.now ≡ current.old.left ++ rows_of_tables (range_of range.now) later.old.now }
+    ensures rows { current.new.left ++ rows_of_tables (range_of range.now) later.new.now
+        ≡ current.old.left ++ rows_of_tables (range_of range.now) later.old.now }
     ensures broken { current.new.broken ≡ current.old.broken }
     ensures last { current.new.left ≡ [] → current.new.broken ≡ false → later.new.now ≡ [] }
 {
@@ -128,7 +135,7 @@ fn to_next_table<'a>(
     }
 }
 
-/// Drops the rows below a key.
+// Drops rows at the front, table by table, while their keys are below this key.
 fn seek_tables<'a>(
     current: &mut TableIterator<'a>,
     later: &mut &'a [TableData],
@@ -136,7 +143,8 @@ fn seek_tables<'a>(
     key: &[u8],
 )
     requires { current.old.broken ≡ false }
-    ensures rows { current.new.left ++ rows_of_tables (range_of range.now) later.new.now ≡ from_key key.now (current.old.left ++ rows_of_tables (range_of range.now) later.old.now) }
+    ensures rows { current.new.left ++ rows_of_tables (range_of range.now) later.new.now
+        ≡ from_key key.now (current.old.left ++ rows_of_tables (range_of range.now) later.old.now) }
     ensures broken { current.new.broken ≡ false }
 {
     current.skip_to(key);

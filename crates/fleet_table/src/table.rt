@@ -1,4 +1,4 @@
-//! A table is its rows.
+//! Tables with their rows.
 
 ghost use Rattle.std.specs.Prelude.{◌≡◌, ◌≢◌, false, true, [], length, IfOk, IsOkUnless, option_map, slice_get};
 ghost use Rattle.std.specs.Option.{option_copied};
@@ -24,7 +24,7 @@ use fleet_rows::{Copies, RowEntry, SlateDBError, Ulid};
 use std::alloc::{AllocError, Global};
 use std::marker::Model;
 
-/// The rows of a table, of which there is at least one. Contracts see it as these rows.
+/// A table. It has at least one row. Contracts see its rows.
 #[derive(Debug, Drop)]
 pub struct TableData {
     rows: SharedList<RowEntry>,
@@ -46,7 +46,7 @@ impl Model for TableData {
 }
 
 impl TableData {
-    /// A table of these rows, in their own memory.
+    /// A table that takes over these rows.
     pub fn from_rows(alloc: Global, rows: Vec<RowEntry>) -> Result<TableData, SlateDBError>
         requires some { rows.items ≢ [] }
         requires ordered { IsStrictlyOrdered (rows_of rows.items) }
@@ -62,14 +62,14 @@ impl TableData {
         })
     }
 
-    /// How many rows there are.
+    /// The number of rows.
     pub fn rows(&self) -> u64
         ensures { result ≡ length self.now }
     {
         self.rows.len()
     }
 
-    /// The rows, by rising key and falling sequence.
+    /// The rows, by rising key and, within a key, by falling sequence.
     pub fn as_slice(&self) -> &[RowEntry]
         ensures rows { rows_of result.now ≡ self.now }
         ensures table { IsTable self.now }
@@ -84,7 +84,7 @@ impl TableData {
         TableIterator::new(rows_in(self.rows.as_slice(), range))
     }
 
-    /// The blocks, the first of which begins with the first row.
+    /// The blocks, in order. The first block begins with the first row.
     pub fn index(&self) -> &[BlockMeta]
         ensures { blocks_of result.now ≡ blocks self.now }
     {
@@ -100,11 +100,12 @@ impl TableData {
         (last.key.as_slice(), last.seq)
     }
 
-    /// The table's description under this id.
+    /// The description of the table, under this id.
     pub fn describe(&self, id: Ulid) -> Result<SsTableHandle, SlateDBError>
         ensures handle { IfOk result (λ handle. handle_of handle ≡ describe id self.now) }
-        // So that a view can be made of it.
-        ensures keys { IfOk result (λ handle. is_le (key_cmp handle.first_key handle.last_key) ≡ true) }
+        // `SsTableView::new` requires this.
+        ensures keys { IfOk result
+            (λ handle. is_le (key_cmp handle.first_key handle.last_key) ≡ true) }
         ensures memory { IsOkUnless result SlateDBError.Memory }
     {
         let rows = self.rows.as_slice();
@@ -121,9 +122,10 @@ impl TableData {
         })
     }
 
-    /// The newest row of a key whose sequence is at most `seq`. It is searched for by halves.
+    /// The newest row of a key with a sequence of at most `seq`. A binary search finds it.
     pub fn newest_at(&self, key: &[u8], seq: u64) -> Option<&RowEntry>
-        ensures { option_map row_of (option_copied result) ≡ slice_get (seen_at seq (rows_of_key key.now self.now)) 0 }
+        ensures { option_map row_of (option_copied result)
+            ≡ slice_get (seen_at seq (rows_of_key key.now self.now)) 0 }
     {
         let place = rows_before(self.rows.as_slice(), key, seq);
         let row = self.rows.get(place)?;

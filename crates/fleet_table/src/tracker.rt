@@ -1,4 +1,5 @@
-//! The flushes that a manifest tracks, so that what was readable within a stated time is kept.
+//! The flushes that a manifest tracks. While a flush is within the retention, what was readable
+//! then is kept.
 
 ghost use Rattle.std.specs.Prelude.{◌≡◌, ◌-◌, filter, fold, min, IfOk, IsOkUnless};
 ghost use Rattle.fleet_model.specs.Tracker.{is_retained, least_seq_of, tracked_after};
@@ -9,7 +10,7 @@ use crate::TrackerList;
 use fleet_rows::{Copies, RowEntry, SlateDBError};
 use std::alloc::{AllocError, Global};
 
-/// A flush, by the least sequence of its rows and by the moment of its put.
+/// A flush that a manifest tracks: the least sequence of its rows, and the moment of its put.
 #[derive(Clone, Copy, Debug, PartialEq, Eq)]
 pub struct Tracked {
     pub least_seq: u64,
@@ -18,11 +19,11 @@ pub struct Tracked {
 }
 
 impl Tracked {
-    /// Whether the flush is retained at this moment: the retention has not gone by since its put.
+    // Whether the flush is retained at this moment: the retention has not passed since its put.
     fn is_retained(&self, moment: u64, retention_ms: u64) -> bool
         ensures { result ≡ is_retained moment retention_ms (tracked_of self.now) }
     {
-        // The moment at which the retention has gone by may be above `u64::MAX`.
+        // The end of the retention may be above `u64::MAX`, so it is not computed.
         moment < self.moment || moment - self.moment < retention_ms
     }
 }
@@ -33,7 +34,7 @@ impl Copies for Tracked {
     }
 }
 
-/// The least sequence of the rows, or 0 where there is no row.
+/// The least sequence of the rows, or 0 if there are no rows.
 pub fn least_seq(rows: &[RowEntry]) -> u64
     ensures { result ≡ least_seq_of (rows_of rows.now) }
 {
@@ -43,15 +44,15 @@ pub fn least_seq(rows: &[RowEntry]) -> u64
     }
 }
 
-/// The least of a sequence and those of the rows.
+// The least of this sequence and the rows' sequences.
 fn least_from(seq: u64, rows: &[RowEntry]) -> u64
     ensures { result ≡ fold (λ least r. min least r.seq) seq rows.now }
 {
     rows.iter().fold(seq, |least, row| least.min(row.seq))
 }
 
-/// The tracker with a flush that is put at this moment: the flushes that are retained then, and this one. Without a retention no
-/// flush is tracked.
+/// The tracker after a flush that is put at this moment. It has the flushes that are retained at
+/// this moment, and then the new one. If the retention is 0, no flush is tracked.
 pub(crate) fn tracked_after(
     alloc: Global,
     tracker: &TrackerList,
@@ -59,7 +60,8 @@ pub(crate) fn tracked_after(
     moment: u64,
     retention_ms: u64,
 ) -> Result<TrackerList, SlateDBError>
-    ensures tracker { IfOk result (λ after. tracker_of after ≡ tracked_after moment retention_ms least_seq (tracker_of tracker.now)) }
+    ensures tracker { IfOk result (λ after. tracker_of after
+        ≡ tracked_after moment retention_ms least_seq (tracker_of tracker.now)) }
     ensures memory { IsOkUnless result SlateDBError.Memory }
 {
     if retention_ms == 0 {
@@ -76,7 +78,8 @@ fn retained(
     moment: u64,
     retention_ms: u64,
 ) -> Result<Vec<Tracked>, AllocError>
-    ensures { IfOk result (λ kept. kept.items ≡ filter (λ flush. is_retained moment retention_ms (tracked_of flush)) tracker.now) }
+    ensures { IfOk result (λ kept. kept.items
+        ≡ filter (λ flush. is_retained moment retention_ms (tracked_of flush)) tracker.now) }
 {
     tracker
         .iter()
@@ -85,10 +88,11 @@ fn retained(
         .collect(alloc)
 }
 
-/// The least of the floor and, for each flush that is retained at this moment, the sequence before its least one, which is 0 where
-/// there is none before.
+/// The least of the floor and of one sequence for each flush that is retained at this moment. That
+/// is the sequence before the flush's least one, or 0 if the least one is 0.
 pub(crate) fn cut_before(floor: u64, moment: u64, retention_ms: u64, tracker: &[Tracked]) -> u64
-    ensures { result ≡ fold (λ cut flush. min cut (flush.least_seq - 1)) floor (filter (λ flush. is_retained moment retention_ms (tracked_of flush)) tracker.now) }
+    ensures { result ≡ fold (λ cut flush. min cut (flush.least_seq - 1)) floor
+        (filter (λ flush. is_retained moment retention_ms (tracked_of flush)) tracker.now) }
 {
     tracker
         .iter()

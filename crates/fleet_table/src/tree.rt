@@ -7,16 +7,18 @@ use crate::{RunList, SsTableView, ViewList};
 use fleet_rows::{Copies, SlateDBError, Ulid};
 use std::alloc::{AllocError, Global};
 
-/// What a segment stores. Contracts see the lists, and `specs/Trees` how they are nodes of a tree.
+/// The tree of a segment. Contracts see its lists, and `specs/Trees` says how these are nodes of a
+/// tree of the model.
 #[derive(Clone, Debug, Drop, PartialEq, Eq)]
 pub struct LsmTreeState {
-    /// The flushes that no job took yet, newest first.
+    /// The flushes that no job has taken yet, newest first.
     pub l0: ViewList,
     /// The runs, by falling id.
     pub compacted: RunList,
-    /// The newest flush that a job took or dropped, where one did: flushes from it on are not to come to the tree again.
+    /// The newest flush that a job took or dropped, if there is one. This flush and older ones must
+    /// not come to the tree again.
     pub last_compacted_l0_sst_view_id: Option<Ulid>,
-    /// The greatest sequence of the flushes.
+    /// The greatest sequence of the segment's flushes.
     pub last_seq: Option<u64>,
 }
 
@@ -33,7 +35,8 @@ impl LsmTreeState {
         }
     }
 
-    /// Puts a flush in front, whose greatest sequence is `last_seq`.
+    /// Puts a flush in front. `last_seq` is the greatest sequence of the segment's flushes, this
+    /// one included.
     pub(crate) fn add_l0(&mut self, view: SsTableView, last_seq: u64) -> Result<(), SlateDBError>
         ensures ok { OnOk result (self.new ≡ flushed_on view last_seq self.old) }
         ensures err { OnErr result (self.new ≡ self.old) }
@@ -59,8 +62,9 @@ impl Copies for LsmTreeState {
     }
 }
 
-/// The tree of a compactor with what its writer flushed meanwhile: the remote's flushes before the local watermark, and the local
-/// runs.
+/// A compactor's tree with the flushes of its writer. It has the remote flushes that are newer than
+/// the local watermark, and the remote last sequence. The runs and the watermark are the local
+/// ones.
 pub fn merge_from_writer(
     local: &LsmTreeState,
     remote: &LsmTreeState,
@@ -76,7 +80,7 @@ pub fn merge_from_writer(
     })
 }
 
-/// The views before the one of this id, or all where there is none of it.
+// The views before the one with the watermark's id, or all views if none has it.
 fn newer_than(watermark: Option<Ulid>, views: &ViewList) -> Result<ViewList, SlateDBError>
     ensures views { IfOk result (λ newer. newer ≡ newer_than watermark views.now) }
     ensures memory { IsOkUnless result SlateDBError.Memory }

@@ -1,4 +1,4 @@
-//! The trees of a manifest, one after the other.
+//! Iterators over the trees of a manifest.
 
 ghost use Rattle.std.specs.Prelude.{◌≡◌, [], ◌∷◌, map};
 ghost use Rattle.std.specs.Iterator.{item_count, YieldsFirstBy, YieldsFirstRef};
@@ -7,7 +7,7 @@ use crate::LsmTreeState;
 use bytes::Bytes;
 use std::marker::Model;
 
-/// The trees. Contracts see those left.
+/// An iterator over the trees of a manifest, the root's first. Contracts see the trees left.
 #[derive(Debug, Drop)]
 pub struct Trees<'a> {
     root: Option<&'a LsmTreeState>,
@@ -53,7 +53,8 @@ impl<'a> Iterator for Trees<'a> {
     }
 }
 
-/// The trees with the prefixes of their segments. Contracts see those left.
+/// An iterator over the trees of a manifest with the prefixes of their segments. The root's comes
+/// first. Contracts see the trees left, with their prefixes.
 #[derive(Debug, Drop)]
 pub struct TreesWithPrefix<'a> {
     root: Option<&'a LsmTreeState>,

@@ -12,7 +12,7 @@ use std::alloc::AllocError;
 use std::marker::Model;
 use std::ops::Bound;
 
-/// A table under the id by which a tree names it. Contracts see the id and the description.
+/// A table with the id by which a tree names it. Contracts see the id and the table's description.
 #[derive(Debug, Drop, PartialEq, Eq)]
 pub struct SsTableView {
     pub id: Ulid,
@@ -34,7 +34,7 @@ impl Model for SsTableView {
 }
 
 impl SsTableView {
-    /// The table under this id.
+    /// A view of this table under this id.
     pub fn new(id: Ulid, sst: SsTableHandle) -> Result<SsTableView, SlateDBError>
         requires { is_le (key_cmp sst.first_key sst.last_key) ≡ true }
         ensures view { IfOk result (λ view. view ≡ record { id = id; sst = sst }) }
@@ -49,7 +49,7 @@ impl SsTableView {
         })
     }
 
-    /// The table under its own id.
+    /// A view of this table under the table's own id.
     pub fn identity(sst: SsTableHandle) -> Result<SsTableView, SlateDBError>
         requires { is_le (key_cmp sst.first_key sst.last_key) ≡ true }
         ensures view { IfOk result (λ view. view ≡ record { id = sst.id; sst = sst }) }
@@ -58,14 +58,14 @@ impl SsTableView {
         SsTableView::new(sst.id, sst)
     }
 
-    /// The size of the table.
+    /// The size of the table, in bytes.
     pub fn estimate_size(&self) -> u64
         ensures { result ≡ self.now.sst.size }
     {
         self.sst.size
     }
 
-    /// From the table's first key to its last, both included.
+    /// The range from the table's first key to its last key, both included.
     pub fn compacted_effective_range(&self) -> &BytesRange
         ensures { result.now ≡ key_range self.now.sst }
     {

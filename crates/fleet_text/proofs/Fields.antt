@@ -21,11 +21,11 @@ use Rattle.fleet_text.specs.Reading.{ReadsAs, row_words, line_text, IsPlainRow, 
 abbrev now_of : Bor (List ℕ) → List ℕ
 now_of x = x.now
 
--- a row's word is cut into its parts
+-- The word of a row, split at its colons, gives the parts of the row.
 pub split_row : (r : Row) → IsRow r → slice_split (is_byte 58) (row_text r) ≡ row_words r
 split_row r h = let lack = row_words_lack r h in split_join 58 _ _ lack.0 lack.1
 
--- what was read of the words was read of the text
+-- A row that is read from the parts of a word is read from the word.
 row_from_words : (text : List ℕ) (ws : List (List ℕ)) → slice_split (is_byte 58) text ≡ ws → (o : Option RowEntry) → ReadsAs row_of row_words IsPlainRow ws o → ReadsAs row_of row_text IsPlainRow text o
 row_from_words text ws split (Some row) h = (h.0, join_split 58 text (row_words (row_of row)) (split ∙ h.1))
 row_from_words text ws split None h = λ r fits e. h r fits (sym split ∙ ap (slice_split (is_byte 58)) e ∙ split_row r fits.0)
@@ -46,7 +46,7 @@ row_split text r fits e = ap (slice_split (is_byte 58)) e ∙ split_row r fits
 pub line_split : (text : List ℕ) (line : model.Line) → IsJobLine line → text ≡ line_text line → slice_split (is_byte 32) text ≡ words line
 line_split text line fits e = ap (slice_split (is_byte 32)) e ∙ split_line line fits.0
 
--- a line has from two to six words
+-- A line of the job grammar has from two to six words.
 pub no_line : (fs : List (Bor (List ℕ))) → length fs ≢ 2 → length fs ≢ 3 → length fs ≢ 4 → length fs ≢ 5 → length fs ≢ 6 → (line : model.Line) → IsJobLine line → map (λ x. x.now) fs ≢ words line
 no_line fs two three four five six line fits e = let count = sym (length-map fs now_of) ∙ ap length e in counted line fits count
   where
@@ -62,7 +62,7 @@ no_line fs two three four five six line fits e = let count = sym (length-map fs 
     counted (Dump segment node) fits count = three count
     counted _ fits count = fits.1
 
--- the words of fields that were read one by one
+-- The words of fields, each given by its place.
 one_read : (fs : List (Bor (List ℕ))) (a : Bor (List ℕ)) → length fs ≡ 1 → a ≡ get_or fs 0 a → map (λ x. x.now) fs ≡ a.now ∷ []
 one_read (x ∷ []) a n p = cc
 one_read [] a n p = absurd (omega arith)
@@ -88,7 +88,7 @@ pub six_read : (fs : List (Bor (List ℕ))) (a b c d e f : Bor (List ℕ)) → l
 six_read (x ∷ fs) a b c d e f n p q r s t u = let rest = five_read fs b c d e f (omega arith) q r s t u in cc
 six_read [] a b c d e f n p q r s t u = absurd (omega arith)
 
--- the word at a place
+-- The word at a place of the fields.
 pub word_at : (fs : List (Bor (List ℕ))) (i : ℕ) (a : Bor (List ℕ)) (ws : List (List ℕ)) → a ≡ get_or fs i a → map (λ x. x.now) fs ≡ ws → i < length ws → a.now ≡ get_or ws i []
 word_at [] i a ws is e lt = let n = ap length e in absurd (omega (arith, n, lt))
 word_at (f ∷ fs) i a [] is e lt = absurd (omega arith)

@@ -1,4 +1,4 @@
--- What is answered for a text that is no script, and for one that is.
+-- What reading answers for a text with a first bad line, and for a text that is a script.
 use Rattle.std.proofs.Common.{◌≡◌, ℕ, List, refl, Result, Ok, Err, IfOk, IfErr, ◌⊎◌, inl, inr}
 use Rattle.script_model.specs.Script.{IsScript, IsBadAt}
 use Rattle.script_model.specs.Script as model

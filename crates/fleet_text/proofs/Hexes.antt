@@ -1,4 +1,4 @@
--- What is read of a word as bytes.
+-- Reading a word as bytes.
 use Rattle.std.proofs.Common.{◌≡◌, ◌≢◌, ℕ, ◌+◌, ◌*◌, ◌/◌, ◌%◌, ◌<◌, true, List, [], ◌∷◌, length, slice_index, Option, Some, None, Result, Ok, Err, refl, sym, ap, ◌∙◌, cond, ltb, arith}
 use Rattle.std.proofs.lemmas.Bool.{and_parts}
 use Rattle.std.specs.List.{list_all}
@@ -11,7 +11,7 @@ use Rattle.script_model.specs.Words.{bytes_text}
 use Rattle.script_laws.specs.ByteTests.{is_lower_digit}
 use Rattle.script_laws.proofs.Hexes.{bytes_of_places, lower_at, encoded_lower}
 
--- two digits in lower case with one value are one digit
+-- The lower-case digit of a value below 16.
 lower_digit : ℕ → ℕ
 lower_digit v = cond (ltb v 10) (v + 48) (v + 87)
 
@@ -25,13 +25,13 @@ same_digit a b v la lb ha hb = by_value a v la ha ∙ sym (by_value b v lb hb)
 value_small : (c v : ℕ) → hex_digit_value c ≡ Some v → v < 16
 value_small c v h = grind (arith)
 
--- a digit in lower case is the one that the table has for its value
+-- A lower-case digit is the one that the table has for its value.
 digit_of : (c v : ℕ) → is_lower_digit c ≡ true → hex_digit_value c ≡ Some v → slice_index lower_digits v ≡ c
 digit_of c v lower h =
     let small = value_small c v h in
     same_digit (slice_index lower_digits v) c v (lower_at v small) lower (IsDigits-lower_digits v small) h
 
--- ---- what is decoded is encoded again
+-- ---- decoded digits are encoded again as they were
 
 bind_ok : {A B : Type 0} (r : Result A FromHexError) (f : A → Result B FromHexError) (y : B) → (r >>= f) ≡ Ok y → (x : A) × (r ≡ Ok x) × (f x ≡ Ok y)
 bind_ok (Ok x) f y h = (x, refl, h)
@@ -78,7 +78,8 @@ bytes_read word bytes some lower h =
     in_word [] some = absurd (omega arith)
     in_word (b ∷ bytes) some = refl
 
--- what is a hyphen, or is no even, positive number of digits in lower case, spells nothing else
+-- A word spells no bytes if it is not a hyphen and not an even, positive number of lower-case
+-- digits.
 pub no_bytes : (word : List ℕ) → (word ≢ 45 ∷ []) → (0 < length word → length word % 2 ≡ 0 → list_all is_lower_digit word ≡ true → ⊥) → (bytes : List ℕ) → AreBytes bytes → word ≢ bytes_text bytes
 no_bytes word hyphen other [] h e = hyphen e
 no_bytes word hyphen other (b ∷ bytes) h e =

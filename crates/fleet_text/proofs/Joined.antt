@@ -1,4 +1,4 @@
--- Words that are joined.
+-- Words joined with a separator.
 use Rattle.std.proofs.Common.{◌≡◌, ◌≢◌, ℕ, List, [], ◌∷◌, ◌++◌, length, map, refl, ap, append-nil}
 use Rattle.std.specs.List.{join_by, join_with_byte}
 use Rattle.script_model.specs.Words.{list_text, comma}

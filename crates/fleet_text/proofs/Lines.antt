@@ -1,4 +1,4 @@
--- Lines of a script.
+-- Reading the lines of a script.
 use Rattle.std.proofs.Common.{◌≡◌, ◌≢◌, ℕ, ◌+◌, Bool, false, List, [], ◌∷◌, ◌++◌, length, map, refl, sym, ap, ◌∙◌, subst, All, arith, append_assoc, append-nil}
 use Rattle.std.specs.Prelude.{◌||◌}
 use Rattle.std.specs.List.{AllByRecursion, list_any}
@@ -33,7 +33,7 @@ AreLines-push : (grammar : model.Grammar) (before lines : List model.Line) (line
 AreLines-push grammar before [] line h g = (subst (λ b. grammar b line) (append-nil before) g, tt)
 AreLines-push grammar before (l ∷ lines) line h g = (h.0, AreLines-push grammar (before ++ l ∷ []) lines line h.1 (subst (λ b. grammar b line) (sym (append_assoc before (l ∷ []) lines)) g))
 
--- the parties are started that these lines start
+-- `started` has exactly the parties that these lines start.
 pub record AreStarted (lines : List model.Line) (started : Started) : Type 0 where
   pub coordinator : started.coordinator ≡ list_any starts_coordinator lines
   pub worker : started.worker ≡ list_any starts_worker lines
@@ -57,7 +57,7 @@ may_follow before started line s h = ((h.0, h.1), first line h.2)
 one_more : (test : model.Line → Bool) (lines : List model.Line) (line : model.Line) (old new : Bool) → old ≡ list_any test lines → new ≡ (old || test line) → new ≡ list_any test (lines ++ line ∷ [])
 one_more test lines line old new is more = more ∙ ap (λ b. b || test line) is ∙ ap (λ b. list_any test lines || b) (sym (or-false (test line))) ∙ sym (list_any-append test lines (line ∷ []))
 
--- the lines so far and what is left are the text
+-- The lines read so far and the rest make up the text, and the grammar allows the lines.
 pub record ReadsLines (text : List ℕ) (lines : List Line) (started : Started) (rest : List ℕ) : Type 0 where
   pub each : AreLines job_grammar [] (lines_of lines)
   pub starts : AreStarted (lines_of lines) started
@@ -87,7 +87,7 @@ reads_all text lines started (b ∷ rest) r e = absurd (omega arith)
 bad_number : (lines : List Line) (n : ℕ) → length lines + 1 ≡ n → length (lines_of lines) + 1 ≡ n
 bad_number lines n e = let len = length-map lines line_of in omega (arith, e, len)
 
--- the front of what is left is no line
+-- The front of the rest, up to its newline, is no line, so the line after those read is bad.
 pub bad_front : (text : List ℕ) (lines : List Line) (started : Started) (rest front behind : List ℕ) (n : ℕ) → ReadsLines text lines started rest → All (λ b. b ≢ 10) front → rest ≡ front ++ 10 ∷ behind → ((line : model.Line) → MayFollow started line → front ≢ line_text line)
     → length lines + 1 ≡ n → IsBadAt job_grammar text n
 bad_front text lines started rest front behind n r lacks cut none number = record {
@@ -100,7 +100,7 @@ bad_front text lines started rest front behind n r lacks cut none number = recor
   none = λ line more fits e. none line (may_follow (lines_of lines) started line r.starts fits) (same_front 10 front behind (line_text line) more (lacks_all 10 front lacks) (line_lacks line fits.0) (sym cut ∙ e ∙ with_newline (line_text line) more)).0;
 }
 
--- what is left has no newline
+-- The rest is not empty and has no newline, so the line after those read is bad.
 pub bad_rest : (text : List ℕ) (lines : List Line) (started : Started) (rest : List ℕ) (n : ℕ) → ReadsLines text lines started rest → All (λ b. b ≢ 10) rest → length rest ≢ 0 → length lines + 1 ≡ n → IsBadAt job_grammar text n
 bad_rest text lines started rest n r lacks some number = record {
   before = lines_of lines;

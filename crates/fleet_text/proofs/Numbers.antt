@@ -1,4 +1,4 @@
--- What is read of a word as a number or a stamp.
+-- Reading a word as a number or a stamp.
 use Rattle.std.proofs.Common.{◌≡◌, ◌≢◌, ℕ, zero, suc, ◌<◌, ◌^◌, List, [], ◌∷◌, length, get_or, drop, Option, Some, None, Result, Ok, Err, ℤ, pos, negsuc, FitsSigned, SomeIff, ◌-ℤ◌, refl, sym, ap, ◌∙◌, arith}
 use Rattle.std.specs.Int.{w64}
 use Rattle.std.specs.Fmt.{decimal, signed_decimal}
@@ -14,7 +14,7 @@ use Rattle.fleet_text.specs.Reading.{Reads}
 own : IsNumeralModel (AllDigits 10) (digits_value 10)
 own = numerals_by_value (AllDigits 10) tells_digits
 
--- a number has no zero in front of other digits
+-- A number of several digits does not begin with zero.
 pub no_leading_zero : (bytes : List ℕ) → 1 < length bytes → get_or bytes 0 0 ≡ 48 → (x : ℕ) → x < 2 ^ 64 → bytes ≢ decimal x
 no_leading_zero bytes long first zero h e =
     let one = ap length (e ∙ decimal_digit 0 (omega arith)) in absurd (omega (arith, one, long))
@@ -26,7 +26,8 @@ no_leading_zero bytes long first (suc x) h e =
 one_digit : (bytes : List ℕ) → 0 < length bytes → (1 < length bytes → get_or bytes 0 0 ≢ 48) → get_or bytes 0 0 ≡ 48 → length bytes ≡ 1
 one_digit bytes some first e = let short : 1 < length bytes → ⊥ = λ h. first h e in omega (arith, some, short)
 
--- what parse makes of a word with neither
+-- The result of parsing a word that begins neither with a plus nor, if it has several bytes, with
+-- zero.
 pub reads_number : {E : Type 0} (bytes : List ℕ) (r : Result ℕ E) → ParsesUnsigned 64 10 bytes r → (1 < length bytes → get_or bytes 0 0 ≢ 48) → get_or bytes 0 0 ≢ 43 → Reads decimal (λ n. n < 2 ^ 64) bytes (result_ok r)
 reads_number {E} bytes (Ok n) h first plus =
     let p = parse_plain own {E = E} 64 bytes (Ok n) h plus in
@@ -48,7 +49,7 @@ fits_stamp : (z : ℤ) → IsStamp z → FitsSigned w64 z
 fits_stamp (pos n) h = omega (arith, ints, h)
 fits_stamp (negsuc n) h = omega (arith, ints, h)
 
--- a word with no hyphen in front is read as a number below 2 ^ 63
+-- A word that does not begin with a hyphen is read as a number below 2 ^ 63.
 pub signed_from_number : {E : Type 0} (bytes : List ℕ) (n : ℕ) (r : Result ℤ E) → get_or bytes 0 0 ≢ 45 → (n < 2 ^ 64) × (bytes ≡ decimal n) → OkIff r (FitsSigned w64 (pos n)) (pos n) → Reads signed_decimal IsStamp bytes (result_ok r)
 signed_from_number bytes n (Ok z) first read h = (rw h.1 (stamp_fits (pos n) h.0), rw h.1 read.1)
 signed_from_number bytes n (Err e) first read h = not_read
@@ -61,7 +62,7 @@ pub signed_from_none : (bytes : List ℕ) → get_or bytes 0 0 ≢ 45 → ((x : 
 signed_from_none bytes first none (pos m) fits eq = none m (omega (arith, fits)) eq
 signed_from_none bytes first none (negsuc m) fits eq = first (ap (λ b. get_or b 0 0) eq)
 
--- a word with a hyphen in front is read by what follows it
+-- A word that begins with a hyphen is no stamp if the rest is no number.
 pub negative_from_none : (bytes : List ℕ) → get_or bytes 0 0 ≡ 45 → ((x : ℕ) → x < 2 ^ 64 → drop 1 bytes ≢ decimal x) → (z : ℤ) → IsStamp z → bytes ≢ signed_decimal z
 negative_from_none bytes first none (pos m) fits eq = no_sign 45 (omega arith) bytes first m (omega (arith, fits)) eq
 negative_from_none bytes first none (negsuc m) fits eq = none (suc m) (omega (arith, fits)) (ap (drop 1) eq)

@@ -18,7 +18,7 @@ use Rattle.fleet_text.proofs.Lines.{AllByRecursion-push, map-push}
 abbrev now_of : Bor (List ℕ) → List ℕ
 now_of x = x.now
 
--- the first i fields are these rows
+-- The first i fields spell these rows.
 pub record ReadsRows (fs : List (Bor (List ℕ))) (i : ℕ) (rows : List RowEntry) : Type 0 where
   pub each : AllByRecursion IsPlainRow (rows_of rows)
   pub words : map row_text (rows_of rows) ≡ map (λ x. x.now) (take i fs)
@@ -47,7 +47,7 @@ first_rows (r ∷ rows) p q = ((p.0, q.0), first_rows rows p.1 q.1)
 split_rows : (r : Row) (rows : List Row) → AreRows (r ∷ rows) → slice_split (is_byte 44) (rows_text (r ∷ rows)) ≡ map row_text (r ∷ rows)
 split_rows r rows h = split_join 44 (row_text r) (map row_text rows) (row_lacks r h.0) (rows_lack rows (each_row rows h.1))
 
--- all fields are these rows
+-- All fields have been read, so their word spells these rows.
 pub rows_all : (word : List ℕ) (fs : List (Bor (List ℕ))) (i : ℕ) (rows : List RowEntry) → ReadsRows fs i rows → length fs ≤ i → map (λ x. x.now) fs ≡ slice_split (is_byte 44) word → ArePlainRows (rows_of rows) × (word ≡ rows_text (rows_of rows))
 rows_all word fs i rows r le split = all_of (rows_of rows) r.each (r.words ∙ ap (map now_of) (take_all i fs le) ∙ split)
   where
@@ -55,7 +55,7 @@ rows_all word fs i rows r le split = all_of (rows_of rows) r.each (r.words ∙ a
     all_of [] each words = let n = length-slice_split (is_byte 44) word in let none = ap length words in absurd (omega (arith, n, none))
     all_of (r ∷ rows) each words = let both = are_rows (r ∷ rows) each in ((omega arith, both.0, both.1), join_split 44 word (map row_text (r ∷ rows)) (sym words))
 
--- a field that is no row
+-- A field that is no row is not the word of any row of a list.
 not_among : (fs : List (Bor (List ℕ))) (i : ℕ) (d : Bor (List ℕ)) (rows : List Row) → AllByRecursion IsPlainRow rows → i < length fs → ((r : Row) → IsPlainRow r → (get_or fs i d).now ≢ row_text r) → map (λ x. x.now) fs ≢ map row_text rows
 not_among [] i d rows h lt none e = omega arith
 not_among (g ∷ fs) i d [] h lt none e = cc e

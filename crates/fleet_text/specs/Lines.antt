@@ -1,4 +1,4 @@
--- A line as the program has it, seen as the model's line.
+-- The program's lines, seen as the model's lines.
 use Rattle.std.specs.Prelude.{List, [], ◌∷◌, map, None}
 use Rattle.fleet_rows.specs.Row.{rows_of}
 use Rattle.fleet_model.specs.Nodes as nodes

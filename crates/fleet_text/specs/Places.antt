@@ -1,4 +1,4 @@
--- How the places of a scheduler's proposals are spelt, each with the rule that its proposal failed.
+-- How replies spell the places of proposals, each with the rule that its proposal failed.
 use Rattle.std.specs.Prelude.{ℕ, List, ◌++◌, map, codes, decimal}
 use Rattle.script_model.specs.Words.{list_text, comma}
 

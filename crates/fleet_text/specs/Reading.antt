@@ -1,4 +1,4 @@
--- What it is for a reader to have read a text.
+-- What it means to read a text.
 use Rattle.std.specs.Prelude.{◌≡◌, ◌≢◌, ℕ, ◌<◌, ◌^◌, false, List, [], ◌∷◌, length, Option, Some, None, decimal}
 use Rattle.std.specs.List.{AllByRecursion, join_with_byte}
 use Rattle.row_model.specs.Rows.{Row, Content, is_merge}
@@ -7,12 +7,14 @@ use Rattle.script_model.specs.Words.{bytes_text, kind_text, content_text, stamp_
 use Rattle.script_model.specs.Script.{Line, words, IsInBounds}
 use Rattle.script_model.specs.Grammars.{IsPlain, IsOfOneJob}
 
--- What was read of a text: a value that fits and is spelt so, or nothing where no value that fits is.
+-- The result of reading a text: a value that fits and is spelt as this text, or None if no value
+-- that fits is spelt so.
 abbrev pub Reads : {A B : Type 0} → (A → B) → (A → Type 0) → B → Option A → Type 0
 Reads spelling Fits text (Some x) = Fits x × (text ≡ spelling x)
 Reads spelling Fits text None = (x : _) → Fits x → text ≢ spelling x
 
--- The same of values that are seen as the model's.
+-- The result of reading a text as a value of the program. Its view in the model fits and is spelt
+-- as this text. The result is None if no model value that fits is spelt so.
 abbrev pub ReadsAs : {A M B : Type 0} → (A → M) → (M → B) → (M → Type 0) → B → Option A → Type 0
 ReadsAs view spelling Fits text (Some x) = Fits (view x) × (text ≡ spelling (view x))
 ReadsAs view spelling Fits text None = (m : _) → Fits m → text ≢ spelling m
@@ -32,17 +34,17 @@ IsPlainContent content = IsContent content × (is_merge content ≡ false)
 abbrev pub row_words : Row → List (List ℕ)
 row_words r = bytes_text r.key ∷ kind_text r.content ∷ content_text r.content ∷ decimal r.seq ∷ stamp_text r.created ∷ stamp_text r.expires ∷ []
 
--- rows of values and tombstones without stamps
+-- A row that is a value or a tombstone, within its bounds and without time stamps.
 abbrev pub IsPlainRow : Row → Type 0
 IsPlainRow r = IsRow r × IsPlain r
 
 abbrev pub ArePlainRows : List Row → Type 0
 ArePlainRows rows = (0 < length rows) × AreRows rows × AllByRecursion IsPlain rows
 
--- a line that may stand somewhere in a script of one job after the other
+-- A line that some script of the job grammar may have.
 abbrev pub IsJobLine : Line → Type 0
 IsJobLine line = IsInBounds line × IsOfOneJob line
 
--- a line without its newline
+-- The text of a line without its newline.
 abbrev pub line_text : Line → List ℕ
 line_text line = join_with_byte 32 (words line)

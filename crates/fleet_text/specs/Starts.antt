@@ -1,4 +1,4 @@
--- Which line starts a party a second time.
+-- Which line starts a party that is already started.
 use Rattle.std.specs.Prelude.{◌≡◌, Bool, false}
 use Rattle.script_model.specs.Script.{Line, StartCoordinator, StartWorker}
 use Rattle.fleet_text.specs.declared.started.Started.{Started}
@@ -9,6 +9,6 @@ starts_again started (StartCoordinator n) = started.coordinator
 starts_again started (StartWorker n release) = started.worker
 starts_again started _ = false
 
--- a line that may stand where these parties are started
+-- A line that may follow when these parties are started.
 abbrev pub MayFollow : Started → Line → Type 0
 MayFollow started line = IsJobLine line × (starts_again started line ≡ false)

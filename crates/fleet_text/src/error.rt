@@ -1,4 +1,4 @@
-//! Why a text is not read.
+//! Why a text cannot be read.
 
 ghost use Rattle.std.specs.Prelude.{◌≡◌};
 ghost use Rattle.fleet_text.specs.declared.error.TextError.TheVariants.{Memory};
@@ -6,13 +6,13 @@ ghost use Rattle.fleet_text.specs.declared.error.TextError.TheVariants.{Memory};
 use std::alloc::{AllocError, AllocFailed};
 use thiserror::Error;
 
-/// Why a text was not read as a script.
+/// Why a text could not be read as a script.
 #[derive(Debug, Drop, Error)]
 pub enum TextError {
-    /// The first line outside the grammar, counted from 1.
+    /// The number of the first line outside the grammar, counted from 1.
     #[error("line {0} is no line of a script")]
     BadLine(u64),
-    /// There was no memory for the lines.
+    /// Out of memory while reading the lines.
     #[error("Memory")]
     Memory,
 }

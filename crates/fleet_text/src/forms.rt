@@ -1,4 +1,4 @@
-//! The forms of lines.
+//! Reads a line by its number of words.
 
 ghost use Rattle.std.specs.Prelude.{◌≡◌, ◌∷◌, [], IfOk, codes};
 ghost use Rattle.std.specs.List.{join_with_byte};
@@ -14,7 +14,7 @@ use crate::word::{
 };
 use std::alloc::{AllocError, Global};
 
-/// Of two words: the lines of a party's turn.
+// Reads a line of two words: a poll or a claim.
 fn turn_from(verb: &[u8], party: &[u8]) -> Option<Line>
     ensures { ReadsAs line_of words IsJobLine (verb.now ∷ party.now ∷ []) result }
 {
@@ -59,7 +59,7 @@ fn dump_from(segment: &[u8], node: &[u8]) -> Option<Line>
     Some(Line::Dump { segment, node })
 }
 
-/// Of three words: a party's start, a job's end, and a node's rows.
+// Reads a line of three words: a start, a finish or a dump.
 fn three_from(verb: &[u8], first: &[u8], second: &[u8]) -> Option<Line>
     ensures { ReadsAs line_of words IsJobLine (verb.now ∷ first.now ∷ second.now ∷ []) result }
 {
@@ -75,9 +75,10 @@ fn three_from(verb: &[u8], first: &[u8], second: &[u8]) -> Option<Line>
     None
 }
 
-/// Of four words: a job that takes one flush.
+// Reads a line of four words: a submission of a job of one flush.
 fn submit_from(verb: &[u8], segment: &[u8], destination: &[u8], source: &[u8]) -> Option<Line>
-    ensures { ReadsAs line_of words IsJobLine (verb.now ∷ segment.now ∷ destination.now ∷ source.now ∷ []) result }
+    ensures { ReadsAs line_of words IsJobLine
+        (verb.now ∷ segment.now ∷ destination.now ∷ source.now ∷ []) result }
 {
     if !is_word(verb, "submit") {
         return None;
@@ -92,7 +93,7 @@ fn submit_from(verb: &[u8], segment: &[u8], destination: &[u8], source: &[u8]) -
     })
 }
 
-/// Of five words: a read.
+// Reads a line of five words: a read of a key.
 fn read_from(
     alloc: Global,
     verb: &[u8],
@@ -101,7 +102,8 @@ fn read_from(
     seq: &[u8],
     now: &[u8],
 ) -> Result<Option<Line>, AllocError>
-    ensures { IfOk result (ReadsAs line_of words IsJobLine (verb.now ∷ segment.now ∷ key.now ∷ seq.now ∷ now.now ∷ [])) }
+    ensures { IfOk result (ReadsAs line_of words IsJobLine
+        (verb.now ∷ segment.now ∷ key.now ∷ seq.now ∷ now.now ∷ [])) }
 {
     if !is_word(verb, "read") {
         return Ok(None);
@@ -126,7 +128,7 @@ fn read_from(
     }))
 }
 
-/// Of six words: a flush.
+// Reads a line of six words: a flush.
 fn flush_from(
     alloc: Global,
     verb: &[u8],
@@ -136,7 +138,8 @@ fn flush_from(
     tick: &[u8],
     rows: &[u8],
 ) -> Result<Option<Line>, AllocError>
-    ensures { IfOk result (ReadsAs line_of words IsJobLine (verb.now ∷ name.now ∷ segment.now ∷ floor.now ∷ tick.now ∷ rows.now ∷ [])) }
+    ensures { IfOk result (ReadsAs line_of words IsJobLine
+        (verb.now ∷ name.now ∷ segment.now ∷ floor.now ∷ tick.now ∷ rows.now ∷ [])) }
 {
     if !is_word(verb, "flush") {
         return Ok(None);
@@ -165,7 +168,8 @@ fn flush_from(
     }))
 }
 
-/// A line without its newline.
+/// Reads a line without its newline. The answer is None if the text is no line of the job grammar.
+/// The error is out of memory.
 pub fn line_at(alloc: Global, text: &[u8]) -> Result<Option<Line>, AllocError>
     ensures { IfOk result (ReadsAs line_of line_text IsJobLine text.now) }
 {

@@ -8,18 +8,18 @@ use bytes::Bytes;
 use fleet_rows::{Copies, ListOf, RowEntry, SlateDBError};
 use std::alloc::AllocError;
 
-/// One line of a script.
+/// One line of a script. Parties are named by their numbers, and a segment by its prefix.
 #[derive(Debug, Drop, PartialEq)]
 pub enum Line {
-    /// A coordinator begins.
+    /// Starts a coordinator.
     StartCoordinator {
         number: u64,
     },
-    /// A worker begins.
+    /// Starts a worker.
     StartWorker {
         number: u64,
     },
-    /// A flush of these rows into a segment's tree.
+    /// Flushes rows into the tree of a segment.
     Flush {
         name: u64,
         segment: Bytes,
@@ -27,33 +27,33 @@ pub enum Line {
         tick: i64,
         rows: Vec<RowEntry>,
     },
-    /// A read of a key at a sequence.
+    /// Reads a key at a sequence and at the moment `now`, in milliseconds.
     Read {
         segment: Bytes,
         key: Bytes,
         seq: u64,
         now: i64,
     },
-    /// A job that makes a sorted run of one flush.
+    /// Submits a job that makes a sorted run with the id `destination` from the flush `source`.
     Submit {
         segment: Bytes,
         destination: u32,
         source: u64,
     },
-    /// A coordinator takes up what is stored.
+    /// A coordinator polls: it commits finished jobs and opens submitted ones.
     Poll {
         coordinator: u64,
     },
-    /// A worker takes the jobs that wait.
+    /// A worker claims waiting jobs.
     Claim {
         worker: u64,
     },
-    /// A worker writes a job's tables.
+    /// A worker writes the tables of a job and finishes it.
     Finish {
         worker: u64,
         job: u64,
     },
-    /// The rows of a node are asked for.
+    /// Shows the rows of a node.
     Dump {
         segment: Bytes,
         node: NodeName,
@@ -61,7 +61,7 @@ pub enum Line {
 }
 
 impl Line {
-    /// A copy.
+    /// Copies the line. The error is out of memory.
     pub fn clone(&self) -> Result<Line, SlateDBError>
         ensures copy { IfOk result (λ copy. line_of copy ≡ line_of self.now) }
         ensures memory { IsOkUnless result SlateDBError.Memory }
@@ -128,5 +128,5 @@ fn copied_rows(rows: &Vec<RowEntry>) -> Result<Vec<RowEntry>, AllocError>
     Ok(copy)
 }
 
-/// The lines of a script in order.
+/// The lines of a script, in order.
 pub type LineList = ListOf<Line>;

@@ -1,4 +1,4 @@
-//! Lists as they are printed: with commas between the items, and `-` where there is nothing.
+//! Prints lists with commas between the items. An empty list is `-`.
 
 ghost use Rattle.std.specs.Prelude.{◌≡◌, List, ℕ, map, IfOk, string_bytes};
 ghost use Rattle.fleet_rows.specs.Row.{rows_of};
@@ -12,7 +12,8 @@ use fleet_rows::{RowEntry, Ulid};
 use std::alloc::{AllocError, Global};
 
 fn listed(alloc: Global, words: &[String]) -> Result<String, AllocError>
-    ensures { IfOk result (λ text. string_bytes text ≡ list_text comma (map string_bytes words.now)) }
+    ensures { IfOk result
+        (λ text. string_bytes text ≡ list_text comma (map string_bytes words.now)) }
 {
     if words.is_empty() {
         return String::from_str(alloc, "-");

@@ -1,4 +1,4 @@
-//! Nodes of a tree as a script names them.
+//! Names of a tree's nodes, as scripts spell them.
 
 ghost use Rattle.std.specs.Prelude.{◌≡◌, ◌≢◌, ◌++◌, ◌∷◌, [], ℕ, List, MatchOption, codes, decimal};
 ghost use Rattle.script_model.specs.Bounds.{IsName, IsNode};
@@ -15,9 +15,10 @@ pub enum NodeName {
     Run(u32),
 }
 
-/// What stands behind this letter.
+// The bytes after this letter, or None if the word does not begin with it.
 fn behind(word: &[u8], letter: u8) -> Option<&[u8]>
-    ensures { MatchOption result ((rest : List ℕ) → word.now ≢ letter ∷ rest) (λ rest. word.now ≡ letter ∷ rest.now) }
+    ensures { MatchOption result
+        ((rest : List ℕ) → word.now ≢ letter ∷ rest) (λ rest. word.now ≡ letter ∷ rest.now) }
 {
     if word.is_empty() || word[0] != letter {
         return None;
@@ -25,14 +26,14 @@ fn behind(word: &[u8], letter: u8) -> Option<&[u8]>
     Some(&word[1..])
 }
 
-/// The name of a flush, behind `l`.
+/// Reads the name of a flush, spelt as `l` and a number from 1 to 1,099,511,627,775.
 pub fn source_of(word: &[u8]) -> Option<u64>
     ensures { Reads (λ name. codes "l" ++ decimal name) IsName word.now result }
 {
     name_of(behind(word, b'l')?)
 }
 
-/// A flush, or a run behind `r`.
+/// Reads a node: a flush, or a sorted run spelt as `r` and a number below 2^32.
 pub fn node_at(word: &[u8]) -> Option<NodeName>
     ensures { ReadsAs node_of node_text IsNode word.now result }
 {

@@ -1,4 +1,4 @@
-//! Replies as they are printed.
+//! Prints replies.
 
 ghost use Rattle.std.specs.Prelude.{◌≡◌, ◌++◌, [], OnOk, OnErr, IsOkUnless, decimal, nat_eq};
 ghost use Rattle.std.specs.Cmp.{partial_equiv_from_equiv};
@@ -15,7 +15,7 @@ use fleet_rows::{JobList, PlaceList, RowEntry, RuleList, SlateDBError};
 use std::alloc::Global;
 use std::marker::Model;
 
-/// A reply, seen as the bytes that are printed.
+/// A reply under construction. Contracts see it as its bytes.
 #[derive(Debug, Drop)]
 pub struct Reply {
     bytes: Vec<u8>,
@@ -30,7 +30,7 @@ impl Model for Reply {
 }
 
 impl Reply {
-    /// A reply of no bytes. Takes no memory.
+    /// An empty reply. It allocates nothing.
     pub fn new(alloc: Global) -> Reply
         ensures { result ≡ [] }
     {
@@ -54,7 +54,7 @@ impl Reply {
         Ok(self.bytes.extend_from_slice(text.as_bytes())?)
     }
 
-    /// Appends a number's digits.
+    /// Appends a number in decimal digits.
     pub fn number(&mut self, number: u64) -> Result<(), SlateDBError>
         ensures ok { OnOk result (self.new ≡ self.old ++ decimal number) }
         ensures err { OnErr result (self.new ≡ self.old) }
@@ -64,7 +64,7 @@ impl Reply {
         self.word(digits.as_str())
     }
 
-    /// Appends a number's digits, behind `-` where it is negative.
+    /// Appends a number in decimal digits, with `-` before it if it is negative.
     pub fn signed(&mut self, number: i64) -> Result<(), SlateDBError>
         ensures ok { OnOk result (self.new ≡ self.old ++ signed_decimal number) }
         ensures err { OnErr result (self.new ≡ self.old) }
@@ -74,7 +74,7 @@ impl Reply {
         self.word(text.as_str())
     }
 
-    /// Appends bytes in lower-case hex, or `-` where there are none.
+    /// Appends bytes in lower-case hexadecimal digits, or `-` for no bytes.
     pub fn hex(&mut self, bytes: &[u8]) -> Result<(), SlateDBError>
         ensures ok { OnOk result (self.new ≡ self.old ++ words.bytes_text bytes.now) }
         ensures err { OnErr result (self.new ≡ self.old) }
@@ -84,7 +84,7 @@ impl Reply {
         self.word(text.as_str())
     }
 
-    /// Appends jobs by their numbers.
+    /// Appends the numbers of jobs, with commas between them.
     pub fn jobs(&mut self, jobs: &JobList) -> Result<(), SlateDBError>
         ensures ok { OnOk result (self.new ≡ self.old ++ replies.jobs_text jobs.now) }
         ensures err { OnErr result (self.new ≡ self.old) }
@@ -94,7 +94,8 @@ impl Reply {
         self.word(text.as_str())
     }
 
-    /// Appends jobs, each with the rule that it failed.
+    /// Appends jobs with the rules that they failed, each as `<job>:<rule>`, with commas between
+    /// them.
     pub fn rules(&mut self, rules: &RuleList) -> Result<(), SlateDBError>
         ensures ok { OnOk result (self.new ≡ self.old ++ replies.rules_text rules.now) }
         ensures err { OnErr result (self.new ≡ self.old) }
@@ -104,7 +105,8 @@ impl Reply {
         self.word(text.as_str())
     }
 
-    /// Appends places, each with the rule that its proposal failed.
+    /// Appends the places of dropped proposals with their rules, each as `<place>:<rule>`, with
+    /// commas between them.
     pub fn places(&mut self, places: &PlaceList) -> Result<(), SlateDBError>
         ensures ok { OnOk result (self.new ≡ self.old ++ places_text places.now) }
         ensures err { OnErr result (self.new ≡ self.old) }
@@ -114,7 +116,7 @@ impl Reply {
         self.word(text.as_str())
     }
 
-    /// Appends rows of every kind, with their stamps.
+    /// Appends rows of every kind, with their time stamps and with commas between them.
     pub fn rows(&mut self, rows: &[RowEntry]) -> Result<(), SlateDBError>
         ensures ok { OnOk result (self.new ≡ self.old ++ words.rows_text (rows_of rows.now)) }
         ensures err { OnErr result (self.new ≡ self.old) }
@@ -124,7 +126,8 @@ impl Reply {
         self.word(text.as_str())
     }
 
-    /// Appends tables: a drawn one by `t` and its number, a flush's by `l` and its name.
+    /// Appends tables with commas between them. A drawn table is `t` and its number, and a flush's
+    /// table `l` and the flush's name.
     pub fn table_names(&mut self, tables: &JobList) -> Result<(), SlateDBError>
         ensures ok { OnOk result (self.new ≡ self.old ++ replies.tables_text tables.now) }
         ensures err { OnErr result (self.new ≡ self.old) }

@@ -1,4 +1,4 @@
-//! The rows of a flush.
+//! Reads the rows of a flush.
 
 ghost use Rattle.std.specs.Prelude.{◌≡◌, [], ◌∷◌, length, IfOk};
 ghost use Rattle.fleet_rows.specs.Row.{content_of, row_of, rows_of};
@@ -10,7 +10,8 @@ use fleet_rows::{RowEntry, ValueDeletable};
 use std::alloc::{AllocError, Global};
 
 fn value_of(alloc: Global, kind: &[u8], word: &[u8]) -> Result<Option<ValueDeletable>, AllocError>
-    ensures { IfOk result (ReadsAs content_of content_words IsPlainContent (kind.now ∷ word.now ∷ [])) }
+    ensures { IfOk result
+        (ReadsAs content_of content_words IsPlainContent (kind.now ∷ word.now ∷ [])) }
 {
     if is_word(kind, "v") {
         let Some(bytes) = value_bytes_of(alloc, word)? else {
@@ -24,7 +25,7 @@ fn value_of(alloc: Global, kind: &[u8], word: &[u8]) -> Result<Option<ValueDelet
     Ok(None)
 }
 
-/// A row of these fields, with no stamps.
+// Reads a row from its fields, except the two time stamps, which it does not have.
 fn row_from(
     alloc: Global,
     key: &[u8],
@@ -32,7 +33,8 @@ fn row_from(
     value: &[u8],
     seq: &[u8],
 ) -> Result<Option<RowEntry>, AllocError>
-    ensures { IfOk result (ReadsAs row_of row_words IsPlainRow (key.now ∷ kind.now ∷ value.now ∷ seq.now ∷ (45 ∷ []) ∷ (45 ∷ []) ∷ [])) }
+    ensures { IfOk result (ReadsAs row_of row_words IsPlainRow
+        (key.now ∷ kind.now ∷ value.now ∷ seq.now ∷ (45 ∷ []) ∷ (45 ∷ []) ∷ [])) }
 {
     let Some(seq) = number_of(seq) else {
         return Ok(None);
@@ -56,7 +58,8 @@ fn row_at(alloc: Global, word: &[u8]) -> Result<Option<RowEntry>, AllocError>
     row_from(alloc, fields[0], fields[1], fields[2], fields[3])
 }
 
-/// One row or more, with commas between them.
+/// Reads one or more rows with commas between them. The answer is None if a part is no row. The
+/// error is out of memory.
 pub fn rows_at(alloc: Global, word: &[u8]) -> Result<Option<Vec<RowEntry>>, AllocError>
     ensures { IfOk result (ReadsAs (λ rows. rows_of rows.items) rows_text ArePlainRows word.now) }
 {

@@ -1,4 +1,4 @@
-//! A whole script.
+//! Reads a whole script.
 
 ghost use Rattle.std.specs.Prelude.{◌≡◌, ℕ, ◌+◌, List, length, IfOk, Err, ◌⊎◌, IfErr};
 ghost use Rattle.script_model.specs.Script.{IsScript, IsBadAt};
@@ -15,14 +15,17 @@ use crate::started::Started;
 use crate::word::cut;
 use std::alloc::{AllocError, Global};
 
-/// The lines of a script, or the number of the first line that is none.
+/// Reads the lines of a script. Each line ends with a newline, so bytes after the last newline are
+/// a bad line.
 pub fn read_script(alloc: Global, text: &[u8]) -> Result<LineList, TextError>
     ensures found { IfOk result (λ lines. IsScript job_grammar text.now (lines_of lines)) }
     ensures bad { (n : ℕ) → result ≡ Err (TextError.BadLine n) → IsBadAt job_grammar text.now n }
-    // Where a line is the first outside the grammar it is named, unless memory runs out.
-    ensures exact { (n : ℕ) → IsBadAt job_grammar text.now n → (result ≡ Err (TextError.BadLine n)) ⊎ (result ≡ Err TextError.Memory) }
-    // A script is read, unless memory runs out.
-    ensures valid { (lines : List model.Line) → IsScript job_grammar text.now lines → IfErr result (λ e. e ≡ TextError.Memory) }
+    // If a line is the first outside the grammar, the error names it, except when out of memory.
+    ensures exact { (n : ℕ) → IsBadAt job_grammar text.now n
+        → (result ≡ Err (TextError.BadLine n)) ⊎ (result ≡ Err TextError.Memory) }
+    // A script is read, except when out of memory.
+    ensures valid { (lines : List model.Line)
+        → IsScript job_grammar text.now lines → IfErr result (λ e. e ≡ TextError.Memory) }
 {
     read_lines(alloc, text)
 }
@@ -51,7 +54,7 @@ fn read_lines(alloc: Global, text: &[u8]) -> Result<LineList, TextError>
     Ok(LineList::from_vec(lines))
 }
 
-/// A line that starts no party a second time.
+// Reads a line that does not start a party a second time.
 fn line_after(alloc: Global, text: &[u8], started: Started) -> Result<Option<Line>, AllocError>
     ensures { IfOk result (ReadsAs line_of line_text (MayFollow started) text.now) }
 {
@@ -64,7 +67,7 @@ fn line_after(alloc: Global, text: &[u8], started: Started) -> Result<Option<Lin
     Ok(Some(line))
 }
 
-/// The line behind these is bad.
+// The error for the line after these lines.
 fn bad_after(lines: &[Line]) -> TextError
     ensures { result ≡ TextError.BadLine (length lines.now + 1) }
 {

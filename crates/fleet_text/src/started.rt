@@ -1,4 +1,4 @@
-//! The parties that a script starts, each once.
+//! Which parties a script has started. Each may be started once.
 
 ghost use Rattle.std.specs.Prelude.{◌≡◌, ◌||◌};
 ghost use Rattle.script_model.specs.Grammars.{starts_coordinator, starts_worker};
@@ -7,7 +7,7 @@ ghost use Rattle.fleet_text.specs.Starts.{starts_again};
 
 use crate::line::Line;
 
-/// Which parties the lines so far start.
+/// The parties that the lines read so far start.
 #[derive(Clone, Copy)]
 pub struct Started {
     pub coordinator: bool,
@@ -15,7 +15,7 @@ pub struct Started {
 }
 
 impl Started {
-    /// Whether the line starts a party that is started already.
+    /// Whether the line starts a party that is already started.
     pub fn is_again(self, line: &Line) -> bool
         ensures { result ≡ starts_again self (line_of line.now) }
     {
@@ -26,9 +26,10 @@ impl Started {
         }
     }
 
-    /// With one line more.
+    /// The parties started after one more line.
     pub fn with(self, line: &Line) -> Started
-        ensures coordinator { result.coordinator ≡ (self.coordinator || starts_coordinator (line_of line.now)) }
+        ensures coordinator { result.coordinator
+            ≡ (self.coordinator || starts_coordinator (line_of line.now)) }
         ensures worker { result.worker ≡ (self.worker || starts_worker (line_of line.now)) }
     {
         Started {

@@ -1,4 +1,4 @@
-//! What replies list, each as it is printed.
+//! Prints the single items of lists in replies.
 
 ghost use Rattle.std.specs.Prelude.{◌≡◌, ◌++◌, ℕ, IfOk, decimal, string_bytes};
 ghost use Rattle.fleet_model.specs.Jobs as jobs;
@@ -7,10 +7,10 @@ ghost use Rattle.script_model.specs.Replies as replies;
 ghost use Rattle.script_model.specs.Words as words;
 ghost use Rattle.fleet_text.specs.Places as places;
 
-use fleet_rows::{RowEntry, Ulid, ValueDeletable};
+use fleet_rows::{DRAWN_BASE, RowEntry, Ulid, ValueDeletable};
 use std::alloc::{AllocError, Global};
 
-/// Bytes in lower-case hex, or `-` where there are none.
+/// Prints bytes in lower-case hexadecimal digits, or `-` for no bytes.
 pub fn bytes_text(alloc: Global, bytes: &[u8]) -> Result<String, AllocError>
     ensures { IfOk result (λ text. string_bytes text ≡ words.bytes_text bytes.now) }
 {
@@ -20,14 +20,14 @@ pub fn bytes_text(alloc: Global, bytes: &[u8]) -> Result<String, AllocError>
     hex::encode(alloc, bytes)
 }
 
-/// A job by its number.
+/// Prints a job's number in decimal digits.
 pub fn job_text(alloc: Global, job: Ulid) -> Result<String, AllocError>
     ensures { IfOk result (λ text. string_bytes text ≡ decimal (jobs.number_of job)) }
 {
     job.number().to_string(alloc)
 }
 
-/// A job and the rule that it failed.
+/// Prints a job with the rule that it failed, as `<job>:<rule>`.
 pub fn rule_text(alloc: Global, job: Ulid, rule: u8) -> Result<String, AllocError>
     ensures { IfOk result (λ text. string_bytes text ≡ replies.rule_text (job, rule)) }
 {
@@ -37,7 +37,7 @@ pub fn rule_text(alloc: Global, job: Ulid, rule: u8) -> Result<String, AllocErro
     Ok(text)
 }
 
-/// A place and the rule that its proposal failed.
+/// Prints a proposal's place with the rule that it failed, as `<place>:<rule>`.
 pub fn place_text(alloc: Global, place: u64, rule: u8) -> Result<String, AllocError>
     ensures { IfOk result (λ text. string_bytes text ≡ places.place_text (place, rule)) }
 {
@@ -47,16 +47,13 @@ pub fn place_text(alloc: Global, place: u64, rule: u8) -> Result<String, AllocEr
     Ok(text)
 }
 
-/// The number below the first that is drawn for a table.
-const TABLES: u128 = 1 << 79;
-
-/// A table that was drawn by `t` and its number, a flush's by `l` and its name.
+/// Prints a drawn table as `t` and its number, or a flush's table as `l` and the flush's name.
 pub fn table_text(alloc: Global, table: Ulid) -> Result<String, AllocError>
     ensures { IfOk result (λ text. string_bytes text ≡ replies.table_text table) }
 {
     let number = table.number();
-    if number >= TABLES {
-        return lettered(alloc, "t", number - TABLES);
+    if number >= DRAWN_BASE {
+        return lettered(alloc, "t", number - DRAWN_BASE);
     }
     // The id of a flush's table is the flush's name.
     lettered(alloc, "l", table.moment_ms() as u128 * (1 << 80) + number)
@@ -89,7 +86,7 @@ fn content_text(alloc: Global, value: &ValueDeletable) -> Result<String, AllocEr
     }
 }
 
-/// A stamp, or `-` where there is none.
+// Prints a time stamp in decimal digits, or `-` if there is none.
 fn stamp_text(alloc: Global, stamp: Option<i64>) -> Result<String, AllocError>
     ensures { IfOk result (λ text. string_bytes text ≡ words.stamp_text stamp) }
 {
@@ -99,7 +96,7 @@ fn stamp_text(alloc: Global, stamp: Option<i64>) -> Result<String, AllocError>
     }
 }
 
-/// A row's fields with colons between them.
+/// Prints a row: key, kind, value, sequence and two time stamps, with colons between them.
 pub fn row_text(alloc: Global, row: &RowEntry) -> Result<String, AllocError>
     ensures { IfOk result (λ text. string_bytes text ≡ words.row_text (row_of row.now)) }
 {

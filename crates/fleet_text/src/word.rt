@@ -1,4 +1,4 @@
-//! The words of a line.
+//! Reads the words of a line.
 
 ghost use Rattle.std.specs.Prelude.{◌≡◌, ◌≢◌, ◌++◌, ◌∷◌, [], MatchOption, All, ◌<◌, ◌≤◌, ◌^◌, ◌↔◌, IsTrue, IfOk, map, decimal};
 ghost use Rattle.std.specs.Fmt.{signed_decimal};
@@ -12,29 +12,30 @@ ghost use Rattle.fleet_text.specs.Reading.{Reads, IsValue, IsRoot};
 use bytes::Bytes;
 use std::alloc::{AllocError, Global};
 
-/// The parts of a text between the bytes that cut it.
+/// Splits a text at each occurrence of a byte.
 pub fn parts(alloc: Global, text: &[u8], cut: u8) -> Result<Vec<&[u8]>, AllocError>
     ensures { IfOk result (λ v. map (λ x. x.now) v.items ≡ slice_split (is_byte cut) text.now) }
 {
     text.split(|b| *b == cut).collect(alloc)
 }
 
-/// What stands before the first of a byte, and behind it.
+/// Splits a text at the first occurrence of a byte. The byte is in neither part.
 pub fn cut(text: &[u8], byte: u8) -> Option<(&[u8], &[u8])>
-    ensures { MatchOption result (All (λ b. b ≢ byte) text.now) (λ p. All (λ b. b ≢ byte) p.0.now × (text.now ≡ p.0.now ++ byte ∷ p.1.now)) }
+    ensures { MatchOption result (All (λ b. b ≢ byte) text.now)
+        (λ p. All (λ b. b ≢ byte) p.0.now × (text.now ≡ p.0.now ++ byte ∷ p.1.now)) }
 {
     let at = text.iter().position(|b| *b == byte)?;
     Some((&text[..at], &text[at + 1..]))
 }
 
-/// Whether a word is this name.
+/// Whether the word is this name, byte for byte.
 pub fn is_word(word: &[u8], name: &str) -> bool
     ensures { IsTrue result ↔ (word.now ≡ name.now) }
 {
     word == name.as_bytes()
 }
 
-/// The number whose decimal a word is: digits, with no sign and no zero in front of others.
+/// Reads a number of 64 bits in decimal digits, without a sign and without leading zeros.
 pub fn number_of(word: &[u8]) -> Option<u64>
     ensures { Reads decimal (λ n. n < 2 ^ 64) word.now result }
 {
@@ -50,7 +51,7 @@ pub fn number_of(word: &[u8]) -> Option<u64>
     text.parse().ok()
 }
 
-/// A number, or `-` and a number that is not 0.
+/// Reads a signed number of 64 bits: a number, or `-` and a number that is not 0.
 pub fn signed_of(word: &[u8]) -> Option<i64>
     ensures { Reads signed_decimal IsStamp word.now result }
 {
@@ -77,7 +78,7 @@ fn are_lower_hex(word: &[u8]) -> bool
     word.iter().all(|digit| is_lower_hex(*digit))
 }
 
-/// Bytes in lower-case hex, or `-` where there are none.
+/// Reads bytes in lower-case hexadecimal digits, or `-` for no bytes. The error is out of memory.
 pub fn bytes_of(alloc: Global, word: &[u8]) -> Result<Option<Bytes>, AllocError>
     ensures { IfOk result (Reads bytes_text AreBytes word.now) }
 {
@@ -87,14 +88,14 @@ pub fn bytes_of(alloc: Global, word: &[u8]) -> Result<Option<Bytes>, AllocError>
     if word.is_empty() || word.len() % 2 != 0 || !are_lower_hex(word) {
         return Ok(None);
     }
-    // An even number of digits is refused for memory alone.
+    // The digits are valid and even in number, so `hex` refuses only when out of memory.
     let Ok(bytes) = hex::decode(alloc, word) else {
         return Err(AllocError);
     };
     Ok(Some(Bytes::from_vec(bytes)?))
 }
 
-/// The prefix of the root, which is empty.
+/// Reads the prefix of the root segment, which is empty and spelt `-`.
 pub fn root_of(word: &[u8]) -> Option<Bytes>
     ensures { Reads bytes_text IsRoot word.now result }
 {
@@ -105,7 +106,7 @@ pub fn root_of(word: &[u8]) -> Option<Bytes>
     }
 }
 
-/// Bytes, at least one and at most 65,535.
+/// Reads a key: 1 to 65,535 bytes. The error is out of memory.
 pub fn key_of(alloc: Global, word: &[u8]) -> Result<Option<Bytes>, AllocError>
     ensures { IfOk result (Reads bytes_text IsKey word.now) }
 {
@@ -118,7 +119,7 @@ pub fn key_of(alloc: Global, word: &[u8]) -> Result<Option<Bytes>, AllocError>
     Ok(Some(key))
 }
 
-/// Bytes, fewer than 2^32.
+/// Reads the bytes of a value, fewer than 2^32. The error is out of memory.
 pub fn value_bytes_of(alloc: Global, word: &[u8]) -> Result<Option<Bytes>, AllocError>
     ensures { IfOk result (Reads bytes_text IsValue word.now) }
 {
@@ -133,7 +134,7 @@ pub fn value_bytes_of(alloc: Global, word: &[u8]) -> Result<Option<Bytes>, Alloc
 
 const LAST_NAME: u64 = 1_099_511_627_775;
 
-/// The name of a flush.
+/// Reads the name of a flush: a number from 1 to 1,099,511,627,775.
 pub fn name_of(word: &[u8]) -> Option<u64>
     ensures { Reads decimal IsName word.now result }
 {
@@ -144,21 +145,21 @@ pub fn name_of(word: &[u8]) -> Option<u64>
     Some(name)
 }
 
-/// The number 1.
+/// Reads the number 1, the only coordinator or worker of such a script.
 pub fn one_of(word: &[u8]) -> Option<u64>
     ensures { Reads decimal (λ n. n ≡ 1) word.now result }
 {
     if is_word(word, "1") { Some(1) } else { None }
 }
 
-/// The id of a sorted run.
+/// Reads the id of a sorted run: a number below 2^32.
 pub fn run_of(word: &[u8]) -> Option<u32>
     ensures { Reads decimal (λ n. n < 2 ^ 32) word.now result }
 {
     u32::try_from(number_of(word)?).ok()
 }
 
-/// The number of a job, from 1.
+/// Reads the number of a job: a number from 1, below 2^64.
 pub fn job_of(word: &[u8]) -> Option<u64>
     ensures { Reads decimal (λ n. (1 ≤ n) × (n < 2 ^ 64)) word.now result }
 {

@@ -6,36 +6,40 @@ ghost use Rattle.row_model.specs.Append.{append};
 ghost use Rattle.row_model.specs.Fold.{IsLawful, Operator};
 ghost use Rattle.row_model.specs.Rows.{Row};
 
-/// A walk that goes on as long as each row joins the next, and ends at the first that does not, finds exactly the first
-/// chunk of the list. The next walk begins after it.
+/// A walk that goes on as long as each element joins the next one finds exactly the first chunk of
+/// the list. The next walk begins after that chunk.
 pub fn chunk_is_walked()
     ensures { ChunkIsWalked Row }
 {}
 
-/// A key's newest row is a group of its own; or, where it is an operand at or below the cut, it opens the group that a
-/// walk takes: operands of its stamp, up to the first other row, which joins as the base where it has the stamp.
+/// A walk finds the groups of a key's rows. The newest row is alone in its group, unless it is an
+/// operand at or below the cut. Such an operand takes the next rows as long as they have its
+/// expiry. The first of them that is not an operand is the base and ends the group.
 pub fn groups_are_walked()
     ensures { GroupsAreWalked }
 {}
 
-/// Under a lawful operator a group's operands may be folded in batches, cut anywhere, and the results folded over the
-/// base: that gives the group's content, and gives none exactly where folding them all at once would refuse.
+/// Under a lawful operator, the operands of a group may be folded in batches, cut anywhere, and the
+/// results then folded over the base. This gives the group's content, and none exactly if the group
+/// has none.
 pub fn batches_fold_alike()
     ensures { (merge : Operator) → IsLawful merge → BatchesFoldAlike merge }
 {}
 
-/// Batches of a positive size are the list cut into pieces, none of which is empty or longer than asked.
+/// The batches of a positive size are the list cut into pieces. No piece is empty, and none has
+/// more elements than the size.
 pub fn cuts_into_batches()
     ensures { CutsIntoBatches }
 {}
 
-/// Under a lawful operator a group may be folded by batches of any positive size: that gives its content, or refuses,
-/// as folding all operands at once does.
+/// Under a lawful operator, a group may be folded in batches of any positive size. This gives the
+/// group's content, and none exactly if the group has none.
 pub fn folds_by_batches()
     ensures { (merge : Operator) → IsLawful merge → FoldsByBatches merge }
 {}
 
-/// Joining bytes, with a refusal of what would be too long, is a lawful operator.
+/// The merge operator `append` is lawful: it joins bytes, and refuses results of 2^32 bytes or
+/// more.
 pub fn append_is_lawful()
     ensures { IsLawful append }
 {}

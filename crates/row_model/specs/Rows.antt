@@ -1,38 +1,41 @@
--- Tables hold rows in order of key and sequence. A row may have a stamp, and from that moment on it is expired.
+-- Tables hold rows in order of key and sequence. A row may have an expiry, and from that moment on it is
+-- expired.
 use Rattle.std.specs.Prelude.{ℕ, Bool, true, false, ◌&&◌, ℤ, int_le, List, [], ◌∷◌, Option, Some, None, bytes_eq, if◌then◌else◌}
 use Rattle.std.specs.declared.cmp.Ordering.{Ordering}
 use Rattle.std.specs.Ordering.{nat_cmp, ordering_then, is_lt}
 use Rattle.std.specs.Cmp.Lexicographic.{slice_cmp}
 use Rattle.std.specs.List.Sorted.{IsStrictlySortedBy}
 
--- A row gives its key a value or an operand, which is merged onto older rows, or, as a tombstone, says that the key is
--- deleted.
+-- The content of a row: a value, an operand that is merged onto older rows, or a tombstone that says that
+-- the key is deleted.
 pub data Content : Type 0 where
   Value : (bytes : List ℕ) → Content
   Merge : (bytes : List ℕ) → Content
   Tombstone : Content
 
--- A row gives its key a content at a sequence. It may have two stamps, each a moment in milliseconds.
+-- A row gives its key a content at a sequence. It may have a creation stamp and an expiry, each a moment in
+-- milliseconds.
 pub record Row : Type 0 where
   pub key : List ℕ
   pub content : Content
   pub seq : ℕ  -- the newer of two rows of a key has the greater one
-  pub created : Option ℤ  -- the moment of its creation, where that is known
+  pub created : Option ℤ  -- the moment of its creation, if it is known
   pub expires : Option ℤ  -- from this moment on the row is expired
 
--- Keys are compared byte by byte, and a key is less than one that goes on after it.
+-- Compares keys byte by byte. A key is less than each longer key that begins with it.
 abbrev pub key_cmp : List ℕ → List ℕ → Ordering
 key_cmp = slice_cmp nat_cmp
 
--- Rows are in order where keys rise and, within a key, sequences fall.
+-- The order of rows: keys rise, and within a key sequences fall.
 abbrev pub row_cmp : Row → Row → Ordering
 row_cmp a b = ordering_then (key_cmp a.key b.key) (nat_cmp b.seq a.seq)
 
--- Rows are strictly ordered where they are in order and no two of them have both key and sequence in common.
+-- Rows are strictly ordered if keys rise, within a key sequences fall, and no two rows have both key and
+-- sequence in common.
 abbrev pub IsStrictlyOrdered : List Row → Type 0
 IsStrictlyOrdered rows = IsStrictlySortedBy row_cmp rows
 
--- Rows are strictly ordered exactly where each row stands before the next one. This tests it.
+-- Tests whether rows are strictly ordered: each row must be before the next one.
 abbrev pub are_ordered : List Row → Bool
 are_ordered [] = true
 are_ordered (r ∷ []) = true
@@ -41,17 +44,17 @@ are_ordered (r ∷ q ∷ rows) = is_lt (row_cmp r q) && are_ordered (q ∷ rows)
 abbrev pub same_key : Row → Row → Bool
 same_key a b = bytes_eq a.key b.key
 
--- Of some rows, those of one key are picked, in their order.
+-- The rows of one key, in their order.
 abbrev pub rows_of_key : List ℕ → List Row → List Row
 rows_of_key key [] = []
 rows_of_key key (r ∷ rows) = if bytes_eq key r.key then r ∷ rows_of_key key rows else rows_of_key key rows
 
--- A row is put in its place among rows that are in order.
+-- Inserts a row into ordered rows, in front of the first row that is after it.
 abbrev pub insert_row : Row → List Row → List Row
 insert_row r [] = r ∷ []
 insert_row r (q ∷ rows) = if is_lt (row_cmp r q) then r ∷ q ∷ rows else q ∷ insert_row r rows
 
--- Rows are sorted: each is put in its place among the others.
+-- Sorts rows: each row is inserted into the sorted later rows.
 abbrev pub sorted_rows : List Row → List Row
 sorted_rows [] = []
 sorted_rows (r ∷ rows) = insert_row r (sorted_rows rows)
@@ -69,7 +72,7 @@ is_tombstone Tombstone = true
 abbrev pub is_operand : Row → Bool
 is_operand r = is_merge r.content
 
--- A stamp is reached where it is there and at most now.
+-- True if the stamp is present and at most `now`.
 abbrev pub is_reached : Option ℤ → ℤ → Bool
 is_reached None now = false
 is_reached (Some stamp) now = int_le stamp now

@@ -1,4 +1,4 @@
--- A scan of a range of keys answers, key by key, what a read of each key answers.
+-- A scan of a range of keys answers, for each key, what a read of that key answers.
 use Rattle.std.specs.Prelude.{ℕ, ℤ, List, [], ◌∷◌, filter_map, Option, option_map}
 use Rattle.std.specs.declared.cmp.Ordering.{Ordering}
 use Rattle.std.specs.declared.cmp.Ordering.TheVariants.{Less, Equal, Greater}
@@ -7,27 +7,28 @@ use Rattle.row_model.specs.Fold.{Operator, Outcome}
 use Rattle.row_model.specs.Read.{read}
 use Rattle.row_model.specs.Ranges.{Range, rows_in}
 
--- A key that is less than the first of some rising keys comes before them. One that is equal to it is there already,
--- and a greater one is put among the later keys.
+-- Puts a key among the rising keys `first ∷ keys`, by how it compares to `first`. A lesser key comes before
+-- them, and an equal key is there already. For a greater key, `later` is `keys` with the key put among
+-- them.
 abbrev pub with_key : Ordering → List ℕ → List ℕ → List (List ℕ) → List (List ℕ) → List (List ℕ)
 with_key Less key first keys later = key ∷ first ∷ keys
 with_key Equal key first keys later = first ∷ keys
 with_key Greater key first keys later = first ∷ later
 
--- A key is put among rising keys, once.
+-- Puts a key among rising keys, unless it is there already.
 abbrev pub put_key : List ℕ → List (List ℕ) → List (List ℕ)
 put_key key [] = key ∷ []
 put_key key (first ∷ keys) = with_key (key_cmp key first) key first keys (put_key key keys)
 
--- The keys of some rows rise, and each of them stands once.
+-- The keys of some rows, rising and each once.
 abbrev pub keys_of : List Row → List (List ℕ)
 keys_of [] = []
 keys_of (r ∷ rows) = put_key r.key (keys_of rows)
 
--- A key is answered as a read of it is; there is no answer where that read finds nothing.
+-- A key with the answer of a read of it. It is None if that read finds nothing.
 abbrev pub key_answer : Operator → ℕ → ℤ → List Row → List ℕ → Option (List ℕ × Outcome)
 key_answer merge seq now rows key = option_map (λ answer. (key, answer)) (read merge key seq now (sorted_rows (rows_of_key key rows)))
 
--- A scan gives each key of the range that has an answer, and its answer, keys rising.
+-- The answers of a scan: each key of the range that has an answer, with its answer. The keys rise.
 abbrev pub scanned : Operator → Range → ℕ → ℤ → List Row → List (List ℕ × Outcome)
 scanned merge range seq now rows = filter_map (key_answer merge seq now rows) (keys_of (rows_in range rows))

@@ -1,4 +1,4 @@
--- Rows and tables have sizes, and by these a table is cut into blocks.
+-- Sizes of rows and tables in bytes, and the blocks that a table is cut into.
 use Rattle.std.specs.Prelude.{ℕ, ◌+◌, nat_le, ◌==◌, if◌then◌else◌, ℤ, List, [], ◌∷◌, length, sum_by, Option, Some, None, ◌-◌, ◌^◌, min}
 use Rattle.row_model.specs.Rows.{Content, Value, Merge, Tombstone, Row}
 
@@ -11,7 +11,7 @@ abbrev pub stamp_size : Option ℤ → ℕ
 stamp_size None = 0
 stamp_size (Some stamp) = 8
 
--- Tables and blocks are cut by this size of a row, in bytes.
+-- The size of a row in bytes by which tables and blocks are cut.
 abbrev pub estimated_size : Row → ℕ
 estimated_size r = length r.key + content_len r.content + 8 + stamp_size r.created + stamp_size r.expires
 
@@ -20,11 +20,11 @@ written_value_size (Value bytes) = 4 + length bytes
 written_value_size (Merge bytes) = 4 + length bytes
 written_value_size Tombstone = 0
 
--- A row is written in so many bytes where its key shares the given number of bytes with an earlier key.
+-- The number of bytes in which a row is written if its key shares `prefix` bytes with an earlier key.
 abbrev pub encoded_size : Row → ℕ → ℕ
 encoded_size r prefix = 13 + (length r.key - prefix) + stamp_size r.created + stamp_size r.expires + written_value_size r.content
 
--- Sums of sizes stop at the greatest number of 64 bits.
+-- A sum of sizes, or the greatest unsigned 64-bit number if the sum is greater.
 abbrev pub saturated : ℕ → ℕ
 saturated size = min size (2 ^ 64 - 1)
 
@@ -34,16 +34,17 @@ table_size rows = saturated (sum_by estimated_size rows)
 abbrev pub block_bytes : ℕ
 block_bytes = 4096
 
--- A block has a first key, and an offset, which is the size of the rows before it.
+-- A block has a first key and an offset. The offset is the size of the rows before the block.
 pub record Block : Type 0 where
   pub first_key : List ℕ
   pub offset : ℕ  -- in bytes
 
--- A block ends with the row with which it reaches block_bytes, and the next one begins empty.
+-- The bytes in the open block after a row. A block ends with the row with which it reaches block_bytes, and
+-- the next block begins empty.
 abbrev pub or_full : ℕ → ℕ
 or_full filled = if nat_le block_bytes filled then 0 else filled
 
--- A row opens a block where nothing stands in it yet.
+-- Opens a block at a row if the open block is empty. The later blocks follow.
 abbrev pub block_at : ℕ → ℕ → Row → List Block → List Block
 block_at offset filled r later = if filled == 0 then record { first_key = r.key; offset = offset } ∷ later else later
 

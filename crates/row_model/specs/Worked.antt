@@ -1,5 +1,5 @@
--- Small examples show the definitions: what is made of some rows and how they read, how rows are cut into tables and
--- blocks, and how keys are cut into ranges.
+-- Small examples of the definitions: what a job makes of some rows and how they read, how rows are cut into
+-- tables and blocks, and how keys are cut into ranges.
 use Rattle.std.specs.Prelude.{◌≡◌, ℕ, ◌^◌, ℤ, pos, Bool, true, false, List, [], ◌∷◌, map, length, Option, Some, None, codes}
 use Rattle.row_model.specs.Rows.{Row, Content, Value, Merge, Tombstone}
 use Rattle.row_model.specs.Fold.{Merged}
@@ -14,15 +14,15 @@ use Rattle.row_model.specs.Sizes.{Block, blocks, encoded_size, estimated_size, t
 use Rattle.row_model.specs.Tables.{cut_tables}
 use Rattle.row_model.specs.Plan.{Anchor, select_boundaries, sample_anchors}
 
--- A row has the key "a".
+-- A row with the key "a" and no creation stamp.
 abbrev pub a_row : Content → ℕ → Option ℤ → Row
 a_row content seq expires = record { key = codes "a"; content = content; seq = seq; created = None; expires = expires }
 
--- These settings have the floor as their cut.
+-- Settings whose floor is equal to the cut.
 abbrev pub settings : ℕ → ℤ → Bool → Settings
 settings cut tick last_run = record { floor = cut; tick = tick; last_run = last_run; cut = cut }
 
--- These settings may have a cut below the floor, so that more versions are kept.
+-- Settings whose cut may be below the floor, so that more versions are kept. The job writes the last run.
 abbrev pub settings_under : ℕ → ℕ → Settings
 settings_under floor cut = record { floor = floor; tick = pos 0; last_run = true; cut = cut }
 
@@ -34,7 +34,7 @@ versions = a_row Tombstone 4 None ∷ a_row (Value (codes "v1")) 2 None ∷ a_ro
 abbrev pub kept_versions : List Row
 kept_versions = a_row Tombstone 4 None ∷ a_row (Value (codes "v1")) 2 None ∷ []
 
--- Under the cut 3 the oldest version goes, and reads from the cut on answer as before.
+-- With the cut 3 the oldest version goes. The reads at 3 and at 4 answer as before.
 pub record OldVersionsGo : Type 0 where
   pub made : job_rows append (settings 3 (pos 0) true) versions ≡ record { rows = kept_versions; whole = true }
   pub made_above_a_run : kept_rows (settings 3 (pos 0) false) versions ≡ kept_versions
@@ -43,12 +43,14 @@ pub record OldVersionsGo : Type 0 where
   pub read_at_4 : read append (codes "a") 4 (pos 0) versions ≡ None
   pub kept_at_4 : read append (codes "a") 4 (pos 0) kept_versions ≡ None
 
--- A tombstone goes in the last run alone, and only where nothing older than it is kept.
+-- With the cut 4 only the tombstone is left above another run. In the last run the tombstone goes too,
+-- since nothing older than it is kept.
 pub record OldTombstonesGo : Type 0 where
   pub above_a_run : kept_rows (settings 4 (pos 0) false) versions ≡ a_row Tombstone 4 None ∷ []
   pub in_the_last_run : kept_rows (settings 4 (pos 0) true) versions ≡ []
 
--- Under the floor 4 nothing is left where the cut is 4 too. Where it is 2, what was read from 2 on is kept.
+-- With the floor 4 and the cut 4 nothing is left. With the floor 4 and the cut 2, the read at 2 answers as
+-- before.
 pub record TheCutKeepsVersions : Type 0 where
   pub at_the_floor : job_rows append (settings_under 4 4) versions ≡ record { rows = []; whole = true }
   pub below_the_floor : job_rows append (settings_under 4 2) versions ≡ record { rows = kept_versions; whole = true }
@@ -60,7 +62,8 @@ pub record TheCutKeepsVersions : Type 0 where
 abbrev pub two_stamps : List Row
 two_stamps = a_row (Merge (codes "z")) 3 None ∷ a_row (Merge (codes "y")) 2 None ∷ a_row (Merge (codes "x")) 1 (Some (pos 10)) ∷ []
 
--- Operands of one stamp are folded, oldest first; an operand of another stamp stays apart and expires by itself.
+-- Operands with the same stamp are folded, oldest first. An operand with another stamp stays apart and
+-- expires by itself.
 pub record StampsStayApart : Type 0 where
   pub made : job_rows append (settings 5 (pos 0) true) two_stamps ≡ record { rows = a_row (Merge (codes "yz")) 3 None ∷ a_row (Merge (codes "x")) 1 (Some (pos 10)) ∷ []; whole = true }
   pub read_before : read append (codes "a") 5 (pos 5) two_stamps ≡ Some (Merged (codes "xyz"))
@@ -69,8 +72,9 @@ pub record StampsStayApart : Type 0 where
 abbrev pub expiring : List Row
 expiring = a_row (Merge (codes "m")) 2 (Some (pos 10)) ∷ a_row (Value (codes "v")) 1 (Some (pos 10)) ∷ []
 
--- An operand is folded onto a value of its stamp before either is dropped; the value that they make is expired. In the
--- last run nothing is left of it, and above another run a tombstone, which hides what is older.
+-- An operand is folded onto a value with the same expiry before either is dropped, and the resulting value
+-- is expired. In the last run nothing is left of it. Above another run a tombstone is left, which hides
+-- older rows.
 pub record FoldedAndThenExpired : Type 0 where
   pub folded : folded_rows append 5 expiring ≡ Some (a_row (Value (codes "vm")) 2 (Some (pos 10)) ∷ [])
   pub made : job_rows append (settings 5 (pos 10) true) expiring ≡ record { rows = []; whole = true }
@@ -80,7 +84,7 @@ pub record FoldedAndThenExpired : Type 0 where
 abbrev pub three_operands : List Row
 three_operands = a_row (Merge (codes "3")) 3 None ∷ a_row (Merge (codes "2")) 2 None ∷ a_row (Merge (codes "1")) 1 None ∷ []
 
--- Operands above the cut are not folded, also where they are at or below the floor.
+-- Operands above the cut are not folded, even if they are at or below the floor.
 pub record TheCutKeepsOperands : Type 0 where
   pub at_3 : folded_rows append 3 three_operands ≡ Some (a_row (Merge (codes "123")) 3 None ∷ [])
   pub at_2 : folded_rows append 2 three_operands ≡ Some (a_row (Merge (codes "3")) 3 None ∷ a_row (Merge (codes "12")) 2 None ∷ [])
@@ -92,19 +96,20 @@ pub record TheCutKeepsOperands : Type 0 where
 abbrev pub sized : Content → Option ℤ → Row
 sized content created = record { key = codes "hello"; content = content; seq = 0; created = created; expires = None }
 
--- Rows are written with 0, 2 and 4 bytes of their key shared.
+-- The sizes of rows written with 0, 2 and 4 shared bytes of their key, and the estimated sizes of rows with
+-- and without a creation stamp.
 pub record RowsHaveSizes : Type 0 where
   pub tombstone : map (encoded_size (sized Tombstone None)) (0 ∷ 2 ∷ 4 ∷ []) ≡ 18 ∷ 16 ∷ 14 ∷ []
   pub value : map (encoded_size (sized (Value (codes "val")) None)) (0 ∷ 2 ∷ 4 ∷ []) ≡ 25 ∷ 23 ∷ 21 ∷ []
   pub estimated : estimated_size (sized (Value (codes "val")) None) ≡ 16
   pub stamped : estimated_size (sized (Value (codes "val")) (Some (pos 7))) ≡ 24
 
--- These are five rows of ten bytes each.
+-- Five rows of ten bytes each.
 abbrev pub five_versions : List Row
 five_versions = a_row (Value (codes "5")) 5 None ∷ a_row (Value (codes "4")) 4 None ∷ a_row (Value (codes "3")) 3 None ∷ a_row (Value (codes "2")) 2 None ∷ a_row (Value (codes "1")) 1 None ∷ []
 
--- The five rows make one block. Cut at 15 bytes they make tables of two, two and one rows: a table ends with the row
--- with which it exceeds the size.
+-- The five rows make one block. Cut at 15 bytes, they make tables of two, two and one rows: a table ends
+-- with the row with which it exceeds the size.
 pub record TablesAreCut : Type 0 where
   pub bytes : table_size five_versions ≡ 50
   pub one_block : blocks five_versions ≡ record { first_key = codes "a"; offset = 0 } ∷ []
@@ -127,8 +132,9 @@ between m n = record { from = Included (key m); to = Excluded (key n) }
 abbrev pub from : ℕ → Range
 from n = record { from = Included (key n); to = Unbounded }
 
--- Cuts come where one more share of all bytes is reached, and never inside a key, so that a range may be small after a
--- large one. There is one range where all bytes are no more than the least share. Sums of bytes stop at 2^64 - 1.
+-- A cut comes where the earlier bytes reach the next threshold, at most once at each key, so a range after
+-- a large one may be small. There is one range if all bytes are at most the least share. Sums of bytes stop
+-- at 2^64 - 1.
 pub record KeysAreCut : Type 0 where
   pub even : select_boundaries (anchor 0 100 ∷ anchor 10 100 ∷ anchor 20 100 ∷ anchor 30 100 ∷ []) 4 1 ≡ below 10 ∷ between 10 20 ∷ between 20 30 ∷ from 30 ∷ []
   pub one_key_thrice : select_boundaries (anchor 0 400 ∷ anchor 0 400 ∷ anchor 0 400 ∷ anchor 10 400 ∷ anchor 20 400 ∷ []) 4 1 ≡ below 10 ∷ between 10 20 ∷ from 20 ∷ []
@@ -143,8 +149,8 @@ block n offset = record { first_key = key n; offset = offset }
 abbrev pub four_blocks : List Block
 four_blocks = block 0 0 ∷ block 10 100 ∷ block 20 200 ∷ block 30 300 ∷ []
 
--- An anchor has a block's first key and its bytes. Anchors outside the range are left out, and blocks are grouped where
--- there may be fewer anchors than blocks.
+-- An anchor has the first key and the bytes of its blocks. Anchors outside the range are left out. Blocks
+-- are grouped if there may be fewer anchors than blocks.
 pub record AnchorsAreSampled : Type 0 where
   pub in_a_range : sample_anchors four_blocks 400 4 (between 10 30) ≡ anchor 10 100 ∷ anchor 20 100 ∷ []
   pub in_groups : sample_anchors four_blocks 450 2 all_keys ≡ anchor 0 200 ∷ anchor 20 250 ∷ []

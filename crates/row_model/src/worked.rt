@@ -1,55 +1,62 @@
-//! Small examples show the definitions: each call has an empty body, and its clause gives values of definitions. The
-//! examples stand in specs/Worked.antt.
+//! Small worked examples of the definitions. Each function has an empty body, and its clause states
+//! values of definitions. The examples are in specs/Worked.antt.
 
 ghost use Rattle.row_model.specs.Worked.{AnchorsAreSampled, FoldedAndThenExpired, KeysAreCut, OldTombstonesGo, OldVersionsGo, RowsHaveSizes, StampsStayApart, TablesAreCut, TheCutKeepsOperands, TheCutKeepsVersions};
 
-/// A tombstone stands above two values. A compaction whose cut is between it and them drops the older value, and no
-/// read from the cut on changes.
+/// A tombstone at sequence 4 is above values at 2 and 1. With the cut 3, a job drops the value at
+/// 1, and the reads at 3 and at 4 do not change.
 pub fn old_versions_go()
     ensures { OldVersionsGo }
 {}
 
-/// A tombstone at the old end of a key goes where the last run is written, and stays where it is not.
+/// The only row left of a key is a tombstone. Retention drops it if the job writes the last run,
+/// and keeps it if not.
 pub fn old_tombstones_go()
     ensures { OldTombstonesGo }
 {}
 
-/// Versions that a read from the cut on can see stay, also where the floor is above them.
+/// A job that writes the last run drops all rows of a deleted key if its cut is the floor 4. If
+/// its cut is 2, it keeps the tombstone and the value that a read at 2 needs.
 pub fn the_cut_keeps_versions()
     ensures { TheCutKeepsVersions }
 {}
 
-/// Operands of one stamp become one operand; one of another stamp stays apart.
+/// A job folds two operands without an expiry into one. It leaves an older operand with an expiry
+/// apart, so that operand expires by itself.
 pub fn stamps_stay_apart()
     ensures { StampsStayApart }
 {}
 
-/// Operands are folded first, and rows that are expired are dropped after that.
+/// A job folds an operand onto a value with the same expiry. Only then does it drop the result,
+/// which is expired.
 pub fn folded_and_then_expired()
     ensures { FoldedAndThenExpired }
 {}
 
-/// Operands above the cut stay as they are, also at or below the floor.
+/// A job does not fold operands above the cut, even if they are at or below the floor.
 pub fn the_cut_keeps_operands()
     ensures { TheCutKeepsOperands }
 {}
 
-/// A tombstone and a value have sizes, with and without bytes of the key that are shared.
+/// Sizes in bytes of a tombstone and of a value: as written, with and without a shared prefix of
+/// the key, and as estimated.
 pub fn rows_have_sizes()
     ensures { RowsHaveSizes }
 {}
 
-/// Five rows have a size, make blocks, and are cut into tables.
+/// Five rows, with their size in bytes as a table, their blocks, and the tables that they are cut
+/// into.
 pub fn tables_are_cut()
     ensures { TablesAreCut }
 {}
 
-/// Keys are cut into ranges where one more share of all bytes is reached, and never inside a key.
+/// The ranges that six lists of anchors are cut into. A cut comes where the bytes of the earlier
+/// anchors reach the next threshold, and each key is cut at most once.
 pub fn keys_are_cut()
     ensures { KeysAreCut }
 {}
 
-/// A table's blocks give the anchors by which keys are cut.
+/// The anchors that a table's blocks give, within a range of keys and in groups of blocks.
 pub fn anchors_are_sampled()
     ensures { AnchorsAreSampled }
 {}

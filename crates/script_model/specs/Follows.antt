@@ -1,4 +1,5 @@
--- A fleet that runs a script gives these replies and is left with this store: each line's step leads to the next line.
+-- How a fleet runs a script: with these replies, and with this store at the end. Each line begins
+-- in the state that the line before it left.
 use Rattle.std.specs.Prelude.{◌≡◌, ℕ, ◌+◌, Bool, true, false, List, [], ◌∷◌}
 use Rattle.std.specs.List.{concat}
 use Rattle.fleet_model.specs.Store.{Store}
@@ -7,25 +8,28 @@ use Rattle.script_model.specs.States.{Inputs, State, FleetOptions, fresh_state}
 use Rattle.script_model.specs.LineSteps.{OneCourse}
 use Rattle.script_model.specs.Settles.{are_live, Rounds}
 
--- A settle line is done in rounds where its parties are live, and else refused in one course.
+-- How a settle line is run: in rounds if both its parties are live, and otherwise by one course,
+-- which refuses it.
 abbrev pub SettleStep : Bool → Inputs → ℕ → State → ℕ → ℕ → ℕ → List ℕ → State → Type 0
 SettleStep true inputs number old coordinator worker rounds answer new = Rounds inputs number coordinator worker rounds 0 old answer new
 SettleStep false inputs number old coordinator worker rounds answer new = OneCourse inputs number old (Settle coordinator worker rounds) answer new
 
--- A line, numbered from 1, has its reply and the state after it by one course. Only a settle line may have several.
+-- One line takes the old state to the new one with this reply. Lines are numbered from 1. A settle
+-- line may run several courses, and each other line runs one.
 abbrev pub LineStep : Inputs → ℕ → State → Line → List ℕ → State → Type 0
 LineStep inputs number old (Settle coordinator worker rounds) answer new = SettleStep (are_live coordinator worker old) inputs number old coordinator worker rounds answer new
 LineStep inputs number old line answer new = OneCourse inputs number old line answer new
 
--- The lines are done one after the other, each with its reply, and their numbers count from the one given.
+-- The lines take the old state to the new one, each with its reply. `number` is the number of the
+-- first line.
 abbrev pub ScriptRun : Inputs → ℕ → State → List Line → List (List ℕ) → State → Type 0
 ScriptRun inputs number old [] [] new = new ≡ old
 ScriptRun inputs number old (line ∷ lines) (answer ∷ answers) new = (mid : State) × LineStep inputs number old line answer mid × ScriptRun inputs (number + 1) mid lines answers new
 ScriptRun inputs number old [] (answer ∷ answers) new = ⊥
 ScriptRun inputs number old (line ∷ lines) [] new = ⊥
 
--- The text is a script, and a fresh fleet that runs it gives one reply for each line and is left with this store and
--- its history.
+-- The text is a script of the grammar. A fresh fleet that runs it gives one reply for each line,
+-- and ends with this store, which includes the store's history.
 pub record Follows (grammar : Grammar) (inputs : Inputs) (options : FleetOptions) (text : List ℕ) (store : Store) (written : List ℕ) : Type 0 where
   pub lines : List Line
   pub answers : List (List ℕ)

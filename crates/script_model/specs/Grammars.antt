@@ -1,5 +1,6 @@
--- A script may have all lines, or only those of one job after the other on the root tree: flushes and reads of values
--- and tombstones without stamps, one coordinator, one worker, and jobs of one flush each.
+-- Two grammars. The full grammar has all lines. The job grammar is for jobs of one flush each on
+-- the root tree: it has flushes and reads of values and tombstones without stamps, one coordinator
+-- and one worker.
 use Rattle.std.specs.Prelude.{◌≡◌, false, List, [], ◌∷◌, None, Bool, true, ⊤}
 use Rattle.std.specs.List.{AllByRecursion, list_any}
 use Rattle.row_model.specs.Rows.{Row, is_operand}
@@ -11,22 +12,24 @@ abbrev pub is_options : Line → Bool
 is_options (Options timeout concurrent slots ranges table_size moves retention) = true
 is_options _ = false
 
--- Every kind of line that is defined here may stand. Options may stand as the first line only.
+-- The grammar of all lines that are in bounds. Only the first line may set the options.
 abbrev pub full_grammar : Grammar
 full_grammar before line = IsInBounds line × (is_options line ≡ true → before ≡ [])
 
--- The row is a value or a tombstone, and has no stamp.
+-- The row is a value or a tombstone, and has no stamps.
 pub record IsPlain (r : Row) : Type 0 where
   pub no_operand : is_operand r ≡ false
   pub created : r.created ≡ None
   pub expires : r.expires ≡ None
 
--- There is one source, and it is a flush.
+-- The sources are one flush.
 abbrev pub IsOneFlush : List NodeName → Type 0
 IsOneFlush (L0 name ∷ []) = ⊤
 IsOneFlush _ = ⊥
 
--- The line names no segment but the root, no coordinator but 1, and no worker but 1.
+-- The line may be in a script of the job grammar: it names no segment except the root, no
+-- coordinator except 1, no worker except 1, no release, only plain rows, and only jobs of one
+-- flush.
 abbrev pub IsOfOneJob : Line → Type 0
 IsOfOneJob (StartCoordinator n) = n ≡ 1
 IsOfOneJob (StartWorker n release) = (n ≡ 1) × (release ≡ None)
@@ -49,12 +52,13 @@ abbrev pub starts_worker : Line → Bool
 starts_worker (StartWorker n release) = true
 starts_worker _ = false
 
--- No party is started twice.
+-- No earlier line starts the coordinator or worker that this line starts.
 abbrev pub IsNoSecondStart : List Line → Line → Type 0
 IsNoSecondStart before (StartCoordinator n) = list_any starts_coordinator before ≡ false
 IsNoSecondStart before (StartWorker n release) = list_any starts_worker before ≡ false
 IsNoSecondStart before _ = ⊤
 
--- Lines of the root, of one coordinator and of one worker may stand, and each party is started once.
+-- The grammar of lines in bounds that name the root, one coordinator and one worker. Each party may
+-- be started once.
 abbrev pub job_grammar : Grammar
 job_grammar before line = IsInBounds line × IsOfOneJob line × IsNoSecondStart before line

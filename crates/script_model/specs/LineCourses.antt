@@ -1,4 +1,4 @@
--- Each line has its course.
+-- The course of each line of a script.
 use Rattle.std.specs.Prelude.{ℕ, ◌-◌, List, Option, Some, None, slice_get, find, ◌==◌}
 use Rattle.row_model.specs.Ranges.{Range}
 use Rattle.fleet_model.specs.Jobs.{number_of}
@@ -16,12 +16,13 @@ use Rattle.script_model.specs.PollLines.{poll_line, commit_line}
 use Rattle.script_model.specs.WorkLines.{claim_line, heartbeat_line, output_line, finish_line, stop_worker}
 use Rattle.script_model.specs.Sweeps.{sweep_line}
 
--- A number that is left out is replaced by the one given.
+-- The number, or `otherwise` if there is none.
 abbrev pub number_or : ℕ → Option ℕ → ℕ
 number_or otherwise None = otherwise
 number_or otherwise (Some n) = n
 
--- A line may set the options, the moment, or the fault that waits.
+-- The state in which the line's course runs. Options, Clock and SetFault set the options, the
+-- moment or the fault that waits. Other lines change nothing here.
 abbrev pub prepared : Line → State → State
 prepared (Options timeout concurrent slots ranges table_size moves retention) s =
     record s { options = record { timeout = timeout; concurrent = concurrent; slots = slots; ranges = ranges; table_size = table_size; moves = moves; retention = number_or 0 retention } }
@@ -29,20 +30,23 @@ prepared (Clock moment) s = record s { moment = moment }
 prepared (SetFault k stands) s = record s { fault = Some (record { k = k; stands = stands }) }
 prepared _ s = s
 
--- A script names a job by the number of its id, which no two jobs share.
+-- The attempt at the job of this number. A script names a job by the number of its id, which no two
+-- jobs share.
 abbrev pub attempt_numbered : ℕ → List Attempt → Option Attempt
 attempt_numbered number attempts = find (λ a. number == number_of a.job) attempts
 
--- This worker is live and runs this attempt at the job.
+-- The live worker of this number, with the attempt that it runs at the job of this number.
 abbrev pub job_at : State → (worker job : ℕ) → Option (LiveWorker × Attempt)
 job_at s worker job = if_some (worker_with worker s.parties) None (λ w. if_some (attempt_numbered job w.attempts) None (λ a. Some (w, a)))
 
--- This live worker runs this attempt at the job, which has this range, counted from 1.
+-- The live worker of this number, the attempt that it runs at the job of this number, and the
+-- attempt's range at this place, counted from 1.
 abbrev pub range_at : State → (worker job place : ℕ) → Option (LiveWorker × Attempt × (Range × List ℕ))
 range_at s worker job place = if_some (job_at s worker job) None (λ found. if_some (slice_get found.1.context.ranges (place - 1)) None (λ range. Some (found.0, found.1, range)))
 
--- A line has this course. A message says that the operator refuses at a line that writes tables. A settle line has this
--- course where one of its parties is not live, and else it is a run of other lines' courses.
+-- The course of a line. The message is given if the operator refuses at a line that writes tables.
+-- A settle line has this course only if one of its parties is not live; otherwise it is a run of
+-- other lines' courses.
 unfoldable pub course_of : Inputs → Line → Option (List ℕ) → State → LineCourse
 course_of inputs (Options timeout concurrent slots ranges table_size moves retention) refusal s = only_replies s ok
 course_of inputs (Clock moment) refusal s = only_replies s ok

@@ -1,4 +1,4 @@
--- A line may have these courses, and is done by one of them.
+-- Which courses a line may have. One of them runs.
 use Rattle.std.specs.Prelude.{◌≡◌, ℕ, List, Option, None}
 use Rattle.script_model.specs.Script.{Line, Output, FinishJob}
 use Rattle.script_model.specs.States.{Inputs, State}
@@ -6,19 +6,21 @@ use Rattle.script_model.specs.LineRuns.{LineCourse, run_line}
 use Rattle.script_model.specs.LineCourses.{prepared, course_of, job_at, range_at}
 use Rattle.script_model.specs.Refusals.{OutputMay, FinishMay}
 
--- The operator may refuse with a message, or refuse nothing. Only an output and a finish leave that choice.
+-- The line may have this refusal of the operator, or none. Only an output and a finish leave a
+-- choice.
 abbrev pub MayRefuse : Inputs → Line → State → Option (List ℕ) → Type 0
 MayRefuse inputs (Output n job place rows) s refusal = OutputMay inputs s rows (range_at s n job place) refusal
 MayRefuse inputs (FinishJob n job) s refusal = FinishMay inputs s (job_at s n job) refusal
 MayRefuse inputs line s refusal = refusal ≡ None
 
--- A line may have this course.
+-- The line may have this course.
 pub record Does (inputs : Inputs) (line : Line) (s : State) (course : LineCourse) : Type 0 where
   pub refusal : Option (List ℕ)
   pub may : MayRefuse inputs line s refusal
   pub is : course ≡ course_of inputs line refusal s
 
--- A line, numbered from 1, is run by one of its courses, which gives its reply and the state after it.
+-- One course takes the old state to the new one and gives the reply. It is a course that the line
+-- may have. `number` is the line's number, from 1.
 pub record OneCourse (inputs : Inputs) (number : ℕ) (old : State) (line : Line) (answer : List ℕ) (new : State) : Type 0 where
   pub course : LineCourse
   pub does : Does inputs line (prepared line old) course

@@ -1,4 +1,4 @@
--- With these lines a coordinator polls, or only commits.
+-- The lines by which a coordinator polls, or only commits.
 use Rattle.std.specs.Prelude.{ℕ, Bool, true, false, List}
 use Rattle.fleet_model.specs.History.{Coordinator}
 use Rattle.fleet_model.specs.Parties.{LiveCoordinator, coordinator_with, without_coordinator}
@@ -8,7 +8,8 @@ use Rattle.script_model.specs.Replies.{poll_reply, commit_reply}
 use Rattle.script_model.specs.LineRuns.{LineCourse, no_such_party, if_some, step_line, line_end}
 use Rattle.script_model.specs.States.{Inputs, State}
 
--- A poll goes by its coordinator's epoch, the options and the moment.
+-- What a coordinator's poll is asked with: its epoch, the fleet's options and scheduler, and the
+-- moment.
 abbrev pub poll_ask : Inputs → State → LiveCoordinator → Bool → PollAsk
 poll_ask inputs s c commits_only = record {
   epoch = c.epoch;
@@ -18,16 +19,17 @@ poll_ask inputs s c commits_only = record {
   commits_only = commits_only;
 }
 
--- A coordinator polls. It is no longer live where it is fenced, or where a call of it is struck.
+-- A line by which a coordinator polls. It stays live only if the poll ends with a report. It does
+-- not if it is fenced or a fault strikes a call.
 abbrev pub polls : Bool → (PollState → List ℕ) → Inputs → ℕ → State → LineCourse
 polls commits_only told inputs n s = if_some (coordinator_with n s.parties) (no_such_party s) (λ c.
     let gone = without_coordinator n s.parties in
     step_line (Coordinator n) (poll (poll_ask inputs s c commits_only)) (line_end told (λ reached. s.parties) gone) gone)
 
--- A coordinator takes all steps of a poll.
+-- The line of a whole poll.
 abbrev pub poll_line : Inputs → ℕ → State → LineCourse
 poll_line = polls false poll_reply
 
--- A coordinator only commits.
+-- The line of a poll that only commits.
 abbrev pub commit_line : Inputs → ℕ → State → LineCourse
 commit_line = polls true commit_reply

@@ -1,5 +1,5 @@
--- A settle line runs a fleet until nothing is left to do, in rounds of a poll, a claim and finishes. Each of these is
--- done as a line of its own would do it.
+-- A settle line runs a fleet until nothing is left to do. It goes in rounds of a poll, a claim and
+-- finishes. Each of these steps does what a line of its own would do.
 use Rattle.std.specs.Prelude.{◌≡◌, ℕ, zero, suc, ◌+◌, Bool, true, false, ◌&&◌, nat_eq, List, [], ◌∷◌, map, Option, Some, is_some, codes, decimal}
 use Rattle.std.specs.List.{list_any, starts_with}
 use Rattle.fleet_model.specs.Jobs.{number_of, is_active}
@@ -14,65 +14,71 @@ use Rattle.script_model.specs.States.{Inputs, State}
 use Rattle.script_model.specs.LineRuns.{if_some}
 use Rattle.script_model.specs.LineSteps.{OneCourse}
 
--- A reply that begins with ok refuses nothing.
+-- The reply begins with ok, so it is not a refusal.
 abbrev pub is_ok : List ℕ → Bool
 is_ok answer = starts_with nat_eq answer (codes "ok")
 
--- A settle line asks that its coordinator and its worker are live.
+-- The coordinator and the worker of these numbers are both live.
 abbrev pub are_live : ℕ → ℕ → State → Bool
 are_live coordinator worker s = is_some (coordinator_with coordinator s.parties) && is_some (worker_with worker s.parties)
 
--- A stored job is active.
+-- Some stored job is active.
 abbrev pub has_active : State → Bool
 has_active s = list_any is_active (stored_jobs s.store)
 
--- The put of a poll names new jobs.
+-- The event is a put of the records by a poll that added at least one job.
 abbrev pub is_adding : Option Event → Bool
 is_adding (Some (PutRecords (Polled change))) = is_nonempty change.added
 is_adding _ = false
 
--- The last thing that the coordinator did was a put of the records that names new jobs. So the poll that led to this
--- state added a job.
+-- The coordinator's last call put the records and added a job. If its last poll led to this state,
+-- that poll added a job.
 abbrev pub has_added : ℕ → State → Bool
 has_added coordinator s = is_adding (last_event (Coordinator coordinator) s.store.history)
 
--- The worker runs the jobs of these numbers, in the order of their ids.
+-- The numbers of the jobs that the worker runs, in the order of their ids. There are none if no
+-- worker has this number.
 abbrev pub jobs_run : ℕ → State → List ℕ
 jobs_run worker s = if_some (worker_with worker s.parties) [] (λ w. map number_of (attempt_jobs w.attempts))
 
--- The reply of a line that settled names the round.
+-- The reply of a settle line that settled in this round.
 abbrev pub settled : ℕ → List ℕ
 settled round = reply (codes "ok" ∷ codes "settled" ∷ decimal round ∷ [])
 
--- The reply of a line that took all its rounds names their number.
+-- The reply of a settle line that took all its rounds without settling.
 abbrev pub all_taken : ℕ → List ℕ
 all_taken rounds = reply (codes "ok" ∷ codes "rounds" ∷ decimal rounds ∷ [])
 
--- A refusal of a step is the line's reply and ends it. After any other reply the rest follows.
+-- What follows a step of a settle line. If the step's reply is ok, the rest of the line follows.
+-- Otherwise the step's reply is that of the line, and the state after the step is the state after
+-- the line.
 abbrev pub EndsOr : Bool → List ℕ → State → List ℕ → State → Type 0 → Type 0
 EndsOr true told behind answer new rest = rest
 EndsOr false told behind answer new rest = (answer ≡ told) × (new ≡ behind)
 
--- A step does what a line of its own would do, and the rest follows from the state after it.
+-- One step of a settle line: it does what this line alone would do, and `Rest` goes on from the
+-- state after it.
 pub record Step (inputs : Inputs) (number : ℕ) (line : Line) (old : State) (answer : List ℕ) (new : State) (Rest : State → Type 0) : Type 0 where
   pub told : List ℕ
   pub behind : State
   pub does : OneCourse inputs number old line told behind
   pub rest : EndsOr (is_ok told) told behind answer new (Rest behind)
 
--- The jobs are finished one after the other.
+-- The worker finishes these jobs in order. Then `Rest` goes on.
 abbrev pub Finishes : Inputs → ℕ → ℕ → List ℕ → State → List ℕ → State → (State → Type 0) → Type 0
 Finishes inputs number worker [] s answer new Rest = Rest s
 Finishes inputs number worker (job ∷ jobs) s answer new Rest = Step inputs number (FinishJob worker job) s answer new (λ behind. Finishes inputs number worker jobs behind answer new Rest)
 
--- After the poll of a round the worker claims jobs and finishes what it runs, where a job is active. Where none is, the
--- line is settled if the poll added no job, and else the next round follows.
+-- What follows the poll of a round. If a stored job is active, the worker claims jobs and finishes
+-- all that it runs, and the next round follows. If none is active but the poll added a job, the
+-- next round follows. Otherwise the line has settled.
 abbrev pub BehindPoll : (active added : Bool) → Inputs → ℕ → ℕ → ℕ → State → List ℕ → State → (State → Type 0) → Type 0
 BehindPoll true added inputs number worker round s answer new Next = Step inputs number (ClaimJobs worker) s answer new (λ claimed. Finishes inputs number worker (jobs_run worker claimed) claimed answer new Next)
 BehindPoll false true inputs number worker round s answer new Next = Next s
 BehindPoll false false inputs number worker round s answer new Next = (answer ≡ settled round) × (new ≡ s)
 
--- The rounds that are left follow those that were taken. Where none is left, the line replies how many were taken.
+-- The rounds of a settle line, where `taken` rounds are over and `left` may follow. If no more may
+-- follow, the reply says how many were taken.
 abbrev pub Rounds : Inputs → ℕ → ℕ → ℕ → (left taken : ℕ) → State → List ℕ → State → Type 0
 Rounds inputs number coordinator worker zero taken s answer new = (answer ≡ all_taken taken) × (new ≡ s)
 Rounds inputs number coordinator worker (suc left) taken s answer new =

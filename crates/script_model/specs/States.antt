@@ -1,4 +1,4 @@
--- Between two lines a fleet has a state.
+-- The state of a fleet between two lines of a script.
 use Rattle.std.specs.Prelude.{ℕ, Bool, [], Option, None}
 use Rattle.row_model.specs.Fold.{Operator}
 use Rattle.fleet_model.specs.Store.{Store, fresh_store}
@@ -6,7 +6,7 @@ use Rattle.fleet_model.specs.Scheduler.{Scheduler}
 use Rattle.fleet_model.specs.Parties.{Parties}
 use Rattle.fleet_model.specs.Exchanges.{Fault}
 
--- A fleet goes by these options.
+-- The options of a fleet.
 pub record FleetOptions : Type 0 where
   pub timeout : ℕ  -- how long a Running job may go without a heartbeat, in milliseconds
   pub concurrent : ℕ  -- bounds the Running jobs and the proposals that a poll takes, together
@@ -16,12 +16,13 @@ pub record FleetOptions : Type 0 where
   pub moves : Bool  -- jobs whose tables lie apart are moved at once
   pub retention : ℕ  -- how long, in milliseconds, what was readable stays so below the floor too
 
--- The merge operator and the scheduler are handed in with a script.
+-- What is given beside a script: the merge operator and the scheduler.
 pub record Inputs : Type 0 where
   pub merge : Operator
   pub scheduler : Scheduler
 
--- A fleet has its options, the moment, its store, the live parties, and the fault that waits.
+-- The state of a fleet: its options, the moment, its store, the live parties, and the fault that
+-- waits, if any.
 pub record State : Type 0 where
   pub options : FleetOptions
   pub moment : ℕ  -- in milliseconds
@@ -29,6 +30,6 @@ pub record State : Type 0 where
   pub parties : Parties
   pub fault : Option Fault
 
--- A fleet begins at moment 0 with a fresh store, and no party is live.
+-- The state of a fresh fleet: the moment is 0, the store is fresh, and no party is live.
 abbrev pub fresh_state : FleetOptions → State
 fresh_state options = record { options = options; moment = 0; store = fresh_store; parties = record { coordinators = []; workers = [] }; fault = None }

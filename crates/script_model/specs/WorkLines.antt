@@ -1,4 +1,5 @@
--- With these lines a worker claims jobs, sends heartbeats, writes tables, finishes jobs and stops.
+-- The lines by which a worker claims jobs, sends heartbeats, writes tables, finishes jobs and
+-- stops.
 use Rattle.std.specs.Prelude.{ℕ, List, [], ◌∷◌, Option, codes}
 use Rattle.row_model.specs.Ranges.{Range}
 use Rattle.fleet_model.specs.History.{Worker, Kill}
@@ -12,47 +13,50 @@ use Rattle.script_model.specs.Replies.{reply, jobs_text, claim_reply, beat_reply
 use Rattle.script_model.specs.LineRuns.{LineCourse, no_such_party, if_some, step_line, noted_line, line_end}
 use Rattle.script_model.specs.States.{Inputs, State, FleetOptions}
 
--- The line is done where its worker is live.
+-- A line of the live worker of this number. If there is none, the reply is nosuchparty.
 abbrev pub at_worker : ℕ → State → (LiveWorker → LineCourse) → LineCourse
 at_worker n s act = if_some (worker_with n s.parties) (no_such_party s) act
 
--- A worker goes by these of the options.
+-- The options of a worker, as the fleet's options set them.
 abbrev pub worker_options : FleetOptions → WorkerOptions
 worker_options o = record { slots = o.slots; most_ranges = o.ranges; table_size = o.table_size; retention = o.retention }
 
--- The worker runs these attempts from then on.
+-- The live parties after the worker's attempts were replaced by these.
 abbrev pub running : LiveWorker → State → List Attempt → Parties
 running w s attempts = with_worker (record w { attempts = attempts }) s.parties
 
--- After a step its worker runs the attempts that the step reports. After a refusal it runs these. Where a call is
--- struck, it is no longer live.
+-- A line that does one step of a worker. After a report the worker runs the attempts that the step
+-- reports. After a refusal it runs the attempts of `refused`. If a fault strikes a call, the worker
+-- is no longer live.
 abbrev pub worker_line : {A : Type 0} → LiveWorker → State → Course (StepEnd A) → (A → List ℕ) → (A → List Attempt) → List Attempt → LineCourse
 worker_line w s step told reported refused = step_line (Worker w.number) step (line_end told (λ report. running w s (reported report)) (running w s refused)) (without_worker w.number s.parties)
 
--- A worker claims jobs.
+-- The worker claims jobs.
 abbrev pub claim_line : ℕ → State → LineCourse
 claim_line n s = at_worker n s (λ w. worker_line w s (claim (worker_options s.options) s.moment w) (λ r. claim_reply r.begun r.stopped) (λ r. r.attempts) w.attempts)
 
--- A worker sends a heartbeat.
+-- The worker sends a heartbeat.
 abbrev pub heartbeat_line : ℕ → State → LineCourse
 heartbeat_line n s = at_worker n s (λ w. worker_line w s (heartbeat s.moment w) (λ r. beat_reply r.beat r.not_owner) (λ r. r.attempts) w.attempts)
 
--- A worker that stops gives its live attempts back.
+-- The worker gives its live attempts back and stops. It is no longer live afterwards.
 abbrev pub stop_worker : ℕ → State → LineCourse
 stop_worker n s = at_worker n s (λ w.
     let others = without_worker n s.parties in
     noted_line (Worker n) (release_all w) (λ end. Kill (Worker n) ∷ []) (line_end (λ jobs. reply (codes "ok" ∷ codes "released" ∷ jobs_text jobs ∷ [])) (λ jobs. others) others) others)
 
--- These attempts are left to the worker without that one.
+-- The worker's attempts without those at the job of this attempt.
 abbrev pub dropped : LiveWorker → Attempt → List Attempt
 dropped w a = without_attempts (a.job ∷ []) w.attempts
 
--- The worker writes the next rows of a range, or the operator refuses with this message.
+-- The worker writes the next rows of a range of its attempt. If a message is given, the operator
+-- refuses with it.
 abbrev pub output_line : Inputs → State → LiveWorker → Attempt → ℕ → Range × List ℕ → ℕ → Option (List ℕ) → LineCourse
 output_line inputs s w a place range rows refusal =
     worker_line w s (output inputs.merge s.store.tables s.moment w a place range rows refusal) (λ r. output_reply r.table) (λ r. r.attempts) (dropped w a)
 
--- The worker writes all that is left of each range and ends the job, or the operator refuses with this message.
+-- The worker writes all rows that are left of each range and ends the job. If a message is given,
+-- the operator refuses with it.
 abbrev pub finish_line : Inputs → State → LiveWorker → Attempt → Option (List ℕ) → LineCourse
 finish_line inputs s w a refusal =
     worker_line w s (finish inputs.merge s.store.tables (worker_options s.options) s.moment w a refusal) (λ r. reply (codes "ok" ∷ ranges_text r.outputs ∷ [])) (λ r. r.attempts) (dropped w a)

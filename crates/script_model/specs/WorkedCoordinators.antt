@@ -1,9 +1,10 @@
--- In these scripts coordinators are fenced, take over, or lose an answer.
+-- Scripts in which coordinators are fenced, take over, or lose an answer.
 use Rattle.std.specs.Prelude.{[], ◌∷◌, codes}
 use Rattle.script_model.specs.Worked.{Conversation}
 
--- A newer coordinator fences an older one, whose poll ends after its first get: a fault that waits for a second get
--- strikes the next poll. The older coordinator is then no longer live.
+-- A newer coordinator fences an older one. The older one's poll ends after its first get and the
+-- coordinator is no longer live. A fault that waits for a second get therefore strikes the next
+-- poll.
 abbrev pub fence : Conversation
 fence =
     (codes "start coordinator 1", codes "ok epoch 1")
@@ -14,7 +15,7 @@ fence =
     ∷ (codes "poll 2", codes "storefault")
     ∷ []
 
--- A finish whose answer is a fault stood all the same, and is committed.
+-- A fault strikes the put of a finish, and the put takes effect. The next poll commits the job.
 abbrev pub standing_put : Conversation
 standing_put =
     (codes "flush 1 - 0 0 61:v:31:1:-:-", codes "ok")
@@ -29,7 +30,8 @@ standing_put =
     ∷ (codes "poll 1", codes "ok freed - done 1 lost - added - dropped - open - moved - drained - bad -")
     ∷ []
 
--- A commit of which only the manifest stood is not done again by the next coordinator: rule 10 finds other tables.
+-- Of a commit only the put of the manifest takes effect. The next coordinator does not commit the
+-- job again: it fails by rule 10, since its source has other tables now.
 abbrev pub takeover : Conversation
 takeover =
     (codes "flush 1 - 0 0 61:v:76:1:-:-", codes "ok")
@@ -53,8 +55,8 @@ takeover =
     ∷ (codes "jobs", codes "ok 2:failed:1:w1:-")
     ∷ []
 
--- A poll commits a job and moves its run by another, and only the manifest stands: after the takeover both jobs fail,
--- and no row is lost.
+-- A poll commits a job and moves its run by another job, but only the put of the manifest takes
+-- effect. After the takeover both jobs fail, and no row is lost.
 abbrev pub moved_run_takeover : Conversation
 moved_run_takeover =
     (codes "options 60000 4 4 4 268435456 1", codes "ok")

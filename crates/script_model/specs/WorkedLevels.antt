@@ -1,4 +1,4 @@
--- These scripts show how a fleet with a levelled scheduler settles.
+-- Scripts and examples of a fleet with a levelled scheduler.
 use Rattle.std.specs.Prelude.{◌≡◌, ℕ, true, false, List, [], ◌∷◌, map, codes, Some, None}
 use Rattle.fleet_model.specs.Nodes.{Run, Node}
 use Rattle.fleet_model.specs.Jobs.{JobSpec}
@@ -8,19 +8,20 @@ use Rattle.fleet_model.specs.Scheduler.{View}
 use Rattle.fleet_model.specs.Levels.{LevelOptions, level_picks, is_within}
 use Rattle.script_model.specs.Worked.{Conversation}
 
--- The newest run may have 20 bytes, the next one 40, and so on; the last one has no limit.
+-- Options of levels: the newest run may have 20 bytes, and each older one twice as many. The last
+-- one has no limit.
 abbrev pub levels : LevelOptions
 levels = record { l0_trigger = 2; base = 20; ratio = 2 }
 
--- A run, given by its id and its size, has one table of that size.
+-- A run of one table. The pair is the run's id, which is also the table's id, and its size.
 abbrev pub run_of_one : ℕ × ℕ → Node
 run_of_one run = record { name = Run run.0; flushes = []; pieces = run.0 ∷ [] }
 
--- The table of a run of one table has this handle.
+-- The handle of the table of a run of one table. The pair is the run's id and its size, in bytes.
 abbrev pub handle_of_one : ℕ × ℕ → Handle
 handle_of_one run = record { id = run.0; first_key = codes "a"; last_key = codes "a"; last_seq = 1; rows = 1; size = run.1; blocks = [] }
 
--- A scheduler is shown these runs of the root, newest first, and no jobs.
+-- A view of these runs of the root, newest first, and of no jobs.
 abbrev pub view_of_runs : List (ℕ × ℕ) → View
 view_of_runs runs = record {
   manifest = record fresh_store.manifest { trees = record { prefix = []; tree = map run_of_one runs; last_seq = None; watermark = None } ∷ [] };
@@ -30,19 +31,20 @@ view_of_runs runs = record {
   handles = map handle_of_one runs;
 }
 
--- A job takes one run into the next.
+-- The job that compacts a run and the next one into the next one.
 abbrev pub pair_job : ℕ → ℕ → JobSpec
 pair_job run next = record { segment = []; sources = Run run ∷ Run next ∷ []; destination = Some next }
 
--- Two of these runs are above their sizes.
+-- Runs of which two are above their sizes. Each pair is a run's id and its size.
 abbrev pub runs_above : List (ℕ × ℕ)
 runs_above = (3, 50) ∷ (2, 10) ∷ (1, 100) ∷ (0, 5) ∷ []
 
--- Each of these runs is within its size.
+-- Runs that are each within their sizes. Each pair is a run's id and its size.
 abbrev pub runs_within : List (ℕ × ℕ)
 runs_within = (3, 20) ∷ (2, 40) ∷ (1, 80) ∷ (0, 500) ∷ []
 
--- Two of four runs are above their sizes and each goes into the next one; where all are within them nothing is picked.
+-- Two of four runs are above their sizes, and the scheduler picks each of them with the next run.
+-- With one slot it picks the first pair only. If all runs are within their sizes, it picks nothing.
 pub record LevelsArePicked : Type 0 where
   pub pairs : level_picks levels 4 (view_of_runs runs_above) ≡ pair_job 3 2 ∷ pair_job 1 0 ∷ []
   pub one_slot : level_picks levels 1 (view_of_runs runs_above) ≡ pair_job 3 2 ∷ []
@@ -50,8 +52,8 @@ pub record LevelsArePicked : Type 0 where
   pub above : is_within levels (map handle_of_one runs_above) (map run_of_one runs_above) ≡ false
   pub within : is_within levels (map handle_of_one runs_within) (map run_of_one runs_within) ≡ true
 
--- Flushes are compacted until a poll finds nothing to do. A settle line of one round, whose poll adds a job, does not
--- settle, and the next one does.
+-- Flushes are compacted until a poll finds nothing to do. A settle line of one round does not
+-- settle if its poll adds a job. The next settle line settles.
 abbrev pub settled_levels : Conversation
 settled_levels =
     (codes "flush 1 - 0 0 61:v:31:1:-:-", codes "ok")
@@ -74,7 +76,7 @@ settled_levels =
     ∷ (codes "trees", codes "ok -:r1,r0")
     ∷ []
 
--- A round whose poll moves a job at once does not settle, since that poll added a job.
+-- A round whose poll moves a job at once does not settle, since that poll added the job.
 abbrev pub settled_moves : Conversation
 settled_moves =
     (codes "options 60000 4 4 4 268435456 1", codes "ok")
@@ -87,8 +89,8 @@ settled_moves =
     ∷ (codes "trees", codes "ok -:r0")
     ∷ []
 
--- A claim that is struck ends a settle line with storefault, and its worker is no longer live. Once the job is stale, a
--- new worker finishes it in a later settle line.
+-- A fault strikes the claim of a settle line. The reply is storefault, and the worker is no longer
+-- live. Once the job is stale, a later settle line with a new worker finishes it.
 abbrev pub struck_settle : Conversation
 struck_settle =
     (codes "flush 1 - 0 0 61:v:31:1:-:-", codes "ok")

@@ -1,8 +1,9 @@
--- In these scripts workers are killed, are stopped, or come late.
+-- Scripts in which workers are killed, stop, or come late.
 use Rattle.std.specs.Prelude.{[], ◌∷◌, codes}
 use Rattle.script_model.specs.Worked.{Conversation}
 
--- A worker is killed between two versions of a key, and another one writes exactly the versions that are missing.
+-- A worker is killed between two versions of a key. The next worker writes exactly the versions
+-- that are missing.
 abbrev pub cut_inside_a_key : Conversation
 cut_inside_a_key =
     (codes "flush 1 - 0 0 61:v:35:5:-:-,61:v:34:4:-:-,61:v:33:3:-:-,61:v:32:2:-:-,61:v:31:1:-:-", codes "ok")
@@ -25,7 +26,7 @@ cut_inside_a_key =
     ∷ (codes "dump - r0", codes "ok 61:v:35:5:-:-,61:v:34:4:-:-,61:v:33:3:-:-,61:v:32:2:-:-,61:v:31:1:-:-")
     ∷ []
 
--- A worker whose job was claimed by another one may not finish it.
+-- A worker may not finish a job that another worker has claimed since.
 abbrev pub older_attempt : Conversation
 older_attempt =
     (codes "flush 1 - 0 0 61:v:31:1:-:-", codes "ok")
@@ -44,7 +45,8 @@ older_attempt =
     ∷ (codes "poll 1", codes "ok freed - done 1 lost - added - dropped - open - moved - drained - bad -")
     ∷ []
 
--- A job is freed once more than the timeout went by since its heartbeat, and not while exactly the timeout did.
+-- A poll frees a job once more than the timeout has passed since its heartbeat. It does not free
+-- the job when exactly the timeout has passed.
 abbrev pub boundary_of_silence : Conversation
 boundary_of_silence =
     (codes "flush 1 - 0 0 61:v:31:1:-:-", codes "ok")
@@ -62,7 +64,7 @@ boundary_of_silence =
     ∷ (codes "poll 1", codes "ok freed 1 done - lost - added - dropped - open - moved - drained - bad -")
     ∷ []
 
--- A worker that stops gives its job back; a job of a node that is not there fails by rule 4.
+-- A worker that stops gives its job back. A job of a flush that is not in the tree fails by rule 4.
 abbrev pub stopped_worker : Conversation
 stopped_worker =
     (codes "flush 1 - 0 0 61:v:31:1:-:-", codes "ok")

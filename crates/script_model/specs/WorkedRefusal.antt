@@ -1,9 +1,9 @@
--- In this script the operator refuses a finish.
+-- A script in which the operator refuses a finish.
 use Rattle.std.specs.Prelude.{[], ◌∷◌, codes}
 use Rattle.script_model.specs.Worked.{Conversation}
 
--- An operator refuses a fold: the finish is refused with its message, the job waits again under the settings that it
--- has, and a read of the key is refused with that message too.
+-- The operator refuses a fold. The finish is refused with its message, and the job waits again with
+-- the settings that it has. A read of the key is refused with the message too.
 abbrev pub refusing_operator : Conversation
 refusing_operator =
     (codes "flush 1 - 5 0 61:m:21:1:-:-", codes "ok")

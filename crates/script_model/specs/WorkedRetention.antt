@@ -1,10 +1,11 @@
--- These scripts show what stays readable below the floor: what was readable within a stated time, unless a worker knows
--- no cut.
+-- Scripts that show what stays readable below the floor: what was readable within a stated time,
+-- except if a worker of the first release compacts it.
 use Rattle.std.specs.Prelude.{[], ◌∷◌, codes}
 use Rattle.script_model.specs.Worked.{Conversation}
 
--- Within a retention of a second, a compaction keeps what was readable when it began: the older value, below the floor,
--- is still read afterwards. A read below what is kept is refused.
+-- With a retention of one second, a job keeps what was readable during the second before its claim.
+-- The older value, below the floor, can still be read afterwards. A read below the job's cut is
+-- refused.
 abbrev pub kept_by_time : Conversation
 kept_by_time =
     (codes "options 60000 4 4 4 268435456 0 1000", codes "ok")
@@ -26,7 +27,8 @@ kept_by_time =
     ∷ (codes "read - 61 0 0", codes "notretained 1 0")
     ∷ []
 
--- Without a retention the same compaction keeps what is read from the floor on, and a read below the floor is refused.
+-- Without a retention, a job keeps what reads see from the floor on. Reads below the floor are
+-- refused after its commit.
 abbrev pub kept_by_floor : Conversation
 kept_by_floor =
     (codes "options 60000 4 4 4 268435456 0", codes "ok")
@@ -48,8 +50,8 @@ kept_by_floor =
     ∷ (codes "read - 61 0 0", codes "notretained 2 0")
     ∷ []
 
--- A worker of the first release publishes a context without a cut. A worker of the second one goes on under the floor
--- as its cut, so the older value goes.
+-- A worker of the first release publishes a context without a cut. A worker of the second release
+-- goes on with the floor as the cut, so the older value is dropped.
 abbrev pub job_without_cut : Conversation
 job_without_cut =
     (codes "options 60000 4 4 4 268435456 0 1000", codes "ok")
@@ -75,8 +77,8 @@ job_without_cut =
     ∷ (codes "read - 61 1 0", codes "notretained 2 0")
     ∷ []
 
--- A worker of the first release takes no job whose context has a cut. One of the second release does, and keeps to that
--- cut.
+-- A worker of the first release takes no job whose context has a cut. A worker of the second
+-- release takes it and keeps that cut.
 abbrev pub job_with_cut : Conversation
 job_with_cut =
     (codes "options 60000 4 4 4 268435456 0 1000", codes "ok")
@@ -102,8 +104,8 @@ job_with_cut =
     ∷ (codes "dump - r0", codes "ok 61:v:32:2:-:-,61:v:31:1:-:-")
     ∷ []
 
--- A compaction of an empty run into itself leaves the tree as it is. It drops what is below its floor all the same, so
--- reads below that are refused from its commit on.
+-- A job compacts an empty run into itself and leaves the tree as it is. The horizon rises to the
+-- job's cut, so reads below it are refused after the commit.
 abbrev pub horizon_alone : Conversation
 horizon_alone =
     (codes "flush 1 - 5 10 61:m:6d:2:-:10,61:v:76:1:-:10", codes "ok")

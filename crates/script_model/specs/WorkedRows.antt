@@ -1,9 +1,11 @@
--- These scripts show how rows read before and after they are compacted, and which flushes are refused.
+-- Scripts that show what reads answer before and after rows are compacted, and which flushes are
+-- refused.
 use Rattle.std.specs.Prelude.{[], ◌∷◌, codes}
 use Rattle.script_model.specs.Worked.{Conversation}
 
--- A tombstone above two values is compacted into the last run under the floor 3: reads from the floor on answer as
--- before, the oldest version is gone, and a read below the horizon is refused.
+-- A job compacts a tombstone and two values of a key into the last run, under floor 3. Reads from
+-- the floor on answer as before. The oldest version is gone, and a read below the horizon is
+-- refused.
 abbrev pub deleted_key : Conversation
 deleted_key =
     (codes "flush 1 - 3 0 61:t:-:4:-:-,61:v:7631:2:-:-,61:v:7630:1:-:-", codes "ok")
@@ -20,7 +22,8 @@ deleted_key =
     ∷ (codes "read - 61 2 0", codes "notretained 3 0")
     ∷ []
 
--- Operands of one stamp are folded into one, and one of another stamp stays apart and expires by itself.
+-- A job folds operands with the same stamps into one. An operand with another expiry stays apart,
+-- and expires on its own.
 abbrev pub expiry_classes : Conversation
 expiry_classes =
     (codes "flush 1 - 5 0 61:m:7a:3:-:-,61:m:79:2:-:-,61:m:78:1:-:10", codes "ok")
@@ -36,7 +39,8 @@ expiry_classes =
     ∷ (codes "read - 61 5 20", codes "value 797a")
     ∷ []
 
--- An operand is folded onto a value of its stamp, and then both are expired: nothing is left of the key.
+-- A job folds an operand and a value with the same expiry. Both have expired, so no row of the key
+-- is left.
 abbrev pub fold_before_expiry : Conversation
 fold_before_expiry =
     (codes "flush 1 - 5 10 61:m:6d:2:-:10,61:v:76:1:-:10", codes "ok")
@@ -52,7 +56,8 @@ fold_before_expiry =
     ∷ (codes "read - 61 5 10", codes "none")
     ∷ []
 
--- A tombstone above an older run is kept, so the older value does not come back; with the last run it goes.
+-- A tombstone in a run above an older run is kept, so the older value does not come back. A job
+-- that makes the last run drops the tombstone.
 abbrev pub no_resurrection : Conversation
 no_resurrection =
     (codes "flush 1 - 5 0 61:v:76:1:-:-", codes "ok")
@@ -80,7 +85,7 @@ no_resurrection =
     ∷ (codes "full 73", codes "invalidcompaction")
     ∷ []
 
--- A flush is refused for each reason that there is, and a read of a moment below the tick is refused.
+-- A flush is refused for each of the six faults. A read at a moment before the tick is refused.
 abbrev pub refused_flushes : Conversation
 refused_flushes =
     (codes "flush 5 - 3 7 62:v:76:9:-:-", codes "ok")
@@ -94,7 +99,8 @@ refused_flushes =
     ∷ (codes "read - 62 9 6", codes "notretained 0 7")
     ∷ []
 
--- A flush whose answer is a fault uses its name up, whether its put of the manifest is lost or stands.
+-- A fault strikes the put of the manifest of a flush. The flush's name is used up, whether the put
+-- is lost or takes effect.
 abbrev pub struck_flush : Conversation
 struck_flush =
     (codes "fault 3 lost", codes "ok")

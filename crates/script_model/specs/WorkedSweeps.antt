@@ -1,8 +1,9 @@
--- These scripts show which tables a sweep deletes.
+-- Scripts that show which tables a sweep deletes.
 use Rattle.std.specs.Prelude.{[], ◌∷◌, codes}
 use Rattle.script_model.specs.Worked.{Conversation}
 
--- A sweep deletes the flush that went into a run. The next one finds nothing, and the run is whole.
+-- A sweep deletes the table of a flush that went into a run. The next sweep finds no table to
+-- delete, and the run is whole.
 abbrev pub swept : Conversation
 swept =
     (codes "flush 1 - 3 0 61:t:-:4:-:-,61:v:7631:2:-:-,61:v:7630:1:-:-", codes "ok")
@@ -22,8 +23,8 @@ swept =
     ∷ (codes "dump - r0", codes "ok 61:t:-:4:-:-,61:v:7631:2:-:-")
     ∷ []
 
--- A sweep leaves a table that a live worker wrote and did not publish yet. Once that worker is killed the table goes,
--- and the published one stays for the next worker.
+-- A sweep keeps a table that a live worker has written and not yet published. After the worker is
+-- killed, a sweep deletes that table and keeps the published one for the next worker.
 abbrev pub swept_beside_worker : Conversation
 swept_beside_worker =
     (codes "flush 1 - 0 0 61:v:35:5:-:-,61:v:34:4:-:-,61:v:33:3:-:-,61:v:32:2:-:-,61:v:31:1:-:-", codes "ok")
@@ -48,7 +49,8 @@ swept_beside_worker =
     ∷ (codes "tables - r0", codes "ok t1:2,t3:3")
     ∷ []
 
--- A sweep whose list of tables is struck deletes nothing, and the next one does.
+-- A fault strikes the list of tables of a sweep, which then deletes nothing. The next sweep deletes
+-- the table.
 abbrev pub struck_sweep : Conversation
 struck_sweep =
     (codes "flush 1 - 3 0 61:t:-:4:-:-,61:v:7631:2:-:-,61:v:7630:1:-:-", codes "ok")

@@ -1,5 +1,6 @@
-//! Worked scripts: each call has an empty body, and its clause gives a script, as it is typed, with each reply of a
-//! fresh fleet. The scripts stand in specs/, in the files whose names begin with Worked.
+//! Worked scripts. Each function has an empty body, and its clause names a script with the replies
+//! of a fresh fleet. The scripts are in specs/, in the files whose names begin with Worked. A fleet
+//! gives no other replies to a script of `MustReply`.
 
 ghost use Rattle.row_model.specs.Append.{append};
 ghost use Rattle.script_model.specs.Defaults.{with_quiet_scheduler};
@@ -15,200 +16,222 @@ ghost use Rattle.script_model.specs.WorkedRows.{deleted_key, expiry_classes, fol
 ghost use Rattle.script_model.specs.WorkedScans.{scanned_pages, scanned_to_refusal};
 ghost use Rattle.script_model.specs.WorkedSweeps.{struck_sweep, swept, swept_beside_worker};
 
-/// A tombstone above two values is compacted into the last run under the floor 3: reads from the floor on answer as
-/// before, the oldest version is gone, and a read below the horizon is refused.
+/// A job compacts a tombstone and two values of a key into the last run, under floor 3. Reads from
+/// the floor on answer as before. The oldest version is gone, and a read below the horizon is
+/// refused.
 pub fn deleted_key()
     ensures { MustReply (with_quiet_scheduler append) deleted_key }
 {}
 
-/// Operands of one stamp are folded into one, and one of another stamp stays apart and expires by itself.
+/// A job folds operands with the same stamps into one. An operand with another expiry stays apart,
+/// and expires on its own.
 pub fn expiry_classes()
     ensures { MustReply (with_quiet_scheduler append) expiry_classes }
 {}
 
-/// An operand is folded onto a value of its stamp, and then both are expired: nothing is left of the key.
+/// A job folds an operand and a value with the same expiry. Both have expired, so no row of the key
+/// is left.
 pub fn fold_before_expiry()
     ensures { MustReply (with_quiet_scheduler append) fold_before_expiry }
 {}
 
-/// A tombstone above an older run is kept, so the older value does not come back; with the last run it goes.
+/// A tombstone in a run above an older run is kept, so the older value does not come back. A job
+/// that makes the last run drops the tombstone.
 pub fn no_resurrection()
     ensures { MustReply (with_quiet_scheduler append) no_resurrection }
 {}
 
-/// A flush is refused for each reason that there is, and a read of a moment below the tick is refused.
+/// A flush is refused for each of the six faults. A read at a moment before the tick is refused.
 pub fn refused_flushes()
     ensures { MustReply (with_quiet_scheduler append) refused_flushes }
 {}
 
-/// A flush whose answer is a fault uses its name up, whether its put of the manifest is lost or stands.
+/// A fault strikes the put of the manifest of a flush. The flush's name is used up, whether the put
+/// is lost or takes effect.
 pub fn struck_flush()
     ensures { MustReply (with_quiet_scheduler append) struck_flush }
 {}
 
-/// Of two jobs that take one run, the first is opened and the second fails by rule 8.
+/// Two jobs take the same run. The poll opens the first one, and the second fails by rule 8.
 pub fn shared_source()
     ensures { MustReply (with_quiet_scheduler append) shared_source }
 {}
 
-/// A job of the newest flush alone fails by rule 5: its flushes must reach the oldest one.
+/// A job of the newest flush alone fails by rule 5, since its sources do not reach the oldest
+/// flush.
 pub fn oldest_flush()
     ensures { MustReply (with_quiet_scheduler append) oldest_flush }
 {}
 
-/// A job into the greatest run id fails by rule 7, and one of no sources by rule 1.
+/// A job into the greatest run id fails by rule 7. A job without sources fails by rule 1.
 pub fn destinations()
     ensures { MustReply (with_quiet_scheduler append) destinations }
 {}
 
-/// A drain drops the named flushes of a segment; one of the root fails by rule 2.
+/// A drain drops the flushes of a segment that it names. A drain of the root fails by rule 2.
 pub fn drains()
     ensures { MustReply (with_quiet_scheduler append) drains }
 {}
 
-/// Tables whose keys do not meet become a run as they are, by first key, with no worker.
+/// Tables whose key ranges do not overlap become a run as they are, in the order of their first
+/// keys. No worker takes part.
 pub fn moved_tables()
     ensures { MustReply (with_quiet_scheduler append) moved_tables }
 {}
 
-/// Before a coordinator starts there are no records: nothing can be submitted, and a claim finds nothing.
+/// There are no records before a coordinator starts. A submission is refused, and a claim finds no
+/// job.
 pub fn no_records()
     ensures { MustReply (with_quiet_scheduler append) no_records }
 {}
 
-/// A scheduler picks the eight oldest of ten flushes of the root and all of a segment; both jobs are made in four
-/// ranges.
+/// The scheduler picks the eight oldest of ten flushes of the root, and all flushes of a segment.
+/// Each of the two jobs is made in four ranges.
 pub fn two_segments()
     ensures { MustReply with_two_picks two_segments }
 {}
 
-/// A scheduler proposes a job twice and the second is dropped, with its number used up; it declines to generate.
+/// The scheduler proposes a job twice. The second proposal is dropped, and the number drawn for it
+/// is used up. The scheduler declines to generate jobs.
 pub fn proposed_twice()
     ensures { MustReply with_one_proposed_twice proposed_twice }
 {}
 
-/// A worker is killed between two versions of a key, and another one writes exactly the versions that are missing.
+/// A worker is killed between two versions of a key. The next worker writes exactly the versions
+/// that are missing.
 pub fn cut_inside_a_key()
     ensures { MustReply (with_quiet_scheduler append) cut_inside_a_key }
 {}
 
-/// A worker whose job was claimed by another one may not finish it.
+/// A worker may not finish a job that another worker has claimed since.
 pub fn older_attempt()
     ensures { MustReply (with_quiet_scheduler append) older_attempt }
 {}
 
-/// A job is freed once more than the timeout went by since its heartbeat, and not while exactly the timeout did.
+/// A poll frees a job once more than the timeout has passed since its heartbeat. It does not free
+/// the job when exactly the timeout has passed.
 pub fn boundary_of_silence()
     ensures { MustReply (with_quiet_scheduler append) boundary_of_silence }
 {}
 
-/// A worker that stops gives its job back; a job of a node that is not there fails by rule 4.
+/// A worker that stops gives its job back. A job of a flush that is not in the tree fails by rule
+/// 4.
 pub fn stopped_worker()
     ensures { MustReply (with_quiet_scheduler append) stopped_worker }
 {}
 
-/// A newer coordinator fences an older one, whose poll ends after its first get: a fault that waits for a second get
-/// strikes the next poll. The older coordinator is then no longer live.
+/// A newer coordinator fences an older one. The older one's poll ends after its first get and the
+/// coordinator is no longer live. A fault that waits for a second get therefore strikes the next
+/// poll.
 pub fn fence()
     ensures { MustReply (with_quiet_scheduler append) fence }
 {}
 
-/// A finish whose answer is a fault stood all the same, and is committed.
+/// A fault strikes the put of a finish, and the put takes effect. The next poll commits the job.
 pub fn standing_put()
     ensures { MustReply (with_quiet_scheduler append) standing_put }
 {}
 
-/// A commit of which only the manifest stood is not done again by the next coordinator: rule 10 finds other tables.
+/// Of a commit only the put of the manifest takes effect. The next coordinator does not commit the
+/// job again: it fails by rule 10, since its source has other tables now.
 pub fn takeover()
     ensures { MustReply (with_quiet_scheduler append) takeover }
 {}
 
-/// A poll commits a job and moves its run by another, and only the manifest stands: after the takeover both jobs fail,
-/// and no row is lost.
+/// A poll commits a job and moves its run by another job, but only the put of the manifest takes
+/// effect. After the takeover both jobs fail, and no row is lost.
 pub fn moved_run_takeover()
     ensures { MustReply (with_quiet_scheduler append) moved_run_takeover }
 {}
 
-/// An operator refuses a fold: the finish is refused with its message, the job waits again under the settings that it
-/// has, and a read of the key is refused with that message too.
+/// The operator refuses a fold. The finish is refused with its message, and the job waits again
+/// with the settings that it has. A read of the key is refused with the message too.
 pub fn refusing_operator()
     ensures { MayReply (with_quiet_scheduler append_unmarked) refusing_operator }
 {}
 
-/// Within a retention of a second, a compaction keeps what was readable when it began: the older value, below the
-/// floor, is still read afterwards. A read below what is kept is refused.
+/// With a retention of one second, a job keeps what was readable during the second before its
+/// claim. The older value, below the floor, can still be read afterwards. A read below the job's
+/// cut is refused.
 pub fn kept_by_time()
     ensures { MustReply (with_quiet_scheduler append) kept_by_time }
 {}
 
-/// Without a retention the same compaction keeps what is read from the floor on, and a read below the floor is refused.
+/// Without a retention, a job keeps what reads see from the floor on. Reads below the floor are
+/// refused after its commit.
 pub fn kept_by_floor()
     ensures { MustReply (with_quiet_scheduler append) kept_by_floor }
 {}
 
-/// A worker of the first release publishes a context without a cut. A worker of the second one goes on under the floor
-/// as its cut, so the older value goes.
+/// A worker of the first release publishes a context without a cut. A worker of the second release
+/// goes on with the floor as the cut, so the older value is dropped.
 pub fn job_without_cut()
     ensures { MustReply (with_quiet_scheduler append) job_without_cut }
 {}
 
-/// A worker of the first release takes no job whose context has a cut. One of the second release does, and keeps to
-/// that cut.
+/// A worker of the first release takes no job whose context has a cut. A worker of the second
+/// release takes it and keeps that cut.
 pub fn job_with_cut()
     ensures { MustReply (with_quiet_scheduler append) job_with_cut }
 {}
 
-/// A compaction of an empty run into itself leaves the tree as it is. It drops what is below its floor all the same, so
-/// reads below that are refused from its commit on.
+/// A job compacts an empty run into itself and leaves the tree as it is. The horizon rises to the
+/// job's cut, so reads below it are refused after the commit.
 pub fn horizon_alone()
     ensures { MustReply (with_quiet_scheduler append) horizon_alone }
 {}
 
-/// A sweep deletes the flush that went into a run. The next one finds nothing, and the run is whole.
+/// A sweep deletes the table of a flush that went into a run. The next sweep finds no table to
+/// delete, and the run is whole.
 pub fn swept()
     ensures { MustReply (with_quiet_scheduler append) swept }
 {}
 
-/// A sweep leaves a table that a live worker wrote and did not publish yet. Once that worker is killed the table goes,
-/// and the published one stays for the next worker.
+/// A sweep keeps a table that a live worker has written and not yet published. After the worker is
+/// killed, a sweep deletes that table and keeps the published one for the next worker.
 pub fn swept_beside_worker()
     ensures { MustReply (with_quiet_scheduler append) swept_beside_worker }
 {}
 
-/// A sweep whose list of tables is struck deletes nothing, and the next one does.
+/// A fault strikes the list of tables of a sweep, which then deletes nothing. The next sweep
+/// deletes the table.
 pub fn struck_sweep()
     ensures { MustReply (with_quiet_scheduler append) struck_sweep }
 {}
 
-/// A scan stops at its limit and names the next key, from which another one goes on. Deleted and expired keys have no
-/// answer, an empty range and a segment without a tree have none, and a scan before the tick is refused.
+/// A scan stops at its limit and names the next key, from which another scan goes on. Deleted and
+/// expired keys have no answer. An empty range and a segment without a tree have none either. A
+/// scan before the tick is refused.
 pub fn scanned_pages()
     ensures { MustReply (with_quiet_scheduler append) scanned_pages }
 {}
 
-/// A scan ends at a key whose fold the operator refuses, with its message, unless its limit comes first.
+/// A scan ends at the first key whose fold the operator refuses, with its message, unless the limit
+/// comes first.
 pub fn scanned_to_refusal()
     ensures { MustReply (with_quiet_scheduler append_unmarked) scanned_to_refusal }
 {}
 
-/// A levelled scheduler picks each run above its size with the next one, unless one of them is picked already.
+/// Two of four runs are above their sizes, and the scheduler picks each of them with the next run.
+/// With one slot it picks the first pair only. If all runs are within their sizes, it picks
+/// nothing.
 pub fn levels_are_picked()
     ensures { LevelsArePicked }
 {}
 
-/// Flushes are compacted until a poll finds nothing to do. A settle line of one round, whose poll adds a job, does not
-/// settle, and the next one does.
+/// Flushes are compacted until a poll finds nothing to do. A settle line of one round does not
+/// settle if its poll adds a job. The next settle line settles.
 pub fn settled_levels()
     ensures { MustReply with_levels settled_levels }
 {}
 
-/// A round whose poll moves a job at once does not settle, since that poll added a job.
+/// A round whose poll moves a job at once does not settle, since that poll added the job.
 pub fn settled_moves()
     ensures { MustReply with_levels settled_moves }
 {}
 
-/// A claim that is struck ends a settle line with storefault, and its worker is no longer live. Once the job is stale,
-/// a new worker finishes it in a later settle line.
+/// A fault strikes the claim of a settle line. The reply is storefault, and the worker is no longer
+/// live. Once the job is stale, a later settle line with a new worker finishes it.
 pub fn struck_settle()
     ensures { MustReply with_levels struck_settle }
 {}

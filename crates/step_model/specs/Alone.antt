@@ -1,18 +1,18 @@
--- A course is run over a store that nobody else calls.
+-- How a party runs a course while no other party calls the store.
 use Rattle.std.specs.Prelude.{ℕ, if◌then◌else◌, Option, Some, None}
 use Rattle.fleet_model.specs.History.{Party}
 use Rattle.fleet_model.specs.Store.{Store}
 use Rattle.fleet_model.specs.Exchanges.{Fault, event_of, answered, strikes, waiting_after, struck_by, does_stand}
 use Rattle.step_model.specs.Course.{Course, Ends, Calls}
 
--- A run alone has the course's answer, or none where a call was struck. It leaves a store, and the fault that still
--- waits, if one does.
+-- The end of a course that ran alone. The answer is None where a fault struck a call. The fault is
+-- the one that is still waiting, if any.
 pub record AloneEnd (A : Type 0) : Type 0 where
   pub answer : Option A
   pub store : Store
   pub fault : Option Fault
 
--- The calls are made in order, up to one that the fault strikes.
+-- The party makes the calls of the course in order. It stops at the call that the fault strikes.
 abbrev pub run_alone : {A : Type 0} → ℕ → Party → Course A → Option Fault → Store → AloneEnd A
 run_alone line party (Ends answer) fault store = record { answer = Some answer; store = store; fault = fault }
 run_alone line party (Calls x next) fault store =

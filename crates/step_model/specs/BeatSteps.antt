@@ -1,4 +1,4 @@
--- A worker sends a heartbeat and gives jobs back by these steps.
+-- The steps by which a worker sends a heartbeat and gives jobs back.
 use Rattle.std.specs.Prelude.{ℕ, zero, suc, if◌then◌else◌, List, [], ◌∷◌, filter, Option, Some, None}
 use Rattle.fleet_model.specs.Jobs.{Context, Jobs}
 use Rattle.fleet_model.specs.History.{Beat, Release}
@@ -10,27 +10,30 @@ use Rattle.step_model.specs.Course.{Course, Ends, gets_records, puts_records}
 use Rattle.step_model.specs.StepEnds.{StepEnd, Reports, GivesUp, most_refused}
 use Rattle.step_model.specs.ClaimSteps.{at_moment}
 
--- A heartbeat reports the jobs that it named, the jobs that the worker no longer owns and so stops, and the attempts
--- that the worker runs now.
+-- The report of a heartbeat: the jobs that the heartbeat named, the jobs that the worker stops
+-- because it no longer owns them, and the attempts that the worker runs from now on.
 pub record Beaten : Type 0 where
   pub beat : List ℕ
   pub not_owner : List ℕ
   pub attempts : List Attempt
 
--- An attempt, where there is one, has a context.
+-- The context of an attempt, or None where there is no attempt.
 abbrev pub context_of : Option Attempt → Option Context
 context_of None = None
 context_of (Some a) = Some a.context
 
--- A heartbeat publishes the context of each attempt that it names.
+-- The context that a heartbeat with these attempts publishes for a job: that of the job's attempt,
+-- or None if no attempt is at the job.
 abbrev pub published_by : List Attempt → ℕ → Option Context
 published_by attempts job = context_of (attempt_at job attempts)
 
--- The live attempts among the stored jobs go on, and the others are stopped.
+-- The report of a heartbeat over the stored jobs. The worker keeps its live attempts and stops the
+-- others.
 abbrev pub beat_report : LiveWorker → Jobs → Beaten
 beat_report w jobs = record { beat = attempt_jobs (live_attempts jobs w); not_owner = attempt_jobs (not_owned jobs w); attempts = live_attempts jobs w }
 
--- Live attempts, if there are any, are put with the moment and their contexts.
+-- A heartbeat with these live attempts. If there is at least one, the heartbeat puts the records:
+-- it renews the leases of the attempts to the moment and publishes their contexts.
 abbrev pub beat_of : ℕ → LiveWorker → Records → List Attempt → (ℕ → Course (StepEnd Beaten)) → Course (StepEnd Beaten)
 beat_of moment w got [] again = Ends (Reports (beat_report w got.jobs))
 beat_of moment w got (a ∷ live) again =
@@ -38,37 +41,43 @@ beat_of moment w got (a ∷ live) again =
     let unrecorded : Unrecorded = record { moment = moment; published = published_by (a ∷ live); kept_cut = None; tables_of = λ spec. [] } in
     puts_records got change got.epoch (jobs_after unrecorded change got.jobs) (Ends (Reports (beat_report w got.jobs))) again
 
--- A heartbeat goes by the records that it got.
+-- A heartbeat after its get of the records. If there are no records, no attempt is live.
 abbrev pub beat_by : ℕ → LiveWorker → Option Records → (ℕ → Course (StepEnd Beaten)) → Course (StepEnd Beaten)
 beat_by moment w None again = Ends (Reports (beat_report w []))
 beat_by moment w (Some got) again = beat_of moment w got (live_attempts got.jobs w) again
 
--- A heartbeat may be refused so many times more.
+-- A heartbeat that may put at most `left` more times. `seen` is the version that its last refused
+-- put met.
 abbrev pub beats_from : ℕ → LiveWorker → ℕ → ℕ → Course (StepEnd Beaten)
 beats_from moment w zero seen = Ends (GivesUp seen)
 beats_from moment w (suc left) seen = gets_records (λ got. beat_by moment w got (beats_from moment w left))
 
--- A heartbeat gives the live attempts the moment and publishes their contexts.
+-- A heartbeat renews the leases of the worker's live attempts to the moment and publishes their
+-- contexts. A worker without attempts calls nothing.
 unfoldable pub heartbeat : ℕ → LiveWorker → Course (StepEnd Beaten)
 heartbeat moment w = if is_nonempty w.attempts then beats_from moment w most_refused 0 else Ends (Reports (beat_report w []))
 
--- Those of these attempts that are live are given back, and a course goes on with their jobs.
+-- The release of these live attempts. The step puts the records if there is at least one, and then
+-- goes on with the released jobs.
 abbrev pub release_of : {A : Type 0} → LiveWorker → Records → List Attempt → (List ℕ → Course (StepEnd A)) → (ℕ → Course (StepEnd A)) → Course (StepEnd A)
 release_of w got [] next again = next []
 release_of w got (a ∷ live) next again =
     let change = Release w.number (named (a ∷ live)) in
     puts_records got change got.epoch (jobs_after (at_moment 0) change got.jobs) (next (attempt_jobs (a ∷ live))) again
 
--- A release goes by the records that it got.
+-- A release after its get of the records. It gives back the live ones of these attempts, and none
+-- if there are no records.
 abbrev pub release_by : {A : Type 0} → LiveWorker → List Attempt → Option Records → (List ℕ → Course (StepEnd A)) → (ℕ → Course (StepEnd A)) → Course (StepEnd A)
 release_by w attempts None next again = next []
 release_by w attempts (Some got) next again = release_of w got (filter (is_live got.jobs w.number) attempts) next again
 
--- A release may be refused so many times more.
+-- A release that may put at most `left` more times. `seen` is the version that its last refused put
+-- met.
 abbrev pub releases_from : {A : Type 0} → LiveWorker → List Attempt → (List ℕ → Course (StepEnd A)) → ℕ → ℕ → Course (StepEnd A)
 releases_from w attempts next zero seen = Ends (GivesUp seen)
 releases_from w attempts next (suc left) seen = gets_records (λ got. release_by w attempts got next (releases_from w attempts next left))
 
--- A worker that stops gives back its live attempts and reports their jobs.
+-- A worker that stops gives back its live attempts and reports their jobs. A worker without
+-- attempts calls nothing.
 unfoldable pub release_all : LiveWorker → Course (StepEnd (List ℕ))
 release_all w = if is_nonempty w.attempts then releases_from w w.attempts (λ released. Ends (Reports released)) most_refused 0 else Ends (Reports [])

@@ -1,4 +1,4 @@
--- A worker claims jobs by this step.
+-- The step by which a worker claims jobs.
 use Rattle.std.specs.Prelude.{ℕ, zero, suc, ◌+◌, not, ◌&&◌, Bool, List, [], ◌∷◌, map, filter, flat_map, Option, Some, None, bytes_eq}
 use Rattle.std.specs.List.{list_all}
 use Rattle.fleet_model.specs.Nodes.{names_contain, names, tree_at}
@@ -14,32 +14,35 @@ use Rattle.fleet_model.specs.Exchanges.{Plain}
 use Rattle.step_model.specs.Course.{Course, Ends, Calls, gets_records, calls_each, puts_records}
 use Rattle.step_model.specs.StepEnds.{StepEnd, Reports, GivesUp, most_refused}
 
--- A worker goes by these options.
+-- The options of a worker.
 pub record WorkerOptions : Type 0 where
-  pub slots : ℕ  -- the most attempts that it runs
-  pub most_ranges : ℕ  -- of a job
+  pub slots : ℕ  -- the most attempts that a worker runs
+  pub most_ranges : ℕ  -- the most ranges of a job
   pub table_size : ℕ  -- a table ends with the row with which it exceeds this, in bytes
   pub retention : ℕ  -- in milliseconds
 
--- A change of the records takes a moment, and nothing else that the history does not tell.
+-- What the history does not record of a change: here the moment alone. No context is published, no
+-- cut is kept, and no source tables are set.
 abbrev pub at_moment : ℕ → Unrecorded
 at_moment moment = record { moment = moment; published = no_contexts; kept_cut = None; tables_of = λ spec. [] }
 
--- A claim reports the attempts that it began, the jobs that it stopped, the jobs that it claimed and did not start, and
--- the attempts that the worker runs now.
+-- The report of a claim: the attempts that it began, the jobs that it stopped, the jobs that it
+-- claimed but did not start, and the attempts that the worker runs from now on.
 pub record Claimed : Type 0 where
   pub begun : List Attempt
   pub stopped : List ℕ
   pub released : List ℕ
   pub attempts : List Attempt
 
--- The job's sources stand in the manifest with the tables that the job keeps.
+-- A claimed job can start if the manifest has all its sources, and these have exactly the tables
+-- that the job's record names.
 abbrev pub can_start : Manifest → Job → Bool
 can_start manifest job =
     let tree = tree_at job.spec.segment manifest.trees in
     list_all (names_contain (names tree)) job.spec.sources && bytes_eq (source_pieces job.spec.sources tree) job.source_tables
 
--- A job without a context is planned as it starts, and its ranges are noted.
+-- The note of the ranges that an attempt begins with. It is made only if the job's record has no
+-- context.
 abbrev pub plan_of : ClaimInput → Job → List Event
 plan_of input job = by (claimed_attempt input job) job.context
   where
@@ -47,7 +50,8 @@ plan_of input job = by (claimed_attempt input job) job.context
     by a None = Plan a.job a.number (map (λ range. range.0) a.context.ranges) ∷ []
     by a (Some context) = []
 
--- The claimed jobs start under the manifest that is got after the put.
+-- The end of a claim, under the manifest that the worker got after its put. Each claimed job that
+-- can start begins an attempt. The report names the other claimed jobs as released.
 abbrev pub starts_claimed : ClaimInput → LiveWorker → Jobs → List ℕ → Course (StepEnd Claimed)
 starts_claimed input w claimed stopped =
     let started = filter (can_start input.manifest) claimed in
@@ -59,7 +63,8 @@ starts_claimed input w claimed stopped =
       attempts = with_attempts begun (without_attempts stopped w.attempts);
     })))
 
--- Claimed jobs, if there are any, are put, and start after a get of the manifest.
+-- The claim of these jobs. If there is at least one, the step puts the records, gets the manifest,
+-- and starts the jobs under it.
 abbrev pub claim_of : WorkerOptions → ℕ → LiveWorker → Records → Jobs → List ℕ → (ℕ → Course (StepEnd Claimed)) → Course (StepEnd Claimed)
 claim_of options moment w got [] stopped again = Ends (Reports (record { begun = []; stopped = stopped; released = []; attempts = without_attempts stopped w.attempts }))
 claim_of options moment w got (job ∷ jobs) stopped again =
@@ -75,17 +80,18 @@ claim_of options moment w got (job ∷ jobs) stopped again =
     }) w (job ∷ jobs) stopped))
     again
 
--- A claim goes by the records that it got; without records it takes nothing.
+-- A claim after its get of the records. If there are no records, it claims and stops nothing.
 abbrev pub claim_by : WorkerOptions → ℕ → LiveWorker → Option Records → (ℕ → Course (StepEnd Claimed)) → Course (StepEnd Claimed)
 claim_by options moment w None again = Ends (Reports (record { begun = []; stopped = []; released = []; attempts = w.attempts }))
 claim_by options moment w (Some got) again = claim_of options moment w got (claimed_jobs options.slots w got.jobs) (ids (stopped_jobs w got.jobs)) again
 
--- A claim may be refused so many times more.
+-- A claim that may put at most `left` more times. `seen` is the version that its last refused put
+-- met.
 abbrev pub claims_from : WorkerOptions → ℕ → LiveWorker → ℕ → ℕ → Course (StepEnd Claimed)
 claims_from options moment w zero seen = Ends (GivesUp seen)
 claims_from options moment w (suc left) seen = gets_records (λ got. claim_by options moment w got (claims_from options moment w left))
 
--- A claim takes waiting jobs up to the free slots, stops those that wait though the worker runs them, and starts what
--- it took.
+-- A claim takes waiting jobs, at most as many as the worker has free slots. It stops each waiting
+-- job that the worker still runs, and starts the jobs that it took.
 unfoldable pub claim : WorkerOptions → ℕ → LiveWorker → Course (StepEnd Claimed)
 claim options moment w = claims_from options moment w most_refused 0

@@ -1,4 +1,4 @@
--- A coordinator starts and polls by these steps.
+-- The steps by which a coordinator starts and polls.
 use Rattle.std.specs.Prelude.{ℕ, zero, suc, ◌+◌, ◌==◌, Bool, ◌&&◌, nat_lt, max, if◌then◌else◌, List, [], Option, Some, None, bytes_eq}
 use Rattle.std.specs.Cmp.Lexicographic.{pointwise}
 use Rattle.fleet_model.specs.Nodes.{Node, Segment, Tables, name_eq}
@@ -15,42 +15,47 @@ use Rattle.step_model.specs.Merging.{merged_jobs}
 
 -- ---- start
 
--- The next epoch is above both stored ones.
+-- The next epoch: one more than the greater of the two stored epochs.
 abbrev pub epoch_above : Manifest → Option Records → ℕ
 epoch_above manifest records = max manifest.epoch (records_epoch records) + 1
 
--- A step goes on unless a stored epoch is above the coordinator's. Then the coordinator is fenced.
+-- A step of a coordinator goes on unless the stored epoch is above its own. In that case it ends as
+-- fenced.
 abbrev pub unless_fenced : {A : Type 0} → ℕ → ℕ → Course (StepEnd A) → Course (StepEnd A)
 unless_fenced epoch stored next = if nat_lt epoch stored then Ends (Fenced stored) else next
 
--- Both objects are got again, so that the coordinator holds them as they are. An epoch above its own ends the start.
+-- The end of a start: the coordinator gets both objects again, so that it holds them as they are.
+-- If a stored epoch is above its own, the coordinator is fenced.
 abbrev pub holds_at_start : ℕ → Course (StepEnd ℕ)
 holds_at_start epoch = gets_manifest (λ manifest. gets_records (λ records. unless_fenced epoch (max manifest.epoch (records_epoch records)) (Ends (Reports epoch))))
 
--- Records that are not there have version 0, epoch 0 and no jobs.
+-- The records of a store. If the store has none, they have version 0, epoch 0 and no jobs.
 abbrev pub records_or_none : Option Records → Records
 records_or_none None = record { version = 0; epoch = 0; jobs = [] }
 records_or_none (Some records) = records
 
--- Where there are no records, a put of them is for version 0.
+-- A course that puts the records with a new epoch. If there are no records, the put is for version
+-- 0.
 abbrev pub puts_epoch : Option Records → ℕ → Course (StepEnd ℕ) → (ℕ → Course (StepEnd ℕ)) → Course (StepEnd ℕ)
 puts_epoch records epoch next again =
     Calls (PutsRecords (records_version records) (RecordsEpoch epoch) epoch (trimmed (jobs_in records))) (λ met. if records_version records == records_version met.records then next else again (records_version met.records))
 
--- A start may be refused so many times more, at both puts together.
+-- A start that gives up after `left` more refused puts, of the manifest and of the records
+-- together. `seen` is the version that the last refused put met.
 abbrev pub starts_from : ℕ → ℕ → Course (StepEnd ℕ)
 starts_from zero seen = Ends (GivesUp seen)
 starts_from (suc left) seen = gets_manifest (λ manifest. gets_records (λ records.
     let epoch = epoch_above manifest records in
     puts_manifest manifest.version (ManifestEpoch epoch) (record manifest { epoch = epoch }) (puts_epoch records epoch (holds_at_start epoch) (starts_from left)) (starts_from left)))
 
--- A coordinator puts an epoch above both stored ones, into the manifest and then into the records, and reports it.
+-- A start puts an epoch above both stored ones, first into the manifest and then into the records.
+-- It reports the epoch.
 unfoldable pub start : Course (StepEnd ℕ)
 start = starts_from most_refused 0
 
 -- ---- polls
 
--- A poll goes by the coordinator's epoch, its options and its moment, and asks the scheduler.
+-- What a poll is asked with: the coordinator's epoch, its options, its scheduler and the moment.
 pub record PollAsk : Type 0 where
   pub epoch : ℕ
   pub options : PollOptions
@@ -62,40 +67,45 @@ pub record PollAsk : Type 0 where
 abbrev pub node_eq : Node → Node → Bool
 node_eq a b = name_eq a.name b.name && bytes_eq a.flushes b.flushes && bytes_eq a.pieces b.pieces
 
--- Two segments have the same nodes.
+-- Two segments have the same nodes in the same order.
 abbrev pub same_tree : Segment → Segment → Bool
 same_tree a b = pointwise node_eq a.tree b.tree
 
--- The poll reached the trees and the horizon that it got.
+-- The poll's trees and horizon are those of the manifest that it got.
 abbrev pub is_unchanged : Manifest → PollState → Bool
 is_unchanged manifest p = pointwise same_tree manifest.trees p.trees && (manifest.horizon == p.horizon)
 
--- A poll goes by what it got.
+-- The input of a poll: the objects that it got, with its options, scheduler and moment.
 abbrev pub input_of : PollAsk → Tables → Manifest → Records → PollInput
 input_of ask tables manifest records = record { options = ask.options; scheduler = ask.scheduler; tables = tables; manifest = manifest; records = records; moment = ask.moment }
 
--- The first steps of a poll free and commit.
+-- The first two steps of a poll: it frees stale jobs and commits Compacted ones.
 abbrev pub freed_and_committed : PollInput → PollState
 freed_and_committed input = commit_finished input (free_stale input (begun input.manifest.trees input.manifest.horizon input.records.jobs))
 
--- A poll that commits alone neither frees, adds nor opens.
+-- The steps of a poll before ids are drawn. A poll with `commits_only` commits and frees nothing.
 abbrev pub first_steps : PollAsk → PollInput → PollState
 first_steps ask input = if ask.commits_only then committed input else freed_and_committed input
 
--- The scheduler's first proposals up to the capacity become jobs.
+-- The proposals of the scheduler that a poll takes, up to its capacity. A poll with `commits_only`
+-- takes none.
 abbrev pub proposed : PollAsk → PollInput → PollState → List JobSpec
 proposed ask input p = if ask.commits_only then [] else proposals input p
 
--- The last steps of a poll add the proposals and open what was submitted.
+-- The steps of a poll after ids are drawn: it adds the proposals and opens submitted jobs. A poll
+-- with `commits_only` does neither.
 abbrev pub last_steps : PollAsk → PollInput → List (ℕ × JobSpec) → PollState → PollState
 last_steps ask input drawn p = if ask.commits_only then p else open_submitted input (add_drawn 1 drawn p)
 
--- After a refused put of the records the newer ones are merged into the poll's jobs. A job that the poll freed is then
--- as the newer records have it, and so the poll frees none.
+-- The poll's state after newer records are merged into its jobs, which happens when a put of the
+-- records was refused. The poll then frees no job, since the newer records decide on the jobs that
+-- it freed.
 abbrev pub merged_into : PollState → Jobs → PollState
 merged_into p jobs = record p { jobs = merged_jobs p.jobs jobs; freed = [] }
 
--- The records are put where the poll changed jobs. The put may be refused so many times more.
+-- A poll that may put the records at most `left` more times. It puts them only if it changed a job.
+-- After a refused put it gets the records again and merges them. `seen` is the version that the
+-- last refused put met.
 abbrev pub puts_polled : ℕ → PollState → Records → ℕ → ℕ → Course (StepEnd PollState)
 puts_polled epoch p got zero seen = Ends (GivesUp seen)
 puts_polled epoch p got (suc left) seen =
@@ -105,27 +115,29 @@ puts_polled epoch p got (suc left) seen =
     let got = records_or_none newer in
     unless_fenced epoch got.epoch (puts_polled epoch (merged_into p got.jobs) got left seen)))
 
--- Where the poll changed the manifest, that is put first, and the records are put after it. A refused put of the
--- manifest begins the poll again. One that stood begins the count of refused puts again.
+-- A poll puts the manifest if it changed the trees or the horizon, and then the records. If the put
+-- of the manifest is refused, the poll begins again. If it takes effect, the count of refused puts
+-- begins again.
 abbrev pub puts_trees : ℕ → PollState → Manifest → Records → ℕ → ℕ → (ℕ → Course (StepEnd PollState)) → Course (StepEnd PollState)
 puts_trees epoch p manifest got left seen again =
     if is_unchanged manifest p then puts_polled epoch p got left seen
     else puts_manifest manifest.version (Commit p.steps) (record manifest { trees = p.trees; horizon = p.horizon }) (puts_polled epoch p got most_refused 0) again
 
--- After the gets an id is drawn for each proposal.
+-- A poll after its two gets: it draws an id for each proposal, and puts what it changed.
 abbrev pub polls_over : PollAsk → Tables → Manifest → Records → ℕ → ℕ → (ℕ → Course (StepEnd PollState)) → Course (StepEnd PollState)
 polls_over ask tables manifest got left seen again =
     let input = input_of ask tables manifest got in
     let p = first_steps ask input in
     draws_jobs ask.moment (proposed ask input p) (λ drawn. puts_trees ask.epoch (last_steps ask input drawn p) manifest got left seen again)
 
--- A poll may be refused so many times more.
+-- A poll that gives up after `left` more refused puts in a row. `seen` is the version that the last
+-- refused put met.
 abbrev pub polls_from : PollAsk → ℕ → ℕ → Course (StepEnd PollState)
 polls_from ask zero seen = Ends (GivesUp seen)
 polls_from ask (suc left) seen = gets_manifest (λ manifest. unless_fenced ask.epoch manifest.epoch (Calls (Plain GetRecords) (λ met.
     let got = records_or_none met.records in
     unless_fenced ask.epoch got.epoch (polls_over ask met.tables manifest got (suc left) seen (polls_from ask left)))))
 
--- A poll of a coordinator reports what it reached, and how.
+-- A poll of a coordinator. It reports the state that it reached, which says what it did.
 unfoldable pub poll : PollAsk → Course (StepEnd PollState)
 poll ask = polls_from ask most_refused 0

@@ -1,8 +1,9 @@
--- A step of a party ends in one of these ways.
+-- The ways in which a step of a party ends.
 use Rattle.std.specs.Prelude.{ℕ, List}
 
--- A flush is refused for one of these: a name that is not above all used ones, a key outside of its segment, rows out
--- of order, a sequence that is not above its tree's, a floor below the stored one, or a tick before it.
+-- The faults for which a flush is refused, in this order: the name is not above all used ones; a
+-- key is outside of the segment; the rows are not in order; a sequence is not above the greatest
+-- one of the tree; the floor or the tick is below the stored one.
 pub data FlushFault : Type 0 where
   BadName : FlushFault
   BadSegment : FlushFault
@@ -11,9 +12,11 @@ pub data FlushFault : Type 0 where
   BadFloor : FlushFault
   BadTick : FlushFault
 
--- A step reports. Or it gives up, since 64 of its puts in a row were refused, and tells the version that the last one
--- met. Or it is refused: a stored epoch is above its coordinator's, its attempt is not live, there are no records, the
--- scheduler finds the request invalid or declines it, the operator refuses a fold, or a flush has a fault.
+-- How a step ends. Reports has its report. GivesUp has the version that the last refused put met.
+-- Fenced has a stored epoch above the coordinator's. NotOwner says that the attempt is not live,
+-- and NoRecords that the store has no records. Invalid and Declined are refusals of the scheduler,
+-- Declined with its message. OperatorRefuses has the message with which the operator refused a
+-- fold. BadFlush has the fault of a flush.
 pub data StepEnd (A : Type 0) : Type 0 where
   Reports : (report : A) → StepEnd A
   GivesUp : (seen : ℕ) → StepEnd A
@@ -25,7 +28,7 @@ pub data StepEnd (A : Type 0) : Type 0 where
   OperatorRefuses : (message : List ℕ) → StepEnd A
   BadFlush : (fault : FlushFault) → StepEnd A
 
--- A step gives up where so many of its puts in a row were refused, and a start where so many of its puts were refused
+-- A step gives up after so many refused puts in a row. A start gives up after so many refused puts
 -- in all.
 abbrev pub most_refused : ℕ
 most_refused = 64

@@ -1,4 +1,5 @@
--- Steps are run over a store that nobody else calls. It is shown which calls they make, and how these are answered.
+-- Worked examples of steps that run while no other party calls the store: which calls they make,
+-- and the answers.
 use Rattle.std.specs.Prelude.{◌≡◌, ℕ, true, false, List, [], ◌∷◌, map, Option, Some, None}
 use Rattle.fleet_model.specs.Nodes.{Run}
 use Rattle.fleet_model.specs.Jobs.{Job, Compacted}
@@ -11,11 +12,11 @@ use Rattle.step_model.specs.StepEnds.{StepEnd, Reports, Fenced}
 use Rattle.step_model.specs.Alone.{AloneEnd, run_alone}
 use Rattle.step_model.specs.PollSteps.{PollAsk, start, poll}
 
--- The history tells each call with its answer.
+-- The calls in the store's history, each with its answer.
 abbrev pub calls_in : Store → List (Event × Answer)
 calls_in store = map (λ entry. (entry.event, entry.answer)) store.history
 
--- A coordinator starts over a fresh store, where there are no records yet.
+-- The run of a coordinator's start over a fresh store, which has no records yet.
 abbrev pub started : AloneEnd (StepEnd ℕ)
 started = run_alone 1 (Coordinator 1) start None fresh_store
 
@@ -25,7 +26,7 @@ pub record Starts (run : AloneEnd (StepEnd ℕ)) : Type 0 where
       ≡ (GetManifest, Done 1) ∷ (GetRecords, Absent) ∷ (PutManifest (ManifestEpoch 1), Done 2) ∷ (PutRecords (RecordsEpoch 1), Done 1) ∷ (GetManifest, Done 2) ∷ (GetRecords, Done 1) ∷ []
   pub answer : run.answer ≡ Some (Reports 1)
 
--- This job compacted an empty run into itself, and waits for its commit.
+-- A job that made a run out of the same run, which is empty, and now waits for its commit.
 abbrev pub finished_job : Job
 finished_job = record {
   id = 1;
@@ -39,7 +40,7 @@ finished_job = record {
   kept_cut = Some 5;
 }
 
--- A store has that run and that job.
+-- A store with that job and the empty run that it compacted.
 abbrev pub waiting_store : Store
 waiting_store = record fresh_store {
   manifest = record fresh_store.manifest {
@@ -51,7 +52,7 @@ waiting_store = record fresh_store {
   records = Some (record { version = 2; epoch = 1; jobs = finished_job ∷ [] });
 }
 
--- A coordinator of this epoch polls, and its scheduler proposes nothing.
+-- A poll of a coordinator of this epoch. Its scheduler proposes nothing and accepts everything.
 abbrev pub ask_of : ℕ → PollAsk
 ask_of epoch = record {
   epoch = epoch;
@@ -61,11 +62,12 @@ ask_of epoch = record {
   commits_only = false;
 }
 
--- The poll of a coordinator of this epoch is run over that store.
+-- The run of a poll over the store with the waiting job, by a coordinator of this epoch.
 abbrev pub polled : ℕ → Option Fault → AloneEnd (StepEnd PollState)
 polled epoch fault = run_alone 1 (Coordinator 1) (poll (ask_of epoch)) fault waiting_store
 
--- A commit of the waiting job puts the manifest, since the horizon rises though the tree stays, and then the records.
+-- A poll commits the waiting job. It puts the manifest, since the horizon rises although the tree
+-- stays as it is, and then the records.
 pub record Commits (run : AloneEnd (StepEnd PollState)) : Type 0 where
   pub calls : calls_in run.store
       ≡ (GetManifest, Done 3) ∷ (GetRecords, Done 2) ∷ (PutManifest (Commit (Join 1 ∷ [])), Done 4)
@@ -77,7 +79,8 @@ pub record Fences (run : AloneEnd (StepEnd PollState)) : Type 0 where
   pub calls : calls_in run.store ≡ (GetManifest, Done 3) ∷ []
   pub answer : run.answer ≡ Some (Fenced 1)
 
--- A commit whose third call is struck ends there, and what the call put stands.
+-- A fault strikes the third call of a poll, the put of the manifest. The poll ends there, and the
+-- put takes effect.
 pub record StopsStruck (run : AloneEnd (StepEnd PollState)) : Type 0 where
   pub calls : calls_in run.store ≡ (GetManifest, Done 3) ∷ (GetRecords, Done 2) ∷ (PutManifest (Commit (Join 1 ∷ [])), Stands) ∷ []
   pub horizon : run.store.manifest.horizon ≡ 5

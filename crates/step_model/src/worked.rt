@@ -1,15 +1,17 @@
-//! Worked steps show the definitions: each call has an empty body, and its clauses give the calls that a step makes.
+//! Worked examples of steps. Each function has an empty body, and its clauses state the calls that
+//! a step makes.
 
 ghost use Rattle.std.specs.Prelude.{None, Some, true};
 ghost use Rattle.step_model.specs.Worked.{Commits, Fences, Starts, StopsStruck, polled, started};
 
-/// A coordinator starts over a fresh store.
+/// A coordinator starts over a fresh store. The definition `Starts` states its calls and its
+/// answer.
 pub fn a_start()
     ensures { Starts started }
 {}
 
-/// Three coordinators poll over a store with a Compacted job: one has the stored epoch, one has an older epoch, and a
-/// put of the third one is struck.
+/// Three coordinators poll over a store with one Compacted job. The first has the stored epoch, and
+/// the second an older epoch. A fault strikes the third call of the third one.
 pub fn polls()
     ensures commits { Commits (polled 1 None) }
     ensures fenced { Fences (polled 0 None) }

@@ -14,7 +14,7 @@ use Rattle.fleet_iter.proofs.merge.take_least.Goals as goal
 place_of : (order : IterationOrder) (hs ms : List (Option RowEntry)) (r : Option ℕ) (k : ℕ) → r ≡ Some k → r ≡ option_map (λ p. p.0) (best order ms) → ms ≡ hs → Some k ≡ option_map (λ p. p.0) (best order hs)
 place_of order hs ms r k e f q = sym e ∙ (f ∙ ap (λ (w : List (Option RowEntry)). option_map (λ p. p.0) (best order w)) q)
 
--- the least head, and that its source is there
+-- At the place that was found there is the least head, and there is a source.
 found : {T : Type 0} (f : T → IteratorState) (order : IterationOrder) (hs : List (Option RowEntry)) (xs : List T) (k : ℕ) → AllTaken hs (map f xs) → Some k ≡ option_map (λ p. p.0) (best order hs)
     → (x : RowEntry) × (best order hs ≡ Some (k, x)) × (k < length (map f xs))
 found f order hs xs k taken at =

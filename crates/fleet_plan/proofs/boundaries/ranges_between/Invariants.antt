@@ -5,6 +5,7 @@ use Rattle.fleet_plan.specs.Boundaries.{ranges_of}
 use Rattle.fleet_plan.proofs.Cuts.{RiseFrom}
 use Rattle.fleet_plan.proofs.boundaries.ranges_between.Given as goal
 
--- the ranges so far, and those from the start on, are all; the keys left rise from the start
+-- The ranges so far, followed by the ranges from the start on, are all ranges. The keys left rise from the
+-- start.
 abbrev pub invariant-keys : goal.invariant-keys
 invariant-keys l = (ranges_of l.ranges.items ++ ranges_from (model_bound l.start) (drop l.key-index l.keys) ≡ ranges_from Unbounded l.keys) × RiseFrom l.start (drop l.key-index l.keys)

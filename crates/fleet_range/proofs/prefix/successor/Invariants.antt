@@ -2,7 +2,7 @@ use Rattle.std.proofs.Common.{◌≡◌, ◌≤◌, None, drop, length}
 use Rattle.fleet_range.specs.Keys.{successor}
 use Rattle.fleet_range.proofs.prefix.successor.Given as goal
 
--- from `kept` on, all bytes are ff
+-- All bytes from `kept` on are 0xff.
 abbrev pub invariant-trailing : goal.invariant-trailing
 invariant-trailing l = record {
   inside : l.kept ≤ length l.prefix;

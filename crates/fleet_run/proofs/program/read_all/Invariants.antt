@@ -3,7 +3,7 @@ use Rattle.std.specs.Io.KnownBytes.{Consumes}
 use Rattle.fleet_run.specs.Program.{longest}
 use Rattle.fleet_run.proofs.program.read_all.Given as goal
 
--- the text so far is what the source gave
+-- The text so far is what the source gave.
 abbrev pub invariant-pieces : goal.invariant-pieces
 invariant-pieces g l =
     let old = g.S.Source.told l.fn.source in

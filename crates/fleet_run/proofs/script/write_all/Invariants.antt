@@ -2,7 +2,7 @@ use Rattle.std.proofs.Common.{◌≤◌, length}
 use Rattle.fleet_run.proofs.Written.{TakenSoFar}
 use Rattle.fleet_run.proofs.script.write_all.Given as goal
 
--- a front of the piece is written, and the rest is left
+-- A front of the piece is written, and the rest is left.
 abbrev pub invariant-pieces : goal.invariant-pieces
 invariant-pieces g l =
     let told = g.K.Sink.told in
