@@ -1,0 +1,5 @@
+pub mod Sources
+pub mod SpecParts
+pub mod Specs
+pub mod Status
+pub mod Workers
