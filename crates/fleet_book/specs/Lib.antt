@@ -3,3 +3,10 @@ pub mod SpecParts
 pub mod Specs
 pub mod Status
 pub mod Workers
+pub mod ContextParts
+pub mod Contexts
+pub mod JobParts
+pub mod Jobs
+pub mod Taken
+pub mod Moves
+pub mod Records
