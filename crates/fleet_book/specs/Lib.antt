@@ -10,3 +10,6 @@ pub mod Jobs
 pub mod Taken
 pub mod Moves
 pub mod Records
+pub mod VersionedRecords
+pub mod Versions
+pub mod Requests

@@ -3,20 +3,30 @@
 #![tactic(auto)]
 
 mod compaction;
+mod compactions;
 mod context;
+mod job_map;
 mod list;
+mod recent;
 mod release;
+mod request;
 mod source_id;
 mod sources;
 mod spec;
 mod status;
+mod view;
 mod worker_spec;
 
 pub use compaction::Compaction;
+pub use compactions::{Compactions, VersionedCompactions};
 pub use context::CompactionContext;
+pub use job_map::JobMap;
 pub use list::{OutputList, Slots, SubcompactionList};
+pub use recent::RecentCompactions;
 pub use release::Release;
+pub use request::CompactionRequest;
 pub use source_id::{SourceId, SourceList};
 pub use spec::{CompactionSpec, DrainSegmentSpec, TieredCompactionSpec};
 pub use status::CompactionStatus;
+pub use view::CompactorStateView;
 pub use worker_spec::WorkerSpec;

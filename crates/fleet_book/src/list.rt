@@ -20,7 +20,7 @@ pub type SubcompactionList = Slots<Subcompaction>;
 /// A vector whose items are changed in place. Contracts see it as the list of these items.
 #[derive(Debug, Drop)]
 pub struct Slots<T> {
-    items: Vec<T>,
+    pub(crate) items: Vec<T>,
 }
 
 impl<T> Model for Slots<T> {

@@ -1,0 +1,9 @@
+use Rattle.std.proofs.Common.{rules, ◌||◌}
+use Rattle.std.proofs.lemmas.Fn.{filter_same}
+use Rattle.fleet_book.specs.Jobs.{is_open}
+use Rattle.fleet_book.specs.Records.{is_last}
+use Rattle.fleet_book.proofs.job_map.retain.Goals as goal
+
+pub returns : goal.returns
+returns c =
+    filter_same _ (λ job. is_open job || is_last c.args.last job) _ (λ x b f called. search rules) _ _ c.retain.ensures.filtered

@@ -1,0 +1,8 @@
+-- Records with their version as the model has them.
+use Rattle.fleet_model.specs.Store.{Records}
+use Rattle.fleet_book.specs.Jobs.{jobs_of}
+use Rattle.fleet_book.specs.VersionedRecords.{VersionedRecords}
+
+-- The model's records with the contents of a program's records.
+abbrev pub records_of : VersionedRecords → Records
+records_of records = record { version = records.id; epoch = records.compactions.compactor_epoch; jobs = jobs_of records.compactions.jobs }

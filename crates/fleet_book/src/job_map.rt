@@ -1,0 +1,171 @@
+//! The records of all jobs.
+
+ghost use Rattle.std.specs.Prelude.{◌≡◌, ◌==◌, [], ◌||◌, None, filter, find, fold, length, nat_lt, take_while, IfOk, IsOkUnless, OnErr, OnOk};
+ghost use Rattle.std.specs.Option.{option_copied};
+ghost use Rattle.fleet_book.specs.Jobs.{is_open};
+ghost use Rattle.fleet_book.specs.Records.{AreRising, after_job, has_id, is_last, kept_records, put_record, record_with};
+
+use crate::{Compaction, RecentCompactions, Slots};
+use fleet_rows::{SlateDBError, Ulid};
+use std::alloc::{AllocError, Global};
+use std::marker::Model;
+
+/// The records of jobs by their ids. Contracts see them as a list by rising id, and no two have one
+/// id.
+#[derive(Debug, Drop, PartialEq, Eq)]
+pub struct JobMap {
+    jobs: Slots<Compaction>,
+}
+
+impl Model for JobMap {
+    ghost use Rattle.std.specs.Prelude.{List};
+    ghost use Rattle.fleet_book.specs.JobParts.{JobParts};
+    ghost use Rattle.fleet_book.specs.Records.{AreRising};
+
+    ghost Value = { List JobParts };
+
+    ghost view = { λ m. m.jobs };
+
+    ghost invariant = { λ m. AreRising m.jobs };
+
+    ghost inverse = { λ jobs. record { jobs = jobs } };
+}
+
+impl JobMap {
+    /// A map without jobs. It takes no memory.
+    pub fn new(alloc: Global) -> JobMap
+        ensures { result ≡ [] }
+    {
+        JobMap {
+            jobs: Slots::new(alloc),
+        }
+    }
+
+    /// The number of jobs.
+    pub fn len(&self) -> u64
+        ensures { result ≡ length self.now }
+    {
+        self.jobs.len()
+    }
+
+    /// The job with this id.
+    pub fn get(&self, id: &Ulid) -> Option<&Compaction>
+        ensures { option_copied result ≡ record_with id.now self.now }
+    {
+        with_id(self.jobs.as_slice(), *id)
+    }
+
+    /// The jobs, by rising id.
+    pub fn iter(&self) -> RecentCompactions<'_>
+        ensures jobs { result ≡ self.now }
+        ensures rising { AreRising self.now }
+    {
+        RecentCompactions::new(self.jobs.as_slice())
+    }
+
+    /// Adds a job, in the place of one with its id if there is one. If out of memory, the new job is
+    /// dropped.
+    pub fn insert(&mut self, job: Compaction) -> Result<(), SlateDBError>
+        ensures ok { OnOk result (self.new ≡ put_record job self.old) }
+        ensures err { OnErr result (self.new ≡ self.old) }
+        ensures memory { IsOkUnless result SlateDBError.Memory }
+    {
+        Ok(put(&mut self.jobs, job)?)
+    }
+
+    /// Drops each job that is over, but for the one of them with the greatest id.
+    pub fn retain_active_and_last_finished(&mut self)
+        ensures { self.new ≡ kept_records self.old }
+    {
+        let last = last_finished(self.jobs.as_slice());
+        retain(&mut self.jobs.items, last);
+    }
+
+    /// A copy.
+    pub fn clone(&self) -> Result<JobMap, SlateDBError>
+        ensures copy { IfOk result (λ copy. copy ≡ self.now) }
+        ensures memory { IsOkUnless result SlateDBError.Memory }
+    {
+        Ok(Clone::clone(self)?)
+    }
+}
+
+impl Clone for JobMap {
+    ghost is_clone = { λ map copy. copy ≡ map };
+
+    fn clone(&self) -> Result<JobMap, AllocError> {
+        Ok(JobMap {
+            jobs: Clone::clone(&self.jobs)?,
+        })
+    }
+}
+
+fn with_id(jobs: &[Compaction], id: Ulid) -> Option<&Compaction>
+    ensures { option_copied result ≡ find (λ job. job.id == id) jobs.now }
+{
+    jobs.iter().find(|job| job.id() == id)
+}
+
+// Puts a job in the place of one with its id, or before the first one with a greater id.
+fn put(jobs: &mut Slots<Compaction>, job: Compaction) -> Result<(), AllocError>
+    ensures ok { OnOk result (jobs.new ≡ put_record job jobs.old) }
+    ensures err { OnErr result (jobs.new ≡ jobs.old) }
+{
+    let id = job.id();
+    let place = jobs_below(jobs.as_slice(), id);
+    if has_id(jobs.get(place as u64), id) {
+        jobs.replace(place, job);
+        Ok(())
+    } else {
+        jobs.insert(place, job)
+    }
+}
+
+fn has_id(job: Option<&Compaction>, id: Ulid) -> bool
+    ensures { result ≡ has_id id (option_copied job.entry) }
+{
+    match job {
+        Some(job) => job.id() == id,
+        None => false,
+    }
+}
+
+fn jobs_below(jobs: &[Compaction], id: Ulid) -> usize
+    ensures { result ≡ length (take_while (λ job. nat_lt job.id id) jobs.now) }
+{
+    jobs.iter().take_while(|job| job.id() < id).count()
+}
+
+// The id of the last job that is over.
+fn last_finished(jobs: &[Compaction]) -> Option<Ulid>
+    ensures { result ≡ fold after_job None jobs.now }
+{
+    jobs.iter().fold(None, after_job)
+}
+
+fn after_job(last: Option<Ulid>, job: &Compaction) -> Option<Ulid>
+    ensures { result ≡ after_job last job.now }
+{
+    if job.active() { last } else { Some(job.id()) }
+}
+
+fn is_kept(job: &Compaction, last: Option<Ulid>) -> bool
+    ensures { result ≡ is_open job.now || is_last last job.now }
+{
+    job.active() || is_last(last, job)
+}
+
+fn is_last(last: Option<Ulid>, job: &Compaction) -> bool
+    ensures { result ≡ is_last last job.now }
+{
+    match last {
+        Some(id) => id == job.id(),
+        None => false,
+    }
+}
+
+fn retain(jobs: &mut Vec<Compaction>, last: Option<Ulid>)
+    ensures { jobs.new.items ≡ filter (λ job. is_open job || is_last last job) jobs.old.items }
+{
+    jobs.retain(|job| is_kept(job, last));
+}
