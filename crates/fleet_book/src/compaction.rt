@@ -1,16 +1,17 @@
 //! Jobs, as their records keep them.
 
-ghost use Rattle.std.specs.Prelude.{◌≡◌, ◌++◌, IfOk, IsOkUnless, OnOk, flat_map, not};
+ghost use Rattle.std.specs.Prelude.{◌≡◌, IfOk, IsOkUnless, flat_map, not};
 ghost use Rattle.std.specs.Option.{option_copied};
 ghost use Rattle.fleet_model.specs.Jobs.{is_finished};
 ghost use Rattle.fleet_book.specs.Contexts.{FollowsContext, ranges_in};
 ghost use Rattle.fleet_book.specs.Jobs.{fresh_job, with_status};
 ghost use Rattle.fleet_book.specs.Status.{status_of};
 
+use crate::list::add_all;
 use crate::{CompactionContext, CompactionSpec, CompactionStatus, OutputList, WorkerSpec};
 use fleet_plan::Subcompaction;
 use fleet_rows::{Copies, JobList, SlateDBError, Ulid};
-use fleet_table::{SsTableHandle, TableList};
+use fleet_table::TableList;
 use std::alloc::{AllocError, Global};
 use std::fmt;
 use std::marker::Model;
@@ -273,15 +274,6 @@ fn joined(alloc: Global, lists: &[TableList]) -> Result<TableList, SlateDBError>
         add_all(&mut tables, list.as_slice())?;
     }
     TableList::from_vec(alloc, tables)
-}
-
-fn add_all(tables: &mut Vec<SsTableHandle>, list: &[SsTableHandle]) -> Result<(), AllocError>
-    ensures { OnOk result (tables.new.items ≡ tables.old.items ++ list.now) }
-{
-    'tables: for table in list {
-        tables.push(table.copied()?)?;
-    }
-    Ok(())
 }
 
 /// Prints the spec, then the bytes that were processed, if there are any, and then how many of the

@@ -7,6 +7,7 @@ mod compactions;
 mod context;
 mod job_map;
 mod list;
+mod moves;
 mod recent;
 mod release;
 mod request;

@@ -155,3 +155,13 @@ impl<T: PartialEq> PartialEq for Slots<T> {
 impl<T: Eq> Eq for Slots<T> {
     ghost laws = { lists_equiv T.Eq.laws };
 }
+
+/// Adds copies of these items at the end.
+pub(crate) fn add_all<T: Copies + Drop>(items: &mut Vec<T>, more: &[T]) -> Result<(), AllocError>
+    ensures { OnOk result (items.new.items ≡ items.old.items ++ more.now) }
+{
+    'more: for item in more {
+        items.push(item.copied()?)?;
+    }
+    Ok(())
+}
