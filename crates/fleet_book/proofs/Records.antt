@@ -1,12 +1,12 @@
 -- Records of jobs stay in the order of their ids, and one of those that are over is kept.
-use Rattle.std.proofs.Common.{◌≡◌, refl, ◌∙◌, ap, subst, ℕ, suc, ◌+◌, ◌<◌, List, [], ◌∷◌, ◌++◌, take, drop, Bool, true, false, cond, ◌||◌, not, arith}
-use Rattle.std.specs.Prelude.{◌==◌, nat_lt, slice_get, slice_set, filter, fold, Option, Some, None}
+use Rattle.std.proofs.Common.{sym, length, zero, ◌≡◌, refl, ◌∙◌, ap, subst, ℕ, suc, ◌+◌, ◌<◌, List, [], ◌∷◌, ◌++◌, take, drop, Bool, true, false, cond, ◌||◌, not, arith}
+use Rattle.std.specs.Prelude.{◌==◌, nat_lt, slice_get, slice_set, filter, fold, Option, Some, None, IfSome, IsSome}
 use Rattle.std.specs.List.{AllByRecursion, prefix_len}
 use Rattle.std.proofs.lemmas.Bool.{eqb-true, eqb-false, eq-eqb, ltb-false, ltb-true}
 use Rattle.row_laws.proofs.Elements.{all_weaken}
 use Rattle.fleet_book.specs.JobParts.{JobParts}
 use Rattle.fleet_book.specs.Jobs.{is_open}
-use Rattle.fleet_book.specs.Records.{AreRising, put_record, over_later, kept_records, has_id, after_job, is_last}
+use Rattle.fleet_book.specs.Records.{AreRising, record_with, put_record, over_later, kept_records, has_id, after_job, is_last}
 
 abbrev Above : ℕ → JobParts → Type 0
 Above x job = x < job.id
@@ -91,6 +91,96 @@ put_by new jobs id place there got own at found looked =
     ∙ ap (λ b. put_at b (place_in id jobs) new jobs) (found ∙ ap (has_id id) (looked ∙ ap (slice_get jobs) at))
     ∙ ap (λ k. put_at (has_id k (slice_get jobs (place_in k jobs))) (place_in k jobs) new jobs) own
     ∙ put_is new jobs
+
+none_there : (id : ℕ) (jobs : List JobParts) → AllByRecursion (Above id) jobs → record_with id jobs ≡ None
+none_there id [] all = refl
+none_there id (job ∷ jobs) all = by (job.id == id) refl (none_there id jobs all.1)
+  where
+    by : (c : Bool) → (job.id == id) ≡ c → record_with id jobs ≡ None → cond c (Some job) (record_with id jobs) ≡ None
+    by true f rest = let same = eqb-true job.id id f in let high = all.0 in absurd (omega (arith, same, high))
+    by false f rest = rest
+
+has_its_id : (id : ℕ) (job : JobParts) (jobs : List JobParts) → record_with id jobs ≡ Some job → has_id id (Some job) ≡ true
+has_its_id id job [] found = absurd (cc found)
+has_its_id id job (first ∷ jobs) found = by (first.id == id) refl found (λ later. has_its_id id job jobs later)
+  where
+    by : (c : Bool) → (first.id == id) ≡ c → cond c (Some first) (record_with id jobs) ≡ Some job → (record_with id jobs ≡ Some job → (job.id == id) ≡ true) → (job.id == id) ≡ true
+    by true f is rest = let same : first ≡ job = cc is in sym (ap (λ j. j.id == id) same) ∙ f
+    by false f is rest = rest is
+
+-- A record that is there is found at the place that is looked up.
+found_at : (id : ℕ) (job : JobParts) (jobs : List JobParts) → AreRising jobs → record_with id jobs ≡ Some job → slice_get jobs (place_in id jobs) ≡ Some job
+found_at id job [] up found = found
+found_at id job (first ∷ jobs) up found =
+    by (nat_lt first.id id) (first.id == id) refl refl found (λ later. found_at id job jobs up.1 later) (λ low. none_there id jobs (all_weaken (Above first.id) (Above id) (λ other high. omega arith) jobs up.0))
+  where
+    got : slice_get (first ∷ jobs) (1 + place_in id jobs) ≡ slice_get jobs (place_in id jobs)
+    got = let e : 1 + place_in id jobs ≡ suc (place_in id jobs) = omega arith in ap (slice_get (first ∷ jobs)) e
+
+    by : (b c : Bool) → nat_lt first.id id ≡ b → (first.id == id) ≡ c → cond c (Some first) (record_with id jobs) ≡ Some job
+        → (record_with id jobs ≡ Some job → slice_get jobs (place_in id jobs) ≡ Some job) → (id < first.id → record_with id jobs ≡ None)
+        → slice_get (first ∷ jobs) (cond b (1 + place_in id jobs) 0) ≡ Some job
+    by true true e f is rest none = let low = ltb-true first.id id e in let same = eqb-true first.id id f in absurd (omega (arith, low, same))
+    by true false e f is rest none = got ∙ rest is
+    by false true e f is rest none = is
+    by false false e f is rest none =
+        let gone : None ≡ Some job = sym (none (above first.id id e (eqb-false first.id id f))) ∙ is in absurd (cc gone)
+
+-- The place of a record that is there is below the length.
+place_low : (id : ℕ) (jobs : List JobParts) (job : JobParts) → slice_get jobs (place_in id jobs) ≡ Some job → place_in id jobs < length jobs
+place_low id jobs job found = low (place_in id jobs) jobs found
+  where
+    low : (n : ℕ) (others : List JobParts) → slice_get others n ≡ Some job → n < length others
+    low n [] e = absurd (cc e)
+    low zero (other ∷ others) e = omega arith
+    low (suc n) (other ∷ others) e = let rest = low n others e in omega (arith, rest)
+
+-- What is known of a record that is there: its place, and that putting another there replaces it.
+record IsThere (id : ℕ) (jobs : List JobParts) (job : JobParts) : Type 0 where
+  is : record_with id jobs ≡ Some job
+  own : job.id ≡ id
+  low : place_in id jobs < length jobs
+  found : slice_get jobs (place_in id jobs) ≡ Some job
+  replaced : (new : JobParts) → id ≡ new.id → slice_set jobs (place_in id jobs) new ≡ put_record new jobs
+
+there : (id : ℕ) (jobs : List JobParts) → AreRising jobs → IsSome (record_with id jobs) → (job : JobParts) × IsThere id jobs job
+there id jobs up some = by (record_with id jobs) refl some
+  where
+    by : (o : Option JobParts) → record_with id jobs ≡ o → IsSome o → (job : JobParts) × IsThere id jobs job
+    by None e h = absurd (cc h)
+    by (Some job) e h =
+        let at = found_at id job jobs up e in
+        let its = has_its_id id job jobs e in (
+          job,
+          record {
+            is = e;
+            own = eqb-true job.id id its;
+            low = place_low id jobs job at;
+            found = at;
+            replaced = λ new own. put_by new jobs id (place_in id jobs) true (Some job) own refl (sym its) (sym at);
+          },
+        )
+
+-- The place of a record that is there is a place of the list.
+pub place_fits : (id place : ℕ) (jobs : List JobParts) → AreRising jobs → IsSome (record_with id jobs) → place ≡ place_in id jobs → place < length jobs
+place_fits id place jobs up some at = subst (λ n. n < length jobs) (sym at) (there id jobs up some).1.low
+
+-- A record that is there is replaced by one with its id.
+pub is_replaced : (new : JobParts) (id place : ℕ) (jobs made : List JobParts) → id ≡ new.id → AreRising jobs → IsSome (record_with id jobs) → place ≡ place_in id jobs
+    → made ≡ slice_set jobs place new → made ≡ put_record new jobs
+is_replaced new id place jobs made own up some at set =
+    set ∙ ap (λ n. slice_set jobs n new) at ∙ (there id jobs up some).1.replaced new own
+
+-- A record that is there is changed, and keeps its id.
+pub is_changed : (change : JobParts → JobParts) → ((job : JobParts) → (change job).id ≡ job.id) → (id place : ℕ) (jobs made : List JobParts) → AreRising jobs → IsSome (record_with id jobs)
+    → place ≡ place_in id jobs → IfSome (slice_get jobs place) (λ job. made ≡ slice_set jobs place (change job))
+    → (job : JobParts) × ((record_with id jobs ≡ Some job) × (made ≡ put_record (change job) jobs))
+is_changed change keeps id place jobs made up some at set =
+    let known = there id jobs up some in
+    let job = known.0 in
+    let put = subst (λ o. IfSome o (λ job. made ≡ slice_set jobs place (change job))) (ap (slice_get jobs) at ∙ known.1.found) set in
+    let own = sym (keeps job ∙ known.1.own) in
+    (job, (known.1.is, put ∙ ap (λ n. slice_set jobs n (change job)) at ∙ known.1.replaced (change job) own))
 
 -- ---- the records that are kept
 

@@ -1,11 +1,11 @@
 //! The records of all jobs.
 
-ghost use Rattle.std.specs.Prelude.{◌≡◌, ◌==◌, [], ◌||◌, None, filter, find, fold, length, nat_lt, take_while, IfOk, IsOkUnless, OnErr, OnOk};
+ghost use Rattle.std.specs.Prelude.{◌≡◌, ◌==◌, ◌<◌, [], ◌||◌, None, filter, find, fold, length, nat_lt, slice_get, slice_set, take_while, IfOk, IfSome, IsSome, IsOkUnless, OnErr, OnOk};
 ghost use Rattle.std.specs.Option.{option_copied};
-ghost use Rattle.fleet_book.specs.Jobs.{is_open};
+ghost use Rattle.fleet_book.specs.Jobs.{is_open, with_status};
 ghost use Rattle.fleet_book.specs.Records.{AreRising, after_job, has_id, is_last, kept_records, put_record, record_with};
 
-use crate::{Compaction, RecentCompactions, Slots};
+use crate::{Compaction, CompactionStatus, RecentCompactions, Slots};
 use fleet_rows::{SlateDBError, Ulid};
 use std::alloc::{AllocError, Global};
 use std::marker::Model;
@@ -81,6 +81,25 @@ impl JobMap {
         retain(&mut self.jobs.items, last);
     }
 
+    /// Sets the status of the job with this id. A job that fails loses its context.
+    pub fn set_status(&mut self, id: &Ulid, status: CompactionStatus)
+        requires { IsSome (record_with id.now self.old) }
+        ensures { IfSome (record_with id.now self.old)
+            (λ job. self.new ≡ put_record (with_status status job) self.old) }
+    {
+        let place = jobs_below(self.jobs.as_slice(), *id);
+        set_status_at(&mut self.jobs, place, status);
+    }
+
+    /// Puts a job in the place of the one with its id.
+    pub fn replace(&mut self, job: Compaction)
+        requires { IsSome (record_with job.id self.old) }
+        ensures { self.new ≡ put_record job self.old }
+    {
+        let place = jobs_below(self.jobs.as_slice(), job.id());
+        self.jobs.replace(place, job);
+    }
+
     /// A copy.
     pub fn clone(&self) -> Result<JobMap, SlateDBError>
         ensures copy { IfOk result (λ copy. copy ≡ self.now) }
@@ -119,6 +138,14 @@ fn put(jobs: &mut Slots<Compaction>, job: Compaction) -> Result<(), AllocError>
     } else {
         jobs.insert(place, job)
     }
+}
+
+fn set_status_at(jobs: &mut Slots<Compaction>, place: usize, status: CompactionStatus)
+    requires { place < length jobs.old }
+    ensures { IfSome (slice_get jobs.old place)
+        (λ job. jobs.new ≡ slice_set jobs.old place (with_status status job)) }
+{
+    jobs.items[place].set_status(status);
 }
 
 fn has_id(job: Option<&Compaction>, id: Ulid) -> bool
