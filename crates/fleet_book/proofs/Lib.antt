@@ -1,2 +1,3 @@
 pub mod Records
 pub mod Moved
+pub mod Merged

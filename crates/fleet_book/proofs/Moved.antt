@@ -1,5 +1,5 @@
 -- Tables in the order of their first keys, and tables whose ranges are disjoint.
-use Rattle.std.proofs.Common.{◌≡◌, refl, sym, ◌∙◌, ap, ℕ, ◌<◌, cond, List, [], ◌∷◌, length, Bool, true, false, not, ◌&&◌, arith}
+use Rattle.std.proofs.Common.{◌≡◌, refl, sym, ◌∙◌, ap, ◌<◌, cond, List, [], ◌∷◌, length, Bool, true, false, not, ◌&&◌, arith}
 use Rattle.std.specs.Prelude.{filter, ⊤}
 use Rattle.std.specs.List.{AllByRecursion}
 use Rattle.std.specs.List.Sorted.{ties, IsSortedBy, IsStableBy}

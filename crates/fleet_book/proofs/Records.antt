@@ -34,7 +34,7 @@ rising_put new (job ∷ jobs) up = by (nat_lt job.id new.id) (job.id == new.id) 
     by false true e f rest = let same = eqb-true job.id new.id f in (subst (λ n. AllByRecursion (Above n) jobs) same up.0, up.1)
     by false false e f rest = let low = above job.id new.id e (eqb-false job.id new.id f) in ((low, all_weaken (Above job.id) (Above new.id) (λ other high. omega arith) jobs up.0), up)
 
-rising_filter : (p : JobParts → Bool) (jobs : List JobParts) → AreRising jobs → AreRising (filter p jobs)
+pub rising_filter : (p : JobParts → Bool) (jobs : List JobParts) → AreRising jobs → AreRising (filter p jobs)
 rising_filter p [] up = tt
 rising_filter p (job ∷ jobs) up = by (p job) (rising_filter p jobs up.1) (kept jobs up.0)
   where

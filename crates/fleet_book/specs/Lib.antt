@@ -13,3 +13,5 @@ pub mod Records
 pub mod VersionedRecords
 pub mod Versions
 pub mod Requests
+pub mod StateParts
+pub mod States

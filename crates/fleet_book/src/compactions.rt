@@ -1,10 +1,12 @@
 //! The records, and their versions.
 
-ghost use Rattle.std.specs.Prelude.{◌≡◌, [], IfOk, IsOkUnless, OnErr, OnOk};
+ghost use Rattle.std.specs.Prelude.{◌≡◌, [], IfOk, IfSome, IsOkUnless, IsSome, OnErr, OnOk};
 ghost use Rattle.std.specs.Option.{option_copied};
+ghost use Rattle.fleet_book.specs.Jobs.{with_status};
+ghost use Rattle.fleet_book.specs.Versions.{with_jobs};
 ghost use Rattle.fleet_book.specs.Records.{AreRising, kept_records, put_record, record_with};
 
-use crate::{Compaction, JobMap, RecentCompactions};
+use crate::{Compaction, CompactionStatus, JobMap, RecentCompactions};
 use fleet_rows::{SlateDBError, Ulid};
 use std::alloc::{AllocError, Global};
 use std::marker::Model;
@@ -111,6 +113,33 @@ impl VersionedCompactions {
         ensures { result.now ≡ self.now.compactions }
     {
         &self.compactions
+    }
+
+    /// Adds a job, in the place of one with its id if there is one.
+    pub(crate) fn insert(&mut self, job: Compaction) -> Result<(), SlateDBError>
+        ensures ok { OnOk result
+            (self.new ≡ with_jobs (put_record job self.old.compactions.jobs) self.old) }
+        ensures err { OnErr result (self.new ≡ self.old) }
+        ensures memory { IsOkUnless result SlateDBError.Memory }
+    {
+        self.compactions.jobs.insert(job)
+    }
+
+    /// Puts a job in the place of the one with its id.
+    pub(crate) fn replace(&mut self, job: Compaction)
+        requires { IsSome (record_with job.id self.old.compactions.jobs) }
+        ensures { self.new ≡ with_jobs (put_record job self.old.compactions.jobs) self.old }
+    {
+        self.compactions.jobs.replace(job);
+    }
+
+    /// Sets the status of the job with this id.
+    pub(crate) fn set_status(&mut self, id: &Ulid, status: CompactionStatus)
+        requires { IsSome (record_with id.now self.old.compactions.jobs) }
+        ensures { IfSome (record_with id.now self.old.compactions.jobs) (λ job. self.new
+            ≡ with_jobs (put_record (with_status status job) self.old.compactions.jobs) self.old) }
+    {
+        self.compactions.jobs.set_status(id, status);
     }
 
     /// The jobs, by rising id.

@@ -1,12 +1,12 @@
 //! The records of all jobs.
 
-ghost use Rattle.std.specs.Prelude.{◌≡◌, ◌==◌, ◌<◌, [], ◌||◌, None, filter, find, fold, length, nat_lt, slice_get, slice_set, take_while, IfOk, IfSome, IsSome, IsOkUnless, OnErr, OnOk};
+ghost use Rattle.std.specs.Prelude.{◌≡◌, ◌==◌, ◌<◌, ◌++◌, [], ◌∷◌, ◌||◌, None, filter, find, fold, length, nat_lt, slice_get, slice_set, take_while, IfOk, IfSome, IsSome, IsOkUnless, OnErr, OnOk};
 ghost use Rattle.std.specs.Option.{option_copied};
 ghost use Rattle.fleet_book.specs.Jobs.{is_open, with_status};
 ghost use Rattle.fleet_book.specs.Records.{AreRising, after_job, has_id, is_last, kept_records, put_record, record_with};
 
 use crate::{Compaction, CompactionStatus, RecentCompactions, Slots};
-use fleet_rows::{SlateDBError, Ulid};
+use fleet_rows::{Copies, SlateDBError, Ulid};
 use std::alloc::{AllocError, Global};
 use std::marker::Model;
 
@@ -61,6 +61,23 @@ impl JobMap {
         ensures rising { AreRising self.now }
     {
         RecentCompactions::new(self.jobs.as_slice())
+    }
+
+    pub(crate) fn as_slice(&self) -> &[Compaction]
+        ensures { result.now ≡ self.now }
+    {
+        self.jobs.as_slice()
+    }
+
+    /// A map of copies of the jobs that are not over.
+    pub(crate) fn active(&self, alloc: Global) -> Result<JobMap, SlateDBError>
+        ensures map { IfOk result (λ map. map ≡ filter is_open self.now) }
+        ensures memory { IsOkUnless result SlateDBError.Memory }
+    {
+        let copies = open_copies(alloc, self.jobs.as_slice())?;
+        Ok(JobMap {
+            jobs: Slots::from_vec(copies),
+        })
     }
 
     /// Adds a job, in the place of one with its id if there is one. If out of memory, the new job is
@@ -195,4 +212,24 @@ fn retain(jobs: &mut Vec<Compaction>, last: Option<Ulid>)
     ensures { jobs.new.items ≡ filter (λ job. is_open job || is_last last job) jobs.old.items }
 {
     jobs.retain(|job| is_kept(job, last));
+}
+
+fn open_copies(alloc: Global, jobs: &[Compaction]) -> Result<Vec<Compaction>, AllocError>
+    ensures { IfOk result (λ copies. copies.items ≡ filter is_open jobs.now) }
+{
+    let mut copies = Vec::new(alloc);
+    'jobs: for job in jobs {
+        add_open(&mut copies, job)?;
+    }
+    Ok(copies)
+}
+
+// Adds a copy of the job, if it is not over.
+fn add_open(copies: &mut Vec<Compaction>, job: &Compaction) -> Result<(), AllocError>
+    ensures { OnOk result (copies.new.items ≡ copies.old.items ++ filter is_open (job.now ∷ [])) }
+{
+    if job.active() {
+        copies.push(job.copied()?)?;
+    }
+    Ok(())
 }
