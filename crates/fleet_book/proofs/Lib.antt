@@ -1,3 +1,4 @@
 pub mod Records
 pub mod Moved
 pub mod Merged
+pub mod Trimmed

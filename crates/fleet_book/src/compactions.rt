@@ -2,7 +2,8 @@
 
 ghost use Rattle.std.specs.Prelude.{◌≡◌, [], IfOk, IfSome, IsOkUnless, IsSome, OnErr, OnOk};
 ghost use Rattle.std.specs.Option.{option_copied};
-ghost use Rattle.fleet_book.specs.Jobs.{with_status};
+ghost use Rattle.fleet_model.specs.Jobs.{trimmed};
+ghost use Rattle.fleet_book.specs.Jobs.{jobs_of, with_status};
 ghost use Rattle.fleet_book.specs.Versions.{with_jobs};
 ghost use Rattle.fleet_book.specs.Records.{AreRising, kept_records, put_record, record_with};
 
@@ -29,8 +30,8 @@ impl Compactions {
         }
     }
 
-    /// Adds a job, in the place of one with its id if there is one. If out of memory, the new job is
-    /// dropped.
+    /// Adds a job, in the place of one with its id if there is one. If out of memory, the new job
+    /// is dropped.
     pub fn insert(&mut self, compaction: Compaction) -> Result<(), SlateDBError>
         ensures ok { OnOk result
             (self.new ≡ record self.old { jobs = put_record compaction self.old.jobs }) }
@@ -57,7 +58,9 @@ impl Compactions {
 
     /// Drops each job that is over, but for the one of them with the greatest id.
     pub fn retain_active_and_last_finished(&mut self)
-        ensures { self.new ≡ record self.old { jobs = kept_records self.old.jobs } }
+        ensures kept { self.new ≡ record self.old { jobs = kept_records self.old.jobs } }
+        // These are the jobs that the model keeps.
+        ensures model { jobs_of self.new.jobs ≡ trimmed (jobs_of self.old.jobs) }
     {
         self.jobs.retain_active_and_last_finished();
     }

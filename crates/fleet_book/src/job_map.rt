@@ -2,7 +2,8 @@
 
 ghost use Rattle.std.specs.Prelude.{◌≡◌, ◌==◌, ◌<◌, ◌++◌, [], ◌∷◌, ◌||◌, None, filter, find, fold, length, nat_lt, slice_get, slice_set, take_while, IfOk, IfSome, IsSome, IsOkUnless, OnErr, OnOk};
 ghost use Rattle.std.specs.Option.{option_copied};
-ghost use Rattle.fleet_book.specs.Jobs.{is_open, with_status};
+ghost use Rattle.fleet_model.specs.Jobs.{trimmed};
+ghost use Rattle.fleet_book.specs.Jobs.{is_open, jobs_of, with_status};
 ghost use Rattle.fleet_book.specs.Records.{AreRising, after_job, has_id, is_last, kept_records, put_record, record_with};
 
 use crate::{Compaction, CompactionStatus, RecentCompactions, Slots};
@@ -80,8 +81,8 @@ impl JobMap {
         })
     }
 
-    /// Adds a job, in the place of one with its id if there is one. If out of memory, the new job is
-    /// dropped.
+    /// Adds a job, in the place of one with its id if there is one. If out of memory, the new job
+    /// is dropped.
     pub fn insert(&mut self, job: Compaction) -> Result<(), SlateDBError>
         ensures ok { OnOk result (self.new ≡ put_record job self.old) }
         ensures err { OnErr result (self.new ≡ self.old) }
@@ -92,7 +93,8 @@ impl JobMap {
 
     /// Drops each job that is over, but for the one of them with the greatest id.
     pub fn retain_active_and_last_finished(&mut self)
-        ensures { self.new ≡ kept_records self.old }
+        ensures kept { self.new ≡ kept_records self.old }
+        ensures model { jobs_of self.new ≡ trimmed (jobs_of self.old) }
     {
         let last = last_finished(self.jobs.as_slice());
         retain(&mut self.jobs.items, last);

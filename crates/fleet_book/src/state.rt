@@ -2,10 +2,10 @@
 
 ghost use Rattle.std.specs.Prelude.{◌≡◌, ℕ, ◌&&◌, ◌||◌, None, Some, Err, bytes_eq, filter, false, true, IfOk, IfSome, IsOkUnless, IsSome, OnErr, OnOk};
 ghost use Rattle.std.specs.Option.{option_copied};
-ghost use Rattle.fleet_model.specs.Jobs.{Scheduled, status_eq};
+ghost use Rattle.fleet_model.specs.Jobs.{Scheduled, put_job, status_eq};
 ghost use Rattle.fleet_model.specs.Polls.{clashes, same_target};
 ghost use Rattle.fleet_book.specs.JobParts.{JobParts};
-ghost use Rattle.fleet_book.specs.Jobs.{is_open, job_of, with_status};
+ghost use Rattle.fleet_book.specs.Jobs.{is_open, job_of, jobs_of, with_status};
 ghost use Rattle.fleet_book.specs.Records.{put_record, record_with};
 ghost use Rattle.fleet_book.specs.Specs.{destination_of, segment_of, spec_of};
 ghost use Rattle.fleet_book.specs.States.{is_taken, merged_jobs, merged_records, own_jobs, takes, with_stored};
@@ -92,14 +92,16 @@ impl CompactorState {
         Ok(())
     }
 
-    /// Adds a job. The error is `InvalidCompaction` if a job that is not over makes the same run, or
-    /// if both are drains of one segment. After an error nothing has changed.
+    /// Adds a job. The error is `InvalidCompaction` if a job that is not over makes the same run,
+    /// or if both are drains of one segment. After an error nothing has changed.
     pub fn add_compaction(&mut self, compaction: Compaction) -> Result<(), SlateDBError>
         requires { record_with compaction.id (own_jobs self.old) ≡ None }
         ensures ok { OnOk result (self.new ≡ record self.old {
           compactions
               = with_jobs (put_record compaction (own_jobs self.old)) self.old.compactions;
         }) }
+        ensures model { OnOk result (jobs_of (own_jobs self.new)
+            ≡ put_job (job_of compaction) (jobs_of (own_jobs self.old))) }
         ensures free { OnOk result (is_taken compaction.spec (own_jobs self.old) ≡ false) }
         ensures taken { is_taken compaction.spec (own_jobs self.old) ≡ true
             → result ≡ Err SlateDBError.InvalidCompaction }
