@@ -42,6 +42,25 @@ impl JobMap {
         }
     }
 
+    /// Makes a map of jobs by rising id. It keeps the vector's memory and copies nothing.
+    pub fn from_vec(jobs: Vec<Compaction>) -> JobMap
+        requires { AreRising jobs.items }
+        ensures { result ≡ jobs.items }
+    {
+        JobMap {
+            jobs: Slots::from_vec(jobs),
+        }
+    }
+
+    /// Gives the jobs as a vector, by rising id. It keeps the map's memory and copies nothing.
+    pub fn into_vec(self) -> Vec<Compaction>
+        ensures jobs { result.items ≡ self }
+        ensures rising { AreRising self }
+    {
+        let JobMap { jobs } = self;
+        jobs.into_vec()
+    }
+
     /// The number of jobs.
     pub fn len(&self) -> u64
         ensures { result ≡ length self.now }

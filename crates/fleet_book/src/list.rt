@@ -51,6 +51,14 @@ impl<T: Drop> Slots<T> {
         Slots { items }
     }
 
+    /// Gives the items as a vector. It keeps the list's memory and copies nothing.
+    pub fn into_vec(self) -> Vec<T>
+        ensures { result.items ≡ self }
+    {
+        let Slots { items } = self;
+        items
+    }
+
     /// Adds an item at the end. If memory runs out, the item is dropped.
     pub fn push(&mut self, item: T) -> Result<(), SlateDBError>
         ensures ok { OnOk result (self.new ≡ self.old ++ item ∷ []) }
