@@ -2,3 +2,4 @@ pub mod Records
 pub mod Moved
 pub mod Merged
 pub mod Trimmed
+pub mod Finishes

@@ -15,3 +15,4 @@ pub mod Versions
 pub mod Requests
 pub mod StateParts
 pub mod States
+pub mod Finishes

@@ -5,8 +5,10 @@
 mod compaction;
 mod compactions;
 mod context;
+mod finish;
 mod job_map;
 mod list;
+mod merging;
 mod moves;
 mod recent;
 mod release;

@@ -1,10 +1,11 @@
 //! A coordinator's own state.
 
 ghost use Rattle.std.specs.Prelude.{◌≡◌, ℕ, ◌&&◌, ◌||◌, None, Some, Err, bytes_eq, filter, false, true, IfOk, IfSome, IsOkUnless, IsSome, OnErr, OnOk};
-ghost use Rattle.std.specs.Option.{option_copied};
+ghost use Rattle.std.specs.Option.{ForSome, option_copied};
 ghost use Rattle.fleet_model.specs.Jobs.{Scheduled, put_job, status_eq};
 ghost use Rattle.fleet_model.specs.Polls.{clashes, same_target};
 ghost use Rattle.fleet_book.specs.JobParts.{JobParts};
+ghost use Rattle.fleet_book.specs.Finishes.{finished, merged_manifest};
 ghost use Rattle.fleet_book.specs.Jobs.{is_open, job_of, jobs_of, with_status};
 ghost use Rattle.fleet_book.specs.Records.{put_record, record_with};
 ghost use Rattle.fleet_book.specs.Specs.{destination_of, segment_of, spec_of};
@@ -12,12 +13,14 @@ ghost use Rattle.fleet_book.specs.States.{is_taken, merged_jobs, merged_records,
 ghost use Rattle.fleet_book.specs.Status.{adopts, status_of};
 ghost use Rattle.fleet_book.specs.Versions.{with_jobs};
 
+use crate::finish::core_after;
+use crate::merging::merged_manifest;
 use crate::{
     Compaction, CompactionSpec, CompactionStatus, Compactions, CompactorStateView, JobMap,
     VersionedCompactions,
 };
 use fleet_rows::{SlateDBError, Ulid};
-use fleet_table::VersionedManifest;
+use fleet_table::{SortedRun, VersionedManifest};
 use std::alloc::Global;
 use std::marker::Model;
 
@@ -92,6 +95,23 @@ impl CompactorState {
         Ok(())
     }
 
+    /// Takes over a stored manifest. Each tree keeps its own runs and watermark, and takes the
+    /// stored flushes that are newer. If out of memory, nothing changes.
+    pub fn merge_remote_manifest(
+        &mut self,
+        alloc: Global,
+        remote: VersionedManifest,
+    ) -> Result<(), SlateDBError>
+        ensures ok { OnOk result (self.new
+            ≡ record self.old { manifest = merged_manifest self.old.manifest remote }) }
+        ensures err { OnErr result (self.new ≡ self.old) }
+        ensures memory { IsOkUnless result SlateDBError.Memory }
+    {
+        let merged = merged_manifest(alloc, &self.manifest, remote)?;
+        self.manifest = merged;
+        Ok(())
+    }
+
     /// Adds a job. The error is `InvalidCompaction` if a job that is not over makes the same run,
     /// or if both are drains of one segment. After an error nothing has changed.
     pub fn add_compaction(&mut self, compaction: Compaction) -> Result<(), SlateDBError>
@@ -139,6 +159,62 @@ impl CompactorState {
         } }
     {
         self.compactions.replace(compaction);
+    }
+
+    /// Replaces the sources of a job by the run that was made of them, and makes the job Completed.
+    /// If out of memory, nothing changes.
+    pub fn finish_compaction(
+        &mut self,
+        alloc: Global,
+        id: Ulid,
+        output: SortedRun,
+    ) -> Result<(), SlateDBError>
+        requires there { IsSome (record_with id (own_jobs self.old)) }
+        requires run { ForSome (record_with id (own_jobs self.old))
+            (λ job. destination_of job.spec ≡ Some output.id) }
+        ensures ok { OnOk result (IfSome (record_with id (own_jobs self.old))
+            (λ job. self.new ≡ finished job (Some output) self.old)) }
+        ensures err { OnErr result (self.new ≡ self.old) }
+        ensures memory { IsOkUnless result SlateDBError.Memory }
+    {
+        self.finish(alloc, id, Some(&output))
+    }
+
+    /// Drops the sources of a drain, and makes its job Completed. If out of memory, nothing
+    /// changes.
+    pub fn finish_drain_compaction(&mut self, alloc: Global, id: Ulid) -> Result<(), SlateDBError>
+        requires there { IsSome (record_with id (own_jobs self.old)) }
+        requires drain { ForSome (record_with id (own_jobs self.old))
+            (λ job. destination_of job.spec ≡ None) }
+        ensures ok { OnOk result (IfSome (record_with id (own_jobs self.old))
+            (λ job. self.new ≡ finished job None self.old)) }
+        ensures err { OnErr result (self.new ≡ self.old) }
+        ensures memory { IsOkUnless result SlateDBError.Memory }
+    {
+        self.finish(alloc, id, None)
+    }
+
+    // Changes the trees and the horizon by a job, which made this run unless it was a drain.
+    fn finish(
+        &mut self,
+        alloc: Global,
+        id: Ulid,
+        output: Option<&SortedRun>,
+    ) -> Result<(), SlateDBError>
+        requires { IsSome (record_with id (own_jobs self.old)) }
+        ensures ok { OnOk result (IfSome (record_with id (own_jobs self.old))
+            (λ job. self.new ≡ finished job (option_copied output.entry) self.old)) }
+        ensures err { OnErr result (self.new ≡ self.old) }
+        ensures memory { IsOkUnless result SlateDBError.Memory }
+    {
+        let Some(job) = self.compactions.compactions().get(&id) else {
+            unreachable!()
+        };
+        let core = core_after(alloc, job, output, self.manifest.core())?;
+        self.manifest.manifest.core = core;
+        self.compactions
+            .set_status(&id, CompactionStatus::Completed);
+        Ok(())
     }
 }
 
