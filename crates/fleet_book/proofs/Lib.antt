@@ -3,3 +3,5 @@ pub mod Moved
 pub mod Merged
 pub mod Trimmed
 pub mod Finishes
+pub mod ModelFinishes
+pub mod ModelTaken

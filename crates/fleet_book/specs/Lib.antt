@@ -16,3 +16,4 @@ pub mod Requests
 pub mod StateParts
 pub mod States
 pub mod Finishes
+pub mod Laws

@@ -1,0 +1,127 @@
+-- Laws: what a coordinator makes of its jobs and its trees is what the model makes of them.
+use Rattle.std.specs.Prelude.{◌≡◌, ℕ, ◌+◌, Bool, true, not, List, [], ◌++◌, map, filter, flat_map, option_map, Option, Some, None, bytes_eq}
+use Rattle.std.specs.List.{AllByRecursion}
+use Rattle.fleet_model.specs.History.{Join, Move, Drain}
+use Rattle.fleet_model.specs.Jobs.{JobSpec, Context}
+use Rattle.fleet_model.specs.Nodes.{NodeName, is_l0, Tables, tree_at}
+use Rattle.fleet_model.specs.Records.{Unrecorded, beaten_by, claimed_by, finished_by, to_completed, to_failed, to_scheduled, to_waiting}
+use Rattle.fleet_model.specs.Trees.{by_first_key, source_nodes, source_pieces, stepped_in}
+use Rattle.fleet_table.specs.Trees.{flush_node, run_node, tree_of, trees_of, trees_with_prefix}
+use Rattle.fleet_table.specs.Views.{View}
+use Rattle.fleet_table.specs.declared.handle.SsTableHandle.{SsTableHandle}
+use Rattle.fleet_table.specs.declared.manifest.ManifestCore.{ManifestCore}
+use Rattle.fleet_table.specs.declared.run.SortedRun.{SortedRun}
+use Rattle.fleet_table.specs.declared.tree.LsmTreeState.{LsmTreeState}
+use Rattle.fleet_book.specs.ContextParts.{ContextParts}
+use Rattle.fleet_book.specs.Contexts.{context_of, table_ids}
+use Rattle.fleet_book.specs.Finishes.{core_after, kept_runs, tree_after}
+use Rattle.fleet_book.specs.JobParts.{JobParts}
+use Rattle.fleet_book.specs.Jobs.{job_of, with_status}
+use Rattle.fleet_book.specs.Sources.{name_of}
+use Rattle.fleet_book.specs.Specs.{destination_of, segment_of, sources_of, spec_of}
+use Rattle.fleet_book.specs.Taken.{taken_runs, taken_tables, taken_views}
+use Rattle.fleet_book.specs.declared.spec.CompactionSpec.{CompactionSpec}
+use Rattle.fleet_book.specs.declared.status.CompactionStatus.TheVariants as own
+use Rattle.fleet_book.specs.declared.worker_spec.WorkerSpec.{WorkerSpec}
+
+-- The model's names of the sources.
+abbrev pub names_of : CompactionSpec → List NodeName
+names_of spec = map name_of (sources_of spec)
+
+-- The ids of the tables of a run.
+abbrev pub view_tables : List View → List ℕ
+view_tables views = map (λ view. view.sst.id) views
+
+-- The names of the flushes among the sources.
+abbrev pub l0_names : CompactionSpec → List NodeName
+l0_names spec = filter is_l0 (names_of spec)
+
+-- The names of the runs among the sources.
+abbrev pub run_names : CompactionSpec → List NodeName
+run_names spec = filter (λ name. not (is_l0 name)) (names_of spec)
+
+-- The flushes that a job takes are the model's flush nodes among its source nodes.
+abbrev pub TakenViewsAreTheModels : Type 0
+TakenViewsAreTheModels = (flushes : ℕ → List ℕ) (spec : CompactionSpec) (core : ManifestCore)
+    → map (flush_node flushes) (taken_views spec core) ≡ source_nodes (l0_names spec) (tree_at (segment_of spec) (trees_of flushes core))
+
+-- The runs that a job takes are the model's run nodes among its source nodes.
+abbrev pub TakenRunsAreTheModels : Type 0
+TakenRunsAreTheModels = (flushes : ℕ → List ℕ) (spec : CompactionSpec) (core : ManifestCore)
+    → map (run_node flushes) (taken_runs spec core) ≡ source_nodes (run_names spec) (tree_at (segment_of spec) (trees_of flushes core))
+
+-- If a job names its flushes before its runs, the tables that it takes are the tables of the model's source nodes.
+abbrev pub TakenTablesAreTheModels : Type 0
+TakenTablesAreTheModels = (flushes : ℕ → List ℕ) (spec : CompactionSpec) (core : ManifestCore)
+    → names_of spec ≡ l0_names spec ++ run_names spec
+    → view_tables (taken_tables spec core) ≡ source_pieces (names_of spec) (tree_at (segment_of spec) (trees_of flushes core))
+
+-- A drain changes the trees as the model's drain does.
+abbrev pub DrainsAreTheModels : Type 0
+DrainsAreTheModels = (flushes : ℕ → List ℕ) (tables : Tables) (outputs : List ℕ) (job : JobParts) (core : ManifestCore)
+    → trees_of flushes (core_after job None core) ≡ stepped_in tables (Drain job.id) (spec_of job.spec) outputs (trees_of flushes core)
+
+-- In the job's segment, all flushes that went into the sources are in the run that was made. Each other run has the
+-- flushes that it had.
+pub record FlushesFollow (before after : ℕ → List ℕ) (spec : CompactionSpec) (made : ℕ) (s : List ℕ × LsmTreeState) : Type 0 where
+  pub gathered : bytes_eq (segment_of spec) s.0 ≡ true → after made ≡ flat_map (λ node. node.flushes) (source_nodes (names_of spec) (tree_of before s.1))
+  pub kept : AllByRecursion (λ run. after run.id ≡ before run.id) (tree_after spec None s.0 s.1).compacted
+
+-- The flushes that went into runs are as the job leaves them, in each segment.
+abbrev pub FlushesFollowIn : (ℕ → List ℕ) → (ℕ → List ℕ) → CompactionSpec → ℕ → ManifestCore → Type 0
+FlushesFollowIn before after spec made core = AllByRecursion (FlushesFollow before after spec made) (trees_with_prefix core)
+
+-- A job that makes a run of these tables changes the trees as the model's join of these tables does.
+abbrev pub JoinsAreTheModels : Type 0
+JoinsAreTheModels = (before after : ℕ → List ℕ) (tables : Tables) (job : JobParts) (output : SortedRun) (core : ManifestCore)
+    → destination_of job.spec ≡ Some output.id → FlushesFollowIn before after job.spec output.id core
+    → trees_of after (core_after job (Some output) core) ≡ stepped_in tables (Join job.id) (spec_of job.spec) (view_tables output.views) (trees_of before core)
+
+-- In the job's segment, the tables are those of the sources by rising first key.
+abbrev pub AreMoved : (ℕ → List ℕ) → Tables → CompactionSpec → List View → List ℕ × LsmTreeState → Type 0
+AreMoved flushes tables spec views s = bytes_eq (segment_of spec) s.0 ≡ true → view_tables views ≡ by_first_key tables (source_pieces (names_of spec) (tree_of flushes s.1))
+
+-- A job that makes a run of the tables of its sources changes the trees as the model's move does.
+abbrev pub MovesAreTheModels : Type 0
+MovesAreTheModels = (before after : ℕ → List ℕ) (tables : Tables) (outputs : List ℕ) (job : JobParts) (output : SortedRun) (core : ManifestCore)
+    → destination_of job.spec ≡ Some output.id → FlushesFollowIn before after job.spec output.id core
+    → AllByRecursion (AreMoved before tables job.spec output.views) (trees_with_prefix core)
+    → trees_of after (core_after job (Some output) core) ≡ stepped_in tables (Move job.id) (spec_of job.spec) outputs (trees_of before core)
+
+-- A worker of this number, heard of at this moment.
+abbrev pub worker_at : ℕ → ℕ → Option WorkerSpec
+worker_at worker moment = Some (record { worker_id = worker; last_heartbeat_ms = moment })
+
+-- Setting a job Completed is the model's completion.
+abbrev pub CompletionsAreTheModels : Type 0
+CompletionsAreTheModels = (job : JobParts) → job_of (with_status own.Completed job) ≡ to_completed (job_of job)
+
+-- Setting a job Failed is the model's failure.
+abbrev pub FailuresAreTheModels : Type 0
+FailuresAreTheModels = (job : JobParts) → job_of (with_status own.Failed job) ≡ to_failed (job_of job)
+
+-- Setting a job Scheduled and taking its worker away is the model's way to make it wait.
+abbrev pub WaitsAreTheModels : Type 0
+WaitsAreTheModels = (job : JobParts) → job_of (record (with_status own.Scheduled job) { worker = None }) ≡ to_waiting (job_of job)
+
+-- Setting a job Scheduled, with its source tables and without a context, is the model's opening.
+abbrev pub OpeningsAreTheModels : Type 0
+OpeningsAreTheModels = (tables_of : JobSpec → List ℕ) (job : JobParts)
+    → job_of (record (with_status own.Scheduled job) { source_tables = tables_of (spec_of job.spec); ctx = None }) ≡ to_scheduled tables_of (job_of job)
+
+-- Setting a job Running, with a worker and the next attempt, is the model's claim.
+abbrev pub ClaimsAreTheModels : Type 0
+ClaimsAreTheModels = (worker moment : ℕ) (job : JobParts)
+    → job_of (record (with_status own.Running job) { worker = worker_at worker moment; attempt = job.attempt + 1 }) ≡ claimed_by worker moment (job_of job)
+
+-- Setting the worker's moment and the context is the model's heartbeat.
+abbrev pub BeatsAreTheModels : Type 0
+BeatsAreTheModels = (worker : ℕ) (unrecorded : Unrecorded) (ctx : Option ContextParts) (job : JobParts)
+    → unrecorded.published job.id ≡ option_map context_of ctx
+    → job_of (record job { worker = worker_at worker unrecorded.moment; ctx = ctx }) ≡ beaten_by worker unrecorded (job_of job)
+
+-- Setting a job Compacted, with its tables and its cut and without a context, is the model's finish.
+abbrev pub EndsAreTheModels : Type 0
+EndsAreTheModels = (worker : ℕ) (unrecorded : Unrecorded) (outputs : List (List SsTableHandle)) (job : JobParts)
+    → job_of (record (with_status own.Compacted job) { worker = worker_at worker unrecorded.moment; ctx = None; outputs = outputs; cut = unrecorded.kept_cut })
+    ≡ finished_by worker unrecorded (map table_ids outputs) (job_of job)
