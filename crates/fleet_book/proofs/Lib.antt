@@ -5,3 +5,4 @@ pub mod Trimmed
 pub mod Finishes
 pub mod ModelFinishes
 pub mod ModelTaken
+pub mod ModelMoved

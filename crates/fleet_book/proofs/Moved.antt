@@ -26,7 +26,7 @@ abbrev Rises : List View → Type 0
 Rises [] = ⊤
 Rises (x ∷ xs) = NoneBelow x xs × Rises xs
 
-put_all : (P : View → Type 0) (x : View) (ys : List View) → P x → AllByRecursion P ys → AllByRecursion P (put_view x ys)
+pub put_all : (P : View → Type 0) (x : View) (ys : List View) → P x → AllByRecursion P ys → AllByRecursion P (put_view x ys)
 put_all P x [] h all = (h, tt)
 put_all P x (y ∷ ys) h all = by (is_below y x) (put_all P x ys h all.1)
   where

@@ -3,9 +3,9 @@ use Rattle.std.specs.Prelude.{◌≡◌, ℕ, ◌+◌, Bool, true, not, List, []
 use Rattle.std.specs.List.{AllByRecursion}
 use Rattle.fleet_model.specs.History.{Join, Move, Drain}
 use Rattle.fleet_model.specs.Jobs.{JobSpec, Context}
-use Rattle.fleet_model.specs.Nodes.{NodeName, is_l0, Tables, tree_at}
+use Rattle.fleet_model.specs.Nodes.{NodeName, is_l0, Tables, table_rows, tree_at}
 use Rattle.fleet_model.specs.Records.{Unrecorded, beaten_by, claimed_by, finished_by, to_completed, to_failed, to_scheduled, to_waiting}
-use Rattle.fleet_model.specs.Trees.{by_first_key, source_nodes, source_pieces, stepped_in}
+use Rattle.fleet_model.specs.Trees.{by_first_key, first_key, source_nodes, source_pieces, stepped_in}
 use Rattle.fleet_table.specs.Trees.{flush_node, run_node, tree_of, trees_of, trees_with_prefix}
 use Rattle.fleet_table.specs.Views.{View}
 use Rattle.fleet_table.specs.declared.handle.SsTableHandle.{SsTableHandle}
@@ -17,6 +17,7 @@ use Rattle.fleet_book.specs.Contexts.{context_of, table_ids}
 use Rattle.fleet_book.specs.Finishes.{core_after, kept_runs, tree_after}
 use Rattle.fleet_book.specs.JobParts.{JobParts}
 use Rattle.fleet_book.specs.Jobs.{job_of, with_status}
+use Rattle.fleet_book.specs.Moves.{moved_run}
 use Rattle.fleet_book.specs.Sources.{name_of}
 use Rattle.fleet_book.specs.Specs.{destination_of, segment_of, sources_of, spec_of}
 use Rattle.fleet_book.specs.Taken.{taken_runs, taken_tables, taken_views}
@@ -87,6 +88,16 @@ MovesAreTheModels = (before after : ℕ → List ℕ) (tables : Tables) (outputs
     → destination_of job.spec ≡ Some output.id → FlushesFollowIn before after job.spec output.id core
     → AllByRecursion (AreMoved before tables job.spec output.views) (trees_with_prefix core)
     → trees_of after (core_after job (Some output) core) ≡ stepped_in tables (Move job.id) (spec_of job.spec) outputs (trees_of before core)
+
+-- The first row of each table has the first key that the table's description gives.
+abbrev pub KeysFit : Tables → List View → Type 0
+KeysFit tables views = AllByRecursion (λ view. first_key (table_rows tables view.sst.id) ≡ view.sst.first_key) views
+
+-- The run of a move has the destination as its id, and the tables that the model's move gives it.
+abbrev pub MovedRunsAreTheModels : Type 0
+MovedRunsAreTheModels = (tables : Tables) (destination : Option ℕ) (views : List View) (run : SortedRun)
+    → KeysFit tables views → moved_run destination views ≡ Some run
+    → (destination ≡ Some run.id) × (view_tables run.views ≡ by_first_key tables (view_tables views))
 
 -- A worker of this number, heard of at this moment.
 abbrev pub worker_at : ℕ → ℕ → Option WorkerSpec

@@ -1,6 +1,6 @@
 //! What a coordinator makes of jobs and of trees, compared with the model.
 
-ghost use Rattle.fleet_book.specs.Laws.{BeatsAreTheModels, ClaimsAreTheModels, CompletionsAreTheModels, DrainsAreTheModels, EndsAreTheModels, FailuresAreTheModels, JoinsAreTheModels, MovesAreTheModels, OpeningsAreTheModels, TakenRunsAreTheModels, TakenTablesAreTheModels, TakenViewsAreTheModels, WaitsAreTheModels};
+ghost use Rattle.fleet_book.specs.Laws.{BeatsAreTheModels, ClaimsAreTheModels, CompletionsAreTheModels, DrainsAreTheModels, EndsAreTheModels, FailuresAreTheModels, JoinsAreTheModels, MovedRunsAreTheModels, MovesAreTheModels, OpeningsAreTheModels, TakenRunsAreTheModels, TakenTablesAreTheModels, TakenViewsAreTheModels, WaitsAreTheModels};
 
 /// `get_l0_sst_views` gives the flushes among the model's source nodes.
 pub fn taken_views_are_the_models()
@@ -30,6 +30,11 @@ pub fn joins_are_the_models()
 /// `finish_compaction` of a move changes the trees as the model's move does.
 pub fn moves_are_the_models()
     ensures { MovesAreTheModels }
+{}
+
+/// `trivial_move_output` gives the run that the model's move makes.
+pub fn moved_runs_are_the_models()
+    ensures { MovedRunsAreTheModels }
 {}
 
 /// `set_status` with Completed makes a job as the model's completion does.
