@@ -1,4 +1,4 @@
--- Records that are changed stand for the jobs of the model that are changed alike.
+-- Changed records stand for the jobs of the model that are changed in the same way.
 use Rattle.std.proofs.Common.{◌≡◌, refl, sym, ◌∙◌, ap, List, [], ◌∷◌, Bool, true, false, cond, not, ◌||◌, arith}
 use Rattle.std.specs.Prelude.{◌==◌, nat_lt, Some, None}
 use Rattle.std.proofs.lemmas.Bool.{ltb-true, ltb-false, le-ltb, lt-ltb, eqb-false}

@@ -56,7 +56,7 @@ impl Compactions {
         self.jobs.iter()
     }
 
-    /// Drops each job that is over, but for the one of them with the greatest id.
+    /// Drops each job that is over, except the one with the greatest id.
     pub fn retain_active_and_last_finished(&mut self)
         ensures kept { self.new ≡ record self.old { jobs = kept_records self.old.jobs } }
         // These are the jobs that the model keeps.

@@ -110,7 +110,7 @@ impl JobMap {
         Ok(put(&mut self.jobs, job)?)
     }
 
-    /// Drops each job that is over, but for the one of them with the greatest id.
+    /// Drops each job that is over, except the one with the greatest id.
     pub fn retain_active_and_last_finished(&mut self)
         ensures kept { self.new ≡ kept_records self.old }
         ensures model { jobs_of self.new ≡ trimmed (jobs_of self.old) }
