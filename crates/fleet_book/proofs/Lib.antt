@@ -6,3 +6,4 @@ pub mod Finishes
 pub mod ModelFinishes
 pub mod ModelTaken
 pub mod ModelMoved
+pub mod ModelMerges

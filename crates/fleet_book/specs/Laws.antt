@@ -6,6 +6,7 @@ use Rattle.fleet_model.specs.Jobs.{JobSpec, Context}
 use Rattle.fleet_model.specs.Nodes.{NodeName, is_l0, Tables, table_rows, tree_at}
 use Rattle.fleet_model.specs.Records.{Unrecorded, beaten_by, claimed_by, finished_by, to_completed, to_failed, to_scheduled, to_waiting}
 use Rattle.fleet_model.specs.Trees.{by_first_key, first_key, source_nodes, source_pieces, stepped_in}
+use Rattle.step_model.specs.Merging as model
 use Rattle.fleet_table.specs.Trees.{flush_node, run_node, tree_of, trees_of, trees_with_prefix}
 use Rattle.fleet_table.specs.Views.{View}
 use Rattle.fleet_table.specs.declared.handle.SsTableHandle.{SsTableHandle}
@@ -16,9 +17,11 @@ use Rattle.fleet_book.specs.ContextParts.{ContextParts}
 use Rattle.fleet_book.specs.Contexts.{context_of, table_ids}
 use Rattle.fleet_book.specs.Finishes.{core_after, kept_runs, tree_after}
 use Rattle.fleet_book.specs.JobParts.{JobParts}
-use Rattle.fleet_book.specs.Jobs.{job_of, with_status}
+use Rattle.fleet_book.specs.Jobs.{job_of, jobs_of, with_status}
 use Rattle.fleet_book.specs.Moves.{moved_run}
 use Rattle.fleet_book.specs.Sources.{name_of}
+use Rattle.fleet_book.specs.Records.{AreRising}
+use Rattle.fleet_book.specs.States.{merged_jobs}
 use Rattle.fleet_book.specs.Specs.{destination_of, segment_of, sources_of, spec_of}
 use Rattle.fleet_book.specs.Taken.{taken_runs, taken_tables, taken_views}
 use Rattle.fleet_book.specs.declared.spec.CompactionSpec.{CompactionSpec}
@@ -136,3 +139,7 @@ abbrev pub EndsAreTheModels : Type 0
 EndsAreTheModels = (worker : ℕ) (unrecorded : Unrecorded) (outputs : List (List SsTableHandle)) (job : JobParts)
     → job_of (record (with_status own.Compacted job) { worker = worker_at worker unrecorded.moment; ctx = None; outputs = outputs; cut = unrecorded.kept_cut })
     ≡ finished_by worker unrecorded (map table_ids outputs) (job_of job)
+
+-- A coordinator's jobs after it saw stored records are the jobs that the model merges.
+abbrev pub MergesAreTheModels : Type 0
+MergesAreTheModels = (own stored : List JobParts) → AreRising own → jobs_of (merged_jobs own stored) ≡ model.merged_jobs (jobs_of own) (jobs_of stored)

@@ -1,6 +1,6 @@
 //! What a coordinator makes of jobs and of trees, compared with the model.
 
-ghost use Rattle.fleet_book.specs.Laws.{BeatsAreTheModels, ClaimsAreTheModels, CompletionsAreTheModels, DrainsAreTheModels, EndsAreTheModels, FailuresAreTheModels, JoinsAreTheModels, MovedRunsAreTheModels, MovesAreTheModels, OpeningsAreTheModels, TakenRunsAreTheModels, TakenTablesAreTheModels, TakenViewsAreTheModels, WaitsAreTheModels};
+ghost use Rattle.fleet_book.specs.Laws.{BeatsAreTheModels, ClaimsAreTheModels, CompletionsAreTheModels, DrainsAreTheModels, EndsAreTheModels, FailuresAreTheModels, JoinsAreTheModels, MergesAreTheModels, MovedRunsAreTheModels, MovesAreTheModels, OpeningsAreTheModels, TakenRunsAreTheModels, TakenTablesAreTheModels, TakenViewsAreTheModels, WaitsAreTheModels};
 
 /// `get_l0_sst_views` gives the flushes among the model's source nodes.
 pub fn taken_views_are_the_models()
@@ -72,4 +72,9 @@ pub fn beats_are_the_models()
 /// make a job as the model's finish does.
 pub fn ends_are_the_models()
     ensures { EndsAreTheModels }
+{}
+
+/// `merge_remote_compactions` takes stored jobs as the model's coordinator does.
+pub fn merges_are_the_models()
+    ensures { MergesAreTheModels }
 {}
