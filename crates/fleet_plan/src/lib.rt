@@ -9,4 +9,4 @@ mod subcompaction;
 pub use anchor::{Anchor, MAX_ANCHORS_PER_SST, sample_anchors};
 pub use boundaries::select_boundaries;
 pub use plan::plan_subcompaction_ranges;
-pub use subcompaction::Subcompaction;
+pub use subcompaction::{Subcompaction, SubcompactionList};

@@ -4,7 +4,7 @@ ghost use Rattle.std.specs.Prelude.{◌≡◌, [], IfOk, IsOkUnless};
 ghost use Rattle.row_model.specs.Lists.{IsPrefixOf};
 
 use fleet_range::BytesRange;
-use fleet_rows::{Copies, SlateDBError};
+use fleet_rows::{Copies, ListOf, SlateDBError};
 use fleet_table::{SsTableHandle, TableList};
 use std::alloc::{AllocError, Global};
 use std::marker::Model;
@@ -92,3 +92,6 @@ impl Copies for Subcompaction {
         Clone::clone(self)
     }
 }
+
+/// The ranges of a job, each with the tables that were written for it so far.
+pub type SubcompactionList = ListOf<Subcompaction>;

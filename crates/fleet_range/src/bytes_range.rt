@@ -16,7 +16,7 @@ use crate::comparable_range::borrowed;
 use crate::prefix::{placed_end, placed_start, prefix_end, prefix_start};
 use crate::{ByteRangeBounds, ComparableRange, EndBound, StartBound};
 use bytes::Bytes;
-use fleet_rows::{Copies, SlateDBError};
+use fleet_rows::{Copies, ListOf, SlateDBError};
 use std::alloc::{AllocError, Global};
 use std::marker::Model;
 use std::ops::{Bound, RangeBounds};
@@ -286,6 +286,9 @@ impl RangeBounds<Bytes> for BytesRange {
 }
 
 // The bound with a copy of its key.
+/// Ranges of byte strings, such as the ranges of a job.
+pub type RangeList = ListOf<BytesRange>;
+
 fn cloned(bound: Bound<&Bytes>) -> Result<Bound<Bytes>, AllocError>
     ensures { IfOk result (λ b. b ≡ bound_map (λ key. key.now) bound.entry) }
 {

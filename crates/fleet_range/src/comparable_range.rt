@@ -46,7 +46,8 @@ impl<T: Ord> ComparableRange<T> {
 
     // Whether this range overlaps or touches the other one, which is not before this one.
     fn is_near(&self, other: &ComparableRange<T>) -> bool
-        ensures { result ≡ (is_non_empty T.cmp (overlap T.cmp (ends_of self.now) (ends_of other.now))
+        ensures { result ≡
+            (is_non_empty T.cmp (overlap T.cmp (ends_of self.now) (ends_of other.now))
             || touches T.cmp (ends_of other.now).0 (ends_of self.now).1) }
     {
         have_room(
@@ -96,7 +97,8 @@ impl<T: Ord + Clone> ComparableRange<T> {
         requires { ClonesEqual T.is_clone }
         ensures bounds { IfOk result (λ r. option_map ends_of r
             ≡ intersection T.cmp (ends_of self.now) (ends_of other.now)) }
-        ensures both { IfOk result (λ r. IfSome r (λ range. (key : T) → is_in T.cmp (ends_of range) key
+        ensures both { IfOk result (λ r. IfSome r (λ range. (key : T) →
+            is_in T.cmp (ends_of range) key
             ≡ (is_in T.cmp (ends_of self.now) key && is_in T.cmp (ends_of other.now) key))) }
         ensures none { IfOk result (λ r. IfNone r ((key : T) → (is_in T.cmp (ends_of self.now) key
             && is_in T.cmp (ends_of other.now) key) ≡ false)) }

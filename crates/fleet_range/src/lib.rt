@@ -10,7 +10,7 @@ mod prefix;
 mod start_bound;
 
 pub use byte_bounds::ByteRangeBounds;
-pub use bytes_range::BytesRange;
+pub use bytes_range::{BytesRange, RangeList};
 pub use comparable_range::ComparableRange;
 pub use end_bound::EndBound;
 pub use start_bound::StartBound;

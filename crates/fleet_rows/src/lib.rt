@@ -14,7 +14,7 @@ mod ulid;
 pub use copies::Copies;
 pub use errors::{CompactionFilterError, MergeOperatorError, SlateDBError};
 pub use key_value::KeyValue;
-pub use list::{JobList, ListOf, PlaceList, RuleList};
+pub use list::{AttemptList, JobList, ListOf, NamesList, PlaceList, RuleList};
 pub use row::{RowEntry, ValueDeletable};
 pub use settings::Settings;
 pub use text::Text;

@@ -7,6 +7,7 @@ ghost use Rattle.std.specs.Cmp.Lexicographic.{pointwise, lists_per, lists_equiv}
 use crate::{Copies, SlateDBError, Ulid};
 use std::alloc::{AllocError, Global};
 use std::marker::Model;
+use std::mem;
 
 /// A vector of items, in order. Contracts see it as the list of these items.
 #[derive(Debug, Drop)]
@@ -76,6 +77,17 @@ impl<T: Drop> ListOf<T> {
         ensures { self.new ≡ slice_set self.old place item }
     {
         self.items[place as usize] = item;
+    }
+
+    /// Takes all items out, so that the list is empty. It copies nothing.
+    pub fn take(&mut self) -> Self
+        ensures all { result ≡ self.old }
+        ensures empty { self.new ≡ [] }
+    {
+        let alloc = *self.items.allocator();
+        ListOf {
+            items: mem::replace(&mut self.items, Vec::new(alloc)),
+        }
     }
 
     /// The number of items.
@@ -154,6 +166,13 @@ pub type JobList = ListOf<Ulid>;
 
 /// A list of jobs, each with the number of the rule that it failed.
 pub type RuleList = ListOf<(Ulid, u8)>;
+
+/// A list of attempts. Each is given by its job and its number.
+pub type AttemptList = ListOf<(Ulid, u64)>;
+
+/// The ids of the tables that a job wrote: for each of its ranges a list, in the order of the
+/// ranges.
+pub type NamesList = ListOf<JobList>;
 
 /// A list of a scheduler's proposals. Each is given by its place, counted from 1, and the number of
 /// the rule that it failed.

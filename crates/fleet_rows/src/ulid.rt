@@ -4,7 +4,8 @@ ghost use Rattle.std.specs.Prelude.{◌≡◌, ◌<◌, ◌+◌, ◌*◌, ◌/�
 
 use std::marker::Model;
 
-/// Tables that jobs write have numbers above this one. Flushed tables and jobs have numbers below it.
+/// Tables that jobs write have numbers above this one. Flushed tables and jobs have numbers below
+/// it.
 pub const DRAWN_BASE: u128 = 1 << 79;
 
 /// An id of 128 bits: a moment of 48 bits above a number of 80 bits. Contracts see it as one

@@ -21,7 +21,9 @@ pub use block::BlockMeta;
 pub use handle::SsTableHandle;
 pub use iterator::TableIterator;
 pub use laws::flushes_are_the_models;
-pub use list::{BlockList, RunList, SegmentList, SharedList, TableList, TrackerList, ViewList};
+pub use list::{
+    BlockList, OutputList, RunList, SegmentList, SharedList, TableList, TrackerList, ViewList,
+};
 pub use manifest::{Manifest, ManifestCore, VersionedManifest};
 pub use order::{are_in_bounds, are_strictly_ordered};
 pub use run::SortedRun;

@@ -213,6 +213,9 @@ pub type BlockList = SharedList<BlockMeta>;
 /// Descriptions of tables.
 pub type TableList = SharedList<SsTableHandle>;
 
+/// The tables that a job wrote: for each of its ranges a list, in the order of the ranges.
+pub type OutputList = ListOf<TableList>;
+
 /// The tables of a run, or the flushes of a tree, newest first.
 pub type ViewList = SharedList<SsTableView>;
 
