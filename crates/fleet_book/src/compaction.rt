@@ -7,11 +7,11 @@ ghost use Rattle.fleet_book.specs.Contexts.{FollowsContext, ranges_in};
 ghost use Rattle.fleet_book.specs.Jobs.{fresh_job, with_status};
 ghost use Rattle.fleet_book.specs.Status.{status_of};
 
-use crate::list::add_all;
-use crate::{CompactionContext, CompactionSpec, CompactionStatus, OutputList, WorkerSpec};
+use crate::copying::add_all;
+use crate::{CompactionContext, CompactionSpec, CompactionStatus, WorkerSpec};
 use fleet_plan::Subcompaction;
 use fleet_rows::{Copies, JobList, SlateDBError, Ulid};
-use fleet_table::TableList;
+use fleet_table::{OutputList, TableList};
 use std::alloc::{AllocError, Global};
 use std::fmt;
 use std::marker::Model;

@@ -5,8 +5,8 @@ ghost use Rattle.std.specs.Option.{ForSome};
 ghost use Rattle.row_model.specs.Lists.{IsPrefixOf};
 ghost use Rattle.fleet_book.specs.Contexts.{context_with, release_in, settings_in};
 
-use crate::{Release, SubcompactionList};
-use fleet_plan::Subcompaction;
+use crate::Release;
+use fleet_plan::{Subcompaction, SubcompactionList};
 use fleet_rows::{Settings, SlateDBError};
 use fleet_table::TableList;
 use std::alloc::AllocError;
@@ -137,8 +137,9 @@ impl CompactionContext {
                   (record range { output_ssts = output_ssts });
             }) }
     {
-        self.subcompactions
-            .set_output_ssts(subcompaction, output_ssts);
+        let mut ranges = self.subcompactions.take().into_vec();
+        ranges[subcompaction].set_output_ssts(output_ssts);
+        self.subcompactions = SubcompactionList::from_vec(ranges);
     }
 
     /// A copy, which shares the lists of tables.

@@ -6,8 +6,8 @@ ghost use Rattle.fleet_model.specs.Jobs.{trimmed};
 ghost use Rattle.fleet_book.specs.Jobs.{is_open, jobs_of, with_status};
 ghost use Rattle.fleet_book.specs.Records.{AreRising, after_job, has_id, is_last, kept_records, put_record, record_with};
 
-use crate::{Compaction, CompactionStatus, RecentCompactions, Slots};
-use fleet_rows::{Copies, SlateDBError, Ulid};
+use crate::{Compaction, CompactionStatus, RecentCompactions};
+use fleet_rows::{Copies, ListOf, SlateDBError, Ulid};
 use std::alloc::{AllocError, Global};
 use std::marker::Model;
 
@@ -15,7 +15,7 @@ use std::marker::Model;
 /// id.
 #[derive(Debug, Drop, PartialEq, Eq)]
 pub struct JobMap {
-    jobs: Slots<Compaction>,
+    jobs: ListOf<Compaction>,
 }
 
 impl Model for JobMap {
@@ -38,7 +38,7 @@ impl JobMap {
         ensures { result ≡ [] }
     {
         JobMap {
-            jobs: Slots::new(alloc),
+            jobs: ListOf::new(alloc),
         }
     }
 
@@ -48,7 +48,7 @@ impl JobMap {
         ensures { result ≡ jobs.items }
     {
         JobMap {
-            jobs: Slots::from_vec(jobs),
+            jobs: ListOf::from_vec(jobs),
         }
     }
 
@@ -96,7 +96,7 @@ impl JobMap {
     {
         let copies = open_copies(alloc, self.jobs.as_slice())?;
         Ok(JobMap {
-            jobs: Slots::from_vec(copies),
+            jobs: ListOf::from_vec(copies),
         })
     }
 
@@ -107,7 +107,8 @@ impl JobMap {
         ensures err { OnErr result (self.new ≡ self.old) }
         ensures memory { IsOkUnless result SlateDBError.Memory }
     {
-        Ok(put(&mut self.jobs, job)?)
+        put(&mut self.jobs, job)?;
+        Ok(())
     }
 
     /// Drops each job that is over, except the one with the greatest id.
@@ -116,7 +117,7 @@ impl JobMap {
         ensures model { jobs_of self.new ≡ trimmed (jobs_of self.old) }
     {
         let last = last_finished(self.jobs.as_slice());
-        retain(&mut self.jobs.items, last);
+        retain(&mut self.jobs, last);
     }
 
     /// Sets the status of the job with this id. A job that fails loses its context.
@@ -135,7 +136,7 @@ impl JobMap {
         ensures { self.new ≡ put_record job self.old }
     {
         let place = jobs_below(self.jobs.as_slice(), job.id());
-        self.jobs.replace(place, job);
+        self.jobs.replace(place as u64, job);
     }
 
     /// A copy.
@@ -164,13 +165,14 @@ fn with_id(jobs: &[Compaction], id: Ulid) -> Option<&Compaction>
 }
 
 // Puts a job in the place of one with its id, or before the first one with a greater id.
-fn put(jobs: &mut Slots<Compaction>, job: Compaction) -> Result<(), AllocError>
+fn put(jobs: &mut ListOf<Compaction>, job: Compaction) -> Result<(), SlateDBError>
     ensures ok { OnOk result (jobs.new ≡ put_record job jobs.old) }
     ensures err { OnErr result (jobs.new ≡ jobs.old) }
+    ensures memory { IsOkUnless result SlateDBError.Memory }
 {
     let id = job.id();
-    let place = jobs_below(jobs.as_slice(), id);
-    if has_id(jobs.get(place as u64), id) {
+    let place = jobs_below(jobs.as_slice(), id) as u64;
+    if has_id(jobs.get(place), id) {
         jobs.replace(place, job);
         Ok(())
     } else {
@@ -178,12 +180,14 @@ fn put(jobs: &mut Slots<Compaction>, job: Compaction) -> Result<(), AllocError>
     }
 }
 
-fn set_status_at(jobs: &mut Slots<Compaction>, place: usize, status: CompactionStatus)
+fn set_status_at(jobs: &mut ListOf<Compaction>, place: usize, status: CompactionStatus)
     requires { place < length jobs.old }
     ensures { IfSome (slice_get jobs.old place)
         (λ job. jobs.new ≡ slice_set jobs.old place (with_status status job)) }
 {
-    jobs.items[place].set_status(status);
+    let mut items = jobs.take().into_vec();
+    items[place].set_status(status);
+    *jobs = ListOf::from_vec(items);
 }
 
 fn has_id(job: Option<&Compaction>, id: Ulid) -> bool
@@ -229,10 +233,12 @@ fn is_last(last: Option<Ulid>, job: &Compaction) -> bool
     }
 }
 
-fn retain(jobs: &mut Vec<Compaction>, last: Option<Ulid>)
-    ensures { jobs.new.items ≡ filter (λ job. is_open job || is_last last job) jobs.old.items }
+fn retain(jobs: &mut ListOf<Compaction>, last: Option<Ulid>)
+    ensures { jobs.new ≡ filter (λ job. is_open job || is_last last job) jobs.old }
 {
-    jobs.retain(|job| is_kept(job, last));
+    let mut items = jobs.take().into_vec();
+    items.retain(|job| is_kept(job, last));
+    *jobs = ListOf::from_vec(items);
 }
 
 fn open_copies(alloc: Global, jobs: &[Compaction]) -> Result<Vec<Compaction>, AllocError>

@@ -5,10 +5,10 @@
 mod compaction;
 mod compactions;
 mod context;
+mod copying;
 mod finish;
 mod job_map;
 mod laws;
-mod list;
 mod merging;
 mod moves;
 mod recent;
@@ -33,7 +33,6 @@ pub use laws::{
     taken_runs_are_the_models, taken_tables_are_the_models, taken_views_are_the_models,
     waits_are_the_models,
 };
-pub use list::{OutputList, Slots, SubcompactionList};
 pub use recent::RecentCompactions;
 pub use release::Release;
 pub use request::CompactionRequest;

@@ -5,7 +5,7 @@ ghost use Rattle.fleet_book.specs.Moves.{are_disjoint, by_start, intersect, move
 ghost use Rattle.fleet_book.specs.Specs.{destination_of};
 ghost use Rattle.fleet_book.specs.Taken.{taken_tables};
 
-use crate::list::add_all;
+use crate::copying::add_all;
 use crate::sources::{runs_of, views_of};
 use crate::{Compaction, CompactionSpec};
 use fleet_rows::SlateDBError;

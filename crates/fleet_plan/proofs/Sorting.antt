@@ -87,7 +87,7 @@ module _ {X : Type 0} (lt : X → X → Bool) (order : IsStrictWeakOrder lt) whe
 
   -- ---- a list sorted element by element
 
-  abbrev put : X → List X → List X
+  abbrev pub put : X → List X → List X
   put x [] = x ∷ []
   put x (y ∷ ys) = cond (lt y x) (y ∷ put x ys) (x ∷ y ∷ ys)
 
@@ -95,7 +95,7 @@ module _ {X : Type 0} (lt : X → X → Bool) (order : IsStrictWeakOrder lt) whe
   sorted [] = []
   sorted (x ∷ xs) = put x (sorted xs)
 
-  put_all : (P : X → Type 0) (x : X) (ys : List X) → P x → AllByRecursion P ys → AllByRecursion P (put x ys)
+  pub put_all : (P : X → Type 0) (x : X) (ys : List X) → P x → AllByRecursion P ys → AllByRecursion P (put x ys)
   put_all P x [] h all = (h, tt)
   put_all P x (y ∷ ys) h all = by (lt y x) (put_all P x ys h all.1)
     where

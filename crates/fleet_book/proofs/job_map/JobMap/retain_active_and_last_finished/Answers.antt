@@ -11,19 +11,19 @@ pub invariant_of-self : goal.invariant_of-self
 invariant_of-self c =
     let jobs = c.self.inside.jobs in
     let last = c.last_finished-last.ensures ∙ ap (fold after_job None) c.as_slice.ensures in
-    let kept = c.retain.ensures ∙ ap (λ m. filtered c.last_finished-last.result m.jobs) c.self-inside.view_is ∙ ap (λ l. filtered l jobs) last ∙ kept_is None jobs c.self.invariant in
+    let kept = c.retain.ensures ∙ ap (λ l. filtered l jobs) last ∙ kept_is None jobs c.self.invariant in
     subst AreRising (sym kept) (rising_kept jobs c.self.invariant)
 
 pub returns-clause-kept : goal.returns-clause-kept
 returns-clause-kept c =
     let jobs = c.self.inside.jobs in
     let last = c.last_finished-last.ensures ∙ ap (fold after_job None) c.as_slice.ensures in
-    let kept = c.retain.ensures ∙ ap (λ m. filtered c.last_finished-last.result m.jobs) c.self-inside.view_is ∙ ap (λ l. filtered l jobs) last ∙ kept_is None jobs c.self.invariant in
+    let kept = c.retain.ensures ∙ ap (λ l. filtered l jobs) last ∙ kept_is None jobs c.self.invariant in
     kept ∙ ap kept_records c.self.view_is
 
 pub returns-clause-model : goal.returns-clause-model
 returns-clause-model c =
     let jobs = c.self.inside.jobs in
     let last = c.last_finished-last.ensures ∙ ap (fold after_job None) c.as_slice.ensures in
-    let kept = c.retain.ensures ∙ ap (λ m. filtered c.last_finished-last.result m.jobs) c.self-inside.view_is ∙ ap (λ l. filtered l jobs) last ∙ kept_is None jobs c.self.invariant in
+    let kept = c.retain.ensures ∙ ap (λ l. filtered l jobs) last ∙ kept_is None jobs c.self.invariant in
     ap jobs_of kept ∙ trimmed_is jobs ∙ ap (λ js. trimmed (jobs_of js)) c.self.view_is

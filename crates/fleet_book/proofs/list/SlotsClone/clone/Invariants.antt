@@ -1,5 +1,0 @@
-use Rattle.std.proofs.Common.{◌≡◌, take}
-use Rattle.fleet_book.proofs.list.SlotsClone.clone.Given as goal
-
-abbrev pub invariant-items : goal.invariant-items
-invariant-items g l = l.items.items ≡ take l.item-index l.item-items
