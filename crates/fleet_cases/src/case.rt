@@ -1,11 +1,7 @@
 //! Cases: the lines that are read, and what is printed about them.
 
-use crate::flaw::Flaw;
-use crate::words::parts;
-use crate::{
-    error_calls, exec_calls, filter_calls, fold_calls, iter_calls, manifest_calls, plan_calls,
-    range_calls, row_calls, table_calls,
-};
+use case_words::flaw::Flaw;
+use case_words::words::parts;
 use std::alloc::{AllocError, Global};
 
 // A case: a name, a question, and the expected answer, if there is one. The answer comes after
@@ -146,16 +142,8 @@ fn answer_to(alloc: Global, question: &str, answer: &mut String) -> Result<(), F
 }
 
 fn answer_of(alloc: Global, name: &str, words: &[&str], answer: &mut String) -> Result<(), Flaw> {
-    if row_calls::answers(alloc, name, words, answer)?
-        || error_calls::answers(alloc, name, words, answer)?
-        || range_calls::answers(alloc, name, words, answer)?
-        || table_calls::answers(alloc, name, words, answer)?
-        || manifest_calls::answers(alloc, name, words, answer)?
-        || plan_calls::answers(alloc, name, words, answer)?
-        || iter_calls::answers(alloc, name, words, answer)?
-        || fold_calls::answers(alloc, name, words, answer)?
-        || filter_calls::answers(alloc, name, words, answer)?
-        || exec_calls::answers(alloc, name, words, answer)?
+    if case_tables::answers(alloc, name, words, answer)?
+        || case_jobs::answers(alloc, name, words, answer)?
     {
         Ok(())
     } else {

@@ -4,25 +4,6 @@
 #![tactic(auto)]
 
 mod case;
-mod error_calls;
-mod exec_calls;
-mod filter_calls;
-mod filters;
-mod flaw;
-mod fold_calls;
-mod given;
-mod iter_calls;
-mod manifest_calls;
-mod operators;
-mod plan_calls;
-mod range_calls;
-mod row_calls;
-mod table_calls;
-mod tables;
-mod tell;
-mod told;
-mod watching;
-mod words;
 
 use case::Tally;
 use std::io::{self, BufRead, BufReader, BufWriter, Write};

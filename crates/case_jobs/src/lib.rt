@@ -1,0 +1,28 @@
+//! Cases of single calls on iterators, folds, filters and the ranges of jobs.
+#![tactic(auto)]
+
+mod exec_calls;
+mod filter_calls;
+mod filters;
+mod fold_calls;
+mod iter_calls;
+mod operators;
+mod watching;
+
+use case_words::flaw::Flaw;
+use std::alloc::Global;
+
+/// Answers the call of this name. Returns false if no call in this crate has it.
+pub fn answers(
+    alloc: Global,
+    name: &str,
+    words: &[&str],
+    answer: &mut String,
+) -> Result<bool, Flaw> {
+    Ok(
+        iter_calls::answers(alloc, name, words, answer)?
+            || fold_calls::answers(alloc, name, words, answer)?
+            || filter_calls::answers(alloc, name, words, answer)?
+            || exec_calls::answers(alloc, name, words, answer)?,
+    )
+}
