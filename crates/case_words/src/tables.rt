@@ -46,8 +46,8 @@ impl Told for BlockMeta {
     }
 }
 
-// A view of a table with this id, these keys, this size and these blocks.
-fn view_of(
+/// A view of a table with this id, these keys, this size and these blocks.
+pub fn view_of(
     id: u64,
     first_key: Bytes,
     last_key: Bytes,

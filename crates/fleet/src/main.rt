@@ -2,10 +2,7 @@
 //! standard output.
 #![tactic(auto)]
 
-mod standard;
-
-use fleet_run::{Fleet, fleet_main};
-use standard::{StandardSink, StandardSource};
+use fleet_run::{Fleet, StreamSink, StreamSource, fleet_main};
 use std::io::ErrorKind;
 use std::process::ExitCode;
 use std::{env, io};
@@ -36,10 +33,7 @@ fn main(rt: HostRuntime) -> ExitCode {
     let Ok(mut fleet) = Fleet::new(alloc) else {
         return ExitCode::from(MEMORY);
     };
-    let mut source = StandardSource::new(rt.reader());
-    let mut sink = StandardSink::new(io::writer(&rt));
+    let mut source = StreamSource::new(rt.reader());
+    let mut sink = StreamSink::new(io::writer(&rt));
     ExitCode::from(fleet_main(alloc, texts.as_slice(), &mut source, &mut fleet, &mut sink))
 }
-
-#[cfg(test)]
-mod tests;

@@ -1,6 +1,7 @@
 pub mod Outside
 pub mod Memory
 pub mod Safe
+pub mod Streams
 pub mod Jobs
 pub mod Outputs
 pub mod FleetView

@@ -1,4 +1,4 @@
-//! Runs scripts on a fleet. It has the whole program except the standard streams.
+//! Runs scripts on a fleet. It has the whole program except `main`.
 #![tactic(auto)]
 
 mod answer;
@@ -10,6 +10,7 @@ mod outside;
 mod program;
 mod safe;
 mod script;
+mod stream;
 mod tables;
 mod work;
 
@@ -19,6 +20,4 @@ pub use outside::{Failed, Sink, Source};
 pub use program::fleet_main;
 pub use safe::{SafeSink, SafeSource};
 pub use script::{FleetError, run_script};
-
-#[cfg(test)]
-mod tests;
+pub use stream::{StreamSink, StreamSource};

@@ -12,11 +12,19 @@ mod failures;
 #[cfg(test)]
 mod looks;
 #[cfg(test)]
+mod memory;
+#[cfg(test)]
 mod parts;
 #[cfg(test)]
 mod ranges;
 #[cfg(test)]
+mod scripts;
+#[cfg(test)]
+mod streams;
+#[cfg(test)]
 mod tables;
+#[cfg(test)]
+mod texts;
 #[cfg(test)]
 mod told;
 #[cfg(test)]

@@ -1,4 +1,6 @@
-use crate::{
+//! Tests of scripts with sources and sinks that fail.
+
+use fleet_run::{
     Failed, Fleet, FleetError, MemSink, MemSource, SafeSink, SafeSource, Sink, Source, fleet_main,
     run_script,
 };

@@ -1,6 +1,8 @@
-use super::*;
+//! Tests of the lines of scripts and of the texts of replies.
+
 use bytes::Bytes;
 use fleet_rows::{DRAWN_BASE, JobList, PlaceList, RowEntry, RuleList, Ulid, ValueDeletable};
+use fleet_text::{Line, Reply, TextError, read_script};
 use std::alloc::Global;
 use std::test::*;
 

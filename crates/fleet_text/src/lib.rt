@@ -19,6 +19,3 @@ pub use node::NodeName;
 pub use reply::Reply;
 pub use script::read_script;
 pub use word::number_of;
-
-#[cfg(test)]
-mod tests;
