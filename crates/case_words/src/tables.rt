@@ -8,8 +8,7 @@ use fleet_plan::Anchor;
 use fleet_rows::Ulid;
 use fleet_table::{
     BlockList, BlockMeta, RunData, SortedRun, SsTableHandle, SsTableView, TableData, Tracked,
-    ViewList,
-    are_in_bounds, are_strictly_ordered,
+    ViewList, are_in_bounds, are_strictly_ordered,
 };
 use std::alloc::Global;
 
