@@ -7,3 +7,5 @@ pub mod ModelFinishes
 pub mod ModelTaken
 pub mod ModelMoved
 pub mod ModelMerges
+pub mod ModelMovable
+pub mod ModelManifests

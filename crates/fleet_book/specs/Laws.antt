@@ -1,21 +1,27 @@
 -- Laws: what a coordinator makes of its jobs and its trees is what the model makes of them.
-use Rattle.std.specs.Prelude.{◌≡◌, ℕ, ◌+◌, Bool, true, not, List, [], ◌++◌, map, filter, flat_map, option_map, Option, Some, None, bytes_eq}
+use Rattle.std.specs.Prelude.{◌≡◌, ℕ, ◌+◌, Bool, true, false, ◌&&◌, not, List, [], ◌++◌, map, filter, flat_map, option_map, Option, Some, None, is_some, bytes_eq}
 use Rattle.std.specs.List.{AllByRecursion}
+use Rattle.std.specs.Ordering.{is_le}
+use Rattle.row_model.specs.Rows.{key_cmp}
 use Rattle.fleet_model.specs.History.{Join, Move, Drain}
-use Rattle.fleet_model.specs.Jobs.{JobSpec, Context}
+use Rattle.fleet_model.specs.Jobs.{JobSpec, Context, is_drain}
 use Rattle.fleet_model.specs.Nodes.{NodeName, is_l0, Tables, table_rows, tree_at}
+use Rattle.fleet_model.specs.Polls.{PollInput, can_move}
 use Rattle.fleet_model.specs.Records.{Unrecorded, beaten_by, claimed_by, finished_by, to_completed, to_failed, to_scheduled, to_waiting}
-use Rattle.fleet_model.specs.Trees.{by_first_key, first_key, source_nodes, source_pieces, stepped_in}
+use Rattle.fleet_model.specs.Store.{Manifest}
+use Rattle.fleet_model.specs.Trees.{by_first_key, first_key, last_key, source_nodes, source_pieces, stepped_in}
 use Rattle.step_model.specs.Merging as model
+use Rattle.fleet_table.specs.Manifests.{manifest_of}
 use Rattle.fleet_table.specs.Trees.{flush_node, run_node, tree_of, trees_of, trees_with_prefix}
 use Rattle.fleet_table.specs.Views.{View}
 use Rattle.fleet_table.specs.declared.handle.SsTableHandle.{SsTableHandle}
 use Rattle.fleet_table.specs.declared.manifest.ManifestCore.{ManifestCore}
+use Rattle.fleet_table.specs.declared.manifest.VersionedManifest.{VersionedManifest}
 use Rattle.fleet_table.specs.declared.run.SortedRun.{SortedRun}
 use Rattle.fleet_table.specs.declared.tree.LsmTreeState.{LsmTreeState}
 use Rattle.fleet_book.specs.ContextParts.{ContextParts}
 use Rattle.fleet_book.specs.Contexts.{context_of, table_ids}
-use Rattle.fleet_book.specs.Finishes.{core_after, kept_runs, tree_after}
+use Rattle.fleet_book.specs.Finishes.{core_after, merged_manifest, tree_after}
 use Rattle.fleet_book.specs.JobParts.{JobParts}
 use Rattle.fleet_book.specs.Jobs.{job_of, jobs_of, with_status}
 use Rattle.fleet_book.specs.Moves.{moved_run}
@@ -101,6 +107,32 @@ abbrev pub MovedRunsAreTheModels : Type 0
 MovedRunsAreTheModels = (tables : Tables) (destination : Option ℕ) (views : List View) (run : SortedRun)
     → KeysFit tables views → moved_run destination views ≡ Some run
     → (destination ≡ Some run.id) × (view_tables run.views ≡ by_first_key tables (view_tables views))
+
+-- In the model's tables, the first and the last row of a table have the keys that its description gives. The first
+-- key is not above the last.
+pub record EndsFit (tables : Tables) (view : View) : Type 0 where
+  pub first : first_key (table_rows tables view.sst.id) ≡ view.sst.first_key
+  pub last : last_key [] (table_rows tables view.sst.id) ≡ view.sst.last_key
+  pub rising : is_le (key_cmp view.sst.first_key view.sst.last_key) ≡ true
+
+-- If moves are allowed, a run is made of the tables of a job exactly if the model can move the job. The job is no
+-- drain, and names its flushes before its runs.
+abbrev pub MovableJobsAreTheModels : Type 0
+MovableJobsAreTheModels = (flushes : ℕ → List ℕ) (input : PollInput) (spec : CompactionSpec) (core : ManifestCore)
+    → is_drain (spec_of spec) ≡ false → names_of spec ≡ l0_names spec ++ run_names spec
+    → AllByRecursion (EndsFit input.tables) (taken_tables spec core)
+    → (input.options.moves && is_some (moved_run (destination_of spec) (taken_tables spec core))) ≡ can_move input (trees_of flushes core) (spec_of spec)
+
+-- The model's manifest with the contents of a stored one.
+abbrev pub model_manifest : (ℕ → List ℕ) → VersionedManifest → Manifest
+model_manifest flushes manifest = manifest_of flushes manifest.id manifest.manifest.compactor_epoch manifest.manifest.core
+
+-- A coordinator's manifest after it saw a stored one is the stored one with the trees that the model merges.
+abbrev pub MergedManifestsAreTheModels : Type 0
+MergedManifestsAreTheModels = (flushes : ℕ → List ℕ) (own stored : VersionedManifest)
+    → model_manifest flushes (merged_manifest own stored) ≡ record (model_manifest flushes stored) {
+      trees = model.merged_trees (trees_of flushes own.manifest.core) (trees_of flushes stored.manifest.core);
+    }
 
 -- A worker of this number, heard of at this moment.
 abbrev pub worker_at : ℕ → ℕ → Option WorkerSpec

@@ -1,6 +1,6 @@
 //! What a coordinator makes of jobs and of trees, compared with the model.
 
-ghost use Rattle.fleet_book.specs.Laws.{BeatsAreTheModels, ClaimsAreTheModels, CompletionsAreTheModels, DrainsAreTheModels, EndsAreTheModels, FailuresAreTheModels, JoinsAreTheModels, MergesAreTheModels, MovedRunsAreTheModels, MovesAreTheModels, OpeningsAreTheModels, TakenRunsAreTheModels, TakenTablesAreTheModels, TakenViewsAreTheModels, WaitsAreTheModels};
+ghost use Rattle.fleet_book.specs.Laws.{BeatsAreTheModels, ClaimsAreTheModels, CompletionsAreTheModels, DrainsAreTheModels, EndsAreTheModels, FailuresAreTheModels, JoinsAreTheModels, MergedManifestsAreTheModels, MergesAreTheModels, MovableJobsAreTheModels, MovedRunsAreTheModels, MovesAreTheModels, OpeningsAreTheModels, TakenRunsAreTheModels, TakenTablesAreTheModels, TakenViewsAreTheModels, WaitsAreTheModels};
 
 /// `get_l0_sst_views` gives the flushes among the model's source nodes.
 pub fn taken_views_are_the_models()
@@ -35,6 +35,11 @@ pub fn moves_are_the_models()
 /// `trivial_move_output` gives the run that the model's move makes.
 pub fn moved_runs_are_the_models()
     ensures { MovedRunsAreTheModels }
+{}
+
+/// `trivial_move_output` gives a run exactly where the model can move the job.
+pub fn movable_jobs_are_the_models()
+    ensures { MovableJobsAreTheModels }
 {}
 
 /// `set_status` with Completed makes a job as the model's completion does.
@@ -77,4 +82,10 @@ pub fn ends_are_the_models()
 /// `merge_remote_compactions` takes stored jobs as the model's coordinator does.
 pub fn merges_are_the_models()
     ensures { MergesAreTheModels }
+{}
+
+/// `merge_remote_manifest` merges trees as the model's coordinator does. The rest is the stored
+/// manifest's.
+pub fn merged_manifests_are_the_models()
+    ensures { MergedManifestsAreTheModels }
 {}
