@@ -1,13 +1,14 @@
 -- A job that is over stays as it is, whatever records are taken over.
-use Rattle.std.proofs.Common.{◌≡◌, refl, sym, ◌∙◌, ap, ℕ, List, [], ◌∷◌, Bool, true, false, cond, not, ◌||◌, ◌&&◌}
+use Rattle.std.proofs.Common.{◌≡◌, refl, sym, ◌∙◌, ap, ℕ, List, [], ◌∷◌, Bool, true, false, cond, not}
 use Rattle.std.specs.Prelude.{◌==◌, nat_lt, Some, None}
 use Rattle.std.proofs.lemmas.Bool.{eqb-true}
-use Rattle.fleet_model.specs.Jobs.{Status, Submitted, Scheduled, Running, Compacted, Completed, Failed, is_finished, status_eq}
+use Rattle.fleet_model.specs.Jobs.{Status, Submitted, Scheduled, Running, Compacted, Completed, Failed, is_finished}
+use Rattle.step_model.specs.Merging.{adopts}
 use Rattle.fleet_book.specs.JobParts.{JobParts}
 use Rattle.fleet_book.specs.Jobs.{is_open}
 use Rattle.fleet_book.specs.Records.{put_record, record_with}
 use Rattle.fleet_book.specs.States.{takes, with_stored, merged_jobs}
-use Rattle.fleet_book.specs.Status.{adopts, status_of}
+use Rattle.fleet_book.specs.Status.{status_of}
 
 -- Putting a record under another id changes no answer for this id.
 put_other : (id : ℕ) (new : JobParts) (jobs : List JobParts) → (new.id == id) ≡ false → record_with id (put_record new jobs) ≡ record_with id jobs
@@ -24,7 +25,7 @@ put_other id new (job ∷ jobs) apart = by (nat_lt job.id new.id) (job.id == new
     by false false f rest = ap (λ b. cond b (Some new) (cond (job.id == id) (Some job) (record_with id jobs))) apart
 
 -- A job that is over is not replaced by a stored one.
-over_stays : (own stored : Status) → not (is_finished own) ≡ false → (adopts own stored || (status_eq Scheduled own && status_eq Scheduled stored)) ≡ false
+over_stays : (own stored : Status) → not (is_finished own) ≡ false → adopts own stored ≡ false
 over_stays Submitted stored over = absurd (cc over)
 over_stays Scheduled stored over = absurd (cc over)
 over_stays Running stored over = absurd (cc over)

@@ -1,16 +1,17 @@
 -- A coordinator takes stored records as the model does.
-use Rattle.std.proofs.Common.{◌≡◌, refl, sym, ◌∙◌, ap, subst, ℕ, ◌<◌, List, [], ◌∷◌, Bool, true, false, cond, ◌||◌, ◌&&◌, arith}
+use Rattle.std.proofs.Common.{◌≡◌, refl, sym, ◌∙◌, ap, subst, ℕ, ◌<◌, List, [], ◌∷◌, Bool, true, false, cond, arith}
 use Rattle.std.specs.Prelude.{◌==◌, nat_lt, map, Option, Some, None, option_map}
 use Rattle.std.specs.List.{AllByRecursion}
-use Rattle.std.proofs.lemmas.Bool.{eqb-true, eqb-false, eq-eqb, ltb-true, ltb-false}
+use Rattle.std.proofs.lemmas.Bool.{eqb-true, eqb-false, ltb-true, ltb-false}
+use Rattle.std.proofs.lemmas.Cmp.{nat_eq_equiv}
 use Rattle.row_laws.proofs.Elements.{all_weaken}
-use Rattle.fleet_model.specs.Jobs.{Status, Submitted, Scheduled, Running, Compacted, Completed, Failed, Job, Jobs, job_with, put_job, status_eq}
+use Rattle.fleet_model.specs.Jobs.{Job, Jobs, job_with, put_job}
 use Rattle.step_model.specs.Merging as model
 use Rattle.fleet_book.specs.JobParts.{JobParts}
 use Rattle.fleet_book.specs.Jobs.{job_of, jobs_of}
 use Rattle.fleet_book.specs.Records.{AreRising, put_record, record_with}
 use Rattle.fleet_book.specs.States.{takes, with_stored, merged_jobs}
-use Rattle.fleet_book.specs.Status.{adopts, adopts_new, status_of}
+use Rattle.fleet_book.specs.Status.{status_of}
 use Rattle.fleet_book.specs.Laws.{MergesAreTheModels}
 use Rattle.fleet_book.proofs.Records.{rising_put}
 use Rattle.fleet_book.proofs.Trimmed.{put_job_is}
@@ -18,19 +19,10 @@ use Rattle.fleet_book.proofs.Trimmed.{put_job_is}
 abbrev Above : ℕ → JobParts → Type 0
 Above x job = x < job.id
 
-flip : (a b : ℕ) → (a == b) ≡ (b == a)
-flip a b = by (a == b) (b == a) refl refl
-  where
-    by : (x y : Bool) → (a == b) ≡ x → (b == a) ≡ y → x ≡ y
-    by true true e f = refl
-    by false false e f = refl
-    by true false e f = absurd (eqb-false b a f (sym (eqb-true a b e)))
-    by false true e f = absurd (eqb-false a b e (sym (eqb-true b a f)))
-
 -- The model's job with an id is that of the record with this id.
 looked : (id : ℕ) (jobs : List JobParts) → job_with id (jobs_of jobs) ≡ option_map job_of (record_with id jobs)
 looked id [] = refl
-looked id (job ∷ jobs) = ap (λ b. cond b (Some (job_of job)) (job_with id (jobs_of jobs))) (flip id job.id) ∙ by (job.id == id) (looked id jobs)
+looked id (job ∷ jobs) = ap (λ b. cond b (Some (job_of job)) (job_with id (jobs_of jobs))) (nat_eq_equiv.symm id job.id) ∙ by (job.id == id) (looked id jobs)
   where
     by : (b : Bool) → job_with id (jobs_of jobs) ≡ option_map job_of (record_with id jobs) → cond b (Some (job_of job)) (job_with id (jobs_of jobs)) ≡ option_map job_of (cond b (Some job) (record_with id jobs))
     by true rest = refl
@@ -63,11 +55,11 @@ replaced_is new there (job ∷ jobs) up is = by (nat_lt job.id new.id) (job.id =
         → jobs_of (cond b (job ∷ put_record new jobs) (cond c (new ∷ jobs) (new ∷ job ∷ jobs))) ≡ cond (new.id == job.id) (job_of new) (job_of job) ∷ model.replaced (job_of new) (jobs_of jobs)
     by true true e f is rest = let low = ltb-true job.id new.id e in let same = eqb-true job.id new.id f in absurd (omega (arith, low, same))
     by true false e f is rest =
-        ap (λ (js : Jobs). job_of job ∷ js) (rest is) ∙ sym (ap (λ b. cond b (job_of new) (job_of job) ∷ model.replaced (job_of new) (jobs_of jobs)) (flip new.id job.id ∙ f))
+        ap (λ (js : Jobs). job_of job ∷ js) (rest is) ∙ sym (ap (λ b. cond b (job_of new) (job_of job) ∷ model.replaced (job_of new) (jobs_of jobs)) (nat_eq_equiv.symm new.id job.id ∙ f))
     by false true e f is rest =
         let high : AllByRecursion (Above new.id) jobs = subst (λ n. AllByRecursion (Above n) jobs) (eqb-true job.id new.id f) up.0 in
         ap (λ (js : Jobs). job_of new ∷ js) (sym (unreplaced new jobs high))
-        ∙ sym (ap (λ b. cond b (job_of new) (job_of job) ∷ model.replaced (job_of new) (jobs_of jobs)) (flip new.id job.id ∙ f))
+        ∙ sym (ap (λ b. cond b (job_of new) (job_of job) ∷ model.replaced (job_of new) (jobs_of jobs)) (nat_eq_equiv.symm new.id job.id ∙ f))
     by false false e f is rest =
         let low = ltb-false job.id new.id e in
         let apart = eqb-false job.id new.id f in
@@ -75,52 +67,6 @@ replaced_is new there (job ∷ jobs) up is = by (nat_lt job.id new.id) (job.id =
         let high : AllByRecursion (Above new.id) jobs = all_weaken (Above job.id) (Above new.id) (λ other over. omega arith) jobs up.0 in
         let clash : ◌≡◌ {A = Option JobParts} None (Some there) = sym (none_below new.id jobs high) ∙ is in
         absurd (cc clash)
-
-same_taken : (own stored : Status) → (adopts own stored || (status_eq Scheduled own && status_eq Scheduled stored)) ≡ model.adopts own stored
-same_taken Submitted Submitted = refl
-same_taken Submitted Scheduled = refl
-same_taken Submitted Running = refl
-same_taken Submitted Compacted = refl
-same_taken Submitted Completed = refl
-same_taken Submitted Failed = refl
-same_taken Scheduled Submitted = refl
-same_taken Scheduled Scheduled = refl
-same_taken Scheduled Running = refl
-same_taken Scheduled Compacted = refl
-same_taken Scheduled Completed = refl
-same_taken Scheduled Failed = refl
-same_taken Running Submitted = refl
-same_taken Running Scheduled = refl
-same_taken Running Running = refl
-same_taken Running Compacted = refl
-same_taken Running Completed = refl
-same_taken Running Failed = refl
-same_taken Compacted Submitted = refl
-same_taken Compacted Scheduled = refl
-same_taken Compacted Running = refl
-same_taken Compacted Compacted = refl
-same_taken Compacted Completed = refl
-same_taken Compacted Failed = refl
-same_taken Completed Submitted = refl
-same_taken Completed Scheduled = refl
-same_taken Completed Running = refl
-same_taken Completed Compacted = refl
-same_taken Completed Completed = refl
-same_taken Completed Failed = refl
-same_taken Failed Submitted = refl
-same_taken Failed Scheduled = refl
-same_taken Failed Running = refl
-same_taken Failed Compacted = refl
-same_taken Failed Completed = refl
-same_taken Failed Failed = refl
-
-new_taken : (stored : Status) → adopts_new stored ≡ model.is_taken_new stored
-new_taken Submitted = refl
-new_taken Scheduled = refl
-new_taken Running = refl
-new_taken Compacted = refl
-new_taken Completed = refl
-new_taken Failed = refl
 
 -- One stored record is taken as the model takes its job.
 one_taken : (jobs : List JobParts) (s : JobParts) → AreRising jobs → jobs_of (with_stored jobs s) ≡ model.take_in (job_of s) (job_with s.id (jobs_of jobs)) (jobs_of jobs)
@@ -132,11 +78,11 @@ one_taken jobs s up = by (record_with s.id jobs) refl
 
     by : (o : Option JobParts) → record_with s.id jobs ≡ o → jobs_of (with_stored jobs s) ≡ model.take_in (job_of s) (job_with s.id (jobs_of jobs)) (jobs_of jobs)
     by None is =
-        ap (λ t. jobs_of (cond t (put_record s jobs) jobs)) (ap (λ o. takes o s) is ∙ new_taken (status_of s.status))
+        ap (λ t. jobs_of (cond t (put_record s jobs) jobs)) (ap (λ o. takes o s) is)
         ∙ (put (model.is_taken_new (status_of s.status)) (put_job (job_of s) (jobs_of jobs)) (put_job_is s jobs is)
         ∙ sym (ap (λ o. model.take_in (job_of s) o (jobs_of jobs)) (looked s.id jobs ∙ ap (option_map job_of) is)))
     by (Some own) is =
-        ap (λ t. jobs_of (cond t (put_record s jobs) jobs)) (ap (λ o. takes o s) is ∙ same_taken (status_of own.status) (status_of s.status))
+        ap (λ t. jobs_of (cond t (put_record s jobs) jobs)) (ap (λ o. takes o s) is)
         ∙ (put (model.adopts (status_of own.status) (status_of s.status)) (model.replaced (job_of s) (jobs_of jobs)) (replaced_is s own jobs up is)
         ∙ sym (ap (λ o. model.take_in (job_of s) o (jobs_of jobs)) (looked s.id jobs ∙ ap (option_map job_of) is)))
 

@@ -3,7 +3,7 @@ use Rattle.std.proofs.Common.{◌≡◌, refl, sym, ◌∙◌, ap, List, [], ◌
 use Rattle.std.specs.Prelude.{ℕ, ◌==◌, filter, find, flat_map, option_map, bytes_eq, Option, Some, None}
 use Rattle.std.specs.List.{cons_option, filter_map}
 use Rattle.std.specs.Option.{option_to_list}
-use Rattle.std.proofs.lemmas.Bool.{eqb-true, eqb-false}
+use Rattle.std.proofs.lemmas.Cmp.{nat_eq_equiv}
 use Rattle.std.proofs.lemmas.List.Concat.{flat_map-append}
 use Rattle.std.proofs.lemmas.List.{map-append}
 use Rattle.std.proofs.lemmas.List.Elements.{filter_map-append}
@@ -22,15 +22,6 @@ use Rattle.fleet_book.specs.Taken.{l0_in, named_runs, named_views, runs_in, take
 use Rattle.fleet_book.specs.declared.source_id.SourceId.{SourceId}
 use Rattle.fleet_book.specs.declared.source_id.SourceId.TheVariants.{SortedRun as OfRun, SstView}
 use Rattle.fleet_book.specs.declared.spec.CompactionSpec.{CompactionSpec}
-
-eq_swap : (a b : ℕ) → (a == b) ≡ (b == a)
-eq_swap a b = by (a == b) (b == a) refl refl
-  where
-    by : (p q : Bool) → (a == b) ≡ p → (b == a) ≡ q → p ≡ q
-    by true true e f = refl
-    by false false e f = refl
-    by true false e f = absurd (eqb-false b a f (sym (eqb-true a b e)))
-    by false true e f = absurd (eqb-false a b e (sym (eqb-true b a f)))
 
 module _ (flushes : ℕ → List ℕ) where
   -- The nodes of these flushes and runs.
@@ -55,7 +46,7 @@ module _ (flushes : ℕ → List ℕ) where
   flush_named : (n : ℕ) (runs : List SortedRun) (views : List View) → node_named (L0 n) (nodes views runs) ≡ option_map (flush_node flushes) (find (λ view. view.id == n) views)
   flush_named n runs [] = no_flush n runs
   flush_named n runs (v ∷ views) =
-      ap (λ b. cond b (Some (flush_node flushes v)) (node_named (L0 n) (nodes views runs))) (eq_swap n v.id) ∙ by (v.id == n) (flush_named n runs views)
+      ap (λ b. cond b (Some (flush_node flushes v)) (node_named (L0 n) (nodes views runs))) (nat_eq_equiv.symm n v.id) ∙ by (v.id == n) (flush_named n runs views)
     where
       by : (b : Bool) → node_named (L0 n) (nodes views runs) ≡ option_map (flush_node flushes) (find (λ view. view.id == n) views)
           → cond b (Some (flush_node flushes v)) (node_named (L0 n) (nodes views runs)) ≡ option_map (flush_node flushes) (cond b (Some v) (find (λ view. view.id == n) views))
@@ -65,7 +56,7 @@ module _ (flushes : ℕ → List ℕ) where
   only_run_named : (n : ℕ) (runs : List SortedRun) → node_named (Run n) (map (run_node flushes) runs) ≡ option_map (run_node flushes) (find (λ run. run.id == n) runs)
   only_run_named n [] = refl
   only_run_named n (r ∷ runs) =
-      ap (λ b. cond b (Some (run_node flushes r)) (node_named (Run n) (map (run_node flushes) runs))) (eq_swap n r.id) ∙ by (r.id == n) (only_run_named n runs)
+      ap (λ b. cond b (Some (run_node flushes r)) (node_named (Run n) (map (run_node flushes) runs))) (nat_eq_equiv.symm n r.id) ∙ by (r.id == n) (only_run_named n runs)
     where
       by : (b : Bool) → node_named (Run n) (map (run_node flushes) runs) ≡ option_map (run_node flushes) (find (λ run. run.id == n) runs)
           → cond b (Some (run_node flushes r)) (node_named (Run n) (map (run_node flushes) runs)) ≡ option_map (run_node flushes) (cond b (Some r) (find (λ run. run.id == n) runs))

@@ -1,14 +1,14 @@
 -- How the state of a coordinator changes.
-use Rattle.std.specs.Prelude.{Bool, ◌&&◌, ◌||◌, List, fold, if◌then◌else◌, Option, Some, None}
+use Rattle.std.specs.Prelude.{Bool, List, fold, if◌then◌else◌, Option, Some, None}
 use Rattle.std.specs.List.{list_any}
-use Rattle.fleet_model.specs.Jobs.{Scheduled, status_eq}
 use Rattle.fleet_model.specs.Polls.{clashes}
+use Rattle.step_model.specs.Merging.{adopts, is_taken_new}
 use Rattle.fleet_book.specs.JobParts.{JobParts}
 use Rattle.fleet_book.specs.Jobs.{job_of}
 use Rattle.fleet_book.specs.Records.{put_record, record_with}
 use Rattle.fleet_book.specs.Specs.{spec_of}
 use Rattle.fleet_book.specs.StateParts.{StateParts}
-use Rattle.fleet_book.specs.Status.{adopts, adopts_new, status_of}
+use Rattle.fleet_book.specs.Status.{status_of}
 use Rattle.fleet_book.specs.VersionedRecords.{VersionedRecords}
 use Rattle.fleet_book.specs.declared.spec.CompactionSpec.{CompactionSpec}
 
@@ -21,11 +21,10 @@ own_jobs state = state.compactions.compactions.jobs
 abbrev pub is_taken : CompactionSpec → List JobParts → Bool
 is_taken spec jobs = list_any (λ job. clashes (spec_of spec) (job_of job)) jobs
 
--- True if the coordinator takes the stored record of a job, given its own record if it has one. A job that is
--- Scheduled in both is taken, too.
+-- True if the coordinator takes the stored record of a job, given its own record if it has one.
 abbrev pub takes : Option JobParts → JobParts → Bool
-takes None stored = adopts_new (status_of stored.status)
-takes (Some own) stored = adopts (status_of own.status) (status_of stored.status) || (status_eq Scheduled (status_of own.status) && status_eq Scheduled (status_of stored.status))
+takes None stored = is_taken_new (status_of stored.status)
+takes (Some own) stored = adopts (status_of own.status) (status_of stored.status)
 
 -- The coordinator's jobs after it saw a stored record.
 abbrev pub with_stored : List JobParts → JobParts → List JobParts

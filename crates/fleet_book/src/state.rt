@@ -1,16 +1,17 @@
 //! A coordinator's own state.
 
-ghost use Rattle.std.specs.Prelude.{◌≡◌, ℕ, ◌&&◌, ◌||◌, None, Some, Err, bytes_eq, filter, false, true, IfOk, IfSome, IsOkUnless, IsSome, OnErr, OnOk};
+ghost use Rattle.std.specs.Prelude.{◌≡◌, ℕ, None, Some, Err, bytes_eq, filter, false, true, IfOk, IfSome, IsOkUnless, IsSome, OnErr, OnOk};
 ghost use Rattle.std.specs.Option.{ForSome, option_copied};
-ghost use Rattle.fleet_model.specs.Jobs.{Scheduled, put_job, status_eq};
+ghost use Rattle.fleet_model.specs.Jobs.{put_job};
 ghost use Rattle.fleet_model.specs.Polls.{clashes, same_target};
+ghost use Rattle.step_model.specs.Merging.{adopts};
 ghost use Rattle.fleet_book.specs.JobParts.{JobParts};
 ghost use Rattle.fleet_book.specs.Finishes.{finished, merged_manifest};
 ghost use Rattle.fleet_book.specs.Jobs.{is_open, job_of, jobs_of, with_status};
 ghost use Rattle.fleet_book.specs.Records.{put_record, record_with};
 ghost use Rattle.fleet_book.specs.Specs.{destination_of, segment_of, spec_of};
 ghost use Rattle.fleet_book.specs.States.{is_taken, merged_jobs, merged_records, own_jobs, takes, with_stored};
-ghost use Rattle.fleet_book.specs.Status.{adopts, status_of};
+ghost use Rattle.fleet_book.specs.Status.{status_of};
 ghost use Rattle.fleet_book.specs.Versions.{with_jobs};
 
 use crate::finish::core_after;
@@ -282,8 +283,7 @@ fn takes(own: Option<&Compaction>, stored: &Compaction) -> bool
 }
 
 fn replaces(own: CompactionStatus, stored: CompactionStatus) -> bool
-    ensures { result ≡ (adopts (status_of own) (status_of stored)
-        || (status_eq Scheduled (status_of own) && status_eq Scheduled (status_of stored))) }
+    ensures { result ≡ adopts (status_of own) (status_of stored) }
 {
     own.should_adopt_state_transition(stored)
         || (own == CompactionStatus::Scheduled && stored == CompactionStatus::Scheduled)

@@ -1,8 +1,9 @@
 //! The status of jobs.
 
-ghost use Rattle.std.specs.Prelude.{◌≡◌, not};
+ghost use Rattle.std.specs.Prelude.{◌≡◌, ◌&&◌, not};
 ghost use Rattle.fleet_model.specs.Jobs.{is_finished};
-ghost use Rattle.fleet_book.specs.Status.{adopts, adopts_new, holds_capacity, status_of};
+ghost use Rattle.step_model.specs.Merging.{adopts, is_taken_new};
+ghost use Rattle.fleet_book.specs.Status.{both_wait, holds_capacity, status_of};
 
 /// The status of a job. A job that is over is Completed or Failed.
 #[derive(Clone, Copy, Debug, PartialEq, Eq)]
@@ -46,9 +47,11 @@ impl CompactionStatus {
     }
 
     /// Whether a coordinator whose own record of a job has this status takes the stored record with
-    /// the other status in its place. A job that is over stays so.
+    /// the other status in its place. A job that is over stays so. The answer is false if both
+    /// statuses are Scheduled, though a coordinator takes the stored record then, too.
     pub fn should_adopt_state_transition(&self, updated_status: CompactionStatus) -> bool
-        ensures { result ≡ adopts (status_of self.now) (status_of updated_status) }
+        ensures { result ≡ (adopts (status_of self.now) (status_of updated_status)
+            && not (both_wait (status_of self.now) (status_of updated_status))) }
     {
         match self {
             CompactionStatus::Submitted | CompactionStatus::Compacted => {
@@ -71,7 +74,7 @@ impl CompactionStatus {
     /// Whether a coordinator without a record of a job takes a stored record with this status. A
     /// job that waits for a worker or has one was opened by a coordinator, so it is skipped.
     pub(crate) fn is_adopted_anew(self) -> bool
-        ensures { result ≡ adopts_new (status_of self) }
+        ensures { result ≡ is_taken_new (status_of self) }
     {
         !matches!(
             self,
