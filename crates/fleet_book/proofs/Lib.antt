@@ -1,4 +1,5 @@
 pub mod Records
+pub mod Kept
 pub mod Moved
 pub mod Merged
 pub mod Trimmed

@@ -1,12 +1,13 @@
--- Records of jobs stay in the order of their ids, and one of those that are over is kept.
+-- Records of jobs stay in the order of their ids, and a record is found and put at its place.
 use Rattle.std.proofs.Common.{sym, length, zero, ◌≡◌, refl, ◌∙◌, ap, subst, ℕ, suc, ◌+◌, ◌<◌, List, [], ◌∷◌, ◌++◌, take, drop, Bool, true, false, cond, ◌||◌, not, arith}
-use Rattle.std.specs.Prelude.{◌==◌, nat_lt, slice_get, slice_set, filter, fold, Option, Some, None, IfSome, IsSome}
+use Rattle.std.specs.Prelude.{◌==◌, nat_lt, slice_get, slice_set, filter, take_while, Option, Some, None, IfSome, IsSome}
 use Rattle.std.specs.List.{AllByRecursion, prefix_len}
+use Rattle.std.specs.Option.{option_map_or}
 use Rattle.std.proofs.lemmas.Bool.{eqb-true, eqb-false, eq-eqb, ltb-false, ltb-true}
+use Rattle.std.proofs.lemmas.List.Folds.{length-prefix_len}
 use Rattle.row_laws.proofs.Elements.{all_weaken}
 use Rattle.fleet_book.specs.JobParts.{JobParts}
-use Rattle.fleet_book.specs.Jobs.{is_open}
-use Rattle.fleet_book.specs.Records.{AreRising, record_with, put_record, over_later, kept_records, has_id, after_job, is_last}
+use Rattle.fleet_book.specs.Records.{AreRising, record_with, put_record}
 
 abbrev Above : ℕ → JobParts → Type 0
 Above x job = x < job.id
@@ -52,6 +53,10 @@ rising_filter p (job ∷ jobs) up = by (p job) (rising_filter p jobs up.1) (kept
 
 -- ---- the place of a record
 
+-- True if there is a job and it has this id.
+abbrev pub has_id : ℕ → Option JobParts → Bool
+has_id id got = option_map_or (λ job. job.id == id) got false
+
 abbrev pub place_in : ℕ → List JobParts → ℕ
 place_in id jobs = prefix_len (λ job. nat_lt job.id id) jobs
 
@@ -83,14 +88,24 @@ put_is new (job ∷ jobs) = by (nat_lt job.id new.id) (put_is new jobs)
         ∙ ap (λ js. job ∷ js) rest
     by false rest = here (job.id == new.id)
 
--- Putting the record at the place that was looked up makes what `put_record` makes.
-pub put_by : (new : JobParts) (jobs : List JobParts) (id place : ℕ) (there : Bool) (got : Option JobParts)
-    → id ≡ new.id → place ≡ place_in id jobs → there ≡ has_id id got → got ≡ slice_get jobs place → put_at there place new jobs ≡ put_record new jobs
-put_by new jobs id place there got own at found looked =
-    ap (λ n. put_at there n new jobs) at
-    ∙ ap (λ b. put_at b (place_in id jobs) new jobs) (found ∙ ap (has_id id) (looked ∙ ap (slice_get jobs) at))
+-- The place that `jobs_below` gives.
+placed : (id place : ℕ) (jobs shown : List JobParts) → shown ≡ jobs → place ≡ length (take_while (λ job. nat_lt job.id id) shown) → place ≡ place_in id jobs
+placed id place jobs shown same at = at ∙ length-prefix_len (λ job. nat_lt job.id id) shown ∙ ap (place_in id) same
+
+put_found : (new : JobParts) (jobs : List JobParts) (id : ℕ) (there : Bool) (got : Option JobParts) → id ≡ new.id → got ≡ slice_get jobs (place_in id jobs) → there ≡ has_id id got
+    → put_at there (place_in id jobs) new jobs ≡ put_record new jobs
+put_found new jobs id there got own looked found =
+    ap (λ t. put_at t (place_in id jobs) new jobs) (found ∙ ap (has_id id) looked)
     ∙ ap (λ k. put_at (has_id k (slice_get jobs (place_in k jobs))) (place_in k jobs) new jobs) own
     ∙ put_is new jobs
+
+-- Putting the record at the place that was looked up makes what `put_record` makes.
+pub put_by : (new : JobParts) (jobs shown made : List JobParts) (id place : ℕ) (there b : Bool) (got : Option JobParts)
+    → id ≡ new.id → shown ≡ jobs → place ≡ length (take_while (λ job. nat_lt job.id id) shown) → got ≡ slice_get jobs place → there ≡ has_id id got → there ≡ b
+    → made ≡ put_at b place new jobs → made ≡ put_record new jobs
+put_by new jobs shown made id place there b got own same at looked found is makes =
+    let low = placed id place jobs shown same at in
+    makes ∙ ap (λ n. put_at b n new jobs) low ∙ put_found new jobs id b got own (looked ∙ ap (slice_get jobs) low) (sym is ∙ found)
 
 none_there : (id : ℕ) (jobs : List JobParts) → AllByRecursion (Above id) jobs → record_with id jobs ≡ None
 none_there id [] all = refl
@@ -157,92 +172,36 @@ there id jobs up some = by (record_with id jobs) refl some
             own = eqb-true job.id id its;
             low = place_low id jobs job at;
             found = at;
-            replaced = λ new own. put_by new jobs id (place_in id jobs) true (Some job) own refl (sym its) (sym at);
+            replaced = λ new own. put_found new jobs id true (Some job) own (sym at) (sym its);
           },
         )
 
--- The place of a record that is there is a place of the list.
-pub place_fits : (id place : ℕ) (jobs : List JobParts) → AreRising jobs → IsSome (record_with id jobs) → place ≡ place_in id jobs → place < length jobs
-place_fits id place jobs up some at = subst (λ n. n < length jobs) (sym at) (there id jobs up some).1.low
+-- A record is looked up by its id, in the jobs of a map. The map shows its jobs as `now`, and gives a slice of them.
+module _ (id place : ℕ) (jobs now shown : List JobParts) (seen : jobs ≡ now) (up : AreRising jobs) (same : shown ≡ jobs) (at : place ≡ length (take_while (λ job. nat_lt job.id id) shown)) where
+  looked_up : (key : ℕ) → id ≡ key → IsSome (record_with key now) → (job : JobParts) × IsThere id jobs job
+  looked_up key own some = there id jobs up (subst (λ k. IsSome (record_with k jobs)) (sym own) (subst (λ js. IsSome (record_with key js)) (sym seen) some))
 
--- A record that is there is replaced by one with its id.
-pub is_replaced : (new : JobParts) (id place : ℕ) (jobs made : List JobParts) → id ≡ new.id → AreRising jobs → IsSome (record_with id jobs) → place ≡ place_in id jobs
-    → made ≡ slice_set jobs place new → made ≡ put_record new jobs
-is_replaced new id place jobs made own up some at set =
-    set ∙ ap (λ n. slice_set jobs n new) at ∙ (there id jobs up some).1.replaced new own
+  -- The place of a record that is there is a place of the list.
+  pub place_fits : (key : ℕ) → id ≡ key → IsSome (record_with key now) → place < length jobs
+  place_fits key own some = subst (λ n. n < length jobs) (sym (placed id place jobs shown same at)) (looked_up key own some).1.low
 
--- A record that is there is changed, and keeps its id.
-pub is_changed : (change : JobParts → JobParts) → ((job : JobParts) → (change job).id ≡ job.id) → (id place : ℕ) (jobs made : List JobParts) → AreRising jobs → IsSome (record_with id jobs)
-    → place ≡ place_in id jobs → IfSome (slice_get jobs place) (λ job. made ≡ slice_set jobs place (change job))
-    → (job : JobParts) × ((record_with id jobs ≡ Some job) × (made ≡ put_record (change job) jobs))
-is_changed change keeps id place jobs made up some at set =
-    let known = there id jobs up some in
-    let job = known.0 in
-    let put = subst (λ o. IfSome o (λ job. made ≡ slice_set jobs place (change job))) (ap (slice_get jobs) at ∙ known.1.found) set in
-    let own = sym (keeps job ∙ known.1.own) in
-    (job, (known.1.is, put ∙ ap (λ n. slice_set jobs n (change job)) at ∙ known.1.replaced (change job) own))
+  -- A record that is there is replaced by one with its id.
+  pub is_replaced : (new : JobParts) (made : List JobParts) → id ≡ new.id → IsSome (record_with new.id now) → made ≡ slice_set jobs place new → AreRising made × (made ≡ put_record new now)
+  is_replaced new made own some set =
+      let put = set ∙ ap (λ n. slice_set jobs n new) (placed id place jobs shown same at) ∙ (looked_up new.id own some).1.replaced new own in
+      (subst AreRising (sym put) (rising_put new jobs up), put ∙ ap (put_record new) seen)
 
--- ---- the records that are kept
-
-abbrev last_in : Option ℕ → List JobParts → Option ℕ
-last_in last jobs = fold after_job last jobs
-
-abbrev IsAbove : ℕ → Option ℕ → Type 0
-IsAbove x None = ⊥
-IsAbove x (Some id) = x < id
-
-stays_above : (x : ℕ) (last : Option ℕ) (jobs : List JobParts) → IsAbove x last → AllByRecursion (Above x) jobs → IsAbove x (last_in last jobs)
-stays_above x last [] low all = low
-stays_above x last (job ∷ jobs) low all = stays_above x (after_job last job) jobs (by (is_open job)) all.1
-  where
-    by : (b : Bool) → IsAbove x (cond b last (Some job.id))
-    by true = low
-    by false = all.0
-
-gets_above : (x : ℕ) (last : Option ℕ) (jobs : List JobParts) → AllByRecursion (Above x) jobs → over_later jobs ≡ true → IsAbove x (last_in last jobs)
-gets_above x last [] all over = absurd (cc over)
-gets_above x last (job ∷ jobs) all over = by (is_open job) over (λ later. gets_above x last jobs all.1 later)
-  where
-    by : (b : Bool) → (not b || over_later jobs) ≡ true → (over_later jobs ≡ true → IsAbove x (last_in last jobs)) → IsAbove x (last_in (cond b last (Some job.id)) jobs)
-    by true some rest = rest some
-    by false some rest = stays_above x (Some job.id) jobs all.0 all.1
-
-none_later : (last : Option ℕ) (jobs : List JobParts) → over_later jobs ≡ false → last_in last jobs ≡ last
-none_later last [] none = refl
-none_later last (job ∷ jobs) none = by (is_open job) none (λ later. none_later last jobs later)
-  where
-    by : (b : Bool) → (not b || over_later jobs) ≡ false → (over_later jobs ≡ false → last_in last jobs ≡ last) → last_in (cond b last (Some job.id)) jobs ≡ last
-    by true clear rest = rest clear
-    by false clear rest = absurd (cc clear)
-
-not_last : (job : JobParts) (last : Option ℕ) → IsAbove job.id last → is_last last job ≡ false
-not_last job None above = absurd above
-not_last job (Some id) above = by (id == job.id) refl
-  where
-    by : (b : Bool) → (id == job.id) ≡ b → b ≡ false
-    by true e = let same = eqb-true id job.id e in let clash : ⊥ = omega arith in absurd clash
-    by false e = refl
-
-self_last : (job : JobParts) → (job.id == job.id) ≡ true
-self_last job = eq-eqb job.id job.id refl
-
-abbrev pub filtered : Option ℕ → List JobParts → List JobParts
-filtered last jobs = filter (λ job. is_open job || is_last last job) jobs
-
-pub kept_is : (last : Option ℕ) (jobs : List JobParts) → AreRising jobs → filtered (last_in last jobs) jobs ≡ kept_records jobs
-kept_is last [] up = refl
-kept_is last (job ∷ jobs) up = by (is_open job) (over_later jobs) refl (λ before. kept_is before jobs up.1)
-  where
-    by : (b later : Bool) → over_later jobs ≡ later → ((before : Option ℕ) → filtered (last_in before jobs) jobs ≡ kept_records jobs)
-        → cond (b || is_last (last_in (cond b last (Some job.id)) jobs) job) (job ∷ filtered (last_in (cond b last (Some job.id)) jobs) jobs) (filtered (last_in (cond b last (Some job.id)) jobs) jobs)
-        ≡ cond b (job ∷ kept_records jobs) (cond later (kept_records jobs) (job ∷ kept_records jobs))
-    by true later e rest = ap (λ js. job ∷ js) (rest last)
-    by false true e rest =
-        let js = filtered (last_in (Some job.id) jobs) jobs in
-        ap (λ b. cond b (job ∷ js) js) (not_last job (last_in (Some job.id) jobs) (gets_above job.id (Some job.id) jobs up.0 e)) ∙ rest (Some job.id)
-    by false false e rest =
-        let js = filtered (last_in (Some job.id) jobs) jobs in
-        ap (λ found. cond (is_last found job) (job ∷ js) js) (none_later (Some job.id) jobs e) ∙ ap (λ b. cond b (job ∷ js) js) (self_last job) ∙ ap (λ ks. job ∷ ks) (rest (Some job.id))
-
-pub rising_kept : (jobs : List JobParts) → AreRising jobs → AreRising (kept_records jobs)
-rising_kept jobs up = subst AreRising (kept_is None jobs up) (rising_filter (λ job. is_open job || is_last (last_in None jobs) job) jobs up)
+  -- A record that is there is changed, and keeps its id.
+  pub is_changed : (change : JobParts → JobParts) (made : List JobParts) → ((job : JobParts) → (change job).id ≡ job.id) → IsSome (record_with id now)
+      → IfSome (slice_get jobs place) (λ job. made ≡ slice_set jobs place (change job))
+      → AreRising made × IfSome (record_with id now) (λ job. made ≡ put_record (change job) now)
+  is_changed change made keeps some set =
+      let known = looked_up id refl some in
+      let job = known.0 in
+      let low = placed id place jobs shown same at in
+      let set_there = subst (λ o. IfSome o (λ job. made ≡ slice_set jobs place (change job))) (ap (slice_get jobs) low ∙ known.1.found) set in
+      let put = set_there ∙ ap (λ n. slice_set jobs n (change job)) low ∙ known.1.replaced (change job) (sym (keeps job ∙ known.1.own)) in
+      let is = sym (ap (record_with id) seen) ∙ known.1.is in (
+        subst AreRising (sym put) (rising_put (change job) jobs up),
+        subst (λ o. IfSome o (λ job. made ≡ put_record (change job) now)) (sym is) (put ∙ ap (put_record (change job)) seen),
+      )

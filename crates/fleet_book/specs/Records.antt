@@ -1,5 +1,5 @@
 -- The records of all jobs, and how they are seen in the model.
-use Rattle.std.specs.Prelude.{ℕ, ◌<◌, Bool, false, ◌||◌, ◌==◌, nat_lt, not, List, [], ◌∷◌, find, if◌then◌else◌, Option, Some, None}
+use Rattle.std.specs.Prelude.{ℕ, ◌<◌, Bool, false, ◌||◌, ◌==◌, nat_lt, not, List, [], ◌∷◌, find, if◌then◌else◌, Option}
 use Rattle.row_model.specs.Lists.{Pairs}
 use Rattle.fleet_book.specs.JobParts.{JobParts}
 use Rattle.fleet_book.specs.Jobs.{is_open}
@@ -27,17 +27,3 @@ over_later (job ∷ jobs) = not (is_open job) || over_later jobs
 abbrev pub kept_records : List JobParts → List JobParts
 kept_records [] = []
 kept_records (job ∷ jobs) = if is_open job then job ∷ kept_records jobs else (if over_later jobs then kept_records jobs else job ∷ kept_records jobs)
-
--- True if there is a job and it has this id.
-abbrev pub has_id : ℕ → Option JobParts → Bool
-has_id id None = false
-has_id id (Some job) = job.id == id
-
--- The id of the last job that is over, after one more job.
-abbrev pub after_job : Option ℕ → JobParts → Option ℕ
-after_job last job = if is_open job then last else Some job.id
-
--- True if an id is given and the job has it.
-abbrev pub is_last : Option ℕ → JobParts → Bool
-is_last None job = false
-is_last (Some id) job = id == job.id

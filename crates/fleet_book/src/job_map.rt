@@ -1,10 +1,10 @@
 //! The records of all jobs.
 
-ghost use Rattle.std.specs.Prelude.{◌≡◌, ◌==◌, ◌<◌, ◌++◌, [], ◌∷◌, ◌||◌, None, filter, find, fold, length, nat_lt, slice_get, slice_set, take_while, IfOk, IfSome, IsSome, IsOkUnless, OnErr, OnOk};
-ghost use Rattle.std.specs.Option.{option_copied};
+ghost use Rattle.std.specs.Prelude.{◌≡◌, ◌==◌, ◌<◌, ◌++◌, [], ◌∷◌, ◌||◌, if◌then◌else◌, None, Some, false, filter, find, fold, length, nat_lt, slice_get, slice_set, take_while, IfOk, IfSome, IsSome, IsOkUnless, OnErr, OnOk};
+ghost use Rattle.std.specs.Option.{option_copied, option_map_or};
 ghost use Rattle.fleet_model.specs.Jobs.{trimmed};
 ghost use Rattle.fleet_book.specs.Jobs.{is_open, jobs_of, with_status};
-ghost use Rattle.fleet_book.specs.Records.{AreRising, after_job, has_id, is_last, kept_records, put_record, record_with};
+ghost use Rattle.fleet_book.specs.Records.{AreRising, kept_records, put_record, record_with};
 
 use crate::{Compaction, CompactionStatus, RecentCompactions};
 use fleet_rows::{Copies, ListOf, SlateDBError, Ulid};
@@ -191,7 +191,7 @@ fn set_status_at(jobs: &mut ListOf<Compaction>, place: usize, status: Compaction
 }
 
 fn has_id(job: Option<&Compaction>, id: Ulid) -> bool
-    ensures { result ≡ has_id id (option_copied job.entry) }
+    ensures { result ≡ option_map_or (λ job. job.id == id) (option_copied job.entry) false }
 {
     match job {
         Some(job) => job.id() == id,
@@ -207,25 +207,26 @@ fn jobs_below(jobs: &[Compaction], id: Ulid) -> usize
 
 // The id of the last job that is over.
 fn last_finished(jobs: &[Compaction]) -> Option<Ulid>
-    ensures { result ≡ fold after_job None jobs.now }
+    ensures { result
+        ≡ fold (λ last job. if is_open job then last else Some job.id) None jobs.now }
 {
     jobs.iter().fold(None, after_job)
 }
 
 fn after_job(last: Option<Ulid>, job: &Compaction) -> Option<Ulid>
-    ensures { result ≡ after_job last job.now }
+    ensures { result ≡ (if is_open job.now then last else Some job.now.id) }
 {
     if job.active() { last } else { Some(job.id()) }
 }
 
 fn is_kept(job: &Compaction, last: Option<Ulid>) -> bool
-    ensures { result ≡ is_open job.now || is_last last job.now }
+    ensures { result ≡ (is_open job.now || option_map_or (λ id. id == job.now.id) last false) }
 {
     job.active() || is_last(last, job)
 }
 
 fn is_last(last: Option<Ulid>, job: &Compaction) -> bool
-    ensures { result ≡ is_last last job.now }
+    ensures { result ≡ option_map_or (λ id. id == job.now.id) last false }
 {
     match last {
         Some(id) => id == job.id(),
@@ -234,7 +235,8 @@ fn is_last(last: Option<Ulid>, job: &Compaction) -> bool
 }
 
 fn retain(jobs: &mut ListOf<Compaction>, last: Option<Ulid>)
-    ensures { jobs.new ≡ filter (λ job. is_open job || is_last last job) jobs.old }
+    ensures { jobs.new ≡ filter
+        (λ job. is_open job || option_map_or (λ id. id == job.id) last false) jobs.old }
 {
     let mut items = jobs.take().into_vec();
     items.retain(|job| is_kept(job, last));
