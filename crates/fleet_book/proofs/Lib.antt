@@ -8,5 +8,7 @@ pub mod ModelFinishes
 pub mod ModelTaken
 pub mod ModelMoved
 pub mod ModelMerges
+pub mod Repeated
+pub mod Trims
 pub mod ModelMovable
 pub mod ModelManifests

@@ -11,7 +11,7 @@ use Rattle.fleet_book.specs.States.{takes, with_stored, merged_jobs}
 use Rattle.fleet_book.specs.Status.{status_of}
 
 -- Putting a record under another id changes no answer for this id.
-put_other : (id : ℕ) (new : JobParts) (jobs : List JobParts) → (new.id == id) ≡ false → record_with id (put_record new jobs) ≡ record_with id jobs
+pub put_other : (id : ℕ) (new : JobParts) (jobs : List JobParts) → (new.id == id) ≡ false → record_with id (put_record new jobs) ≡ record_with id jobs
 put_other id new [] apart = ap (λ b. cond b (Some new) None) apart
 put_other id new (job ∷ jobs) apart = by (nat_lt job.id new.id) (job.id == new.id) refl (put_other id new jobs apart)
   where

@@ -13,7 +13,7 @@ use Rattle.fleet_book.specs.Records.{AreRising, put_record, record_with}
 use Rattle.fleet_book.specs.States.{takes, with_stored, merged_jobs}
 use Rattle.fleet_book.specs.Status.{status_of}
 use Rattle.fleet_book.specs.Laws.{MergesAreTheModels}
-use Rattle.fleet_book.proofs.Records.{rising_put}
+use Rattle.fleet_book.proofs.Records.{none_there, rising_put}
 use Rattle.fleet_book.proofs.Trimmed.{put_job_is}
 
 abbrev Above : ℕ → JobParts → Type 0
@@ -27,15 +27,6 @@ looked id (job ∷ jobs) = ap (λ b. cond b (Some (job_of job)) (job_with id (jo
     by : (b : Bool) → job_with id (jobs_of jobs) ≡ option_map job_of (record_with id jobs) → cond b (Some (job_of job)) (job_with id (jobs_of jobs)) ≡ option_map job_of (cond b (Some job) (record_with id jobs))
     by true rest = refl
     by false rest = rest
-
--- No record has an id below all of them.
-none_below : (id : ℕ) (jobs : List JobParts) → AllByRecursion (Above id) jobs → record_with id jobs ≡ None
-none_below id [] all = refl
-none_below id (job ∷ jobs) all = by (job.id == id) refl (none_below id jobs all.1)
-  where
-    by : (b : Bool) → (job.id == id) ≡ b → record_with id jobs ≡ None → cond b (Some job) (record_with id jobs) ≡ None
-    by true e rest = let same = eqb-true job.id id e in let high = all.0 in absurd (omega (arith, same, high))
-    by false e rest = rest
 
 unreplaced : (new : JobParts) (jobs : List JobParts) → AllByRecursion (Above new.id) jobs → model.replaced (job_of new) (jobs_of jobs) ≡ jobs_of jobs
 unreplaced new [] all = refl
@@ -65,7 +56,7 @@ replaced_is new there (job ∷ jobs) up is = by (nat_lt job.id new.id) (job.id =
         let apart = eqb-false job.id new.id f in
         let below : new.id < job.id = grind (arith, low, apart) in
         let high : AllByRecursion (Above new.id) jobs = all_weaken (Above job.id) (Above new.id) (λ other over. omega arith) jobs up.0 in
-        let clash : ◌≡◌ {A = Option JobParts} None (Some there) = sym (none_below new.id jobs high) ∙ is in
+        let clash : ◌≡◌ {A = Option JobParts} None (Some there) = sym (none_there new.id jobs high) ∙ is in
         absurd (cc clash)
 
 -- One stored record is taken as the model takes its job.
@@ -86,7 +77,7 @@ one_taken jobs s up = by (record_with s.id jobs) refl
         ∙ (put (model.adopts (status_of own.status) (status_of s.status)) (model.replaced (job_of s) (jobs_of jobs)) (replaced_is s own jobs up is)
         ∙ sym (ap (λ o. model.take_in (job_of s) o (jobs_of jobs)) (looked s.id jobs ∙ ap (option_map job_of) is)))
 
-rising_with : (jobs : List JobParts) (s : JobParts) → AreRising jobs → AreRising (with_stored jobs s)
+pub rising_with : (jobs : List JobParts) (s : JobParts) → AreRising jobs → AreRising (with_stored jobs s)
 rising_with jobs s up = by (takes (record_with s.id jobs) s)
   where
     by : (t : Bool) → AreRising (cond t (put_record s jobs) jobs)

@@ -107,7 +107,8 @@ put_by new jobs shown made id place there b got own same at looked found is make
     let low = placed id place jobs shown same at in
     makes ∙ ap (λ n. put_at b n new jobs) low ∙ put_found new jobs id b got own (looked ∙ ap (slice_get jobs) low) (sym is ∙ found)
 
-none_there : (id : ℕ) (jobs : List JobParts) → AllByRecursion (Above id) jobs → record_with id jobs ≡ None
+-- No record has an id below all of them.
+pub none_there : (id : ℕ) (jobs : List JobParts) → AllByRecursion (Above id) jobs → record_with id jobs ≡ None
 none_there id [] all = refl
 none_there id (job ∷ jobs) all = by (job.id == id) refl (none_there id jobs all.1)
   where

@@ -1,5 +1,6 @@
--- Laws: what a coordinator makes of its jobs and its trees is what the model makes of them.
-use Rattle.std.specs.Prelude.{◌≡◌, ℕ, ◌+◌, Bool, true, false, ◌&&◌, not, List, [], ◌++◌, map, filter, flat_map, option_map, Option, Some, None, is_some, bytes_eq}
+-- Laws: what a coordinator makes of its jobs and its trees is what the model makes of them, and what merges and trims of
+-- jobs keep.
+use Rattle.std.specs.Prelude.{◌≡◌, ℕ, ◌+◌, Bool, true, false, ◌&&◌, not, List, [], ◌∷◌, ◌++◌, map, filter, flat_map, option_map, Option, Some, None, is_some, bytes_eq}
 use Rattle.std.specs.List.{AllByRecursion}
 use Rattle.std.specs.Ordering.{is_le}
 use Rattle.row_model.specs.Rows.{key_cmp}
@@ -23,10 +24,10 @@ use Rattle.fleet_book.specs.ContextParts.{ContextParts}
 use Rattle.fleet_book.specs.Contexts.{context_of, table_ids}
 use Rattle.fleet_book.specs.Finishes.{core_after, merged_manifest, tree_after}
 use Rattle.fleet_book.specs.JobParts.{JobParts}
-use Rattle.fleet_book.specs.Jobs.{job_of, jobs_of, with_status}
+use Rattle.fleet_book.specs.Jobs.{is_open, job_of, jobs_of, with_status}
 use Rattle.fleet_book.specs.Moves.{moved_run}
 use Rattle.fleet_book.specs.Sources.{name_of}
-use Rattle.fleet_book.specs.Records.{AreRising}
+use Rattle.fleet_book.specs.Records.{AreRising, kept_records}
 use Rattle.fleet_book.specs.States.{merged_jobs}
 use Rattle.fleet_book.specs.Specs.{destination_of, segment_of, sources_of, spec_of}
 use Rattle.fleet_book.specs.Taken.{taken_runs, taken_tables, taken_views}
@@ -175,3 +176,29 @@ EndsAreTheModels = (worker : ℕ) (unrecorded : Unrecorded) (outputs : List (Lis
 -- A coordinator's jobs after it saw stored records are the jobs that the model merges.
 abbrev pub MergesAreTheModels : Type 0
 MergesAreTheModels = (own stored : List JobParts) → AreRising own → jobs_of (merged_jobs own stored) ≡ model.merged_jobs (jobs_of own) (jobs_of stored)
+
+-- A coordinator that sees the same stored records again keeps its jobs as they are.
+abbrev pub RepeatedMergesAreIdle : Type 0
+RepeatedMergesAreIdle = (own stored : List JobParts) → AreRising own → AreRising stored → merged_jobs (merged_jobs own stored) stored ≡ merged_jobs own stored
+
+-- A trim of jobs that are trimmed drops none.
+abbrev pub RepeatedTrimsAreIdle : Type 0
+RepeatedTrimsAreIdle = (jobs : List JobParts) → kept_records (kept_records jobs) ≡ kept_records jobs
+
+-- A trim keeps all jobs that are not over.
+abbrev pub OpenJobsAreKept : Type 0
+OpenJobsAreKept = (jobs : List JobParts) → filter is_open (kept_records jobs) ≡ filter is_open jobs
+
+-- The jobs that are over.
+abbrev pub over_jobs : List JobParts → List JobParts
+over_jobs jobs = filter (λ job. not (is_open job)) jobs
+
+-- The last of the jobs, or none if there are none.
+abbrev pub last_of : List JobParts → List JobParts
+last_of [] = []
+last_of (job ∷ []) = job ∷ []
+last_of (job ∷ next ∷ jobs) = last_of (next ∷ jobs)
+
+-- Of the jobs that are over, a trim keeps the last one alone.
+abbrev pub LastOverJobsAreKept : Type 0
+LastOverJobsAreKept = (jobs : List JobParts) → over_jobs (kept_records jobs) ≡ last_of (over_jobs jobs)

@@ -1,6 +1,7 @@
-//! What a coordinator makes of jobs and of trees, compared with the model.
+//! What a coordinator makes of jobs and of trees, compared with the model, and what merges and trims
+//! of jobs keep.
 
-ghost use Rattle.fleet_book.specs.Laws.{BeatsAreTheModels, ClaimsAreTheModels, CompletionsAreTheModels, DrainsAreTheModels, EndsAreTheModels, FailuresAreTheModels, JoinsAreTheModels, MergedManifestsAreTheModels, MergesAreTheModels, MovableJobsAreTheModels, MovedRunsAreTheModels, MovesAreTheModels, OpeningsAreTheModels, TakenRunsAreTheModels, TakenTablesAreTheModels, TakenViewsAreTheModels, WaitsAreTheModels};
+ghost use Rattle.fleet_book.specs.Laws.{BeatsAreTheModels, ClaimsAreTheModels, CompletionsAreTheModels, DrainsAreTheModels, EndsAreTheModels, FailuresAreTheModels, JoinsAreTheModels, LastOverJobsAreKept, MergedManifestsAreTheModels, MergesAreTheModels, MovableJobsAreTheModels, MovedRunsAreTheModels, MovesAreTheModels, OpenJobsAreKept, OpeningsAreTheModels, RepeatedMergesAreIdle, RepeatedTrimsAreIdle, TakenRunsAreTheModels, TakenTablesAreTheModels, TakenViewsAreTheModels, WaitsAreTheModels};
 
 /// `get_l0_sst_views` gives the flushes among the model's source nodes.
 pub fn taken_views_are_the_models()
@@ -88,4 +89,24 @@ pub fn merges_are_the_models()
 /// manifest's.
 pub fn merged_manifests_are_the_models()
     ensures { MergedManifestsAreTheModels }
+{}
+
+/// `merge_remote_compactions` changes no job if it gets the same stored records again.
+pub fn repeated_merges_are_idle()
+    ensures { RepeatedMergesAreIdle }
+{}
+
+/// `retain_active_and_last_finished` drops no job of those that it kept before.
+pub fn repeated_trims_are_idle()
+    ensures { RepeatedTrimsAreIdle }
+{}
+
+/// `retain_active_and_last_finished` keeps all jobs that are not over.
+pub fn open_jobs_are_kept()
+    ensures { OpenJobsAreKept }
+{}
+
+/// Of the jobs that are over, `retain_active_and_last_finished` keeps the last one alone.
+pub fn last_over_jobs_are_kept()
+    ensures { LastOverJobsAreKept }
 {}

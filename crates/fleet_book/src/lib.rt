@@ -28,11 +28,11 @@ pub use context::CompactionContext;
 pub use job_map::JobMap;
 pub use laws::{
     beats_are_the_models, claims_are_the_models, completions_are_the_models, drains_are_the_models,
-    ends_are_the_models, failures_are_the_models, joins_are_the_models,
+    ends_are_the_models, failures_are_the_models, joins_are_the_models, last_over_jobs_are_kept,
     merged_manifests_are_the_models, merges_are_the_models, movable_jobs_are_the_models,
-    moved_runs_are_the_models, moves_are_the_models, openings_are_the_models,
-    taken_runs_are_the_models, taken_tables_are_the_models, taken_views_are_the_models,
-    waits_are_the_models,
+    moved_runs_are_the_models, moves_are_the_models, open_jobs_are_kept, openings_are_the_models,
+    repeated_merges_are_idle, repeated_trims_are_idle, taken_runs_are_the_models,
+    taken_tables_are_the_models, taken_views_are_the_models, waits_are_the_models,
 };
 pub use recent::RecentCompactions;
 pub use release::Release;
