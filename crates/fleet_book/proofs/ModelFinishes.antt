@@ -1,28 +1,23 @@
 -- Finishes of jobs change trees as the model's steps do.
 use Rattle.std.proofs.Common.{◌≡◌, refl, sym, ◌∙◌, ap, subst, List, [], ◌∷◌, ◌++◌, map, Bool, true, false, cond, not, ◌||◌}
-use Rattle.std.specs.Prelude.{ℕ, nat_lt, filter, find, flat_map, bytes_eq, Option, Some, None}
+use Rattle.std.specs.Prelude.{ℕ, nat_lt, find, flat_map, bytes_eq, Option, Some, None}
 use Rattle.std.specs.List.{AllByRecursion}
 use Rattle.std.proofs.lemmas.List.Elements.{filter-append}
 use Rattle.row_laws.proofs.Elements.{all_weaken}
-use Rattle.fleet_model.specs.Nodes.{NodeName, L0, Run, Node, Tree, Segment, Tables, name_eq, names_contain}
-use Rattle.fleet_model.specs.History.{Join, Move, Drain}
+use Rattle.fleet_model.specs.Nodes.{NodeName, L0, Run, Node, Tree, Segment, name_eq, names_contain}
 use Rattle.fleet_model.specs.Trees.{by_first_key, l0_or, on_segment, source_nodes, source_pieces, stepped, stepped_in, to_run, watermark_after, with_run_for, without}
 use Rattle.fleet_model.specs.Trees as model
 use Rattle.fleet_table.specs.Trees.{flush_node, run_node, tree_of, trees_of, trees_with_prefix}
 use Rattle.fleet_table.specs.Trees as table
 use Rattle.fleet_table.specs.Views.{View}
-use Rattle.fleet_table.specs.declared.manifest.ManifestCore.{ManifestCore}
 use Rattle.fleet_table.specs.declared.run.SortedRun.{SortedRun}
 use Rattle.fleet_table.specs.declared.tree.LsmTreeState.{LsmTreeState}
-use Rattle.fleet_book.specs.Finishes.{core_after, finished_tree, id_or, is_named, kept_runs, kept_views, mark_after, put_run, segment_after, tree_after}
-use Rattle.fleet_book.specs.JobParts.{JobParts}
+use Rattle.fleet_book.specs.Finishes.{core_after, finished_tree, id_or, is_named, kept_runs, kept_views, mark_after, put_run, segment_after}
 use Rattle.fleet_book.specs.Laws.{AreMoved, DrainsAreTheModels, FlushesFollow, JoinsAreTheModels, MovesAreTheModels, names_of, view_tables}
 use Rattle.fleet_book.specs.Sources.{name_of}
-use Rattle.fleet_book.specs.Specs.{destination_of, segment_of, sources_of, spec_of}
+use Rattle.fleet_book.specs.Specs.{segment_of, sources_of}
 use Rattle.fleet_book.specs.declared.source_id.SourceId.{SourceId}
 use Rattle.fleet_book.specs.declared.spec.CompactionSpec.{CompactionSpec}
-
--- ---- the sources
 
 pub named_is : (name : NodeName) (sources : List SourceId) → names_contain (map name_of sources) name ≡ is_named sources name
 named_is name [] = refl
@@ -31,8 +26,6 @@ named_is name (s ∷ sources) = by (name_eq (name_of s) name) (named_is name sou
     by : (b : Bool) → names_contain (map name_of sources) name ≡ is_named sources name → cond b true (names_contain (map name_of sources) name) ≡ (b || is_named sources name)
     by true rest = refl
     by false rest = rest
-
--- ---- what is left of a tree
 
 module _ (flushes : ℕ → List ℕ) (sources : List SourceId) where
   without_views : (views : List View) → without (map name_of sources) (map (flush_node flushes) views) ≡ map (flush_node flushes) (kept_views sources views)
@@ -83,8 +76,6 @@ module _ (flushes : ℕ → List ℕ) (sources : List SourceId) where
       by true rest = refl
       by false rest = rest
 
--- ---- the run that is made
-
 module _ (before after : ℕ → List ℕ) where
   abbrev IsKept : SortedRun → Type 0
   IsKept run = after run.id ≡ before run.id
@@ -122,8 +113,6 @@ module _ (before after : ℕ → List ℕ) where
   pub same : (t : LsmTreeState) → AllByRecursion IsKept t.compacted → tree_of after t ≡ tree_of before t
   same t kept = ap (λ rs. map (flush_node before) t.l0 ++ rs) (sym (runs_same t.compacted kept))
 
-  -- ---- the segments
-
   pub segment_is : (spec : CompactionSpec) (output : Option SortedRun) (change : Tree → Tree) (p : List ℕ) (t : LsmTreeState)
       → (bytes_eq (segment_of spec) p ≡ true → tree_of after (finished_tree (sources_of spec) output t) ≡ change (tree_of before t))
       → (bytes_eq (segment_of spec) p ≡ false → tree_of after t ≡ tree_of before t)
@@ -148,8 +137,6 @@ maps f g h k (x ∷ xs) all = ap (λ y. y ∷ map f (map g xs)) all.0 ∙ ap (λ
 all_of : {A : Type 0} {P : A → Type 0} (xs : List A) → ((x : A) → P x) → AllByRecursion P xs
 all_of [] each = tt
 all_of (x ∷ xs) each = (each x, all_of xs each)
-
--- ---- the laws
 
 pub drains_are_the_models : DrainsAreTheModels
 drains_are_the_models flushes tables outputs job core =

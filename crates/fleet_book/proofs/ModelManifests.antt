@@ -13,7 +13,6 @@ use Rattle.fleet_table.specs.declared.run.SortedRun.{SortedRun}
 use Rattle.fleet_table.specs.declared.tree.LsmTreeState.{LsmTreeState}
 use Rattle.fleet_book.specs.Finishes.{merged_core, merged_segment, merged_tree}
 use Rattle.fleet_book.specs.Laws.{MergedManifestsAreTheModels, model_manifest}
-use Rattle.fleet_book.specs.Taken.{tree_in}
 
 module _ (flushes : ℕ → List ℕ) where
   no_flushes : (mark : Option ℕ) (runs : List SortedRun) → model.flushes_before mark (map (run_node flushes) runs) ≡ []

@@ -1,16 +1,16 @@
 -- A coordinator takes stored records as the model does.
 use Rattle.std.proofs.Common.{◌≡◌, refl, sym, ◌∙◌, ap, subst, ℕ, ◌<◌, List, [], ◌∷◌, Bool, true, false, cond, arith}
-use Rattle.std.specs.Prelude.{◌==◌, nat_lt, map, Option, Some, None, option_map}
+use Rattle.std.specs.Prelude.{◌==◌, nat_lt, Option, Some, None, option_map}
 use Rattle.std.specs.List.{AllByRecursion}
 use Rattle.std.proofs.lemmas.Bool.{eqb-true, eqb-false, ltb-true, ltb-false}
 use Rattle.std.proofs.lemmas.Cmp.{nat_eq_equiv}
 use Rattle.row_laws.proofs.Elements.{all_weaken}
-use Rattle.fleet_model.specs.Jobs.{Job, Jobs, job_with, put_job}
+use Rattle.fleet_model.specs.Jobs.{Jobs, job_with, put_job}
 use Rattle.step_model.specs.Merging as model
 use Rattle.fleet_book.specs.JobParts.{JobParts}
 use Rattle.fleet_book.specs.Jobs.{job_of, jobs_of}
 use Rattle.fleet_book.specs.Records.{AreRising, put_record, record_with}
-use Rattle.fleet_book.specs.States.{takes, with_stored, merged_jobs}
+use Rattle.fleet_book.specs.States.{takes, with_stored}
 use Rattle.fleet_book.specs.Status.{status_of}
 use Rattle.fleet_book.specs.Laws.{MergesAreTheModels}
 use Rattle.fleet_book.proofs.Records.{none_there, rising_put}

@@ -1,6 +1,6 @@
 -- A move is made exactly where the model can move a job.
 use Rattle.std.proofs.Common.{◌≡◌, refl, sym, ◌∙◌, ap, List, [], ◌∷◌, Bool, true, false, cond, ◌&&◌, not}
-use Rattle.std.specs.Prelude.{ℕ, Option, Some, None, is_some}
+use Rattle.std.specs.Prelude.{ℕ, Some, None, is_some}
 use Rattle.std.specs.List.{AllByRecursion}
 use Rattle.std.specs.Ordering.{is_le, is_lt, ord_min, ordering_reverse}
 use Rattle.std.specs.declared.cmp.Ordering.{Ordering}
@@ -18,16 +18,13 @@ use Rattle.fleet_range.specs.Ranges.{Ends, if_non_empty, intersection}
 use Rattle.fleet_range.specs.Sides.{end_cmp}
 use Rattle.fleet_table.specs.Views.{View}
 use Rattle.fleet_table.specs.declared.run.SortedRun.{SortedRun}
-use Rattle.fleet_book.specs.Laws.{EndsFit, KeysFit, MovableJobsAreTheModels, names_of, view_tables}
-use Rattle.fleet_book.specs.Moves.{are_disjoint, by_start, moved_run, put_view, run_of_disjoint}
-use Rattle.fleet_book.specs.Specs.{destination_of, spec_of}
+use Rattle.fleet_book.specs.Laws.{EndsFit, KeysFit, MovableJobsAreTheModels, view_tables}
+use Rattle.fleet_book.specs.Moves.{are_disjoint, by_start, moved_run, put_view}
 use Rattle.fleet_book.specs.Taken.{taken_tables}
 use Rattle.fleet_book.specs.declared.spec.CompactionSpec.TheVariants.{Tiered, DrainSegment}
 use Rattle.fleet_book.proofs.Moved.{is_below, put_all, ranks}
 use Rattle.fleet_book.proofs.ModelMoved.{start_is}
 use Rattle.fleet_book.proofs.ModelTaken.{taken_tables_are_the_models}
-
--- ---- the order of the tables
 
 abbrev NotAbove : View → View → Type 0
 NotAbove a b = is_below b a ≡ false
@@ -43,8 +40,6 @@ rising_put v (o ∷ os) up = by (is_below o v) refl (rising_put v os up.1)
 rising_start : (vs : List View) → Pairs NotAbove (by_start vs)
 rising_start [] = tt
 rising_start (v ∷ vs) = rising_put v (by_start vs) (rising_start vs)
-
--- ---- neighbours
 
 -- Ranges of which the second does not start below the first intersect unless the first ends below the second.
 apart_is : (af al bf bl : List ℕ) → is_lt (key_cmp bf af) ≡ false → is_le (key_cmp bf bl) ≡ true

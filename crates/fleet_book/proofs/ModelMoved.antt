@@ -1,6 +1,6 @@
 -- The run of a move is the one that the model's move makes.
 use Rattle.std.proofs.Common.{◌≡◌, refl, sym, ◌∙◌, ap, List, [], ◌∷◌, Bool, true, false, cond, ◌&&◌}
-use Rattle.std.specs.Prelude.{ℕ, Option, Some, None}
+use Rattle.std.specs.Prelude.{ℕ, Some, None}
 use Rattle.std.specs.List.{AllByRecursion}
 use Rattle.std.specs.Ordering.{is_lt}
 use Rattle.row_model.specs.Rows.{key_cmp}
@@ -9,7 +9,7 @@ use Rattle.fleet_model.specs.Nodes.{Tables, table_rows}
 use Rattle.fleet_model.specs.Trees.{by_first_key, first_key, put_by_first_key}
 use Rattle.fleet_table.specs.Views.{View}
 use Rattle.fleet_table.specs.declared.run.SortedRun.{SortedRun}
-use Rattle.fleet_book.specs.Laws.{KeysFit, MovedRunsAreTheModels, view_tables}
+use Rattle.fleet_book.specs.Laws.{MovedRunsAreTheModels, view_tables}
 use Rattle.fleet_book.specs.Moves.{are_disjoint, by_start, put_view}
 use Rattle.fleet_book.proofs.Moved.{put_all}
 

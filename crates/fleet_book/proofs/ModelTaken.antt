@@ -1,27 +1,25 @@
 -- What a job takes of a tree is what the model's source nodes are.
 use Rattle.std.proofs.Common.{◌≡◌, refl, sym, ◌∙◌, ap, List, [], ◌∷◌, ◌++◌, map, Bool, true, false, cond, not}
 use Rattle.std.specs.Prelude.{ℕ, ◌==◌, filter, find, flat_map, option_map, bytes_eq, Option, Some, None}
-use Rattle.std.specs.List.{cons_option, filter_map}
+use Rattle.std.specs.List.{cons_option}
 use Rattle.std.specs.Option.{option_to_list}
 use Rattle.std.proofs.lemmas.Cmp.{nat_eq_equiv}
 use Rattle.std.proofs.lemmas.List.Concat.{flat_map-append}
 use Rattle.std.proofs.lemmas.List.{map-append}
 use Rattle.std.proofs.lemmas.List.Elements.{filter_map-append}
-use Rattle.fleet_model.specs.Nodes.{NodeName, L0, Run, Node, Tree, Segment, is_l0, node_named, tree_at, tree_or_empty}
+use Rattle.fleet_model.specs.Nodes.{L0, Run, Node, Tree, is_l0, node_named, tree_at, tree_or_empty}
 use Rattle.fleet_model.specs.Trees.{source_nodes, source_pieces}
 use Rattle.fleet_table.specs.Trees.{flush_node, run_node, tree_of, trees_of, trees_with_prefix}
 use Rattle.fleet_table.specs.Trees as table
 use Rattle.fleet_table.specs.Views.{View}
-use Rattle.fleet_table.specs.declared.manifest.ManifestCore.{ManifestCore}
 use Rattle.fleet_table.specs.declared.run.SortedRun.{SortedRun}
 use Rattle.fleet_table.specs.declared.tree.LsmTreeState.{LsmTreeState}
-use Rattle.fleet_book.specs.Laws.{TakenRunsAreTheModels, TakenTablesAreTheModels, TakenViewsAreTheModels, l0_names, names_of, run_names, view_tables}
+use Rattle.fleet_book.specs.Laws.{TakenRunsAreTheModels, TakenTablesAreTheModels, TakenViewsAreTheModels, l0_names, run_names, view_tables}
 use Rattle.fleet_book.specs.Sources.{name_of}
 use Rattle.fleet_book.specs.Specs.{segment_of, sources_of}
-use Rattle.fleet_book.specs.Taken.{l0_in, named_runs, named_views, runs_in, taken_runs, taken_tables, taken_views, tree_in}
+use Rattle.fleet_book.specs.Taken.{l0_in, named_runs, named_views, runs_in, taken_runs, taken_views, tree_in}
 use Rattle.fleet_book.specs.declared.source_id.SourceId.{SourceId}
 use Rattle.fleet_book.specs.declared.source_id.SourceId.TheVariants.{SortedRun as OfRun, SstView}
-use Rattle.fleet_book.specs.declared.spec.CompactionSpec.{CompactionSpec}
 
 module _ (flushes : ℕ → List ℕ) where
   -- The nodes of these flushes and runs.

@@ -1,5 +1,5 @@
 -- Tables in the order of their first keys, and tables whose ranges are disjoint.
-use Rattle.std.proofs.Common.{◌≡◌, refl, sym, ◌∙◌, ap, subst, ◌<◌, cond, List, [], ◌∷◌, length, Bool, true, false, arith}
+use Rattle.std.proofs.Common.{◌≡◌, refl, ◌∙◌, ap, subst, ◌<◌, cond, List, [], ◌∷◌, length, Bool, true, arith}
 use Rattle.std.specs.List.{AllByRecursion}
 use Rattle.std.specs.List.Sorted.{IsSortedBy, IsStableBy}
 use Rattle.std.specs.Cmp.{IsStrictWeakOrder}

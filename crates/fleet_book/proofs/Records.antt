@@ -1,9 +1,9 @@
 -- Records of jobs stay in the order of their ids, and a record is found and put at its place.
-use Rattle.std.proofs.Common.{sym, length, zero, ◌≡◌, refl, ◌∙◌, ap, subst, ℕ, suc, ◌+◌, ◌<◌, List, [], ◌∷◌, ◌++◌, take, drop, Bool, true, false, cond, ◌||◌, not, arith}
+use Rattle.std.proofs.Common.{sym, length, zero, ◌≡◌, refl, ◌∙◌, ap, subst, ℕ, suc, ◌+◌, ◌<◌, List, [], ◌∷◌, ◌++◌, take, drop, Bool, true, false, cond, arith}
 use Rattle.std.specs.Prelude.{◌==◌, nat_lt, slice_get, slice_set, filter, take_while, Option, Some, None, IfSome, IsSome}
 use Rattle.std.specs.List.{AllByRecursion, prefix_len}
 use Rattle.std.specs.Option.{option_map_or}
-use Rattle.std.proofs.lemmas.Bool.{eqb-true, eqb-false, eq-eqb, ltb-false, ltb-true}
+use Rattle.std.proofs.lemmas.Bool.{eqb-true, eqb-false, ltb-false, ltb-true}
 use Rattle.std.proofs.lemmas.List.Folds.{length-prefix_len}
 use Rattle.row_laws.proofs.Elements.{all_weaken}
 use Rattle.fleet_book.specs.JobParts.{JobParts}
@@ -11,8 +11,6 @@ use Rattle.fleet_book.specs.Records.{AreRising, record_with, put_record}
 
 abbrev Above : ℕ → JobParts → Type 0
 Above x job = x < job.id
-
--- ---- the order of the records
 
 above : (a b : ℕ) → nat_lt a b ≡ false → (a ≡ b → ⊥) → b < a
 above a b e apart = let low = ltb-false a b e in grind (arith, low, apart)
@@ -50,8 +48,6 @@ rising_filter p (job ∷ jobs) up = by (p job) (rising_filter p jobs up.1) (kept
     by : (b : Bool) → AreRising (filter p jobs) → AllByRecursion (Above job.id) (filter p jobs) → AreRising (cond b (job ∷ filter p jobs) (filter p jobs))
     by true rest all = (all, rest)
     by false rest all = rest
-
--- ---- the place of a record
 
 -- True if there is a job and it has this id.
 abbrev pub has_id : ℕ → Option JobParts → Bool

@@ -2,7 +2,7 @@
 use Rattle.std.proofs.Common.{◌≡◌, refl, sym, ◌∙◌, ap, subst, ℕ, ◌<◌, ◌⊎◌, inl, inr, List, [], ◌∷◌, Bool, true, false, cond, arith}
 use Rattle.std.specs.Prelude.{◌==◌, nat_lt, Option, Some, None}
 use Rattle.std.specs.List.{AllByRecursion}
-use Rattle.std.proofs.lemmas.Bool.{cases_order, eqb-true, eqb-false, eq-eqb, ltb-true, ltb-false}
+use Rattle.std.proofs.lemmas.Bool.{cases_order, eqb-true, eq-eqb, ltb-true}
 use Rattle.row_laws.proofs.Elements.{all_weaken}
 use Rattle.fleet_book.specs.JobParts.{JobParts}
 use Rattle.fleet_book.specs.Laws.{RepeatedMergesAreIdle}
@@ -11,8 +11,6 @@ use Rattle.fleet_book.specs.States.{merged_jobs, takes, with_stored}
 use Rattle.fleet_book.proofs.Merged.{put_other}
 use Rattle.fleet_book.proofs.ModelMerges.{rising_with}
 use Rattle.fleet_book.proofs.Records.{none_there}
-
--- ---- rising jobs are given by what each id finds
 
 abbrev Above : ℕ → JobParts → Type 0
 Above x job = x < job.id
@@ -58,8 +56,6 @@ alike (x ∷ xs) (y ∷ ys) up up' same = by (cases_order x.id y.id) (alike xs y
         let clash : None ≡ Some x = sym (none_lower x.id y ys up' low) ∙ sym (same x.id) ∙ first_is x xs in absurd (cc clash)
     by (inr (inr low)) rest =
         let clash : None ≡ Some y = sym (none_lower y.id x xs up low) ∙ same y.id ∙ first_is y ys in absurd (cc clash)
-
--- ---- what an id finds after stored jobs are taken
 
 put_found : (new : JobParts) (jobs : List JobParts) → record_with new.id (put_record new jobs) ≡ Some new
 put_found new [] = first_is new []

@@ -16,8 +16,6 @@ open_jobs_are_kept (job ∷ jobs) = by (is_open job) refl (over_later jobs) (ope
     by false e true rest = rest
     by false e false rest = ap (λ b. cond b (job ∷ filter is_open (kept_records jobs)) (filter is_open (kept_records jobs))) e ∙ rest
 
--- ---- the jobs that are over
-
 -- A list is empty exactly if no job is over.
 none_over : (jobs : List JobParts) → over_later jobs ≡ false → over_jobs jobs ≡ []
 none_over [] none = refl
@@ -54,8 +52,6 @@ last_over_jobs_are_kept (job ∷ jobs) = by (is_open job) refl (over_later jobs)
     by false e false f rest =
         let none = none_over jobs f in
         first e ∙ ap (λ js. job ∷ js) (rest ∙ ap last_of none) ∙ sym (ap (λ js. last_of (job ∷ js)) none)
-
--- ---- trims of trimmed jobs
 
 later_kept : (jobs : List JobParts) → over_later (kept_records jobs) ≡ over_later jobs
 later_kept [] = refl

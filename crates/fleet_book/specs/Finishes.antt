@@ -7,7 +7,6 @@ use Rattle.fleet_model.specs.Nodes.{NodeName, L0, Run, name_eq}
 use Rattle.fleet_model.specs.Trees.{horizon_after}
 use Rattle.fleet_table.specs.Trees.{from_writer}
 use Rattle.fleet_table.specs.Views.{View}
-use Rattle.fleet_table.specs.declared.manifest.Manifest.{Manifest}
 use Rattle.fleet_table.specs.declared.manifest.ManifestCore.{ManifestCore}
 use Rattle.fleet_table.specs.declared.manifest.VersionedManifest.{VersionedManifest}
 use Rattle.fleet_table.specs.declared.run.SortedRun.{SortedRun}

@@ -1,11 +1,11 @@
 -- Laws: what a coordinator makes of its jobs and its trees is what the model makes of them, and what merges and trims of
 -- jobs keep.
-use Rattle.std.specs.Prelude.{◌≡◌, ℕ, ◌+◌, Bool, true, false, ◌&&◌, not, List, [], ◌∷◌, ◌++◌, map, filter, flat_map, option_map, Option, Some, None, is_some, bytes_eq}
+use Rattle.std.specs.Prelude.{◌≡◌, ℕ, ◌+◌, true, false, ◌&&◌, not, List, [], ◌∷◌, ◌++◌, map, filter, flat_map, option_map, Option, Some, None, is_some, bytes_eq}
 use Rattle.std.specs.List.{AllByRecursion}
 use Rattle.std.specs.Ordering.{is_le}
 use Rattle.row_model.specs.Rows.{key_cmp}
 use Rattle.fleet_model.specs.History.{Join, Move, Drain}
-use Rattle.fleet_model.specs.Jobs.{JobSpec, Context, is_drain}
+use Rattle.fleet_model.specs.Jobs.{JobSpec, is_drain}
 use Rattle.fleet_model.specs.Nodes.{NodeName, is_l0, Tables, table_rows, tree_at}
 use Rattle.fleet_model.specs.Polls.{PollInput, can_move}
 use Rattle.fleet_model.specs.Records.{Unrecorded, beaten_by, claimed_by, finished_by, to_completed, to_failed, to_scheduled, to_waiting}

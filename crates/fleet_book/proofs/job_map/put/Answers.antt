@@ -1,5 +1,4 @@
 use Rattle.std.proofs.lemmas.Result.{on_ok_weaker}
-use Rattle.std.specs.Option.{option_copied}
 use Rattle.fleet_book.proofs.Records.{put_by}
 use Rattle.fleet_book.proofs.job_map.put.Goals as goal
 
