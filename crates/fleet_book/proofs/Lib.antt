@@ -12,3 +12,4 @@ pub mod Repeated
 pub mod Trims
 pub mod ModelMovable
 pub mod ModelManifests
+pub mod Continued

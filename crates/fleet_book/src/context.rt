@@ -3,7 +3,7 @@
 ghost use Rattle.std.specs.Prelude.{◌≡◌, ◌<◌, length, slice_get, slice_set, IfOk, IfSome, IsOkUnless, Some};
 ghost use Rattle.std.specs.Option.{ForSome};
 ghost use Rattle.row_model.specs.Lists.{IsPrefixOf};
-ghost use Rattle.fleet_book.specs.Contexts.{context_with, release_in, settings_in};
+ghost use Rattle.fleet_book.specs.Contexts.{IsContinued, context_with, release_in, settings_in};
 
 use crate::Release;
 use fleet_plan::{Subcompaction, SubcompactionList};
@@ -131,11 +131,12 @@ impl CompactionContext {
         requires there { subcompaction < length self.old.ranges }
         requires longer { ForSome (slice_get self.old.ranges subcompaction)
             (λ range. IsPrefixOf range.output_ssts output_ssts) }
-        ensures { IfSome (slice_get self.old.ranges subcompaction)
+        ensures set { IfSome (slice_get self.old.ranges subcompaction)
             (λ range. self.new ≡ record self.old {
               ranges = slice_set self.old.ranges subcompaction
                   (record range { output_ssts = output_ssts });
             }) }
+        ensures continued { IsContinued self.old self.new }
     {
         let mut ranges = self.subcompactions.take().into_vec();
         ranges[subcompaction].set_output_ssts(output_ssts);
