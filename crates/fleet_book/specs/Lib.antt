@@ -1,6 +1,7 @@
 pub mod Sources
 pub mod SpecParts
 pub mod Specs
+pub mod Texts
 pub mod Status
 pub mod Workers
 pub mod ContextParts

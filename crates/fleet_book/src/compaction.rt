@@ -1,11 +1,13 @@
 //! Jobs, as their records keep them.
 
-ghost use Rattle.std.specs.Prelude.{◌≡◌, IfOk, IsOkUnless, flat_map, not};
+ghost use Rattle.std.specs.Prelude.{◌≡◌, IfOk, IsOkUnless, Some, count_by, flat_map, not};
+ghost use Rattle.std.specs.Fmt.{DisplaysOnOk};
 ghost use Rattle.std.specs.Option.{option_copied};
 ghost use Rattle.fleet_model.specs.Jobs.{is_finished};
 ghost use Rattle.fleet_book.specs.Contexts.{FollowsContext, ranges_in};
 ghost use Rattle.fleet_book.specs.Jobs.{fresh_job, with_status};
 ghost use Rattle.fleet_book.specs.Status.{status_of};
+ghost use Rattle.fleet_book.specs.Texts.{bytes_text, count_text, has_output, job_text, ranges_text};
 
 use crate::copying::add_all;
 use crate::{CompactionContext, CompactionSpec, CompactionStatus, WorkerSpec};
@@ -279,25 +281,63 @@ fn joined(alloc: Global, lists: &[TableList]) -> Result<TableList, SlateDBError>
 /// Prints the spec, then the bytes that were processed, if there are any, and then how many of the
 /// ranges have tables, if there are ranges.
 impl fmt::Display for Compaction {
+    ghost output = { λ job. Some (job_text job) };
+
     fn fmt<W: fmt::Write>(&self, f: &mut fmt::Formatter<W>) -> fmt::Result {
         write!(f, "{}", self.spec)?;
-        if self.bytes_processed > 0 {
-            write!(f, " ({} processed)", self.bytes_processed)?;
-        }
-        let ranges = self.subcompactions();
-        if ranges.is_empty() {
-            return Ok(());
-        }
-        let with_output = with_output(ranges);
-        let all = ranges.len();
-        write!(f, " [{with_output}/{all} subcompactions with output]")
+        write_processed(f, self.bytes_processed)?;
+        write_ranges(f, self.subcompactions())
     }
 }
 
+// Writes how many bytes were processed, if there are any.
+fn write_processed<W: fmt::Write>(f: &mut fmt::Formatter<W>, bytes: u64) -> fmt::Result
+    ensures { DisplaysOnOk W.write_str_gives f.old result (Some (bytes_text bytes)) f.new }
+{
+    if bytes > 0 {
+        write!(f, " ({bytes} processed)")
+    } else {
+        Ok(())
+    }
+}
+
+// Writes how many of the ranges have tables, if there are ranges.
+fn write_ranges<W: fmt::Write>(f: &mut fmt::Formatter<W>, ranges: &[Subcompaction]) -> fmt::Result
+    ensures { DisplaysOnOk W.write_str_gives f.old result (Some (ranges_text ranges.now)) f.new }
+{
+    if ranges.is_empty() {
+        Ok(())
+    } else {
+        write_count(f, with_output(ranges), ranges.len())
+    }
+}
+
+fn write_count<W: fmt::Write>(
+    f: &mut fmt::Formatter<W>,
+    with_output: usize,
+    all: usize,
+) -> fmt::Result
+    ensures { DisplaysOnOk W.write_str_gives f.old result (Some (count_text with_output all)) f.new }
+{
+    write!(f, " [{with_output}/{all}")?;
+    write!(f, " subcompactions with output]")
+}
+
 // How many of the ranges have tables.
-fn with_output(ranges: &[Subcompaction]) -> usize {
-    ranges
-        .iter()
-        .filter(|range| !range.output_ssts().is_empty())
-        .count()
+fn with_output(ranges: &[Subcompaction]) -> usize
+    ensures { result ≡ count_by has_output ranges.now }
+{
+    let mut count = 0;
+    'counted: for range in ranges {
+        if has_output(range) {
+            count += 1;
+        }
+    }
+    count
+}
+
+fn has_output(range: &Subcompaction) -> bool
+    ensures { result ≡ has_output range.now }
+{
+    !range.output_ssts().is_empty()
 }

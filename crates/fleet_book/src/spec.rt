@@ -1,11 +1,13 @@
 //! The specs of jobs.
 
-ghost use Rattle.std.specs.Prelude.{◌≡◌, [], None, Some, IfOk, IsOkUnless};
+ghost use Rattle.std.specs.Prelude.{◌≡◌, ◌++◌, [], None, Some, codes, flat_map, IfOk, IsOkUnless};
+ghost use Rattle.std.specs.Fmt.{DisplaysOnOk};
 ghost use Rattle.std.specs.List.{list_any};
 ghost use Rattle.fleet_model.specs.Jobs.{is_drain};
 ghost use Rattle.fleet_book.specs.declared.spec.CompactionSpec.TheVariants as spec;
 ghost use Rattle.fleet_book.specs.Sources.{is_run, is_view};
 ghost use Rattle.fleet_book.specs.Specs.{destination_of, segment_of, sources_of, spec_of};
+ghost use Rattle.fleet_book.specs.Texts.{byte_text, is_plain, quoted, segment_or_root, segment_text, sources_text, spec_text};
 
 use crate::{SourceId, SourceList};
 use bytes::Bytes;
@@ -214,16 +216,17 @@ impl Copies for CompactionSpec {
 /// `[seg=b"user1:"] ["l0", "3"] -> SR(3)`. The text of a drain is as in
 /// `[seg=b"user1:"] drain ["3"]`, also if the segment is the root.
 impl fmt::Display for CompactionSpec {
+    ghost output = { λ spec. Some (spec_text spec) };
+
     fn fmt<W: fmt::Write>(&self, f: &mut fmt::Formatter<W>) -> fmt::Result {
-        if self.is_drain() || !self.segment().is_empty() {
-            write_segment(f, self.segment().as_slice())?;
-        }
         match self {
             CompactionSpec::Tiered(spec) => {
+                write_segment_or_root(f, spec.segment.as_slice())?;
                 write_sources(f, spec.sources.as_slice())?;
                 write!(f, " -> SR({})", spec.destination)
             }
             CompactionSpec::DrainSegment(spec) => {
+                write_segment(f, spec.segment.as_slice())?;
                 write!(f, "drain ")?;
                 write_sources(f, spec.sources.as_slice())
             }
@@ -231,29 +234,75 @@ impl fmt::Display for CompactionSpec {
     }
 }
 
-// Writes the prefix of a segment as a byte string. Quotes, backslashes and bytes that are no
-// printable ASCII are written in hexadecimal digits.
-fn write_segment<W: fmt::Write>(f: &mut fmt::Formatter<W>, segment: &[u8]) -> fmt::Result {
-    write!(f, "[seg=b\"")?;
-    'bytes: for byte in segment {
-        let byte = *byte;
-        let plain = (b' '..=b'~').contains(&byte) && byte != b'"' && byte != b'\\';
-        if plain {
-            write!(f, "{}", byte as char)?;
-        } else {
-            write!(f, "\\x{byte:02x}")?;
-        }
+// Writes the prefix of a segment, unless it is the root.
+fn write_segment_or_root<W: fmt::Write>(f: &mut fmt::Formatter<W>, segment: &[u8]) -> fmt::Result
+    ensures { DisplaysOnOk W.write_str_gives f.old result
+        (Some (segment_or_root segment.now)) f.new }
+{
+    if segment.is_empty() {
+        Ok(())
+    } else {
+        write_segment(f, segment)
     }
+}
+
+// Writes the prefix of a segment as a byte string.
+fn write_segment<W: fmt::Write>(f: &mut fmt::Formatter<W>, segment: &[u8]) -> fmt::Result
+    ensures { DisplaysOnOk W.write_str_gives f.old result (Some (segment_text segment.now)) f.new }
+{
+    write!(f, "[seg=b\"")?;
+    write_bytes(f, segment)?;
     write!(f, "\"] ")
 }
 
-// Writes each source in quotes, with commas between them, in brackets.
-fn write_sources<W: fmt::Write>(f: &mut fmt::Formatter<W>, sources: &[SourceId]) -> fmt::Result {
-    write!(f, "[")?;
-    let mut separator = "";
-    'sources: for source in sources {
-        write!(f, "{separator}\"{source}\"")?;
-        separator = ", ";
+// Writes the bytes of a prefix, one by one.
+fn write_bytes<W: fmt::Write>(f: &mut fmt::Formatter<W>, bytes: &[u8]) -> fmt::Result
+    ensures { DisplaysOnOk W.write_str_gives f.old result
+        (Some (flat_map byte_text bytes.now)) f.new }
+{
+    'bytes: for byte in bytes {
+        write_byte(f, *byte)?;
     }
+    Ok(())
+}
+
+// Writes a byte. Quotes, backslashes and bytes that are no printable ASCII are written in
+// hexadecimal digits.
+fn write_byte<W: fmt::Write>(f: &mut fmt::Formatter<W>, byte: u8) -> fmt::Result
+    ensures { DisplaysOnOk W.write_str_gives f.old result (Some (byte_text byte)) f.new }
+{
+    if is_plain(byte) {
+        return write!(f, "{}", byte as char);
+    }
+    let (high, low) = (byte / 16, byte % 16);
+    write!(f, "\\x{high:x}{low:x}")
+}
+
+fn is_plain(byte: u8) -> bool
+    ensures { result ≡ is_plain byte }
+{
+    byte >= b' ' && byte <= b'~' && byte != b'"' && byte != b'\\'
+}
+
+// Writes each source in quotes, with commas between them, in brackets.
+fn write_sources<W: fmt::Write>(f: &mut fmt::Formatter<W>, sources: &[SourceId]) -> fmt::Result
+    ensures { DisplaysOnOk W.write_str_gives f.old result (Some (sources_text sources.now)) f.new }
+{
+    let Some((first, others)) = sources.split_first() else {
+        return write!(f, "[]");
+    };
+    write!(f, "[\"{first}\"")?;
+    write_others(f, others)?;
     write!(f, "]")
+}
+
+// Writes each source in quotes, with a comma before it.
+fn write_others<W: fmt::Write>(f: &mut fmt::Formatter<W>, sources: &[SourceId]) -> fmt::Result
+    ensures { DisplaysOnOk W.write_str_gives f.old result
+        (Some (flat_map (λ other. codes ", " ++ quoted other) sources.now)) f.new }
+{
+    'sources: for source in sources {
+        write!(f, ", \"{source}\"")?;
+    }
+    Ok(())
 }

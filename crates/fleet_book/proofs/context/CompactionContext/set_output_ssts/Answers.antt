@@ -1,4 +1,4 @@
-use Rattle.std.proofs.Common.{◌∙◌, ap, sym}
+use Rattle.std.proofs.Common.{◌∙◌, ap}
 use Rattle.fleet_book.specs.Contexts.{settings_in}
 use Rattle.fleet_book.proofs.Continued.{more}
 use Rattle.fleet_book.proofs.context.CompactionContext.set_output_ssts.Goals as goal
