@@ -7,10 +7,7 @@ use Rattle.std.proofs.lemmas.Bool.{eqb-true, eq-eqb}
 use Rattle.fleet_book.specs.JobParts.{JobParts}
 use Rattle.fleet_book.specs.Jobs.{is_open}
 use Rattle.fleet_book.specs.Records.{AreRising, kept_records, over_later}
-use Rattle.fleet_book.proofs.Records.{rising_filter}
-
-abbrev Above : ℕ → JobParts → Type 0
-Above x job = x < job.id
+use Rattle.fleet_book.proofs.Records.{Above, rising_filter}
 
 -- The id of the last job that is over, after one more job.
 abbrev after_job : Option ℕ → JobParts → Option ℕ

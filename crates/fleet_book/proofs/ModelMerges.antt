@@ -13,11 +13,8 @@ use Rattle.fleet_book.specs.Records.{AreRising, put_record, record_with}
 use Rattle.fleet_book.specs.States.{takes, with_stored}
 use Rattle.fleet_book.specs.Status.{status_of}
 use Rattle.fleet_book.specs.Laws.{MergesAreTheModels}
-use Rattle.fleet_book.proofs.Records.{none_there, rising_put}
+use Rattle.fleet_book.proofs.Records.{Above, none_there, rising_put}
 use Rattle.fleet_book.proofs.Trimmed.{put_job_is}
-
-abbrev Above : ℕ → JobParts → Type 0
-Above x job = x < job.id
 
 -- The model's job with an id is that of the record with this id.
 looked : (id : ℕ) (jobs : List JobParts) → job_with id (jobs_of jobs) ≡ option_map job_of (record_with id jobs)

@@ -9,7 +9,8 @@ use Rattle.row_laws.proofs.Elements.{all_weaken}
 use Rattle.fleet_book.specs.JobParts.{JobParts}
 use Rattle.fleet_book.specs.Records.{AreRising, record_with, put_record}
 
-abbrev Above : ℕ → JobParts → Type 0
+-- The job's id is above this one.
+abbrev pub Above : ℕ → JobParts → Type 0
 Above x job = x < job.id
 
 above : (a b : ℕ) → nat_lt a b ≡ false → (a ≡ b → ⊥) → b < a

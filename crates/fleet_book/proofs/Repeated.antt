@@ -10,10 +10,7 @@ use Rattle.fleet_book.specs.Records.{AreRising, put_record, record_with}
 use Rattle.fleet_book.specs.States.{merged_jobs, takes, with_stored}
 use Rattle.fleet_book.proofs.Merged.{put_other}
 use Rattle.fleet_book.proofs.ModelMerges.{rising_with}
-use Rattle.fleet_book.proofs.Records.{none_there}
-
-abbrev Above : ℕ → JobParts → Type 0
-Above x job = x < job.id
+use Rattle.fleet_book.proofs.Records.{Above, none_there}
 
 first_is : (job : JobParts) (jobs : List JobParts) → record_with job.id (job ∷ jobs) ≡ Some job
 first_is job jobs = ap (λ b. cond b (Some job) (record_with job.id jobs)) (eq-eqb job.id job.id refl)

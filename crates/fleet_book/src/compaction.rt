@@ -317,7 +317,8 @@ fn write_count<W: fmt::Write>(
     with_output: usize,
     all: usize,
 ) -> fmt::Result
-    ensures { DisplaysOnOk W.write_str_gives f.old result (Some (count_text with_output all)) f.new }
+    ensures { DisplaysOnOk W.write_str_gives f.old result
+        (Some (count_text with_output all)) f.new }
 {
     write!(f, " [{with_output}/{all}")?;
     write!(f, " subcompactions with output]")

@@ -1,5 +1,5 @@
-//! What a coordinator makes of jobs and of trees, compared with the model, and what merges and trims
-//! of jobs keep.
+//! What a coordinator makes of jobs and of trees, compared with the model, and what merges and
+//! trims of jobs keep.
 
 ghost use Rattle.fleet_book.specs.Laws.{BeatsAreTheModels, ClaimsAreTheModels, CompletionsAreTheModels, DrainsAreTheModels, EndsAreTheModels, FailuresAreTheModels, JoinsAreTheModels, LastOverJobsAreKept, MergedManifestsAreTheModels, MergesAreTheModels, MovableJobsAreTheModels, MovedRunsAreTheModels, MovesAreTheModels, OpenJobsAreKept, OpeningsAreTheModels, RepeatedMergesAreIdle, RepeatedTrimsAreIdle, TakenRunsAreTheModels, TakenTablesAreTheModels, TakenViewsAreTheModels, WaitsAreTheModels};
 
