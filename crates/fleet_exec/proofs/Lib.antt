@@ -1,8 +1,10 @@
+pub mod ActiveJobs
 pub mod Bounded
 pub mod Cuts
 pub mod Finished
 pub mod FinishedJob
 pub mod Made
 pub mod Opened
+pub mod PlannedContexts
 pub mod SourceOrder
 pub mod Turns

@@ -1,4 +1,6 @@
 pub mod Cut
+pub mod ExecutorParts
+pub mod Executors
 pub mod Ranges
 pub mod Tables
 pub mod Taking

@@ -1,0 +1,88 @@
+-- The active jobs of an executor, and how its calls change them.
+use Rattle.std.specs.Prelude.{◌≡◌, ◌≢◌, ℕ, ◌-◌, ◌≤◌, ◌==◌, true, List, [], ◌∷◌, ◌++◌, find, length, map, max, slice_get, slice_set, Option, Some, IfNone, IfSome}
+use Rattle.std.specs.List.{AllByRecursion}
+use Rattle.std.specs.Option.{option_map_or}
+use Rattle.row_model.specs.Lists.{Pairs}
+use Rattle.row_model.specs.Plan.{planned}
+use Rattle.row_model.specs.Ranges.{Range}
+use Rattle.row_model.specs.Rows.{Row}
+use Rattle.row_laws.specs.Turns.{AreCut}
+use Rattle.fleet_range.specs.Keys.{range_of}
+use Rattle.fleet_range.specs.Ranges.{Ends}
+use Rattle.fleet_rows.specs.declared.settings.Settings.{Settings}
+use Rattle.fleet_table.specs.Views.{View}
+use Rattle.fleet_table.specs.declared.handle.SsTableHandle.{SsTableHandle}
+use Rattle.fleet_plan.specs.Boundaries.{HoldEveryKeyOnce}
+use Rattle.fleet_plan.specs.Parts.{Part}
+use Rattle.fleet_plan.specs.Plans.{AreOfRows, planned_of, views_of}
+use Rattle.fleet_book.specs.ContextParts.{ContextParts}
+use Rattle.fleet_book.specs.Contexts.{context_with}
+use Rattle.fleet_exec.specs.ExecutorParts.{ActiveParts, ExecutorParts}
+use Rattle.fleet_exec.specs.declared.args.StartCompactionJobArgs.{StartCompactionJobArgs}
+
+-- The active job with this id, if there is one.
+abbrev pub job_with : ℕ → List ActiveParts → Option ActiveParts
+job_with id jobs = find (λ job. job.args.id == id) jobs
+
+-- Under every other id stands the job that stood there before, or still none.
+abbrev pub OthersStay : ℕ → List ActiveParts → List ActiveParts → Type 0
+OthersStay id old new = (other : ℕ) → other ≢ id → job_with other new ≡ job_with other old
+
+-- No two jobs have one id.
+abbrev pub AreDistinct : List ActiveParts → Type 0
+AreDistinct jobs = Pairs (λ a b. a ≢ b) (map (λ job. job.args.id) jobs)
+
+-- No two active jobs have one id, and a stopped executor has no job.
+pub record IsSound (executor : ExecutorParts) : Type 0 where
+  pub distinct : AreDistinct executor.jobs
+  pub ended : executor.stopped ≡ true → executor.jobs ≡ []
+
+-- ---- the context of a job
+
+-- The settings of a job that starts with these arguments and this floor.
+abbrev pub settings_with : ℕ → StartCompactionJobArgs → Settings
+settings_with floor args = record { floor = floor; tick = args.compaction_clock_tick; last_run = args.is_dest_last_run; cut = args.cut }
+
+-- The ranges are a plan for these tables, with at most so many ranges.
+pub record ArePlanned (most : ℕ) (views : List View) (ranges : List Range) : Type 0 where
+  pub anchors : ranges ≡ planned_of most views
+  pub rows : (rows : View → List Row) → AreOfRows rows views → ranges ≡ planned most (map rows views)
+  pub few : length ranges ≤ max most 1
+  pub rising : AreCut ranges
+  pub every_key : HoldEveryKeyOnce ranges
+
+-- These ranges of keys, without tables.
+abbrev pub fresh_parts : List (Ends (List ℕ)) → List Part
+fresh_parts ranges = map (λ range. record { range = range; output_ssts = [] }) ranges
+
+-- The keys of these ranges.
+abbrev pub key_ranges : List Part → List Range
+key_ranges ranges = map (λ part. range_of part.range) ranges
+
+-- The context is made for these arguments: its floor and its other settings are theirs, its ranges are
+-- planned for their tables, and no range has a table yet.
+pub record IsPlanned (args : StartCompactionJobArgs) (most : ℕ) (context : ContextParts) : Type 0 where
+  pub floor : args.retention_min_seq ≡ Some context.floor
+  pub settings : context ≡ context_with context.ranges (settings_with context.floor args) args.release
+  pub ranges : ArePlanned most (views_of args.l0_sst_views args.sorted_runs) (key_ranges context.ranges)
+  pub empty : AllByRecursion (λ part. part.output_ssts ≡ []) context.ranges
+
+-- The job has these arguments. Its context is theirs, or a planned one if they have none.
+pub record StartsAs (args : StartCompactionJobArgs) (most : ℕ) (job : ActiveParts) : Type 0 where
+  pub same : job.args ≡ args
+  pub given : IfSome args.ctx (λ context. job.ctx ≡ context)
+  pub planned : IfNone args.ctx (IsPlanned args most job.ctx)
+
+-- ---- the tables of a job
+
+-- The list with the element at a place changed. It stays if no element is there.
+abbrev pub changed_at : {A : Type 0} → ℕ → (A → A) → List A → List A
+changed_at place change xs = option_map_or (λ x. slice_set xs place (change x)) (slice_get xs place) xs
+
+-- The range with this table at the end of its list.
+abbrev pub longer_part : SsTableHandle → Part → Part
+longer_part table part = record part { output_ssts = part.output_ssts ++ table ∷ [] }
+
+-- The job with this table at the end of the list of a range, counted from 1.
+abbrev pub with_table : ℕ → SsTableHandle → ActiveParts → ActiveParts
+with_table range table job = record job { ctx = record job.ctx { ranges = changed_at (range - 1) (longer_part table) job.ctx.ranges } }
