@@ -1,0 +1,4 @@
+pub mod Sizes
+pub mod Series
+pub mod Picks
+pub mod SizeTiered
