@@ -1,0 +1,10 @@
+pub mod Lists
+pub mod TreeViews
+pub mod Ids
+pub mod Sorted
+pub mod Longest
+pub mod Joined
+pub mod Passes
+pub mod Stretches
+pub mod SizedViews
+pub mod Proposals

@@ -1,0 +1,6 @@
+use Rattle.std.proofs.Common.{◌≡◌, max, map, take}
+use Rattle.fleet_model.specs.Levels.{above_all, capped_id}
+use Rattle.fleet_sched.proofs.planning.above_tree.Given as goal
+
+abbrev pub invariant-runs : goal.invariant-runs
+invariant-runs l = l.next ≡ capped_id (max l.above (above_all (map (λ run. run.id) (take l.run-index l.run-items))))

@@ -1,0 +1,51 @@
+//! What a scheduler is.
+
+ghost use Rattle.std.specs.Prelude.{ℕ, List};
+ghost use Rattle.fleet_model.specs.Scheduler.{Scheduler};
+ghost use Rattle.fleet_book.specs.Requests.{request_of};
+ghost use Rattle.fleet_book.specs.Specs.{spec_of};
+ghost use Rattle.fleet_sched.specs.Answers.{Generates, Proposes, Validates};
+ghost use Rattle.fleet_sched.specs.Views.{view_of};
+
+use fleet_book::{CompactionRequest, CompactionSpec, CompactorStateView};
+use fleet_rows::SlateDBError;
+use std::alloc::Global;
+
+/// A scheduler of compaction jobs. Each answer is a function of the scheduler's value and of the
+/// call's arguments, except that memory may run out. A view does not show which flushes went into a
+/// run, so no answer depends on them.
+pub trait CompactionScheduler: Send + Sync + Drop {
+    /// The scheduler of the model that gives these answers.
+    ghost answers: { Self → Scheduler };
+
+    /// The jobs that it proposes on a view.
+    fn propose(
+        &self,
+        alloc: Global,
+        state: &CompactorStateView,
+    ) -> Result<Vec<CompactionSpec>, SlateDBError>
+        ensures { (flushes : ℕ → List ℕ)
+            → Proposes ((answers self.now).propose (view_of flushes state.now)) result };
+
+    /// Refuses the job with `InvalidCompaction` if it may not be opened or committed on a view.
+    fn validate(
+        &self,
+        alloc: Global,
+        state: &CompactorStateView,
+        spec: &CompactionSpec,
+    ) -> Result<(), SlateDBError>
+        ensures { (flushes : ℕ → List ℕ) → Validates
+            ((answers self.now).validate (view_of flushes state.now) (spec_of spec.now)) result };
+
+    /// The jobs that a request of a user gives on a view. Refuses the request with
+    /// `InvalidCompaction`, or with `Generate` and a message.
+    fn generate(
+        &self,
+        alloc: Global,
+        state: &CompactorStateView,
+        request: &CompactionRequest,
+    ) -> Result<Vec<CompactionSpec>, SlateDBError>
+        ensures { (flushes : ℕ → List ℕ) → Generates
+            ((answers self.now).generate (view_of flushes state.now) (request_of request.now))
+            result };
+}
