@@ -29,7 +29,7 @@ picked_none o t p none =
 
 module _ (o : TieredOptions) (slots : ℕ) where
   -- The state after a pass, where the test of the slots is given.
-  abbrev passed : Bool → Planned → List Planned → Picking → List Planned × Picking
+  abbrev pub passed : Bool → Planned → List Planned → Picking → List Planned × Picking
   passed b t trees p =
       cond b (with_pick (next_pick o p.fresh t) t ∷ (pass o slots trees (picked_in o t p)).0, (pass o slots trees (picked_in o t p)).1) (t ∷ trees, p)
 

@@ -6,3 +6,4 @@ pub mod TieredParts
 pub mod Options
 pub mod Ids
 pub mod Stretches
+pub mod Laws

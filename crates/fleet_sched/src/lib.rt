@@ -3,6 +3,7 @@
 #![tactic(auto)]
 
 mod defaults;
+mod laws;
 mod node_set;
 mod options;
 mod picking;
@@ -16,6 +17,7 @@ mod supplier;
 mod validation;
 
 pub use defaults::{default_generate, default_validate};
+pub use laws::{proposals_are_few, proposals_make_runs};
 pub use options::{CompactorOptions, SizeTieredCompactionSchedulerOptions};
 pub use scheduler::CompactionScheduler;
 pub use size_tiered::SizeTieredCompactionScheduler;
