@@ -115,7 +115,8 @@ fn last_id(runs: &[SortedRun]) -> Option<u32>
 }
 
 fn sources(alloc: Global, runs: &[SortedRun]) -> Result<Vec<SourceId>, AllocError>
-    ensures { IfOk result (λ sources. map name_of sources.items ≡ map (λ run. Run run.id) runs.now) }
+    ensures { IfOk result
+        (λ sources. map name_of sources.items ≡ map (λ run. Run run.id) runs.now) }
 {
     let mut sources = Vec::new(alloc);
     'runs: for run in runs {

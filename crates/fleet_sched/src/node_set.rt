@@ -87,7 +87,8 @@ impl NodeSet {
     }
 
     fn lacks_all(&self, nodes: &[SourceId]) -> bool
-        ensures { result ≡ list_all (λ node. not (names_contain self.now (name_of node))) nodes.now }
+        ensures { result
+            ≡ list_all (λ node. not (names_contain self.now (name_of node))) nodes.now }
     {
         nodes.iter().all(|node| self.lacks(*node))
     }
