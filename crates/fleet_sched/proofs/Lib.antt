@@ -9,3 +9,4 @@ pub mod Stretches
 pub mod SizedViews
 pub mod Proposals
 pub mod Proposed
+pub mod Indexed

@@ -7,3 +7,4 @@ pub mod Options
 pub mod Ids
 pub mod Stretches
 pub mod Laws
+pub mod Indexed

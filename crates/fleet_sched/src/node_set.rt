@@ -1,22 +1,27 @@
 //! The nodes that jobs use.
 
-ghost use Rattle.std.specs.Prelude.{◌≡◌, ◌++◌, [], ◌∷◌, map, not, OnOk};
+ghost use Rattle.std.specs.Prelude.{◌≡◌, ◌++◌, [], ◌∷◌, map, not, OnErr, OnOk};
 ghost use Rattle.std.specs.List.{list_all, list_any};
 ghost use Rattle.fleet_model.specs.Jobs.{nodes_of};
 ghost use Rattle.fleet_model.specs.Nodes.{L0, Run, name_eq, names_contain};
 ghost use Rattle.fleet_model.specs.Sources.{is_apart};
 ghost use Rattle.fleet_book.specs.Sources.{name_of};
+ghost use Rattle.std.specs.BTreeSet.{IsUnchanged};
+ghost use Rattle.fleet_sched.specs.Indexed.{HasMore};
 ghost use Rattle.fleet_book.specs.Specs.{spec_of};
 
 use fleet_book::{CompactionSpec, SourceId};
 use fleet_rows::Ulid;
 use std::alloc::{AllocError, Global};
+use std::collections::BTreeSet;
 use std::marker::Model;
 
 /// Nodes of a tree. Contracts see their names, in the order in which they were added.
 #[derive(Debug, Drop)]
 pub struct NodeSet {
     nodes: Vec<SourceId>,
+    // The runs among the nodes.
+    runs: BTreeSet<u32>,
 }
 
 impl Model for NodeSet {
@@ -27,6 +32,10 @@ impl Model for NodeSet {
     ghost Value = { List NodeName };
 
     ghost view = { λ s. map name_of s.nodes.items };
+
+    ghost use Rattle.fleet_sched.specs.Indexed.{IsIndex};
+
+    ghost invariant = { λ s. IsIndex s.runs (map name_of s.nodes.items) };
 }
 
 impl NodeSet {
@@ -36,6 +45,7 @@ impl NodeSet {
     {
         NodeSet {
             nodes: Vec::new(alloc),
+            runs: BTreeSet::new(alloc),
         }
     }
 
@@ -43,15 +53,17 @@ impl NodeSet {
     pub fn contains(&self, node: SourceId) -> bool
         ensures { result ≡ names_contain self.now (name_of node) }
     {
-        contains(self.nodes.as_slice(), node)
+        match node {
+            SourceId::SortedRun(id) => self.runs.contains(&id),
+            SourceId::SstView(_) => contains(self.nodes.as_slice(), node),
+        }
     }
 
     /// Adds a node.
     fn add(&mut self, node: SourceId) -> Result<(), AllocError>
         ensures { OnOk result (self.new ≡ self.old ++ name_of node ∷ []) }
     {
-        self.nodes.push(node)?;
-        Ok(())
+        add_node(&mut self.nodes, &mut self.runs, &node)
     }
 
     /// Adds the nodes that a job uses: its destination, if it has one, and its sources.
@@ -92,6 +104,36 @@ impl NodeSet {
     {
         nodes.iter().all(|node| self.lacks(*node))
     }
+}
+
+// Adds the node to the nodes, and to the runs if it is a run.
+fn add_node(
+    nodes: &mut Vec<SourceId>,
+    runs: &mut BTreeSet<u32>,
+    node: &SourceId,
+) -> Result<(), AllocError>
+    ensures nodes { OnOk result (nodes.new.items ≡ nodes.old.items ++ node.now ∷ []) }
+    ensures runs { OnOk result (HasMore runs.old runs.new (name_of node.now)) }
+    ensures same_nodes { OnErr result (nodes.new.items ≡ nodes.old.items) }
+    ensures same_runs { OnErr result (IsUnchanged runs.old runs.new) }
+{
+    nodes.push(*node)?;
+    let added = add_run(runs, node);
+    if added.is_err() {
+        nodes.pop();
+    }
+    added
+}
+
+// Adds the node to the runs, if it is a run.
+fn add_run(runs: &mut BTreeSet<u32>, node: &SourceId) -> Result<(), AllocError>
+    ensures ok { OnOk result (HasMore runs.old runs.new (name_of node.now)) }
+    ensures err { OnErr result (IsUnchanged runs.old runs.new) }
+{
+    if let SourceId::SortedRun(id) = node {
+        runs.insert(*id)?;
+    }
+    Ok(())
 }
 
 fn contains(nodes: &[SourceId], wanted: SourceId) -> bool
