@@ -125,6 +125,19 @@ pub fn tell_spec(answer: &mut String, spec: &CompactionSpec) -> Result<(), Alloc
     tell_sources(answer, spec.sources())
 }
 
+/// Appends specs with `;` between them, or `-` if there are none.
+pub fn tell_specs(answer: &mut String, specs: &[CompactionSpec]) -> Result<(), AllocError> {
+    let [first, rest @ ..] = specs else {
+        return answer.push('-');
+    };
+    tell_spec(answer, first)?;
+    'rest: for spec in rest {
+        answer.push(';')?;
+        tell_spec(answer, spec)?;
+    }
+    Ok(())
+}
+
 fn tell_job(answer: &mut String, job: &Compaction) -> Result<(), AllocError> {
     let number = job.id().number();
     let status = status_word(job.status());

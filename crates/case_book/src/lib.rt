@@ -2,9 +2,9 @@
 #![tactic(auto)]
 
 mod job_calls;
-mod jobs;
+pub mod jobs;
 mod state_calls;
-mod trees;
+pub mod trees;
 
 use case_words::flaw::Flaw;
 use std::alloc::Global;

@@ -145,6 +145,7 @@ fn answer_of(alloc: Global, name: &str, words: &[&str], answer: &mut String) -> 
     if case_tables::answers(alloc, name, words, answer)?
         || case_jobs::answers(alloc, name, words, answer)?
         || case_book::answers(alloc, name, words, answer)?
+        || case_sched::answers(alloc, name, words, answer)?
     {
         Ok(())
     } else {
