@@ -1,5 +1,7 @@
 //! Calls of `fleet_book` on specs, statuses, jobs and records.
 
+ghost use Rattle.std.specs.Prelude.{◌≡◌, IfOk, None};
+
 use crate::jobs::{jobs, spec, status, tell_jobs};
 use crate::trees::{core, tell_run};
 use case_words::flaw::Flaw;
@@ -46,7 +48,10 @@ fn spec_text(alloc: Global, words: &[&str], answer: &mut String) -> Result<(), F
     Ok(write!(answer, "ok {copy} {drain} {flushes} {runs}")?)
 }
 
-fn job(alloc: Global, word: &str) -> Result<Compaction, Flaw> {
+// A job with the spec of a word. It has no context.
+fn job(alloc: Global, word: &str) -> Result<Compaction, Flaw>
+    ensures { IfOk result (λ job. job.ctx ≡ None) }
+{
     let spec = spec(alloc, word)?;
     Ok(Compaction::new(alloc, Ulid::from_parts(0, 1), spec))
 }

@@ -7,7 +7,7 @@ use case_words::given::tell_refusal;
 use case_words::words::{number, told_if_any};
 use fleet_book::{Compaction, CompactionStatus, Compactions, CompactorState, VersionedCompactions};
 use fleet_rows::{SlateDBError, Ulid};
-use fleet_table::{SortedRun, ViewList};
+use fleet_table::{SortedRun, VersionedManifest, ViewList};
 use std::alloc::Global;
 
 // The version and the epoch of all records here.
@@ -31,14 +31,18 @@ pub fn answers(
     Ok(true)
 }
 
-// A coordinator's state with these trees and these jobs.
-fn state(alloc: Global, trees: &str, jobs: Compactions) -> Result<CompactorState, Flaw> {
-    let manifest = manifest(VERSION, core(alloc, trees)?);
+// A coordinator's state with this manifest and these jobs.
+fn state_of(manifest: VersionedManifest, jobs: Compactions) -> Result<CompactorState, Flaw> {
     let records = VersionedCompactions::from_compactions(VERSION, jobs);
     if records.compactor_epoch() != manifest.compactor_epoch() {
         return Err(Flaw::Refused);
     }
     Ok(CompactorState::new(manifest, records))
+}
+
+// A coordinator's state with these trees and these jobs.
+fn state(alloc: Global, trees: &str, jobs: Compactions) -> Result<CompactorState, Flaw> {
+    state_of(manifest(VERSION, core(alloc, trees)?), jobs)
 }
 
 fn own_jobs(state: &CompactorState) -> &Compactions {
@@ -140,23 +144,35 @@ fn compacted(alloc: Global, cut: &str, word: &str) -> Result<Compaction, Flaw> {
     Ok(job)
 }
 
+fn one_job(alloc: Global, cut: &str, word: &str) -> Result<Compactions, Flaw> {
+    let mut records = Compactions::new(alloc, 0);
+    records.insert(compacted(alloc, cut, word)?)?;
+    Ok(records)
+}
+
+// A manifest with these trees, this floor and this horizon.
+fn bounded(
+    alloc: Global,
+    floor: &str,
+    horizon: &str,
+    trees: &str,
+) -> Result<VersionedManifest, Flaw> {
+    let floor = number(floor)?;
+    let horizon = number(horizon)?;
+    let mut core = core(alloc, trees)?;
+    core.recent_snapshot_min_seq = floor;
+    core.horizon = horizon;
+    Ok(manifest(VERSION, core))
+}
+
 // `finishjob` takes the floor, the horizon, a cut that may be missing, trees and a spec. It answers the
 // trees and the horizon after a Compacted job with this cut and spec was finished, and the jobs.
 fn finish(alloc: Global, words: &[&str], answer: &mut String) -> Result<(), Flaw> {
     let [floor, horizon, cut, trees, word] = words else {
         return Err(Flaw::Words);
     };
-    let job = compacted(alloc, cut, word)?;
-    let mut records = Compactions::new(alloc, 0);
-    records.insert(job)?;
-    let mut core = core(alloc, trees)?;
-    core.recent_snapshot_min_seq = number(floor)?;
-    core.horizon = number(horizon)?;
-    let records = VersionedCompactions::from_compactions(VERSION, records);
-    if records.compactor_epoch() != 0 {
-        return Err(Flaw::Refused);
-    }
-    let mut state = CompactorState::new(manifest(VERSION, core), records);
+    let jobs = one_job(alloc, cut, word)?;
+    let mut state = state_of(bounded(alloc, floor, horizon, trees)?, jobs)?;
     finish_job(alloc, &mut state, Ulid::from_parts(0, 1))?;
     tell_finished(&state, answer)
 }
