@@ -1,15 +1,10 @@
 pub mod Records
 pub mod Kept
-pub mod Moved
 pub mod Merged
 pub mod Trimmed
 pub mod Finishes
 pub mod ModelFinishes
-pub mod ModelTaken
-pub mod ModelMoved
 pub mod ModelMerges
 pub mod Repeated
 pub mod Trims
-pub mod ModelMovable
 pub mod ModelManifests
-pub mod Continued

@@ -4,11 +4,11 @@ use Rattle.std.specs.Prelude.{◌==◌, nat_lt, Some, None}
 use Rattle.std.proofs.lemmas.Bool.{eqb-true}
 use Rattle.fleet_model.specs.Jobs.{Status, Submitted, Scheduled, Running, Compacted, Completed, Failed, is_finished}
 use Rattle.step_model.specs.Merging.{adopts}
-use Rattle.fleet_book.specs.JobParts.{JobParts}
-use Rattle.fleet_book.specs.Jobs.{is_open}
+use Rattle.fleet_jobs.specs.JobParts.{JobParts}
+use Rattle.fleet_jobs.specs.Jobs.{is_open}
 use Rattle.fleet_book.specs.Records.{put_record, record_with}
 use Rattle.fleet_book.specs.States.{takes, with_stored, merged_jobs}
-use Rattle.fleet_book.specs.Status.{status_of}
+use Rattle.fleet_jobs.specs.Status.{status_of}
 
 -- Putting a record under another id changes no answer for this id.
 pub put_other : (id : ℕ) (new : JobParts) (jobs : List JobParts) → (new.id == id) ≡ false → record_with id (put_record new jobs) ≡ record_with id jobs

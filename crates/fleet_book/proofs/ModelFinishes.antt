@@ -13,11 +13,12 @@ use Rattle.fleet_table.specs.Views.{View}
 use Rattle.fleet_table.specs.declared.run.SortedRun.{SortedRun}
 use Rattle.fleet_table.specs.declared.tree.LsmTreeState.{LsmTreeState}
 use Rattle.fleet_book.specs.Finishes.{core_after, finished_tree, id_or, is_named, kept_runs, kept_views, mark_after, put_run, segment_after}
-use Rattle.fleet_book.specs.Laws.{AreMoved, DrainsAreTheModels, FlushesFollow, JoinsAreTheModels, MovesAreTheModels, names_of, view_tables}
-use Rattle.fleet_book.specs.Sources.{name_of}
-use Rattle.fleet_book.specs.Specs.{segment_of, sources_of}
-use Rattle.fleet_book.specs.declared.source_id.SourceId.{SourceId}
-use Rattle.fleet_book.specs.declared.spec.CompactionSpec.{CompactionSpec}
+use Rattle.fleet_book.specs.Laws.{AreMoved, DrainsAreTheModels, FlushesFollow, JoinsAreTheModels, MovesAreTheModels}
+use Rattle.fleet_jobs.specs.Laws.{names_of, view_tables}
+use Rattle.fleet_jobs.specs.Sources.{name_of}
+use Rattle.fleet_jobs.specs.Specs.{segment_of, sources_of}
+use Rattle.fleet_jobs.specs.declared.source_id.SourceId.{SourceId}
+use Rattle.fleet_jobs.specs.declared.spec.CompactionSpec.{CompactionSpec}
 
 pub named_is : (name : NodeName) (sources : List SourceId) → names_contain (map name_of sources) name ≡ is_named sources name
 named_is name [] = refl

@@ -7,11 +7,11 @@ use Rattle.std.proofs.lemmas.Cmp.{nat_eq_equiv}
 use Rattle.row_laws.proofs.Elements.{all_weaken}
 use Rattle.fleet_model.specs.Jobs.{Jobs, job_with, put_job}
 use Rattle.step_model.specs.Merging as model
-use Rattle.fleet_book.specs.JobParts.{JobParts}
-use Rattle.fleet_book.specs.Jobs.{job_of, jobs_of}
+use Rattle.fleet_jobs.specs.JobParts.{JobParts}
+use Rattle.fleet_jobs.specs.Jobs.{job_of, jobs_of}
 use Rattle.fleet_book.specs.Records.{AreRising, put_record, record_with}
 use Rattle.fleet_book.specs.States.{takes, with_stored}
-use Rattle.fleet_book.specs.Status.{status_of}
+use Rattle.fleet_jobs.specs.Status.{status_of}
 use Rattle.fleet_book.specs.Laws.{MergesAreTheModels}
 use Rattle.fleet_book.proofs.Records.{Above, none_there, rising_put}
 use Rattle.fleet_book.proofs.Trimmed.{put_job_is}

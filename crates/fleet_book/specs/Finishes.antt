@@ -11,19 +11,19 @@ use Rattle.fleet_table.specs.declared.manifest.ManifestCore.{ManifestCore}
 use Rattle.fleet_table.specs.declared.manifest.VersionedManifest.{VersionedManifest}
 use Rattle.fleet_table.specs.declared.run.SortedRun.{SortedRun}
 use Rattle.fleet_table.specs.declared.tree.LsmTreeState.{LsmTreeState}
-use Rattle.fleet_book.specs.JobParts.{JobParts}
-use Rattle.fleet_book.specs.Jobs.{with_status}
+use Rattle.fleet_jobs.specs.JobParts.{JobParts}
+use Rattle.fleet_jobs.specs.Jobs.{with_status}
 use Rattle.fleet_book.specs.Records.{put_record}
-use Rattle.fleet_book.specs.Sources.{name_of}
-use Rattle.fleet_book.specs.Specs.{segment_of, sources_of, spec_of}
+use Rattle.fleet_jobs.specs.Sources.{name_of}
+use Rattle.fleet_jobs.specs.Specs.{segment_of, sources_of, spec_of}
 use Rattle.fleet_book.specs.StateParts.{StateParts}
 use Rattle.fleet_book.specs.States.{own_jobs}
-use Rattle.fleet_book.specs.Status.{status_of}
-use Rattle.fleet_book.specs.Taken.{tree_in}
+use Rattle.fleet_jobs.specs.Status.{status_of}
+use Rattle.fleet_jobs.specs.Taken.{tree_in}
 use Rattle.fleet_book.specs.Versions.{with_jobs}
-use Rattle.fleet_book.specs.declared.source_id.SourceId.{SourceId}
-use Rattle.fleet_book.specs.declared.spec.CompactionSpec.{CompactionSpec}
-use Rattle.fleet_book.specs.declared.status.CompactionStatus.TheVariants as own
+use Rattle.fleet_jobs.specs.declared.source_id.SourceId.{SourceId}
+use Rattle.fleet_jobs.specs.declared.spec.CompactionSpec.{CompactionSpec}
+use Rattle.fleet_jobs.specs.declared.status.CompactionStatus.TheVariants as own
 
 -- A coordinator's tree after it saw the stored tree. Without an own tree it is the stored one.
 abbrev pub merged_tree : Option LsmTreeState → LsmTreeState → LsmTreeState

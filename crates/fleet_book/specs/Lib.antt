@@ -1,15 +1,3 @@
-pub mod Sources
-pub mod SpecParts
-pub mod Specs
-pub mod Texts
-pub mod Status
-pub mod Workers
-pub mod ContextParts
-pub mod Contexts
-pub mod JobParts
-pub mod Jobs
-pub mod Taken
-pub mod Moves
 pub mod Records
 pub mod VersionedRecords
 pub mod Versions

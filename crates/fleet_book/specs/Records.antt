@@ -1,8 +1,8 @@
 -- The records of all jobs, and how they are seen in the model.
 use Rattle.std.specs.Prelude.{ℕ, ◌<◌, Bool, false, ◌||◌, ◌==◌, nat_lt, not, List, [], ◌∷◌, find, if◌then◌else◌, Option}
 use Rattle.row_model.specs.Lists.{Pairs}
-use Rattle.fleet_book.specs.JobParts.{JobParts}
-use Rattle.fleet_book.specs.Jobs.{is_open}
+use Rattle.fleet_jobs.specs.JobParts.{JobParts}
+use Rattle.fleet_jobs.specs.Jobs.{is_open}
 
 -- The ids of the jobs rise.
 abbrev pub AreRising : List JobParts → Type 0

@@ -3,14 +3,14 @@ use Rattle.std.specs.Prelude.{Bool, List, fold, if◌then◌else◌, Option, Som
 use Rattle.std.specs.List.{list_any}
 use Rattle.fleet_model.specs.Polls.{clashes}
 use Rattle.step_model.specs.Merging.{adopts, is_taken_new}
-use Rattle.fleet_book.specs.JobParts.{JobParts}
-use Rattle.fleet_book.specs.Jobs.{job_of}
+use Rattle.fleet_jobs.specs.JobParts.{JobParts}
+use Rattle.fleet_jobs.specs.Jobs.{job_of}
 use Rattle.fleet_book.specs.Records.{put_record, record_with}
-use Rattle.fleet_book.specs.Specs.{spec_of}
+use Rattle.fleet_jobs.specs.Specs.{spec_of}
 use Rattle.fleet_book.specs.StateParts.{StateParts}
-use Rattle.fleet_book.specs.Status.{status_of}
+use Rattle.fleet_jobs.specs.Status.{status_of}
 use Rattle.fleet_book.specs.VersionedRecords.{VersionedRecords}
-use Rattle.fleet_book.specs.declared.spec.CompactionSpec.{CompactionSpec}
+use Rattle.fleet_jobs.specs.declared.spec.CompactionSpec.{CompactionSpec}
 
 -- The jobs that the coordinator has.
 abbrev pub own_jobs : StateParts → List JobParts

@@ -1,8 +1,8 @@
 -- Records with their version as the model has them.
 use Rattle.std.specs.Prelude.{List}
 use Rattle.fleet_model.specs.Store.{Records}
-use Rattle.fleet_book.specs.JobParts.{JobParts}
-use Rattle.fleet_book.specs.Jobs.{jobs_of}
+use Rattle.fleet_jobs.specs.JobParts.{JobParts}
+use Rattle.fleet_jobs.specs.Jobs.{jobs_of}
 use Rattle.fleet_book.specs.VersionedRecords.{VersionedRecords}
 
 -- The model's records with the contents of a program's records.

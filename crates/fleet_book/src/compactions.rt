@@ -3,11 +3,12 @@
 ghost use Rattle.std.specs.Prelude.{◌≡◌, [], IfOk, IfSome, IsOkUnless, IsSome, OnErr, OnOk};
 ghost use Rattle.std.specs.Option.{option_copied};
 ghost use Rattle.fleet_model.specs.Jobs.{trimmed};
-ghost use Rattle.fleet_book.specs.Jobs.{jobs_of, with_status};
+ghost use Rattle.fleet_jobs.specs.Jobs.{jobs_of, with_status};
 ghost use Rattle.fleet_book.specs.Versions.{with_jobs};
 ghost use Rattle.fleet_book.specs.Records.{AreRising, kept_records, put_record, record_with};
 
-use crate::{Compaction, CompactionStatus, JobMap, RecentCompactions};
+use crate::{JobMap, RecentCompactions};
+use fleet_jobs::{Compaction, CompactionStatus};
 use fleet_rows::{SlateDBError, Ulid};
 use std::alloc::{AllocError, Global};
 use std::marker::Model;

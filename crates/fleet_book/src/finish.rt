@@ -4,10 +4,10 @@ ghost use Rattle.std.specs.Prelude.{◌≡◌, ◌==◌, ◌++◌, ◌∷◌, []
 ghost use Rattle.std.specs.Option.{option_copied};
 ghost use Rattle.fleet_model.specs.Nodes.{L0, Run, name_eq};
 ghost use Rattle.fleet_book.specs.Finishes.{core_after, finished_tree, horizon_by, is_named, kept_runs, kept_views, mark_after, put_run, segment_after, tree_after, with_output};
-ghost use Rattle.fleet_book.specs.Sources.{name_of};
+ghost use Rattle.fleet_jobs.specs.Sources.{name_of};
 
-use crate::{Compaction, CompactionSpec, CompactionStatus, SourceId};
 use bytes::Bytes;
+use fleet_jobs::{Compaction, CompactionSpec, CompactionStatus, SourceId};
 use fleet_rows::{SlateDBError, Ulid};
 use fleet_table::{
     LsmTreeState, ManifestCore, RunList, SegmentList, SortedRun, SsTableView, ViewList,

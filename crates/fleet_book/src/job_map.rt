@@ -3,10 +3,11 @@
 ghost use Rattle.std.specs.Prelude.{◌≡◌, ◌==◌, ◌<◌, ◌++◌, [], ◌∷◌, ◌||◌, if◌then◌else◌, None, Some, false, filter, find, fold, length, nat_lt, slice_get, slice_set, take_while, IfOk, IfSome, IsSome, IsOkUnless, OnErr, OnOk};
 ghost use Rattle.std.specs.Option.{option_copied, option_map_or};
 ghost use Rattle.fleet_model.specs.Jobs.{trimmed};
-ghost use Rattle.fleet_book.specs.Jobs.{is_open, jobs_of, with_status};
+ghost use Rattle.fleet_jobs.specs.Jobs.{is_open, jobs_of, with_status};
 ghost use Rattle.fleet_book.specs.Records.{AreRising, kept_records, put_record, record_with};
 
-use crate::{Compaction, CompactionStatus, RecentCompactions};
+use crate::RecentCompactions;
+use fleet_jobs::{Compaction, CompactionStatus};
 use fleet_rows::{Copies, ListOf, SlateDBError, Ulid};
 use std::alloc::{AllocError, Global};
 use std::marker::Model;
@@ -20,7 +21,7 @@ pub struct JobMap {
 
 impl Model for JobMap {
     ghost use Rattle.std.specs.Prelude.{List};
-    ghost use Rattle.fleet_book.specs.JobParts.{JobParts};
+    ghost use Rattle.fleet_jobs.specs.JobParts.{JobParts};
     ghost use Rattle.fleet_book.specs.Records.{AreRising};
 
     ghost Value = { List JobParts };

@@ -3,7 +3,7 @@
 ghost use Rattle.std.specs.Prelude.{◌≡◌};
 ghost use Rattle.std.specs.Iterator.{item_count, YieldsFirstRef};
 
-use crate::Compaction;
+use fleet_jobs::Compaction;
 use std::marker::Model;
 
 /// An iterator over the records of jobs, by rising id. Contracts see the jobs left.
@@ -14,7 +14,7 @@ pub struct RecentCompactions<'a> {
 
 impl<'a> Model for RecentCompactions<'a> {
     ghost use Rattle.std.specs.Prelude.{List};
-    ghost use Rattle.fleet_book.specs.JobParts.{JobParts};
+    ghost use Rattle.fleet_jobs.specs.JobParts.{JobParts};
 
     ghost Value = { List JobParts };
 

@@ -2,8 +2,8 @@
 
 ghost use Rattle.std.specs.Prelude.{◌≡◌, IfOk, IsOkUnless};
 
-use crate::CompactionSpec;
 use bytes::Bytes;
+use fleet_jobs::CompactionSpec;
 use fleet_rows::SlateDBError;
 
 /// A request of a user for jobs. A scheduler answers it with specs.

@@ -5,21 +5,19 @@ ghost use Rattle.std.specs.Option.{ForSome, option_copied};
 ghost use Rattle.fleet_model.specs.Jobs.{put_job};
 ghost use Rattle.fleet_model.specs.Polls.{clashes, same_target};
 ghost use Rattle.step_model.specs.Merging.{adopts};
-ghost use Rattle.fleet_book.specs.JobParts.{JobParts};
+ghost use Rattle.fleet_jobs.specs.JobParts.{JobParts};
 ghost use Rattle.fleet_book.specs.Finishes.{finished, merged_manifest};
-ghost use Rattle.fleet_book.specs.Jobs.{is_open, job_of, jobs_of, with_status};
+ghost use Rattle.fleet_jobs.specs.Jobs.{is_open, job_of, jobs_of, with_status};
 ghost use Rattle.fleet_book.specs.Records.{put_record, record_with};
-ghost use Rattle.fleet_book.specs.Specs.{destination_of, segment_of, spec_of};
+ghost use Rattle.fleet_jobs.specs.Specs.{destination_of, segment_of, spec_of};
 ghost use Rattle.fleet_book.specs.States.{is_taken, merged_jobs, merged_records, own_jobs, takes, with_stored};
-ghost use Rattle.fleet_book.specs.Status.{status_of};
+ghost use Rattle.fleet_jobs.specs.Status.{status_of};
 ghost use Rattle.fleet_book.specs.Versions.{with_jobs};
 
 use crate::finish::core_after;
 use crate::merging::merged_manifest;
-use crate::{
-    Compaction, CompactionSpec, CompactionStatus, Compactions, CompactorStateView, JobMap,
-    VersionedCompactions,
-};
+use crate::{Compactions, CompactorStateView, JobMap, VersionedCompactions};
+use fleet_jobs::{Compaction, CompactionSpec, CompactionStatus};
 use fleet_rows::{SlateDBError, Ulid};
 use fleet_table::{SortedRun, VersionedManifest};
 use std::alloc::Global;

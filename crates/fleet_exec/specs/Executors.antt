@@ -15,8 +15,8 @@ use Rattle.fleet_table.specs.declared.handle.SsTableHandle.{SsTableHandle}
 use Rattle.fleet_plan.specs.Boundaries.{HoldEveryKeyOnce}
 use Rattle.fleet_plan.specs.Parts.{Part}
 use Rattle.fleet_plan.specs.Plans.{AreOfRows, planned_of, views_of}
-use Rattle.fleet_book.specs.ContextParts.{ContextParts}
-use Rattle.fleet_book.specs.Contexts.{context_with}
+use Rattle.fleet_jobs.specs.ContextParts.{ContextParts}
+use Rattle.fleet_jobs.specs.Contexts.{context_with}
 use Rattle.fleet_exec.specs.ExecutorParts.{ActiveParts, ExecutorParts}
 use Rattle.fleet_exec.specs.declared.args.StartCompactionJobArgs.{StartCompactionJobArgs}
 

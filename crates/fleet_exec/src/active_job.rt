@@ -5,7 +5,7 @@ ghost use Rattle.std.specs.Option.{ForNone};
 ghost use Rattle.fleet_exec.specs.Executors.{IsPlanned, StartsAs, fresh_parts, settings_with, with_table};
 
 use crate::StartCompactionJobArgs;
-use fleet_book::CompactionContext;
+use fleet_jobs::CompactionContext;
 use fleet_plan::{Subcompaction, plan_subcompaction_ranges};
 use fleet_range::BytesRange;
 use fleet_rows::{Settings, SlateDBError, Ulid};

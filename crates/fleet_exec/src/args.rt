@@ -2,7 +2,7 @@
 
 ghost use Rattle.std.specs.Prelude.{◌≡◌, IfOk, IsOkUnless};
 
-use fleet_book::{CompactionContext, Release};
+use fleet_jobs::{CompactionContext, Release};
 use fleet_rows::{SlateDBError, Ulid};
 use fleet_table::{RunList, ViewList};
 

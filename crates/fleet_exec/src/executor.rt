@@ -8,7 +8,7 @@ ghost use Rattle.fleet_exec.specs.Executors.{AreDistinct, OthersStay, StartsAs, 
 
 use crate::StartCompactionJobArgs;
 use crate::active_job::ActiveJob;
-use fleet_book::CompactionContext;
+use fleet_jobs::CompactionContext;
 use fleet_rows::{ListOf, SlateDBError, Ulid};
 use fleet_table::SsTableHandle;
 use std::alloc::Global;

@@ -6,8 +6,8 @@ use Rattle.fleet_model.specs.Levels.{above_all, capped_id, destination_list, fre
 use Rattle.fleet_model.specs.Sources.{all_run_ids}
 use Rattle.fleet_table.specs.Trees.{segment_of}
 use Rattle.fleet_table.specs.declared.tree.LsmTreeState.{LsmTreeState}
-use Rattle.fleet_book.specs.JobParts.{JobParts}
-use Rattle.fleet_book.specs.Jobs.{jobs_of}
+use Rattle.fleet_jobs.specs.JobParts.{JobParts}
+use Rattle.fleet_jobs.specs.Jobs.{jobs_of}
 use Rattle.fleet_book.specs.declared.view.CompactorStateView.{CompactorStateView}
 use Rattle.fleet_sched.specs.Ids.{destinations_in, ids_in}
 use Rattle.fleet_sched.specs.Views.{open_records, shown_jobs, trees_in, view_of}
@@ -54,7 +54,7 @@ all_run_ids_are flushes (s ∷ trees) = cc (run_ids_of flushes s.1, all_run_ids_
 -- The destinations of the model's jobs.
 pub destinations_are : (jobs : List JobParts) → flat_map (λ job. destination_list job.spec.destination) (jobs_of jobs) ≡ destinations_in jobs
 destinations_are [] = refl
-destinations_are (job ∷ jobs) = ap (λ (l : List ℕ). destination_list (Rattle.fleet_book.specs.Specs.destination_of job.spec) ++ l) (destinations_are jobs)
+destinations_are (job ∷ jobs) = ap (λ (l : List ℕ). destination_list (Rattle.fleet_jobs.specs.Specs.destination_of job.spec) ++ l) (destinations_are jobs)
 
 -- The fresh id is above the runs and the destinations that are shown.
 pub fresh_is : (flushes : ℕ → List ℕ) (state : CompactorStateView) (above made : ℕ) → above ≡ capped_id (above_all (ids_in (trees_in state)))

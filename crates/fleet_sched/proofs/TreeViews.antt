@@ -15,9 +15,9 @@ use Rattle.fleet_model.specs.Jobs.{is_drain_to}
 use Rattle.fleet_model.specs.Nodes.{Segment, tree_or_empty}
 use Rattle.fleet_model.specs.Sources.{older_nodes}
 use Rattle.sched_model.specs.SizeTiered.{agree, is_stretch, lowest_run, tiered_validate}
-use Rattle.fleet_book.specs.Sources.{name_of}
-use Rattle.fleet_book.specs.Specs.{destination_of, segment_of as prefix_of, sources_of, spec_of}
-use Rattle.fleet_book.specs.declared.spec.CompactionSpec.{CompactionSpec}
+use Rattle.fleet_jobs.specs.Sources.{name_of}
+use Rattle.fleet_jobs.specs.Specs.{destination_of, segment_of as prefix_of, sources_of, spec_of}
+use Rattle.fleet_jobs.specs.declared.spec.CompactionSpec.{CompactionSpec}
 use Rattle.fleet_sched.specs.Stretches.{accepts, tree_found}
 use Rattle.fleet_book.specs.declared.view.CompactorStateView.{CompactorStateView}
 use Rattle.fleet_sched.specs.Full.{full_spec_in, into_run, segment_answer}

@@ -5,8 +5,8 @@ use Rattle.fleet_model.specs.Jobs.{JobSpec}
 use Rattle.fleet_model.specs.Scheduler as model
 use Rattle.fleet_rows.specs.declared.errors.SlateDBError.{SlateDBError}
 use Rattle.fleet_rows.specs.declared.errors.SlateDBError.TheVariants.{InvalidCompaction, Generate, Memory}
-use Rattle.fleet_book.specs.Specs.{spec_of}
-use Rattle.fleet_book.specs.declared.spec.CompactionSpec.{CompactionSpec}
+use Rattle.fleet_jobs.specs.Specs.{spec_of}
+use Rattle.fleet_jobs.specs.declared.spec.CompactionSpec.{CompactionSpec}
 
 -- The result has these specs.
 abbrev pub Proposes : List JobSpec → Result (Vec CompactionSpec Global) SlateDBError → Type 0

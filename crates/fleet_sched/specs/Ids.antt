@@ -2,8 +2,8 @@
 use Rattle.std.specs.Prelude.{ℕ, List, flat_map, map}
 use Rattle.fleet_model.specs.Levels.{destination_list}
 use Rattle.fleet_table.specs.declared.tree.LsmTreeState.{LsmTreeState}
-use Rattle.fleet_book.specs.JobParts.{JobParts}
-use Rattle.fleet_book.specs.Specs.{destination_of}
+use Rattle.fleet_jobs.specs.JobParts.{JobParts}
+use Rattle.fleet_jobs.specs.Specs.{destination_of}
 
 -- The ids of the runs of these trees.
 abbrev pub ids_in : List (List ℕ × LsmTreeState) → List ℕ

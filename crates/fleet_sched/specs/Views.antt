@@ -7,9 +7,9 @@ use Rattle.fleet_table.specs.Manifests.{manifest_of}
 use Rattle.fleet_table.specs.Trees.{trees_with_prefix}
 use Rattle.fleet_table.specs.declared.handle.SsTableHandle.{SsTableHandle}
 use Rattle.fleet_table.specs.declared.tree.LsmTreeState.{LsmTreeState}
-use Rattle.fleet_book.specs.Contexts.{ranges_in}
-use Rattle.fleet_book.specs.JobParts.{JobParts}
-use Rattle.fleet_book.specs.Jobs.{is_open, jobs_of}
+use Rattle.fleet_jobs.specs.Contexts.{ranges_in}
+use Rattle.fleet_jobs.specs.JobParts.{JobParts}
+use Rattle.fleet_jobs.specs.Jobs.{is_open, jobs_of}
 use Rattle.fleet_book.specs.VersionedRecords.{VersionedRecords}
 use Rattle.fleet_book.specs.declared.view.CompactorStateView.{CompactorStateView}
 

@@ -5,12 +5,12 @@ ghost use Rattle.std.specs.List.{list_all, list_any};
 ghost use Rattle.fleet_model.specs.Jobs.{nodes_of};
 ghost use Rattle.fleet_model.specs.Nodes.{L0, Run, name_eq, names_contain};
 ghost use Rattle.fleet_model.specs.Sources.{is_apart};
-ghost use Rattle.fleet_book.specs.Sources.{name_of};
+ghost use Rattle.fleet_jobs.specs.Sources.{name_of};
 ghost use Rattle.std.specs.BTreeSet.{IsUnchanged};
 ghost use Rattle.fleet_sched.specs.Indexed.{HasMore};
-ghost use Rattle.fleet_book.specs.Specs.{spec_of};
+ghost use Rattle.fleet_jobs.specs.Specs.{spec_of};
 
-use fleet_book::{CompactionSpec, SourceId};
+use fleet_jobs::{CompactionSpec, SourceId};
 use fleet_rows::Ulid;
 use std::alloc::{AllocError, Global};
 use std::collections::BTreeSet;
@@ -27,7 +27,7 @@ pub struct NodeSet {
 impl Model for NodeSet {
     ghost use Rattle.std.specs.Prelude.{List, map};
     ghost use Rattle.fleet_model.specs.Nodes.{NodeName};
-    ghost use Rattle.fleet_book.specs.Sources.{name_of};
+    ghost use Rattle.fleet_jobs.specs.Sources.{name_of};
 
     ghost Value = { List NodeName };
 

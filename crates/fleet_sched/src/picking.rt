@@ -2,12 +2,12 @@
 
 ghost use Rattle.std.specs.Prelude.{◌≡◌, ◌++◌, ◌-◌, ◌+◌, ◌∷◌, [], map, option_map, length, IfOk, OnOk, is_some};
 ghost use Rattle.fleet_model.specs.Levels.{capped_id};
-ghost use Rattle.fleet_book.specs.Specs.{spec_of};
+ghost use Rattle.fleet_jobs.specs.Specs.{spec_of};
 ghost use Rattle.sched_model.specs.Picks.{fresh_after, next_pick, pass, passes, picked_in, with_pick};
 
 use crate::SizeTieredCompactionSchedulerOptions;
 use crate::planned::Planned;
-use fleet_book::CompactionSpec;
+use fleet_jobs::CompactionSpec;
 use std::alloc::{AllocError, Global};
 use std::marker::Model;
 
@@ -20,7 +20,7 @@ pub struct Picking {
 
 impl Model for Picking {
     ghost use Rattle.std.specs.Prelude.{map};
-    ghost use Rattle.fleet_book.specs.Specs.{spec_of};
+    ghost use Rattle.fleet_jobs.specs.Specs.{spec_of};
     ghost use Rattle.sched_model.specs.Picks as model;
 
     ghost Value = { model.Picking };

@@ -3,8 +3,8 @@
 ghost use Rattle.std.specs.Prelude.{◌≡◌, ◌++◌, ◌+◌, ◌-◌, ℕ, List, [], ◌∷◌, map, IfOk, OnOk};
 ghost use Rattle.std.specs.Prelude.{Some, max, filter, bytes_eq};
 ghost use Rattle.fleet_model.specs.Levels.{above_all, capped_id, destination_list, fresh_run_id};
-ghost use Rattle.fleet_book.specs.Jobs.{is_open, jobs_of};
-ghost use Rattle.fleet_book.specs.Specs.{segment_of};
+ghost use Rattle.fleet_jobs.specs.Jobs.{is_open, jobs_of};
+ghost use Rattle.fleet_jobs.specs.Specs.{segment_of};
 ghost use Rattle.sched_model.specs.SizeTiered.{by_flushes, free_slots, nodes_used, unplanned};
 ghost use Rattle.fleet_sched.specs.Sizes.{planned_in, tree_in};
 ghost use Rattle.fleet_sched.specs.Views.{open_records, shown_jobs, trees_in, view_of};
@@ -15,9 +15,8 @@ use crate::node_set::NodeSet;
 use crate::planned::Planned;
 use crate::sized::{sized_flushes, sized_runs};
 use bytes::Bytes;
-use fleet_book::{
-    Compaction, CompactionSpec, CompactionStatus, CompactorStateView, VersionedCompactions,
-};
+use fleet_book::{CompactorStateView, VersionedCompactions};
+use fleet_jobs::{Compaction, CompactionSpec, CompactionStatus};
 use fleet_table::{LsmTreeState, ManifestCore};
 use std::alloc::{AllocError, Global};
 

@@ -3,11 +3,12 @@
 ghost use Rattle.std.specs.Prelude.{ℕ, List};
 ghost use Rattle.fleet_model.specs.Scheduler.{Scheduler};
 ghost use Rattle.fleet_book.specs.Requests.{request_of};
-ghost use Rattle.fleet_book.specs.Specs.{spec_of};
+ghost use Rattle.fleet_jobs.specs.Specs.{spec_of};
 ghost use Rattle.fleet_sched.specs.Answers.{Generates, Proposes, Validates};
 ghost use Rattle.fleet_sched.specs.Views.{view_of};
 
-use fleet_book::{CompactionRequest, CompactionSpec, CompactorStateView};
+use fleet_book::{CompactionRequest, CompactorStateView};
+use fleet_jobs::CompactionSpec;
 use fleet_rows::SlateDBError;
 use std::alloc::Global;
 

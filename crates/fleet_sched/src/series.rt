@@ -7,7 +7,7 @@ ghost use Rattle.sched_model.specs.Series.{first_series, is_similar, is_taken_ag
 use crate::SizeTieredCompactionSchedulerOptions;
 use crate::node_set::NodeSet;
 use crate::sized::{SizedRun, oldest_runs};
-use fleet_book::SourceId;
+use fleet_jobs::SourceId;
 
 fn threshold(options: &SizeTieredCompactionSchedulerOptions, size: u64) -> u128
     ensures { result ≡ threshold options.now size }

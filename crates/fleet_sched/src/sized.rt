@@ -2,12 +2,12 @@
 
 ghost use Rattle.std.specs.Prelude.{◌≡◌, ◌+◌, ◌-◌, drop, fold, length, map, IfOk};
 ghost use Rattle.row_model.specs.Sizes.{saturated};
-ghost use Rattle.fleet_book.specs.Sources.{name_of};
+ghost use Rattle.fleet_jobs.specs.Sources.{name_of};
 ghost use Rattle.sched_model.specs.Series.{oldest};
 ghost use Rattle.sched_model.specs.Sizes.{flush_names, run_names, total_size};
 ghost use Rattle.fleet_sched.specs.Sizes.{flush_in, run_in};
 
-use fleet_book::SourceId;
+use fleet_jobs::SourceId;
 use fleet_rows::Ulid;
 use fleet_table::{SortedRun, SsTableView};
 use std::alloc::{AllocError, Global};

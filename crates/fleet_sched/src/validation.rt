@@ -3,8 +3,8 @@
 ghost use Rattle.std.specs.Prelude.{◌≡◌, ◌≤◌, ◌++◌, ◌&&◌, ℕ, List, [], ◌∷◌, drop, fold, length, map, Some, None, IfOk, OnOk, is_some};
 ghost use Rattle.fleet_model.specs.Nodes.{L0, Run};
 ghost use Rattle.fleet_model.specs.Sources.{after_front, older_nodes, run_ids};
-ghost use Rattle.fleet_book.specs.Sources.{name_of};
-ghost use Rattle.fleet_book.specs.Specs.{destination_of, segment_of, sources_of, spec_of};
+ghost use Rattle.fleet_jobs.specs.Sources.{name_of};
+ghost use Rattle.fleet_jobs.specs.Specs.{destination_of, segment_of, sources_of, spec_of};
 ghost use Rattle.sched_model.specs.SizeTiered.{agree, lower, lowest_run, tiered_validate};
 ghost use Rattle.fleet_model.specs.Gates.{is_nonempty};
 ghost use Rattle.fleet_sched.specs.Stretches.{accepts, nodes_in, stands_in_tree, tree_found};
@@ -12,7 +12,8 @@ ghost use Rattle.fleet_sched.specs.Answers.{Validates};
 ghost use Rattle.fleet_sched.specs.Views.{view_of};
 
 use crate::node_set::is_same;
-use fleet_book::{CompactionSpec, CompactorStateView, SourceId};
+use fleet_book::CompactorStateView;
+use fleet_jobs::{CompactionSpec, SourceId};
 use fleet_rows::SlateDBError;
 use fleet_table::{LsmTreeState, SortedRun, SsTableView};
 use std::alloc::{AllocError, Global};

@@ -2,7 +2,7 @@ use Rattle.std.proofs.Common.{rules, ◌∙◌, ap, ◌||◌}
 use Rattle.std.specs.Prelude.{◌==◌, false, filter}
 use Rattle.std.specs.Option.{option_map_or}
 use Rattle.std.proofs.lemmas.Fn.{filter_same}
-use Rattle.fleet_book.specs.Jobs.{is_open}
+use Rattle.fleet_jobs.specs.Jobs.{is_open}
 use Rattle.fleet_book.proofs.job_map.retain.Goals as goal
 
 pub returns : goal.returns

@@ -1,6 +1,6 @@
 use Rattle.std.proofs.Common.{map}
 use Rattle.std.proofs.lemmas.List.Elements.{filter_map-append}
-use Rattle.fleet_book.specs.Specs.{spec_of}
+use Rattle.fleet_jobs.specs.Specs.{spec_of}
 use Rattle.std.specs.List.{filter_map}
 use Rattle.fleet_sched.specs.Full.{full_spec_in}
 use Rattle.fleet_sched.proofs.Lists.{gather_more}

@@ -1,6 +1,6 @@
 use Rattle.std.proofs.Common.{◌≡◌, ◌++◌, map, take}
 use Rattle.std.specs.List.{filter_map}
-use Rattle.fleet_book.specs.Specs.{spec_of}
+use Rattle.fleet_jobs.specs.Specs.{spec_of}
 use Rattle.fleet_sched.specs.Full.{full_spec_in}
 use Rattle.fleet_sched.proofs.defaults.add_segments.Given as goal
 

@@ -1,8 +1,8 @@
 use Rattle.std.proofs.Common.{rules, ◌∙◌, sym, ap, List, map}
 use Rattle.std.specs.Prelude.{option_map}
 use Rattle.fleet_model.specs.Scheduler.{Specs, one_or_invalid}
-use Rattle.fleet_book.specs.Specs.{spec_of}
-use Rattle.fleet_book.specs.declared.spec.CompactionSpec.{CompactionSpec}
+use Rattle.fleet_jobs.specs.Specs.{spec_of}
+use Rattle.fleet_jobs.specs.declared.spec.CompactionSpec.{CompactionSpec}
 use Rattle.fleet_sched.specs.Views.{trees_in}
 use Rattle.fleet_sched.proofs.TreeViews.{at_segment}
 use Rattle.fleet_sched.proofs.defaults.full_segment.Goals as goal

@@ -1,5 +1,5 @@
 use Rattle.std.proofs.Common.{◌∙◌, sym}
-use Rattle.fleet_book.specs.Sources.{name_of}
+use Rattle.fleet_jobs.specs.Sources.{name_of}
 use Rattle.fleet_sched.proofs.Lists.{names_contain-map}
 use Rattle.fleet_sched.proofs.node_set.contains.Goals as goal
 

@@ -1,6 +1,6 @@
 use Rattle.std.proofs.Common.{◌≡◌, ◌++◌}
 use Rattle.std.specs.Prelude.{filter}
-use Rattle.fleet_book.specs.Jobs.{is_open, jobs_of}
+use Rattle.fleet_jobs.specs.Jobs.{is_open, jobs_of}
 use Rattle.sched_model.specs.SizeTiered.{nodes_used}
 use Rattle.fleet_sched.proofs.planning.add_used.Given as goal
 

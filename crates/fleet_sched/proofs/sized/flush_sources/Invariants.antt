@@ -1,5 +1,5 @@
 use Rattle.std.proofs.Common.{◌≡◌, map, take}
-use Rattle.fleet_book.specs.Sources.{name_of}
+use Rattle.fleet_jobs.specs.Sources.{name_of}
 use Rattle.sched_model.specs.Sizes.{flush_names}
 use Rattle.fleet_sched.proofs.sized.flush_sources.Given as goal
 

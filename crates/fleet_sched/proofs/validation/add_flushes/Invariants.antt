@@ -1,6 +1,6 @@
 use Rattle.std.proofs.Common.{◌≡◌, ◌++◌, map, take}
 use Rattle.fleet_model.specs.Nodes.{L0}
-use Rattle.fleet_book.specs.Sources.{name_of}
+use Rattle.fleet_jobs.specs.Sources.{name_of}
 use Rattle.fleet_sched.proofs.validation.add_flushes.Given as goal
 
 abbrev pub invariant-views : goal.invariant-views

@@ -1,8 +1,8 @@
 use Rattle.std.proofs.Common.{◌∙◌, sym, ap, map, drop, List}
 use Rattle.std.specs.Prelude.{is_some}
 use Rattle.fleet_model.specs.Sources.{after_front}
-use Rattle.fleet_book.specs.Sources.{name_of}
-use Rattle.fleet_book.specs.declared.source_id.SourceId.{SourceId}
+use Rattle.fleet_jobs.specs.Sources.{name_of}
+use Rattle.fleet_jobs.specs.declared.source_id.SourceId.{SourceId}
 use Rattle.fleet_sched.proofs.Stretches.{begun, later, nowhere}
 use Rattle.fleet_sched.proofs.validation.is_stretch.Goals as goal
 

@@ -1,4 +1,4 @@
-use Rattle.fleet_book.specs.Sources.{name_of}
+use Rattle.fleet_jobs.specs.Sources.{name_of}
 use Rattle.fleet_sched.proofs.Stretches.{lowest_of_more}
 use Rattle.fleet_sched.proofs.validation.lowest_run.Goals as goal
 

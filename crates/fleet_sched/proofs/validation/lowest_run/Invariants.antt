@@ -1,7 +1,7 @@
 use Rattle.std.proofs.Common.{◌≡◌, map, take}
 use Rattle.std.specs.Prelude.{None, fold}
 use Rattle.fleet_model.specs.Sources.{run_ids}
-use Rattle.fleet_book.specs.Sources.{name_of}
+use Rattle.fleet_jobs.specs.Sources.{name_of}
 use Rattle.sched_model.specs.SizeTiered.{lower}
 use Rattle.fleet_sched.proofs.validation.lowest_run.Given as goal
 

@@ -1,6 +1,6 @@
 use Rattle.std.proofs.Common.{sym, subst, ◌∙◌, ap}
 use Rattle.std.specs.Prelude.{filter}
-use Rattle.fleet_book.specs.Jobs.{is_open}
+use Rattle.fleet_jobs.specs.Jobs.{is_open}
 use Rattle.fleet_book.specs.Records.{AreRising}
 use Rattle.fleet_book.proofs.Records.{rising_filter}
 use Rattle.fleet_book.proofs.job_map.JobMap.active.Goals as goal

@@ -1,5 +1,5 @@
 use Rattle.std.proofs.Common.{◌∙◌, ap}
-use Rattle.fleet_book.specs.Jobs.{jobs_of}
+use Rattle.fleet_jobs.specs.Jobs.{jobs_of}
 use Rattle.fleet_book.proofs.Kept.{kept_by}
 use Rattle.fleet_book.proofs.Trimmed.{trimmed_is}
 use Rattle.fleet_book.proofs.job_map.JobMap.retain_active_and_last_finished.Goals as goal

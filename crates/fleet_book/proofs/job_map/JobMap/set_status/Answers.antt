@@ -1,5 +1,5 @@
 use Rattle.std.proofs.Common.{refl}
-use Rattle.fleet_book.specs.Jobs.{with_status}
+use Rattle.fleet_jobs.specs.Jobs.{with_status}
 use Rattle.fleet_book.proofs.Records.{is_changed, place_fits}
 use Rattle.fleet_book.proofs.job_map.JobMap.set_status.Goals as goal
 

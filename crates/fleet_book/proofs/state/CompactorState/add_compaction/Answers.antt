@@ -1,7 +1,7 @@
 use Rattle.std.proofs.Common.{◌∙◌, ap}
 use Rattle.std.proofs.lemmas.Result.{on_ok_weaker}
 use Rattle.fleet_model.specs.Jobs.{put_job}
-use Rattle.fleet_book.specs.Jobs.{job_of, jobs_of}
+use Rattle.fleet_jobs.specs.Jobs.{job_of, jobs_of}
 use Rattle.fleet_book.specs.Records.{record_with}
 use Rattle.fleet_book.specs.States.{own_jobs}
 use Rattle.fleet_book.proofs.Trimmed.{put_job_is}

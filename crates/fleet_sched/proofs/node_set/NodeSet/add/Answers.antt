@@ -1,4 +1,4 @@
-use Rattle.fleet_book.specs.Sources.{name_of}
+use Rattle.fleet_jobs.specs.Sources.{name_of}
 use Rattle.fleet_sched.proofs.Indexed.{still_index}
 use Rattle.fleet_sched.proofs.node_set.NodeSet.add.Goals as goal
 

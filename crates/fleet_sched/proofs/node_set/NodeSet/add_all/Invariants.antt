@@ -1,5 +1,5 @@
 use Rattle.std.proofs.Common.{◌≡◌, ◌++◌, map, take}
-use Rattle.fleet_book.specs.Sources.{name_of}
+use Rattle.fleet_jobs.specs.Sources.{name_of}
 use Rattle.fleet_sched.proofs.node_set.NodeSet.add_all.Given as goal
 
 abbrev pub invariant-nodes : goal.invariant-nodes

@@ -2,7 +2,7 @@ use Rattle.std.proofs.Common.{◌∙◌, sym, ap, map, not, ◌&&◌}
 use Rattle.std.specs.List.{list_all}
 use Rattle.std.proofs.lemmas.List.Folds.{list_all-map}
 use Rattle.fleet_model.specs.Nodes.{names_contain}
-use Rattle.fleet_book.specs.Sources.{name_of}
+use Rattle.fleet_jobs.specs.Sources.{name_of}
 use Rattle.fleet_sched.proofs.node_set.NodeSet.leaves.Goals as goal
 
 pub returns-then-lacks : goal.returns-then-lacks

@@ -1,5 +1,5 @@
 use Rattle.std.proofs.Common.{◌≡◌, map, subst}
-use Rattle.fleet_book.specs.Specs.{spec_of}
+use Rattle.fleet_jobs.specs.Specs.{spec_of}
 use Rattle.sched_model.specs.SizeTiered.{tiered_proposals}
 use Rattle.fleet_sched.specs.TieredParts.{TieredParts}
 use Rattle.fleet_sched.specs.Views.{view_of}

@@ -1,5 +1,0 @@
-use Rattle.fleet_book.proofs.ModelMoved as law
-use Rattle.fleet_book.proofs.laws.moved_runs_are_the_models.Goals as goal
-
-pub returns : goal.returns
-returns c = law.moved_runs_are_the_models

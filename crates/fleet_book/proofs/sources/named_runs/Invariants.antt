@@ -1,6 +1,0 @@
-use Rattle.std.proofs.Common.{◌≡◌, take}
-use Rattle.fleet_book.specs.Taken.{named_runs}
-use Rattle.fleet_book.proofs.sources.named_runs.Given as goal
-
-abbrev pub invariant-sources : goal.invariant-sources
-invariant-sources l = l.named.items ≡ named_runs (take l.source-index l.sources) l.runs

@@ -1,8 +1,0 @@
-use Rattle.std.proofs.Common.{take, ◌++◌}
-use Rattle.std.specs.Prelude.{flat_map, codes}
-use Rattle.std.specs.Fmt.{HasWritten, IsPlainFormatter}
-use Rattle.fleet_book.specs.Texts.{quoted}
-use Rattle.fleet_book.proofs.spec.write_others.Given as goal
-
-abbrev pub invariant-sources : goal.invariant-sources
-invariant-sources g l = IsPlainFormatter l.initial.f → HasWritten g.W.Write.write_str_gives l.initial.f (flat_map (λ other. codes ", " ++ quoted other) (take l.source-index l.sources)) l.f

@@ -1,0 +1,5 @@
+use Rattle.fleet_jobs.proofs.ModelTaken as law
+use Rattle.fleet_jobs.proofs.laws.taken_tables_are_the_models.Goals as goal
+
+pub returns : goal.returns
+returns c = law.taken_tables_are_the_models

@@ -1,0 +1,13 @@
+pub mod Sources
+pub mod SpecParts
+pub mod Specs
+pub mod Texts
+pub mod Status
+pub mod Workers
+pub mod ContextParts
+pub mod Contexts
+pub mod JobParts
+pub mod Jobs
+pub mod Taken
+pub mod Moves
+pub mod Laws

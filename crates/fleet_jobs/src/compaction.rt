@@ -1,0 +1,344 @@
+//! Jobs, as their records keep them.
+
+ghost use Rattle.std.specs.Prelude.{◌≡◌, IfOk, IsOkUnless, Some, count_by, flat_map, not};
+ghost use Rattle.std.specs.Fmt.{DisplaysOnOk};
+ghost use Rattle.std.specs.Option.{option_copied};
+ghost use Rattle.fleet_model.specs.Jobs.{is_finished};
+ghost use Rattle.fleet_jobs.specs.Contexts.{FollowsContext, ranges_in};
+ghost use Rattle.fleet_jobs.specs.Jobs.{fresh_job, with_status};
+ghost use Rattle.fleet_jobs.specs.Status.{status_of};
+ghost use Rattle.fleet_jobs.specs.Texts.{bytes_text, count_text, has_output, job_text, ranges_text};
+
+use crate::copying::add_all;
+use crate::{CompactionContext, CompactionSpec, CompactionStatus, WorkerSpec};
+use fleet_plan::Subcompaction;
+use fleet_rows::{Copies, JobList, SlateDBError, Ulid};
+use fleet_table::{OutputList, TableList};
+use std::alloc::{AllocError, Global};
+use std::fmt;
+use std::marker::Model;
+
+/// The record of a job. Contracts see its parts.
+#[derive(Debug, Drop, PartialEq, Eq)]
+pub struct Compaction {
+    id: Ulid,
+    spec: CompactionSpec,
+    bytes_processed: u64,
+    status: CompactionStatus,
+    worker: Option<WorkerSpec>,
+    attempt: u64,
+    source_tables: JobList,
+    ctx: Option<CompactionContext>,
+    output_ssts: OutputList,
+    cut: Option<u64>,
+}
+
+impl Model for Compaction {
+    ghost use Rattle.fleet_jobs.specs.JobParts.{JobParts};
+
+    ghost Value = { JobParts };
+
+    ghost view = { λ c. record {
+      id = c.id;
+      spec = c.spec;
+      bytes_processed = c.bytes_processed;
+      status = c.status;
+      worker = c.worker;
+      attempt = c.attempt;
+      source_tables = c.source_tables;
+      ctx = c.ctx;
+      outputs = c.output_ssts;
+      cut = c.cut;
+    } };
+
+    ghost inverse = { λ v. record {
+      id = v.id;
+      spec = v.spec;
+      bytes_processed = v.bytes_processed;
+      status = v.status;
+      worker = v.worker;
+      attempt = v.attempt;
+      source_tables = v.source_tables;
+      ctx = v.ctx;
+      output_ssts = v.outputs;
+      cut = v.cut;
+    } };
+}
+
+impl Compaction {
+    /// The record of a job that is submitted.
+    pub fn new(alloc: Global, id: Ulid, spec: CompactionSpec) -> Compaction
+        ensures { result ≡ fresh_job id spec }
+    {
+        Compaction {
+            id,
+            spec,
+            bytes_processed: 0,
+            status: CompactionStatus::Submitted,
+            worker: None,
+            attempt: 0,
+            source_tables: JobList::new(alloc),
+            ctx: None,
+            output_ssts: OutputList::new(alloc),
+            cut: None,
+        }
+    }
+
+    pub fn id(&self) -> Ulid
+        ensures { result ≡ self.now.id }
+    {
+        self.id
+    }
+
+    pub fn spec(&self) -> &CompactionSpec
+        ensures { result.now ≡ self.now.spec }
+    {
+        &self.spec
+    }
+
+    /// The number of bytes of rows that the job has read so far, as its worker told.
+    pub fn bytes_processed(&self) -> u64
+        ensures { result ≡ self.now.bytes_processed }
+    {
+        self.bytes_processed
+    }
+
+    pub fn status(&self) -> CompactionStatus
+        ensures { result ≡ self.now.status }
+    {
+        self.status
+    }
+
+    /// The tables that the job wrote: those of its first range, then those of the next, and so on.
+    pub fn output_ssts(&self, alloc: Global) -> Result<TableList, SlateDBError>
+        ensures tables { IfOk result (λ tables. tables ≡ flat_map (λ list. list) self.now.outputs) }
+        ensures memory { IsOkUnless result SlateDBError.Memory }
+    {
+        joined(alloc, self.output_ssts.as_slice())
+    }
+
+    /// The tables that the job wrote, range by range. The Rust crate keeps them in one list.
+    pub fn outputs(&self) -> &[TableList]
+        ensures { result.now ≡ self.now.outputs }
+    {
+        self.output_ssts.as_slice()
+    }
+
+    /// The context from which an attempt can go on.
+    pub fn ctx(&self) -> Option<&CompactionContext>
+        ensures { option_copied result ≡ self.now.ctx }
+    {
+        self.ctx.as_ref()
+    }
+
+    /// The ranges of the context. There are none without a context.
+    pub fn subcompactions(&self) -> &[Subcompaction]
+        ensures { result.now ≡ ranges_in self.now.ctx }
+    {
+        match &self.ctx {
+            Some(ctx) => ctx.subcompactions(),
+            None => &[],
+        }
+    }
+
+    /// The worker that has the job.
+    pub fn worker(&self) -> Option<&WorkerSpec>
+        ensures { option_copied result ≡ self.now.worker }
+    {
+        self.worker.as_ref()
+    }
+
+    /// Whether the job is not over.
+    pub fn active(&self) -> bool
+        ensures { result ≡ not (is_finished (status_of self.now.status)) }
+    {
+        self.status.active()
+    }
+
+    /// The number of the newest attempt. It is 0 before the first claim.
+    pub fn attempt(&self) -> u64
+        ensures { result ≡ self.now.attempt }
+    {
+        self.attempt
+    }
+
+    /// The tables that the job's sources had when it was scheduled.
+    pub fn source_tables(&self) -> &[Ulid]
+        ensures { result.now ≡ self.now.source_tables }
+    {
+        self.source_tables.as_slice()
+    }
+
+    /// The cut of the attempt that wrote the tables. It is None before that, and if its worker was
+    /// of release 1.
+    pub fn cut(&self) -> Option<u64>
+        ensures { result ≡ self.now.cut }
+    {
+        self.cut
+    }
+
+    /// Sets the status. A job that fails loses its context.
+    pub fn set_status(&mut self, status: CompactionStatus)
+        ensures { self.new ≡ with_status status self.old }
+    {
+        self.status = status;
+        if status == CompactionStatus::Failed {
+            self.ctx = None;
+        }
+    }
+
+    pub fn set_worker(&mut self, worker: Option<WorkerSpec>)
+        ensures { self.new ≡ record self.old { worker = worker } }
+    {
+        self.worker = worker;
+    }
+
+    pub fn set_bytes_processed(&mut self, bytes: u64)
+        ensures { self.new ≡ record self.old { bytes_processed = bytes } }
+    {
+        self.bytes_processed = bytes;
+    }
+
+    /// Sets or clears the context. A context may only be followed by one that continues it.
+    pub fn set_ctx(&mut self, ctx: Option<CompactionContext>)
+        requires { FollowsContext self.old.ctx ctx }
+        ensures { self.new ≡ record self.old { ctx = ctx } }
+    {
+        self.ctx = ctx;
+    }
+
+    /// Sets the tables that the job wrote, range by range. In the Rust crate they are in one list.
+    pub fn set_output_ssts(&mut self, output_ssts: OutputList)
+        ensures { self.new ≡ record self.old { outputs = output_ssts } }
+    {
+        self.output_ssts = output_ssts;
+    }
+
+    pub fn set_attempt(&mut self, attempt: u64)
+        ensures { self.new ≡ record self.old { attempt = attempt } }
+    {
+        self.attempt = attempt;
+    }
+
+    pub fn set_source_tables(&mut self, tables: JobList)
+        ensures { self.new ≡ record self.old { source_tables = tables } }
+    {
+        self.source_tables = tables;
+    }
+
+    pub fn set_cut(&mut self, cut: Option<u64>)
+        ensures { self.new ≡ record self.old { cut = cut } }
+    {
+        self.cut = cut;
+    }
+
+    /// A copy.
+    pub fn clone(&self) -> Result<Compaction, SlateDBError>
+        ensures copy { IfOk result (λ copy. copy ≡ self.now) }
+        ensures memory { IsOkUnless result SlateDBError.Memory }
+    {
+        Ok(Clone::clone(self)?)
+    }
+}
+
+impl Clone for Compaction {
+    ghost is_clone = { λ job copy. copy ≡ job };
+
+    fn clone(&self) -> Result<Compaction, AllocError> {
+        Ok(Compaction {
+            id: self.id,
+            spec: Clone::clone(&self.spec)?,
+            bytes_processed: self.bytes_processed,
+            status: self.status,
+            worker: Clone::clone(&self.worker)?,
+            attempt: self.attempt,
+            source_tables: Clone::clone(&self.source_tables)?,
+            ctx: Clone::clone(&self.ctx)?,
+            output_ssts: Clone::clone(&self.output_ssts)?,
+            cut: self.cut,
+        })
+    }
+}
+
+impl Copies for Compaction {
+    fn copied(&self) -> Result<Compaction, AllocError> {
+        Clone::clone(self)
+    }
+}
+
+// The tables of all these lists, list by list.
+fn joined(alloc: Global, lists: &[TableList]) -> Result<TableList, SlateDBError>
+    ensures tables { IfOk result (λ tables. tables ≡ flat_map (λ list. list) lists.now) }
+    ensures memory { IsOkUnless result SlateDBError.Memory }
+{
+    let mut tables = Vec::new(alloc);
+    'lists: for list in lists {
+        add_all(&mut tables, list.as_slice())?;
+    }
+    TableList::from_vec(alloc, tables)
+}
+
+/// Prints the spec, then the bytes that were processed, if there are any, and then how many of the
+/// ranges have tables, if there are ranges.
+impl fmt::Display for Compaction {
+    ghost output = { λ job. Some (job_text job) };
+
+    fn fmt<W: fmt::Write>(&self, f: &mut fmt::Formatter<W>) -> fmt::Result {
+        write!(f, "{}", self.spec)?;
+        write_processed(f, self.bytes_processed)?;
+        write_ranges(f, self.subcompactions())
+    }
+}
+
+// Writes how many bytes were processed, if there are any.
+fn write_processed<W: fmt::Write>(f: &mut fmt::Formatter<W>, bytes: u64) -> fmt::Result
+    ensures { DisplaysOnOk W.write_str_gives f.old result (Some (bytes_text bytes)) f.new }
+{
+    if bytes > 0 {
+        write!(f, " ({bytes} processed)")
+    } else {
+        Ok(())
+    }
+}
+
+// Writes how many of the ranges have tables, if there are ranges.
+fn write_ranges<W: fmt::Write>(f: &mut fmt::Formatter<W>, ranges: &[Subcompaction]) -> fmt::Result
+    ensures { DisplaysOnOk W.write_str_gives f.old result (Some (ranges_text ranges.now)) f.new }
+{
+    if ranges.is_empty() {
+        Ok(())
+    } else {
+        write_count(f, with_output(ranges), ranges.len())
+    }
+}
+
+fn write_count<W: fmt::Write>(
+    f: &mut fmt::Formatter<W>,
+    with_output: usize,
+    all: usize,
+) -> fmt::Result
+    ensures { DisplaysOnOk W.write_str_gives f.old result
+        (Some (count_text with_output all)) f.new }
+{
+    write!(f, " [{with_output}/{all}")?;
+    write!(f, " subcompactions with output]")
+}
+
+// How many of the ranges have tables.
+fn with_output(ranges: &[Subcompaction]) -> usize
+    ensures { result ≡ count_by has_output ranges.now }
+{
+    let mut count = 0;
+    'counted: for range in ranges {
+        if has_output(range) {
+            count += 1;
+        }
+    }
+    count
+}
+
+fn has_output(range: &Subcompaction) -> bool
+    ensures { result ≡ has_output range.now }
+{
+    !range.output_ssts().is_empty()
+}
