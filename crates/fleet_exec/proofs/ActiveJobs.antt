@@ -1,17 +1,14 @@
 -- Active jobs that are started, ended and changed, as they are looked up.
-use Rattle.std.proofs.Common.{sym, length, ◌≡◌, refl, ◌∙◌, ap, subst, ℕ, suc, ◌+◌, List, [], ◌∷◌, ◌++◌, map, Bool, true, false, cond, not, arith}
+use Rattle.std.proofs.Common.{sym, length, ◌≡◌, refl, ◌∙◌, ap, subst, ℕ, suc, ◌+◌, List, [], ◌∷◌, ◌++◌, Bool, true, false, cond, not, arith}
 use Rattle.std.specs.Prelude.{◌≢◌, ◌==◌, slice_get, slice_set, filter, is_some, Option, Some, None, option_map, IfSome, IsNone, IsSomeAnd, Result, Ok, Err, OnOk, OnErr}
 use Rattle.std.specs.List.{AllByRecursion, prefix_len}
 use Rattle.std.proofs.lemmas.Bool.{eqb-true, eqb-false, eq-eqb}
 use Rattle.row_model.specs.Lists.{Pairs}
 use Rattle.fleet_exec.specs.ExecutorParts.{ActiveParts}
-use Rattle.fleet_exec.specs.Executors.{AreDistinct, OthersStay, job_with}
-
-abbrev ids : List ActiveParts → List ℕ
-ids jobs = map (λ job. job.args.id) jobs
+use Rattle.fleet_exec.specs.Executors.{AreDistinct, IsChanged, OthersStay, job_ids, job_with}
 
 abbrev Avoids : ℕ → List ActiveParts → Type 0
-Avoids id jobs = AllByRecursion (λ other. id ≢ other) (ids jobs)
+Avoids id jobs = AllByRecursion (λ other. id ≢ other) (job_ids jobs)
 
 avoids_from_none : (id : ℕ) (jobs : List ActiveParts) → job_with id jobs ≡ None → Avoids id jobs
 avoids_from_none id [] none = tt
@@ -153,13 +150,6 @@ found_at id (job ∷ jobs) = by (job.args.id == id) (found_at id jobs)
     by true rest = refl
     by false rest = let e : 1 + place_in id jobs ≡ suc (place_in id jobs) = omega arith in ap (slice_get (job ∷ jobs)) e ∙ rest
 
--- The job with this id is changed and keeps its id, and the other jobs stay.
-pub record IsChanged (id : ℕ) (change : ActiveParts → ActiveParts) (old new : List ActiveParts) : Type 0 where
-  pub found : job_with id new ≡ option_map change (job_with id old)
-  pub others : OthersStay id old new
-  pub count : length new ≡ length old
-  pub same : ids new ≡ ids old
-
 pub is_changed : (change : ActiveParts → ActiveParts) → ((job : ActiveParts) → (change job).args.id ≡ job.args.id) → (id : ℕ) (jobs : List ActiveParts) (job : ActiveParts)
     → job_with id jobs ≡ Some job → IsChanged id change jobs (slice_set jobs (place_in id jobs) (change job))
 is_changed change keeps id [] job found = absurd (cc found)
@@ -181,7 +171,7 @@ is_changed change keeps id (first ∷ jobs) job found = by (first.args.id == id)
               ap (λ c. cond c (Some (change job)) (job_with other jobs)) (apart (change job).args.id other (λ k. differs (sym k ∙ own ∙ its)))
               ∙ sym (ap (λ c. cond c (Some first) (job_with other jobs)) (apart first.args.id other (λ k. differs (sym k ∙ its))));
           count = refl;
-          same = ap (λ n. n ∷ ids jobs) own;
+          same = ap (λ n. n ∷ job_ids jobs) own;
         }
     by false e is rest =
         let later = rest is in
@@ -198,21 +188,18 @@ is_changed change keeps id (first ∷ jobs) job found = by (first.args.id == id)
           same = ap (λ ns. first.args.id ∷ ns) later.same;
         }
 
-pub at_place : (id place : ℕ) (old jobs : List ActiveParts) → jobs ≡ old → place ≡ place_in id jobs → slice_get jobs place ≡ job_with id old
-at_place id place old jobs is at = ap (slice_get jobs) at ∙ found_at id jobs ∙ ap (job_with id) is
+pub at_place : (id place : ℕ) (jobs : List ActiveParts) → place ≡ place_in id jobs → slice_get jobs place ≡ job_with id jobs
+at_place id place jobs at = ap (slice_get jobs) at ∙ found_at id jobs
 
 -- The job at the place that is looked up is changed.
-pub is_changed_at : (change : ActiveParts → ActiveParts) → ((job : ActiveParts) → (change job).args.id ≡ job.args.id) → (P : ActiveParts → Type 0) (id place : ℕ) (old jobs new : List ActiveParts)
-    → jobs ≡ old → place ≡ place_in id jobs → IsSomeAnd (job_with id old) P → IfSome (slice_get jobs place) (λ job. new ≡ slice_set jobs place (change job)) → IsChanged id change old new
-is_changed_at change keeps P id place old jobs new is at there set =
-    by (job_with id old) refl there (subst (λ o. IfSome o (λ job. new ≡ slice_set jobs place (change job))) (at_place id place old jobs is at) set)
+pub is_changed_at : (change : ActiveParts → ActiveParts) → ((job : ActiveParts) → (change job).args.id ≡ job.args.id) → (P : ActiveParts → Type 0) (id place : ℕ) (jobs new : List ActiveParts)
+    → place ≡ place_in id jobs → IsSomeAnd (job_with id jobs) P → IfSome (slice_get jobs place) (λ job. new ≡ slice_set jobs place (change job)) → IsChanged id change jobs new
+is_changed_at change keeps P id place jobs new at there set =
+    by (job_with id jobs) refl there (subst (λ o. IfSome o (λ job. new ≡ slice_set jobs place (change job))) (at_place id place jobs at) set)
   where
-    by : (o : Option ActiveParts) → job_with id old ≡ o → IsSomeAnd o P → IfSome o (λ job. new ≡ slice_set jobs place (change job)) → IsChanged id change old new
+    by : (o : Option ActiveParts) → job_with id jobs ≡ o → IsSomeAnd o P → IfSome o (λ job. new ≡ slice_set jobs place (change job)) → IsChanged id change jobs new
     by None e some made = absurd some
-    by (Some job) e some made =
-        let known = is_changed change keeps id jobs job (ap (job_with id) is ∙ e) in
-        subst (λ js. IsChanged id change js new) is (subst (IsChanged id change jobs) (sym (made ∙ ap (λ n. slice_set jobs n (change job)) at)) known)
+    by (Some job) e some made = subst (IsChanged id change jobs) (sym (made ∙ ap (λ n. slice_set jobs n (change job)) at)) (is_changed change keeps id jobs job e)
 
-pub distinct_after : {id : ℕ} {change : ActiveParts → ActiveParts} → (jobs old new : List ActiveParts) → jobs ≡ old → IsChanged id change old new → AreDistinct jobs → AreDistinct new
-distinct_after jobs old new is changed distinct =
-    subst (λ numbers. Pairs (λ a b. a ≢ b) numbers) (sym (changed.same ∙ sym (ap ids is))) distinct
+pub distinct_after : {id : ℕ} {change : ActiveParts → ActiveParts} → (old new : List ActiveParts) → IsChanged id change old new → AreDistinct old → AreDistinct new
+distinct_after old new changed distinct = subst (λ numbers. Pairs (λ a b. a ≢ b) numbers) (sym changed.same) distinct

@@ -1,5 +1,5 @@
 -- The active jobs of an executor, and how its calls change them.
-use Rattle.std.specs.Prelude.{◌≡◌, ◌≢◌, ℕ, ◌-◌, ◌≤◌, ◌==◌, true, List, [], ◌∷◌, ◌++◌, find, length, map, max, slice_get, slice_set, Option, Some, IfNone, IfSome}
+use Rattle.std.specs.Prelude.{◌≡◌, ◌≢◌, ℕ, ◌-◌, ◌≤◌, ◌==◌, true, List, [], ◌∷◌, ◌++◌, find, length, map, max, slice_get, slice_set, option_map, Option, Some, IfNone, IfSome}
 use Rattle.std.specs.List.{AllByRecursion}
 use Rattle.std.specs.Option.{option_map_or}
 use Rattle.row_model.specs.Lists.{Pairs}
@@ -20,6 +20,9 @@ use Rattle.fleet_jobs.specs.Contexts.{context_with}
 use Rattle.fleet_exec.specs.ExecutorParts.{ActiveParts, ExecutorParts}
 use Rattle.fleet_exec.specs.declared.args.StartCompactionJobArgs.{StartCompactionJobArgs}
 
+abbrev pub job_ids : List ActiveParts → List ℕ
+job_ids jobs = map (λ job. job.args.id) jobs
+
 -- The active job with this id, if there is one.
 abbrev pub job_with : ℕ → List ActiveParts → Option ActiveParts
 job_with id jobs = find (λ job. job.args.id == id) jobs
@@ -28,9 +31,16 @@ job_with id jobs = find (λ job. job.args.id == id) jobs
 abbrev pub OthersStay : ℕ → List ActiveParts → List ActiveParts → Type 0
 OthersStay id old new = (other : ℕ) → other ≢ id → job_with other new ≡ job_with other old
 
+-- The job with this id is changed so, and each other job stays. Ids and their order stay too.
+pub record IsChanged (id : ℕ) (change : ActiveParts → ActiveParts) (old new : List ActiveParts) : Type 0 where
+  pub found : job_with id new ≡ option_map change (job_with id old)
+  pub others : OthersStay id old new
+  pub count : length new ≡ length old
+  pub same : job_ids new ≡ job_ids old
+
 -- No two jobs have one id.
 abbrev pub AreDistinct : List ActiveParts → Type 0
-AreDistinct jobs = Pairs (λ a b. a ≢ b) (map (λ job. job.args.id) jobs)
+AreDistinct jobs = Pairs (λ a b. a ≢ b) (job_ids jobs)
 
 -- No two active jobs have one id, and a stopped executor has no job.
 pub record IsSound (executor : ExecutorParts) : Type 0 where
@@ -43,10 +53,12 @@ pub record IsSound (executor : ExecutorParts) : Type 0 where
 abbrev pub settings_with : ℕ → StartCompactionJobArgs → Settings
 settings_with floor args = record { floor = floor; tick = args.compaction_clock_tick; last_run = args.is_dest_last_run; cut = args.cut }
 
--- The ranges are a plan for these tables, with at most so many ranges.
+-- The ranges are planned for these tables: they are cut at the tables' anchors and, if the tables' rows are
+-- known, they are the ranges that the model plans for them. There are at most so many, where 0 counts as 1.
+-- They follow one another, cut at rising edges, and each key lies in exactly one of them.
 pub record ArePlanned (most : ℕ) (views : List View) (ranges : List Range) : Type 0 where
   pub anchors : ranges ≡ planned_of most views
-  pub rows : (rows : View → List Row) → AreOfRows rows views → ranges ≡ planned most (map rows views)
+  pub rows : (rows_of : View → List Row) → AreOfRows rows_of views → ranges ≡ planned most (map rows_of views)
   pub few : length ranges ≤ max most 1
   pub rising : AreCut ranges
   pub every_key : HoldEveryKeyOnce ranges

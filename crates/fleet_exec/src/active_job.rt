@@ -29,8 +29,8 @@ impl Model for ActiveJob {
 }
 
 impl ActiveJob {
-    /// A job that starts. Its context is that of the arguments. If there is none, one is planned
-    /// with at most `max_subcompactions` ranges.
+    /// A job that starts. Its context is a copy of the one in the arguments. If there is none, one
+    /// is planned with at most `max_subcompactions` ranges.
     pub(crate) fn start(
         alloc: Global,
         args: StartCompactionJobArgs,
@@ -86,7 +86,7 @@ impl ActiveJob {
     }
 }
 
-// A list of copies of these tables, and of one more table at its end.
+// A list of copies of these tables, with one more table at its end.
 fn longer(
     alloc: Global,
     tables: &[SsTableHandle],

@@ -4,7 +4,7 @@ ghost use Rattle.std.specs.Prelude.{◌≡◌, ◌↔◌, ◌+◌, ◌≤◌, �
 ghost use Rattle.std.specs.Bool.{OnFalse, OnTrue};
 ghost use Rattle.std.specs.List.{prefix_len};
 ghost use Rattle.std.specs.Option.{ForNone, option_copied};
-ghost use Rattle.fleet_exec.specs.Executors.{AreDistinct, OthersStay, StartsAs, job_with, with_table};
+ghost use Rattle.fleet_exec.specs.Executors.{AreDistinct, IsChanged, OthersStay, StartsAs, job_with, with_table};
 
 use crate::StartCompactionJobArgs;
 use crate::active_job::ActiveJob;
@@ -45,7 +45,8 @@ impl Executor {
     }
 
     /// Starts a job, unless `stop` was called. A job without a context gets one, in which the keys
-    /// of its tables are planned into at most `max_subcompactions` ranges, where 0 counts as 1.
+    /// of its tables are planned into at most `max_subcompactions` ranges, where 0 counts as 1. If
+    /// out of memory, the arguments are dropped.
     pub fn start_compaction_job(
         &mut self,
         alloc: Global,
@@ -98,7 +99,7 @@ impl Executor {
     pub fn len(&self) -> u64
         ensures count { result ≡ length self.now.jobs }
         ensures distinct { AreDistinct self.now.jobs }
-        ensures stopped { OnTrue self.now.stopped (result ≡ 0) }
+        ensures none_after_stop { OnTrue self.now.stopped (result ≡ 0) }
     {
         self.jobs.len()
     }
@@ -153,8 +154,7 @@ impl Executor {
         ensures err { OnErr result (self.new ≡ self.old) }
         ensures memory { IsOkUnless result SlateDBError.Memory }
     {
-        let place = place_of(self.jobs.as_slice(), id);
-        add_table_at(alloc, &mut self.jobs, place, range, table)
+        add_table_to(alloc, &mut self.jobs, id, range, table)
     }
 }
 
@@ -178,6 +178,25 @@ fn end_job(jobs: &mut ListOf<ActiveJob>, id: Ulid)
     let mut items = jobs.take().into_vec();
     items.retain(|job| job.id() != id);
     *jobs = ListOf::from_vec(items);
+}
+
+// Adds a table to a range of the job with this id.
+fn add_table_to(
+    alloc: Global,
+    jobs: &mut ListOf<ActiveJob>,
+    id: Ulid,
+    range: u32,
+    table: SsTableHandle,
+) -> Result<(), SlateDBError>
+    requires counted { 1 ≤ range }
+    requires active { IsSomeAnd (job_with id jobs.old)
+        (λ job. range ≤ length job.ctx.ranges) }
+    ensures ok { OnOk result (IsChanged id (with_table range table) jobs.old jobs.new) }
+    ensures err { OnErr result (jobs.new ≡ jobs.old) }
+    ensures memory { IsOkUnless result SlateDBError.Memory }
+{
+    let place = place_of(jobs.as_slice(), id);
+    add_table_at(alloc, jobs, place, range, table)
 }
 
 // Adds a table to a range of the job at a place.
