@@ -1,0 +1,12 @@
+pub mod Lists
+pub mod Names
+pub mod Stretches
+pub mod Series
+pub mod Trees
+pub mod Picks
+pub mod Holding
+pub mod Passes
+pub mod Begins
+pub mod Gate
+pub mod Flushes
+pub mod Stores

@@ -1,0 +1,39 @@
+-- The proposals of the size-tiered scheduler pass the gate of submitted jobs.
+use Rattle.std.specs.Prelude.{◌≡◌, ◌≢◌, ℕ, true, false, IsTrue, List, [], ◌∷◌, ◌++◌, Some, None, Contains}
+use Rattle.std.specs.List.{AllByRecursion}
+use Rattle.row_model.specs.Lists.{Pairs}
+use Rattle.fleet_model.specs.Gates.{reserves_nodes, submit_gate}
+use Rattle.fleet_model.specs.Jobs.{Job, Jobs, JobSpec, nodes_of}
+use Rattle.fleet_model.specs.Scheduler.{View}
+use Rattle.fleet_model.specs.Sources.{is_apart}
+use Rattle.sched_model.specs.Series.{TieredOptions, are_tiered}
+use Rattle.sched_model.specs.SizeTiered.{tiered_proposals, tiered_validate}
+use Rattle.sched_laws.specs.Views.{ViewStands}
+
+-- The destination is not 4,294,967,295. The gate refuses each job with this destination.
+abbrev pub HasFreeId : JobSpec → Type 0
+HasFreeId spec = spec.destination ≢ Some 4294967295
+
+-- The nodes of both jobs are apart, unless the destination of one of them is 4,294,967,295.
+abbrev pub AreApart : JobSpec → JobSpec → Type 0
+AreApart a b = HasFreeId a → HasFreeId b → IsTrue (is_apart (nodes_of a) (nodes_of b))
+
+-- No two proposals hold the same node.
+abbrev pub ProposalsAreApart : Type 0
+ProposalsAreApart = (o : TieredOptions) → are_tiered o ≡ true → (most : ℕ) (view : View) → ViewStands view → Pairs AreApart (tiered_proposals o most view)
+
+-- A job that may be there when the job with this id is opened: that job itself, a job that holds no nodes,
+-- a known job, or a job that was opened for one of the other proposals.
+pub data MayBeThere (known : Jobs) (others : List JobSpec) (id : ℕ) (job : Job) : Type 0 where
+  Itself : job.id ≡ id → MayBeThere known others id job
+  HoldsNothing : reserves_nodes job ≡ false → MayBeThere known others id job
+  Known : Contains known job → MayBeThere known others id job
+  Opened : Contains others job.spec → HasFreeId job.spec → MayBeThere known others id job
+
+-- A job for a proposal passes the gate of submitted jobs, unless its destination is 4,294,967,295. It passes
+-- beside the jobs of the view, and beside jobs that were opened for the other proposals.
+abbrev pub ProposalsPassTheGate : Type 0
+ProposalsPassTheGate = (o : TieredOptions) → are_tiered o ≡ true → (most : ℕ) (view : View) → ViewStands view
+    → (before after : List JobSpec) (job : Job) → tiered_proposals o most view ≡ before ++ job.spec ∷ after → HasFreeId job.spec
+    → (jobs : Jobs) → AllByRecursion (MayBeThere view.jobs (before ++ after) job.id) jobs
+    → submit_gate view.manifest.trees jobs [] (tiered_validate view) job ≡ None

@@ -1,0 +1,31 @@
+//! Laws on the size-tiered scheduler. Each function has an empty body, and its clause states a law
+//! about the jobs that the scheduler proposes. The laws rest on what the fleet's invariant says of
+//! trees and jobs, and not on the scheduler's checks alone.
+#![tactic(auto)]
+
+ghost use Rattle.row_model.specs.Fold.{Operator};
+ghost use Rattle.sched_laws.specs.Proposals.{ProposalsAreApart, ProposalsPassTheGate};
+ghost use Rattle.sched_laws.specs.Stores.{StoresAcceptProposals, ViewsOfStoresStand};
+
+/// No two proposals hold the same node, unless the destination of one of them is 4,294,967,295.
+pub fn proposals_are_apart()
+    ensures { ProposalsAreApart }
+{}
+
+/// A job for a proposal passes the gate of submitted jobs, unless its destination is 4,294,967,295.
+/// It passes beside the jobs of the view, and beside jobs that were opened for the other proposals.
+pub fn proposals_pass_the_gate()
+    ensures { ProposalsPassTheGate }
+{}
+
+/// The view of a store that meets the invariant is as the laws on views ask, if no Compacted job
+/// waits whose join took effect.
+pub fn views_of_stores_stand()
+    ensures { (merge : Operator) → ViewsOfStoresStand merge }
+{}
+
+/// A job for a proposal on the view of such a store passes the gate of submitted jobs, unless its
+/// destination is 4,294,967,295.
+pub fn stores_accept_proposals()
+    ensures { (merge : Operator) → StoresAcceptProposals merge }
+{}
