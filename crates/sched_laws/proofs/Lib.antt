@@ -10,3 +10,4 @@ pub mod Begins
 pub mod Gate
 pub mod Flushes
 pub mod Stores
+pub mod Greatest

@@ -1,3 +1,4 @@
 pub mod Views
 pub mod Proposals
 pub mod Stores
+pub mod Greatest

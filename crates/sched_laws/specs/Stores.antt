@@ -17,8 +17,9 @@ use Rattle.sched_laws.specs.Views.{ViewStands}
 abbrev pub view_of : Store → Records → View
 view_of store records = shown store.tables store.manifest records records.jobs
 
--- The store meets its invariant and has these records. The sources of each Compacted job are as those of a
--- Scheduled job, so no such job waits whose join took effect.
+-- The store meets its invariant and has these records. The sources of each Compacted job are as
+-- `SourcesStand` says. The invariant alone allows a Compacted job whose sources are gone, since its join
+-- took effect.
 pub record StoreStands (merge : Operator) (store : Store) (records : Records) : Type 0 where
   pub invariant : StoreInvariant merge store
   pub stored : store.records ≡ Some records

@@ -4,6 +4,7 @@
 #![tactic(auto)]
 
 ghost use Rattle.row_model.specs.Fold.{Operator};
+ghost use Rattle.sched_laws.specs.Greatest.{GreatestIdIsProposed, GreatestIdIsRefused};
 ghost use Rattle.sched_laws.specs.Proposals.{ProposalsAreApart, ProposalsPassTheGate};
 ghost use Rattle.sched_laws.specs.Stores.{StoresAcceptProposals, ViewsOfStoresStand};
 
@@ -18,8 +19,8 @@ pub fn proposals_pass_the_gate()
     ensures { ProposalsPassTheGate }
 {}
 
-/// The view of a store that meets the invariant is as the laws on views ask, if no Compacted job
-/// waits whose join took effect.
+/// The view of a store that meets the invariant is as the laws on views ask, if the sources of each
+/// Compacted job still stand in its tree.
 pub fn views_of_stores_stand()
     ensures { (merge : Operator) → ViewsOfStoresStand merge }
 {}
@@ -28,4 +29,11 @@ pub fn views_of_stores_stand()
 /// destination is 4,294,967,295.
 pub fn stores_accept_proposals()
     ensures { (merge : Operator) → StoresAcceptProposals merge }
+{}
+
+/// The gate refuses each job whose destination is 4,294,967,295. The scheduler may propose such a
+/// job, so the laws except it.
+pub fn greatest_id_is_refused()
+    ensures refused { GreatestIdIsRefused }
+    ensures proposed { GreatestIdIsProposed }
 {}
