@@ -6,7 +6,7 @@ use Rattle.row_model.specs.Lists.{Pairs}
 use Rattle.fleet_model.specs.Gates.{are_distinct, first_failing, is_free, is_nonempty, names_older, reserves_nodes, submit_gate, submitted_rules}
 use Rattle.fleet_model.specs.Jobs.{Compacted, Completed, Failed, Job, Jobs, JobSpec, Running, Scheduled, Status, Submitted, contains, is_active, is_drain, is_finished, nodes_of, status_eq}
 use Rattle.fleet_model.specs.Levels.{fresh_run_id}
-use Rattle.fleet_model.specs.Nodes.{NodeName, Tree, names, segment_at, tree_at}
+use Rattle.fleet_model.specs.Nodes.{NodeName, Tree, Trees, names, segment_at, tree_at}
 use Rattle.fleet_model.specs.Scheduler.{View}
 use Rattle.fleet_model.specs.Sources.{is_apart, is_whole_stretch, older_nodes, reaches_oldest}
 use Rattle.sched_model.specs.Series.{TieredOptions, are_tiered}
@@ -144,22 +144,26 @@ module _ (view : View) (before after : List JobSpec) (spec : JobSpec) (fit : All
       (λ s away free. apart_back (nodes_of s) (nodes_of spec) (away free small)) before (pairs_before AreApart before spec after fit.apart))
       (all_weaken (AreApart spec) (λ s. HasFreeId s → is_apart (nodes_of spec) (nodes_of s) ≡ true) (λ s away free. away small free) after (pairs_after AreApart before spec after fit.apart))
 
+-- The test of the scheduler, given the trees that it is shown.
+abbrev accepted_in : Trees → JobSpec → Bool
+accepted_in trees spec = is_drain spec || (is_some (segment_at spec.segment trees) && is_stretch (tree_at spec.segment trees) spec.sources && agree (lowest_run spec.sources) spec.destination)
+
 -- A job for a proposal passes the gate beside the known jobs, if it is apart from those that hold nodes.
 pub passes_beside : (view : View) (before after : List JobSpec) (job : Job) → AllFit view (before ++ job.spec ∷ after) → HasFreeId job.spec
     → (known : Jobs) → (IsApartFrom view.jobs job.spec → IsApartFrom known job.spec) → (jobs : Jobs) → AllByRecursion (MayBeThere known (before ++ after) job.id) jobs
-    → submit_gate view.manifest.trees jobs [] (tiered_validate view) job ≡ None
-passes_beside view before after job fit small known same jobs there =
+    → (later : View) → later.manifest.trees ≡ view.manifest.trees → submit_gate later.manifest.trees jobs [] (tiered_validate later) job ≡ None
+passes_beside view before after job fit small known same jobs there later trees =
     let fits = this_fits view before after job.spec fit small in
-    fitting_passes view job jobs fits small
-    (all_are_free known (before ++ after) job (same (fits.apart small)) (apart_from_others view before after job.spec fit small) jobs there)
+    let free = all_are_free known (before ++ after) job (same (fits.apart small)) (apart_from_others view before after job.spec fit small) jobs there in
+    subst (λ shown. submit_gate shown jobs [] (accepted_in shown) job ≡ None) (sym trees) (fitting_passes view job jobs fits small free)
 
 pub proposals_pass : (o : TieredOptions) → are_tiered o ≡ true → (most : ℕ) (view : View) → ViewStands view
     → (before after : List JobSpec) (job : Job) → tiered_proposals o most view ≡ before ++ job.spec ∷ after → HasFreeId job.spec
     → (jobs : Jobs) → AllByRecursion (MayBeThere view.jobs (before ++ after) job.id) jobs
-    → submit_gate view.manifest.trees jobs [] (tiered_validate view) job ≡ None
-proposals_pass o tiered most view stands before after job is small jobs there =
+    → (later : View) → later.manifest.trees ≡ view.manifest.trees → submit_gate later.manifest.trees jobs [] (tiered_validate later) job ≡ None
+proposals_pass o tiered most view stands before after job is small jobs there later trees =
     let fit = subst (AllFit view) is (proposals_fit o tiered most view stands) in
-    passes_beside view before after job fit small view.jobs (λ apart. apart) jobs there
+    passes_beside view before after job fit small view.jobs (λ apart. apart) jobs there later trees
 
 -- ---- finished jobs
 

@@ -8,12 +8,13 @@ use Rattle.fleet_model.specs.Gates.{are_distinct, reserves_nodes, submit_gate}
 use Rattle.fleet_model.specs.Jobs.{Compacted, Job, Jobs, JobSpec, Running, Scheduled, has_status, is_active}
 use Rattle.fleet_model.specs.JobsFit.{OpenedStands, SourcesStand}
 use Rattle.fleet_model.specs.Nodes.{Segment, Trees, names}
+use Rattle.fleet_model.specs.Scheduler.{View}
 use Rattle.fleet_model.specs.Store.{Records, Store, WerePut, jobs_in}
 use Rattle.fleet_model.specs.TreesFit.{IsTree, StandsBefore}
 use Rattle.sched_model.specs.Series.{TieredOptions, are_tiered}
 use Rattle.sched_model.specs.SizeTiered.{tiered_proposals, tiered_validate}
 use Rattle.sched_laws.specs.Proposals.{HasFreeId, MayBeThere}
-use Rattle.sched_laws.specs.Stores.{StoreStands, view_of}
+use Rattle.sched_laws.specs.Stores.{StoreStands, store_view}
 use Rattle.sched_laws.specs.Views.{ViewStands}
 use Rattle.sched_laws.proofs.Flushes.{AreOwn, IsOwn, stored_are_own, tree_named_once}
 use Rattle.sched_laws.proofs.Gate.{AllFit, apart_from_all, passes_beside, proposals_fit}
@@ -50,7 +51,7 @@ all_named_once store once (s ∷ trees) each own put = (once s each.0 own.0 put.
 
 -- ---- the laws
 
-pub views_stand : (merge : Operator) (store : Store) (records : Records) → StoreStands merge store records → ViewStands (view_of store records)
+pub views_stand : (merge : Operator) (store : Store) (records : Records) → StoreStands merge store records → ViewStands (store_view store records)
 views_stand merge store records stands =
     let trees = store.manifest.trees in
     let opened : AllByRecursion (OpenedStands store) records.jobs = subst (λ stored. AllByRecursion (OpenedStands store) (jobs_in stored)) stands.stored stands.invariant.sources in
@@ -66,10 +67,10 @@ views_stand merge store records stands =
 
 pub stores_accept : (merge : Operator) (store : Store) (records : Records) → StoreStands merge store records
     → (o : TieredOptions) → are_tiered o ≡ true → (most : ℕ)
-    → (before after : List JobSpec) (job : Job) → tiered_proposals o most (view_of store records) ≡ before ++ job.spec ∷ after → HasFreeId job.spec
+    → (before after : List JobSpec) (job : Job) → tiered_proposals o most (store_view store records) ≡ before ++ job.spec ∷ after → HasFreeId job.spec
     → (jobs : Jobs) → AllByRecursion (MayBeThere records.jobs (before ++ after) job.id) jobs
-    → submit_gate store.manifest.trees jobs [] (tiered_validate (view_of store records)) job ≡ None
-stores_accept merge store records stands o tiered most before after job is small jobs there =
-    let view = view_of store records in
+    → (later : View) → later.manifest.trees ≡ store.manifest.trees → submit_gate later.manifest.trees jobs [] (tiered_validate later) job ≡ None
+stores_accept merge store records stands o tiered most before after job is small jobs there later trees =
+    let view = store_view store records in
     let fit = subst (AllFit view) is (proposals_fit o tiered most view (views_stand merge store records stands)) in
-    passes_beside view before after job fit small records.jobs (apart_from_all job.spec records.jobs) jobs there
+    passes_beside view before after job fit small records.jobs (apart_from_all job.spec records.jobs) jobs there later trees

@@ -31,9 +31,11 @@ pub data MayBeThere (known : Jobs) (others : List JobSpec) (id : ℕ) (job : Job
   Opened : Contains others job.spec → HasFreeId job.spec → MayBeThere known others id job
 
 -- A job for a proposal passes the gate of submitted jobs, unless its destination is 4,294,967,295. It passes
--- beside the jobs of the view, and beside jobs that were opened for the other proposals.
+-- beside the jobs of the view, and beside jobs that were opened for the other proposals. The view that the
+-- scheduler is shown then has the same trees.
 abbrev pub ProposalsPassTheGate : Type 0
 ProposalsPassTheGate = (o : TieredOptions) → are_tiered o ≡ true → (most : ℕ) (view : View) → ViewStands view
     → (before after : List JobSpec) (job : Job) → tiered_proposals o most view ≡ before ++ job.spec ∷ after → HasFreeId job.spec
     → (jobs : Jobs) → AllByRecursion (MayBeThere view.jobs (before ++ after) job.id) jobs
-    → submit_gate view.manifest.trees jobs [] (tiered_validate view) job ≡ None
+    → (later : View) → later.manifest.trees ≡ view.manifest.trees
+    → submit_gate later.manifest.trees jobs [] (tiered_validate later) job ≡ None

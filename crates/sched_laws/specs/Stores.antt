@@ -14,8 +14,8 @@ use Rattle.sched_laws.specs.Proposals.{HasFreeId, MayBeThere}
 use Rattle.sched_laws.specs.Views.{ViewStands}
 
 -- The view of a store with these records.
-abbrev pub view_of : Store → Records → View
-view_of store records = shown store.tables store.manifest records records.jobs
+abbrev pub store_view : Store → Records → View
+store_view store records = shown store.tables store.manifest records records.jobs
 
 -- The store meets its invariant and has these records. The sources of each Compacted job are as
 -- `SourcesStand` says. The invariant alone allows a Compacted job whose sources are gone, since its join
@@ -27,13 +27,15 @@ pub record StoreStands (merge : Operator) (store : Store) (records : Records) : 
 
 -- The view of a store that stands is as the laws on views ask.
 abbrev pub ViewsOfStoresStand : Operator → Type 0
-ViewsOfStoresStand merge = (store : Store) (records : Records) → StoreStands merge store records → ViewStands (view_of store records)
+ViewsOfStoresStand merge = (store : Store) (records : Records) → StoreStands merge store records → ViewStands (store_view store records)
 
 -- A job for a proposal on the view of a store passes the gate of submitted jobs, unless its destination is
 -- 4,294,967,295. It passes beside the stored jobs, and beside jobs that were opened for the other proposals.
+-- The view that the scheduler is shown then has the same trees.
 abbrev pub StoresAcceptProposals : Operator → Type 0
 StoresAcceptProposals merge = (store : Store) (records : Records) → StoreStands merge store records
     → (o : TieredOptions) → are_tiered o ≡ true → (most : ℕ)
-    → (before after : List JobSpec) (job : Job) → tiered_proposals o most (view_of store records) ≡ before ++ job.spec ∷ after → HasFreeId job.spec
+    → (before after : List JobSpec) (job : Job) → tiered_proposals o most (store_view store records) ≡ before ++ job.spec ∷ after → HasFreeId job.spec
     → (jobs : Jobs) → AllByRecursion (MayBeThere records.jobs (before ++ after) job.id) jobs
-    → submit_gate store.manifest.trees jobs [] (tiered_validate (view_of store records)) job ≡ None
+    → (later : View) → later.manifest.trees ≡ store.manifest.trees
+    → submit_gate later.manifest.trees jobs [] (tiered_validate later) job ≡ None
