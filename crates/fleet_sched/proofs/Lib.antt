@@ -8,5 +8,4 @@ pub mod Passes
 pub mod Stretches
 pub mod SizedViews
 pub mod Proposals
-pub mod Proposed
 pub mod Indexed

@@ -6,5 +6,4 @@ pub mod TieredParts
 pub mod Options
 pub mod Ids
 pub mod Stretches
-pub mod Laws
 pub mod Indexed

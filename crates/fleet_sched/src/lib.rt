@@ -3,7 +3,6 @@
 #![tactic(auto)]
 
 mod defaults;
-mod laws;
 mod node_set;
 mod options;
 mod picking;
@@ -17,7 +16,6 @@ mod supplier;
 mod validation;
 
 pub use defaults::{default_generate, default_validate};
-pub use laws::{proposals_are_few, proposals_make_runs};
 pub use options::{CompactorOptions, SizeTieredCompactionSchedulerOptions};
 pub use scheduler::CompactionScheduler;
 pub use size_tiered::SizeTieredCompactionScheduler;

@@ -6,6 +6,7 @@ pub mod Trees
 pub mod Picks
 pub mod Holding
 pub mod Passes
+pub mod Proposed
 pub mod Begins
 pub mod Gate
 pub mod Flushes

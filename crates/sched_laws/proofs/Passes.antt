@@ -50,6 +50,11 @@ pub record IsReady (trees : Trees) (jobs : Jobs) (picks : List JobSpec) (t : Pla
 abbrev pub Differ : Planned → Planned → Type 0
 Differ a b = a.tree.segment ≢ b.tree.segment
 
+-- The state after a pass, where the test of the slots is given.
+abbrev pub passed : TieredOptions → ℕ → Bool → Planned → List Planned → Picking → List Planned × Picking
+passed o slots b t left p =
+    cond b (with_pick (next_pick o p.fresh t) t ∷ (pass o slots left (picked_in o t p)).0, (pass o slots left (picked_in o t p)).1) (t ∷ left, p)
+
 module _ (o : TieredOptions) (tiered : are_tiered o ≡ true) (slots : ℕ) (trees : Trees) (shared : Pairs NoneShared trees) (jobs : Jobs) where
   -- ---- one pick
 
@@ -135,17 +140,12 @@ module _ (o : TieredOptions) (tiered : are_tiered o ≡ true) (slots : ℕ) (tre
 
   -- ---- one pass
 
-  -- The state after a pass, where the test of the slots is given.
-  abbrev passed : Bool → Planned → List Planned → Picking → List Planned × Picking
-  passed b t left p =
-      cond b (with_pick (next_pick o p.fresh t) t ∷ (pass o slots left (picked_in o t p)).0, (pass o slots left (picked_in o t p)).1) (t ∷ left, p)
-
   -- A pass leaves the nodes of the trees.
   same_trees : (P : SizedTree → Type 0) (left : List Planned) (p : Picking) → AllByRecursion (λ t. P t.tree) left → AllByRecursion (λ t. P t.tree) (pass o slots left p).0
   same_trees P [] p all = tt
   same_trees P (t ∷ left) p all = by (nat_lt (length p.picks) slots) (same_trees P left (picked_in o t p) all.1)
     where
-      by : (b : Bool) → AllByRecursion (λ u. P u.tree) (pass o slots left (picked_in o t p)).0 → AllByRecursion (λ u. P u.tree) (passed b t left p).0
+      by : (b : Bool) → AllByRecursion (λ u. P u.tree) (pass o slots left (picked_in o t p)).0 → AllByRecursion (λ u. P u.tree) (passed o slots b t left p).0
       by true later = (all.0, later)
       by false later = all
 
@@ -153,7 +153,7 @@ module _ (o : TieredOptions) (tiered : are_tiered o ≡ true) (slots : ℕ) (tre
   still_differ [] p differ = tt
   still_differ (t ∷ left) p differ = by (nat_lt (length p.picks) slots) (still_differ left (picked_in o t p) differ.1)
     where
-      by : (b : Bool) → Pairs Differ (pass o slots left (picked_in o t p)).0 → Pairs Differ (passed b t left p).0
+      by : (b : Bool) → Pairs Differ (pass o slots left (picked_in o t p)).0 → Pairs Differ (passed o slots b t left p).0
       by true later = (same_trees (λ tree. t.tree.segment ≢ tree.segment) left (picked_in o t p) differ.0, later)
       by false later = differ
 
@@ -173,7 +173,7 @@ module _ (o : TieredOptions) (tiered : are_tiered o ≡ true) (slots : ℕ) (tre
         (all_join (Differ t) (IsReady trees jobs p.picks) (IsReady trees jobs (picked_in o t p).picks) (λ v away now. other_ready t p midway ready.0 v away now) left differ.0 ready.1)
         (other_ready t p midway ready.0 u (λ same. others.0 (sym same)) now))
       where
-        by : (b : Bool) → IsReady trees jobs (pass o slots left (picked_in o t p)).1.picks u → IsReady trees jobs (passed b t left p).1.picks u
+        by : (b : Bool) → IsReady trees jobs (pass o slots left (picked_in o t p)).1.picks u → IsReady trees jobs (passed o slots b t left p).1.picks u
         by true later = later
         by false later = now
 
@@ -189,7 +189,7 @@ module _ (o : TieredOptions) (tiered : are_tiered o ≡ true) (slots : ℕ) (tre
       others : AllByRecursion (IsReady trees jobs (picked_in o t p).picks) left
       others = all_join (Differ t) (IsReady trees jobs p.picks) (IsReady trees jobs (picked_in o t p).picks) (λ v away now. other_ready t p midway ready.0 v away now) left differ.0 ready.1
 
-      by : (b : Bool) → IsPassed (pass o slots left (picked_in o t p)) → IsReady trees jobs (pass o slots left (picked_in o t p)).1.picks (with_pick (next_pick o p.fresh t) t) → IsPassed (passed b t left p)
+      by : (b : Bool) → IsPassed (pass o slots left (picked_in o t p)) → IsReady trees jobs (pass o slots left (picked_in o t p)).1.picks (with_pick (next_pick o p.fresh t) t) → IsPassed (passed o slots b t left p)
       by true later mine = record { midway = later.midway; ready = (mine, later.ready) }
       by false later mine = record { midway = midway; ready = ready }
 

@@ -1,14 +1,28 @@
--- The proposals of the size-tiered scheduler pass the gate of submitted jobs.
-use Rattle.std.specs.Prelude.{◌≡◌, ◌≢◌, ℕ, true, false, IsTrue, List, [], ◌∷◌, ◌++◌, Some, None, Contains}
+-- Laws about the proposals of the size-tiered scheduler: they are few, make runs, hold no node twice, and pass
+-- the gate of submitted jobs.
+use Rattle.std.specs.Prelude.{◌≡◌, ◌≢◌, ℕ, ◌≤◌, length, true, false, IsTrue, List, [], ◌∷◌, ◌++◌, Some, None, Contains}
 use Rattle.std.specs.List.{AllByRecursion}
 use Rattle.row_model.specs.Lists.{Pairs}
-use Rattle.fleet_model.specs.Gates.{reserves_nodes, submit_gate}
-use Rattle.fleet_model.specs.Jobs.{Job, Jobs, JobSpec, nodes_of}
+use Rattle.fleet_model.specs.Gates.{is_nonempty, reserves_nodes, submit_gate}
+use Rattle.fleet_model.specs.Jobs.{Job, Jobs, JobSpec, is_drain, nodes_of}
 use Rattle.fleet_model.specs.Scheduler.{View}
 use Rattle.fleet_model.specs.Sources.{is_apart}
 use Rattle.sched_model.specs.Series.{TieredOptions, are_tiered}
-use Rattle.sched_model.specs.SizeTiered.{tiered_proposals, tiered_validate}
+use Rattle.sched_model.specs.SizeTiered.{free_slots, tiered_proposals, tiered_validate}
 use Rattle.sched_laws.specs.Views.{ViewStands}
+
+-- There are at most as many proposals as jobs may be added to those under way.
+abbrev pub ProposalsAreFew : Type 0
+ProposalsAreFew = (o : TieredOptions) (most : ℕ) (view : View) → length (tiered_proposals o most view) ≤ free_slots most view.jobs
+
+-- The job has sources, and it makes a run of them.
+pub record MakesRun (spec : JobSpec) : Type 0 where
+  pub sources : IsTrue (is_nonempty spec.sources)
+  pub no_drain : is_drain spec ≡ false
+
+-- Each proposal has sources, and makes a run of them.
+abbrev pub ProposalsMakeRuns : Type 0
+ProposalsMakeRuns = (o : TieredOptions) → are_tiered o ≡ true → (most : ℕ) (view : View) → AllByRecursion MakesRun (tiered_proposals o most view)
 
 -- The destination is not 4,294,967,295. The gate refuses each job with this destination.
 abbrev pub HasFreeId : JobSpec → Type 0
@@ -18,7 +32,7 @@ HasFreeId spec = spec.destination ≢ Some 4294967295
 abbrev pub AreApart : JobSpec → JobSpec → Type 0
 AreApart a b = HasFreeId a → HasFreeId b → IsTrue (is_apart (nodes_of a) (nodes_of b))
 
--- No two proposals hold the same node.
+-- No two proposals hold the same node, unless the destination of one of them is 4,294,967,295.
 abbrev pub ProposalsAreApart : Type 0
 ProposalsAreApart = (o : TieredOptions) → are_tiered o ≡ true → (most : ℕ) (view : View) → ViewStands view → Pairs AreApart (tiered_proposals o most view)
 
@@ -31,8 +45,8 @@ pub data MayBeThere (known : Jobs) (others : List JobSpec) (id : ℕ) (job : Job
   Opened : Contains others job.spec → HasFreeId job.spec → MayBeThere known others id job
 
 -- A job for a proposal passes the gate of submitted jobs, unless its destination is 4,294,967,295. It passes
--- beside the jobs of the view, and beside jobs that were opened for the other proposals. The view that the
--- scheduler is shown then has the same trees.
+-- beside the jobs of the view, and beside jobs that were opened for the other proposals. By then the
+-- scheduler may be shown a later view, with the same trees.
 abbrev pub ProposalsPassTheGate : Type 0
 ProposalsPassTheGate = (o : TieredOptions) → are_tiered o ≡ true → (most : ℕ) (view : View) → ViewStands view
     → (before after : List JobSpec) (job : Job) → tiered_proposals o most view ≡ before ++ job.spec ∷ after → HasFreeId job.spec

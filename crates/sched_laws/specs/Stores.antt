@@ -31,7 +31,7 @@ ViewsOfStoresStand merge = (store : Store) (records : Records) → StoreStands m
 
 -- A job for a proposal on the view of a store passes the gate of submitted jobs, unless its destination is
 -- 4,294,967,295. It passes beside the stored jobs, and beside jobs that were opened for the other proposals.
--- The view that the scheduler is shown then has the same trees.
+-- By then the scheduler may be shown a later view, with the same trees.
 abbrev pub StoresAcceptProposals : Operator → Type 0
 StoresAcceptProposals merge = (store : Store) (records : Records) → StoreStands merge store records
     → (o : TieredOptions) → are_tiered o ≡ true → (most : ℕ)

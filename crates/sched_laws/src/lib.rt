@@ -5,8 +5,23 @@
 
 ghost use Rattle.row_model.specs.Fold.{Operator};
 ghost use Rattle.sched_laws.specs.Greatest.{GreatestIdIsProposed, GreatestIdIsRefused};
-ghost use Rattle.sched_laws.specs.Proposals.{ProposalsAreApart, ProposalsPassTheGate};
+ghost use Rattle.sched_laws.specs.Proposals.{
+  ProposalsAreApart,
+  ProposalsAreFew,
+  ProposalsMakeRuns,
+  ProposalsPassTheGate,
+};
 ghost use Rattle.sched_laws.specs.Stores.{StoresAcceptProposals, ViewsOfStoresStand};
+
+/// There are at most as many proposals as jobs may be added to those under way.
+pub fn proposals_are_few()
+    ensures { ProposalsAreFew }
+{}
+
+/// Each proposal has sources and makes a run of them, so none is a drain.
+pub fn proposals_make_runs()
+    ensures { ProposalsMakeRuns }
+{}
 
 /// No two proposals hold the same node, unless the destination of one of them is 4,294,967,295.
 pub fn proposals_are_apart()
@@ -14,7 +29,8 @@ pub fn proposals_are_apart()
 {}
 
 /// A job for a proposal passes the gate of submitted jobs, unless its destination is 4,294,967,295.
-/// It passes beside the jobs of the view, and beside jobs that were opened for the other proposals.
+/// It passes beside the jobs of the view, and beside jobs that were opened for the other proposals,
+/// as long as the trees stay.
 pub fn proposals_pass_the_gate()
     ensures { ProposalsPassTheGate }
 {}

@@ -1,5 +1,5 @@
 -- What holds of each pick holds of each proposal.
-use Rattle.std.proofs.Common.{◌≡◌, refl, ◌∙◌, subst, ℕ, zero, suc, ◌-◌, ◌≤◌, List, [], ◌∷◌, ◌++◌, length, map, cond, Bool, true, false, ◌&&◌, arith}
+use Rattle.std.proofs.Common.{◌≡◌, refl, sym, ap, ◌∙◌, subst, ℕ, zero, suc, ◌-◌, ◌≤◌, List, [], ◌∷◌, length, map, cond, Bool, true, false, ◌&&◌, arith}
 use Rattle.std.specs.Prelude.{Option, Some, None, nat_lt, nat_le, option_map}
 use Rattle.std.specs.Option.{option_or, option_to_list}
 use Rattle.std.specs.List.{AllByRecursion}
@@ -13,13 +13,10 @@ use Rattle.sched_model.specs.Picks.{Planned, Picking, flush_pick, into_last, run
 use Rattle.sched_model.specs.Series.{TieredOptions, are_tiered, first_series, is_allowed, oldest}
 use Rattle.sched_model.specs.Sizes.{Sized, flush_names, sized_trees, total_size}
 use Rattle.sched_model.specs.SizeTiered.{by_flushes, free_slots, tiered_proposals, unplanned}
-use Rattle.fleet_sched.specs.Laws.{MakesRun}
-use Rattle.fleet_sched.proofs.Joined.{both_true, some_sources, tiered_bounds}
-use Rattle.fleet_sched.proofs.Passes.{passed}
-
-all_append : {X : Type 0} (P : X → Type 0) (xs ys : List X) → AllByRecursion P xs → AllByRecursion P ys → AllByRecursion P (xs ++ ys)
-all_append P [] ys all more = more
-all_append P (x ∷ xs) ys all more = (all.0, all_append P xs ys all.1 more)
+use Rattle.sched_laws.specs.Proposals.{MakesRun}
+use Rattle.sched_laws.proofs.Lists.{all_append, both_true}
+use Rattle.sched_laws.proofs.Passes.{passed}
+use Rattle.sched_laws.proofs.Series.{series_is_found, tiered_bounds}
 
 at_most_one : (pick : Option JobSpec) → length (option_to_list pick) ≤ 1
 at_most_one None = omega arith
@@ -86,7 +83,8 @@ run_pick_makes o tiered t spec e = by (first_series o t.used t.tree.runs) refl e
     by (Some runs) is same =
         let bounds = tiered_bounds o tiered in
         let made : into_last t.tree.segment runs ≡ spec = cc same in
-        subst MakesRun made (runs_make t.tree.segment runs (some_sources o t.used t.tree.runs runs bounds.0 bounds.1 is))
+        let found = series_is_found o t.used bounds.0 bounds.1 t.tree.runs runs (sym is) in
+        subst MakesRun made (runs_make t.tree.segment runs (omega (arith, ap length found.is)))
 
 flush_pick_makes : (o : TieredOptions) → are_tiered o ≡ true → (fresh : ℕ) (t : Planned) (spec : JobSpec) → flush_pick o fresh t ≡ Some spec → MakesRun spec
 flush_pick_makes o tiered fresh t spec e =
