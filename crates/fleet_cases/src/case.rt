@@ -144,6 +144,8 @@ fn answer_to(alloc: Global, question: &str, answer: &mut String) -> Result<(), F
 fn answer_of(alloc: Global, name: &str, words: &[&str], answer: &mut String) -> Result<(), Flaw> {
     if case_tables::answers(alloc, name, words, answer)?
         || case_jobs::answers(alloc, name, words, answer)?
+        || case_book::answers(alloc, name, words, answer)?
+        || case_sched::answers(alloc, name, words, answer)?
     {
         Ok(())
     } else {
