@@ -66,7 +66,7 @@ impl Compactions {
         self.jobs.retain_active_and_last_finished();
     }
 
-    /// A copy.
+    /// A copy, which shares what a copy of the map of jobs shares.
     pub fn clone(&self) -> Result<Compactions, SlateDBError>
         ensures copy { IfOk result (λ copy. copy ≡ self.now) }
         ensures memory { IsOkUnless result SlateDBError.Memory }
@@ -154,7 +154,7 @@ impl VersionedCompactions {
         self.compactions.iter()
     }
 
-    /// A copy.
+    /// A copy, which shares what a copy of the map of jobs shares.
     pub fn clone(&self) -> Result<VersionedCompactions, SlateDBError>
         ensures copy { IfOk result (λ copy. copy ≡ self.now) }
         ensures memory { IsOkUnless result SlateDBError.Memory }

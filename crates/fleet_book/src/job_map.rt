@@ -1,9 +1,12 @@
 //! The records of all jobs.
 
 ghost use Rattle.std.specs.Prelude.{◌≡◌, ◌==◌, ◌<◌, ◌++◌, [], ◌∷◌, ◌||◌, if◌then◌else◌, None, Some, false, filter, find, fold, length, nat_lt, slice_get, slice_set, take_while, IfOk, IfSome, IsSome, IsOkUnless, OnErr, OnOk};
+ghost use Rattle.std.specs.Cmp.Lexicographic.{pointwise, lists_per, lists_equiv};
 ghost use Rattle.std.specs.Option.{option_copied, option_map_or};
 ghost use Rattle.fleet_model.specs.Jobs.{trimmed};
 ghost use Rattle.fleet_jobs.specs.Jobs.{is_open, jobs_of, with_status};
+ghost use Rattle.fleet_jobs.specs.contracts.compaction.CompactionEq.TheImpl.Laws as job_equiv;
+ghost use Rattle.fleet_jobs.specs.contracts.compaction.CompactionPartialEq.TheImpl.Laws as job_eq;
 ghost use Rattle.fleet_book.specs.Records.{AreRising, kept_records, put_record, record_with};
 
 use crate::RecentCompactions;
@@ -13,9 +16,11 @@ use std::alloc::{AllocError, Global};
 use std::marker::Model;
 
 /// The records of jobs by their ids. Contracts see them as a list by rising id, and no two have one
-/// id.
-#[derive(Debug, Drop, PartialEq, Eq)]
+/// id. A job that was inserted shares its spec, source tables, context and written tables with its
+/// copies. So does each job of a map that is a copy.
+#[derive(Debug, Drop)]
 pub struct JobMap {
+    alloc: Global,
     jobs: ListOf<Compaction>,
 }
 
@@ -29,8 +34,6 @@ impl Model for JobMap {
     ghost view = { λ m. m.jobs };
 
     ghost invariant = { λ m. AreRising m.jobs };
-
-    ghost inverse = { λ jobs. record { jobs = jobs } };
 }
 
 impl JobMap {
@@ -39,6 +42,7 @@ impl JobMap {
         ensures { result ≡ [] }
     {
         JobMap {
+            alloc,
             jobs: ListOf::new(alloc),
         }
     }
@@ -49,6 +53,7 @@ impl JobMap {
         ensures { result ≡ jobs.items }
     {
         JobMap {
+            alloc: *jobs.allocator(),
             jobs: ListOf::from_vec(jobs),
         }
     }
@@ -58,7 +63,7 @@ impl JobMap {
         ensures jobs { result.items ≡ self }
         ensures rising { AreRising self }
     {
-        let JobMap { jobs } = self;
+        let JobMap { jobs, .. } = self;
         jobs.into_vec()
     }
 
@@ -90,25 +95,27 @@ impl JobMap {
         self.jobs.as_slice()
     }
 
-    /// A map of copies of the jobs that are not over.
+    /// A map of copies of the jobs that are not over. They share what the copies of a map share.
     pub(crate) fn active(&self, alloc: Global) -> Result<JobMap, SlateDBError>
         ensures map { IfOk result (λ map. map ≡ filter is_open self.now) }
         ensures memory { IsOkUnless result SlateDBError.Memory }
     {
         let copies = open_copies(alloc, self.jobs.as_slice())?;
         Ok(JobMap {
+            alloc,
             jobs: ListOf::from_vec(copies),
         })
     }
 
-    /// Adds a job, in the place of one with its id if there is one. If out of memory, the new job
-    /// is dropped.
+    /// Adds a job, in the place of one with its id if there is one. From then on its copies share
+    /// its parts. If out of memory, the new job is dropped.
     pub fn insert(&mut self, job: Compaction) -> Result<(), SlateDBError>
         ensures ok { OnOk result (self.new ≡ put_record job self.old) }
         ensures err { OnErr result (self.new ≡ self.old) }
         ensures memory { IsOkUnless result SlateDBError.Memory }
     {
-        put(&mut self.jobs, job)?;
+        let shared = job.shared(self.alloc)?;
+        put(&mut self.jobs, shared)?;
         Ok(())
     }
 
@@ -131,7 +138,8 @@ impl JobMap {
         set_status_at(&mut self.jobs, place, status);
     }
 
-    /// Puts a job in the place of the one with its id.
+    /// Puts a job in the place of the one with its id. It takes no memory, so that what a setter
+    /// put into the job is not shared yet: each copy of this map copies it.
     pub fn replace(&mut self, job: Compaction)
         requires { IsSome (record_with job.id self.old) }
         ensures { self.new ≡ put_record job self.old }
@@ -140,7 +148,8 @@ impl JobMap {
         self.jobs.replace(place as u64, job);
     }
 
-    /// A copy.
+    /// A copy. Its jobs share their specs, source tables, contexts and written tables with the jobs
+    /// of this map. Only a part that is not shared yet is copied, and the new part is shared.
     pub fn clone(&self) -> Result<JobMap, SlateDBError>
         ensures copy { IfOk result (λ copy. copy ≡ self.now) }
         ensures memory { IsOkUnless result SlateDBError.Memory }
@@ -153,10 +162,26 @@ impl Clone for JobMap {
     ghost is_clone = { λ map copy. copy ≡ map };
 
     fn clone(&self) -> Result<JobMap, AllocError> {
+        let copies = copies(self.alloc, self.jobs.as_slice())?;
         Ok(JobMap {
-            jobs: Clone::clone(&self.jobs)?,
+            alloc: self.alloc,
+            jobs: ListOf::from_vec(copies),
         })
     }
+}
+
+impl PartialEq for JobMap {
+    ghost eq = { pointwise ⟦<Compaction as PartialEq>⟧.eq };
+
+    ghost laws = { lists_per job_eq.laws-law };
+
+    fn eq(&self, other: &Self) -> bool {
+        self.jobs == other.jobs
+    }
+}
+
+impl Eq for JobMap {
+    ghost laws = { lists_equiv job_equiv.laws-law };
 }
 
 fn with_id(jobs: &[Compaction], id: Ulid) -> Option<&Compaction>
@@ -244,22 +269,43 @@ fn retain(jobs: &mut ListOf<Compaction>, last: Option<Ulid>)
     *jobs = ListOf::from_vec(items);
 }
 
+// Copies of the jobs.
+fn copies(alloc: Global, jobs: &[Compaction]) -> Result<Vec<Compaction>, AllocError>
+    ensures { IfOk result (λ copies. copies.items ≡ jobs.now) }
+{
+    let mut copies = Vec::new(alloc);
+    'jobs: for job in jobs {
+        add_copy(alloc, &mut copies, job)?;
+    }
+    Ok(copies)
+}
+
+// Copies of the jobs that are not over.
 fn open_copies(alloc: Global, jobs: &[Compaction]) -> Result<Vec<Compaction>, AllocError>
     ensures { IfOk result (λ copies. copies.items ≡ filter is_open jobs.now) }
 {
     let mut copies = Vec::new(alloc);
     'jobs: for job in jobs {
-        add_open(&mut copies, job)?;
+        add_open(alloc, &mut copies, job)?;
     }
     Ok(copies)
 }
 
 // Adds a copy of the job, if it is not over.
-fn add_open(copies: &mut Vec<Compaction>, job: &Compaction) -> Result<(), AllocError>
+fn add_open(alloc: Global, copies: &mut Vec<Compaction>, job: &Compaction) -> Result<(), AllocError>
     ensures { OnOk result (copies.new.items ≡ copies.old.items ++ filter is_open (job.now ∷ [])) }
 {
     if job.active() {
-        copies.push(job.copied()?)?;
+        add_copy(alloc, copies, job)?;
     }
+    Ok(())
+}
+
+// Adds a copy of the job, whose own copies share its parts.
+fn add_copy(alloc: Global, copies: &mut Vec<Compaction>, job: &Compaction) -> Result<(), AllocError>
+    ensures { OnOk result (copies.new.items ≡ copies.old.items ++ job.now ∷ []) }
+{
+    let copy = job.copied()?.shared(alloc)?;
+    copies.push(copy)?;
     Ok(())
 }

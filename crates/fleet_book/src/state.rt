@@ -149,7 +149,8 @@ impl CompactorState {
         self.compactions.set_status(id, status);
     }
 
-    /// Puts a job in the place of the one with its id.
+    /// Puts a job in the place of the one with its id. It takes no memory, so that what a setter
+    /// put into the job is copied with it until the next merge of stored records.
     pub fn set_compaction(&mut self, compaction: Compaction)
         requires { IsSome (record_with compaction.id (own_jobs self.old)) }
         ensures { self.new ≡ record self.old {

@@ -1,4 +1,5 @@
 pub mod Sources
+pub mod Shared
 pub mod SpecParts
 pub mod Specs
 pub mod Texts

@@ -10,26 +10,29 @@ ghost use Rattle.fleet_jobs.specs.Status.{status_of};
 ghost use Rattle.fleet_jobs.specs.Texts.{bytes_text, count_text, has_output, job_text, ranges_text};
 
 use crate::copying::add_all;
+use crate::shareable::Shareable;
 use crate::{CompactionContext, CompactionSpec, CompactionStatus, WorkerSpec};
 use fleet_plan::Subcompaction;
-use fleet_rows::{Copies, JobList, SlateDBError, Ulid};
+use fleet_rows::{Copies, JobList, ListOf, SlateDBError, Ulid};
 use fleet_table::{OutputList, TableList};
 use std::alloc::{AllocError, Global};
 use std::fmt;
 use std::marker::Model;
 
-/// The record of a job. Contracts see its parts.
+/// The record of a job. Contracts see its parts. The spec, the source tables, the context and the
+/// tables that the job wrote never change in place. After `shared` the copies of the record share
+/// these four with it. What a setter puts in later is copied, until `shared` is called again.
 #[derive(Debug, Drop, PartialEq, Eq)]
 pub struct Compaction {
     id: Ulid,
-    spec: CompactionSpec,
+    spec: Shareable<CompactionSpec>,
     bytes_processed: u64,
     status: CompactionStatus,
     worker: Option<WorkerSpec>,
     attempt: u64,
-    source_tables: JobList,
-    ctx: Option<CompactionContext>,
-    output_ssts: OutputList,
+    source_tables: Shareable<JobList>,
+    ctx: Option<Shareable<CompactionContext>>,
+    output_ssts: Shareable<OutputList>,
     cut: Option<u64>,
 }
 
@@ -72,14 +75,14 @@ impl Compaction {
     {
         Compaction {
             id,
-            spec,
+            spec: Shareable::new(spec),
             bytes_processed: 0,
             status: CompactionStatus::Submitted,
             worker: None,
             attempt: 0,
-            source_tables: JobList::new(alloc),
+            source_tables: Shareable::new(JobList::new(alloc)),
             ctx: None,
-            output_ssts: OutputList::new(alloc),
+            output_ssts: Shareable::new(OutputList::new(alloc)),
             cut: None,
         }
     }
@@ -93,7 +96,7 @@ impl Compaction {
     pub fn spec(&self) -> &CompactionSpec
         ensures { result.now ≡ self.now.spec }
     {
-        &self.spec
+        self.spec.get()
     }
 
     /// The number of bytes of rows that the job has read so far, as its worker told.
@@ -114,28 +117,31 @@ impl Compaction {
         ensures tables { IfOk result (λ tables. tables ≡ flat_map (λ list. list) self.now.outputs) }
         ensures memory { IsOkUnless result SlateDBError.Memory }
     {
-        joined(alloc, self.output_ssts.as_slice())
+        joined(alloc, self.output_ssts.get().as_slice())
     }
 
     /// The tables that the job wrote, range by range. The Rust crate keeps them in one list.
     pub fn outputs(&self) -> &[TableList]
         ensures { result.now ≡ self.now.outputs }
     {
-        self.output_ssts.as_slice()
+        self.output_ssts.get().as_slice()
     }
 
     /// The context from which an attempt can go on.
     pub fn ctx(&self) -> Option<&CompactionContext>
         ensures { option_copied result ≡ self.now.ctx }
     {
-        self.ctx.as_ref()
+        match &self.ctx {
+            Some(ctx) => Some(ctx.get()),
+            None => None,
+        }
     }
 
     /// The ranges of the context. There are none without a context.
     pub fn subcompactions(&self) -> &[Subcompaction]
         ensures { result.now ≡ ranges_in self.now.ctx }
     {
-        match &self.ctx {
+        match self.ctx() {
             Some(ctx) => ctx.subcompactions(),
             None => &[],
         }
@@ -166,7 +172,7 @@ impl Compaction {
     pub fn source_tables(&self) -> &[Ulid]
         ensures { result.now ≡ self.now.source_tables }
     {
-        self.source_tables.as_slice()
+        self.source_tables.get().as_slice()
     }
 
     /// The cut of the attempt that wrote the tables. It is None before that, and if its worker was
@@ -204,14 +210,17 @@ impl Compaction {
         requires { FollowsContext self.old.ctx ctx }
         ensures { self.new ≡ record self.old { ctx = ctx } }
     {
-        self.ctx = ctx;
+        self.ctx = match ctx {
+            Some(ctx) => Some(Shareable::new(ctx)),
+            None => None,
+        };
     }
 
     /// Sets the tables that the job wrote, range by range. In the Rust crate they are in one list.
     pub fn set_output_ssts(&mut self, output_ssts: OutputList)
         ensures { self.new ≡ record self.old { outputs = output_ssts } }
     {
-        self.output_ssts = output_ssts;
+        self.output_ssts = Shareable::new(output_ssts);
     }
 
     pub fn set_attempt(&mut self, attempt: u64)
@@ -223,7 +232,7 @@ impl Compaction {
     pub fn set_source_tables(&mut self, tables: JobList)
         ensures { self.new ≡ record self.old { source_tables = tables } }
     {
-        self.source_tables = tables;
+        self.source_tables = Shareable::new(tables);
     }
 
     pub fn set_cut(&mut self, cut: Option<u64>)
@@ -232,7 +241,21 @@ impl Compaction {
         self.cut = cut;
     }
 
-    /// A copy.
+    /// The same record. From now on its copies share its spec, its source tables, its context and
+    /// the tables that the job wrote. If out of memory, the record is dropped.
+    pub fn shared(self, alloc: Global) -> Result<Compaction, AllocError>
+        ensures { IfOk result (λ job. job ≡ self) }
+    {
+        Ok(Compaction {
+            spec: self.spec.shared(alloc)?,
+            source_tables: shared_list(self.source_tables, alloc)?,
+            ctx: shared_ctx(self.ctx, alloc)?,
+            output_ssts: shared_list(self.output_ssts, alloc)?,
+            ..self
+        })
+    }
+
+    /// A copy. It shares what `shared` made shareable, and copies what a setter put in later.
     pub fn clone(&self) -> Result<Compaction, SlateDBError>
         ensures copy { IfOk result (λ copy. copy ≡ self.now) }
         ensures memory { IsOkUnless result SlateDBError.Memory }
@@ -266,6 +289,32 @@ impl Copies for Compaction {
     }
 }
 
+// The list as a shared one, unless it is empty: a copy of an empty list takes no memory.
+fn shared_list<T: Drop>(
+    list: Shareable<ListOf<T>>,
+    alloc: Global,
+) -> Result<Shareable<ListOf<T>>, AllocError>
+    ensures { IfOk result (λ shared. shared ≡ list) }
+{
+    if list.get().is_empty() {
+        Ok(list)
+    } else {
+        list.shared(alloc)
+    }
+}
+
+fn shared_ctx(
+    ctx: Option<Shareable<CompactionContext>>,
+    alloc: Global,
+) -> Result<Option<Shareable<CompactionContext>>, AllocError>
+    ensures { IfOk result (λ shared. shared ≡ ctx) }
+{
+    match ctx {
+        Some(ctx) => Ok(Some(ctx.shared(alloc)?)),
+        None => Ok(None),
+    }
+}
+
 // The tables of all these lists, list by list.
 fn joined(alloc: Global, lists: &[TableList]) -> Result<TableList, SlateDBError>
     ensures tables { IfOk result (λ tables. tables ≡ flat_map (λ list. list) lists.now) }
@@ -284,7 +333,7 @@ impl fmt::Display for Compaction {
     ghost output = { λ job. Some (job_text job) };
 
     fn fmt<W: fmt::Write>(&self, f: &mut fmt::Formatter<W>) -> fmt::Result {
-        write!(f, "{}", self.spec)?;
+        write!(f, "{}", self.spec())?;
         write_processed(f, self.bytes_processed)?;
         write_ranges(f, self.subcompactions())
     }

@@ -7,7 +7,7 @@ ghost use Rattle.fleet_jobs.specs.Contexts.{IsContinued, context_with, release_i
 
 use crate::Release;
 use fleet_plan::{Subcompaction, SubcompactionList};
-use fleet_rows::{Settings, SlateDBError};
+use fleet_rows::{Copies, Settings, SlateDBError};
 use fleet_table::TableList;
 use std::alloc::AllocError;
 use std::marker::Model;
@@ -163,5 +163,11 @@ impl Clone for CompactionContext {
             last_run: self.last_run,
             cut: self.cut,
         })
+    }
+}
+
+impl Copies for CompactionContext {
+    fn copied(&self) -> Result<CompactionContext, AllocError> {
+        Clone::clone(self)
     }
 }

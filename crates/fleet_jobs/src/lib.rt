@@ -8,6 +8,7 @@ mod copying;
 mod laws;
 mod moves;
 mod release;
+mod shareable;
 mod source_id;
 mod sources;
 mod spec;
