@@ -1,0 +1,35 @@
+-- What lawful calls keep besides the invariant of the stored objects, and need in order to keep it.
+use Rattle.std.specs.Prelude.{◌≡◌, ◌<◌, ◌≤◌, ℕ, List, Some}
+use Rattle.std.specs.List.{AllByRecursion}
+use Rattle.row_model.specs.Lists.{Pairs}
+use Rattle.fleet_model.specs.History.{Entry}
+use Rattle.fleet_model.specs.Store.{Manifest, stored_jobs}
+use Rattle.step_model.specs.Past.{Told, manifest_with}
+use Rattle.step_model.specs.Entries.{put_epochs}
+use Rattle.step_model.specs.NamesKept.{DrawsKept, NamesKept, AttemptsKept}
+use Rattle.step_model.specs.TablesKept.{PutsKept, PiecesKept, JobTablesKept}
+use Rattle.step_model.specs.JoinsKept.{JoinsKept}
+
+-- The epochs that were put into the manifest rise, up to the stored epoch at most. So each epoch was
+-- put by one coordinator.
+pub record EpochsKept (epoch : ℕ) (history : List Entry) : Type 0 where
+  pub up_to : AllByRecursion (λ put. put ≤ epoch) (put_epochs history)
+  pub rise : Pairs (λ a b. a < b) (put_epochs history)
+
+-- The past has the manifests by rising version, and the stored manifest has the greatest version.
+pub record PastKept (manifest : Manifest) (past : List Manifest) : Type 0 where
+  pub last : manifest_with manifest.version past ≡ Some manifest
+  pub up_to : AllByRecursion (λ other. other.version ≤ manifest.version) past
+  pub rise : Pairs (λ a b. a.version < b.version) past
+
+-- All facts, each over the parts of the store that it reads.
+pub record StoreFacts (told : Told) : Type 0 where
+  pub draws : DrawsKept told.store.jobs_drawn told.store.tables_drawn told.store.history
+  pub names : NamesKept told
+  pub attempts : AttemptsKept told.store.history (stored_jobs told.store)
+  pub puts : PutsKept told.store.history told.store.tables
+  pub pieces : PiecesKept told.store.history told.past told.store.manifest.trees
+  pub tables : JobTablesKept told.store.history told.past (stored_jobs told.store)
+  pub joins : JoinsKept told.store.history told.past told.store.manifest.trees (stored_jobs told.store)
+  pub epochs : EpochsKept told.store.manifest.epoch told.store.history
+  pub past : PastKept told.store.manifest told.past

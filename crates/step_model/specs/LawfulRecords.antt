@@ -1,0 +1,146 @@
+-- When a put of the records is lawful, given that it is for the stored version.
+use Rattle.std.specs.Prelude.{◌≡◌, ◌≢◌, ℕ, ◌+◌, ◌<◌, Bool, true, false, ◌&&◌, ◌||◌, IsTrue, IfSome, is_some, List, ◌++◌, Option, Some, None}
+use Rattle.std.specs.List.{AllByRecursion, concat}
+use Rattle.row_model.specs.Lists.{Pairs}
+use Rattle.row_model.specs.Fold.{Operator}
+use Rattle.fleet_model.specs.Jobs.{JobSpec, Context, Job, Jobs, Submitted, Scheduled, Running, Compacted, has_status, job_with, contains}
+use Rattle.fleet_model.specs.History.{Party, Submitter, Worker, RecordChange, RecordsEpoch, Submit, Claim, Beat, Finish, Release, Polled, PollChange}
+use Rattle.fleet_model.specs.Store.{stored_jobs, records_epoch, AreHeld}
+use Rattle.fleet_model.specs.Trees.{tables_now}
+use Rattle.fleet_model.specs.Records.{Unrecorded, with_new, finished_by, jobs_after}
+use Rattle.fleet_model.specs.Replay.{epoch_after}
+use Rattle.fleet_model.specs.Handles.{context_tables}
+use Rattle.fleet_model.specs.Parties.{runs_attempt}
+use Rattle.fleet_model.specs.Claims.{is_waiting}
+use Rattle.fleet_model.specs.JobsFit.{NodesHeldOnce, SourcesStand, OutputsFit}
+use Rattle.fleet_model.specs.AttemptsFit.{ContextFits, ContextExtends}
+use Rattle.step_model.specs.Past.{Told}
+use Rattle.step_model.specs.Entries.{drew_job, did_put_epoch, was_named}
+use Rattle.step_model.specs.Faithful.{Faithful, with_specs}
+use Rattle.step_model.specs.LawfulTables.{MayUse}
+
+-- ---- names
+
+-- A party may name jobs with their specs if it drew their ids and if every replay may have these
+-- specs. The entry of a put that is refused or lost names its jobs too, so this is asked of every
+-- put.
+pub record NamesFit (party : Party) (told : Told) (named : List (ℕ × JobSpec)) : Type 0 where
+  pub drawn : AllByRecursion (λ p. IsTrue (drew_job party told.store.history p.0)) named
+  pub replays : (specs : ℕ → JobSpec) → Faithful told specs → Faithful told (with_specs named specs)
+
+-- New jobs are named once each, and no put that took effect has named them before.
+pub record AreNew (told : Told) (named : List (ℕ × JobSpec)) : Type 0 where
+  pub apart : Pairs (λ p q. p.0 ≢ q.0) named
+  pub unnamed : AllByRecursion (λ p. was_named told.store.history p.0 ≡ false) named
+
+-- ---- jobs
+
+-- There is an element, and the property holds of it.
+abbrev pub OfSome : {A : Type 0} → (A → Type 0) → Option A → Type 0
+OfSome P None = ⊥
+OfSome P (Some x) = P x
+
+-- A job with this id is stored, and the property holds of it.
+abbrev pub IsStoredAs : Told → ℕ → (Job → Type 0) → Type 0
+IsStoredAs told id P = OfSome P (job_with id (stored_jobs told.store))
+
+-- The job is Running with this worker at this attempt.
+abbrev pub IsLiveAt : ℕ → ℕ → Job → Type 0
+IsLiveAt worker attempt job = IsTrue (runs_attempt worker attempt (Some job))
+
+-- ---- the epoch, and new jobs
+
+-- A coordinator may raise the epoch of the records to one that it put into the manifest before.
+pub record RecordsEpochFits (party : Party) (told : Told) (epoch : ℕ) : Type 0 where
+  pub by : IsTrue (did_put_epoch party told.store.history epoch)
+  pub above : records_epoch told.store.records < epoch
+
+-- A submitter may add new jobs.
+pub record SubmitFits (party : Party) (told : Told) (named : List (ℕ × JobSpec)) : Type 0 where
+  pub by : party ≡ Submitter
+  pub new : AreNew told named
+
+-- ---- a worker's changes
+
+-- A worker may take jobs that wait for a worker, each at its next attempt.
+pub record ClaimFits (party : Party) (told : Told) (worker : ℕ) (attempts : List (ℕ × ℕ)) : Type 0 where
+  pub by : party ≡ Worker worker
+  pub once : Pairs (λ a b. a.0 ≢ b.0) attempts
+  pub each : AllByRecursion (λ a. IsStoredAs told a.0 (λ job. IsTrue (is_waiting job) × (a.1 ≡ job.attempt + 1))) attempts
+
+-- A worker may give back attempts of its own that are live.
+pub record ReleaseFits (party : Party) (told : Told) (worker : ℕ) (attempts : List (ℕ × ℕ)) : Type 0 where
+  pub by : party ≡ Worker worker
+  pub each : AllByRecursion (λ a. IsStoredAs told a.0 (IsLiveAt worker a.1)) attempts
+
+-- A party may publish a context for a job if the context fits the job by every faithful replay and
+-- extends the published one. Its tables must be held, and the party must be allowed to name them.
+pub record Publishes (merge : Operator) (party : Party) (told : Told) (job : Job) (context : Context) : Type 0 where
+  pub fits : (specs : ℕ → JobSpec) → Faithful told specs → ContextFits merge told.store specs job context
+  pub extends : IfSome job.context (λ old. ContextExtends old context)
+  pub held : AreHeld told.store (context_tables (Some context))
+  pub own : AllByRecursion (MayUse party told job) (context_tables (Some context))
+
+-- A worker may publish contexts for attempts of its own that are live.
+pub record BeatFits (merge : Operator) (party : Party) (told : Told) (unrecorded : Unrecorded) (worker : ℕ) (attempts : List (ℕ × ℕ)) : Type 0 where
+  pub by : party ≡ Worker worker
+  pub each : AllByRecursion (λ a. IsStoredAs told a.0 (λ job. IsLiveAt worker a.1 job × OfSome (Publishes merge party told job) (unrecorded.published a.0))) attempts
+
+-- A live attempt may finish with outputs that hold all rows that its settings make of the job's
+-- sources. The outputs must be held, and the party must be allowed to name them.
+pub record Finishes (merge : Operator) (party : Party) (told : Told) (unrecorded : Unrecorded) (worker attempt : ℕ) (outputs : List (List ℕ)) (job : Job) : Type 0 where
+  pub live : IsLiveAt worker attempt job
+  pub fits : (specs : ℕ → JobSpec) → Faithful told specs → OutputsFit merge told.store specs (finished_by worker unrecorded outputs job)
+  pub held : AreHeld told.store (concat outputs)
+  pub own : AllByRecursion (MayUse party told job) (concat outputs)
+
+-- A worker may finish an attempt of its own that is live.
+pub record FinishFits (merge : Operator) (party : Party) (told : Told) (unrecorded : Unrecorded) (worker id attempt : ℕ) (outputs : List (List ℕ)) : Type 0 where
+  pub by : party ≡ Worker worker
+  pub finishes : IsStoredAs told id (Finishes merge party told unrecorded worker attempt outputs)
+
+-- ---- a coordinator's change
+
+-- True if a poll may end the job: the job is Submitted, or it waits for its commit.
+abbrev pub may_end : Job → Bool
+may_end job = has_status Submitted job || has_status Compacted job
+
+-- The coordinator that put the epoch of the records may free Running jobs, open Submitted ones, and
+-- end Submitted and Compacted ones. The sources of a job that it opens must be in the trees, and
+-- no two jobs may hold the same node afterwards.
+pub record PollFits (party : Party) (told : Told) (unrecorded : Unrecorded) (change : PollChange) (jobs : Jobs) : Type 0 where
+  pub by : IsTrue (did_put_epoch party told.store.history (records_epoch told.store.records))
+  pub new : AreNew told change.added
+  pub freed : AllByRecursion (λ id. IsStoredAs told id (λ job. IsTrue (has_status Running job))) change.freed
+  pub opened : AllByRecursion (λ id.
+      OfSome (λ job. IsTrue (has_status Submitted job) × (unrecorded.tables_of job.spec ≡ tables_now told.store.manifest.trees job.spec)) (job_with id (with_new change.added (stored_jobs told.store)))) change.scheduled
+  pub ended : AllByRecursion (λ id. OfSome (λ job. IsTrue (may_end job)) (job_with id (with_new change.added (stored_jobs told.store)))) (change.completed ++ change.failed)
+  pub stand : AllByRecursion (λ job. IsTrue (contains change.scheduled job.id && has_status Scheduled job) → SourcesStand told.store.manifest.trees job) jobs
+  pub apart : NodesHeldOnce jobs
+
+-- ---- all changes
+
+-- A change of the records fits, by its kind. `jobs` are the jobs that are put.
+abbrev pub ChangeFits : Operator → Party → Told → Unrecorded → (jobs : Jobs) → RecordChange → Type 0
+ChangeFits merge party told unrecorded jobs (RecordsEpoch epoch) = RecordsEpochFits party told epoch
+ChangeFits merge party told unrecorded jobs (Submit named) = SubmitFits party told named
+ChangeFits merge party told unrecorded jobs (Claim worker attempts) = ClaimFits party told worker attempts
+ChangeFits merge party told unrecorded jobs (Beat worker attempts) = BeatFits merge party told unrecorded worker attempts
+ChangeFits merge party told unrecorded jobs (Finish worker id attempt outputs) = FinishFits merge party told unrecorded worker id attempt outputs
+ChangeFits merge party told unrecorded jobs (Release worker attempts) = ReleaseFits party told worker attempts
+ChangeFits merge party told unrecorded jobs (Polled change) = PollFits party told unrecorded change jobs
+
+-- True if this change may be put over the stored records. Only a put for an epoch may be made where
+-- there are none.
+abbrev pub may_make : Told → RecordChange → Bool
+may_make told (RecordsEpoch epoch) = true
+may_make told change = is_some told.store.records
+
+-- A put of the records fits if its jobs and its epoch are what the change makes of the stored ones,
+-- and the change fits.
+pub record RecordsFit (merge : Operator) (party : Party) (told : Told) (change : RecordChange) (epoch : ℕ) (jobs : Jobs) : Type 0 where
+  pub there : IsTrue (may_make told change)
+  pub unrecorded : Unrecorded
+  pub makes_jobs : jobs ≡ jobs_after unrecorded change (stored_jobs told.store)
+  pub makes_epoch : epoch ≡ epoch_after change told.store.records
+  pub fits : ChangeFits merge party told unrecorded jobs change
