@@ -21,17 +21,17 @@ use Rattle.step_model.specs.LawfulTables.{MayUse}
 
 -- ---- names
 
--- A party may name jobs with their specs if it drew their ids and if every replay may have these
--- specs. The entry of a put that is refused or lost names its jobs too, so this is asked of every
--- put.
+-- A party may name jobs with their specs if it drew their ids, names each of them once, and if every
+-- replay may have these specs. The entry of a put that is refused or lost names its jobs too, so
+-- this is asked of every put.
 pub record NamesFit (party : Party) (told : Told) (named : List (ℕ × JobSpec)) : Type 0 where
+  pub once : Pairs (λ p q. p.0 ≢ q.0) named
   pub drawn : AllByRecursion (λ p. IsTrue (drew_job party told.store.history p.0)) named
   pub replays : (specs : ℕ → JobSpec) → Faithful told specs → Faithful told (with_specs named specs)
 
--- New jobs are named once each, and no put that took effect has named them before.
-pub record AreNew (told : Told) (named : List (ℕ × JobSpec)) : Type 0 where
-  pub apart : Pairs (λ p q. p.0 ≢ q.0) named
-  pub unnamed : AllByRecursion (λ p. was_named told.store.history p.0 ≡ false) named
+-- The jobs are new: no put that took effect has named them before.
+abbrev pub AreNew : Told → List (ℕ × JobSpec) → Type 0
+AreNew told named = AllByRecursion (λ p. was_named told.store.history p.0 ≡ false) named
 
 -- ---- jobs
 

@@ -1,5 +1,5 @@
 -- When a note, a draw, the put of a table and the deletion of a table are lawful.
-use Rattle.std.specs.Prelude.{◌≡◌, ◌⊎◌, ℕ, ◌<◌, false, ◌&&◌, not, ◌==◌, Bool, IsTrue, List, filter, flat_map, length, Some, ⊤}
+use Rattle.std.specs.Prelude.{◌≡◌, ◌⊎◌, ℕ, ◌+◌, ◌<◌, false, ◌&&◌, not, ◌==◌, Bool, IsTrue, List, filter, flat_map, length, Some, ⊤}
 use Rattle.std.specs.List.{list_any}
 use Rattle.row_model.specs.Rows.{Row}
 use Rattle.fleet_model.specs.Nodes.{is_among}
@@ -33,10 +33,10 @@ PlainFits party store _ = ⊥
 
 -- ---- draws
 
--- A number may be drawn while the history is shorter than the least number of a drawn table. So no
--- number outgrows its part of an id, and no id is drawn twice.
+-- A number may be drawn while the history, with the entry of the draw, is shorter than the numbers
+-- of drawn tables. So no number outgrows its part of an id, and no id is drawn twice.
 abbrev pub DrawFits : Store → Type 0
-DrawFits store = length store.history < drawn_base
+DrawFits store = length store.history + 1 < drawn_base
 
 -- ---- tables
 

@@ -1,0 +1,189 @@
+-- The invariant and the facts, with what they say of each job in one record. So a law about a call looks at each job once.
+use Rattle.std.proofs.Common.{◌≡◌, ℕ, List, false}
+use Rattle.std.specs.Prelude.{◌≢◌, ◌||◌, IsTrue, is_none}
+use Rattle.std.specs.List.{AllByRecursion}
+use Rattle.row_model.specs.Lists.{Pairs}
+use Rattle.row_model.specs.Fold.{Operator}
+use Rattle.fleet_model.specs.Nodes.{Trees}
+use Rattle.fleet_model.specs.Jobs.{JobSpec, Job, Submitted, Scheduled, Compacted, has_status, is_active, is_finished, contains, trimmed}
+use Rattle.fleet_model.specs.History.{Entry, stood}
+use Rattle.fleet_model.specs.Store.{Manifest, Store, stored_jobs, fresh_store, AreHeld, WerePut}
+use Rattle.fleet_model.specs.Replay.{plain_objects, replayed}
+use Rattle.fleet_model.specs.TreesFit.{IsSound, AreTrees}
+use Rattle.fleet_model.specs.JobsFit.{NodesHeldOnce, OpenedStands, OutputsFit, was_joined}
+use Rattle.fleet_model.specs.AttemptsFit.{JobContext, was_beaten}
+use Rattle.fleet_model.specs.ReadsFit.{TreeKeepsReads}
+use Rattle.fleet_model.specs.Gates.{reserves_nodes}
+use Rattle.fleet_model.specs.Handles.{job_tables}
+use Rattle.fleet_model.specs.Invariant.{StoreInvariant, JobTablesHeld}
+use Rattle.step_model.specs.Past.{Told}
+use Rattle.step_model.specs.Entries.{drawn_jobs, drawn_tables, mentioned_in, was_named, attempts_in, planned_attempts, claimed_attempts}
+use Rattle.step_model.specs.Faithful.{Faithful}
+use Rattle.step_model.specs.LawfulTables.{was_piece}
+use Rattle.step_model.specs.NamesKept.{DrawsKept, IsUpTo}
+use Rattle.step_model.specs.TablesKept.{PutsKept, PiecesKept, IsFlushed, NameApart, is_unjoined}
+use Rattle.step_model.specs.JoinsKept.{JoinStands, joins_in}
+use Rattle.step_model.specs.Facts.{EpochsKept, PastKept}
+use Rattle.step_model.specs.Keeps.{Keeps}
+use Rattle.step_laws.proofs.Elements.{all_at, all_from, all_to}
+
+-- ---- one job
+
+-- What the facts say of a stored job.
+pub record JobFacts (history : List Entry) (past : List Manifest) (trees : Trees) (job : Job) : Type 0 where
+  pub named : IsTrue (was_named history job.id)
+  pub unbeaten : IsTrue (has_status Submitted job) → was_beaten history job.id ≡ false
+  pub unleased : IsTrue (has_status Submitted job || has_status Scheduled job) → IsTrue (is_none job.lease)
+  pub flushed : IsTrue (reserves_nodes job) → AllByRecursion (IsFlushed history) job.spec.sources
+  pub drawn : IsTrue (is_active job) → AllByRecursion (λ table. IsTrue (contains (drawn_tables history) table)) (job_tables job)
+  pub unused : IsTrue (is_unjoined history job) → AllByRecursion (λ table. was_piece past table ≡ false) (job_tables job)
+  pub late : IsTrue (was_joined history job.id) → IsTrue (has_status Compacted job || is_finished job.status)
+  pub stand : IsTrue (has_status Compacted job) → IsTrue (was_joined history job.id) → JoinStands past trees job
+
+-- What the invariant says of a stored job.
+pub record JobFits (merge : Operator) (store : Store) (specs : ℕ → JobSpec) (job : Job) : Type 0 where
+  pub sources : OpenedStands store job
+  pub context : JobContext merge store specs job
+  pub outputs : IsTrue (has_status Compacted job) → OutputsFit merge store specs job
+  pub tables : IsTrue (is_active job) → JobTablesHeld store job
+
+-- Both, and the spec that each faithful replay has for the job.
+pub record JobKept (merge : Operator) (told : Told) (specs : ℕ → JobSpec) (job : Job) : Type 0 where
+  pub fits : JobFits merge told.store specs job
+  pub facts : JobFacts told.store.history told.past told.store.manifest.trees job
+  pub spec : (others : ℕ → JobSpec) → Faithful told others → others job.id ≡ job.spec
+
+-- ---- the whole
+
+-- Everything but the facts on draws and on puts of tables.
+pub record Body (merge : Operator) (told : Told) (specs : ℕ → JobSpec) : Type 0 where
+  pub sound : IsSound told.store
+  pub trees : AreTrees told.store
+  pub held_once : NodesHeldOnce (stored_jobs told.store)
+  pub pieces : AllByRecursion (λ s. AllByRecursion (λ node. AreHeld told.store node.pieces) s.tree) told.store.manifest.trees
+  pub flushes : AllByRecursion (λ s. AllByRecursion (λ node. WerePut told.store node.flushes) s.tree) told.store.manifest.trees
+  pub reads : AllByRecursion (λ s. TreeKeepsReads merge told.store s.tree) told.store.manifest.trees
+  pub objects : plain_objects told.store ≡ replayed told.store.tables specs told.store.history (plain_objects fresh_store)
+  pub faithful : Faithful told specs
+  pub mentioned : AllByRecursion (λ entry. AllByRecursion (λ id. IsTrue (contains (drawn_jobs told.store.history) id)) (mentioned_in entry)) told.store.history
+  pub trimmed_already : trimmed (stored_jobs told.store) ≡ stored_jobs told.store
+  pub up_to : AllByRecursion (λ entry. IsTrue (stood entry.answer) → AllByRecursion (IsUpTo told.store.history (stored_jobs told.store)) (attempts_in entry.event)) told.store.history
+  pub planned : AllByRecursion (λ entry. AllByRecursion (IsUpTo told.store.history (stored_jobs told.store)) (planned_attempts entry.event)) told.store.history
+  pub once : Pairs (λ a b. a ≢ b) (claimed_attempts told.store.history)
+  pub nodes : PiecesKept told.store.history told.past told.store.manifest.trees
+  pub name_apart : Pairs NameApart (stored_jobs told.store)
+  pub joined : AllByRecursion (λ entry. IsTrue (stood entry.answer) → AllByRecursion (λ id. IsTrue (was_named told.store.history id)) (joins_in entry.event)) told.store.history
+  pub epochs : EpochsKept told.store.manifest.epoch told.store.history
+  pub past : PastKept told.store.manifest told.past
+  pub jobs : AllByRecursion (JobKept merge told specs) (stored_jobs told.store)
+
+-- Everything, by the specs of the replay.
+pub record Whole (merge : Operator) (told : Told) (specs : ℕ → JobSpec) : Type 0 where
+  pub body : Body merge told specs
+  pub draws : DrawsKept told.store.jobs_drawn told.store.tables_drawn told.store.history
+  pub puts : PutsKept told.store.history told.store.tables
+
+pub whole_of : (merge : Operator) (told : Told) (k : Keeps merge told) → Whole merge told k.stored.replay.specs
+whole_of merge told k =
+    let s = k.stored in
+    let f = k.facts in
+    record {
+      body = record {
+        sound = s.sound;
+        trees = s.trees;
+        held_once = s.held_once;
+        pieces = s.tables.pieces;
+        flushes = s.tables.flushes;
+        reads = s.reads;
+        objects = s.replay.objects;
+        faithful = k.faithful;
+        mentioned = f.names.drawn;
+        trimmed_already = f.names.trimmed_already;
+        up_to = f.attempts.up_to;
+        planned = f.attempts.planned;
+        once = f.attempts.once;
+        nodes = f.pieces;
+        name_apart = f.tables.apart;
+        joined = f.joins.named;
+        epochs = f.epochs;
+        past = f.past;
+        jobs = all_from _ (stored_jobs told.store) (λ job there. record {
+          fits = record {
+            sources = all_at _ _ job s.sources there;
+            context = all_at _ _ job s.contexts there;
+            outputs = all_at _ _ job s.outputs there;
+            tables = all_at _ _ job s.tables.jobs there;
+          };
+          facts = record {
+            named = all_at _ _ job f.names.named there;
+            unbeaten = all_at _ _ job f.attempts.unbeaten there;
+            unleased = all_at _ _ job f.attempts.unleased there;
+            flushed = all_at _ _ job f.tables.sources there;
+            drawn = all_at _ _ job f.tables.drawn there;
+            unused = all_at _ _ job f.tables.unused there;
+            late = all_at _ _ job f.joins.late there;
+            stand = all_at _ _ job f.joins.stand there;
+          };
+          spec = λ others faithful. all_at _ _ job (f.names.specs others faithful) there;
+        });
+      };
+      draws = f.draws;
+      puts = f.puts;
+    }
+
+-- A property of each job, out of what is kept of it.
+each : {merge : Operator} {told : Told} {specs : ℕ → JobSpec} (P : Job → Type 0) (b : Body merge told specs) → ((job : Job) → JobKept merge told specs job → P job) → AllByRecursion P (stored_jobs told.store)
+each {merge} {told} {specs} P b f = all_to (JobKept merge told specs) P (stored_jobs told.store) (λ job there kept. f job kept) b.jobs
+
+stored : (merge : Operator) (told : Told) (specs : ℕ → JobSpec) → Body merge told specs → StoreInvariant merge told.store
+stored merge told specs b = record {
+  sound = b.sound;
+  replay = record { specs = specs; agrees = b.faithful.agrees; objects = b.objects };
+  trees = b.trees;
+  held_once = b.held_once;
+  sources = each _ b (λ job kept. kept.fits.sources);
+  contexts = each _ b (λ job kept. kept.fits.context);
+  outputs = each _ b (λ job kept. kept.fits.outputs);
+  tables = record { pieces = b.pieces; flushes = b.flushes; jobs = each _ b (λ job kept. kept.fits.tables) };
+  reads = b.reads;
+}
+
+pub keeps_of : (merge : Operator) (told : Told) (specs : ℕ → JobSpec) → Whole merge told specs → Keeps merge told
+unfolding stored
+keeps_of merge told specs w =
+    let b = w.body in
+    record {
+      stored = stored merge told specs b;
+      faithful = b.faithful;
+      facts = record {
+        draws = w.draws;
+        names = record {
+          drawn = b.mentioned;
+          named = each _ b (λ job kept. kept.facts.named);
+          specs = λ others faithful. each _ b (λ job kept. kept.spec others faithful);
+          trimmed_already = b.trimmed_already;
+        };
+        attempts = record {
+          up_to = b.up_to;
+          planned = b.planned;
+          once = b.once;
+          unbeaten = each _ b (λ job kept. kept.facts.unbeaten);
+          unleased = each _ b (λ job kept. kept.facts.unleased);
+        };
+        puts = w.puts;
+        pieces = b.nodes;
+        tables = record {
+          sources = each _ b (λ job kept. kept.facts.flushed);
+          apart = b.name_apart;
+          drawn = each _ b (λ job kept. kept.facts.drawn);
+          unused = each _ b (λ job kept. kept.facts.unused);
+        };
+        joins = record {
+          named = b.joined;
+          late = each _ b (λ job kept. kept.facts.late);
+          stand = each _ b (λ job kept. kept.facts.stand);
+        };
+        epochs = b.epochs;
+        past = b.past;
+      };
+    }

@@ -1,0 +1,14 @@
+pub mod Elements
+pub mod Mute
+pub mod Told
+pub mod Replays
+pub mod Alike
+pub mod Bodies
+pub mod Grown
+pub mod MuteBodies
+pub mod Respecs
+pub mod Quiet
+pub mod Vain
+pub mod Draws
+pub mod Fresh
+pub mod Runs

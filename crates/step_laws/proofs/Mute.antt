@@ -1,0 +1,68 @@
+-- Entries that change no stored object: their event is no put of an object, or the put did not take effect.
+use Rattle.std.proofs.Common.{◌≡◌, refl, ℕ, [], Bool, true, false, None}
+use Rattle.std.specs.Prelude.{◌&&◌, IsTrue, if◌then◌else◌}
+use Rattle.fleet_model.specs.Nodes.{Tables}
+use Rattle.fleet_model.specs.Jobs.{JobSpec}
+use Rattle.fleet_model.specs.History.{Event, PutManifest, PutRecords}
+use Rattle.fleet_model.specs.Replay.{Objects, after_event}
+use Rattle.fleet_model.specs.Claimed.{beaten_in}
+use Rattle.fleet_model.specs.JobsFit.{joins}
+use Rattle.fleet_model.specs.AttemptsFit.{beats}
+use Rattle.step_model.specs.Entries.{steps_in, attempts_in, claims_in, epoch_in, tables_brought_in}
+use Rattle.step_model.specs.JoinsKept.{joins_in}
+
+-- What the entry of an event leaves as it was. The flag says that the event took effect.
+pub record IsMute (took : Bool) (event : Event) : Type 0 where
+  pub objects : (tables : Tables) (specs : ℕ → JobSpec) (o : Objects) → (if took then after_event tables specs event o else o) ≡ o
+  pub steps : (if took then steps_in event else []) ≡ []
+  pub attempts : IsTrue took → attempts_in event ≡ []
+  pub claims : claims_in took event ≡ []
+  pub beats : (job : ℕ) → (beats job event && took) ≡ false
+  pub beaten : (job : ℕ) → (if took then beaten_in job event else None) ≡ None
+  pub brought : tables_brought_in took event ≡ []
+  pub joins : (job : ℕ) → (joins job event && took) ≡ false
+  pub joined : IsTrue took → joins_in event ≡ []
+  pub epoch : epoch_in took event ≡ []
+
+-- The event is a put of the manifest or of the records.
+abbrev pub puts_object : Event → Bool
+puts_object (PutManifest change) = true
+puts_object (PutRecords change) = true
+puts_object _ = false
+
+and_never : (b : Bool) → (b && false) ≡ false
+and_never true = refl
+and_never false = refl
+
+-- A put that did not take effect is mute.
+pub mute_refused : (event : Event) → IsMute false event
+mute_refused event = record {
+  objects = λ tables specs o. refl;
+  steps = refl;
+  attempts = λ took. absurd (cc took);
+  claims = refl;
+  beats = λ job. and_never (beats job event);
+  beaten = λ job. refl;
+  brought = refl;
+  joins = λ job. and_never (joins job event);
+  joined = λ took. absurd (cc took);
+  epoch = refl;
+}
+
+-- An event that is no put of an object is mute.
+pub mute_event : (took : Bool) (event : Event) → puts_object event ≡ false → IsMute took event
+mute_event false event h = mute_refused event
+mute_event true (PutManifest change) h = absurd (cc h)
+mute_event true (PutRecords change) h = absurd (cc h)
+mute_event true event h = record {
+  objects = λ tables specs o. refl;
+  steps = refl;
+  attempts = λ took. refl;
+  claims = refl;
+  beats = λ job. refl;
+  beaten = λ job. refl;
+  brought = refl;
+  joins = λ job. refl;
+  joined = λ took. refl;
+  epoch = refl;
+}

@@ -1,0 +1,40 @@
+-- The laws on single calls: lawful ones keep the invariant.
+use Rattle.std.specs.Prelude.{◌≡◌, ℕ, false, Some}
+use Rattle.row_model.specs.Fold.{Operator}
+use Rattle.fleet_model.specs.Jobs.{Jobs}
+use Rattle.fleet_model.specs.History.{Party, Event, ManifestChange, RecordChange}
+use Rattle.fleet_model.specs.Store.{Manifest}
+use Rattle.fleet_model.specs.Exchanges.{Exchange, Plain, DrawsJob, DrawsTable, PutsManifest, PutsRecords, ListsTables, records_version}
+use Rattle.step_model.specs.Past.{Told}
+use Rattle.step_model.specs.Lawful.{Lawful}
+use Rattle.step_model.specs.Rivals.{Strike, MayStrike, told_by}
+use Rattle.step_model.specs.Keeps.{Keeps}
+
+-- A call that is lawful where it comes keeps the invariant and the facts, whether a fault strikes it
+-- or not.
+abbrev pub CallKeeps : Operator → Exchange → Type 0
+CallKeeps merge x = (line : ℕ) (party : Party) (strike : Strike) (told : Told)
+    → Keeps merge told → Lawful merge party told x → MayStrike x told strike → Keeps merge (told_by line party x strike told)
+
+-- ---- gets, notes and draws
+
+-- Gets, notes and lists of the held tables keep the invariant.
+pub record LooksKeep (merge : Operator) : Type 0 where
+  pub plain : (event : Event) → CallKeeps merge (Plain event)
+  pub lists : CallKeeps merge ListsTables
+
+-- Draws keep the invariant.
+pub record DrawsKeep (merge : Operator) : Type 0 where
+  pub jobs : (moment : ℕ) → CallKeeps merge (DrawsJob moment)
+  pub tables : (moment : ℕ) → CallKeeps merge (DrawsTable moment)
+
+-- ---- puts that change nothing
+
+-- Puts that a fault strikes and that are lost keep the invariant, and so do puts of the manifest and
+-- of the records that are refused because another version is stored.
+pub record VainPutsKeep (merge : Operator) : Type 0 where
+  pub lost : (x : Exchange) (line : ℕ) (party : Party) (told : Told) → Keeps merge told → Lawful merge party told x → MayStrike x told (Some false) → Keeps merge (told_by line party x (Some false) told)
+  pub refused : (line : ℕ) (party : Party) (strike : Strike) (told : Told) (version : ℕ) (change : ManifestChange) (value : Manifest) → Keeps merge told
+      → (version ≡ told.store.manifest.version → ⊥) → Keeps merge (told_by line party (PutsManifest version change value) strike told)
+  pub records_refused : (line : ℕ) (party : Party) (strike : Strike) (told : Told) (version : ℕ) (change : RecordChange) (epoch : ℕ) (jobs : Jobs) → Keeps merge told
+      → Lawful merge party told (PutsRecords version change epoch jobs) → (version ≡ records_version told.store.records → ⊥) → Keeps merge (told_by line party (PutsRecords version change epoch jobs) strike told)

@@ -1,0 +1,42 @@
+//! Laws on the steps of a fleet's parties. Each function has an empty body, and its clause states a
+//! law about calls of a store: lawful calls keep the store's invariant.
+#![tactic(auto)]
+
+ghost use Rattle.row_model.specs.Fold.{Operator};
+ghost use Rattle.step_model.specs.Keeps.{Keeps};
+ghost use Rattle.step_model.specs.Past.{fresh_told};
+ghost use Rattle.step_laws.specs.CallLaws.{DrawsKeep, LooksKeep, VainPutsKeep};
+ghost use Rattle.step_laws.specs.Replays.{FaithfulAlike};
+ghost use Rattle.step_laws.specs.Runs.{LawfulRunsKeep};
+
+/// A fresh store meets the invariant and the facts that lawful calls keep.
+pub fn fresh_keeps()
+    ensures { (merge : Operator) → Keeps merge fresh_told }
+{}
+
+/// Any two faithful choices of specs give the same replay after each part of the history.
+pub fn faithful_alike()
+    ensures { FaithfulAlike }
+{}
+
+/// Gets, notes and lists of the held tables keep the invariant, if they are lawful.
+pub fn looks_keep()
+    ensures { (merge : Operator) → LooksKeep merge }
+{}
+
+/// Draws keep the invariant, if they are lawful. No id is drawn twice.
+pub fn draws_keep()
+    ensures { (merge : Operator) → DrawsKeep merge }
+{}
+
+/// Puts that change nothing keep the invariant, whether they are lost or refused. If they are puts
+/// of the records, they must be fit to name the jobs that their entries name.
+pub fn vain_puts_keep()
+    ensures { (merge : Operator) → VainPutsKeep merge }
+{}
+
+/// If each lawful call keeps the invariant, then so do calls of others, and so does each run of a
+/// lawful course, whatever calls of others come in between and however the run ends.
+pub fn lawful_runs_keep()
+    ensures { LawfulRunsKeep }
+{}
