@@ -12,3 +12,11 @@ pub mod Vain
 pub mod Draws
 pub mod Fresh
 pub mod Runs
+pub mod Held
+pub mod Deletions
+pub mod TableReplays
+pub mod TableBodies
+pub mod TablePuts
+pub mod ManifestBodies
+pub mod ManifestPuts
+pub mod ManifestEpochs

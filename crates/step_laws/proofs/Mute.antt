@@ -11,17 +11,21 @@ use Rattle.fleet_model.specs.AttemptsFit.{beats}
 use Rattle.step_model.specs.Entries.{steps_in, attempts_in, claims_in, epoch_in, tables_brought_in}
 use Rattle.step_model.specs.JoinsKept.{joins_in}
 
--- What the entry of an event leaves as it was. The flag says that the event took effect.
-pub record IsMute (took : Bool) (event : Event) : Type 0 where
-  pub objects : (tables : Tables) (specs : ℕ → JobSpec) (o : Objects) → (if took then after_event tables specs event o else o) ≡ o
+-- The entry of an event says nothing of jobs and attempts. The flag says that the event took effect.
+pub record IsQuiet (took : Bool) (event : Event) : Type 0 where
   pub steps : (if took then steps_in event else []) ≡ []
   pub attempts : IsTrue took → attempts_in event ≡ []
   pub claims : claims_in took event ≡ []
   pub beats : (job : ℕ) → (beats job event && took) ≡ false
   pub beaten : (job : ℕ) → (if took then beaten_in job event else None) ≡ None
-  pub brought : tables_brought_in took event ≡ []
   pub joins : (job : ℕ) → (joins job event && took) ≡ false
   pub joined : IsTrue took → joins_in event ≡ []
+
+-- The entry of an event changes no object either.
+pub record IsMute (took : Bool) (event : Event) : Type 0 where
+  pub quiet : IsQuiet took event
+  pub objects : (tables : Tables) (specs : ℕ → JobSpec) (o : Objects) → (if took then after_event tables specs event o else o) ≡ o
+  pub brought : tables_brought_in took event ≡ []
   pub epoch : epoch_in took event ≡ []
 
 -- The event is a put of the manifest or of the records.
@@ -37,15 +41,17 @@ and_never false = refl
 -- A put that did not take effect is mute.
 pub mute_refused : (event : Event) → IsMute false event
 mute_refused event = record {
+  quiet = record {
+    steps = refl;
+    attempts = λ took. absurd (cc took);
+    claims = refl;
+    beats = λ job. and_never (beats job event);
+    beaten = λ job. refl;
+    joins = λ job. and_never (joins job event);
+    joined = λ took. absurd (cc took);
+  };
   objects = λ tables specs o. refl;
-  steps = refl;
-  attempts = λ took. absurd (cc took);
-  claims = refl;
-  beats = λ job. and_never (beats job event);
-  beaten = λ job. refl;
   brought = refl;
-  joins = λ job. and_never (joins job event);
-  joined = λ took. absurd (cc took);
   epoch = refl;
 }
 
@@ -55,14 +61,16 @@ mute_event false event h = mute_refused event
 mute_event true (PutManifest change) h = absurd (cc h)
 mute_event true (PutRecords change) h = absurd (cc h)
 mute_event true event h = record {
+  quiet = record {
+    steps = refl;
+    attempts = λ took. refl;
+    claims = refl;
+    beats = λ job. refl;
+    beaten = λ job. refl;
+    joins = λ job. refl;
+    joined = λ took. refl;
+  };
   objects = λ tables specs o. refl;
-  steps = refl;
-  attempts = λ took. refl;
-  claims = refl;
-  beats = λ job. refl;
-  beaten = λ job. refl;
   brought = refl;
-  joins = λ job. refl;
-  joined = λ took. refl;
   epoch = refl;
 }

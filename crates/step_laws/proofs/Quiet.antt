@@ -5,13 +5,14 @@ use Rattle.std.specs.List.{AllByRecursion}
 use Rattle.std.proofs.lemmas.List.{length_push}
 use Rattle.std.proofs.lemmas.Bool.Decides.{Decides-eqb}
 use Rattle.row_model.specs.Fold.{Operator}
+use Rattle.fleet_model.specs.Nodes.{Tables, is_among}
 use Rattle.fleet_model.specs.Jobs.{JobSpec}
 use Rattle.fleet_model.specs.History.{Party, Event, GetManifest, GetRecords, GetTable, PutTable, PutRecords, Plan, Start, Kill, ListTables, Claim, Answer, Lost, Entry, stood}
 use Rattle.fleet_model.specs.Store.{stored_jobs}
 use Rattle.fleet_model.specs.Replay.{named_specs}
 use Rattle.fleet_model.specs.Exchanges.{Plain, ListsTables, answer_of, stands_or_lost, logged}
 use Rattle.step_model.specs.Past.{Told, told_after}
-use Rattle.step_model.specs.Entries.{job_drawn_in, table_drawn_in, table_put_in, planned_attempts, was_claimed, claims, is_in, attempts_in}
+use Rattle.step_model.specs.Entries.{job_drawn_in, table_drawn_in, table_put_in, tables_brought_in, planned_attempts, was_claimed, claims, is_in, attempts_in}
 use Rattle.step_model.specs.LawfulTables.{PlainFits}
 use Rattle.step_model.specs.NamesKept.{DrawsKept, IsUpTo}
 use Rattle.step_model.specs.TablesKept.{PutsKept}
@@ -53,15 +54,20 @@ draws_mute jobs_drawn tables_drawn history entry none no_table h =
       few = let few = h.few in omega (arith, few, longer);
     }
 
-pub puts_mute : (history : List Entry) (entry : Entry) (tables : _) → IsMute (stood entry.answer) entry.event → table_put_in (stood entry.answer) entry.event ≡ [] → PutsKept history tables → PutsKept (history ++ entry ∷ []) tables
-puts_mute history entry tables mute none h =
+-- No table is put, and what the entry brings was put.
+pub puts_kept : (history : List Entry) (entry : Entry) (tables : Tables) → table_put_in (stood entry.answer) entry.event ≡ [] → AllByRecursion (λ id. IsTrue (is_among tables id)) (tables_brought_in (stood entry.answer) entry.event)
+    → PutsKept history tables → PutsKept (history ++ entry ∷ []) tables
+puts_kept history entry tables none brought h =
     let puts = flat_push_none (λ (e : Entry). table_put_in (stood e.answer) e.event) history entry none in
     record {
       known = all_to _ _ tables (λ table there known. table_grows history entry table.0 known) h.known;
       put = rw puts h.put;
       once = rw puts h.once;
-      brought = all_push _ history entry h.brought (rw mute.brought tt);
+      brought = all_push _ history entry h.brought brought;
     }
+
+pub puts_mute : (history : List Entry) (entry : Entry) (tables : Tables) → IsMute (stood entry.answer) entry.event → table_put_in (stood entry.answer) entry.event ≡ [] → PutsKept history tables → PutsKept (history ++ entry ∷ []) tables
+puts_mute history entry tables mute none h = puts_kept history entry tables none (rw mute.brought tt) h
 
 -- The event puts a table.
 abbrev pub puts_a_table : Event → Bool
@@ -84,7 +90,7 @@ keeps_mute merge told entry mute unnamed no_job no_table no_put planned k =
     subst (Keeps merge) (sym (told_entered told told.store.deleted told.store.jobs_drawn told.store.tables_drawn entry))
     (keeps_of merge (entered told told.store.deleted told.store.jobs_drawn told.store.tables_drawn entry) specs (record {
       body = body_mute merge told specs told.store.deleted told.store.jobs_drawn told.store.tables_drawn entry mute (rw unnamed tt) (spares_all merge told specs w.body)
-          (record { mentioned = rw (unnamed, mute.steps) tt; planned = planned }) w.body;
+          (record { mentioned = rw (unnamed, mute.quiet.steps) tt; planned = planned }) w.body;
       draws = draws_mute told.store.jobs_drawn told.store.tables_drawn told.store.history entry no_job no_table w.draws;
       puts = puts_mute told.store.history entry told.store.tables mute no_put w.puts;
     }))

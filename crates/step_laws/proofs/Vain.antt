@@ -41,7 +41,7 @@ vain_records merge told line party change answer not_stood fits k =
     subst (Keeps merge) (sym (told_entered told told.store.deleted told.store.jobs_drawn told.store.tables_drawn entry))
     (keeps_of merge (entered told told.store.deleted told.store.jobs_drawn told.store.tables_drawn entry) specs (record {
       body = body_mute merge told specs told.store.deleted told.store.jobs_drawn told.store.tables_drawn entry mute (named_agree named k.stored.replay.specs fits.once) (spares_all merge told _ w.body)
-          (record { mentioned = all_append _ _ _ (all_firsts _ named (named_drawn party told named fits)) (rw mute.steps tt); planned = tt })
+          (record { mentioned = all_append _ _ _ (all_firsts _ named (named_drawn party told named fits)) (rw mute.quiet.steps tt); planned = tt })
           (body_by merge told k.stored.replay.specs specs w.body (fits.replays k.stored.replay.specs k.faithful));
       draws = draws_mute told.store.jobs_drawn told.store.tables_drawn told.store.history entry refl refl w.draws;
       puts = puts_mute told.store.history entry told.store.tables mute (rw not_stood refl) w.puts;

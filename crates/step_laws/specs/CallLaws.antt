@@ -1,10 +1,11 @@
 -- The laws on single calls: lawful ones keep the invariant.
-use Rattle.std.specs.Prelude.{◌≡◌, ℕ, false, Some}
+use Rattle.std.specs.Prelude.{◌≡◌, ℕ, List, Some, false}
 use Rattle.row_model.specs.Fold.{Operator}
 use Rattle.fleet_model.specs.Jobs.{Jobs}
 use Rattle.fleet_model.specs.History.{Party, Event, ManifestChange, RecordChange}
 use Rattle.fleet_model.specs.Store.{Manifest}
-use Rattle.fleet_model.specs.Exchanges.{Exchange, Plain, DrawsJob, DrawsTable, PutsManifest, PutsRecords, ListsTables, records_version}
+use Rattle.row_model.specs.Rows.{Row}
+use Rattle.fleet_model.specs.Exchanges.{Exchange, Plain, DrawsJob, DrawsTable, PutsTable, PutsManifest, PutsRecords, ListsTables, DeletesTable, records_version}
 use Rattle.step_model.specs.Past.{Told}
 use Rattle.step_model.specs.Lawful.{Lawful}
 use Rattle.step_model.specs.Rivals.{Strike, MayStrike, told_by}
@@ -38,3 +39,20 @@ pub record VainPutsKeep (merge : Operator) : Type 0 where
       → (version ≡ told.store.manifest.version → ⊥) → Keeps merge (told_by line party (PutsManifest version change value) strike told)
   pub records_refused : (line : ℕ) (party : Party) (strike : Strike) (told : Told) (version : ℕ) (change : RecordChange) (epoch : ℕ) (jobs : Jobs) → Keeps merge told
       → Lawful merge party told (PutsRecords version change epoch jobs) → (version ≡ records_version told.store.records → ⊥) → Keeps merge (told_by line party (PutsRecords version change epoch jobs) strike told)
+
+-- ---- tables
+
+-- Puts and deletions of tables keep the invariant.
+pub record TableCallsKeep (merge : Operator) : Type 0 where
+  pub puts : (table : ℕ) (rows : List Row) → CallKeeps merge (PutsTable table rows)
+  pub deletions : (table : ℕ) → CallKeeps merge (DeletesTable table)
+
+-- ---- puts of the manifest and of the records
+
+-- A put of the manifest with this change keeps the invariant.
+abbrev pub ManifestPutKeeps : Operator → ManifestChange → Type 0
+ManifestPutKeeps merge change = (version : ℕ) (value : Manifest) → CallKeeps merge (PutsManifest version change value)
+
+-- A put of the records with this change keeps the invariant.
+abbrev pub RecordsPutKeeps : Operator → RecordChange → Type 0
+RecordsPutKeeps merge change = (version epoch : ℕ) (jobs : Jobs) → CallKeeps merge (PutsRecords version change epoch jobs)

@@ -5,7 +5,7 @@
 ghost use Rattle.row_model.specs.Fold.{Operator};
 ghost use Rattle.step_model.specs.Keeps.{Keeps};
 ghost use Rattle.step_model.specs.Past.{fresh_told};
-ghost use Rattle.step_laws.specs.CallLaws.{DrawsKeep, LooksKeep, VainPutsKeep};
+ghost use Rattle.step_laws.specs.CallLaws.{DrawsKeep, LooksKeep, TableCallsKeep, VainPutsKeep};
 ghost use Rattle.step_laws.specs.Replays.{FaithfulAlike};
 ghost use Rattle.step_laws.specs.Runs.{LawfulRunsKeep};
 
@@ -39,4 +39,10 @@ pub fn vain_puts_keep()
 /// lawful course, whatever calls of others come in between and however the run ends.
 pub fn lawful_runs_keep()
     ensures { LawfulRunsKeep }
+{}
+
+/// Puts and deletions of tables keep the invariant, if they are lawful. A table that is put later
+/// changes nothing that the history says, and a deletion takes no table that is still needed.
+pub fn table_calls_keep()
+    ensures { (merge : Operator) → TableCallsKeep merge }
 {}
