@@ -20,3 +20,4 @@ pub mod TablePuts
 pub mod ManifestBodies
 pub mod ManifestPuts
 pub mod ManifestEpochs
+pub mod Plain
