@@ -13,7 +13,7 @@ use Rattle.step_model.specs.Entries.{was_named, was_flushed, flushes, drawn_tabl
 use Rattle.step_model.specs.NamesKept.{IsUpTo}
 use Rattle.step_model.specs.TablesKept.{IsKnownPiece, IsKnownTable, IsFlush, IsPassed, IsFlushed, PiecesKept}
 use Rattle.step_laws.proofs.Elements.{all_to, any_front, any_push_no, contains_front, flat_push}
-use Rattle.step_laws.proofs.Mute.{IsQuiet}
+use Rattle.step_laws.proofs.Mute.{IsQuietFor}
 use Rattle.step_laws.proofs.Bodies.{JobFacts}
 
 -- ---- what grows
@@ -82,12 +82,12 @@ joined_stays history entry id fails = any_push_no (λ (e : Entry). joins id e.ev
 pub beaten_stays_so : (history : List Entry) (entry : Entry) (id : ℕ) → (beats id entry.event && stood entry.answer) ≡ false → was_beaten (history ++ entry ∷ []) id ≡ was_beaten history id
 beaten_stays_so history entry id fails = any_push_no (λ (e : Entry). beats id e.event && stood e.answer) history entry fails
 
-pub facts_quiet : (history : List Entry) (entry : Entry) (past : List Manifest) (trees : Trees) (job : Job) → IsQuiet (stood entry.answer) entry.event → JobFacts history past trees job → JobFacts (history ++ entry ∷ []) past trees job
+pub facts_quiet : (history : List Entry) (entry : Entry) (past : List Manifest) (trees : Trees) (job : Job) → IsQuietFor (stood entry.answer) entry.event job.id → JobFacts history past trees job → JobFacts (history ++ entry ∷ []) past trees job
 facts_quiet history entry past trees job quiet h =
-    let joined = joined_stays history entry job.id (quiet.joins job.id) in
+    let joined = joined_stays history entry job.id (quiet.joins) in
     record {
       named = named_grows history entry job.id h.named;
-      unbeaten = λ is. beaten_stays_so history entry job.id (quiet.beats job.id) ∙ h.unbeaten is;
+      unbeaten = λ is. beaten_stays_so history entry job.id (quiet.beats) ∙ h.unbeaten is;
       unleased = h.unleased;
       flushed = λ holds. all_to _ _ job.spec.sources (λ name there old. source_grows history entry name old) (h.flushed holds);
       drawn = λ active. all_to _ _ _ (λ id there old. drawn_table_grows history entry id old) (h.drawn active);

@@ -21,3 +21,5 @@ pub mod ManifestBodies
 pub mod ManifestPuts
 pub mod ManifestEpochs
 pub mod Plain
+pub mod RecordsBodies
+pub mod RecordsPuts

@@ -26,7 +26,7 @@ use Rattle.step_model.specs.TablesKept.{PiecesKept}
 use Rattle.step_model.specs.JoinsKept.{JoinStands}
 use Rattle.step_model.specs.Facts.{EpochsKept, PastKept}
 use Rattle.step_laws.proofs.Elements.{IsIn, all_to, all_push, all_front, pairs_push, flat_push_none, found_front, is_itself, Cut, Whole, Before, cut_where}
-use Rattle.step_laws.proofs.Mute.{IsQuiet}
+use Rattle.step_laws.proofs.Mute.{IsQuiet, quiet_for}
 use Rattle.step_laws.proofs.Replays.{replayed_push, part_version}
 use Rattle.step_laws.proofs.Grown.{named_grows, drawn_job_grows, up_to_grows, facts_quiet}
 use Rattle.step_laws.proofs.Bodies.{JobFacts, JobFits, JobKept, Body}
@@ -252,8 +252,8 @@ body_with_manifest merge told specs manifest entry is f each b = record {
   past = past_grows told.store.manifest manifest told.past f.next b.past;
   jobs = all_to (JobKept merge told specs) (JobKept merge (with_manifest told manifest entry) specs) (stored_jobs told.store) (λ job there kept. record {
     fits = fits_with_manifest merge told specs manifest (told.store.history ++ entry ∷ []) job (each job there kept)
-        (fits_quiet merge told specs told.store.deleted told.store.jobs_drawn told.store.tables_drawn entry job is.quiet (spares_all merge told specs b) there kept.fits);
-    facts = facts_with_manifest told manifest (told.store.history ++ entry ∷ []) job (each job there kept) (facts_quiet told.store.history entry told.past told.store.manifest.trees job is.quiet kept.facts);
+        (fits_quiet merge told specs told.store.deleted told.store.jobs_drawn told.store.tables_drawn entry job (quiet_for _ _ job.id is.quiet) (spares_all merge told specs b) there kept.fits);
+    facts = facts_with_manifest told manifest (told.store.history ++ entry ∷ []) job (each job there kept) (facts_quiet told.store.history entry told.past told.store.manifest.trees job (quiet_for _ _ job.id is.quiet) kept.facts);
     spec = λ others faithful. kept.spec others (faithful_before_manifest merge told specs others manifest entry b f.next faithful);
   }) b.jobs;
 }

@@ -21,6 +21,15 @@ pub record IsQuiet (took : Bool) (event : Event) : Type 0 where
   pub joins : (job : ℕ) → (joins job event && took) ≡ false
   pub joined : IsTrue took → joins_in event ≡ []
 
+-- The entry of an event says nothing of this job.
+pub record IsQuietFor (took : Bool) (event : Event) (job : ℕ) : Type 0 where
+  pub beats : (beats job event && took) ≡ false
+  pub beaten : (if took then beaten_in job event else None) ≡ None
+  pub joins : (joins job event && took) ≡ false
+
+pub quiet_for : (took : Bool) (event : Event) (job : ℕ) → IsQuiet took event → IsQuietFor took event job
+quiet_for took event job q = record { beats = q.beats job; beaten = q.beaten job; joins = q.joins job }
+
 -- The entry of an event changes no object either.
 pub record IsMute (took : Bool) (event : Event) : Type 0 where
   pub quiet : IsQuiet took event

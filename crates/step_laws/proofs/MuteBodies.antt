@@ -18,7 +18,7 @@ use Rattle.step_model.specs.Faithful.{Faithful, AgreesWith}
 use Rattle.step_model.specs.NamesKept.{IsUpTo}
 use Rattle.step_model.specs.Facts.{EpochsKept}
 use Rattle.step_laws.proofs.Elements.{IsIn, all_to, all_push, all_front, flat_push_none, Cut, Whole, Before, cut_where}
-use Rattle.step_laws.proofs.Mute.{IsMute, IsQuiet}
+use Rattle.step_laws.proofs.Mute.{IsMute, IsQuietFor, quiet_for}
 use Rattle.step_laws.proofs.Told.{settings_stay, ranges_stay}
 use Rattle.step_laws.proofs.Replays.{replayed_push}
 use Rattle.step_laws.proofs.Grown.{named_grows, joined_grows, drawn_job_grows, pieces_grow, up_to_grows, beaten_stays_so, facts_quiet}
@@ -76,19 +76,19 @@ pub record Spares (told : Told) (deleted : List ℕ) : Type 0 where
 pub spares_all : (merge : Operator) (told : Told) (specs : ℕ → JobSpec) → Body merge told specs → Spares told told.store.deleted
 spares_all merge told specs b = record { put = b.sound.deleted; pieces = b.pieces; jobs = λ job there active h. h; back = λ tables h. h }
 
-pub claimed_quiet : (store : Store) (specs : ℕ → JobSpec) (deleted : List ℕ) (jobs_drawn tables_drawn : ℕ) (entry : Entry) (job attempt : ℕ) (context : Context) → IsQuiet (stood entry.answer) entry.event
+pub claimed_quiet : (store : Store) (specs : ℕ → JobSpec) (deleted : List ℕ) (jobs_drawn tables_drawn : ℕ) (entry : Entry) (job attempt : ℕ) (context : Context) → IsQuietFor (stood entry.answer) entry.event job
     → IsClaimed store specs job attempt context → IsClaimed (record store { deleted = deleted; jobs_drawn = jobs_drawn; tables_drawn = tables_drawn; history = store.history ++ entry ∷ [] }) specs job attempt context
 claimed_quiet store specs deleted jobs_drawn tables_drawn entry job attempt context quiet h = record {
-  settings = settings_stay store.tables specs store.history entry job attempt _ (quiet.beaten job) h.settings;
-  ranges = ranges_stay store.history entry job attempt _ (quiet.beaten job) h.ranges;
+  settings = settings_stay store.tables specs store.history entry job attempt _ (quiet.beaten) h.settings;
+  ranges = ranges_stay store.history entry job attempt _ (quiet.beaten) h.ranges;
 }
 
-pub fits_quiet : (merge : Operator) (told : Told) (specs : ℕ → JobSpec) (deleted : List ℕ) (jobs_drawn tables_drawn : ℕ) (entry : Entry) (job : Job) → IsQuiet (stood entry.answer) entry.event → Spares told deleted → IsIn job (stored_jobs told.store)
+pub fits_quiet : (merge : Operator) (told : Told) (specs : ℕ → JobSpec) (deleted : List ℕ) (jobs_drawn tables_drawn : ℕ) (entry : Entry) (job : Job) → IsQuietFor (stood entry.answer) entry.event job.id → Spares told deleted → IsIn job (stored_jobs told.store)
     → JobFits merge told.store specs job → JobFits merge (entered told deleted jobs_drawn tables_drawn entry).store specs job
 fits_quiet merge told specs deleted jobs_drawn tables_drawn entry job quiet spares there h = record {
   sources = (h.sources.0, λ compacted. still (h.sources.1 compacted));
   context = record {
-    there = rw (beaten_stays_so told.store.history entry job.id (quiet.beats job.id)) h.context.there;
+    there = rw (beaten_stays_so told.store.history entry job.id (quiet.beats)) h.context.there;
     fits = if_some_to (ContextFits merge told.store specs job) (ContextFits merge (entered told deleted jobs_drawn tables_drawn entry).store specs job) job.context context h.context.fits;
   };
   outputs = λ compacted. outputs (h.outputs compacted);
@@ -111,7 +111,7 @@ fits_quiet merge told specs deleted jobs_drawn tables_drawn entry job quiet spar
     outputs : OutputsFit merge told.store specs job → OutputsFit merge (entered told deleted jobs_drawn tables_drawn entry).store specs job
     outputs fits = record {
       settings = fits.settings;
-      claimed = settings_stay told.store.tables specs told.store.history entry job.id job.attempt _ (quiet.beaten job.id) fits.claimed;
+      claimed = settings_stay told.store.tables specs told.store.history entry job.id job.attempt _ (quiet.beaten) fits.claimed;
       cut = fits.cut;
       at_most_floor = fits.at_most_floor;
       fit = still fits.fit;
@@ -160,8 +160,8 @@ body_mute merge told specs deleted jobs_drawn tables_drawn entry mute agrees spa
   epochs = epochs_mute told.store.manifest.epoch told.store.history entry mute.epoch b.epochs;
   past = b.past;
   jobs = all_to _ _ (stored_jobs told.store) (λ job there kept. record {
-    fits = fits_quiet merge told specs deleted jobs_drawn tables_drawn entry job mute.quiet spares there kept.fits;
-    facts = facts_quiet told.store.history entry told.past told.store.manifest.trees job mute.quiet kept.facts;
+    fits = fits_quiet merge told specs deleted jobs_drawn tables_drawn entry job (quiet_for _ _ job.id mute.quiet) spares there kept.fits;
+    facts = facts_quiet told.store.history entry told.past told.store.manifest.trees job (quiet_for _ _ job.id mute.quiet) kept.facts;
     spec = λ others faithful. kept.spec others (faithful_before told others deleted jobs_drawn tables_drawn entry faithful);
   }) b.jobs;
 }
