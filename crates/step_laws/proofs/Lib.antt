@@ -23,3 +23,9 @@ pub mod ManifestEpochs
 pub mod Plain
 pub mod RecordsBodies
 pub mod RecordsPuts
+pub mod Changed
+pub mod RecordsEpochs
+pub mod OpenJobs
+pub mod Beaten
+pub mod WorkerPuts
+pub mod Releases

@@ -1,10 +1,9 @@
 -- What a change of the records makes of plain jobs is the plain form of what it makes of jobs.
-use Rattle.std.proofs.Common.{◌≡◌, refl, sym, ◌∙◌, ap, subst, ℕ, ◌+◌, List, [], ◌∷◌, ◌++◌, cond, Bool, true, false, inl, inr, Option, Some, None}
+use Rattle.std.proofs.Common.{◌≡◌, refl, sym, ◌∙◌, ap, ℕ, List, [], ◌∷◌, cond, Bool, true, false, inl, inr, Option, Some, None}
 use Rattle.std.specs.Prelude.{IsTrue, map, nat_lt, option_map, ◌||◌}
-use Rattle.std.specs.List.{AllByRecursion}
 use Rattle.fleet_model.specs.Jobs.{JobSpec, Job, Jobs, Lease, contains, changed, put_job, trimmed, is_active, is_finished, finished_later}
 use Rattle.fleet_model.specs.History.{RecordChange, RecordsEpoch, Submit, Claim, Beat, Finish, Release, Polled, PollChange}
-use Rattle.fleet_model.specs.Records.{Unrecorded, firsts, no_contexts, new_job, with_new, claimed_by, beaten_by, finished_by, to_waiting, to_scheduled, to_completed, to_failed, after_poll, after_change, jobs_after}
+use Rattle.fleet_model.specs.Records.{Unrecorded, firsts, no_contexts, new_job, with_new, claimed_by, beaten_by, finished_by, to_waiting, to_scheduled, to_completed, to_failed, after_change, jobs_after}
 use Rattle.fleet_model.specs.Replay.{plain_job, without_moment}
 use Rattle.step_laws.proofs.Elements.{IsIn}
 

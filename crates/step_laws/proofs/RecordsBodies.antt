@@ -1,26 +1,26 @@
 -- A put of the records that takes effect keeps the invariant, if the new jobs do.
-use Rattle.std.proofs.Common.{◌≡◌, ◌≢◌, refl, sym, ◌∙◌, ap, subst, ℕ, ◌+◌, ◌<◌, List, [], ◌∷◌, ◌++◌, cond, Bool, true, false, inl, inr, Option, Some, None}
-use Rattle.std.specs.Prelude.{IsTrue, IfSome, ◌==◌, if◌then◌else◌, option_map, map}
+use Rattle.std.proofs.Common.{◌≡◌, ◌≢◌, refl, sym, ◌∙◌, ap, subst, ℕ, ◌+◌, ◌<◌, List, [], ◌∷◌, ◌++◌, cond, Bool, true, false, Option, Some, None}
+use Rattle.std.specs.Prelude.{IsTrue, ◌==◌, option_map, map}
 use Rattle.std.specs.List.{AllByRecursion}
 use Rattle.std.proofs.lemmas.List.{append_assoc, append-nil}
 use Rattle.row_model.specs.Lists.{Pairs}
 use Rattle.row_model.specs.Fold.{Operator}
 use Rattle.fleet_model.specs.Jobs.{JobSpec, Job, Jobs, Context, contains, trimmed}
 use Rattle.fleet_model.specs.History.{Party, Entry, PutRecords, RecordChange, RecordsEpoch, Submit, Claim, Beat, Finish, Release, Polled, Answer, stood}
-use Rattle.fleet_model.specs.Store.{Manifest, Records, Store, stored_jobs, jobs_in, fresh_store}
-use Rattle.fleet_model.specs.Replay.{Objects, after_entry, replayed, plain_objects, plain_manifest, plain_records, plain_job, named_specs, next_version, epoch_after}
+use Rattle.fleet_model.specs.Store.{Records, Store, stored_jobs, jobs_in, fresh_store}
+use Rattle.fleet_model.specs.Replay.{after_entry, replayed, plain_objects, plain_manifest, plain_records, plain_job, named_specs, next_version, epoch_after}
 use Rattle.fleet_model.specs.Records.{Unrecorded, firsts, jobs_after}
 use Rattle.fleet_model.specs.Trees.{tables_now}
 use Rattle.fleet_model.specs.Exchanges.{records_version}
 use Rattle.fleet_model.specs.TreesFit.{EpochFits}
 use Rattle.fleet_model.specs.JobsFit.{NodesHeldOnce, OutputsFit}
 use Rattle.fleet_model.specs.AttemptsFit.{ContextFits}
-use Rattle.step_model.specs.Past.{Told, past_after, told_after}
-use Rattle.step_model.specs.Entries.{drawn_jobs, mentioned_in, planned_attempts, attempts_in, claimed_attempts, claims_in, put_epochs, epoch_in}
+use Rattle.step_model.specs.Past.{Told, told_after}
+use Rattle.step_model.specs.Entries.{drawn_jobs, mentioned_in, planned_attempts, attempts_in, claimed_attempts, claims_in, epoch_in}
 use Rattle.step_model.specs.Faithful.{Faithful, AgreesWith}
 use Rattle.step_model.specs.NamesKept.{IsUpTo}
 use Rattle.step_model.specs.TablesKept.{NameApart}
-use Rattle.step_laws.proofs.Elements.{IsIn, all_to, all_append, all_push, all_front, flat_push, flat_push_none, is_itself, Cut, Whole, Before, cut_where}
+use Rattle.step_laws.proofs.Elements.{all_to, all_append, all_push, all_front, flat_push, flat_push_none, is_itself, Cut, Whole, Before, cut_where}
 use Rattle.step_laws.proofs.Replays.{replayed_push}
 use Rattle.step_laws.proofs.Grown.{named_grows, drawn_job_grows, pieces_grow}
 use Rattle.step_laws.proofs.Bodies.{JobFits, JobKept, Body}
@@ -74,7 +74,7 @@ objects_after told specs line party change answer u version epoch jobs took same
     let versions = version_plain version told.store.records same in
     let epochs = made ∙ epoch_plain change told.store.records in
     let plain = ap (map plain_job) makes ∙ plain_jobs_after u (tables_now told.store.manifest.trees) change (stored_jobs told.store) tables
-        ∙ ap (λ js. map plain_job (jobs_after (record { moment = 0; published = λ job. None; kept_cut = None; tables_of = tables_now told.store.manifest.trees }) change js)) (jobs_plain told.store.records) in
+    ∙ ap (λ js. map plain_job (jobs_after (record { moment = 0; published = λ job. None; kept_cut = None; tables_of = tables_now told.store.manifest.trees }) change js)) (jobs_plain told.store.records) in
     rw took (λ i. record { manifest = plain_manifest told.store.manifest; records = Some (record { version = sym versions i; epoch = sym epochs i; jobs = sym plain i }) })
 
 -- ---- what new jobs have to be

@@ -1,10 +1,10 @@
 -- A put of the records either takes effect or changes nothing.
-use Rattle.std.proofs.Common.{◌≡◌, refl, sym, ap, subst, ℕ, ◌+◌, List, [], ◌∷◌, ◌++◌, cond, Bool, true, false, Option, Some, None}
-use Rattle.std.specs.Prelude.{IsTrue, ◌==◌}
+use Rattle.std.proofs.Common.{◌≡◌, refl, sym, subst, ℕ, ◌+◌, cond, Bool, true, false, Some, None}
+use Rattle.std.specs.Prelude.{◌==◌}
 use Rattle.std.proofs.lemmas.Bool.Decides.{Decides-eqb}
 use Rattle.row_model.specs.Fold.{Operator}
-use Rattle.fleet_model.specs.Jobs.{JobSpec, Jobs}
-use Rattle.fleet_model.specs.History.{Party, PutRecords, RecordChange, Answer, Done, Conflict, Stands, Entry, stood}
+use Rattle.fleet_model.specs.Jobs.{Jobs}
+use Rattle.fleet_model.specs.History.{Party, PutRecords, RecordChange, Answer, Done, Conflict, Stands, stood}
 use Rattle.fleet_model.specs.Replay.{named_specs}
 use Rattle.fleet_model.specs.Exchanges.{PutsRecords, logged, stands_or_lost, records_version}
 use Rattle.step_model.specs.Past.{Told, told_after}
