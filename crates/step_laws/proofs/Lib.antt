@@ -29,3 +29,4 @@ pub mod OpenJobs
 pub mod Beaten
 pub mod WorkerPuts
 pub mod Releases
+pub mod Claims

@@ -36,7 +36,7 @@ or_none : (a b : Option ℕ) → b ≡ None → or_else a b ≡ a
 or_none None b e = e
 or_none (Some n) b e = refl
 
-beaten_stays : (job : ℕ) (history : List Entry) (entry : Entry) → (if stood entry.answer then beaten_in job entry.event else None) ≡ None → first_beaten job (history ++ entry ∷ []) ≡ first_beaten job history
+pub beaten_stays : (job : ℕ) (history : List Entry) (entry : Entry) → (if stood entry.answer then beaten_in job entry.event else None) ≡ None → first_beaten job (history ++ entry ∷ []) ≡ first_beaten job history
 beaten_stays job [] entry e = or_none (if stood entry.answer then beaten_in job entry.event else None) None refl ∙ e
 beaten_stays job (first ∷ history) entry e = ap (or_else (if stood first.answer then beaten_in job first.event else None)) (beaten_stays job history entry e)
 
