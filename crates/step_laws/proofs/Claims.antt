@@ -1,21 +1,20 @@
 -- A claim keeps the invariant: each claimed attempt is the next one of its job, and a published context stays that of its attempt.
-use Rattle.std.proofs.Common.{◌≡◌, ◌≢◌, refl, sym, ◌∙◌, ap, subst, ℕ, ◌+◌, ◌≤◌, ◌<◌, List, [], ◌∷◌, ◌++◌, Bool, true, false, inl, inr, Option, Some, None, arith}
-use Rattle.std.specs.Prelude.{IsTrue, IfSome, ◌&&◌, ◌||◌, is_some, is_none}
+use Rattle.std.proofs.Common.{◌≡◌, ◌≢◌, refl, ◌∙◌, ap, subst, ℕ, ◌+◌, ◌≤◌, List, [], ◌∷◌, ◌++◌, Bool, true, false, inl, inr, Option, Some, None, arith}
+use Rattle.std.specs.Prelude.{IsTrue, IfSome, ◌&&◌, is_some, is_none}
 use Rattle.std.specs.List.{AllByRecursion}
 use Rattle.row_model.specs.Lists.{Pairs}
 use Rattle.row_model.specs.Fold.{Operator}
-use Rattle.fleet_model.specs.Jobs.{JobSpec, Job, Context, Status, Submitted, Scheduled, Running, Compacted, Completed, Failed, status_eq, has_status, contains, job_with}
-use Rattle.fleet_model.specs.History.{Party, Event, PutRecords, Claim, Entry, Answer, stood}
+use Rattle.fleet_model.specs.Jobs.{JobSpec, Job, Context, Status, Submitted, Scheduled, Running, Compacted, Completed, Failed, status_eq, job_with}
+use Rattle.fleet_model.specs.History.{Event, PutRecords, Claim, Entry, stood}
 use Rattle.fleet_model.specs.Records.{firsts, claimed_by}
 use Rattle.fleet_model.specs.Claims.{is_waiting}
-use Rattle.fleet_model.specs.Claimed.{IsClaimed, first_beaten}
+use Rattle.fleet_model.specs.Claimed.{IsClaimed}
 use Rattle.fleet_model.specs.Store.{Records, stored_jobs, records_epoch}
 use Rattle.fleet_model.specs.Replay.{epoch_after}
 use Rattle.step_model.specs.Past.{Told}
 use Rattle.step_model.specs.Entries.{claimed_attempts, claims_in, attempts_in}
 use Rattle.step_model.specs.NamesKept.{IsUpTo}
 use Rattle.step_model.specs.LawfulRecords.{IsStoredAs}
-use Rattle.step_model.specs.Keeps.{Keeps}
 use Rattle.step_laws.proofs.Elements.{IsIn, all_at, all_from, all_to, all_flat, all_append}
 use Rattle.step_laws.proofs.Mute.{IsQuietFor}
 use Rattle.step_laws.proofs.Told.{beaten_stays}
@@ -25,7 +24,7 @@ use Rattle.step_laws.proofs.TableBodies.{active_if_open}
 use Rattle.step_laws.proofs.Beaten.{first_beat, first_beat_low, origin_stays, claimed_stays}
 use Rattle.step_laws.proofs.RecordsBodies.{with_records}
 use Rattle.step_laws.proofs.RecordsPuts.{StandingPutKeeps}
-use Rattle.step_laws.proofs.Changed.{IsWorkerChange, job_found, own_on, name_apart_on, kept_quiet}
+use Rattle.step_laws.proofs.Changed.{IsWorkerChange, own_on, name_apart_on, kept_quiet}
 use Rattle.step_laws.proofs.WorkerPuts.{stored_as, stored_to, each_named, named_in, stored_named, worker_records, worker_put_keeps}
 
 -- ---- no attempt is claimed twice

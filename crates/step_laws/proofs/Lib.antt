@@ -30,3 +30,5 @@ pub mod Beaten
 pub mod WorkerPuts
 pub mod Releases
 pub mod Claims
+pub mod OwnTables
+pub mod Finishes

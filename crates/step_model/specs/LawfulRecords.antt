@@ -17,6 +17,7 @@ use Rattle.fleet_model.specs.AttemptsFit.{ContextFits, ContextExtends}
 use Rattle.step_model.specs.Past.{Told}
 use Rattle.step_model.specs.Entries.{drew_job, did_put_epoch, was_named}
 use Rattle.step_model.specs.Faithful.{Faithful, with_specs}
+use Rattle.step_model.specs.TablesKept.{AreApart}
 use Rattle.step_model.specs.LawfulTables.{MayUse}
 
 -- ---- names
@@ -81,10 +82,16 @@ pub record Publishes (merge : Operator) (party : Party) (told : Told) (job : Job
   pub held : AreHeld told.store (context_tables (Some context))
   pub own : AllByRecursion (MayUse party told job) (context_tables (Some context))
 
--- A worker may publish contexts for attempts of its own that are live.
+-- The tables of the contexts that are published for two jobs are apart.
+abbrev pub PublishedApart : Unrecorded → ℕ × ℕ → ℕ × ℕ → Type 0
+PublishedApart unrecorded a b = AreApart (context_tables (unrecorded.published a.0)) (context_tables (unrecorded.published b.0))
+
+-- A worker may publish contexts for attempts of its own that are live. No table may be in two of
+-- them: a table that is new to both jobs would get two uses.
 pub record BeatFits (merge : Operator) (party : Party) (told : Told) (unrecorded : Unrecorded) (worker : ℕ) (attempts : List (ℕ × ℕ)) : Type 0 where
   pub by : party ≡ Worker worker
   pub each : AllByRecursion (λ a. IsStoredAs told a.0 (λ job. IsLiveAt worker a.1 job × OfSome (Publishes merge party told job) (unrecorded.published a.0))) attempts
+  pub apart : Pairs (PublishedApart unrecorded) attempts
 
 -- A live attempt may finish with outputs that hold all rows that its settings make of the job's
 -- sources. The outputs must be held, and the party must be allowed to name them.

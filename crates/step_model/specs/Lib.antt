@@ -3,10 +3,10 @@ pub mod Entries
 pub mod Faithful
 pub mod LawfulTables
 pub mod LawfulManifests
+pub mod TablesKept
 pub mod LawfulRecords
 pub mod Lawful
 pub mod NamesKept
-pub mod TablesKept
 pub mod JoinsKept
 pub mod Facts
 pub mod Keeps
