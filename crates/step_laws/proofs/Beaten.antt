@@ -91,7 +91,7 @@ first_beat_low merge told specs b job there n beat =
     let up = all_at (IsUpTo told.store.history (stored_jobs told.store)) (attempts_in beat.entry.event) (job.id, n) (all_at _ told.store.history beat.entry b.up_to beat.there beat.took) beat.named in
     subst (λ o. IfSome o (λ (j : Job). n ≤ j.attempt)) (found_job (stored_jobs told.store) job b.sound.job_ids there) up.1
 
-earlier : (n attempt : ℕ) → n ≤ attempt → if_earlier attempt (Some n) ≡ n
+pub earlier : (n attempt : ℕ) → n ≤ attempt → if_earlier attempt (Some n) ≡ n
 earlier n attempt low = by (nat_lt n attempt) refl
   where
     by : (b : Bool) → nat_lt n attempt ≡ b → cond b n attempt ≡ n

@@ -32,3 +32,5 @@ pub mod Releases
 pub mod Claims
 pub mod OwnTables
 pub mod Finishes
+pub mod Beats
+pub mod WorkerLaws

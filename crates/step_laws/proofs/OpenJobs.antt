@@ -31,7 +31,7 @@ open_not_late Compacted h late = absurd (cc h)
 open_not_late Completed h late = absurd (cc h)
 open_not_late Failed h late = absurd (cc h)
 
-open_not_compacted : (s : Status) → IsTrue (is_open s) → IsTrue (status_eq Compacted s) → ⊥
+pub open_not_compacted : (s : Status) → IsTrue (is_open s) → IsTrue (status_eq Compacted s) → ⊥
 open_not_compacted Scheduled h late = absurd (cc late)
 open_not_compacted Running h late = absurd (cc late)
 open_not_compacted Submitted h late = absurd (cc h)
@@ -39,7 +39,7 @@ open_not_compacted Compacted h late = absurd (cc h)
 open_not_compacted Completed h late = absurd (cc h)
 open_not_compacted Failed h late = absurd (cc h)
 
-open_not_submitted : (s : Status) → IsTrue (is_open s) → IsTrue (status_eq Submitted s) → ⊥
+pub open_not_submitted : (s : Status) → IsTrue (is_open s) → IsTrue (status_eq Submitted s) → ⊥
 open_not_submitted Submitted h late = absurd (cc h)
 open_not_submitted Scheduled h late = absurd (cc late)
 open_not_submitted Running h late = absurd (cc late)

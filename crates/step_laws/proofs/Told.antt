@@ -53,15 +53,25 @@ mapped_stays : (f : Objects → Settings) (a b : Option Objects) (s : Settings) 
 mapped_stays f None b s stays e = absurd (cc e)
 mapped_stays f (Some p) b s stays e = rw (stays p refl) e
 
-pub settings_stay : (tables : Tables) (specs : ℕ → JobSpec) (history : List Entry) (entry : Entry) (job attempt : ℕ) (s : Settings) → (if stood entry.answer then beaten_in job entry.event else None) ≡ None
+-- Settings and ranges stay where the origin of the attempt does.
+pub settings_stay_at : (tables : Tables) (specs : ℕ → JobSpec) (history : List Entry) (entry : Entry) (job attempt : ℕ) (s : Settings) → origin history job attempt ≡ origin (history ++ entry ∷ []) job attempt
     → settings_of tables specs history job attempt ≡ Some s → settings_of tables specs (history ++ entry ∷ []) job attempt ≡ Some s
-settings_stay tables specs history entry job attempt s quiet e =
+settings_stay_at tables specs history entry job attempt s same e =
     mapped_stays (λ (o : Objects). claim_settings o.manifest 0 (specs job)) (objects_at_claim tables specs job (origin history job attempt) history (plain_objects fresh_store))
     (objects_at_claim tables specs job (origin (history ++ entry ∷ []) job attempt) (history ++ entry ∷ []) (plain_objects fresh_store)) s
-    (λ p h. subst (λ n. objects_at_claim tables specs job n (history ++ entry ∷ []) (plain_objects fresh_store) ≡ Some p) (sym (ap (if_earlier attempt) (beaten_stays job history entry quiet)))
+    (λ p h. subst (λ n. objects_at_claim tables specs job n (history ++ entry ∷ []) (plain_objects fresh_store) ≡ Some p) same
     (claim_stays tables specs job (origin history job attempt) history (entry ∷ []) (plain_objects fresh_store) p h)) e
+
+pub ranges_stay_at : (history : List Entry) (entry : Entry) (job attempt : ℕ) (ranges : List Range) → origin history job attempt ≡ origin (history ++ entry ∷ []) job attempt
+    → ranges_of history job attempt ≡ Some ranges → ranges_of (history ++ entry ∷ []) job attempt ≡ Some ranges
+ranges_stay_at history entry job attempt ranges same e =
+    subst (λ n. noted_plan job n (history ++ entry ∷ []) ≡ Some ranges) same (plan_stays job (origin history job attempt) history (entry ∷ []) ranges e)
+
+-- An entry that is no heartbeat of the job leaves its origin.
+pub settings_stay : (tables : Tables) (specs : ℕ → JobSpec) (history : List Entry) (entry : Entry) (job attempt : ℕ) (s : Settings) → (if stood entry.answer then beaten_in job entry.event else None) ≡ None
+    → settings_of tables specs history job attempt ≡ Some s → settings_of tables specs (history ++ entry ∷ []) job attempt ≡ Some s
+settings_stay tables specs history entry job attempt s quiet e = settings_stay_at tables specs history entry job attempt s (sym (ap (if_earlier attempt) (beaten_stays job history entry quiet))) e
 
 pub ranges_stay : (history : List Entry) (entry : Entry) (job attempt : ℕ) (ranges : List Range) → (if stood entry.answer then beaten_in job entry.event else None) ≡ None
     → ranges_of history job attempt ≡ Some ranges → ranges_of (history ++ entry ∷ []) job attempt ≡ Some ranges
-ranges_stay history entry job attempt ranges quiet e =
-    subst (λ n. noted_plan job n (history ++ entry ∷ []) ≡ Some ranges) (sym (ap (if_earlier attempt) (beaten_stays job history entry quiet))) (plan_stays job (origin history job attempt) history (entry ∷ []) ranges e)
+ranges_stay history entry job attempt ranges quiet e = ranges_stay_at history entry job attempt ranges (sym (ap (if_earlier attempt) (beaten_stays job history entry quiet))) e

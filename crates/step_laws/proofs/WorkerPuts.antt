@@ -83,7 +83,7 @@ running_open Compacted h = absurd (cc h)
 running_open Completed h = absurd (cc h)
 running_open Failed h = absurd (cc h)
 
-first_of_three : (a b c : Bool) → IsTrue (a && b && c) → IsTrue a
+pub first_of_three : (a b c : Bool) → IsTrue (a && b && c) → IsTrue a
 first_of_three true b c h = refl
 first_of_three false b c h = absurd (cc h)
 

@@ -2,7 +2,7 @@
 use Rattle.std.specs.Prelude.{◌≡◌, ℕ, List, Some, false}
 use Rattle.row_model.specs.Fold.{Operator}
 use Rattle.fleet_model.specs.Jobs.{Jobs}
-use Rattle.fleet_model.specs.History.{Party, Event, ManifestChange, RecordChange}
+use Rattle.fleet_model.specs.History.{Party, Event, ManifestChange, ManifestEpoch, RecordChange, RecordsEpoch, Claim, Beat, Finish, Release}
 use Rattle.fleet_model.specs.Store.{Manifest}
 use Rattle.row_model.specs.Rows.{Row}
 use Rattle.fleet_model.specs.Exchanges.{Exchange, Plain, DrawsJob, DrawsTable, PutsTable, PutsManifest, PutsRecords, ListsTables, DeletesTable, records_version}
@@ -56,3 +56,15 @@ ManifestPutKeeps merge change = (version : ℕ) (value : Manifest) → CallKeeps
 -- A put of the records with this change keeps the invariant.
 abbrev pub RecordsPutKeeps : Operator → RecordChange → Type 0
 RecordsPutKeeps merge change = (version epoch : ℕ) (jobs : Jobs) → CallKeeps merge (PutsRecords version change epoch jobs)
+
+-- Puts of epochs keep the invariant, in the manifest and in the records.
+pub record EpochsKeep (merge : Operator) : Type 0 where
+  pub manifest : (epoch : ℕ) → ManifestPutKeeps merge (ManifestEpoch epoch)
+  pub records : (epoch : ℕ) → RecordsPutKeeps merge (RecordsEpoch epoch)
+
+-- A worker's puts of the records keep the invariant.
+pub record WorkerPutsKeep (merge : Operator) : Type 0 where
+  pub claims : (worker : ℕ) (attempts : List (ℕ × ℕ)) → RecordsPutKeeps merge (Claim worker attempts)
+  pub beats : (worker : ℕ) (attempts : List (ℕ × ℕ)) → RecordsPutKeeps merge (Beat worker attempts)
+  pub finishes : (worker job attempt : ℕ) (outputs : List (List ℕ)) → RecordsPutKeeps merge (Finish worker job attempt outputs)
+  pub releases : (worker : ℕ) (attempts : List (ℕ × ℕ)) → RecordsPutKeeps merge (Release worker attempts)

@@ -5,7 +5,7 @@
 ghost use Rattle.row_model.specs.Fold.{Operator};
 ghost use Rattle.step_model.specs.Keeps.{Keeps};
 ghost use Rattle.step_model.specs.Past.{fresh_told};
-ghost use Rattle.step_laws.specs.CallLaws.{DrawsKeep, LooksKeep, TableCallsKeep, VainPutsKeep};
+ghost use Rattle.step_laws.specs.CallLaws.{DrawsKeep, EpochsKeep, LooksKeep, TableCallsKeep, VainPutsKeep, WorkerPutsKeep};
 ghost use Rattle.step_laws.specs.Replays.{FaithfulAlike};
 ghost use Rattle.step_laws.specs.Runs.{LawfulRunsKeep};
 
@@ -45,4 +45,16 @@ pub fn lawful_runs_keep()
 /// changes nothing that the history says, and a deletion takes no table that is still needed.
 pub fn table_calls_keep()
     ensures { (merge : Operator) → TableCallsKeep merge }
+{}
+
+/// Puts of epochs keep the invariant, if they are lawful. The epoch of the records stays at most
+/// that of the manifest, and no epoch is put twice.
+pub fn epochs_keep()
+    ensures { (merge : Operator) → EpochsKeep merge }
+{}
+
+/// Claims, heartbeats, finishes and releases keep the invariant, if they are lawful. No attempt is
+/// claimed twice, a published context stays that of its attempt, and each table has one use.
+pub fn worker_puts_keep()
+    ensures { (merge : Operator) → WorkerPutsKeep merge }
 {}

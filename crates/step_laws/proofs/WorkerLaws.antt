@@ -1,0 +1,26 @@
+-- The laws on epochs and on a worker's puts, from those on puts that take effect.
+use Rattle.row_model.specs.Fold.{Operator}
+use Rattle.fleet_model.specs.History.{ManifestEpoch, RecordsEpoch, Claim, Beat, Finish, Release}
+use Rattle.step_laws.specs.CallLaws.{EpochsKeep, WorkerPutsKeep}
+use Rattle.step_laws.proofs.ManifestPuts.{manifest_put_keeps}
+use Rattle.step_laws.proofs.ManifestEpochs.{epochs_keep}
+use Rattle.step_laws.proofs.RecordsPuts.{records_put_keeps}
+use Rattle.step_laws.proofs.RecordsEpochs.{records_epochs_keep}
+use Rattle.step_laws.proofs.Claims.{claims_keep}
+use Rattle.step_laws.proofs.Beats.{beats_keep}
+use Rattle.step_laws.proofs.Finishes.{finishes_keep}
+use Rattle.step_laws.proofs.Releases.{releases_keep}
+
+pub both_epochs_keep : (merge : Operator) → EpochsKeep merge
+both_epochs_keep merge = record {
+  manifest = λ epoch. manifest_put_keeps merge (ManifestEpoch epoch) (epochs_keep merge epoch);
+  records = λ epoch. records_put_keeps merge (RecordsEpoch epoch) (records_epochs_keep merge epoch);
+}
+
+pub worker_puts_keep : (merge : Operator) → WorkerPutsKeep merge
+worker_puts_keep merge = record {
+  claims = λ worker attempts. records_put_keeps merge (Claim worker attempts) (claims_keep merge worker attempts);
+  beats = λ worker attempts. records_put_keeps merge (Beat worker attempts) (beats_keep merge worker attempts);
+  finishes = λ worker job attempt outputs. records_put_keeps merge (Finish worker job attempt outputs) (finishes_keep merge worker job attempt outputs);
+  releases = λ worker attempts. records_put_keeps merge (Release worker attempts) (releases_keep merge worker attempts);
+}
