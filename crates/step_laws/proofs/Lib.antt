@@ -34,3 +34,5 @@ pub mod OwnTables
 pub mod Finishes
 pub mod Beats
 pub mod WorkerLaws
+pub mod NewJobs
+pub mod NewPuts
