@@ -36,3 +36,4 @@ pub mod Beats
 pub mod WorkerLaws
 pub mod NewJobs
 pub mod NewPuts
+pub mod PollJobs
