@@ -37,3 +37,4 @@ pub mod WorkerLaws
 pub mod NewJobs
 pub mod NewPuts
 pub mod PollJobs
+pub mod Polls
