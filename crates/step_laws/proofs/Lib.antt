@@ -33,7 +33,7 @@ pub mod Claims
 pub mod OwnTables
 pub mod Finishes
 pub mod Beats
-pub mod WorkerLaws
+pub mod PutLaws
 pub mod NewJobs
 pub mod NewPuts
 pub mod PollJobs

@@ -1,29 +1,26 @@
 -- What a poll makes of each job.
-use Rattle.std.proofs.Common.{◌≡◌, refl, sym, ◌∙◌, ap, subst, ℕ, ◌<◌, ◌≤◌, List, [], ◌∷◌, ◌++◌, cond, Bool, true, false, inl, inr, ◌⊎◌, Option, Some, None, arith}
-use Rattle.std.specs.Prelude.{IsTrue, IfSome, ◌==◌, ◌&&◌, ◌||◌, not, is_some, is_none, map}
-use Rattle.std.specs.List.{AllByRecursion, concat, list_all}
+use Rattle.std.proofs.Common.{◌≡◌, refl, sym, subst, ℕ, List, [], ◌∷◌, cond, Bool, true, false, Option, Some, None}
+use Rattle.std.specs.Prelude.{IsTrue, IfSome, ◌==◌, ◌&&◌, ◌||◌, not, is_some}
+use Rattle.std.specs.List.{AllByRecursion, concat}
 use Rattle.std.proofs.lemmas.Bool.Decides.{Decides-eqb}
-use Rattle.row_model.specs.Lists.{Pairs}
 use Rattle.row_model.specs.Fold.{Operator}
-use Rattle.fleet_model.specs.Nodes.{NodeName, L0, Run, name_eq, Node, Tree, names, names_contain, is_among, tree_at, tree_or_empty, segment_at, Segment, Trees}
-use Rattle.fleet_model.specs.Jobs.{JobSpec, Job, Jobs, Context, Status, Submitted, Scheduled, Running, Compacted, Completed, Failed, status_eq, has_status, is_finished, is_active, contains, changed, trimmed, finished_later}
-use Rattle.fleet_model.specs.History.{Entry, PollChange}
-use Rattle.fleet_model.specs.Records.{Unrecorded, to_waiting, to_scheduled, to_completed, to_failed}
+use Rattle.fleet_model.specs.Nodes.{NodeName, L0, Run, name_eq, Tree, names, names_contain, is_among, tree_at, tree_or_empty, segment_at, Segment, Trees}
+use Rattle.fleet_model.specs.Jobs.{JobSpec, Job, Context, Status, Submitted, Scheduled, Running, Compacted, Completed, Failed, status_eq, has_status, is_finished, is_active}
+use Rattle.fleet_model.specs.History.{Entry}
+use Rattle.fleet_model.specs.Records.{to_scheduled}
 use Rattle.fleet_model.specs.Handles.{job_tables, context_tables}
-use Rattle.fleet_model.specs.Gates.{reserves_nodes}
-use Rattle.fleet_model.specs.Trees.{tables_now, source_pieces}
+use Rattle.fleet_model.specs.Trees.{tables_now}
 use Rattle.fleet_model.specs.Sources.{after_front, or_later, older_nodes, reaches_oldest, is_whole_stretch}
-use Rattle.fleet_model.specs.Store.{Store, stored_jobs, is_held, AreHeld, WerePut}
+use Rattle.fleet_model.specs.Store.{is_held, WerePut}
 use Rattle.fleet_model.specs.JobsFit.{SourcesStand, was_joined}
 use Rattle.fleet_model.specs.AttemptsFit.{ContextFits, was_beaten}
 use Rattle.step_model.specs.Past.{Told}
 use Rattle.step_model.specs.Entries.{was_flushed}
-use Rattle.step_model.specs.TablesKept.{IsFlush, IsFlushed, PiecesKept, is_unjoined}
-use Rattle.step_laws.proofs.Elements.{IsIn, all_at, all_from, all_to, all_back, all_true_front, all_true_from, in_back}
+use Rattle.step_model.specs.TablesKept.{IsFlush, IsFlushed}
+use Rattle.step_laws.proofs.Elements.{all_to, all_back, all_true_front, all_true_from}
 use Rattle.step_laws.proofs.Bodies.{JobKept}
 use Rattle.step_laws.proofs.OpenJobs.{is_open}
-use Rattle.step_laws.proofs.TableReplays.{IsPut, TreeAll, TreesAll, sources_all, all_found_at}
-use Rattle.step_laws.proofs.Changed.{on_these}
+use Rattle.step_laws.proofs.TableReplays.{IsPut, TreeAll, sources_all, all_found_at}
 
 -- ---- statuses
 

@@ -1,8 +1,8 @@
 -- The laws on single calls: lawful ones keep the invariant.
 use Rattle.std.specs.Prelude.{◌≡◌, ℕ, List, Some, false}
 use Rattle.row_model.specs.Fold.{Operator}
-use Rattle.fleet_model.specs.Jobs.{Jobs}
-use Rattle.fleet_model.specs.History.{Party, Event, ManifestChange, ManifestEpoch, RecordChange, RecordsEpoch, Claim, Beat, Finish, Release}
+use Rattle.fleet_model.specs.Jobs.{JobSpec, Jobs}
+use Rattle.fleet_model.specs.History.{Party, Event, ManifestChange, ManifestEpoch, RecordChange, RecordsEpoch, Submit, Claim, Beat, Finish, Release, Polled, PollChange}
 use Rattle.fleet_model.specs.Store.{Manifest}
 use Rattle.row_model.specs.Rows.{Row}
 use Rattle.fleet_model.specs.Exchanges.{Exchange, Plain, DrawsJob, DrawsTable, PutsTable, PutsManifest, PutsRecords, ListsTables, DeletesTable, records_version}
@@ -11,11 +11,15 @@ use Rattle.step_model.specs.Lawful.{Lawful}
 use Rattle.step_model.specs.Rivals.{Strike, MayStrike, told_by}
 use Rattle.step_model.specs.Keeps.{Keeps}
 
--- A call that is lawful where it comes keeps the invariant and the facts, whether a fault strikes it
--- or not.
+-- A call keeps the invariant and the facts where this condition on its party and on what is told
+-- holds, whether a fault strikes the call or not.
+abbrev pub CallKeepsIf : Operator → Exchange → (Party → Told → Type 0) → Type 0
+CallKeepsIf merge x Fits = (line : ℕ) (party : Party) (strike : Strike) (told : Told)
+    → Keeps merge told → Fits party told → MayStrike x told strike → Keeps merge (told_by line party x strike told)
+
+-- A call that is lawful where it comes keeps the invariant and the facts.
 abbrev pub CallKeeps : Operator → Exchange → Type 0
-CallKeeps merge x = (line : ℕ) (party : Party) (strike : Strike) (told : Told)
-    → Keeps merge told → Lawful merge party told x → MayStrike x told strike → Keeps merge (told_by line party x strike told)
+CallKeeps merge x = CallKeepsIf merge x (λ party told. Lawful merge party told x)
 
 -- ---- gets, notes and draws
 
@@ -68,3 +72,8 @@ pub record WorkerPutsKeep (merge : Operator) : Type 0 where
   pub beats : (worker : ℕ) (attempts : List (ℕ × ℕ)) → RecordsPutKeeps merge (Beat worker attempts)
   pub finishes : (worker job attempt : ℕ) (outputs : List (List ℕ)) → RecordsPutKeeps merge (Finish worker job attempt outputs)
   pub releases : (worker : ℕ) (attempts : List (ℕ × ℕ)) → RecordsPutKeeps merge (Release worker attempts)
+
+-- Submissions and polls keep the invariant in the records.
+pub record JobPutsKeep (merge : Operator) : Type 0 where
+  pub submits : (specs : List (ℕ × JobSpec)) → RecordsPutKeeps merge (Submit specs)
+  pub polls : (change : PollChange) → RecordsPutKeeps merge (Polled change)

@@ -5,7 +5,7 @@
 ghost use Rattle.row_model.specs.Fold.{Operator};
 ghost use Rattle.step_model.specs.Keeps.{Keeps};
 ghost use Rattle.step_model.specs.Past.{fresh_told};
-ghost use Rattle.step_laws.specs.CallLaws.{DrawsKeep, EpochsKeep, LooksKeep, TableCallsKeep, VainPutsKeep, WorkerPutsKeep};
+ghost use Rattle.step_laws.specs.CallLaws.{DrawsKeep, EpochsKeep, JobPutsKeep, LooksKeep, TableCallsKeep, VainPutsKeep, WorkerPutsKeep};
 ghost use Rattle.step_laws.specs.Replays.{FaithfulAlike};
 ghost use Rattle.step_laws.specs.Runs.{LawfulRunsKeep};
 
@@ -57,4 +57,10 @@ pub fn epochs_keep()
 /// claimed twice, a published context stays that of its attempt, and each table has one use.
 pub fn worker_puts_keep()
     ensures { (merge : Operator) → WorkerPutsKeep merge }
+{}
+
+/// Submissions and the changes that polls make of the records keep the invariant, if they are
+/// lawful. A poll may free, open and end jobs in one put.
+pub fn job_puts_keep()
+    ensures { (merge : Operator) → JobPutsKeep merge }
 {}

@@ -1,4 +1,4 @@
-use Rattle.step_laws.proofs.WorkerLaws as law
+use Rattle.step_laws.proofs.PutLaws as law
 use Rattle.step_laws.proofs.worker_puts_keep.Goals as goal
 
 pub returns : goal.returns

@@ -1,7 +1,7 @@
--- The laws on epochs and on a worker's puts, from those on puts that take effect.
+-- The laws on puts of the manifest and of the records, from those on puts that take effect.
 use Rattle.row_model.specs.Fold.{Operator}
-use Rattle.fleet_model.specs.History.{ManifestEpoch, RecordsEpoch, Claim, Beat, Finish, Release}
-use Rattle.step_laws.specs.CallLaws.{EpochsKeep, WorkerPutsKeep}
+use Rattle.fleet_model.specs.History.{ManifestEpoch, RecordsEpoch, Submit, Claim, Beat, Finish, Release, Polled}
+use Rattle.step_laws.specs.CallLaws.{EpochsKeep, JobPutsKeep, WorkerPutsKeep}
 use Rattle.step_laws.proofs.ManifestPuts.{manifest_put_keeps}
 use Rattle.step_laws.proofs.ManifestEpochs.{epochs_keep}
 use Rattle.step_laws.proofs.RecordsPuts.{records_put_keeps}
@@ -10,6 +10,8 @@ use Rattle.step_laws.proofs.Claims.{claims_keep}
 use Rattle.step_laws.proofs.Beats.{beats_keep}
 use Rattle.step_laws.proofs.Finishes.{finishes_keep}
 use Rattle.step_laws.proofs.Releases.{releases_keep}
+use Rattle.step_laws.proofs.NewPuts.{submits_keep}
+use Rattle.step_laws.proofs.Polls.{polls_keep}
 
 pub both_epochs_keep : (merge : Operator) → EpochsKeep merge
 both_epochs_keep merge = record {
@@ -23,4 +25,10 @@ worker_puts_keep merge = record {
   beats = λ worker attempts. records_put_keeps merge (Beat worker attempts) (beats_keep merge worker attempts);
   finishes = λ worker job attempt outputs. records_put_keeps merge (Finish worker job attempt outputs) (finishes_keep merge worker job attempt outputs);
   releases = λ worker attempts. records_put_keeps merge (Release worker attempts) (releases_keep merge worker attempts);
+}
+
+pub job_puts_keep : (merge : Operator) → JobPutsKeep merge
+job_puts_keep merge = record {
+  submits = λ specs. records_put_keeps merge (Submit specs) (submits_keep merge specs);
+  polls = λ change. records_put_keeps merge (Polled change) (polls_keep merge change);
 }
