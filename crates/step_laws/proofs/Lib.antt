@@ -38,3 +38,4 @@ pub mod NewJobs
 pub mod NewPuts
 pub mod PollJobs
 pub mod Polls
+pub mod FlushTrees
