@@ -39,3 +39,4 @@ pub mod NewPuts
 pub mod PollJobs
 pub mod Polls
 pub mod FlushTrees
+pub mod FlushNodes
