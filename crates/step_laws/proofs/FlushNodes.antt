@@ -1,29 +1,21 @@
 -- The node of a flush is newer than all others of its tree, and its name and its table are new.
-use Rattle.std.proofs.Common.{◌≡◌, ◌≢◌, refl, sym, ◌∙◌, ap, subst, ℕ, ◌+◌, ◌*◌, ◌%◌, ◌^◌, ◌<◌, ◌≤◌, List, [], ◌∷◌, ◌++◌, cond, Bool, true, false, inl, inr, ◌⊎◌, Option, Some, None, arith}
-use Rattle.std.specs.Prelude.{IsTrue, bytes_eq, map, flat_map, find, max, not, filter_map}
+use Rattle.std.proofs.Common.{◌≡◌, refl, sym, ◌∙◌, ap, subst, ℕ, ◌+◌, ◌*◌, ◌%◌, ◌^◌, ◌<◌, List, [], ◌∷◌, ◌++◌, cond, Bool, true, false, inl, inr, Some, None, arith}
+use Rattle.std.specs.Prelude.{IsTrue, bytes_eq, flat_map}
 use Rattle.std.specs.Ordering.{is_lt}
-use Rattle.std.specs.List.{AllByRecursion, list_all, cons_option}
+use Rattle.std.specs.List.{AllByRecursion, cons_option}
 use Rattle.std.proofs.lemmas.Bool.Decides.{Decides-eqb}
-use Rattle.std.proofs.lemmas.List.{append-nil}
 use Rattle.std.proofs.lemmas.Nat.{mod-mul-add}
-use Rattle.std.proofs.lemmas.Slice.Eq.{bytes_eq-Decides}
-use Rattle.row_model.specs.Lists.{Pairs}
-use Rattle.row_model.specs.Rows.{Row, IsStrictlyOrdered, key_cmp}
-use Rattle.row_laws.proofs.KeyRows.{key_alike}
-use Rattle.std.specs.declared.cmp.Ordering.TheVariants.{Less, Equal}
-use Rattle.fleet_model.specs.Nodes.{Tables, table_rows, NodeName, L0, Run, name_eq, Node, Tree, Segment, Trees, names, names_contain, node_named, node_rows, flushed_node_rows, segment_at, tree_at, last_seq_of}
-use Rattle.fleet_model.specs.Jobs.{JobSpec, Job, number_of, drawn_base, contains}
+use Rattle.row_model.specs.Rows.{Row, key_cmp}
+use Rattle.fleet_model.specs.Nodes.{NodeName, L0, Run, name_eq, Tree, Segment, Trees, names, node_named, tree_at}
+use Rattle.fleet_model.specs.Jobs.{number_of, drawn_base, contains}
 use Rattle.fleet_model.specs.History.{Entry}
 use Rattle.fleet_model.specs.Handles.{tree_tables}
-use Rattle.fleet_model.specs.Trees.{flushed, flushed_on, empty_segment, source_nodes, source_pieces, greater_seq, greatest_seq}
+use Rattle.fleet_model.specs.Trees.{flushed, flushed_on, empty_segment, source_nodes}
 use Rattle.fleet_model.specs.Sources.{run_ids, all_run_ids, after_front, or_later, older_nodes}
-use Rattle.fleet_model.specs.TreesFit.{IsTree, IsNewer, IsAtMost, StandsBefore, node_and_flushed_rows}
-use Rattle.fleet_model.specs.JobsFit.{SourcesStand, DestinationFits}
 use Rattle.step_model.specs.Entries.{was_flushed, drawn_tables}
-use Rattle.step_model.specs.LawfulManifests.{IsAbove}
 use Rattle.step_model.specs.NamesKept.{DrawsKept}
 use Rattle.step_model.specs.TablesKept.{IsKnownPiece, IsFlushed}
-use Rattle.step_laws.proofs.Elements.{IsIn, all_at, all_from, all_to, all_append, all_flat, all_unflat, contains_in, contains_no, in_contains, in_front, in_back}
+use Rattle.step_laws.proofs.Elements.{IsIn, all_at, all_from, all_to, all_flat, contains_in, contains_no, in_contains, in_front, in_back}
 use Rattle.step_laws.proofs.FlushTrees.{Rising, each_flushed, new_node, tree_flushed}
 
 refused : (b : Bool) → b ≡ false → IsTrue b → ⊥
@@ -96,7 +88,7 @@ pieces_on name (x ∷ xs) tree h =
     let rest = pieces_on name xs tree h.1 in
     λ i. cons_option (first i) (rest i)
 
-runs_flushed : (prefix : List ℕ) (name : ℕ) (rows : List Row) (trees : Trees) → all_run_ids (flushed prefix name rows trees) ≡ all_run_ids trees
+pub runs_flushed : (prefix : List ℕ) (name : ℕ) (rows : List Row) (trees : Trees) → all_run_ids (flushed prefix name rows trees) ≡ all_run_ids trees
 runs_flushed prefix name rows [] = refl
 runs_flushed prefix name rows (s ∷ trees) = by (bytes_eq prefix s.prefix) (is_lt (key_cmp prefix s.prefix)) (runs_flushed prefix name rows trees)
   where

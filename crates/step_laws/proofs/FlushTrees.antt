@@ -1,6 +1,6 @@
 -- Trees behind a flush: one tree has a node more in front, and all else stays.
-use Rattle.std.proofs.Common.{◌≡◌, refl, sym, ◌∙◌, ap, subst, ℕ, List, [], ◌∷◌, ◌++◌, cond, Bool, true, false, inl, inr, Option, Some, None}
-use Rattle.std.specs.Prelude.{IsTrue, bytes_eq, map, find}
+use Rattle.std.proofs.Common.{◌≡◌, refl, sym, ◌∙◌, ap, subst, ℕ, List, [], ◌∷◌, cond, Bool, true, false, inl, inr, Some, None}
+use Rattle.std.specs.Prelude.{bytes_eq, map}
 use Rattle.std.specs.Ordering.{is_lt, ordering_reverse}
 use Rattle.std.specs.declared.cmp.Ordering.{Ordering}
 use Rattle.std.specs.declared.cmp.Ordering.TheVariants.{Less, Equal, Greater}
@@ -11,10 +11,10 @@ use Rattle.std.proofs.lemmas.Slice.Eq.{bytes_eq-Decides}
 use Rattle.row_model.specs.Lists.{Pairs}
 use Rattle.row_model.specs.Rows.{Row, key_cmp}
 use Rattle.row_laws.proofs.KeyRows.{exact, key_alike}
-use Rattle.fleet_model.specs.Nodes.{L0, Node, Tree, Segment, Trees, segment_at, tree_at, tree_or_empty}
+use Rattle.fleet_model.specs.Nodes.{L0, Node, Segment, Trees, segment_at, tree_at, tree_or_empty}
 use Rattle.fleet_model.specs.Trees.{flushed, flushed_on, empty_segment}
 use Rattle.fleet_model.specs.TreesFit.{RootIsFirst}
-use Rattle.step_laws.proofs.Elements.{IsIn, all_at, all_from, all_to}
+use Rattle.step_laws.proofs.Elements.{IsIn, all_from, all_to}
 
 -- ---- prefixes
 

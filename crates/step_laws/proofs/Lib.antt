@@ -40,3 +40,5 @@ pub mod PollJobs
 pub mod Polls
 pub mod FlushTrees
 pub mod FlushNodes
+pub mod FlushFollows
+pub mod Flushes

@@ -70,7 +70,7 @@ quiet_epoch : (took : Bool) (epoch : ℕ) → IsQuiet took (PutManifest (Manifes
 quiet_epoch true epoch = record { steps = refl; attempts = λ took. refl; claims = refl; beats = λ job. refl; beaten = λ job. refl; joins = λ job. refl; joined = λ took. refl }
 quiet_epoch false epoch = record { steps = refl; attempts = λ took. refl; claims = refl; beats = λ job. refl; beaten = λ job. refl; joins = λ job. refl; joined = λ took. refl }
 
-epoch_rises : (manifest : Manifest) (records : Option Records) (value : Manifest) → manifest.epoch ≤ value.epoch → EpochFits manifest records → EpochFits value records
+pub epoch_rises : (manifest : Manifest) (records : Option Records) (value : Manifest) → manifest.epoch ≤ value.epoch → EpochFits manifest records → EpochFits value records
 epoch_rises manifest None value rises h = tt
 epoch_rises manifest (Some records) value rises h = omega (arith, rises, h)
 

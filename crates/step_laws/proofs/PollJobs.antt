@@ -211,7 +211,7 @@ stretch_named sources (y ∷ ys) rest e = by (after_front sources (y ∷ ys)) re
     by None f more e = all_to _ _ sources (λ z there h. later z h) (more e)
     by (Some found) f more e = begins sources (y ∷ ys) found f
 
-stretch_in : (tree : Tree) (sources : List NodeName) → IsTrue (is_whole_stretch tree sources) → AllByRecursion (λ x. IsTrue (names_contain (names tree) x)) sources
+pub stretch_in : (tree : Tree) (sources : List NodeName) → IsTrue (is_whole_stretch tree sources) → AllByRecursion (λ x. IsTrue (names_contain (names tree) x)) sources
 stretch_in tree sources h = by (older_nodes sources (names tree)) refl h
   where
     by : (o : Option (List NodeName)) → older_nodes sources (names tree) ≡ o → IsTrue (reaches_oldest sources o) → AllByRecursion (λ x. IsTrue (names_contain (names tree) x)) sources
@@ -219,7 +219,7 @@ stretch_in tree sources h = by (older_nodes sources (names tree)) refl h
     by (Some rest) e h = stretch_named sources (names tree) rest e
 
 -- A flush that is a node of a tree took effect.
-node_flushed : (history : List Entry) (tree : Tree) (name : NodeName) → AllByRecursion (λ node. IsFlush history node node.name) tree → IsTrue (names_contain (names tree) name) → IsFlushed history name
+pub node_flushed : (history : List Entry) (tree : Tree) (name : NodeName) → AllByRecursion (λ node. IsFlush history node node.name) tree → IsTrue (names_contain (names tree) name) → IsFlushed history name
 node_flushed history tree (Run id) flushes there = tt
 node_flushed history [] (L0 flush) flushes there = absurd (cc there)
 node_flushed history (node ∷ tree) (L0 flush) flushes there = by node.name flushes.0 (node_flushed history tree (L0 flush) flushes.1) there
@@ -232,7 +232,7 @@ node_flushed history (node ∷ tree) (L0 flush) flushes there = by node.name flu
         cases false e there = rest there
     by (Run id) is rest there = rest there
 
-tree_has : (P : Tree → Type 0) (prefix : List ℕ) (trees : Trees) → P [] → AllByRecursion (λ s. P s.tree) trees → P (tree_at prefix trees)
+pub tree_has : (P : Tree → Type 0) (prefix : List ℕ) (trees : Trees) → P [] → AllByRecursion (λ s. P s.tree) trees → P (tree_at prefix trees)
 tree_has P prefix trees empty all = by (segment_at prefix trees) refl
   where
     by : (o : Option Segment) → segment_at prefix trees ≡ o → P (tree_or_empty o)

@@ -1,9 +1,10 @@
 -- The laws on puts of the manifest and of the records, from those on puts that take effect.
 use Rattle.row_model.specs.Fold.{Operator}
-use Rattle.fleet_model.specs.History.{ManifestEpoch, RecordsEpoch, Submit, Claim, Beat, Finish, Release, Polled}
-use Rattle.step_laws.specs.CallLaws.{EpochsKeep, JobPutsKeep, WorkerPutsKeep}
+use Rattle.fleet_model.specs.History.{ManifestEpoch, Flush, RecordsEpoch, Submit, Claim, Beat, Finish, Release, Polled}
+use Rattle.step_laws.specs.CallLaws.{EpochsKeep, FlushesKeep, JobPutsKeep, WorkerPutsKeep}
 use Rattle.step_laws.proofs.ManifestPuts.{manifest_put_keeps}
 use Rattle.step_laws.proofs.ManifestEpochs.{epochs_keep}
+use Rattle.step_laws.proofs.Flushes.{flushes_keep}
 use Rattle.step_laws.proofs.RecordsPuts.{records_put_keeps}
 use Rattle.step_laws.proofs.RecordsEpochs.{records_epochs_keep}
 use Rattle.step_laws.proofs.Claims.{claims_keep}
@@ -32,3 +33,6 @@ job_puts_keep merge = record {
   submits = λ specs. records_put_keeps merge (Submit specs) (submits_keep merge specs);
   polls = λ change. records_put_keeps merge (Polled change) (polls_keep merge change);
 }
+
+pub all_flushes_keep : (merge : Operator) → FlushesKeep merge
+all_flushes_keep merge name segment floor tick = manifest_put_keeps merge (Flush name segment floor tick) (flushes_keep merge name segment floor tick)

@@ -1,8 +1,8 @@
 -- The laws on single calls: lawful ones keep the invariant.
-use Rattle.std.specs.Prelude.{◌≡◌, ℕ, List, Some, false}
+use Rattle.std.specs.Prelude.{◌≡◌, ℕ, ℤ, List, Some, false}
 use Rattle.row_model.specs.Fold.{Operator}
 use Rattle.fleet_model.specs.Jobs.{JobSpec, Jobs}
-use Rattle.fleet_model.specs.History.{Party, Event, ManifestChange, ManifestEpoch, RecordChange, RecordsEpoch, Submit, Claim, Beat, Finish, Release, Polled, PollChange}
+use Rattle.fleet_model.specs.History.{Party, Event, ManifestChange, ManifestEpoch, Flush, RecordChange, RecordsEpoch, Submit, Claim, Beat, Finish, Release, Polled, PollChange}
 use Rattle.fleet_model.specs.Store.{Manifest}
 use Rattle.row_model.specs.Rows.{Row}
 use Rattle.fleet_model.specs.Exchanges.{Exchange, Plain, DrawsJob, DrawsTable, PutsTable, PutsManifest, PutsRecords, ListsTables, DeletesTable, records_version}
@@ -65,6 +65,10 @@ RecordsPutKeeps merge change = (version epoch : ℕ) (jobs : Jobs) → CallKeeps
 pub record EpochsKeep (merge : Operator) : Type 0 where
   pub manifest : (epoch : ℕ) → ManifestPutKeeps merge (ManifestEpoch epoch)
   pub records : (epoch : ℕ) → RecordsPutKeeps merge (RecordsEpoch epoch)
+
+-- Flushes keep the invariant.
+abbrev pub FlushesKeep : Operator → Type 0
+FlushesKeep merge = (name : ℕ) (segment : List ℕ) (floor : ℕ) (tick : ℤ) → ManifestPutKeeps merge (Flush name segment floor tick)
 
 -- A worker's puts of the records keep the invariant.
 pub record WorkerPutsKeep (merge : Operator) : Type 0 where

@@ -5,7 +5,7 @@
 ghost use Rattle.row_model.specs.Fold.{Operator};
 ghost use Rattle.step_model.specs.Keeps.{Keeps};
 ghost use Rattle.step_model.specs.Past.{fresh_told};
-ghost use Rattle.step_laws.specs.CallLaws.{DrawsKeep, EpochsKeep, JobPutsKeep, LooksKeep, TableCallsKeep, VainPutsKeep, WorkerPutsKeep};
+ghost use Rattle.step_laws.specs.CallLaws.{DrawsKeep, EpochsKeep, FlushesKeep, JobPutsKeep, LooksKeep, TableCallsKeep, VainPutsKeep, WorkerPutsKeep};
 ghost use Rattle.step_laws.specs.Replays.{FaithfulAlike};
 ghost use Rattle.step_laws.specs.Runs.{LawfulRunsKeep};
 
@@ -51,6 +51,12 @@ pub fn table_calls_keep()
 /// that of the manifest, and no epoch is put twice.
 pub fn epochs_keep()
     ensures { (merge : Operator) → EpochsKeep merge }
+{}
+
+/// Flushes keep the invariant, if they are lawful. The new node is newer than all others of its
+/// tree, the sources of jobs stay where they are, and floor and tick do not fall.
+pub fn flushes_keep()
+    ensures { (merge : Operator) → FlushesKeep merge }
 {}
 
 /// Claims, heartbeats, finishes and releases keep the invariant, if they are lawful. No attempt is
