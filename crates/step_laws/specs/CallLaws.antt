@@ -1,8 +1,8 @@
 -- The laws on single calls: lawful ones keep the invariant.
-use Rattle.std.specs.Prelude.{◌≡◌, ℕ, ℤ, List, Some, false}
+use Rattle.std.specs.Prelude.{◌≡◌, ℕ, ℤ, Bool, true, false, List, Some}
 use Rattle.row_model.specs.Fold.{Operator}
 use Rattle.fleet_model.specs.Jobs.{JobSpec, Jobs}
-use Rattle.fleet_model.specs.History.{Party, Event, ManifestChange, ManifestEpoch, Flush, RecordChange, RecordsEpoch, Submit, Claim, Beat, Finish, Release, Polled, PollChange}
+use Rattle.fleet_model.specs.History.{Party, Event, ManifestChange, ManifestEpoch, Flush, Commit, RecordChange, RecordsEpoch, Submit, Claim, Beat, Finish, Release, Polled, PollChange}
 use Rattle.fleet_model.specs.Store.{Manifest}
 use Rattle.row_model.specs.Rows.{Row}
 use Rattle.fleet_model.specs.Exchanges.{Exchange, Plain, DrawsJob, DrawsTable, PutsTable, PutsManifest, PutsRecords, ListsTables, DeletesTable, records_version}
@@ -81,3 +81,14 @@ pub record WorkerPutsKeep (merge : Operator) : Type 0 where
 pub record JobPutsKeep (merge : Operator) : Type 0 where
   pub submits : (specs : List (ℕ × JobSpec)) → RecordsPutKeeps merge (Submit specs)
   pub polls : (change : PollChange) → RecordsPutKeeps merge (Polled change)
+
+-- ---- all calls but commits
+
+-- True if the call is the put of a manifest with a commit.
+abbrev pub is_commit : Exchange → Bool
+is_commit (PutsManifest version (Commit steps) value) = true
+is_commit _ = false
+
+-- Every lawful call that is no commit keeps the invariant, under any operator.
+abbrev pub OtherCallsKeep : Operator → Type 0
+OtherCallsKeep merge = (x : Exchange) → is_commit x ≡ false → CallKeeps merge x

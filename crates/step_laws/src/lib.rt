@@ -5,7 +5,7 @@
 ghost use Rattle.row_model.specs.Fold.{Operator};
 ghost use Rattle.step_model.specs.Keeps.{Keeps};
 ghost use Rattle.step_model.specs.Past.{fresh_told};
-ghost use Rattle.step_laws.specs.CallLaws.{DrawsKeep, EpochsKeep, FlushesKeep, JobPutsKeep, LooksKeep, TableCallsKeep, VainPutsKeep, WorkerPutsKeep};
+ghost use Rattle.step_laws.specs.CallLaws.{DrawsKeep, EpochsKeep, FlushesKeep, JobPutsKeep, LooksKeep, OtherCallsKeep, TableCallsKeep, VainPutsKeep, WorkerPutsKeep};
 ghost use Rattle.step_laws.specs.Replays.{FaithfulAlike};
 ghost use Rattle.step_laws.specs.Runs.{LawfulRunsKeep};
 
@@ -69,4 +69,10 @@ pub fn worker_puts_keep()
 /// lawful. A poll may free, open and end jobs in one put.
 pub fn job_puts_keep()
     ensures { (merge : Operator) → JobPutsKeep merge }
+{}
+
+/// Every lawful call that is no commit keeps the invariant, under any operator and whether a fault
+/// strikes it or not.
+pub fn other_calls_keep()
+    ensures { (merge : Operator) → OtherCallsKeep merge }
 {}
