@@ -14,7 +14,7 @@ mod view;
 pub use compactions::{Compactions, VersionedCompactions};
 pub use fleet_jobs::{
     Compaction, CompactionContext, CompactionSpec, CompactionStatus, DrainSegmentSpec, Release,
-    SourceId, SourceList, TieredCompactionSpec, WorkerSpec,
+    SourceId, SourceList, SpecList, TieredCompactionSpec, WorkerSpec,
 };
 pub use job_map::JobMap;
 pub use laws::{

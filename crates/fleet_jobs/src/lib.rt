@@ -25,6 +25,6 @@ pub use laws::{
 };
 pub use release::Release;
 pub use source_id::{SourceId, SourceList};
-pub use spec::{CompactionSpec, DrainSegmentSpec, TieredCompactionSpec};
+pub use spec::{CompactionSpec, DrainSegmentSpec, SpecList, TieredCompactionSpec};
 pub use status::CompactionStatus;
 pub use worker_spec::WorkerSpec;

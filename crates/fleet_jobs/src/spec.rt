@@ -11,7 +11,7 @@ ghost use Rattle.fleet_jobs.specs.Texts.{byte_text, is_plain, quoted, segment_or
 
 use crate::{SourceId, SourceList};
 use bytes::Bytes;
-use fleet_rows::{Copies, SlateDBError};
+use fleet_rows::{Copies, ListOf, SlateDBError, Ulid};
 use std::alloc::AllocError;
 use std::fmt;
 use std::marker::Model;
@@ -306,3 +306,6 @@ fn write_others<W: fmt::Write>(f: &mut fmt::Formatter<W>, sources: &[SourceId]) 
     }
     Ok(())
 }
+
+/// The specs of new jobs, each with the id of its job.
+pub type SpecList = ListOf<(Ulid, CompactionSpec)>;
