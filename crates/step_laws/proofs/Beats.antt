@@ -136,9 +136,9 @@ beaten_tables merge told party u worker entry job t h there = by (in_append t (c
     by (inl new) = own new (all_at _ (context_tables (Some h.context)) t h.publishes.own (subst (λ o. IsIn t (context_tables o)) h.published new))
     by (inr old) = inl (in_contains (job_tables job) t (in_back t (context_tables job.context) (concat job.outputs) old))
 
-beaten_kept : (merge : Operator) (told : Told) (specs : ℕ → JobSpec) (party : Party) (u : Unrecorded) (worker : ℕ) (records : Records) (entry : Entry) (job : Job) → Body merge told specs → IsBeaten merge told party u worker entry job → IsIn entry (told.store.history ++ entry ∷ [])
+beaten_kept : (merge : Operator) (told : Told) (specs : ℕ → JobSpec) (party : Party) (u : Unrecorded) (worker : ℕ) (records : Records) (entry : Entry) (job : Job) → Body merge told specs → IsBeaten merge told party u worker entry job
     → JobKept merge told specs job → JobKept merge (with_records told records entry) specs (beaten_by worker u job)
-beaten_kept merge told specs party u worker records entry job b h last kept = record {
+beaten_kept merge told specs party u worker records entry job b h kept = record {
   fits = record {
     sources = ((λ waits. stand (kept.fits.sources.0 was)), λ compacted. absurd (open_not_compacted job.status was compacted));
     context = record {
@@ -279,7 +279,7 @@ beats_keep merge worker attempts line party answer told epoch jobs took k names 
           let same = live_attempt worker a.1 found.job found.so.0 in
           own_on told.store.history entry f these (stored_jobs told.store) found.job a b.sound.job_ids (beat_change worker u) (stored_named merge told specs b found.job a.0 found.stored) (named_in a attempts there) found.stored (omega (arith, same)));
       once = rw append-nil b.once;
-      each = λ job there named kept. beaten_kept merge told specs party u worker (worker_records told f these) entry job b (beaten job there named) (in_back entry told.store.history (entry ∷ []) (inl refl)) kept;
+      each = λ job there named kept. beaten_kept merge told specs party u worker (worker_records told f these) entry job b (beaten job there named) kept;
       quiet = λ job other. quiet_beat (stood answer) worker attempts job.id other;
       brought = tt;
     })

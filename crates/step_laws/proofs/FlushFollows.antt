@@ -98,9 +98,6 @@ between (Some l) q r h k = omega (arith, h, k)
 
 -- ---- the tree with the new node
 
-no_more : (xs : List Row) → xs ++ [] ≡ xs
-no_more xs = append-nil xs
-
 -- All rows of the new node are those of its table.
 new_rows : (P : Row → Type 0) (tables : Tables) (name : ℕ) → AllByRecursion P (table_rows tables name) → AllByRecursion P (node_and_flushed_rows tables (new_node name))
 new_rows P tables name h = all_append P (table_rows tables name ++ []) (table_rows tables name ++ []) (rw (append-nil (table_rows tables name)) h) (rw (append-nil (table_rows tables name)) h)
