@@ -42,3 +42,5 @@ pub mod FlushTrees
 pub mod FlushNodes
 pub mod FlushFollows
 pub mod Flushes
+pub mod MidwayStored
+pub mod Midway

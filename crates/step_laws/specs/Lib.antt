@@ -1,3 +1,4 @@
 pub mod CallLaws
+pub mod Midway
 pub mod Replays
 pub mod Runs
