@@ -1,11 +1,15 @@
 -- The store in the midst of two jobs meets the invariant of the stored objects.
-use Rattle.std.proofs.Common.{◌≡◌, refl, ℕ, [], ◌∷◌, lit≤, inl}
-use Rattle.std.specs.Prelude.{◌==◌, false, ◌≢◌}
+use Rattle.std.proofs.Common.{◌≡◌, refl, ◌∙◌, ap, ℕ, ◌<◌, List, [], ◌∷◌, ◌++◌, lit≤, inl, cond, Bool, true, false, ℤ}
+use Rattle.std.specs.Prelude.{◌==◌, ◌≢◌, nat_le, bytes_eq}
+use Rattle.std.proofs.lemmas.Bool.{le-leb}
+use Rattle.row_model.specs.Rows.{Row, is_expired, sorted_rows}
+use Rattle.row_model.specs.Read.{with_operand, operands, base_or, base, seen_at, read}
+use Rattle.fleet_model.specs.ReadsFit.{NodeKeepsReads}
 use Rattle.std.specs.List.{AllByRecursion}
 use Rattle.std.specs.List.Sorted.{IsStrictlySortedBy}
 use Rattle.std.proofs.lemmas.Bool.Decides.{Decides-eqb}
 use Rattle.row_model.specs.Bounds.{IsInBounds}
-use Rattle.row_model.specs.Fold.{Operator}
+use Rattle.row_model.specs.Fold.{Operator, fold_bytes}
 use Rattle.row_model.specs.Plan.{planned}
 use Rattle.fleet_model.specs.Invariant.{StoreInvariant}
 use Rattle.fleet_model.specs.TreesFit.{AreTrees, IsSound}
@@ -16,10 +20,14 @@ use Rattle.fleet_model.specs.Replay.{IsReplayed}
 use Rattle.step_model.specs.Faithful.{AgreesWith, Faithful}
 use Rattle.step_model.specs.Facts.{StoreFacts}
 use Rattle.step_model.specs.Keeps.{Keeps}
-use Rattle.step_laws.specs.Midway.{row, context, spec_of, running, compacted, history, midway_told}
+use Rattle.step_laws.specs.Midway.{row, run, context, spec_of, running, compacted, history, midway_told}
 
 pub differ : (a b : ℕ) → (a == b) ≡ false → a ≢ b
 differ a b e same = let yes = (Decides-eqb a b).1 same in absurd (cc (e, yes))
+
+-- The rows of the run in the root segment, and of the flush that went into it, are older than flush 3.
+older : AllByRecursion (λ r. r.seq < 5) (row (0x61 ∷ []) 4 ∷ row (0x61 ∷ []) 4 ∷ row (0x61 ∷ []) 3 ∷ [])
+older = (lit≤ tt, (lit≤ tt, (lit≤ tt, tt)))
 
 trees : AreTrees midway_told.store
 unfolding IsStrictlySortedBy
@@ -27,8 +35,8 @@ trees = record {
   each = (
     record {
       names_in_order = ((tt, tt), (tt, tt));
-      newest_first = (((((lit≤ tt, (lit≤ tt, tt))), ((lit≤ tt, (lit≤ tt, tt)), tt)), tt), (tt, tt));
-      at_most_last = ((lit≤ tt, (lit≤ tt, tt)), ((lit≤ tt, (lit≤ tt, tt)), tt));
+      newest_first = (((older, (older, tt)), tt), (tt, tt));
+      at_most_last = ((lit≤ tt, (lit≤ tt, tt)), ((lit≤ tt, (lit≤ tt, (lit≤ tt, tt))), tt));
       ordered = ((tt, tt), ((tt, tt), tt));
     },
     (
@@ -63,7 +71,7 @@ sound = record {
   tables = (
     record { some = λ none. absurd (cc none); ordered = ((refl, tt), (tt, tt)); bounds = (in_bounds _ _ _, (in_bounds _ _ _, tt)) },
     (
-      record { some = λ none. absurd (cc none); ordered = (tt, tt); bounds = (short_in_bounds _ _, tt) },
+      record { some = λ none. absurd (cc none); ordered = ((refl, tt), (tt, tt)); bounds = (short_in_bounds _ _, (short_in_bounds _ _, tt)) },
       (
         record { some = λ none. absurd (cc none); ordered = (tt, tt); bounds = (in_bounds _ _ _, tt) },
         (
@@ -121,6 +129,52 @@ sources = (
 held_once : NodesHeldOnce (running ∷ compacted ∷ [])
 held_once = ((λ one other. refl, tt), (tt, tt))
 
+-- ---- reads
+
+-- Rows below a value that a read sees do not change the read's base.
+same_base : (s : ℕ) (now : ℤ) (key : List ℕ) (seq : ℕ) (above rest other : List Row) → nat_le seq s ≡ true
+    → base now (seen_at s (above ++ row key seq ∷ rest)) ≡ base now (seen_at s (above ++ row key seq ∷ other))
+same_base s now key seq [] rest other seen = rw seen refl
+same_base s now key seq (r ∷ above) rest other seen = by (nat_le r.seq s) (same_base s now key seq above rest other seen)
+  where
+    by : (b : Bool) → base now (seen_at s (above ++ row key seq ∷ rest)) ≡ base now (seen_at s (above ++ row key seq ∷ other))
+        → base now (cond b (r ∷ seen_at s (above ++ row key seq ∷ rest)) (seen_at s (above ++ row key seq ∷ rest)))
+        ≡ base now (cond b (r ∷ seen_at s (above ++ row key seq ∷ other)) (seen_at s (above ++ row key seq ∷ other)))
+    by true same = ap (λ found. base_or r.content (is_expired r now) found) same
+    by false same = same
+
+-- They do not change its operands.
+same_operands : (s : ℕ) (now : ℤ) (key : List ℕ) (seq : ℕ) (above rest other : List Row) → nat_le seq s ≡ true
+    → operands now (seen_at s (above ++ row key seq ∷ rest)) ≡ operands now (seen_at s (above ++ row key seq ∷ other))
+same_operands s now key seq [] rest other seen = rw seen refl
+same_operands s now key seq (r ∷ above) rest other seen = by (nat_le r.seq s) (same_operands s now key seq above rest other seen)
+  where
+    by : (b : Bool) → operands now (seen_at s (above ++ row key seq ∷ rest)) ≡ operands now (seen_at s (above ++ row key seq ∷ other))
+        → operands now (cond b (r ∷ seen_at s (above ++ row key seq ∷ rest)) (seen_at s (above ++ row key seq ∷ rest)))
+        ≡ operands now (cond b (r ∷ seen_at s (above ++ row key seq ∷ other)) (seen_at s (above ++ row key seq ∷ other)))
+    by true same = ap (λ found. with_operand r.content (is_expired r now) found) same
+    by false same = same
+
+-- The node that is the run of job 2. It has only the newer one of the two rows that were flushed.
+run_reads : (merge : Operator) → NodeKeepsReads merge midway_told.store true run
+run_reads merge key s now above below low later last = by (bytes_eq key (0x61 ∷ []))
+  where
+    newer : Row
+    newer = row (0x61 ∷ []) 4
+
+    older_one : Row
+    older_one = row (0x61 ∷ []) 3
+
+    by : (b : Bool)
+        → read merge key s now (above ++ (sorted_rows (cond b (newer ∷ cond b (older_one ∷ []) []) (cond b (older_one ∷ []) [])) ++ below))
+        ≡ read merge key s now (above ++ (sorted_rows (cond b (newer ∷ []) []) ++ below))
+    by true =
+        let one = same_base s now (0x61 ∷ []) 4 above (older_one ∷ below) below (le-leb 4 s low) in
+        let two = same_operands s now (0x61 ∷ []) 4 above (older_one ∷ below) below (le-leb 4 s low) in
+        ap (λ found. fold_bytes merge key found (operands now (seen_at s (above ++ newer ∷ older_one ∷ below)))) one
+        ∙ ap (λ found. fold_bytes merge key (base now (seen_at s (above ++ newer ∷ below))) found) two
+    by false = refl
+
 stored : (merge : Operator) → StoreInvariant merge midway_told.store
 unfolding replay
 stored merge = record {
@@ -136,7 +190,7 @@ stored merge = record {
     flushes = ((refl, (refl, tt)), ((refl, tt), tt));
     jobs = ((λ active. record { named = refl; sources = refl }), ((λ active. record { named = refl; sources = refl }), tt));
   };
-  reads = ((λ key s now above below low later last. refl, λ key s now above below low later last. refl), (λ key s now above below low later last. refl, tt));
+  reads = ((λ key s now above below low later last. refl, run_reads merge), (λ key s now above below low later last. refl, tt));
 }
 
 pub keeps_by : (merge : Operator) → Faithful midway_told spec_of → StoreFacts midway_told → Keeps merge midway_told

@@ -37,17 +37,17 @@ made = drawn_base + 2
 abbrev pub tables : Tables
 tables =
     (1, row (0x62 ∷ 0x31 ∷ []) 1 ∷ row (0x62 ∷ 0x32 ∷ []) 2 ∷ [])
-    ∷ (2, row (0x61 ∷ []) 3 ∷ [])
+    ∷ (2, row (0x61 ∷ []) 4 ∷ row (0x61 ∷ []) 3 ∷ [])
     ∷ (published, row (0x62 ∷ 0x31 ∷ []) 1 ∷ [])
-    ∷ (made, row (0x61 ∷ []) 3 ∷ [])
-    ∷ (3, row (0x61 ∷ []) 4 ∷ [])
+    ∷ (made, row (0x61 ∷ []) 4 ∷ [])
+    ∷ (3, row (0x61 ∷ []) 5 ∷ [])
     ∷ []
 
 -- ---- jobs
 
 -- The spec of a job that makes a run of one flush.
 abbrev pub spec : List ℕ → ℕ → ℕ → JobSpec
-spec segment flush run = record { segment = segment; sources = L0 flush ∷ []; destination = Some run }
+spec segment flush id = record { segment = segment; sources = L0 flush ∷ []; destination = Some id }
 
 -- The spec of job 1, or that of job 2 for every other id.
 abbrev pub spec_of : ℕ → JobSpec
@@ -55,7 +55,7 @@ spec_of id = if id == 1 then spec prefix 1 0 else spec [] 2 1
 
 -- The context that worker 1 published for job 1.
 abbrev pub context : Context
-context = record { settings = record { floor = 3; tick = pos 0; last_run = true; cut = 3 }; has_cut = true; ranges = (all_keys, published ∷ []) ∷ [] }
+context = record { settings = record { floor = 4; tick = pos 0; last_run = true; cut = 4 }; has_cut = true; ranges = (all_keys, published ∷ []) ∷ [] }
 
 -- The record of job 1, which runs at its second attempt.
 abbrev pub running : Job
@@ -82,7 +82,7 @@ compacted = record {
   source_tables = 2 ∷ [];
   context = None;
   outputs = (made ∷ []) ∷ [];
-  kept_cut = Some 3;
+  kept_cut = Some 4;
 }
 
 -- The stored jobs.
@@ -101,18 +101,22 @@ side = record { prefix = prefix; tree = flush 1 ∷ []; last_seq = Some 2; water
 
 -- The root segment before the join, with flush 2.
 abbrev pub flushed_root : Segment
-flushed_root = record { prefix = []; tree = flush 2 ∷ []; last_seq = Some 3; watermark = None }
+flushed_root = record { prefix = []; tree = flush 2 ∷ []; last_seq = Some 4; watermark = None }
 
 -- The root segment before the join, with flush 3 too.
 abbrev pub twice_flushed_root : Segment
-twice_flushed_root = record { prefix = []; tree = flush 3 ∷ flush 2 ∷ []; last_seq = Some 4; watermark = None }
+twice_flushed_root = record { prefix = []; tree = flush 3 ∷ flush 2 ∷ []; last_seq = Some 5; watermark = None }
+
+-- The run of job 2. It has one of the two rows of flush 2.
+abbrev pub run : Node
+run = record { name = Run 1; flushes = 2 ∷ []; pieces = made ∷ [] }
 
 -- The root segment after the join. The run has replaced flush 2.
 abbrev pub joined_root : Segment
 joined_root = record {
   prefix = [];
-  tree = flush 3 ∷ record { name = Run 1; flushes = 2 ∷ []; pieces = made ∷ [] } ∷ [];
-  last_seq = Some 4;
+  tree = flush 3 ∷ run ∷ [];
+  last_seq = Some 5;
   watermark = Some 2;
 }
 
@@ -122,16 +126,16 @@ manifest version trees floor horizon = record { version = version; epoch = 1; tr
 
 -- The manifest that is stored now.
 abbrev pub joined_manifest : Manifest
-joined_manifest = manifest 6 (joined_root ∷ side ∷ []) 4 3
+joined_manifest = manifest 6 (joined_root ∷ side ∷ []) 5 4
 
 -- All manifests that were stored, with the one that is stored now.
 abbrev pub past : List Manifest
 past =
     fresh_store.manifest
     ∷ record fresh_store.manifest { version = 2; epoch = 1 }
-    ∷ manifest 3 (record { prefix = []; tree = []; last_seq = None; watermark = None } ∷ side ∷ []) 3 0
-    ∷ manifest 4 (flushed_root ∷ side ∷ []) 3 0
-    ∷ manifest 5 (twice_flushed_root ∷ side ∷ []) 4 0
+    ∷ manifest 3 (record { prefix = []; tree = []; last_seq = None; watermark = None } ∷ side ∷ []) 2 0
+    ∷ manifest 4 (flushed_root ∷ side ∷ []) 4 0
+    ∷ manifest 5 (twice_flushed_root ∷ side ∷ []) 5 0
     ∷ joined_manifest
     ∷ []
 
@@ -151,9 +155,9 @@ first_entries =
     entry 1 (Coordinator 1) (PutManifest (ManifestEpoch 1)) (Done 2)
     ∷ entry 1 (Coordinator 1) (PutRecords (RecordsEpoch 1)) (Done 1)
     ∷ entry 2 Writer (PutTable 1 2) (Done 0)
-    ∷ entry 2 Writer (PutManifest (Flush 1 prefix 3 (pos 0))) (Done 3)
-    ∷ entry 3 Writer (PutTable 2 1) (Done 0)
-    ∷ entry 3 Writer (PutManifest (Flush 2 [] 3 (pos 0))) (Done 4)
+    ∷ entry 2 Writer (PutManifest (Flush 1 prefix 2 (pos 0))) (Done 3)
+    ∷ entry 3 Writer (PutTable 2 2) (Done 0)
+    ∷ entry 3 Writer (PutManifest (Flush 2 [] 4 (pos 0))) (Done 4)
     ∷ entry 4 Submitter (DrawJob 1) (Done 0)
     ∷ entry 4 Submitter (DrawJob 2) (Done 0)
     ∷ entry 4 Submitter (PutRecords (Submit ((1, spec prefix 1 0) ∷ (2, spec [] 2 1) ∷ []))) (Done 2)
@@ -179,7 +183,7 @@ last_entries =
     ∷ entry 12 (Worker 2) (PutTable made 1) (Done 0)
     ∷ entry 13 (Worker 2) (PutRecords (Finish 2 2 1 ((made ∷ []) ∷ []))) (Done 9)
     ∷ entry 14 Writer (PutTable 3 1) (Done 0)
-    ∷ entry 14 Writer (PutManifest (Flush 3 [] 4 (pos 0))) (Done 5)
+    ∷ entry 14 Writer (PutManifest (Flush 3 [] 5 (pos 0))) (Done 5)
     ∷ entry 15 (Coordinator 1) (PutManifest (Commit (Join 2 ∷ []))) (Done 6)
     ∷ entry 15 (Coordinator 1) (PutRecords (Polled (poll [] (2 ∷ []) []))) Lost
     ∷ []
