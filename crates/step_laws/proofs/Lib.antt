@@ -44,3 +44,4 @@ pub mod FlushFollows
 pub mod Flushes
 pub mod MidwayStored
 pub mod Midway
+pub mod MidwayCalls

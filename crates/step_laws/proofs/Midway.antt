@@ -4,12 +4,12 @@ use Rattle.std.specs.Prelude.{◌&&◌, IsTrue, IfSome, nat_le, option_map}
 use Rattle.std.specs.List.{AllByRecursion, list_all}
 use Rattle.std.proofs.lemmas.Bool.{leb-true}
 use Rattle.row_model.specs.Fold.{Operator}
-use Rattle.fleet_model.specs.Nodes.{is_among}
+use Rattle.fleet_model.specs.Nodes.{is_among, Tables}
 use Rattle.fleet_model.specs.Jobs.{JobSpec, Job, contains, job_with}
 use Rattle.fleet_model.specs.History.{Entry, stood}
-use Rattle.fleet_model.specs.Store.{fresh_store}
+use Rattle.fleet_model.specs.Store.{Manifest, fresh_store}
 use Rattle.fleet_model.specs.Replay.{Objects, after_entry, replayed, plain_objects, plain_manifest}
-use Rattle.step_model.specs.Past.{manifest_with}
+use Rattle.step_model.specs.Past.{Told, manifest_with}
 use Rattle.step_model.specs.Entries.{drawn_jobs, mentioned_in, was_named, attempts_in, planned_attempts, tables_brought_in}
 use Rattle.step_model.specs.Faithful.{Faithful}
 use Rattle.step_model.specs.NamesKept.{DrawsKept, NamesKept, AttemptsKept, IsUpTo}
@@ -44,27 +44,30 @@ if_stood P h = all_to P (λ entry. IsTrue (stood entry.answer) → P entry) hist
 -- ---- the replay of each part of the history
 
 -- The objects after each part of these entries have the property.
-abbrev Throughout : (Objects → Type 0) → (ℕ → JobSpec) → List Entry → Objects → Type 0
-Throughout P specs [] o = P o
-Throughout P specs (entry ∷ history) o = P o × Throughout P specs history (after_entry tables specs entry o)
+abbrev pub Throughout : (Objects → Type 0) → Tables → (ℕ → JobSpec) → List Entry → Objects → Type 0
+Throughout P put specs [] o = P o
+Throughout P put specs (entry ∷ history) o = P o × Throughout P put specs history (after_entry put specs entry o)
 
-at_front : (P : Objects → Type 0) (specs : ℕ → JobSpec) (front back : List Entry) (o : Objects) → Throughout P specs (front ++ back) o → P (replayed tables specs front o)
-at_front P specs [] [] o h = h
-at_front P specs [] (entry ∷ back) o h = h.0
-at_front P specs (entry ∷ front) back o h = at_front P specs front back (after_entry tables specs entry o) h.1
+at_front : (P : Objects → Type 0) (put : Tables) (specs : ℕ → JobSpec) (front back : List Entry) (o : Objects) → Throughout P put specs (front ++ back) o → P (replayed put specs front o)
+at_front P put specs [] [] o h = h
+at_front P put specs [] (entry ∷ back) o h = h.0
+at_front P put specs (entry ∷ front) back o h = at_front P put specs front back (after_entry put specs entry o) h.1
 
--- The manifest of the objects is one of the past.
-abbrev IsPast : Objects → Type 0
-IsPast o = option_map plain_manifest (manifest_with o.manifest.version past) ≡ Some o.manifest
+-- The manifest of the objects is one of these.
+abbrev pub IsPast : List Manifest → Objects → Type 0
+IsPast manifests o = option_map plain_manifest (manifest_with o.manifest.version manifests) ≡ Some o.manifest
 
-throughout : Throughout IsPast spec_of history (plain_objects fresh_store)
+-- The replay of each part of a history gives a past manifest, if that is so of each part in turn.
+pub parts_are_past : (told : Told) (specs : ℕ → JobSpec) → Throughout (IsPast told.past) told.store.tables specs told.store.history (plain_objects fresh_store)
+    → (front back : List Entry) → front ++ back ≡ told.store.history → IsPast told.past (replayed told.store.tables specs front (plain_objects fresh_store))
+parts_are_past told specs h front back parts =
+    at_front (IsPast told.past) told.store.tables specs front back (plain_objects fresh_store) (subst (λ entries. Throughout (IsPast told.past) told.store.tables specs entries (plain_objects fresh_store)) (sym parts) h)
+
+throughout : Throughout (IsPast past) tables spec_of history (plain_objects fresh_store)
 throughout = (refl, (refl, (refl, (refl, (refl, (refl, (refl, (refl, (refl, (refl, (refl, (refl, (refl, (refl, (refl, (refl, (refl, (refl, (refl, (refl, (refl, (refl, (refl, (refl, (refl, (refl, (refl, (refl, (refl, refl)))))))))))))))))))))))))))))
 
 faithful : Faithful midway_told spec_of
-faithful = record {
-  agrees = agrees;
-  manifests = λ front back parts. at_front IsPast spec_of front back (plain_objects fresh_store) (subst (λ history. Throughout IsPast spec_of history (plain_objects fresh_store)) (sym parts) throughout);
-}
+faithful = record { agrees = agrees; manifests = parts_are_past midway_told spec_of throughout }
 
 -- ---- draws, names and attempts
 

@@ -65,7 +65,7 @@ in_bounds byte other seq = record { key = lit≤ tt; content = lit≤ tt }
 short_in_bounds : (byte seq : ℕ) → IsInBounds (row (byte ∷ []) seq)
 short_in_bounds byte seq = record { key = lit≤ tt; content = lit≤ tt }
 
-sound : IsSound midway_told.store
+pub sound : IsSound midway_told.store
 unfolding IsStrictlySortedBy
 sound = record {
   tables = (

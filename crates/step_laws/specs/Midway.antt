@@ -2,16 +2,19 @@
 -- - Flush 1 went into the segment of the prefix "b", flush 2 into the root segment, and flush 3 into
 --   the root segment later.
 -- - Job 1 makes a run of flush 1. Worker 1 took it, wrote the first of its two rows into a table and
---   published that table. Then the job was freed, and worker 2 took it as its second attempt, with
---   the published context.
--- - Job 2 makes a run of flush 2. Worker 2 finished it. A commit joined its run, but the put of the
---   records that comes next was lost. So the records still have the job as Compacted.
+--   published that table with a heartbeat. Then the job was freed, and worker 2 took it as its second
+--   attempt, with the published context.
+-- - Job 2 makes a run of flush 2, which has two versions of a key. Worker 2 finished it, with the
+--   newer version alone. A commit joined its run, but the put of the records that comes next was
+--   lost. So the records still have the job as Compacted.
+-- The history leaves out the gets that no claim needs.
 use Rattle.std.specs.Prelude.{ℕ, ◌+◌, ◌==◌, if◌then◌else◌, List, [], ◌∷◌, ◌++◌, true, pos, Some, None}
 use Rattle.row_model.specs.Rows.{Row, Value}
 use Rattle.row_model.specs.Ranges.{all_keys}
 use Rattle.fleet_model.specs.Nodes.{L0, Run, Node, Tables, Trees, Segment}
 use Rattle.fleet_model.specs.Jobs.{drawn_base, Job, Jobs, Running, Compacted, Context, JobSpec}
 use Rattle.fleet_model.specs.History.{Entry, Party, Writer, Submitter, Coordinator, Worker, Event, GetManifest, PutTable, PutManifest, PutRecords, DrawJob, DrawTable, Plan, ManifestEpoch, Flush, Commit, Join, RecordsEpoch, Submit, Polled, PollChange, Claim, Beat, Finish, Answer, Done, Lost}
+use Rattle.fleet_model.specs.Trees.{empty_segment}
 use Rattle.fleet_model.specs.Store.{Manifest, fresh_store}
 use Rattle.step_model.specs.Past.{Told}
 
@@ -128,13 +131,17 @@ manifest version trees floor horizon = record { version = version; epoch = 1; tr
 abbrev pub joined_manifest : Manifest
 joined_manifest = manifest 6 (joined_root ∷ side ∷ []) 5 4
 
+-- The manifest after flush 2, which all claims found.
+abbrev pub claimed_manifest : Manifest
+claimed_manifest = manifest 4 (flushed_root ∷ side ∷ []) 4 0
+
 -- All manifests that were stored, with the one that is stored now.
 abbrev pub past : List Manifest
 past =
     fresh_store.manifest
     ∷ record fresh_store.manifest { version = 2; epoch = 1 }
-    ∷ manifest 3 (record { prefix = []; tree = []; last_seq = None; watermark = None } ∷ side ∷ []) 2 0
-    ∷ manifest 4 (flushed_root ∷ side ∷ []) 4 0
+    ∷ manifest 3 (empty_segment [] ∷ side ∷ []) 2 0
+    ∷ claimed_manifest
     ∷ manifest 5 (twice_flushed_root ∷ side ∷ []) 5 0
     ∷ joined_manifest
     ∷ []

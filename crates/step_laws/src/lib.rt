@@ -7,6 +7,7 @@ ghost use Rattle.step_model.specs.Keeps.{Keeps};
 ghost use Rattle.step_model.specs.Past.{fresh_told};
 ghost use Rattle.step_laws.specs.CallLaws.{DrawsKeep, EpochsKeep, FlushesKeep, JobPutsKeep, LooksKeep, OtherCallsKeep, TableCallsKeep, VainPutsKeep, WorkerPutsKeep};
 ghost use Rattle.step_laws.specs.Midway.{midway_told};
+ghost use Rattle.step_laws.specs.MidwayCalls.{MidwayIsReached};
 ghost use Rattle.step_laws.specs.Replays.{FaithfulAlike};
 ghost use Rattle.step_laws.specs.Runs.{LawfulRunsKeep};
 
@@ -20,6 +21,13 @@ pub fn fresh_keeps()
 /// of the records that comes after the join was lost.
 pub fn midway_keeps()
     ensures { (merge : Operator) → Keeps merge midway_told }
+{}
+
+/// Lawful calls lead from a fresh store to the store of `midway_keeps`, under any operator. So the
+/// conditions of lawful calls can be met: of draws, puts of tables, epochs, flushes, submissions,
+/// claims, heartbeats, finishes, changes that polls make, and a commit that joins a run.
+pub fn midway_is_reached()
+    ensures { (merge : Operator) → MidwayIsReached merge }
 {}
 
 /// Any two faithful choices of specs give the same replay after each part of the history.
