@@ -1,0 +1,18 @@
+//! Laws on what the parties of a fleet hold of a store. Each function has an empty body, and its
+//! clause states a law: lawful calls of other parties keep what a worker and a coordinator hold.
+#![tactic(auto)]
+
+ghost use Rattle.row_model.specs.Fold.{Operator};
+ghost use Rattle.fit_laws.specs.FitLaws.{CoordinatorsKeep, RivalsKeepCoordinators};
+
+/// A lawful call of another party keeps what a coordinator holds and knows, whether a fault strikes
+/// the call or not.
+pub fn coordinators_keep()
+    ensures { (merge : Operator) → CoordinatorsKeep merge }
+{}
+
+/// Calls of others that come between two calls of a coordinator keep what it holds and knows, if
+/// each lawful call keeps the invariant.
+pub fn rivals_keep_coordinators()
+    ensures { RivalsKeepCoordinators }
+{}
