@@ -3,3 +3,9 @@ pub mod SameParty
 pub mod TreesMerged
 pub mod JobsMerged
 pub mod Coordinators
+pub mod WorkerFollows
+pub mod AttemptFacts
+pub mod WorkerCalls
+pub mod WorkerManifests
+pub mod WorkerRecords
+pub mod Workers

@@ -1,0 +1,185 @@
+-- What epochs, flushes and commits leave of the settings and tables of Running jobs.
+use Rattle.std.proofs.Common.{◌≡◌, refl, sym, ◌∙◌, ap, subst, ℕ, List, [], ◌∷◌, cond, Bool, true, false, inl, Option, Some, None, arith}
+use Rattle.std.specs.Prelude.{IsTrue, ◌==◌, ◌&&◌, ◌||◌, not, flat_map, ℤ, ⊤}
+use Rattle.std.specs.List.{AllByRecursion, concat}
+use Rattle.std.proofs.lemmas.Bool.Decides.{Decides-eqb}
+use Rattle.row_laws.proofs.RetentionReads.{int_le_trans}
+use Rattle.row_model.specs.Fold.{Operator}
+use Rattle.fleet_model.specs.Nodes.{Node, Trees, tree_at, table_rows}
+use Rattle.fleet_model.specs.Jobs.{JobSpec, Job, Status, Submitted, Scheduled, Running, Compacted, Completed, Failed, status_eq, has_status, is_finished, is_active, job_with, contains}
+use Rattle.fleet_model.specs.History.{Party, Worker, ManifestChange, ManifestEpoch, Flush, Commit, Step, Join, Move, Drain}
+use Rattle.fleet_model.specs.Handles.{tree_tables, job_tables, context_tables}
+use Rattle.fleet_model.specs.Trees.{stepped_in, stepped_all}
+use Rattle.fleet_model.specs.Store.{Manifest, Records, stored_jobs, jobs_in}
+use Rattle.fleet_model.specs.Replay.{outputs_in, outputs_of}
+use Rattle.fleet_model.specs.JobsFit.{SourcesStand, AreOldest}
+use Rattle.step_model.specs.Past.{Told}
+use Rattle.step_model.specs.Entries.{was_flushed}
+use Rattle.step_model.specs.LawfulTables.{IsOwnTable, other_tables}
+use Rattle.step_model.specs.LawfulManifests.{ManifestFits, EpochFits, FlushFits, CommitFits, StepsFit}
+use Rattle.step_model.specs.NamesKept.{DrawsKept}
+use Rattle.step_model.specs.TablesKept.{IsFlush}
+use Rattle.step_model.specs.Keeps.{Keeps}
+use Rattle.step_laws.proofs.Elements.{IsIn, all_at, all_from, all_to, all_flat, all_unflat, in_contains, contains_no, in_back}
+use Rattle.step_laws.proofs.Bodies.{Body, JobKept, whole_of}
+use Rattle.step_laws.proofs.Deletions.{in_flat, in_filter}
+use Rattle.step_laws.proofs.Changed.{IsFound, found_job, job_found}
+use Rattle.step_laws.proofs.TableReplays.{TreesAll, step_all}
+use Rattle.step_laws.proofs.PollJobs.{stretch_in, node_flushed, tree_has}
+use Rattle.step_laws.proofs.FlushNodes.{Differ, source_differs, known_differs, not_in_flushed}
+use Rattle.step_laws.proofs.FlushTrees.{rising_from}
+use Rattle.step_laws.proofs.FlushFollows.{oldest_on}
+use Rattle.step_laws.proofs.ManifestEpochs.{not_stored}
+use Rattle.fit_laws.specs.FitLaws.{CommitsLeaveOldest}
+use Rattle.fit_laws.proofs.Outcomes.{put_manifest}
+use Rattle.fit_laws.proofs.WorkerCalls.{ManifestSpares}
+
+-- ---- an epoch
+
+epoch_spares : (merge : Operator) (told : Told) (specs : ℕ → JobSpec) (party : Party) (n epoch : ℕ) (value : Manifest) → Body merge told specs → EpochFits party told epoch value → ManifestSpares told (put_manifest told value) n
+epoch_spares merge told specs party n epoch value b fits = subst (λ (m : Manifest). ManifestSpares told (put_manifest told m) n) (sym fits.makes) (record {
+  settings = λ job there runs s fit. record { floor = fit.floor; cut = fit.cut; tick = fit.tick; last_run = fit.last_run };
+  tables = λ job there runs t own. not_stored told.store.manifest told.past t b.past own.unused;
+})
+
+-- ---- a flush
+
+-- The sources of a Running job stand in their tree.
+running_stand : (merge : Operator) (told : Told) (specs : ℕ → JobSpec) → Body merge told specs → (job : Job) → IsIn job (stored_jobs told.store) → IsTrue (has_status Running job) → SourcesStand told.store.manifest.trees job
+running_stand merge told specs b job there runs = (all_at (JobKept merge told specs) (stored_jobs told.store) job b.jobs there).fits.sources.0 (waits job.status runs)
+  where
+    waits : (s : Status) → IsTrue (status_eq Running s) → IsTrue (status_eq Scheduled s || status_eq Running s)
+    waits Running h = refl
+    waits Scheduled h = refl
+    waits Submitted h = absurd (cc h)
+    waits Compacted h = absurd (cc h)
+    waits Completed h = absurd (cc h)
+    waits Failed h = absurd (cc h)
+
+differ_on : (merge : Operator) (told : Told) (specs : ℕ → JobSpec) (name : ℕ) (job : Job) → Body merge told specs → was_flushed told.store.history name ≡ false → SourcesStand told.store.manifest.trees job → Differ name job.spec.sources
+differ_on merge told specs name job b once stand = all_to _ _ job.spec.sources (λ x there named. source_differs told.store.history name x once
+    (node_flushed told.store.history (tree_at job.spec.segment told.store.manifest.trees) x
+    (tree_has (λ tree. AllByRecursion (λ node. IsFlush told.store.history node node.name) tree) job.spec.segment told.store.manifest.trees tt b.nodes.flushes) named))
+    (stretch_in (tree_at job.spec.segment told.store.manifest.trees) job.spec.sources stand.stretch)
+
+flush_spares : (merge : Operator) (told : Told) (specs : ℕ → JobSpec) (party : Party) (n name : ℕ) (segment : List ℕ) (floor : ℕ) (tick : ℤ) (value : Manifest) → Body merge told specs → DrawsKept told.store.jobs_drawn told.store.tables_drawn told.store.history
+    → FlushFits party told name segment floor tick value → ManifestSpares told (put_manifest told value) n
+flush_spares merge told specs party n name segment floor tick value b draws fits = subst (λ (m : Manifest). ManifestSpares told (put_manifest told m) n) (sym fits.makes) (record {
+  settings = λ job there runs s fit.
+      let stand = running_stand merge told specs b job there runs in
+      record {
+        floor = let low = fit.floor in let stays = fits.floor_stays in omega (arith, low, stays);
+        cut = fit.cut;
+        tick = int_le_trans s.tick told.store.manifest.tick tick fit.tick fits.tick_stays;
+        last_run = λ is. oldest_on segment name (table_rows told.store.tables name) told.store.manifest.trees job (rising_from told.store.manifest.trees b.sound.prefixes) (differ_on merge told specs name job b fits.once stand) stand.some (fit.last_run is);
+      };
+  tables = λ job there runs t own. not_in_flushed segment name (table_rows told.store.tables name) told.store.manifest.trees t
+      (known_differs told.store.jobs_drawn told.store.tables_drawn told.store.history name t draws fits.is_name fits.once (inl own.drawn)) (not_stored told.store.manifest told.past t b.past own.unused);
+})
+
+-- ---- a commit
+
+-- No other active job names a table that is the worker's own.
+pub not_named_by : (party : Party) (told : Told) (id t : ℕ) (other : Job) → IsOwnTable party told id t → IsIn other (stored_jobs told.store) → IsTrue (is_active other) → (id ≡ other.id → ⊥) → IsIn t (job_tables other) → ⊥
+not_named_by party told id t other own there active differs named =
+    refused (contains (other_tables id (stored_jobs told.store)) t) own.unnamed
+    (in_contains (other_tables id (stored_jobs told.store)) t (in_flat job_tables _ other t (in_filter (λ (job : Job). is_active job && not (id == job.id)) (stored_jobs told.store) other there (both (is_active other) (not (id == other.id)) active (unequal (id == other.id) refl))) named))
+  where
+    refused : (b : Bool) → b ≡ false → b ≡ true → ⊥
+    refused true e f = absurd (cc e)
+    refused false e f = absurd (cc f)
+
+    both : (a b : Bool) → IsTrue a → IsTrue b → (a && b) ≡ true
+    both true b h k = k
+    both false b h k = absurd (cc h)
+
+    unequal : (b : Bool) → (id == other.id) ≡ b → IsTrue (not b)
+    unequal true e = absurd (differs ((Decides-eqb id other.id).0 e))
+    unequal false e = refl
+
+-- It is not this table.
+abbrev IsNot : ℕ → ℕ → Type 0
+IsNot t id = t ≡ id → ⊥
+
+trees_lack : (t : ℕ) (trees : Trees) → TreesAll (IsNot t) trees → contains (flat_map tree_tables trees) t ≡ false
+trees_lack t trees h = contains_no (flat_map tree_tables trees) t (λ there. all_at (IsNot t) (flat_map tree_tables trees) t
+    (all_flat (IsNot t) tree_tables trees (all_to _ _ trees (λ s one all. all_flat (IsNot t) (λ (node : Node). node.pieces) s.tree all) h)) there refl)
+
+lacked : (t : ℕ) (trees : Trees) → contains (flat_map tree_tables trees) t ≡ false → TreesAll (IsNot t) trees
+lacked t trees h = all_to _ _ trees (λ s there all. all_unflat (IsNot t) (λ (node : Node). node.pieces) s.tree all)
+    (all_unflat (IsNot t) tree_tables trees (all_from (IsNot t) (flat_map tree_tables trees) (λ id there same. refused (contains (flat_map tree_tables trees) t) h (in_contains (flat_map tree_tables trees) t (subst (λ n. IsIn n (flat_map tree_tables trees)) (sym same) there)))))
+  where
+    refused : (b : Bool) → b ≡ false → b ≡ true → ⊥
+    refused true e f = absurd (cc e)
+    refused false e f = absurd (cc f)
+
+outputs_are : (records : Option Records) (id : ℕ) (job : Job) → job_with id (jobs_in records) ≡ Some job → outputs_in records id ≡ concat job.outputs
+outputs_are None id job e = absurd (cc e)
+outputs_are (Some records) id job e = ap outputs_of e
+
+compacted_active : (s : Status) → IsTrue (status_eq Compacted s) → IsTrue (cond (is_finished s) false true)
+compacted_active Compacted h = refl
+compacted_active Submitted h = absurd (cc h)
+compacted_active Scheduled h = absurd (cc h)
+compacted_active Running h = absurd (cc h)
+compacted_active Completed h = absurd (cc h)
+compacted_active Failed h = absurd (cc h)
+
+not_both : (s : Status) → IsTrue (status_eq Running s) → IsTrue (status_eq Compacted s) → ⊥
+not_both Running h k = absurd (cc k)
+not_both Compacted h k = absurd (cc h)
+not_both Submitted h k = absurd (cc h)
+not_both Scheduled h k = absurd (cc h)
+not_both Completed h k = absurd (cc h)
+not_both Failed h k = absurd (cc h)
+
+commit_tables : (merge : Operator) (told : Told) (specs others : ℕ → JobSpec) (n : ℕ) (job : Job) (t : ℕ) → Body merge told specs → IsIn job (stored_jobs told.store) → IsTrue (has_status Running job) → IsOwnTable (Worker n) told job.id t
+    → (trees : Trees) (joined : List ℕ) (steps : List Step) → StepsFit told others trees joined steps → TreesAll (IsNot t) trees
+    → TreesAll (IsNot t) (stepped_all told.store.tables (λ id. (others id, outputs_in told.store.records id)) steps trees)
+commit_tables merge told specs others n job t b there runs own trees joined [] fits h = h
+commit_tables merge told specs others n job t b there runs own trees joined (Join id ∷ steps) fits h =
+    commit_tables merge told specs others n job t b there runs own (stepped_in told.store.tables (Join id) (others id) (outputs_in told.store.records id) trees) (id ∷ joined) steps fits.1 (step_all (IsNot t) told.store.tables (Join id) (others id) (outputs_in told.store.records id) trees (subst (λ ids. AllByRecursion (IsNot t) ids) (sym (outputs_are told.store.records id fits.0.job fits.0.stored)) outputs) h)
+  where
+    found : IsFound id (stored_jobs told.store) fits.0.job
+    found = job_found id (stored_jobs told.store) fits.0.job fits.0.stored
+
+    same : Some job ≡ Some fits.0.job → job ≡ fits.0.job
+    same e = cc e
+
+    differs : job.id ≡ fits.0.job.id → ⊥
+    differs e = not_both job.status runs (subst (λ (j : Job). IsTrue (has_status Compacted j)) (sym (same (sym (found_job (stored_jobs told.store) job b.sound.job_ids there) ∙ ap (λ i. job_with i (stored_jobs told.store)) (e ∙ found.same) ∙ fits.0.stored))) fits.0.finished)
+
+    outputs : AllByRecursion (IsNot t) (concat fits.0.job.outputs)
+    outputs = all_from (IsNot t) (concat fits.0.job.outputs) (λ id one is. not_named_by (Worker n) told job.id t fits.0.job own found.there (compacted_active fits.0.job.status fits.0.finished) differs
+        (in_back t (context_tables fits.0.job.context) (concat fits.0.job.outputs) (subst (λ x. IsIn x (concat fits.0.job.outputs)) (sym is) one)))
+commit_tables merge told specs others n job t b there runs own trees joined (Move id ∷ steps) fits h =
+    commit_tables merge told specs others n job t b there runs own (stepped_in told.store.tables (Move id) (others id) (outputs_in told.store.records id) trees) joined steps fits.1 (step_all (IsNot t) told.store.tables (Move id) (others id) [] trees tt h)
+commit_tables merge told specs others n job t b there runs own trees joined (Drain id ∷ steps) fits h =
+    commit_tables merge told specs others n job t b there runs own (stepped_in told.store.tables (Drain id) (others id) (outputs_in told.store.records id) trees) joined steps fits.1 (step_all (IsNot t) told.store.tables (Drain id) (others id) [] trees tt h)
+
+commit_spares : (merge : Operator) (told : Told) (party : Party) (n : ℕ) (steps : List Step) (value : Manifest) → CommitsLeaveOldest merge → Keeps merge told → CommitFits party told steps value → ManifestSpares told (put_manifest told value) n
+commit_spares merge told party n steps value leave k fits = subst (λ (m : Manifest). ManifestSpares told (put_manifest told m) n) (sym fits.makes) (record {
+  settings = λ job there runs s fit. record {
+    floor = fit.floor;
+    cut = fit.cut;
+    tick = fit.tick;
+    last_run = λ is. subst (λ (m : Manifest). AreOldest (tree_at job.spec.segment m.trees) job.spec.sources) fits.makes (leave party told steps value job k fits (found_job (stored_jobs told.store) job b.sound.job_ids there) runs (fit.last_run is));
+  };
+  tables = λ job there runs t own. trees_lack t _ (commit_tables merge told k.stored.replay.specs fits.specs n job t b there runs own told.store.manifest.trees [] steps fits.each (lacked t told.store.manifest.trees (not_stored told.store.manifest told.past t b.past own.unused)));
+})
+  where
+    b : Body merge told k.stored.replay.specs
+    b = (whole_of merge told k).body
+
+-- ---- all changes
+
+-- A change of the manifest is no commit, or commits leave the oldest sources the oldest.
+abbrev pub IsSafe : Operator → ManifestChange → Type 0
+IsSafe merge (ManifestEpoch epoch) = ⊤
+IsSafe merge (Flush name segment floor tick) = ⊤
+IsSafe merge (Commit steps) = CommitsLeaveOldest merge
+
+pub manifest_spares : (merge : Operator) (told : Told) (party : Party) (n : ℕ) (change : ManifestChange) (value : Manifest) → IsSafe merge change → Keeps merge told → ManifestFits party told change value → ManifestSpares told (put_manifest told value) n
+manifest_spares merge told party n (ManifestEpoch epoch) value safe k fits = epoch_spares merge told k.stored.replay.specs party n epoch value (whole_of merge told k).body fits
+manifest_spares merge told party n (Flush name segment floor tick) value safe k fits = flush_spares merge told k.stored.replay.specs party n name segment floor tick value (whole_of merge told k).body (whole_of merge told k).draws fits
+manifest_spares merge told party n (Commit steps) value safe k fits = commit_spares merge told party n steps value safe k fits
