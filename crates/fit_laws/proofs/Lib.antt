@@ -3,9 +3,11 @@ pub mod SameParty
 pub mod TreesMerged
 pub mod JobsMerged
 pub mod Coordinators
+pub mod Tails
 pub mod WorkerFollows
 pub mod AttemptFacts
 pub mod WorkerCalls
+pub mod CommitsOldest
 pub mod WorkerManifests
 pub mod WorkerRecords
 pub mod Workers

@@ -1,6 +1,6 @@
 -- What epochs, flushes and commits leave of the settings and tables of Running jobs.
-use Rattle.std.proofs.Common.{◌≡◌, refl, sym, ◌∙◌, ap, subst, ℕ, List, [], ◌∷◌, cond, Bool, true, false, inl, Option, Some, None, arith}
-use Rattle.std.specs.Prelude.{IsTrue, ◌==◌, ◌&&◌, ◌||◌, not, flat_map, ℤ, ⊤}
+use Rattle.std.proofs.Common.{◌≡◌, refl, sym, ◌∙◌, ap, subst, ℕ, List, [], ◌∷◌, cond, Bool, true, false, inl, Some, arith}
+use Rattle.std.specs.Prelude.{IsTrue, ◌==◌, ◌&&◌, not, flat_map, ℤ}
 use Rattle.std.specs.List.{AllByRecursion, concat}
 use Rattle.std.proofs.lemmas.Bool.Decides.{Decides-eqb}
 use Rattle.row_laws.proofs.RetentionReads.{int_le_trans}
@@ -10,8 +10,8 @@ use Rattle.fleet_model.specs.Jobs.{JobSpec, Job, Status, Submitted, Scheduled, R
 use Rattle.fleet_model.specs.History.{Party, Worker, ManifestChange, ManifestEpoch, Flush, Commit, Step, Join, Move, Drain}
 use Rattle.fleet_model.specs.Handles.{tree_tables, job_tables, context_tables}
 use Rattle.fleet_model.specs.Trees.{stepped_in, stepped_all}
-use Rattle.fleet_model.specs.Store.{Manifest, Records, stored_jobs, jobs_in}
-use Rattle.fleet_model.specs.Replay.{outputs_in, outputs_of}
+use Rattle.fleet_model.specs.Store.{Manifest, stored_jobs}
+use Rattle.fleet_model.specs.Replay.{outputs_in}
 use Rattle.fleet_model.specs.JobsFit.{SourcesStand, AreOldest}
 use Rattle.step_model.specs.Past.{Told}
 use Rattle.step_model.specs.Entries.{was_flushed}
@@ -21,7 +21,7 @@ use Rattle.step_model.specs.NamesKept.{DrawsKept}
 use Rattle.step_model.specs.TablesKept.{IsFlush}
 use Rattle.step_model.specs.Keeps.{Keeps}
 use Rattle.step_laws.proofs.Elements.{IsIn, all_at, all_from, all_to, all_flat, all_unflat, in_contains, contains_no, in_back}
-use Rattle.step_laws.proofs.Bodies.{Body, JobKept, whole_of}
+use Rattle.step_laws.proofs.Bodies.{Body, whole_of}
 use Rattle.step_laws.proofs.Deletions.{in_flat, in_filter}
 use Rattle.step_laws.proofs.Changed.{IsFound, found_job, job_found}
 use Rattle.step_laws.proofs.TableReplays.{TreesAll, step_all}
@@ -30,7 +30,7 @@ use Rattle.step_laws.proofs.FlushNodes.{Differ, source_differs, known_differs, n
 use Rattle.step_laws.proofs.FlushTrees.{rising_from}
 use Rattle.step_laws.proofs.FlushFollows.{oldest_on}
 use Rattle.step_laws.proofs.ManifestEpochs.{not_stored}
-use Rattle.fit_laws.specs.FitLaws.{CommitsLeaveOldest}
+use Rattle.fit_laws.proofs.CommitsOldest.{running_stand, outputs_are, not_both, commits_leave_oldest}
 use Rattle.fit_laws.proofs.Outcomes.{put_manifest}
 use Rattle.fit_laws.proofs.WorkerCalls.{ManifestSpares}
 
@@ -43,18 +43,6 @@ epoch_spares merge told specs party n epoch value b fits = subst (λ (m : Manife
 })
 
 -- ---- a flush
-
--- The sources of a Running job stand in their tree.
-running_stand : (merge : Operator) (told : Told) (specs : ℕ → JobSpec) → Body merge told specs → (job : Job) → IsIn job (stored_jobs told.store) → IsTrue (has_status Running job) → SourcesStand told.store.manifest.trees job
-running_stand merge told specs b job there runs = (all_at (JobKept merge told specs) (stored_jobs told.store) job b.jobs there).fits.sources.0 (waits job.status runs)
-  where
-    waits : (s : Status) → IsTrue (status_eq Running s) → IsTrue (status_eq Scheduled s || status_eq Running s)
-    waits Running h = refl
-    waits Scheduled h = refl
-    waits Submitted h = absurd (cc h)
-    waits Compacted h = absurd (cc h)
-    waits Completed h = absurd (cc h)
-    waits Failed h = absurd (cc h)
 
 differ_on : (merge : Operator) (told : Told) (specs : ℕ → JobSpec) (name : ℕ) (job : Job) → Body merge told specs → was_flushed told.store.history name ≡ false → SourcesStand told.store.manifest.trees job → Differ name job.spec.sources
 differ_on merge told specs name job b once stand = all_to _ _ job.spec.sources (λ x there named. source_differs told.store.history name x once
@@ -113,10 +101,6 @@ lacked t trees h = all_to _ _ trees (λ s there all. all_unflat (IsNot t) (λ (n
     refused true e f = absurd (cc e)
     refused false e f = absurd (cc f)
 
-outputs_are : (records : Option Records) (id : ℕ) (job : Job) → job_with id (jobs_in records) ≡ Some job → outputs_in records id ≡ concat job.outputs
-outputs_are None id job e = absurd (cc e)
-outputs_are (Some records) id job e = ap outputs_of e
-
 compacted_active : (s : Status) → IsTrue (status_eq Compacted s) → IsTrue (cond (is_finished s) false true)
 compacted_active Compacted h = refl
 compacted_active Submitted h = absurd (cc h)
@@ -124,14 +108,6 @@ compacted_active Scheduled h = absurd (cc h)
 compacted_active Running h = absurd (cc h)
 compacted_active Completed h = absurd (cc h)
 compacted_active Failed h = absurd (cc h)
-
-not_both : (s : Status) → IsTrue (status_eq Running s) → IsTrue (status_eq Compacted s) → ⊥
-not_both Running h k = absurd (cc k)
-not_both Compacted h k = absurd (cc h)
-not_both Submitted h k = absurd (cc h)
-not_both Scheduled h k = absurd (cc h)
-not_both Completed h k = absurd (cc h)
-not_both Failed h k = absurd (cc h)
 
 commit_tables : (merge : Operator) (told : Told) (specs others : ℕ → JobSpec) (n : ℕ) (job : Job) (t : ℕ) → Body merge told specs → IsIn job (stored_jobs told.store) → IsTrue (has_status Running job) → IsOwnTable (Worker n) told job.id t
     → (trees : Trees) (joined : List ℕ) (steps : List Step) → StepsFit told others trees joined steps → TreesAll (IsNot t) trees
@@ -157,13 +133,13 @@ commit_tables merge told specs others n job t b there runs own trees joined (Mov
 commit_tables merge told specs others n job t b there runs own trees joined (Drain id ∷ steps) fits h =
     commit_tables merge told specs others n job t b there runs own (stepped_in told.store.tables (Drain id) (others id) (outputs_in told.store.records id) trees) joined steps fits.1 (step_all (IsNot t) told.store.tables (Drain id) (others id) [] trees tt h)
 
-commit_spares : (merge : Operator) (told : Told) (party : Party) (n : ℕ) (steps : List Step) (value : Manifest) → CommitsLeaveOldest merge → Keeps merge told → CommitFits party told steps value → ManifestSpares told (put_manifest told value) n
-commit_spares merge told party n steps value leave k fits = subst (λ (m : Manifest). ManifestSpares told (put_manifest told m) n) (sym fits.makes) (record {
+commit_spares : (merge : Operator) (told : Told) (party : Party) (n : ℕ) (steps : List Step) (value : Manifest) → Keeps merge told → CommitFits party told steps value → ManifestSpares told (put_manifest told value) n
+commit_spares merge told party n steps value k fits = subst (λ (m : Manifest). ManifestSpares told (put_manifest told m) n) (sym fits.makes) (record {
   settings = λ job there runs s fit. record {
     floor = fit.floor;
     cut = fit.cut;
     tick = fit.tick;
-    last_run = λ is. subst (λ (m : Manifest). AreOldest (tree_at job.spec.segment m.trees) job.spec.sources) fits.makes (leave party told steps value job k fits (found_job (stored_jobs told.store) job b.sound.job_ids there) runs (fit.last_run is));
+    last_run = λ is. subst (λ (m : Manifest). AreOldest (tree_at job.spec.segment m.trees) job.spec.sources) fits.makes (commits_leave_oldest merge party told steps value job k fits (found_job (stored_jobs told.store) job b.sound.job_ids there) runs (fit.last_run is));
   };
   tables = λ job there runs t own. trees_lack t _ (commit_tables merge told k.stored.replay.specs fits.specs n job t b there runs own told.store.manifest.trees [] steps fits.each (lacked t told.store.manifest.trees (not_stored told.store.manifest told.past t b.past own.unused)));
 })
@@ -173,13 +149,7 @@ commit_spares merge told party n steps value leave k fits = subst (λ (m : Manif
 
 -- ---- all changes
 
--- A change of the manifest is no commit, or commits leave the oldest sources the oldest.
-abbrev pub IsSafe : Operator → ManifestChange → Type 0
-IsSafe merge (ManifestEpoch epoch) = ⊤
-IsSafe merge (Flush name segment floor tick) = ⊤
-IsSafe merge (Commit steps) = CommitsLeaveOldest merge
-
-pub manifest_spares : (merge : Operator) (told : Told) (party : Party) (n : ℕ) (change : ManifestChange) (value : Manifest) → IsSafe merge change → Keeps merge told → ManifestFits party told change value → ManifestSpares told (put_manifest told value) n
-manifest_spares merge told party n (ManifestEpoch epoch) value safe k fits = epoch_spares merge told k.stored.replay.specs party n epoch value (whole_of merge told k).body fits
-manifest_spares merge told party n (Flush name segment floor tick) value safe k fits = flush_spares merge told k.stored.replay.specs party n name segment floor tick value (whole_of merge told k).body (whole_of merge told k).draws fits
-manifest_spares merge told party n (Commit steps) value safe k fits = commit_spares merge told party n steps value safe k fits
+pub manifest_spares : (merge : Operator) (told : Told) (party : Party) (n : ℕ) (change : ManifestChange) (value : Manifest) → Keeps merge told → ManifestFits party told change value → ManifestSpares told (put_manifest told value) n
+manifest_spares merge told party n (ManifestEpoch epoch) value k fits = epoch_spares merge told k.stored.replay.specs party n epoch value (whole_of merge told k).body fits
+manifest_spares merge told party n (Flush name segment floor tick) value k fits = flush_spares merge told k.stored.replay.specs party n name segment floor tick value (whole_of merge told k).body (whole_of merge told k).draws fits
+manifest_spares merge told party n (Commit steps) value k fits = commit_spares merge told party n steps value k fits

@@ -1,10 +1,10 @@
 -- A lawful call of another party keeps what a worker holds.
-use Rattle.std.proofs.Common.{◌≡◌, ◌≢◌, refl, sym, ◌∙◌, ap, subst, ℕ, List, [], ◌∷◌, ◌++◌, Bool, true, false}
+use Rattle.std.proofs.Common.{◌≡◌, ◌≢◌, refl, sym, ◌∙◌, subst, ℕ, List, [], ◌∷◌, ◌++◌, Bool, true, false}
 use Rattle.std.specs.List.{AllByRecursion}
 use Rattle.row_model.specs.Fold.{Operator}
 use Rattle.fleet_model.specs.Jobs.{contains}
-use Rattle.fleet_model.specs.History.{Party, Worker, Entry, PutManifest, PutRecords, ManifestChange, ManifestEpoch, Flush, Commit}
-use Rattle.fleet_model.specs.Store.{Manifest, is_held, AreHeld}
+use Rattle.fleet_model.specs.History.{Party, Worker, Entry, PutManifest, PutRecords}
+use Rattle.fleet_model.specs.Store.{is_held, AreHeld}
 use Rattle.fleet_model.specs.Parties.{Attempt, LiveWorker}
 use Rattle.fleet_model.specs.Sweeps.{attempt_tables, worker_tables}
 use Rattle.fleet_model.specs.Exchanges.{Exchange, Plain, DrawsJob, DrawsTable, PutsTable, PutsManifest, PutsRecords, ListsTables, DeletesTable}
@@ -12,18 +12,17 @@ use Rattle.step_model.specs.Past.{Told}
 use Rattle.step_model.specs.Rivals.{Caller, RivalCall, RivalsFrom, told_by_rival, is_deletion}
 use Rattle.step_model.specs.Keeps.{Keeps}
 use Rattle.step_model.specs.Fits.{WorkerHolds}
-use Rattle.step_laws.specs.CallLaws.{is_commit}
 use Rattle.step_laws.specs.Runs.{CallsKeep}
 use Rattle.step_laws.proofs.Elements.{IsIn, all_to, all_true_front, all_true_from, in_contains}
 use Rattle.step_laws.proofs.Bodies.{whole_of}
 use Rattle.step_laws.proofs.Held.{held_but}
 use Rattle.step_laws.proofs.Deletions.{in_flat}
 use Rattle.step_laws.proofs.TableBodies.{with_table}
-use Rattle.fit_laws.specs.FitLaws.{CountFromOne, SparesTables, CallKeepsWorker, CommitsLeaveOldest, WorkersKeep, RivalsKeepWorkers}
+use Rattle.fit_laws.specs.FitLaws.{CountFromOne, SparesTables, WorkersKeep, RivalsKeepWorkers}
 use Rattle.fit_laws.proofs.Outcomes.{Outcome, Notes, Deletes, NewTable, NewManifest, NewRecords, outcome, put_manifest, put_records}
 use Rattle.fit_laws.proofs.WorkerFollows.{holds_after}
 use Rattle.fit_laws.proofs.WorkerCalls.{follows_entry, faithful_with_table, follows_table, follows_manifest}
-use Rattle.fit_laws.proofs.WorkerManifests.{IsSafe, manifest_spares}
+use Rattle.fit_laws.proofs.WorkerManifests.{manifest_spares}
 use Rattle.fit_laws.proofs.WorkerRecords.{Case, JobSpares, follows_records, change_spares, origins_stay}
 
 -- ---- a deletion
@@ -40,29 +39,25 @@ still_held told w table spared a there held = all_true_from (is_held (record tol
 
 -- ---- what a call leaves
 
--- If the call is a commit, commits leave the oldest sources the oldest.
-abbrev SafeCall : Operator → Exchange → Type 0
-SafeCall merge x = (version : ℕ) (change : ManifestChange) (value : Manifest) → x ≡ PutsManifest version change value → IsSafe merge change
-
-holds_outcome : (merge : Operator) (told new : Told) (party : Party) (w : LiveWorker) (x : Exchange) → SafeCall merge x → Keeps merge told → party ≢ Worker w.number → SparesTables w x → CountFromOne w → WorkerHolds merge told w → Outcome merge party told x new → WorkerHolds merge new w
-holds_outcome merge told new party w x safe k other spared counted h (Notes jobs_drawn tables_drawn entry mute is) =
+holds_outcome : (merge : Operator) (told new : Told) (party : Party) (w : LiveWorker) (x : Exchange) → Keeps merge told → party ≢ Worker w.number → SparesTables w x → CountFromOne w → WorkerHolds merge told w → Outcome merge party told x new → WorkerHolds merge new w
+holds_outcome merge told new party w x k other spared counted h (Notes jobs_drawn tables_drawn entry mute is) =
     subst (λ n. WorkerHolds merge n w) (sym is) (holds_after merge told _ w k.stored.replay.specs k.faithful (follows_entry told w told.store.deleted jobs_drawn tables_drawn entry mute (λ a there held. held)) h)
-holds_outcome merge told new party w x safe k other spared counted h (Deletes table entry same mute fits is) =
+holds_outcome merge told new party w x k other spared counted h (Deletes table entry same mute fits is) =
     subst (λ n. WorkerHolds merge n w) (sym is)
     (holds_after merge told _ w k.stored.replay.specs k.faithful (follows_entry told w (told.store.deleted ++ table ∷ []) told.store.jobs_drawn told.store.tables_drawn entry mute (still_held told w table (subst (SparesTables w) same spared))) h)
-holds_outcome merge told new party w x safe k other spared counted h (NewTable table rows entry mute fits is) =
+holds_outcome merge told new party w x k other spared counted h (NewTable table rows entry mute fits is) =
     let puts = (whole_of merge told k).puts in
     let specs = k.stored.replay.specs in
     let first = holds_after merge told (with_table told (table, rows)) w specs k.faithful (follows_table told w (table, rows) puts) h in
     subst (λ n. WorkerHolds merge n w) (sym is)
     (holds_after merge (with_table told (table, rows)) _ w specs (faithful_with_table told (table, rows) specs puts k.faithful)
     (follows_entry (with_table told (table, rows)) w told.store.deleted told.store.jobs_drawn told.store.tables_drawn entry mute (λ a there held. held)) first)
-holds_outcome merge told new party w x safe k other spared counted h (NewManifest version change value line answer took same fits is) =
+holds_outcome merge told new party w x k other spared counted h (NewManifest version change value line answer took same fits is) =
     let entry : Entry = record { line = line; party = party; event = PutManifest change; answer = answer } in
     subst (λ n. WorkerHolds merge n w) (sym is)
     (holds_after merge told _ w k.stored.replay.specs k.faithful
-    (follows_manifest merge told k.stored.replay.specs w (put_manifest told value) entry (whole_of merge told k).body refl (λ job. rw took refl) (manifest_spares merge told party w.number change value (safe version change value same) k fits)) h)
-holds_outcome merge told new party w x safe k other spared counted h (NewRecords change epoch jobs line answer took names fits is) =
+    (follows_manifest merge told k.stored.replay.specs w (put_manifest told value) entry (whole_of merge told k).body refl (λ job. rw took refl) (manifest_spares merge told party w.number change value k fits)) h)
+holds_outcome merge told new party w x k other spared counted h (NewRecords change epoch jobs line answer took names fits is) =
     let entry : Entry = record { line = line; party = party; event = PutRecords change; answer = answer } in
     let specs = k.stored.replay.specs in
     let c : Case merge told specs party w = record { body = (whole_of merge told k).body; puts = (whole_of merge told k).puts; other = other; counted = counted } in
@@ -73,26 +68,8 @@ holds_outcome merge told new party w x safe k other spared counted h (NewRecords
       jobs = subst (λ js. AllByRecursion (JobSpares told w) js) (sym fits.makes_jobs) (change_spares merge told specs party w fits.unrecorded change jobs c fits.fits);
     })) h)
 
-call_keeps : (merge : Operator) (x : Exchange) → SafeCall merge x → CallKeepsWorker merge x
-call_keeps merge x safe line party strike told w k other lawful may spared counted h = holds_outcome merge told _ party w x safe k other spared counted h (outcome merge x line party strike told lawful may)
-
--- ---- the laws
-
-no_commit : (merge : Operator) (x : Exchange) → is_commit x ≡ false → SafeCall merge x
-no_commit merge x none version (ManifestEpoch epoch) value same = tt
-no_commit merge x none version (Flush name segment floor tick) value same = tt
-no_commit merge x none version (Commit steps) value same = absurd (cc (none, ap is_commit same))
-
-any_change : (merge : Operator) (x : Exchange) → CommitsLeaveOldest merge → SafeCall merge x
-any_change merge x leave version (ManifestEpoch epoch) value same = tt
-any_change merge x leave version (Flush name segment floor tick) value same = tt
-any_change merge x leave version (Commit steps) value same = leave
-
 pub workers_keep : (merge : Operator) → WorkersKeep merge
-workers_keep merge = record {
-  others = λ x none. call_keeps merge x (no_commit merge x none);
-  all = λ leave x. call_keeps merge x (any_change merge x leave);
-}
+workers_keep merge x line party strike told w k other lawful may spared counted h = holds_outcome merge told _ party w x k other spared counted h (outcome merge x line party strike told lawful may)
 
 -- ---- calls of others
 
@@ -106,13 +83,13 @@ spares_tables w (PutsManifest version change value) none = tt
 spares_tables w (PutsRecords version change epoch jobs) none = tt
 spares_tables w ListsTables none = tt
 
-rivals_from : (who : Caller) (calls : List RivalCall) (old new : Told) (w : LiveWorker) → CallsKeep who.merge → CommitsLeaveOldest who.merge → who.party ≡ Worker w.number → Keeps who.merge old → RivalsFrom who calls old new
+rivals_from : (who : Caller) (calls : List RivalCall) (old new : Told) (w : LiveWorker) → CallsKeep who.merge → who.party ≡ Worker w.number → Keeps who.merge old → RivalsFrom who calls old new
     → CountFromOne w → WorkerHolds who.merge old w → WorkerHolds who.merge new w
-rivals_from who [] old new w keep leave own k same counted h = subst (λ told. WorkerHolds who.merge told w) same h
-rivals_from who (call ∷ calls) old new w keep leave own k lead counted h =
-    rivals_from who calls (told_by_rival call old) new w keep leave own (keep call.exchange call.line call.party call.strike old k lead.0.lawful lead.0.strike) lead.1 counted
-    (call_keeps who.merge call.exchange (any_change who.merge call.exchange leave) call.line call.party call.strike old w k (λ same. lead.0.other (same ∙ sym own)) lead.0.lawful lead.0.strike
+rivals_from who [] old new w keep own k same counted h = subst (λ told. WorkerHolds who.merge told w) same h
+rivals_from who (call ∷ calls) old new w keep own k lead counted h =
+    rivals_from who calls (told_by_rival call old) new w keep own (keep call.exchange call.line call.party call.strike old k lead.0.lawful lead.0.strike) lead.1 counted
+    (workers_keep who.merge call.exchange call.line call.party call.strike old w k (λ same. lead.0.other (same ∙ sym own)) lead.0.lawful lead.0.strike
     (spares_tables w call.exchange lead.0.deletes_none) counted h)
 
 pub rivals_keep : RivalsKeepWorkers
-rivals_keep who old new w keep leave own k rivals counted h = rivals_from who rivals.calls old new w keep leave own k rivals.lead counted h
+rivals_keep who old new w keep own k rivals counted h = rivals_from who rivals.calls old new w keep own k rivals.lead counted h

@@ -3,18 +3,17 @@
 #![tactic(auto)]
 
 ghost use Rattle.row_model.specs.Fold.{Operator};
-ghost use Rattle.fit_laws.specs.FitLaws.{CoordinatorsKeep, RivalsKeepCoordinators, RivalsKeepWorkers, WorkersKeep};
+ghost use Rattle.fit_laws.specs.FitLaws.{CoordinatorsKeep, RivalsKeepCoordinators};
+ghost use Rattle.fit_laws.specs.FitLaws.{RivalsKeepWorkers, WorkersKeep};
 
 /// A lawful call of another party keeps what a worker holds, whether a fault strikes the call or
-/// not. A deletion must spare the tables that the worker holds for its attempts. For commits the law
-/// has a condition: each lawful commit leaves the oldest sources of Running jobs the oldest.
+/// not. A deletion must spare the tables that the worker holds for its attempts.
 pub fn workers_keep()
     ensures { (merge : Operator) → WorkersKeep merge }
 {}
 
 /// Calls of others that come between two calls of a worker keep what it holds, if each lawful call
-/// keeps the invariant, and if each lawful commit leaves the oldest sources of Running jobs the
-/// oldest.
+/// keeps the invariant.
 pub fn rivals_keep_workers()
     ensures { RivalsKeepWorkers }
 {}
