@@ -1,0 +1,147 @@
+-- All steps of a commit together keep what each of them keeps.
+use Rattle.std.proofs.Common.{◌≡◌, refl, sym, ◌∙◌, ap, subst, ℕ, List, [], ◌∷◌, cond, Bool, true, false, Option, Some, None}
+use Rattle.std.specs.Prelude.{IsTrue, ◌==◌, ◌||◌, map, option_map, flat_map}
+use Rattle.std.specs.List.{AllByRecursion, list_any, concat}
+use Rattle.std.proofs.lemmas.Bool.Decides.{Decides-eqb}
+use Rattle.row_model.specs.Fold.{Operator, IsLawful}
+use Rattle.fleet_model.specs.Nodes.{Tables, Trees}
+use Rattle.fleet_model.specs.Jobs.{JobSpec, Job, Jobs, Compacted, has_status, job_with, contains}
+use Rattle.fleet_model.specs.History.{Party, Step, Join, Move, Drain}
+use Rattle.fleet_model.specs.Store.{Records, stored_jobs, jobs_in}
+use Rattle.fleet_model.specs.Replay.{outputs_in, outputs_of, plain_job, plain_records}
+use Rattle.fleet_model.specs.Trees.{stepped_in, stepped_all, horizon_after, horizon_after_all, job_of}
+use Rattle.fleet_model.specs.JobsFit.{is_join_of}
+use Rattle.step_model.specs.Past.{Told}
+use Rattle.step_model.specs.Entries.{drew_job, is_mentioned}
+use Rattle.step_model.specs.LawfulManifests.{StepsFit, StepFits, joined_after, IsKnownTo, cut_of}
+use Rattle.step_model.specs.JoinsKept.{join_of}
+use Rattle.step_laws.proofs.Bodies.{Body}
+use Rattle.commit_laws.proofs.Stretches.{never_both}
+use Rattle.commit_laws.proofs.Midway.{Midway}
+use Rattle.commit_laws.proofs.Joins.{join_keeps}
+use Rattle.commit_laws.proofs.AtOnce.{move_keeps, drain_keeps}
+
+-- ---- what a stored job recorded
+
+outputs_stored : (records : Option Records) (id : ℕ) (job : Job) → job_with id (jobs_in records) ≡ Some job → outputs_in records id ≡ concat job.outputs
+outputs_stored None id job e = absurd (cc e)
+outputs_stored (Some records) id job e = ap outputs_of e
+
+known_spec : (party : Party) (told : Told) (own : ℕ → JobSpec) (id : ℕ) (job : Job) → job_with id (stored_jobs told.store) ≡ Some job → IsKnownTo party told own id → own id ≡ job.spec
+known_spec party told own id job e known = at (job_with id (stored_jobs told.store)) e known
+  where
+    same_some : (x : Job) → Some x ≡ Some job → x ≡ job
+    same_some x e = cc e
+
+    Known : Option Job → Type 0
+    Known None = IsTrue (drew_job party told.store.history id) × (is_mentioned told.store.history id ≡ false)
+    Known (Some x) = own id ≡ x.spec
+
+    at : (o : Option Job) → o ≡ Some job → Known o → own id ≡ job.spec
+    at None e k = absurd (cc e)
+    at (Some x) e k = k ∙ ap (λ (j : Job). j.spec) (same_some x e)
+
+-- ---- one step, and all
+
+-- The jobs that the steps joined, behind them.
+abbrev pub joined_by : List Step → List ℕ → List ℕ
+joined_by [] joined = joined
+joined_by (step ∷ steps) joined = joined_by steps (joined_after step joined)
+
+abbrev parts : Told → (ℕ → JobSpec) → ℕ → JobSpec × List ℕ
+parts told own id = (own id, outputs_in told.store.records id)
+
+abbrev cuts : Told → ℕ → Option ℕ
+cuts told id = cut_of (job_with id (stored_jobs told.store))
+
+step_keeps : (merge : Operator) (told : Told) (party : Party) (specs own : ℕ → JobSpec) (trees : Trees) (horizon : ℕ) (joined : List ℕ) (step : Step) → IsLawful merge → Body merge told specs → IsKnownTo party told own (job_of step)
+    → StepFits told trees joined (own (job_of step)) step → Midway merge told trees horizon joined
+    → Midway merge told (stepped_in told.store.tables step (own (job_of step)) (outputs_in told.store.records (job_of step)) trees) (horizon_after told.store.manifest.floor step (cuts told (job_of step)) horizon) (joined_after step joined)
+step_keeps merge told party specs own trees horizon joined (Join id) lawful b known fits m =
+    subst (λ spec. Midway merge told (stepped_in told.store.tables (Join id) spec (outputs_in told.store.records id) trees) (horizon_after told.store.manifest.floor (Join id) (cuts told id) horizon) (id ∷ joined)) (sym (known_spec party told own id fits.job fits.stored known))
+    (subst (λ outputs. Midway merge told (stepped_in told.store.tables (Join id) fits.job.spec outputs trees) (horizon_after told.store.manifest.floor (Join id) (cuts told id) horizon) (id ∷ joined)) (sym (outputs_stored told.store.records id fits.job fits.stored))
+    (subst (λ cut. Midway merge told (stepped_in told.store.tables (Join id) fits.job.spec (concat fits.job.outputs) trees) (horizon_after told.store.manifest.floor (Join id) cut horizon) (id ∷ joined)) (sym (ap cut_of fits.stored))
+    (join_keeps merge told specs trees horizon joined id lawful b fits m)))
+step_keeps merge told party specs own trees horizon joined (Move id) lawful b known fits m = move_keeps merge told specs trees horizon joined (own id) id (outputs_in told.store.records id) b fits m
+step_keeps merge told party specs own trees horizon joined (Drain id) lawful b known fits m = drain_keeps merge told specs trees horizon joined (own id) id (outputs_in told.store.records id) b fits m
+
+pub steps_keep : (merge : Operator) (told : Told) (party : Party) (specs own : ℕ → JobSpec) (trees : Trees) (horizon : ℕ) (joined : List ℕ) (steps : List Step) → IsLawful merge → Body merge told specs → AllByRecursion (λ step. IsKnownTo party told own (job_of step)) steps
+    → StepsFit told own trees joined steps → Midway merge told trees horizon joined
+    → Midway merge told (stepped_all told.store.tables (λ id. (own id, outputs_in told.store.records id)) steps trees) (horizon_after_all told.store.manifest.floor (λ id. cut_of (job_with id (stored_jobs told.store))) steps horizon) (joined_by steps joined)
+steps_keep merge told party specs own trees horizon joined [] lawful b known fits m = m
+steps_keep merge told party specs own trees horizon joined (step ∷ steps) lawful b known fits m =
+    steps_keep merge told party specs own (stepped_in told.store.tables step (own (job_of step)) (outputs_in told.store.records (job_of step)) trees) (horizon_after told.store.manifest.floor step (cuts told (job_of step)) horizon) (joined_after step joined) steps lawful b known.1 fits.1
+    (step_keeps merge told party specs own trees horizon joined step lawful b known.0 fits.0 m)
+
+-- ---- the jobs that a commit joins
+
+-- The trees behind a step.
+abbrev behind : Told → (ℕ → JobSpec) → Step → Trees → Trees
+behind told own step trees = stepped_in told.store.tables step (own (job_of step)) (outputs_in told.store.records (job_of step)) trees
+
+-- A joined job is stored and Compacted.
+abbrev pub IsCompacted : Told → ℕ → Type 0
+IsCompacted told id = (job : Job) × ((job_with id (stored_jobs told.store) ≡ Some job) × IsTrue (has_status Compacted job))
+
+pub joined_compacted : (told : Told) (own : ℕ → JobSpec) (trees : Trees) (joined : List ℕ) (steps : List Step) → StepsFit told own trees joined steps → AllByRecursion (IsCompacted told) joined → AllByRecursion (IsCompacted told) (joined_by steps joined)
+joined_compacted told own trees joined [] fits h = h
+joined_compacted told own trees joined (Join id ∷ steps) fits h = joined_compacted told own (behind told own (Join id) trees) (id ∷ joined) steps fits.1 ((fits.0.job, (fits.0.stored, fits.0.finished)), h)
+joined_compacted told own trees joined (Move id ∷ steps) fits h = joined_compacted told own (behind told own (Move id) trees) joined steps fits.1 h
+joined_compacted told own trees joined (Drain id ∷ steps) fits h = joined_compacted told own (behind told own (Drain id) trees) joined steps fits.1 h
+
+pub joins_compacted : (told : Told) (own : ℕ → JobSpec) (trees : Trees) (joined : List ℕ) (steps : List Step) → StepsFit told own trees joined steps → AllByRecursion (IsCompacted told) (flat_map join_of steps)
+joins_compacted told own trees joined [] fits = tt
+joins_compacted told own trees joined (Join id ∷ steps) fits = ((fits.0.job, (fits.0.stored, fits.0.finished)), joins_compacted told own (behind told own (Join id) trees) (id ∷ joined) steps fits.1)
+joins_compacted told own trees joined (Move id ∷ steps) fits = joins_compacted told own (behind told own (Move id) trees) joined steps fits.1
+joins_compacted told own trees joined (Drain id ∷ steps) fits = joins_compacted told own (behind told own (Drain id) trees) joined steps fits.1
+
+turned : (a b : ℕ) → (a == b) ≡ (b == a)
+turned a b = by (a == b) refl (b == a) refl
+  where
+    by : (x : Bool) → (a == b) ≡ x → (y : Bool) → (b == a) ≡ y → x ≡ y
+    by true e true f = refl
+    by true e false f = absurd (never_both (b == a) ((Decides-eqb b a).1 (sym ((Decides-eqb a b).0 e))) f)
+    by false e true f = absurd (never_both (a == b) ((Decides-eqb a b).1 (sym ((Decides-eqb b a).0 f))) e)
+    by false e false f = refl
+
+-- The joined jobs behind the steps are those before, and those that a step joins.
+pub joined_are : (steps : List Step) (joined : List ℕ) (id : ℕ) → contains (joined_by steps joined) id ≡ (contains joined id || list_any (is_join_of id) steps)
+joined_are [] joined id = by (contains joined id)
+  where
+    by : (b : Bool) → b ≡ (b || false)
+    by true = refl
+    by false = refl
+joined_are (Join other ∷ steps) joined id = joined_are steps (other ∷ joined) id ∙ by (other == id) (id == other) (turned other id) (contains joined id) (list_any (is_join_of id) steps)
+  where
+    by : (x y : Bool) → x ≡ y → (b c : Bool) → (cond x true b || c) ≡ (b || (y || c))
+    by true true e true c = refl
+    by true true e false c = refl
+    by true false e b c = absurd (cc e)
+    by false true e b c = absurd (cc e)
+    by false false e b c = refl
+joined_are (Move other ∷ steps) joined id = joined_are steps joined id
+joined_are (Drain other ∷ steps) joined id = joined_are steps joined id
+
+-- ---- the replay
+
+plain_found : (id : ℕ) (jobs : Jobs) → job_with id (map plain_job jobs) ≡ option_map plain_job (job_with id jobs)
+plain_found id [] = refl
+plain_found id (job ∷ jobs) = by (id == job.id) (plain_found id jobs)
+  where
+    by : (b : Bool) → job_with id (map plain_job jobs) ≡ option_map plain_job (job_with id jobs) → cond b (Some (plain_job job)) (job_with id (map plain_job jobs)) ≡ option_map plain_job (cond b (Some job) (job_with id jobs))
+    by true rest = refl
+    by false rest = rest
+
+plain_outputs : (o : Option Job) → outputs_of (option_map plain_job o) ≡ outputs_of o
+plain_outputs None = refl
+plain_outputs (Some job) = refl
+
+pub outputs_plain : (records : Option Records) (id : ℕ) → outputs_in (option_map plain_records records) id ≡ outputs_in records id
+outputs_plain None id = refl
+outputs_plain (Some records) id = ap outputs_of (plain_found id records.jobs) ∙ plain_outputs (job_with id records.jobs)
+
+pub stepped_same : (tables : Tables) (f g : ℕ → JobSpec × List ℕ) (steps : List Step) (trees : Trees) → AllByRecursion (λ step. f (job_of step) ≡ g (job_of step)) steps → stepped_all tables f steps trees ≡ stepped_all tables g steps trees
+stepped_same tables f g [] trees h = refl
+stepped_same tables f g (step ∷ steps) trees h =
+    stepped_same tables f g steps (stepped_in tables step (f (job_of step)).0 (f (job_of step)).1 trees) h.1
+    ∙ ap (λ (p : JobSpec × List ℕ). stepped_all tables g steps (stepped_in tables step p.0 p.1 trees)) h.0

@@ -1,0 +1,53 @@
+-- What is kept in the midst of a commit, and how a step that puts a run keeps it.
+use Rattle.std.proofs.Common.{◌≡◌, refl, sym, ◌∙◌, ap, subst, ℕ, ◌<◌, List, [], ◌∷◌, cond, Bool, true, false, inl, inr, ◌⊎◌, Some, arith}
+use Rattle.std.specs.Prelude.{IsTrue, ◌==◌}
+use Rattle.std.specs.List.{AllByRecursion}
+use Rattle.std.proofs.lemmas.Bool.Decides.{Decides-eqb}
+use Rattle.row_model.specs.Lists.{Pairs}
+use Rattle.row_model.specs.Fold.{Operator}
+use Rattle.fleet_model.specs.Nodes.{Trees, NodeName}
+use Rattle.fleet_model.specs.Jobs.{Job, Jobs, job_with}
+use Rattle.fleet_model.specs.Sources.{is_apart}
+use Rattle.fleet_model.specs.Store.{stored_jobs}
+use Rattle.step_model.specs.Past.{Told}
+use Rattle.step_laws.proofs.Elements.{IsIn, all_at}
+use Rattle.commit_laws.proofs.TreeReads.{with_horizon}
+use Rattle.commit_laws.proofs.StepTrees.{TreesKept, names_apart_from, names_apart_at}
+use Rattle.commit_laws.proofs.JobSteps.{JobHolds}
+
+-- The trees and the horizon in the midst of a commit, with the jobs that its steps joined so far.
+pub record Midway (merge : Operator) (told : Told) (trees : Trees) (horizon : ℕ) (joined : List ℕ) : Type 0 where
+  pub kept : TreesKept merge (with_horizon told.store horizon) told.store.history trees
+  pub jobs : AllByRecursion (JobHolds told trees joined) (stored_jobs told.store)
+
+-- ---- stored jobs
+
+pub found_job : (id : ℕ) (jobs : Jobs) (job : Job) → job_with id jobs ≡ Some job → IsIn job jobs × (id ≡ job.id)
+found_job id [] job e = absurd (cc e)
+found_job id (x ∷ jobs) job e = by (id == x.id) refl (found_job id jobs job) e
+  where
+    same_some : Some x ≡ Some job → x ≡ job
+    same_some e = cc e
+
+    by : (b : Bool) → (id == x.id) ≡ b → (job_with id jobs ≡ Some job → IsIn job jobs × (id ≡ job.id)) → cond b (Some x) (job_with id jobs) ≡ Some job → IsIn job (x ∷ jobs) × (id ≡ job.id)
+    by true f rest e = (inl (same_some e), (Decides-eqb id x.id).0 f ∙ ap (λ (j : Job). j.id) (same_some e))
+    by false f rest e = let more = rest e in (inr more.0, more.1)
+
+-- Two stored jobs with ids of their own are related one way or the other.
+pub two_jobs : (R : Job → Job → Type 0) (jobs : Jobs) (x y : Job) → Pairs R jobs → IsIn x jobs → IsIn y jobs → (x.id ≡ y.id → ⊥) → R x y ⊎ R y x
+two_jobs R [] x y h one other differs = absurd one
+two_jobs R (z ∷ jobs) x y h (inl a) (inl b) differs = absurd (differs (ap (λ (j : Job). j.id) (sym a ∙ b)))
+two_jobs R (z ∷ jobs) x y h (inl a) (inr b) differs = inl (subst (λ (w : Job). R w y) a (all_at (R z) jobs y h.0 b))
+two_jobs R (z ∷ jobs) x y h (inr a) (inl b) differs = inr (subst (λ (w : Job). R w x) b (all_at (R z) jobs x h.0 a))
+two_jobs R (z ∷ jobs) x y h (inr a) (inr b) differs = two_jobs R jobs x y h.1 a b differs
+
+pub apart_turned : (xs ys : List NodeName) → IsTrue (is_apart xs ys) → IsTrue (is_apart ys xs)
+apart_turned xs ys h = names_apart_from ys xs (λ n one other. names_apart_at xs ys n h other one)
+
+-- Stored jobs have ids of their own.
+pub only_job : (jobs : Jobs) (x y : Job) → Pairs (λ (a b : Job). a.id < b.id) jobs → IsIn x jobs → IsIn y jobs → x.id ≡ y.id → x ≡ y
+only_job [] x y h one other same = absurd one
+only_job (z ∷ jobs) x y h (inl a) (inl b) same = sym a ∙ b
+only_job (z ∷ jobs) x y h (inl a) (inr b) same = let low = all_at (λ (w : Job). z.id < w.id) jobs y h.0 b in let is = ap (λ (j : Job). j.id) a in absurd (omega (arith, low, is, same))
+only_job (z ∷ jobs) x y h (inr a) (inl b) same = let low = all_at (λ (w : Job). z.id < w.id) jobs x h.0 a in let is = ap (λ (j : Job). j.id) b in absurd (omega (arith, low, is, same))
+only_job (z ∷ jobs) x y h (inr a) (inr b) same = only_job jobs x y h.1 a b same
