@@ -18,3 +18,4 @@ pub mod CommitSteps
 pub mod CommitSpecs
 pub mod CommitJobs
 pub mod Commits
+pub mod AllCalls

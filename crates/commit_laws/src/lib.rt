@@ -1,11 +1,27 @@
-//! Laws on commits. Each function has an empty body, and its clause states a law about the steps of
-//! lawful commits.
+//! Laws on commits. Each function has an empty body, and its clause states a law: about the steps of
+//! a lawful commit, or about all lawful calls.
 #![tactic(auto)]
 
 ghost use Rattle.row_model.specs.Fold.{IsLawful, Operator};
+ghost use Rattle.step_laws.specs.Runs.{CallsKeep};
 ghost use Rattle.commit_laws.specs.CommitLaws.{CommitsKeep};
+ghost use Rattle.commit_laws.specs.RunLaws.{CoursesKeep};
 
-/// Commits keep the invariant, if they are lawful and the operator is.
+/// Commits keep the invariant, if they are lawful and the operator is. A join puts one run of its
+/// job's rows in place of its sources, a move puts the sources' own tables there, and a drain takes
+/// the sources out. No read from the horizon and the tick on changes, and other jobs' sources stay.
 pub fn commits_keep()
     ensures { (merge : Operator) → IsLawful merge → CommitsKeep merge }
+{}
+
+/// Every lawful call keeps the invariant, under a lawful operator and whether a fault strikes it or
+/// not.
+pub fn calls_keep()
+    ensures { (merge : Operator) → IsLawful merge → CallsKeep merge }
+{}
+
+/// Under a lawful operator, calls of others keep the invariant, and so does each run of a lawful
+/// course, whatever calls of others come in between and however the run ends.
+pub fn courses_keep()
+    ensures { CoursesKeep }
 {}
