@@ -46,7 +46,7 @@ use Rattle.commit_laws.proofs.CommitJobs.{entry_of, trees_of, horizon_of, manife
 refused : (xs : List ℕ) (t : ℕ) → contains xs t ≡ false → IsIn t xs → ⊥
 refused xs t e there = never_both (contains xs t) (in_contains xs t there) e
 
-start : (merge : Operator) (told : Told) (specs : ℕ → JobSpec) → Body merge told specs → Midway merge told told.store.manifest.trees told.store.manifest.horizon []
+pub start : (merge : Operator) (told : Told) (specs : ℕ → JobSpec) → Body merge told specs → Midway merge told told.store.manifest.trees told.store.manifest.horizon []
 start merge told specs b = record {
   kept = record {
     root = b.sound.root;

@@ -19,3 +19,4 @@ pub mod CommitSpecs
 pub mod CommitJobs
 pub mod Commits
 pub mod AllCalls
+pub mod SecondJoins

@@ -1,2 +1,3 @@
 pub mod CommitLaws
 pub mod RunLaws
+pub mod SecondJoins

@@ -6,6 +6,7 @@ ghost use Rattle.row_model.specs.Fold.{IsLawful, Operator};
 ghost use Rattle.step_laws.specs.Runs.{CallsKeep};
 ghost use Rattle.commit_laws.specs.CommitLaws.{CommitsKeep};
 ghost use Rattle.commit_laws.specs.RunLaws.{CoursesKeep};
+ghost use Rattle.commit_laws.specs.SecondJoins.{SecondJoinsRest};
 
 /// Commits keep the invariant, if they are lawful and the operator is. A join puts one run of its
 /// job's rows in place of its sources, a move puts the sources' own tables there, and a drain takes
@@ -24,4 +25,10 @@ pub fn calls_keep()
 /// course, whatever calls of others come in between and however the run ends.
 pub fn courses_keep()
     ensures { CoursesKeep }
+{}
+
+/// A second join of a job whose join took effect changes no tree, under a lawful operator and where
+/// the job passes the gate. So a coordinator that lost its put of the records may commit anew.
+pub fn second_joins_rest()
+    ensures { (merge : Operator) → IsLawful merge → SecondJoinsRest merge }
 {}
