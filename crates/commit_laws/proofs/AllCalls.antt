@@ -1,5 +1,5 @@
 -- Under a lawful operator every lawful call keeps the invariant, and so do runs of lawful courses.
-use Rattle.std.proofs.Common.{◌≡◌, refl, Bool, true, false}
+use Rattle.std.proofs.Common.{refl}
 use Rattle.row_model.specs.Fold.{Operator, IsLawful}
 use Rattle.fleet_model.specs.History.{ManifestEpoch, Flush, Commit}
 use Rattle.fleet_model.specs.Exchanges.{Exchange, Plain, DrawsJob, DrawsTable, PutsTable, PutsManifest, PutsRecords, ListsTables, DeletesTable}

@@ -27,7 +27,8 @@ use Rattle.step_laws.proofs.ManifestEpochs.{piece_stays, no_new_piece}
 use Rattle.commit_laws.proofs.Stretches.{never_both, other_or}
 use Rattle.commit_laws.proofs.JobSteps.{is_done, JobHolds}
 use Rattle.commit_laws.proofs.Midway.{Midway, found_job, only_job}
-use Rattle.commit_laws.proofs.CommitSteps.{joined_by, joined_are, joined_compacted, IsCompacted}
+use Rattle.commit_laws.specs.Behind.{joined_by}
+use Rattle.commit_laws.proofs.CommitSteps.{joined_are, joined_compacted, IsCompacted}
 
 -- ---- the commit
 

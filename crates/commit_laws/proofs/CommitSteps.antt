@@ -15,6 +15,7 @@ use Rattle.step_model.specs.Past.{Told}
 use Rattle.step_model.specs.Entries.{drew_job, is_mentioned}
 use Rattle.step_model.specs.LawfulManifests.{StepsFit, StepFits, joined_after, IsKnownTo, cut_of}
 use Rattle.step_model.specs.JoinsKept.{join_of}
+use Rattle.commit_laws.specs.Behind.{joined_by}
 use Rattle.step_laws.proofs.Bodies.{Body}
 use Rattle.commit_laws.proofs.Stretches.{never_both}
 use Rattle.commit_laws.proofs.Midway.{Midway}
@@ -42,11 +43,6 @@ known_spec party told own id job e known = at (job_with id (stored_jobs told.sto
     at (Some x) e k = k ∙ ap (λ (j : Job). j.spec) (same_some x e)
 
 -- ---- one step, and all
-
--- The jobs that the steps joined, behind them.
-abbrev pub joined_by : List Step → List ℕ → List ℕ
-joined_by [] joined = joined
-joined_by (step ∷ steps) joined = joined_by steps (joined_after step joined)
 
 abbrev parts : Told → (ℕ → JobSpec) → ℕ → JobSpec × List ℕ
 parts told own id = (own id, outputs_in told.store.records id)

@@ -87,33 +87,33 @@ pub record NewJoin (merge : Operator) (told : Told) (specs : ℕ → JobSpec) (t
   pub may : RunMay trees job.spec id
 
 -- The trees at the horizon behind the join.
-abbrev join_change : Told → Job → Tree → Tree
+abbrev pub join_change : Told → Job → Tree → Tree
 join_change told job = stepped told.store.tables (Join job.id) job.spec (concat job.outputs)
 
-abbrev high : Told → Job → ℕ → ℕ
+abbrev pub high : Told → Job → ℕ → ℕ
 high told job horizon = horizon_after told.store.manifest.floor (Join job.id) job.kept_cut horizon
 
-raised : {merge : Operator} {told : Told} {specs : ℕ → JobSpec} {trees : Trees} {horizon : ℕ} {joined : List ℕ} {job : Job} {id : ℕ} → NewJoin merge told specs trees horizon joined job id
+pub raised : {merge : Operator} {told : Told} {specs : ℕ → JobSpec} {trees : Trees} {horizon : ℕ} {joined : List ℕ} {job : Job} {id : ℕ} → NewJoin merge told specs trees horizon joined job id
     → TreesKept merge (with_horizon told.store (high told job horizon)) told.store.history trees
 raised {merge} {told} {specs} {trees} {horizon} {joined} {job} {id} n = later_trees merge told.store told.store.history horizon (high told job horizon) trees (horizon_rises told.store.manifest.floor job.id job.kept_cut horizon) n.midway.kept
 
-place_of : {merge : Operator} {told : Told} {specs : ℕ → JobSpec} {trees : Trees} {horizon : ℕ} {joined : List ℕ} {job : Job} {id : ℕ} (n : NewJoin merge told specs trees horizon joined job id)
+pub place_of : {merge : Operator} {told : Told} {specs : ℕ → JobSpec} {trees : Trees} {horizon : ℕ} {joined : List ℕ} {job : Job} {id : ℕ} (n : NewJoin merge told specs trees horizon joined job id)
     → SegmentFits merge (with_horizon told.store (high told job horizon)) told.store.history n.a.s
 place_of n = all_at _ _ n.a.s (raised n).each n.a.there
 
-makes_run : {merge : Operator} {told : Told} {specs : ℕ → JobSpec} {trees : Trees} {horizon : ℕ} {joined : List ℕ} {job : Job} {id : ℕ} (n : NewJoin merge told specs trees horizon joined job id)
+pub makes_run : {merge : Operator} {told : Told} {specs : ℕ → JobSpec} {trees : Trees} {horizon : ℕ} {joined : List ℕ} {job : Job} {id : ℕ} (n : NewJoin merge told specs trees horizon joined job id)
     → join_change told job n.a.s.tree ≡ with_run_for job.spec.sources id (concat job.outputs) n.a.s.tree
 makes_run {merge} {told} {specs} {trees} {horizon} {joined} {job} {id} n = ap (λ d. to_run (λ i. with_run_for job.spec.sources i (concat job.outputs)) d n.a.s.tree) n.to
 
-order_of : {merge : Operator} {told : Told} {specs : ℕ → JobSpec} {trees : Trees} {horizon : ℕ} {joined : List ℕ} {job : Job} {id : ℕ} (n : NewJoin merge told specs trees horizon joined job id) → InOrder n.a.s.tree
+pub order_of : {merge : Operator} {told : Told} {specs : ℕ → JobSpec} {trees : Trees} {horizon : ℕ} {joined : List ℕ} {job : Job} {id : ℕ} (n : NewJoin merge told specs trees horizon joined job id) → InOrder n.a.s.tree
 order_of {merge} {told} {specs} {trees} {horizon} {joined} {job} {id} n = in_order told.store.tables n.a.s (place_of n).tree
 
-abbrev run_of_join : {merge : Operator} {told : Told} {specs : ℕ → JobSpec} {trees : Trees} {horizon : ℕ} {joined : List ℕ} {job : Job} {id : ℕ} (n : NewJoin merge told specs trees horizon joined job id)
+abbrev pub run_of_join : {merge : Operator} {told : Told} {specs : ℕ → JobSpec} {trees : Trees} {horizon : ℕ} {joined : List ℕ} {job : Job} {id : ℕ} (n : NewJoin merge told specs trees horizon joined job id)
     → RunAt trees job.spec id (concat job.outputs) (join_change told job)
 run_of_join {merge} {told} {specs} {trees} {horizon} {joined} {job} {id} n = run_at trees job.spec id (concat job.outputs) (join_change told job) n.a n.midway.kept.rise n.own (order_of n) n.may (makes_run n)
 
 -- The tables of the sources are those of the stretch.
-sources_same : {merge : Operator} {told : Told} {specs : ℕ → JobSpec} {trees : Trees} {horizon : ℕ} {joined : List ℕ} {job : Job} {id : ℕ} (n : NewJoin merge told specs trees horizon joined job id)
+pub sources_same : {merge : Operator} {told : Told} {specs : ℕ → JobSpec} {trees : Trees} {horizon : ℕ} {joined : List ℕ} {job : Job} {id : ℕ} (n : NewJoin merge told specs trees horizon joined job id)
     → flat_map (λ (node : Node). node.pieces) (n.a.t ∷ n.a.ts) ≡ job.source_tables
 sources_same {merge} {told} {specs} {trees} {horizon} {joined} {job} {id} n =
     sym (pieces_of_stretch job.spec.sources n.a.s.tree (as_stretch trees job.spec n.a) n.own)
@@ -123,16 +123,16 @@ taken_of : {merge : Operator} {told : Told} {specs : ℕ → JobSpec} {trees : T
     → AllByRecursion P n.a.s.tree → AllByRecursion P (n.a.t ∷ n.a.ts)
 taken_of n P h = all_taken P n.a.newer (n.a.t ∷ n.a.ts) n.a.older (subst (AllByRecursion P) n.a.whole h)
 
-sources_held : {merge : Operator} {told : Told} {specs : ℕ → JobSpec} {trees : Trees} {horizon : ℕ} {joined : List ℕ} {job : Job} {id : ℕ} (n : NewJoin merge told specs trees horizon joined job id) → AreHeld told.store job.source_tables
+pub sources_held : {merge : Operator} {told : Told} {specs : ℕ → JobSpec} {trees : Trees} {horizon : ℕ} {joined : List ℕ} {job : Job} {id : ℕ} (n : NewJoin merge told specs trees horizon joined job id) → AreHeld told.store job.source_tables
 sources_held {merge} {told} {specs} {trees} {horizon} {joined} {job} {id} n = subst (AreHeld told.store) (sources_same n)
     (all_true_from (is_held told.store) (flat_map (λ (node : Node). node.pieces) (n.a.t ∷ n.a.ts)) (all_flat (λ t. IsTrue (is_held told.store t)) (λ (node : Node). node.pieces) (n.a.t ∷ n.a.ts)
     (all_to _ _ (n.a.t ∷ n.a.ts) (λ node there held. all_true_front (is_held told.store) node.pieces held) (taken_of n (λ node. AreHeld told.store node.pieces) (place_of n).pieces))))
 
-not_was : {A : Type 0} (b : Bool) → b ≡ false → IsTrue b ⊎ A → A
+pub not_was : {A : Type 0} (b : Bool) → b ≡ false → IsTrue b ⊎ A → A
 not_was b e (inl was) = absurd (never_both b was e)
 not_was b e (inr h) = h
 
-undone_of : (told : Told) (joined : List ℕ) (job : Job) → contains joined job.id ≡ false → was_joined told.store.history job.id ≡ false → is_done told.store.history joined job ≡ false
+pub undone_of : (told : Told) (joined : List ℕ) (job : Job) → contains joined job.id ≡ false → was_joined told.store.history job.id ≡ false → is_done told.store.history joined job ≡ false
 undone_of told joined job e f = ap (λ b. b || was_joined told.store.history job.id) e ∙ f
 
 join_makes : {merge : Operator} {told : Told} {specs : ℕ → JobSpec} {trees : Trees} {horizon : ℕ} {joined : List ℕ} {job : Job} {id : ℕ} (n : NewJoin merge told specs trees horizon joined job id) (f : OutputsFit merge told.store specs job)
@@ -283,13 +283,12 @@ new_join_keeps {merge} {told} {specs} {trees} {horizon} {joined} {job} {id} n la
 
 -- ---- a join that a commit may take
 
-at_destination : {merge : Operator} {told : Told} {specs : ℕ → JobSpec} {trees : Trees} {horizon : ℕ} {joined : List ℕ} (job : Job) → IsLawful merge → Body merge told specs → Midway merge told trees horizon joined → IsIn job (stored_jobs told.store)
-    → IsTrue (has_status Compacted job) → contains joined job.id ≡ false → was_joined told.store.history job.id ≡ false → SourcesStand told.store.manifest.trees job → SourcesStand trees job → (d : Option ℕ) → job.spec.destination ≡ d
-    → DestinationFits trees (tree_at job.spec.segment trees) job.spec.sources d → Midway merge told (stepped_in told.store.tables (Join job.id) job.spec (concat job.outputs) trees) (high told job horizon) (job.id ∷ joined)
-at_destination job lawful b m there compacted once unjoined stood stands None to h = absurd h
-at_destination {merge} {told} {specs} {trees} {horizon} {joined} job lawful b m there compacted once unjoined stood stands (Some id) to h =
+pub new_join : {merge : Operator} {told : Told} {specs : ℕ → JobSpec} {trees : Trees} {horizon : ℕ} {joined : List ℕ} (job : Job) (id : ℕ) → Body merge told specs → Midway merge told trees horizon joined → IsIn job (stored_jobs told.store)
+    → IsTrue (has_status Compacted job) → contains joined job.id ≡ false → was_joined told.store.history job.id ≡ false → SourcesStand told.store.manifest.trees job → SourcesStand trees job → job.spec.destination ≡ Some id
+    → DestinationFits trees (tree_at job.spec.segment trees) job.spec.sources (Some id) → NewJoin merge told specs trees horizon joined job id
+new_join {merge} {told} {specs} {trees} {horizon} {joined} job id b m there compacted once unjoined stood stands to h =
     let a = stretch_at trees job.spec stands.some stands.stretch in
-    new_join_keeps (record {
+    record {
       body = b;
       midway = m;
       there = there;
@@ -303,11 +302,17 @@ at_destination {merge} {told} {specs} {trees} {horizon} {joined} job lawful b m 
       a = a;
       own = segment_named merge (with_horizon told.store horizon) told.store.history a.s b.sound.tables (all_at _ trees a.s m.kept.each a.there);
       may = record { to = to; lowest = h.0; fresh = λ none one. fresh (contains (all_run_ids trees) id) refl (h.1 none) one };
-    }) lawful
+    }
   where
     fresh : (c : Bool) → contains (all_run_ids trees) id ≡ c → IsTrue (not c) → IsIn id (all_run_ids trees) → ⊥
     fresh true e k one = absurd (cc k)
     fresh false e k one = never_both (contains (all_run_ids trees) id) (in_contains (all_run_ids trees) id one) e
+
+at_destination : {merge : Operator} {told : Told} {specs : ℕ → JobSpec} {trees : Trees} {horizon : ℕ} {joined : List ℕ} (job : Job) → IsLawful merge → Body merge told specs → Midway merge told trees horizon joined → IsIn job (stored_jobs told.store)
+    → IsTrue (has_status Compacted job) → contains joined job.id ≡ false → was_joined told.store.history job.id ≡ false → SourcesStand told.store.manifest.trees job → SourcesStand trees job → (d : Option ℕ) → job.spec.destination ≡ d
+    → DestinationFits trees (tree_at job.spec.segment trees) job.spec.sources d → Midway merge told (stepped_in told.store.tables (Join job.id) job.spec (concat job.outputs) trees) (high told job horizon) (job.id ∷ joined)
+at_destination job lawful b m there compacted once unjoined stood stands None to h = absurd h
+at_destination job lawful b m there compacted once unjoined stood stands (Some id) to h = new_join_keeps (new_join job id b m there compacted once unjoined stood stands to h) lawful
 
 -- A second join of a job leaves the trees.
 again_keeps : {merge : Operator} {told : Told} {specs : ℕ → JobSpec} {trees : Trees} {horizon : ℕ} {joined : List ℕ} (job : Job) → Body merge told specs → Midway merge told trees horizon joined → IsIn job (stored_jobs told.store) → IsTrue (has_status Compacted job)

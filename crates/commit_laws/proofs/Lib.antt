@@ -20,3 +20,4 @@ pub mod CommitJobs
 pub mod Commits
 pub mod AllCalls
 pub mod SecondJoins
+pub mod StepForms

@@ -1,17 +1,16 @@
 -- A second join of a job whose join stood changes no tree.
-use Rattle.std.proofs.Common.{◌≡◌, refl, sym, ◌∙◌, ap, subst, ℕ, List, [], ◌∷◌, ◌++◌, cond, Bool, true, false, inl, inr, ◌⊎◌, Option, Some, None}
-use Rattle.std.specs.Prelude.{◌≢◌, IsTrue, IfSome, ◌&&◌, ◌||◌, map, flat_map, bytes_eq, if◌then◌else◌}
+use Rattle.std.proofs.Common.{◌≡◌, refl, sym, ◌∙◌, ap, subst, ℕ, List, [], ◌∷◌, ◌++◌, cond, Bool, true, false, inl, inr, Option, Some, None}
+use Rattle.std.specs.Prelude.{◌≢◌, IfSome, ◌||◌, map, flat_map, bytes_eq}
 use Rattle.std.specs.List.{AllByRecursion, concat, cons_option, list_all}
 use Rattle.std.proofs.lemmas.Slice.Eq.{bytes_eq-Decides}
 use Rattle.std.proofs.lemmas.List.{append-nil}
-use Rattle.row_model.specs.Lists.{Pairs}
 use Rattle.row_model.specs.Fold.{Operator, IsLawful}
-use Rattle.fleet_model.specs.Nodes.{Tables, NodeName, L0, Run, name_eq, names_contain, Node, Tree, Segment, Trees, names, node_named, tree_at}
-use Rattle.fleet_model.specs.Jobs.{JobSpec, Job, Compacted, has_status, job_with, contains}
+use Rattle.fleet_model.specs.Nodes.{NodeName, L0, Run, names_contain, Node, Tree, Segment, Trees, names, node_named, tree_at}
+use Rattle.fleet_model.specs.Jobs.{Job, contains}
 use Rattle.fleet_model.specs.Gates.{first_failing, commit_gate}
 use Rattle.fleet_model.specs.Handles.{tree_tables}
-use Rattle.fleet_model.specs.History.{Party, Step, Join}
-use Rattle.fleet_model.specs.Store.{Manifest, stored_jobs}
+use Rattle.fleet_model.specs.History.{Join}
+use Rattle.fleet_model.specs.Store.{stored_jobs}
 use Rattle.fleet_model.specs.Trees.{on_segment, stepped, stepped_in, to_run, with_run_for, source_nodes, source_pieces, watermark_after, l0_or}
 use Rattle.fleet_model.specs.TreesFit.{StandsBefore}
 use Rattle.fleet_model.specs.JobsFit.{was_joined}
@@ -24,16 +23,17 @@ use Rattle.step_laws.proofs.TableReplays.{sources_all}
 use Rattle.step_laws.proofs.PollJobs.{tree_has}
 use Rattle.step_laws.proofs.Bodies.{whole_of}
 use Rattle.step_laws.proofs.FlushTrees.{Rising}
-use Rattle.commit_laws.specs.SecondJoins.{SecondJoinsRest, trees_behind}
-use Rattle.commit_laws.proofs.Stretches.{Named, InOrder, Stretch, Between, never_both, name_same, names_in, node_of, named_in, pairs_of, pairs_second}
+use Rattle.commit_laws.specs.SecondJoins.{SecondJoinsRest}
+use Rattle.commit_laws.proofs.Stretches.{Named, InOrder, Stretch, Between, never_both, names_in, node_of, named_in, pairs_of, pairs_second}
 use Rattle.commit_laws.proofs.OtherStretches.{older_here}
 use Rattle.commit_laws.proofs.RunTrees.{run_for, run_stands}
 use Rattle.commit_laws.proofs.TreeReads.{with_horizon}
-use Rattle.commit_laws.proofs.Segments.{SegmentFits, segment_named, in_order}
+use Rattle.commit_laws.proofs.Segments.{segment_named, in_order}
 use Rattle.commit_laws.proofs.StepTrees.{changed_segment}
-use Rattle.commit_laws.proofs.JobSteps.{is_done, JobHolds, tree_before}
-use Rattle.commit_laws.proofs.Midway.{Midway, found_job}
-use Rattle.commit_laws.proofs.CommitSteps.{steps_keep, joined_by}
+use Rattle.commit_laws.proofs.JobSteps.{JobHolds, tree_before}
+use Rattle.commit_laws.proofs.Midway.{found_job}
+use Rattle.commit_laws.specs.Behind.{joined_by, trees_behind}
+use Rattle.commit_laws.proofs.CommitSteps.{steps_keep}
 use Rattle.commit_laws.proofs.CommitJobs.{horizon_of}
 use Rattle.commit_laws.proofs.Commits.{start}
 

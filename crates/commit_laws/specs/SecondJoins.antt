@@ -2,21 +2,16 @@
 use Rattle.std.specs.Prelude.{◌≡◌, ℕ, true, IsTrue, List, [], Some, None}
 use Rattle.std.specs.List.{AllByRecursion, concat}
 use Rattle.row_model.specs.Fold.{Operator}
-use Rattle.fleet_model.specs.Nodes.{Trees}
 use Rattle.fleet_model.specs.Jobs.{JobSpec, Job, Compacted, has_status, job_with}
 use Rattle.fleet_model.specs.History.{Party, Step, Join}
 use Rattle.fleet_model.specs.Store.{stored_jobs}
-use Rattle.fleet_model.specs.Replay.{outputs_in}
-use Rattle.fleet_model.specs.Trees.{stepped_in, stepped_all, job_of}
+use Rattle.fleet_model.specs.Trees.{stepped_in, job_of}
 use Rattle.fleet_model.specs.Gates.{commit_gate}
 use Rattle.fleet_model.specs.JobsFit.{was_joined}
 use Rattle.step_model.specs.Past.{Told}
 use Rattle.step_model.specs.LawfulManifests.{IsKnownTo, StepsFit}
 use Rattle.step_model.specs.Keeps.{Keeps}
-
--- The trees behind the first steps of a commit.
-abbrev pub trees_behind : Told → (ℕ → JobSpec) → List Step → Trees
-trees_behind told specs first = stepped_all told.store.tables (λ id. (specs id, outputs_in told.store.records id)) first told.store.manifest.trees
+use Rattle.commit_laws.specs.Behind.{trees_behind}
 
 -- A job whose join took effect is Compacted still, since the records were lost. If it passes the
 -- gate, be it behind the first steps of a commit, a second join of it changes no tree.

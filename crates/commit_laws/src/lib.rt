@@ -7,6 +7,7 @@ ghost use Rattle.step_laws.specs.Runs.{CallsKeep};
 ghost use Rattle.commit_laws.specs.CommitLaws.{CommitsKeep};
 ghost use Rattle.commit_laws.specs.RunLaws.{CoursesKeep};
 ghost use Rattle.commit_laws.specs.SecondJoins.{SecondJoinsRest};
+ghost use Rattle.commit_laws.specs.StepForms.{JoinsReplace};
 
 /// Commits keep the invariant, if they are lawful and the operator is. A join puts one run of its
 /// job's rows in place of its sources, a move puts the sources' own tables there, and a drain takes
@@ -25,6 +26,12 @@ pub fn calls_keep()
 /// course, whatever calls of others come in between and however the run ends.
 pub fn courses_keep()
     ensures { CoursesKeep }
+{}
+
+/// A join puts one run in place of its sources. The run has all rows that the settings of one claim
+/// make of the sources' tables, and the flushes of all sources. All other trees stay as they are.
+pub fn joins_replace()
+    ensures { (merge : Operator) → IsLawful merge → JoinsReplace merge }
 {}
 
 /// A second join of a job whose join took effect changes no tree, under a lawful operator and where

@@ -1,0 +1,90 @@
+-- A join replaces its sources by one run of its job's rows.
+use Rattle.std.proofs.Common.{◌≡◌, refl, sym, ◌∙◌, ap, subst, ℕ, List, [], ◌∷◌, cond, true, false, Option, Some, None}
+use Rattle.std.specs.Prelude.{map, bytes_eq, option_map}
+use Rattle.std.specs.List.{concat}
+use Rattle.std.proofs.lemmas.Slice.Eq.{bytes_eq-Decides}
+use Rattle.row_model.specs.Fold.{Operator, IsLawful}
+use Rattle.row_model.specs.JobRows.{job_rows}
+use Rattle.fleet_model.specs.Nodes.{NodeName, Tree, Segment, Trees, segment_at, tree_at, tree_or_empty}
+use Rattle.fleet_model.specs.Jobs.{JobSpec, Job, contains}
+use Rattle.fleet_model.specs.Attempts.{noted_rows, source_rows}
+use Rattle.fleet_model.specs.Store.{stored_jobs}
+use Rattle.fleet_model.specs.Trees.{on_segment}
+use Rattle.fleet_model.specs.JobsFit.{SourcesStand, DestinationFits, was_joined}
+use Rattle.step_model.specs.Past.{Told}
+use Rattle.step_laws.proofs.Elements.{IsIn, all_at}
+use Rattle.step_laws.proofs.Bodies.{Body, JobKept, whole_of}
+use Rattle.step_laws.proofs.Alike.{replays_alike, settings_same}
+use Rattle.step_laws.proofs.FlushTrees.{Rising}
+use Rattle.commit_laws.specs.Behind.{trees_behind, joined_by}
+use Rattle.commit_laws.specs.StepForms.{RunReplaces, JoinReplaces, JoinsReplace}
+use Rattle.commit_laws.proofs.Stretches.{other_or}
+use Rattle.commit_laws.proofs.StepTrees.{changed_segment, segment_on}
+use Rattle.commit_laws.proofs.JobSteps.{JobHolds, RunAt, tree_here, tree_before}
+use Rattle.commit_laws.proofs.Steps.{found_there}
+use Rattle.commit_laws.proofs.Midway.{Midway, found_job}
+use Rattle.commit_laws.proofs.Joins.{NewJoin, new_join, run_of_join, join_change, sources_same, sources_held, not_was, undone_of, compacted_holds}
+use Rattle.commit_laws.proofs.CommitSteps.{steps_keep}
+use Rattle.commit_laws.proofs.CommitJobs.{horizon_of}
+use Rattle.commit_laws.proofs.Commits.{start}
+
+tree_elsewhere : (p prefix : List ℕ) (sources : List NodeName) (change : Tree → Tree) (trees : Trees) → bytes_eq prefix p ≡ false → tree_at p (map (on_segment prefix sources change) trees) ≡ tree_at p trees
+tree_elsewhere p prefix sources change trees differs = ap tree_or_empty (segment_on p prefix sources change trees) ∙ by (segment_at p trees) refl
+  where
+    by : (o : Option Segment) → segment_at p trees ≡ o → tree_or_empty (option_map (on_segment prefix sources change) o) ≡ tree_or_empty o
+    by None e = refl
+    by (Some x) e = ap (λ b. (cond b (changed_segment sources change x) x).tree) (ap (bytes_eq prefix) (sym (found_there p trees x e).1) ∙ differs)
+
+pub replaced_by : (trees : Trees) (spec : JobSpec) (id : ℕ) (pieces : List ℕ) (change : Tree → Tree) → RunAt trees spec id pieces change → Rising trees → RunReplaces trees (map (on_segment spec.segment spec.sources change) trees) spec pieces
+replaced_by trees spec id pieces change c rise = record {
+  id = id;
+  to = c.to;
+  newer = c.newer;
+  taken = c.t ∷ c.ts;
+  older = c.older;
+  sources = c.named;
+  before = tree_before spec.segment trees c.s rise c.there c.same ∙ c.whole;
+  after = tree_here spec.segment spec.sources change trees c.s rise c.there c.same ∙ c.is;
+  elsewhere = λ p other. tree_elsewhere p spec.segment spec.sources change trees (other_or (bytes_eq spec.segment p) (λ same. other (sym ((bytes_eq-Decides spec.segment p).0 same))));
+}
+
+join_replaces : {merge : Operator} {told : Told} {specs : ℕ → JobSpec} {trees : Trees} {horizon : ℕ} {joined : List ℕ} {job : Job} {id : ℕ} → NewJoin merge told specs trees horizon joined job id → JoinReplaces merge told trees job
+unfolding replaced_by
+join_replaces {merge} {told} {specs} {trees} {horizon} {joined} {job} {id} n =
+    let f = n.kept.fits.outputs n.compacted in
+    record {
+      run = replaced_by trees job.spec id (concat job.outputs) (join_change told job) (run_of_join n) n.midway.kept.rise;
+      settings = f.settings;
+      claimed = λ others faithful. sym (settings_same told.store.tables told.store.tables specs others told.store.history job.id job.attempt (replays_alike told specs others n.body.faithful faithful)
+          (n.kept.spec specs n.body.faithful ∙ sym (n.kept.spec others faithful))) ∙ f.claimed;
+      cut = f.cut;
+      rows = subst (λ ts. job_rows merge f.settings (source_rows told.store.tables ts) ≡ record { rows = noted_rows told.store.tables (concat job.outputs); whole = true }) (sym (sources_same n)) (f.rows (sources_held n));
+    }
+
+pub joins_replace : (merge : Operator) → IsLawful merge → JoinsReplace merge
+joins_replace merge lawful told party specs first id k known fits join new = by join.job.spec.destination refl stands.destination
+  where
+    b : Body merge told k.stored.replay.specs
+    b = (whole_of merge told k).body
+
+    m : Midway merge told (trees_behind told specs first) (horizon_of told first) (joined_by first [])
+    m = steps_keep merge told party k.stored.replay.specs specs told.store.manifest.trees told.store.manifest.horizon [] first lawful b known fits (start merge told k.stored.replay.specs b)
+
+    found : IsIn join.job (stored_jobs told.store) × (id ≡ join.job.id)
+    found = found_job id (stored_jobs told.store) join.job join.stored
+
+    once : contains (joined_by first []) join.job.id ≡ false
+    once = subst (λ n. contains (joined_by first []) n ≡ false) found.1 join.once
+
+    unjoined : was_joined told.store.history join.job.id ≡ false
+    unjoined = subst (λ n. was_joined told.store.history n ≡ false) found.1 new
+
+    stood : SourcesStand told.store.manifest.trees join.job
+    stood = not_was (was_joined told.store.history join.job.id) unjoined ((all_at (JobKept merge told k.stored.replay.specs) (stored_jobs told.store) join.job b.jobs found.0).fits.sources.1 join.finished)
+
+    stands : SourcesStand (trees_behind told specs first) join.job
+    stands = (all_at (JobHolds told (trees_behind told specs first) (joined_by first [])) (stored_jobs told.store) join.job m.jobs found.0).stand (compacted_holds join.job.status join.finished) (undone_of told (joined_by first []) join.job once unjoined) stood
+
+    by : (d : Option ℕ) → join.job.spec.destination ≡ d → DestinationFits (trees_behind told specs first) (tree_at join.job.spec.segment (trees_behind told specs first)) join.job.spec.sources d → JoinReplaces merge told (trees_behind told specs first) join.job
+    by None to h = absurd h
+    by (Some run) to h = join_replaces (new_join join.job run b m found.0 join.finished once unjoined stood stands to h)

@@ -1,0 +1,49 @@
+-- What a step of a commit does to the trees: a join and a move put one run in place of their sources.
+use Rattle.std.specs.Prelude.{◌≡◌, ◌≢◌, ℕ, false, true, List, [], ◌∷◌, ◌++◌, flat_map, Some}
+use Rattle.std.specs.List.{AllByRecursion, concat}
+use Rattle.row_model.specs.Fold.{Operator}
+use Rattle.row_model.specs.Settings.{Settings}
+use Rattle.row_model.specs.JobRows.{job_rows}
+use Rattle.fleet_model.specs.Nodes.{Run, Node, Tree, Trees, names, tree_at}
+use Rattle.fleet_model.specs.Jobs.{JobSpec, Job}
+use Rattle.fleet_model.specs.History.{Party, Step, Join}
+use Rattle.fleet_model.specs.Attempts.{noted_rows, source_rows}
+use Rattle.fleet_model.specs.Claimed.{settings_of, without_cut}
+use Rattle.fleet_model.specs.Trees.{stepped_in, job_of}
+use Rattle.fleet_model.specs.JobsFit.{cut_or, was_joined}
+use Rattle.step_model.specs.Past.{Told}
+use Rattle.step_model.specs.Faithful.{Faithful}
+use Rattle.step_model.specs.LawfulManifests.{IsKnownTo, StepsFit, JoinFits}
+use Rattle.step_model.specs.Keeps.{Keeps}
+use Rattle.commit_laws.specs.Behind.{trees_behind, joined_by}
+
+-- One run of these tables stands where the sources stood, with the flushes of all of them. All other
+-- trees are as they were.
+pub record RunReplaces (trees others : Trees) (spec : JobSpec) (pieces : List ℕ) : Type 0 where
+  pub id : ℕ
+  pub to : spec.destination ≡ Some id
+  pub newer : Tree
+  pub taken : Tree
+  pub older : Tree
+  pub sources : names taken ≡ spec.sources
+  pub before : tree_at spec.segment trees ≡ newer ++ (taken ++ older)
+  pub after : tree_at spec.segment others ≡ newer ++ record { name = Run id; flushes = flat_map (λ (node : Node). node.flushes) taken; pieces = pieces } ∷ older
+  pub elsewhere : (prefix : List ℕ) → prefix ≢ spec.segment → tree_at prefix others ≡ tree_at prefix trees
+
+-- The run of a join has the job's rows: all rows that the settings of one claim make of the sources,
+-- by whichever faithful replay that claim is found.
+pub record JoinReplaces (merge : Operator) (told : Told) (trees : Trees) (job : Job) : Type 0 where
+  pub run : RunReplaces trees (stepped_in told.store.tables (Join job.id) job.spec (concat job.outputs) trees) job.spec (concat job.outputs)
+  pub settings : Settings
+  pub claimed : (specs : ℕ → JobSpec) → Faithful told specs → settings_of told.store.tables specs told.store.history job.id job.attempt ≡ Some (without_cut settings)
+  pub cut : settings.cut ≡ cut_or settings.floor job.kept_cut
+  pub rows : job_rows merge settings (source_rows told.store.tables (flat_map (λ (node : Node). node.pieces) run.taken))
+      ≡ record { rows = noted_rows told.store.tables (concat job.outputs); whole = true }
+
+-- A join of a commit, be it behind other steps, replaces the sources by the run of the job's rows,
+-- unless the job was joined by an earlier commit.
+abbrev pub JoinsReplace : Operator → Type 0
+JoinsReplace merge = (told : Told) (party : Party) (specs : ℕ → JobSpec) (first : List Step) (id : ℕ) → Keeps merge told
+    → AllByRecursion (λ step. IsKnownTo party told specs (job_of step)) first → StepsFit told specs told.store.manifest.trees [] first
+    → (fits : JoinFits told (trees_behind told specs first) (joined_by first []) id) → was_joined told.store.history id ≡ false
+    → JoinReplaces merge told (trees_behind told specs first) fits.job
