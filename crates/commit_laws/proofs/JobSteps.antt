@@ -19,10 +19,10 @@ use Rattle.step_laws.proofs.Deletions.{in_flat}
 use Rattle.step_laws.proofs.FlushTrees.{Rising}
 use Rattle.step_laws.proofs.FlushFollows.{found_segment}
 use Rattle.commit_laws.proofs.Stretches.{Named, InOrder, other_or, name_same, names_no, node_in_names, node_of, run_in, in_runs}
-use Rattle.commit_laws.proofs.RunTrees.{run_for}
 use Rattle.commit_laws.proofs.OtherStretches.{NotIn, NoneIn}
 use Rattle.commit_laws.proofs.OtherJobs.{in_replaced, in_filtered, flushes_meet, destination_stays, stand_beside_run, oldest_beside, stand_beside_out, oldest_beside_out}
 use Rattle.commit_laws.proofs.StepTrees.{names_apart_at, changed_segment, segment_on, in_trees_on}
+use Rattle.commit_laws.specs.RunReads.{run_for}
 
 -- ---- one job beside steps
 

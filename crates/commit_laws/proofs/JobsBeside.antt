@@ -16,11 +16,11 @@ use Rattle.step_laws.proofs.Elements.{IsIn}
 use Rattle.step_laws.proofs.Deletions.{in_flat}
 use Rattle.step_laws.proofs.FlushTrees.{Rising}
 use Rattle.commit_laws.proofs.Stretches.{never_both}
-use Rattle.commit_laws.proofs.RunTrees.{run_for}
 use Rattle.commit_laws.proofs.OtherJobs.{in_replaced, in_filtered}
 use Rattle.commit_laws.proofs.StepTrees.{changed_segment, in_trees_on, names_apart_at}
 use Rattle.commit_laws.proofs.JobSteps.{is_done, JobHolds, IsAway, RunAt, OutAt, stand_on_run, oldest_on_run, stand_on_out, oldest_on_out, destination_in, in_nodes}
 use Rattle.commit_laws.proofs.JoinsStand.{IsOld, stands_on, in_pieces}
+use Rattle.commit_laws.specs.RunReads.{run_for}
 
 -- ---- a step that puts a run
 

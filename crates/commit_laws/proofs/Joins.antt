@@ -31,7 +31,7 @@ use Rattle.step_laws.proofs.Bodies.{Body, JobKept}
 use Rattle.commit_laws.proofs.Stretches.{Named, InOrder, never_both, pairs_first, pairs_second, all_taken}
 use Rattle.commit_laws.proofs.RunTrees.{without_sources, pieces_of_stretch}
 use Rattle.commit_laws.proofs.TreeReads.{before_these, with_horizon}
-use Rattle.commit_laws.proofs.RunRows.{JoinMakes, join_fits}
+use Rattle.commit_laws.proofs.RunRows.{join_fits}
 use Rattle.commit_laws.proofs.Segments.{SegmentFits, segment_named, in_order, have_rows, all_held}
 use Rattle.commit_laws.proofs.StepTrees.{TreesKept, trees_on, later_trees}
 use Rattle.commit_laws.proofs.JobSteps.{is_done, JobHolds, IsAway, RunAt, tree_before}
@@ -39,6 +39,7 @@ use Rattle.commit_laws.proofs.JoinsStand.{OwnJoin, join_stands}
 use Rattle.commit_laws.proofs.JobsBeside.{BesideRun, holds_on_run, holds_with, holds_joined}
 use Rattle.commit_laws.proofs.Steps.{StretchAt, stretch_at, as_stretch, RunMay, run_between, run_at, PiecesMay, run_changes}
 use Rattle.commit_laws.proofs.Midway.{Midway, found_job, two_jobs, only_job, apart_turned}
+use Rattle.commit_laws.specs.RunReads.{JoinMakes}
 
 -- ---- statuses
 

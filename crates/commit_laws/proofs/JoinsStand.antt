@@ -20,9 +20,10 @@ use Rattle.step_laws.proofs.Deletions.{in_flat}
 use Rattle.step_laws.proofs.OwnTables.{apart_at}
 use Rattle.step_laws.proofs.FlushTrees.{Rising}
 use Rattle.commit_laws.proofs.Stretches.{Named, never_both, name_same, name_itself, names_in, in_names, node_in_names, pairs_of, pairs_second, named_in}
-use Rattle.commit_laws.proofs.RunTrees.{HaveRows, none_in_both, run_for}
+use Rattle.commit_laws.proofs.RunTrees.{HaveRows, none_in_both}
 use Rattle.commit_laws.proofs.StepTrees.{changed_segment, each_on}
 use Rattle.commit_laws.proofs.JobSteps.{Where, Here, Elsewhere, where_on, tree_here, RunAt}
+use Rattle.commit_laws.specs.RunReads.{run_for}
 
 pub found_node : (name : NodeName) (tree : Tree) (x : Node) → node_named name tree ≡ Some x → IsIn x tree × (name ≡ x.name)
 found_node name [] x e = absurd (cc e)

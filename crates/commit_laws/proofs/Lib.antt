@@ -21,3 +21,4 @@ pub mod Commits
 pub mod AllCalls
 pub mod SecondJoins
 pub mod StepForms
+pub mod RunReads

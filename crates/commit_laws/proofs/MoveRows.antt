@@ -22,9 +22,9 @@ use Rattle.row_laws.proofs.KeyRows.{exact}
 use Rattle.row_laws.proofs.ApartRows.{lt_is}
 use Rattle.step_laws.proofs.Elements.{all_to, all_front, all_back, all_append, all_flat, all_unflat}
 use Rattle.commit_laws.proofs.Stretches.{pairs_second, pairs_across}
-use Rattle.commit_laws.proofs.RunTrees.{run_for}
 use Rattle.commit_laws.proofs.TreeReads.{part_rows}
 use Rattle.commit_laws.proofs.RunRows.{RunFits, nodes_apart, rows_of_pieces, flushes_of_run, held_rows, flush_rows, sorted_of_key}
+use Rattle.commit_laws.specs.RunReads.{run_for, AreTables}
 
 -- ---- rows may be inserted in any order
 
@@ -178,10 +178,6 @@ between_keys a b c d (inl e) l (inl f) = subst (λ x. key_cmp x d ≡ Less) (sym
 between_keys a b c d (inl e) l (inr m) = subst (λ x. key_cmp x d ≡ Less) (sym e) (nat_list_cmp_total.trans b c d l m)
 between_keys a b c d (inr k) l (inl f) = subst (λ x. key_cmp a x ≡ Less) f (nat_list_cmp_total.trans a b c k l)
 between_keys a b c d (inr k) l (inr m) = nat_list_cmp_total.trans a c d (nat_list_cmp_total.trans a b c k l) m
-
--- Each table is ordered and not empty.
-abbrev pub AreTables : Tables → List ℕ → Type 0
-AreTables tables pieces = AllByRecursion (λ t. (table_rows tables t ≢ []) × IsStrictlyOrdered (table_rows tables t)) pieces
 
 and_parts : (a b : Bool) → IsTrue (a && b) → (a ≡ true) × IsTrue b
 and_parts true b h = (refl, h)

@@ -29,8 +29,9 @@ use Rattle.row_laws.proofs.JobReads.{jobs_keep_reads}
 use Rattle.row_laws.proofs.Sources.{all_put, filter-sorted_rows}
 use Rattle.step_laws.proofs.Elements.{all_at, all_from, all_to, all_front, all_back, all_append, all_flat}
 use Rattle.commit_laws.proofs.Stretches.{pairs_append}
-use Rattle.commit_laws.proofs.RunTrees.{Covered, run_for}
+use Rattle.commit_laws.proofs.RunTrees.{Covered}
 use Rattle.commit_laws.proofs.TreeReads.{part_rows}
+use Rattle.commit_laws.specs.RunReads.{run_for, JoinMakes}
 
 -- ---- lists of lists
 
@@ -110,13 +111,6 @@ has_place : (P : ℕ → Type 0) (r : Row) (rows : List Row) → HasPlace (place
 has_place P r [] there h = absurd there
 has_place P r (q ∷ rows) (inl same) h = subst P (ap (λ (p : List ℕ × ℕ). p.1) same) h.0
 has_place P r (q ∷ rows) (inr there) h = has_place P r rows there h.1
-
--- What a join asks of its job: the outputs are all rows that the settings make of the sources.
-pub record JoinMakes (merge : Operator) (store : Store) (oldest : Bool) (taken : Tree) (outputs : List ℕ) (settings : Settings) : Type 0 where
-  pub rows : job_rows merge settings (source_rows store.tables (flat_map (λ (node : Node). node.pieces) taken)) ≡ record { rows = noted_rows store.tables outputs; whole = true }
-  pub cut : settings.cut ≤ store.manifest.horizon
-  pub tick : IsTrue (int_le settings.tick store.manifest.tick)
-  pub last_run : settings.last_run ≡ true → oldest ≡ true
 
 pub join_fits : (merge : Operator) (store : Store) (oldest : Bool) (id : ℕ) (taken : Tree) (outputs : List ℕ) (settings : Settings) → IsLawful merge → Pairs (IsNewer store.tables) taken → AllByRecursion (λ (node : Node). IsStrictlyOrdered (node_rows store.tables node)) taken
     → JoinMakes merge store oldest taken outputs settings → RunFits merge store oldest taken (run_for id outputs taken)

@@ -13,6 +13,7 @@ use Rattle.step_laws.proofs.Elements.{IsIn, all_at, all_from, in_front}
 use Rattle.step_laws.proofs.Deletions.{in_flat}
 use Rattle.commit_laws.proofs.Stretches.{Named, InOrder, Stretch, Between, other_or, name_same, pairs_names, names_pairs, pairs_of, pairs_replaced, all_replaced, all_taken, pairs_second, nodes_named, without_stretch, put_between}
 use Rattle.step_laws.proofs.Elements.{in_back}
+use Rattle.commit_laws.specs.RunReads.{run_for}
 
 -- ---- nodes share no table, and no name
 
@@ -54,10 +55,6 @@ tree_named tables history (a ∷ tree) order newest flushes rows =
             none_in_both tables a b n (all_at (IsNewer tables a) tree b newest.0 there) in_a in_b (all_at (λ t. table_rows tables t ≢ []) a.pieces n rows.0 in_a)
 
 -- ---- the tree with the run
-
--- The run of these tables that replaces some nodes.
-abbrev pub run_for : ℕ → List ℕ → Tree → Node
-run_for id pieces taken = record { name = Run id; flushes = flat_map (λ (node : Node). node.flushes) taken; pieces = pieces }
 
 pub nodes_of_stretch : (sources : List NodeName) (tree : Tree) (s : Stretch sources tree) → Named tree → source_nodes sources tree ≡ s.taken
 nodes_of_stretch sources tree s named = subst (λ ns. source_nodes ns tree ≡ s.taken) s.named (nodes_named tree s.taken named (λ node there. subst (IsIn node) (sym s.whole) (in_back node s.newer (s.taken ++ s.older) (in_front node s.taken s.older there))))

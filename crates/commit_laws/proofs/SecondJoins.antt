@@ -26,7 +26,7 @@ use Rattle.step_laws.proofs.FlushTrees.{Rising}
 use Rattle.commit_laws.specs.SecondJoins.{SecondJoinsRest}
 use Rattle.commit_laws.proofs.Stretches.{Named, InOrder, Stretch, Between, never_both, names_in, node_of, named_in, pairs_of, pairs_second}
 use Rattle.commit_laws.proofs.OtherStretches.{older_here}
-use Rattle.commit_laws.proofs.RunTrees.{run_for, run_stands}
+use Rattle.commit_laws.proofs.RunTrees.{run_stands}
 use Rattle.commit_laws.proofs.TreeReads.{with_horizon}
 use Rattle.commit_laws.proofs.Segments.{segment_named, in_order}
 use Rattle.commit_laws.proofs.StepTrees.{changed_segment}
@@ -36,6 +36,7 @@ use Rattle.commit_laws.specs.Behind.{joined_by, trees_behind}
 use Rattle.commit_laws.proofs.CommitSteps.{steps_keep}
 use Rattle.commit_laws.proofs.CommitJobs.{horizon_of}
 use Rattle.commit_laws.proofs.Commits.{start}
+use Rattle.commit_laws.specs.RunReads.{run_for}
 
 -- ---- what the gate says
 

@@ -18,9 +18,10 @@ use Rattle.step_laws.proofs.Elements.{IsIn, all_at, all_from, all_to, all_flat, 
 use Rattle.step_laws.proofs.Held.{held_put}
 use Rattle.commit_laws.proofs.Stretches.{Named, InOrder, Between, never_both, in_names, names_no, node_in_names, node_of, pairs_names, names_pairs, pairs_first, pairs_second, pairs_filter, all_replaced, all_taken}
 use Rattle.commit_laws.proofs.OtherJobs.{in_filtered, in_replaced}
-use Rattle.commit_laws.proofs.RunTrees.{HaveRows, tree_named, run_for, tree_with_run}
-use Rattle.commit_laws.proofs.TreeReads.{part_rows, PartKeepsReads, tree_to_part, part_to_tree, before_these, part_front, part_back, part_both, part_reads, fewer_reads}
+use Rattle.commit_laws.proofs.RunTrees.{HaveRows, tree_named, tree_with_run}
+use Rattle.commit_laws.proofs.TreeReads.{part_rows, tree_to_part, part_to_tree, before_these, part_front, part_back, part_both, part_reads, fewer_reads}
 use Rattle.commit_laws.proofs.RunRows.{RunFits, flushes_of_run}
+use Rattle.commit_laws.specs.RunReads.{run_for, PartKeepsReads}
 
 -- ---- tables that were put have rows
 
@@ -130,7 +131,7 @@ flushes_all : (history : List Entry) (node : Node) (name : NodeName) → IsFlush
 flushes_all history node (L0 name) h = subst (AllByRecursion (λ n. IsTrue (was_flushed history n))) (sym h.2) (h.0, tt)
 flushes_all history node (Run id) h = h
 
-run_reads : (merge : Operator) (store : Store) (oldest : Bool) (id : ℕ) (pieces : List ℕ) (t : Node) (ts : Tree) → Pairs (IsNewer store.tables) (t ∷ ts) → PartKeepsReads merge store oldest (t ∷ ts) → RunFits merge store oldest (t ∷ ts) (run_for id pieces (t ∷ ts))
+pub run_reads : (merge : Operator) (store : Store) (oldest : Bool) (id : ℕ) (pieces : List ℕ) (t : Node) (ts : Tree) → Pairs (IsNewer store.tables) (t ∷ ts) → PartKeepsReads merge store oldest (t ∷ ts) → RunFits merge store oldest (t ∷ ts) (run_for id pieces (t ∷ ts))
     → NodeKeepsReads merge store oldest (run_for id pieces (t ∷ ts))
 run_reads merge store oldest id pieces t ts newest reads fits key =
     subst (λ rows. SameReads merge store.manifest oldest key (sorted_rows (rows_of_key key rows)) (sorted_rows (rows_of_key key (node_rows store.tables (run_for id pieces (t ∷ ts)))))) (sym (flushes_of_run store.tables id pieces (t ∷ ts)))

@@ -17,7 +17,7 @@ use Rattle.step_laws.proofs.Elements.{IsIn, all_at, in_front, in_back, contains_
 use Rattle.step_laws.proofs.Deletions.{in_flat}
 use Rattle.step_laws.proofs.FlushTrees.{Rising}
 use Rattle.commit_laws.proofs.Stretches.{Named, InOrder, Stretch, stretch_of, Between, between_of, node_of, node_in_names, run_in, in_runs, all_flushes, both_true}
-use Rattle.commit_laws.proofs.RunTrees.{run_for, run_stands}
+use Rattle.commit_laws.proofs.RunTrees.{run_stands}
 use Rattle.commit_laws.proofs.TreeReads.{before_these}
 use Rattle.commit_laws.proofs.RunRows.{RunFits}
 use Rattle.commit_laws.proofs.OtherJobs.{in_replaced}
@@ -25,6 +25,7 @@ use Rattle.commit_laws.proofs.Segments.{SegmentFits, segment_with_run}
 use Rattle.commit_laws.proofs.StepTrees.{TreesKept, Changes}
 use Rattle.commit_laws.proofs.JobSteps.{RunAt, tree_before}
 use Rattle.commit_laws.proofs.JoinsStand.{in_pieces}
+use Rattle.commit_laws.specs.RunReads.{run_for}
 
 -- ---- the stretch of a step
 

@@ -20,6 +20,7 @@ use Rattle.row_laws.proofs.Merges.{newer_rows_come_first}
 use Rattle.row_laws.proofs.KeyRows.{of_key-append, key_alike}
 use Rattle.row_laws.proofs.Elements.{all_weaken}
 use Rattle.step_laws.proofs.Elements.{all_front, all_back, all_append}
+use Rattle.commit_laws.specs.RunReads.{PartKeepsReads}
 
 -- ---- rows of one key with greater sequences come first
 
@@ -86,12 +87,6 @@ first_node b tables key node tree h =
     ∙ newer_rows_come_first (rows_of_key key (rows_by b tables node)) (rows_of_key key (flat_map (rows_by b tables) tree)) (all_before key (rows_by b tables node) (flat_map (rows_by b tables) tree) (above_tree b tables node tree h))
 
 -- ---- a part of a tree keeps reads
-
--- Each node of a part of a tree keeps reads. The flag says that no node of the tree is older than the part.
-abbrev pub PartKeepsReads : Operator → Store → Bool → Tree → Type 0
-PartKeepsReads merge store oldest [] = ⊤
-PartKeepsReads merge store oldest (node ∷ []) = NodeKeepsReads merge store oldest node
-PartKeepsReads merge store oldest (node ∷ other ∷ tree) = NodeKeepsReads merge store false node × PartKeepsReads merge store oldest (other ∷ tree)
 
 pub tree_to_part : (merge : Operator) (store : Store) (tree : Tree) → TreeKeepsReads merge store tree → PartKeepsReads merge store true tree
 tree_to_part merge store [] h = tt

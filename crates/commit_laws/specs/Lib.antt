@@ -2,4 +2,5 @@ pub mod Behind
 pub mod CommitLaws
 pub mod RunLaws
 pub mod SecondJoins
+pub mod RunReads
 pub mod StepForms

@@ -16,6 +16,7 @@ use Rattle.step_model.specs.Faithful.{Faithful}
 use Rattle.step_model.specs.LawfulManifests.{IsKnownTo, StepsFit, JoinFits}
 use Rattle.step_model.specs.Keeps.{Keeps}
 use Rattle.commit_laws.specs.Behind.{trees_behind, joined_by}
+use Rattle.commit_laws.specs.RunReads.{run_for}
 
 -- One run of these tables stands where the sources stood, with the flushes of all of them. All other
 -- trees are as they were.
@@ -27,7 +28,7 @@ pub record RunReplaces (trees others : Trees) (spec : JobSpec) (pieces : List �
   pub older : Tree
   pub sources : names taken ≡ spec.sources
   pub before : tree_at spec.segment trees ≡ newer ++ (taken ++ older)
-  pub after : tree_at spec.segment others ≡ newer ++ record { name = Run id; flushes = flat_map (λ (node : Node). node.flushes) taken; pieces = pieces } ∷ older
+  pub after : tree_at spec.segment others ≡ newer ++ run_for id pieces taken ∷ older
   pub elsewhere : (prefix : List ℕ) → prefix ≢ spec.segment → tree_at prefix others ≡ tree_at prefix trees
 
 -- The run of a join has the job's rows: all rows that the settings of one claim make of the sources,

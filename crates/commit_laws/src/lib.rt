@@ -6,8 +6,16 @@ ghost use Rattle.row_model.specs.Fold.{IsLawful, Operator};
 ghost use Rattle.step_laws.specs.Runs.{CallsKeep};
 ghost use Rattle.commit_laws.specs.CommitLaws.{CommitsKeep};
 ghost use Rattle.commit_laws.specs.RunLaws.{CoursesKeep};
+ghost use Rattle.commit_laws.specs.RunReads.{RunsKeepReads};
 ghost use Rattle.commit_laws.specs.SecondJoins.{SecondJoinsRest};
 ghost use Rattle.commit_laws.specs.StepForms.{JoinsReplace};
+
+/// A run that a join or a move makes of some nodes answers every read from the horizon and the tick
+/// on as the flushes that went into these nodes, whatever rows are above and below. A last run may
+/// have dropped old tombstones, so no rows may be below it.
+pub fn runs_keep_reads()
+    ensures { (merge : Operator) → IsLawful merge → RunsKeepReads merge }
+{}
 
 /// Commits keep the invariant, if they are lawful and the operator is. A join puts one run of its
 /// job's rows in place of its sources, a move puts the sources' own tables there, and a drain takes
