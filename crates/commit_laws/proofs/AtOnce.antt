@@ -103,40 +103,40 @@ lowest_of trees id [] s there h = all_true_from (λ run. nat_lt run id) (run_ids
 lowest_of trees id (run ∷ ids) s there h = h
 
 -- A move that a commit may take, with its place and its run.
-record NewMove (merge : Operator) (told : Told) (specs : ℕ → JobSpec) (trees : Trees) (horizon : ℕ) (joined : List ℕ) (spec : JobSpec) (id run : ℕ) : Type 0 where
-  body : Body merge told specs
-  midway : Midway merge told trees horizon joined
-  fits : MoveFits told trees joined spec id
-  a : StretchAt trees spec
-  own : Named a.s.tree
-  may : RunMay trees spec run
+pub record NewMove (merge : Operator) (told : Told) (specs : ℕ → JobSpec) (trees : Trees) (horizon : ℕ) (joined : List ℕ) (spec : JobSpec) (id run : ℕ) : Type 0 where
+  pub body : Body merge told specs
+  pub midway : Midway merge told trees horizon joined
+  pub fits : MoveFits told trees joined spec id
+  pub a : StretchAt trees spec
+  pub own : Named a.s.tree
+  pub may : RunMay trees spec run
 
-abbrev move_change : Told → JobSpec → ℕ → List ℕ → Tree → Tree
+abbrev pub move_change : Told → JobSpec → ℕ → List ℕ → Tree → Tree
 move_change told spec id outputs = stepped told.store.tables (Move id) spec outputs
 
-abbrev moved : {merge : Operator} {told : Told} {specs : ℕ → JobSpec} {trees : Trees} {horizon : ℕ} {joined : List ℕ} {spec : JobSpec} {id run : ℕ} → NewMove merge told specs trees horizon joined spec id run → List ℕ
+abbrev pub moved : {merge : Operator} {told : Told} {specs : ℕ → JobSpec} {trees : Trees} {horizon : ℕ} {joined : List ℕ} {spec : JobSpec} {id run : ℕ} → NewMove merge told specs trees horizon joined spec id run → List ℕ
 moved {merge} {told} n = by_first_key told.store.tables (flat_map (λ (node : Node). node.pieces) (n.a.t ∷ n.a.ts))
 
-move_place : {merge : Operator} {told : Told} {specs : ℕ → JobSpec} {trees : Trees} {horizon : ℕ} {joined : List ℕ} {spec : JobSpec} {id run : ℕ} (n : NewMove merge told specs trees horizon joined spec id run)
+pub move_place : {merge : Operator} {told : Told} {specs : ℕ → JobSpec} {trees : Trees} {horizon : ℕ} {joined : List ℕ} {spec : JobSpec} {id run : ℕ} (n : NewMove merge told specs trees horizon joined spec id run)
     → SegmentFits merge (with_horizon told.store horizon) told.store.history n.a.s
 move_place n = all_at _ _ n.a.s n.midway.kept.each n.a.there
 
-move_pieces_same : {merge : Operator} {told : Told} {specs : ℕ → JobSpec} {trees : Trees} {horizon : ℕ} {joined : List ℕ} {spec : JobSpec} {id run : ℕ} (n : NewMove merge told specs trees horizon joined spec id run)
+pub move_pieces_same : {merge : Operator} {told : Told} {specs : ℕ → JobSpec} {trees : Trees} {horizon : ℕ} {joined : List ℕ} {spec : JobSpec} {id run : ℕ} (n : NewMove merge told specs trees horizon joined spec id run)
     → source_pieces spec.sources n.a.s.tree ≡ flat_map (λ (node : Node). node.pieces) (n.a.t ∷ n.a.ts)
 move_pieces_same {merge} {told} {specs} {trees} {horizon} {joined} {spec} n = pieces_of_stretch spec.sources n.a.s.tree (as_stretch trees spec n.a) n.own
 
-makes_move : {merge : Operator} {told : Told} {specs : ℕ → JobSpec} {trees : Trees} {horizon : ℕ} {joined : List ℕ} {spec : JobSpec} {id run : ℕ} (n : NewMove merge told specs trees horizon joined spec id run) (outputs : List ℕ)
+pub makes_move : {merge : Operator} {told : Told} {specs : ℕ → JobSpec} {trees : Trees} {horizon : ℕ} {joined : List ℕ} {spec : JobSpec} {id run : ℕ} (n : NewMove merge told specs trees horizon joined spec id run) (outputs : List ℕ)
     → move_change told spec id outputs n.a.s.tree ≡ with_run_for spec.sources run (moved n) n.a.s.tree
 makes_move {merge} {told} {specs} {trees} {horizon} {joined} {spec} {id} {run} n outputs =
     ap (λ d. to_run (λ i. with_run_for spec.sources i (by_first_key told.store.tables (source_pieces spec.sources n.a.s.tree))) d n.a.s.tree) n.may.to
     ∙ ap (λ ts. with_run_for spec.sources run (by_first_key told.store.tables ts) n.a.s.tree) (move_pieces_same n)
 
-abbrev run_of_move : {merge : Operator} {told : Told} {specs : ℕ → JobSpec} {trees : Trees} {horizon : ℕ} {joined : List ℕ} {spec : JobSpec} {id run : ℕ} (n : NewMove merge told specs trees horizon joined spec id run) (outputs : List ℕ)
+abbrev pub run_of_move : {merge : Operator} {told : Told} {specs : ℕ → JobSpec} {trees : Trees} {horizon : ℕ} {joined : List ℕ} {spec : JobSpec} {id run : ℕ} (n : NewMove merge told specs trees horizon joined spec id run) (outputs : List ℕ)
     → RunAt trees spec run (moved n) (move_change told spec id outputs)
 run_of_move {merge} {told} {specs} {trees} {horizon} {joined} {spec} {id} {run} n outputs =
     run_at trees spec run (moved n) (move_change told spec id outputs) n.a n.midway.kept.rise n.own (in_order told.store.tables n.a.s (move_place n).tree) n.may (makes_move n outputs)
 
-move_taken : {merge : Operator} {told : Told} {specs : ℕ → JobSpec} {trees : Trees} {horizon : ℕ} {joined : List ℕ} {spec : JobSpec} {id run : ℕ} (n : NewMove merge told specs trees horizon joined spec id run) (P : Node → Type 0)
+pub move_taken : {merge : Operator} {told : Told} {specs : ℕ → JobSpec} {trees : Trees} {horizon : ℕ} {joined : List ℕ} {spec : JobSpec} {id run : ℕ} (n : NewMove merge told specs trees horizon joined spec id run) (P : Node → Type 0)
     → AllByRecursion P n.a.s.tree → AllByRecursion P (n.a.t ∷ n.a.ts)
 move_taken n P h = all_taken P n.a.newer (n.a.t ∷ n.a.ts) n.a.older (subst (AllByRecursion P) n.a.whole h)
 
@@ -149,7 +149,7 @@ moved_old : {merge : Operator} {told : Told} {specs : ℕ → JobSpec} {trees : 
 moved_old n t there = all_at (λ u. IsIn u (tree_tables n.a.s)) (moved n) t
     (moved_all n (λ u. IsIn u (tree_tables n.a.s)) (all_from _ n.a.s.tree (λ node one. all_from _ node.pieces (λ u held. in_flat (λ (x : Node). x.pieces) n.a.s.tree node u one held)))) there
 
-move_tables : {merge : Operator} {told : Told} {specs : ℕ → JobSpec} {trees : Trees} {horizon : ℕ} {joined : List ℕ} {spec : JobSpec} {id run : ℕ} (n : NewMove merge told specs trees horizon joined spec id run)
+pub move_tables : {merge : Operator} {told : Told} {specs : ℕ → JobSpec} {trees : Trees} {horizon : ℕ} {joined : List ℕ} {spec : JobSpec} {id run : ℕ} (n : NewMove merge told specs trees horizon joined spec id run)
     → PiecesMay merge (with_horizon told.store horizon) told.store.history trees spec run (moved n) (move_change told spec id []) (run_of_move n [])
 move_tables {merge} {told} {specs} {trees} {horizon} {joined} {spec} {id} {run} n = record {
   held = all_true_from (is_held told.store) (moved n) (moved_all n (λ t. IsTrue (is_held told.store t)) held);
@@ -200,9 +200,10 @@ new_move_keeps {merge} {told} {specs} {trees} {horizon} {joined} {spec} {id} {ru
       }) h) n.midway.jobs;
 }
 
-pub move_keeps : (merge : Operator) (told : Told) (specs : ℕ → JobSpec) (trees : Trees) (horizon : ℕ) (joined : List ℕ) (spec : JobSpec) (id : ℕ) (outputs : List ℕ) → Body merge told specs → MoveFits told trees joined spec id → Midway merge told trees horizon joined
-    → Midway merge told (stepped_in told.store.tables (Move id) spec outputs trees) horizon joined
-move_keeps merge told specs trees horizon joined spec id outputs b fits m = by spec.destination refl fits.kind
+-- The run that a move makes, with its place.
+pub move_found : (merge : Operator) (told : Told) (specs : ℕ → JobSpec) (trees : Trees) (horizon : ℕ) (joined : List ℕ) (spec : JobSpec) (id : ℕ) → Body merge told specs → MoveFits told trees joined spec id → Midway merge told trees horizon joined
+    → (run : ℕ) × NewMove merge told specs trees horizon joined spec id run
+move_found merge told specs trees horizon joined spec id b fits m = by spec.destination refl fits.kind
   where
     g : Gated trees (holding told.store.history joined (stored_jobs told.store)) spec id
     g = gated trees (holding told.store.history joined (stored_jobs told.store)) spec id fits.at_once.gate
@@ -218,22 +219,28 @@ move_keeps merge told specs trees horizon joined spec id outputs b fits m = by s
         let low = ltb-true run run (all_at (λ r. IsTrue (nat_lt r run)) (all_run_ids trees) run (all_true_front (λ r. nat_lt r run) (all_run_ids trees) (subst (λ ids. IsTrue (is_lowest_or_above run ids (all_run_ids trees))) none h)) there) in
         absurd (omega (arith, low))
 
-    by : (d : Option ℕ) → spec.destination ≡ d → is_drain_to d ≡ false → Midway merge told (stepped_in told.store.tables (Move id) spec outputs trees) horizon joined
+    by : (d : Option ℕ) → spec.destination ≡ d → is_drain_to d ≡ false → (run : ℕ) × NewMove merge told specs trees horizon joined spec id run
     by None e k = absurd (cc k)
     by (Some run) e k =
-        let a = stretch_at trees spec g.some (stretch fits.kind g.stretch) in
-        new_move_keeps (record {
-          body = b;
-          midway = m;
-          fits = fits;
-          a = a;
-          own = segment_named merge (with_horizon told.store horizon) told.store.history a.s b.sound.tables (all_at _ trees a.s m.kept.each a.there);
-          may = record {
-            to = e;
-            lowest = subst (λ tree. IsTrue (is_lowest_or_above run (run_ids spec.sources) (run_ids (names tree)))) (sym (tree_before spec.segment trees a.s m.kept.rise a.there a.same)) (lowest_of trees run (run_ids spec.sources) a.s a.there (lowest run e));
-            fresh = λ none there. above run none (lowest run e) there;
-          };
-        })
+        let a = stretch_at trees spec g.some (stretch fits.kind g.stretch) in (
+          run,
+          record {
+            body = b;
+            midway = m;
+            fits = fits;
+            a = a;
+            own = segment_named merge (with_horizon told.store horizon) told.store.history a.s b.sound.tables (all_at _ trees a.s m.kept.each a.there);
+            may = record {
+              to = e;
+              lowest = subst (λ tree. IsTrue (is_lowest_or_above run (run_ids spec.sources) (run_ids (names tree)))) (sym (tree_before spec.segment trees a.s m.kept.rise a.there a.same)) (lowest_of trees run (run_ids spec.sources) a.s a.there (lowest run e));
+              fresh = λ none there. above run none (lowest run e) there;
+            };
+          },
+        )
+
+pub move_keeps : (merge : Operator) (told : Told) (specs : ℕ → JobSpec) (trees : Trees) (horizon : ℕ) (joined : List ℕ) (spec : JobSpec) (id : ℕ) (outputs : List ℕ) → Body merge told specs → MoveFits told trees joined spec id → Midway merge told trees horizon joined
+    → Midway merge told (stepped_in told.store.tables (Move id) spec outputs trees) horizon joined
+move_keeps merge told specs trees horizon joined spec id outputs b fits m = new_move_keeps (move_found merge told specs trees horizon joined spec id b fits m).1
 
 -- ---- drains
 

@@ -1,6 +1,6 @@
 -- The rows of a run that a join or a move makes of some nodes: they have only sequences of these nodes, are in order, and keep reads.
 use Rattle.std.proofs.Common.{◌≡◌, refl, sym, ◌∙◌, ap, subst, ℕ, ◌<◌, ◌≤◌, List, [], ◌∷◌, ◌++◌, cond, Bool, true, inl, inr, arith}
-use Rattle.std.specs.Prelude.{◌≢◌, flat_map, bytes_eq, filter, IsTrue, int_le}
+use Rattle.std.specs.Prelude.{◌≢◌, flat_map, bytes_eq, filter}
 use Rattle.std.specs.List.{AllByRecursion}
 use Rattle.std.specs.List.Sorted.{IsStrictlySortedBy}
 use Rattle.std.specs.declared.cmp.Ordering.{Ordering}
@@ -15,7 +15,7 @@ use Rattle.row_model.specs.Settings.{Settings}
 use Rattle.row_model.specs.JobRows.{job_rows}
 use Rattle.fleet_model.specs.Nodes.{Tables, table_rows, Node, Tree, node_rows, flushed_node_rows}
 use Rattle.fleet_model.specs.Store.{Store}
-use Rattle.fleet_model.specs.Attempts.{source_rows, noted_rows}
+use Rattle.fleet_model.specs.Attempts.{source_rows}
 use Rattle.fleet_model.specs.TreesFit.{IsNewer, node_and_flushed_rows}
 use Rattle.fleet_model.specs.ReadsFit.{SameReads}
 use Rattle.row_laws.specs.Parts.{HasPlace}

@@ -1,15 +1,16 @@
 -- A join replaces its sources by one run of its job's rows.
-use Rattle.std.proofs.Common.{◌≡◌, refl, sym, ◌∙◌, ap, subst, ℕ, List, [], ◌∷◌, cond, true, false, Option, Some, None}
-use Rattle.std.specs.Prelude.{map, bytes_eq, option_map}
+use Rattle.std.proofs.Common.{◌≡◌, refl, sym, ◌∙◌, ap, subst, ℕ, List, [], ◌∷◌, ◌++◌, cond, true, false, Option, Some, None}
+use Rattle.std.specs.Prelude.{flat_map, map, bytes_eq, option_map}
 use Rattle.std.specs.List.{concat}
 use Rattle.std.proofs.lemmas.Slice.Eq.{bytes_eq-Decides}
 use Rattle.row_model.specs.Fold.{Operator, IsLawful}
 use Rattle.row_model.specs.JobRows.{job_rows}
-use Rattle.fleet_model.specs.Nodes.{NodeName, Tree, Segment, Trees, segment_at, tree_at, tree_or_empty}
+use Rattle.fleet_model.specs.Nodes.{Node, table_rows, NodeName, Tree, Segment, Trees, segment_at, tree_at, tree_or_empty}
 use Rattle.fleet_model.specs.Jobs.{JobSpec, Job, contains}
 use Rattle.fleet_model.specs.Attempts.{noted_rows, source_rows}
 use Rattle.fleet_model.specs.Store.{stored_jobs}
-use Rattle.fleet_model.specs.Trees.{on_segment}
+use Rattle.fleet_model.specs.History.{Move}
+use Rattle.fleet_model.specs.Trees.{on_segment, stepped_in, by_first_key, source_pieces, tables_now}
 use Rattle.fleet_model.specs.JobsFit.{SourcesStand, DestinationFits, was_joined}
 use Rattle.step_model.specs.Past.{Told}
 use Rattle.step_laws.proofs.Elements.{IsIn, all_at}
@@ -17,8 +18,15 @@ use Rattle.step_laws.proofs.Bodies.{Body, JobKept, whole_of}
 use Rattle.step_laws.proofs.Alike.{replays_alike, settings_same}
 use Rattle.step_laws.proofs.FlushTrees.{Rising}
 use Rattle.commit_laws.specs.Behind.{trees_behind, joined_by}
-use Rattle.commit_laws.specs.StepForms.{RunReplaces, JoinReplaces, JoinsReplace}
-use Rattle.commit_laws.proofs.Stretches.{other_or}
+use Rattle.row_model.specs.Lists.{Pairs}
+use Rattle.fleet_model.specs.TreesFit.{IsNewer}
+use Rattle.row_laws.specs.Merges.{AreApart}
+use Rattle.row_laws.proofs.Merges.{ordered_stay}
+use Rattle.commit_laws.specs.StepForms.{RunReplaces, JoinReplaces, JoinsReplace, MoveReplaces, MovesReplace}
+use Rattle.commit_laws.proofs.AtOnce.{NewMove, move_found, moved, move_change, run_of_move, move_tables, move_pieces_same, move_place, move_taken}
+use Rattle.commit_laws.proofs.MoveRows.{first_key_sorted}
+use Rattle.commit_laws.proofs.RunRows.{rows_of_pieces, nodes_apart}
+use Rattle.commit_laws.proofs.Stretches.{other_or, pairs_first, pairs_second}
 use Rattle.commit_laws.proofs.StepTrees.{changed_segment, segment_on}
 use Rattle.commit_laws.proofs.JobSteps.{JobHolds, RunAt, tree_here, tree_before}
 use Rattle.commit_laws.proofs.Steps.{found_there}
@@ -88,3 +96,26 @@ joins_replace merge lawful told party specs first id k known fits join new = by 
     by : (d : Option ℕ) → join.job.spec.destination ≡ d → DestinationFits (trees_behind told specs first) (tree_at join.job.spec.segment (trees_behind told specs first)) join.job.spec.sources d → JoinReplaces merge told (trees_behind told specs first) join.job
     by None to h = absurd h
     by (Some run) to h = join_replaces (new_join join.job run b m found.0 join.finished once unjoined stood stands to h)
+
+-- ---- moves
+
+move_replaces : {merge : Operator} {told : Told} {specs : ℕ → JobSpec} {trees : Trees} {horizon : ℕ} {joined : List ℕ} {spec : JobSpec} {id run : ℕ} (n : NewMove merge told specs trees horizon joined spec id run) (outputs : List ℕ) → MoveReplaces told trees spec id outputs
+move_replaces {merge} {told} {specs} {trees} {horizon} {joined} {spec} {id} {run} n outputs = record {
+  run = subst (λ pieces. RunReplaces trees (stepped_in told.store.tables (Move id) spec outputs trees) spec pieces) (ap (by_first_key told.store.tables) same) (replaced_by trees spec run (moved n) (move_change told spec id outputs) (run_of_move n outputs) n.midway.kept.rise);
+  rows = subst (λ pieces. noted_rows told.store.tables (by_first_key told.store.tables pieces) ≡ source_rows told.store.tables pieces) same
+      (sym (ordered_stay (noted_rows told.store.tables (moved n)) (move_tables n).fits.ordered) ∙ first_key_sorted told.store.tables (flat_map (λ (node : Node). node.pieces) (n.a.t ∷ n.a.ts)) apart);
+}
+  where
+    same : flat_map (λ (node : Node). node.pieces) (n.a.t ∷ n.a.ts) ≡ tables_now trees spec
+    same = sym (ap (source_pieces spec.sources) (tree_before spec.segment trees n.a.s n.midway.kept.rise n.a.there n.a.same) ∙ move_pieces_same n)
+
+    apart : AreApart (flat_map (table_rows told.store.tables) (flat_map (λ (node : Node). node.pieces) (n.a.t ∷ n.a.ts)))
+    apart = subst AreApart (sym (rows_of_pieces told.store.tables (n.a.t ∷ n.a.ts))) (nodes_apart told.store.tables (n.a.t ∷ n.a.ts)
+        (pairs_first (IsNewer told.store.tables) (n.a.t ∷ n.a.ts) n.a.older (pairs_second (IsNewer told.store.tables) n.a.newer ((n.a.t ∷ n.a.ts) ++ n.a.older) (subst (Pairs (IsNewer told.store.tables)) n.a.whole (move_place n).tree.newest_first)))
+        (move_taken n _ (move_place n).tree.ordered))
+
+pub moves_replace : (merge : Operator) → IsLawful merge → MovesReplace merge
+moves_replace merge lawful told party specs first id outputs k known fits move =
+    let b = (whole_of merge told k).body in
+    let m = steps_keep merge told party k.stored.replay.specs specs told.store.manifest.trees told.store.manifest.horizon [] first lawful b known fits (start merge told k.stored.replay.specs b) in
+    move_replaces (move_found merge told k.stored.replay.specs (trees_behind told specs first) (horizon_of told first) (joined_by first []) (specs id) id b move m).1 outputs

@@ -1,6 +1,6 @@
 -- Reads over the nodes of a part of a tree, and of trees in parts.
 use Rattle.std.proofs.Common.{◌≡◌, refl, sym, ◌∙◌, ap, subst, ℕ, ◌<◌, ◌≤◌, List, [], ◌∷◌, ◌++◌, cond, Bool, true, false, arith}
-use Rattle.std.specs.Prelude.{flat_map, bytes_eq, filter, ⊤}
+use Rattle.std.specs.Prelude.{flat_map, bytes_eq, filter}
 use Rattle.std.specs.List.{AllByRecursion}
 use Rattle.std.specs.declared.cmp.Ordering.TheVariants.{Less, Equal}
 use Rattle.std.specs.Ordering.{nat_cmp, ordering_then}

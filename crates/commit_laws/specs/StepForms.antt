@@ -4,16 +4,16 @@ use Rattle.std.specs.List.{AllByRecursion, concat}
 use Rattle.row_model.specs.Fold.{Operator}
 use Rattle.row_model.specs.Settings.{Settings}
 use Rattle.row_model.specs.JobRows.{job_rows}
-use Rattle.fleet_model.specs.Nodes.{Run, Node, Tree, Trees, names, tree_at}
+use Rattle.fleet_model.specs.Nodes.{Node, Tree, Trees, names, tree_at}
 use Rattle.fleet_model.specs.Jobs.{JobSpec, Job}
-use Rattle.fleet_model.specs.History.{Party, Step, Join}
+use Rattle.fleet_model.specs.History.{Party, Step, Join, Move}
 use Rattle.fleet_model.specs.Attempts.{noted_rows, source_rows}
 use Rattle.fleet_model.specs.Claimed.{settings_of, without_cut}
-use Rattle.fleet_model.specs.Trees.{stepped_in, job_of}
+use Rattle.fleet_model.specs.Trees.{stepped_in, job_of, by_first_key, tables_now}
 use Rattle.fleet_model.specs.JobsFit.{cut_or, was_joined}
 use Rattle.step_model.specs.Past.{Told}
 use Rattle.step_model.specs.Faithful.{Faithful}
-use Rattle.step_model.specs.LawfulManifests.{IsKnownTo, StepsFit, JoinFits}
+use Rattle.step_model.specs.LawfulManifests.{IsKnownTo, StepsFit, JoinFits, MoveFits}
 use Rattle.step_model.specs.Keeps.{Keeps}
 use Rattle.commit_laws.specs.Behind.{trees_behind, joined_by}
 use Rattle.commit_laws.specs.RunReads.{run_for}
@@ -48,3 +48,19 @@ JoinsReplace merge = (told : Told) (party : Party) (specs : ℕ → JobSpec) (fi
     → AllByRecursion (λ step. IsKnownTo party told specs (job_of step)) first → StepsFit told specs told.store.manifest.trees [] first
     → (fits : JoinFits told (trees_behind told specs first) (joined_by first []) id) → was_joined told.store.history id ≡ false
     → JoinReplaces merge told (trees_behind told specs first) fits.job
+
+-- The tables of the sources, in the order of their first keys.
+abbrev pub tables_in_order : Told → Trees → JobSpec → List ℕ
+tables_in_order told trees spec = by_first_key told.store.tables (tables_now trees spec)
+
+-- The run of a move has the sources' own tables. One after the other, these hold the sources' rows in
+-- order.
+pub record MoveReplaces (told : Told) (trees : Trees) (spec : JobSpec) (id : ℕ) (outputs : List ℕ) : Type 0 where
+  pub run : RunReplaces trees (stepped_in told.store.tables (Move id) spec outputs trees) spec (tables_in_order told trees spec)
+  pub rows : noted_rows told.store.tables (tables_in_order told trees spec) ≡ source_rows told.store.tables (tables_now trees spec)
+
+-- A move of a commit, be it behind other steps, replaces the sources by a run of their own tables.
+abbrev pub MovesReplace : Operator → Type 0
+MovesReplace merge = (told : Told) (party : Party) (specs : ℕ → JobSpec) (first : List Step) (id : ℕ) (outputs : List ℕ) → Keeps merge told
+    → AllByRecursion (λ step. IsKnownTo party told specs (job_of step)) first → StepsFit told specs told.store.manifest.trees [] first
+    → MoveFits told (trees_behind told specs first) (joined_by first []) (specs id) id → MoveReplaces told (trees_behind told specs first) (specs id) id outputs

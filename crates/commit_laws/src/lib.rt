@@ -8,7 +8,7 @@ ghost use Rattle.commit_laws.specs.CommitLaws.{CommitsKeep};
 ghost use Rattle.commit_laws.specs.RunLaws.{CoursesKeep};
 ghost use Rattle.commit_laws.specs.RunReads.{RunsKeepReads};
 ghost use Rattle.commit_laws.specs.SecondJoins.{SecondJoinsRest};
-ghost use Rattle.commit_laws.specs.StepForms.{JoinsReplace};
+ghost use Rattle.commit_laws.specs.StepForms.{JoinsReplace, MovesReplace};
 
 /// A run that a join or a move makes of some nodes answers every read from the horizon and the tick
 /// on as the flushes that went into these nodes, whatever rows are above and below. A last run may
@@ -40,6 +40,12 @@ pub fn courses_keep()
 /// make of the sources' tables, and the flushes of all sources. All other trees stay as they are.
 pub fn joins_replace()
     ensures { (merge : Operator) → IsLawful merge → JoinsReplace merge }
+{}
+
+/// A move puts one run in place of its sources. The run has the sources' own tables in the order of
+/// their first keys, and so the sources' rows in order. All other trees stay as they are.
+pub fn moves_replace()
+    ensures { (merge : Operator) → IsLawful merge → MovesReplace merge }
 {}
 
 /// A second join of a job whose join took effect changes no tree, under a lawful operator and where
