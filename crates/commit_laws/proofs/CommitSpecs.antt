@@ -1,23 +1,23 @@
 -- The specs by which a commit is replayed: those of the stored replay, and the commit's own for jobs that no entry mentions.
-use Rattle.std.proofs.Common.{◌≡◌, refl, sym, ◌∙◌, ap, subst, ℕ, ◌+◌, List, [], ◌∷◌, cond, Bool, true, false, Option, Some, None}
-use Rattle.std.specs.Prelude.{IsTrue, map, option_map, if◌then◌else◌}
+use Rattle.std.proofs.Common.{◌≡◌, refl, sym, ◌∙◌, ap, subst, ℕ, ◌+◌, List, [], ◌∷◌, cond, Bool, true, false, Some}
+use Rattle.std.specs.Prelude.{map, option_map, if◌then◌else◌}
 use Rattle.std.specs.List.{AllByRecursion}
 use Rattle.row_model.specs.Fold.{Operator}
 use Rattle.fleet_model.specs.Nodes.{Tables}
-use Rattle.fleet_model.specs.Jobs.{JobSpec, Job, job_with, contains}
+use Rattle.fleet_model.specs.Jobs.{JobSpec, contains}
 use Rattle.fleet_model.specs.History.{Party, Event, Entry, PutManifest, PutRecords, ManifestEpoch, Flush, Commit, Step, stood}
 use Rattle.fleet_model.specs.Records.{firsts}
 use Rattle.fleet_model.specs.Store.{stored_jobs, fresh_store}
 use Rattle.fleet_model.specs.Replay.{Objects, outputs_in, named_specs, after_event, after_entry, replayed, plain_objects, plain_manifest}
 use Rattle.fleet_model.specs.Trees.{job_of}
 use Rattle.step_model.specs.Past.{Told, manifest_with}
-use Rattle.step_model.specs.Entries.{steps_in, mentioned_in, is_mentioned, drew_job}
+use Rattle.step_model.specs.Entries.{steps_in, mentioned_in, is_mentioned}
 use Rattle.step_model.specs.Faithful.{Faithful, AgreesWith}
 use Rattle.step_model.specs.LawfulManifests.{IsKnownTo}
 use Rattle.step_laws.proofs.Elements.{all_at, all_from, all_to, all_front, all_back, any_of, in_contains}
 use Rattle.step_laws.proofs.Bodies.{Body, JobKept}
 use Rattle.commit_laws.proofs.CommitSteps.{stepped_same}
-use Rattle.commit_laws.proofs.Midway.{found_job}
+use Rattle.commit_laws.proofs.Midway.{KnownCase, Stored, New, known_case}
 
 -- The specs with a commit's own for jobs that no entry mentions.
 abbrev pub with_own : List Entry → (ℕ → JobSpec) → (ℕ → JobSpec) → ℕ → JobSpec
@@ -75,15 +75,9 @@ faithful_own told specs own f = record {
 
 -- Each step's spec is that of the replay.
 pub own_spec : (merge : Operator) (told : Told) (party : Party) (specs own : ℕ → JobSpec) (id : ℕ) → Body merge told specs → Faithful told (with_own told.store.history specs own) → IsKnownTo party told own id → with_own told.store.history specs own id ≡ own id
-own_spec merge told party specs own id b f known = at (job_with id (stored_jobs told.store)) refl known
+own_spec merge told party specs own id b f known = by (known_case party told own id known)
   where
-    Known : Option Job → Type 0
-    Known None = IsTrue (drew_job party told.store.history id) × (is_mentioned told.store.history id ≡ false)
-    Known (Some job) = own id ≡ job.spec
-
-    at : (o : Option Job) → job_with id (stored_jobs told.store) ≡ o → Known o → with_own told.store.history specs own id ≡ own id
-    at None e k = ap (λ b. cond b (specs id) (own id)) k.1
-    at (Some job) e k =
-        let found = found_job id (stored_jobs told.store) job e in
-        let kept = all_at (JobKept merge told specs) (stored_jobs told.store) job b.jobs found.0 in
-        subst (λ n. with_own told.store.history specs own n ≡ own id) (sym found.1) (kept.spec (with_own told.store.history specs own) f ∙ sym k)
+    by : KnownCase party told own id → with_own told.store.history specs own id ≡ own id
+    by (Stored job there found same is) =
+        subst (λ n. with_own told.store.history specs own n ≡ own id) (sym same) ((all_at (JobKept merge told specs) (stored_jobs told.store) job b.jobs there).spec (with_own told.store.history specs own) f ∙ sym is)
+    by (New none drew unmentioned) = ap (λ b. cond b (specs id) (own id)) unmentioned

@@ -12,13 +12,12 @@ use Rattle.fleet_model.specs.Replay.{outputs_in, outputs_of, plain_job, plain_re
 use Rattle.fleet_model.specs.Trees.{stepped_in, stepped_all, horizon_after, horizon_after_all, job_of}
 use Rattle.fleet_model.specs.JobsFit.{is_join_of}
 use Rattle.step_model.specs.Past.{Told}
-use Rattle.step_model.specs.Entries.{drew_job, is_mentioned}
 use Rattle.step_model.specs.LawfulManifests.{StepsFit, StepFits, joined_after, IsKnownTo, cut_of}
 use Rattle.step_model.specs.JoinsKept.{join_of}
 use Rattle.commit_laws.specs.Behind.{joined_by}
 use Rattle.step_laws.proofs.Bodies.{Body}
 use Rattle.commit_laws.proofs.Stretches.{never_both}
-use Rattle.commit_laws.proofs.Midway.{Midway}
+use Rattle.commit_laws.proofs.Midway.{Midway, KnownCase, Stored, New, known_case}
 use Rattle.commit_laws.proofs.Joins.{join_keeps}
 use Rattle.commit_laws.proofs.AtOnce.{move_keeps, drain_keeps}
 
@@ -29,18 +28,17 @@ outputs_stored None id job e = absurd (cc e)
 outputs_stored (Some records) id job e = ap outputs_of e
 
 known_spec : (party : Party) (told : Told) (own : ℕ → JobSpec) (id : ℕ) (job : Job) → job_with id (stored_jobs told.store) ≡ Some job → IsKnownTo party told own id → own id ≡ job.spec
-known_spec party told own id job e known = at (job_with id (stored_jobs told.store)) e known
+known_spec party told own id job e known = by (known_case party told own id known)
   where
     same_some : (x : Job) → Some x ≡ Some job → x ≡ job
     same_some x e = cc e
 
-    Known : Option Job → Type 0
-    Known None = IsTrue (drew_job party told.store.history id) × (is_mentioned told.store.history id ≡ false)
-    Known (Some x) = own id ≡ x.spec
-
-    at : (o : Option Job) → o ≡ Some job → Known o → own id ≡ job.spec
-    at None e k = absurd (cc e)
-    at (Some x) e k = k ∙ ap (λ (j : Job). j.spec) (same_some x e)
+    by : KnownCase party told own id → own id ≡ job.spec
+    by (Stored x there found same is) = is ∙ ap (λ (j : Job). j.spec) (same_some x (sym found ∙ e))
+    by (New none drew unmentioned) = absurd (clash (sym none ∙ e))
+      where
+        clash : None ≡ Some job → ⊥
+        clash f = absurd (cc f)
 
 -- ---- one step, and all
 

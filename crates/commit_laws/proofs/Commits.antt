@@ -5,7 +5,7 @@ use Rattle.std.specs.List.{AllByRecursion}
 use Rattle.std.proofs.lemmas.Bool.{le-leb}
 use Rattle.row_model.specs.Fold.{Operator, IsLawful}
 use Rattle.fleet_model.specs.Nodes.{Node, Segment, names}
-use Rattle.fleet_model.specs.Jobs.{JobSpec, Job, job_with, contains}
+use Rattle.fleet_model.specs.Jobs.{JobSpec, contains}
 use Rattle.fleet_model.specs.Handles.{tree_tables}
 use Rattle.fleet_model.specs.History.{Party, Entry, Answer, Step, PutManifest, Commit, stood}
 use Rattle.fleet_model.specs.Records.{firsts}
@@ -14,7 +14,7 @@ use Rattle.fleet_model.specs.Replay.{Objects, outputs_in, named_specs, after_eve
 use Rattle.fleet_model.specs.Trees.{job_of}
 use Rattle.fleet_model.specs.ReadsFit.{TreeKeepsReads}
 use Rattle.step_model.specs.Past.{Told, manifest_with}
-use Rattle.step_model.specs.Entries.{drawn_jobs, mentioned_in, planned_attempts, attempts_in, claims_in, epoch_in, drew_job, is_mentioned, was_named}
+use Rattle.step_model.specs.Entries.{drawn_jobs, mentioned_in, planned_attempts, attempts_in, claims_in, epoch_in, was_named}
 use Rattle.step_model.specs.Faithful.{Faithful}
 use Rattle.step_model.specs.LawfulManifests.{IsKnownTo, StepsFit}
 use Rattle.step_model.specs.TablesKept.{IsKnownPiece, IsFlush, IsPassed}
@@ -36,7 +36,7 @@ use Rattle.commit_laws.specs.CommitLaws.{CommitsKeep}
 use Rattle.commit_laws.proofs.Stretches.{never_both}
 use Rattle.commit_laws.proofs.TreeReads.{with_horizon}
 use Rattle.commit_laws.proofs.JobSteps.{JobHolds}
-use Rattle.commit_laws.proofs.Midway.{Midway, found_job}
+use Rattle.commit_laws.proofs.Midway.{Midway, found_job, KnownCase, Stored, New, known_case}
 use Rattle.commit_laws.proofs.CommitSteps.{steps_keep, joins_compacted, IsCompacted, outputs_plain, stepped_same}
 use Rattle.commit_laws.proofs.CommitSpecs.{with_own, faithful_own, own_spec}
 use Rattle.commit_laws.proofs.CommitJobs.{entry_of, trees_of, horizon_of, manifest_of, CommitCase, job_kept}
@@ -126,17 +126,11 @@ was_mentioned merge told specs b id named =
     first false b e = absurd (cc e)
 
 known_drawn : (merge : Operator) (told : Told) (specs own : ℕ → JobSpec) (party : Party) (id : ℕ) → Body merge told specs → IsKnownTo party told own id → IsTrue (contains (drawn_jobs told.store.history) id)
-known_drawn merge told specs own party id b known = at (job_with id (stored_jobs told.store)) refl known
+known_drawn merge told specs own party id b known = by (known_case party told own id known)
   where
-    Known : Option Job → Type 0
-    Known None = IsTrue (drew_job party told.store.history id) × (is_mentioned told.store.history id ≡ false)
-    Known (Some job) = own id ≡ job.spec
-
-    at : (o : Option Job) → job_with id (stored_jobs told.store) ≡ o → Known o → IsTrue (contains (drawn_jobs told.store.history) id)
-    at None e k = drew_drawn party told.store.history id k.0
-    at (Some job) e k =
-        let found = found_job id (stored_jobs told.store) job e in
-        subst (λ n. IsTrue (contains (drawn_jobs told.store.history) n)) (sym found.1) (was_mentioned merge told specs b job.id (all_at (JobKept merge told specs) (stored_jobs told.store) job b.jobs found.0).facts.named)
+    by : KnownCase party told own id → IsTrue (contains (drawn_jobs told.store.history) id)
+    by (Stored job there found same is) = subst (λ n. IsTrue (contains (drawn_jobs told.store.history) n)) (sym same) (was_mentioned merge told specs b job.id (all_at (JobKept merge told specs) (stored_jobs told.store) job b.jobs there).facts.named)
+    by (New none drew unmentioned) = drew_drawn party told.store.history id drew
 
 all_mapped : (P : ℕ → Type 0) (steps : List Step) → AllByRecursion (λ step. P (job_of step)) steps → AllByRecursion P (map job_of steps)
 all_mapped P [] h = tt

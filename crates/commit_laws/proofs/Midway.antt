@@ -1,15 +1,18 @@
 -- What is kept in the midst of a commit, and how a step that puts a run keeps it.
-use Rattle.std.proofs.Common.{◌≡◌, refl, sym, ◌∙◌, ap, subst, ℕ, ◌<◌, List, [], ◌∷◌, cond, Bool, true, false, inl, inr, ◌⊎◌, Some, arith}
+use Rattle.std.proofs.Common.{Option, None, ◌≡◌, refl, sym, ◌∙◌, ap, subst, ℕ, ◌<◌, List, [], ◌∷◌, cond, Bool, true, false, inl, inr, ◌⊎◌, Some, arith}
 use Rattle.std.specs.Prelude.{IsTrue, ◌==◌}
 use Rattle.std.specs.List.{AllByRecursion}
 use Rattle.std.proofs.lemmas.Bool.Decides.{Decides-eqb}
 use Rattle.row_model.specs.Lists.{Pairs}
 use Rattle.row_model.specs.Fold.{Operator}
 use Rattle.fleet_model.specs.Nodes.{Trees, NodeName}
-use Rattle.fleet_model.specs.Jobs.{Job, Jobs, job_with}
+use Rattle.fleet_model.specs.Jobs.{JobSpec, Job, Jobs, job_with}
 use Rattle.fleet_model.specs.Sources.{is_apart}
 use Rattle.fleet_model.specs.Store.{stored_jobs}
+use Rattle.fleet_model.specs.History.{Party}
 use Rattle.step_model.specs.Past.{Told}
+use Rattle.step_model.specs.Entries.{drew_job, is_mentioned}
+use Rattle.step_model.specs.LawfulManifests.{IsKnownTo}
 use Rattle.step_laws.proofs.Elements.{IsIn, all_at}
 use Rattle.commit_laws.proofs.TreeReads.{with_horizon}
 use Rattle.commit_laws.proofs.StepTrees.{TreesKept, names_apart_from, names_apart_at}
@@ -51,3 +54,21 @@ only_job (z ∷ jobs) x y h (inl a) (inl b) same = sym a ∙ b
 only_job (z ∷ jobs) x y h (inl a) (inr b) same = let low = all_at (λ (w : Job). z.id < w.id) jobs y h.0 b in let is = ap (λ (j : Job). j.id) a in absurd (omega (arith, low, is, same))
 only_job (z ∷ jobs) x y h (inr a) (inl b) same = let low = all_at (λ (w : Job). z.id < w.id) jobs x h.0 a in let is = ap (λ (j : Job). j.id) b in absurd (omega (arith, low, is, same))
 only_job (z ∷ jobs) x y h (inr a) (inr b) same = only_job jobs x y h.1 a b same
+
+-- ---- the jobs that a commit does
+
+-- A job that a commit does is stored with its spec, or the party drew its id and no entry mentions it.
+pub data KnownCase (party : Party) (told : Told) (own : ℕ → JobSpec) (id : ℕ) : Type 0 where
+  Stored : (job : Job) → IsIn job (stored_jobs told.store) → job_with id (stored_jobs told.store) ≡ Some job → id ≡ job.id → own id ≡ job.spec → KnownCase party told own id
+  New : job_with id (stored_jobs told.store) ≡ None → IsTrue (drew_job party told.store.history id) → is_mentioned told.store.history id ≡ false → KnownCase party told own id
+
+pub known_case : (party : Party) (told : Told) (own : ℕ → JobSpec) (id : ℕ) → IsKnownTo party told own id → KnownCase party told own id
+known_case party told own id known = at (job_with id (stored_jobs told.store)) refl known
+  where
+    Known : Option Job → Type 0
+    Known None = IsTrue (drew_job party told.store.history id) × (is_mentioned told.store.history id ≡ false)
+    Known (Some job) = own id ≡ job.spec
+
+    at : (o : Option Job) → job_with id (stored_jobs told.store) ≡ o → Known o → KnownCase party told own id
+    at None e k = New e k.0 k.1
+    at (Some job) e k = let found = found_job id (stored_jobs told.store) job e in Stored job found.0 e found.1 k

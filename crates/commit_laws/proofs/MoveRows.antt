@@ -21,15 +21,12 @@ use Rattle.row_laws.proofs.Order.{row_total}
 use Rattle.row_laws.proofs.KeyRows.{exact}
 use Rattle.row_laws.proofs.ApartRows.{lt_is}
 use Rattle.step_laws.proofs.Elements.{all_to, all_front, all_back, all_append, all_flat, all_unflat}
-use Rattle.commit_laws.proofs.Stretches.{pairs_second, pairs_across}
+use Rattle.commit_laws.proofs.Stretches.{never_both, pairs_second, pairs_across}
 use Rattle.commit_laws.proofs.TreeReads.{part_rows}
 use Rattle.commit_laws.proofs.RunRows.{RunFits, nodes_apart, rows_of_pieces, flushes_of_run, held_rows, flush_rows, sorted_of_key}
 use Rattle.commit_laws.specs.RunReads.{run_for, AreTables}
 
 -- ---- rows may be inserted in any order
-
-less_lt : (r q : Row) → row_cmp r q ≡ Less → is_lt (row_cmp r q) ≡ true
-less_lt r q e = ap is_lt e
 
 -- A row that is before another is not after it.
 not_after : (r q : Row) → is_lt (row_cmp r q) ≡ true → is_lt (row_cmp q r) ≡ false
@@ -46,9 +43,6 @@ is_after r q apart e = ap is_lt (row_total.antisymm q r ∙ by (row_cmp r q) ref
 
 lt_trans : (a b c : Row) → is_lt (row_cmp a b) ≡ true → is_lt (row_cmp b c) ≡ true → is_lt (row_cmp a c) ≡ true
 lt_trans a b c e f = ap is_lt (row_total.trans a b c (lt_is (row_cmp a b) e) (lt_is (row_cmp b c) f))
-
-bool_never : (b : Bool) → b ≡ true → b ≡ false → ⊥
-bool_never b e f = absurd (cc (e, f))
 
 pub insert_swap : (r q : Row) (rows : List Row) → row_cmp r q ≢ Equal → insert_row r (insert_row q rows) ≡ insert_row q (insert_row r rows)
 insert_swap r q [] apart = by (is_lt (row_cmp r q)) refl
@@ -69,11 +63,11 @@ insert_swap r q (x ∷ rows) apart = by (is_lt (row_cmp r x)) refl (is_lt (row_c
     two false e f g = later r q e (x ∷ rows) ∙ ap (λ zs. q ∷ zs) (front r x f rows) ∙ sym (front q r (is_after r q apart e) (x ∷ rows))
 
     one : (b : Bool) → is_lt (row_cmp q r) ≡ b → is_lt (row_cmp r x) ≡ true → is_lt (row_cmp q x) ≡ false → insert_row r (x ∷ insert_row q rows) ≡ insert_row q (r ∷ x ∷ rows)
-    one true e f g = absurd (bool_never (is_lt (row_cmp q x)) (lt_trans q r x e f) g)
+    one true e f g = absurd (never_both (is_lt (row_cmp q x)) (lt_trans q r x e f) g)
     one false e f g = front r x f (insert_row q rows) ∙ sym (later q r e (x ∷ rows) ∙ ap (λ zs. r ∷ zs) (later q x g rows))
 
     other : (b : Bool) → is_lt (row_cmp r q) ≡ b → is_lt (row_cmp r x) ≡ false → is_lt (row_cmp q x) ≡ true → insert_row r (q ∷ x ∷ rows) ≡ insert_row q (x ∷ insert_row r rows)
-    other true e f g = absurd (bool_never (is_lt (row_cmp r x)) (lt_trans r q x e g) f)
+    other true e f g = absurd (never_both (is_lt (row_cmp r x)) (lt_trans r q x e g) f)
     other false e f g = later r q e (x ∷ rows) ∙ ap (λ zs. q ∷ zs) (later r x f rows) ∙ sym (front q x g (insert_row r rows))
 
     by : (b : Bool) → is_lt (row_cmp r x) ≡ b → (c : Bool) → is_lt (row_cmp q x) ≡ c → insert_row r (insert_row q rows) ≡ insert_row q (insert_row r rows)
@@ -183,11 +177,6 @@ and_parts : (a b : Bool) → IsTrue (a && b) → (a ≡ true) × IsTrue b
 and_parts true b h = (refl, h)
 and_parts false b h = absurd (cc h)
 
-lt_less : (o : Ordering) → is_lt o ≡ true → o ≡ Less
-lt_less Less e = refl
-lt_less Equal e = absurd (cc e)
-lt_less Greater e = absurd (cc e)
-
 ordered_append : (xs ys : List Row) → IsStrictlyOrdered xs → IsStrictlyOrdered ys → AllByRecursion (λ x. AllByRecursion (λ y. row_cmp x y ≡ Less) ys) xs → IsStrictlyOrdered (xs ++ ys)
 unfolding IsStrictlySortedBy
 ordered_append [] ys h k across = k
@@ -200,7 +189,7 @@ from_first_table tables a (b ∷ pieces) h apart =
     let parts = and_parts (is_lt (key_cmp (last_key [] (table_rows tables a)) (first_key (table_rows tables b)))) (are_apart tables (b ∷ pieces)) apart in
     let rest = from_first_table tables b pieces h.1 parts.1 in
     all_append _ (table_rows tables a) (rows_of tables (b ∷ pieces)) (from_first (table_rows tables a) h.0.1)
-    (all_to _ _ (rows_of tables (b ∷ pieces)) (λ r there from. inr (between_keys (first_key (table_rows tables a)) (last_key [] (table_rows tables a)) (first_key (table_rows tables b)) r.key (first_last (table_rows tables a) h.0.0 h.0.1) (lt_less _ parts.0) from)) rest)
+    (all_to _ _ (rows_of tables (b ∷ pieces)) (λ r there from. inr (between_keys (first_key (table_rows tables a)) (last_key [] (table_rows tables a)) (first_key (table_rows tables b)) r.key (first_last (table_rows tables a) h.0.0 h.0.1) (lt_is _ parts.0) from)) rest)
   where
     first_last : (rows : List Row) → rows ≢ [] → IsStrictlyOrdered rows → UpTo (first_key rows) (last_key [] rows)
     first_last [] some ordered = absurd (some refl)
@@ -213,7 +202,7 @@ apart_ordered tables (a ∷ []) h apart = subst IsStrictlyOrdered (sym (append-n
 apart_ordered tables (a ∷ b ∷ pieces) h apart =
     let parts = and_parts (is_lt (key_cmp (last_key [] (table_rows tables a)) (first_key (table_rows tables b)))) (are_apart tables (b ∷ pieces)) apart in
     ordered_append (table_rows tables a) (rows_of tables (b ∷ pieces)) h.0.1 (apart_ordered tables (b ∷ pieces) h.1 parts.1)
-    (all_to _ _ (table_rows tables a) (λ r there up. all_to _ _ (rows_of tables (b ∷ pieces)) (λ q one from. key_less r q (between_keys r.key (last_key [] (table_rows tables a)) (first_key (table_rows tables b)) q.key up (lt_less _ parts.0) from)) (from_first_table tables b pieces h.1 parts.1))
+    (all_to _ _ (table_rows tables a) (λ r there up. all_to _ _ (rows_of tables (b ∷ pieces)) (λ q one from. key_less r q (between_keys r.key (last_key [] (table_rows tables a)) (first_key (table_rows tables b)) q.key up (lt_is _ parts.0) from)) (from_first_table tables b pieces h.1 parts.1))
     (up_to_last [] (table_rows tables a) h.0.1))
 
 -- ---- moves
