@@ -80,7 +80,7 @@ done_same told line party steps answer job took =
     by false true = refl
     by false false = refl
 
-or_left : (a b : Bool) → IsTrue a → IsTrue (a || b)
+pub or_left : (a b : Bool) → IsTrue a → IsTrue (a || b)
 or_left true b h = refl
 or_left false b h = absurd (cc h)
 
@@ -92,7 +92,7 @@ or_split : (a b : Bool) → (a || b) ≡ true → (a ≡ true) ⊎ (b ≡ true)
 or_split true b e = inl refl
 or_split false b e = inr e
 
-waits_not_late : (s : Status) → IsTrue (status_eq Scheduled s || status_eq Running s) → IsTrue (status_eq Compacted s || is_finished s) → ⊥
+pub waits_not_late : (s : Status) → IsTrue (status_eq Scheduled s || status_eq Running s) → IsTrue (status_eq Compacted s || is_finished s) → ⊥
 waits_not_late Submitted h k = absurd (cc h)
 waits_not_late Scheduled h k = absurd (cc k)
 waits_not_late Running h k = absurd (cc k)

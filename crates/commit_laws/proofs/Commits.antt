@@ -198,22 +198,30 @@ commit_body merge told specs own line party steps answer took c =
 
 -- ---- the law
 
+-- What the steps of a commit keep, by specs that replay it too.
+pub case_of : (merge : Operator) (told : Told) (own : ℕ → JobSpec) (party : Party) (steps : List Step) → IsLawful merge → (k : Keeps merge told) → AllByRecursion (λ step. IsKnownTo party told own (job_of step)) steps
+    → StepsFit told own told.store.manifest.trees [] steps → CommitCase merge told (with_own told.store.history k.stored.replay.specs own) own party steps
+case_of merge told own party steps lawful k known fits =
+    let w = whole_of merge told k in
+    let specs = with_own told.store.history k.stored.replay.specs own in
+    let faithful = faithful_own told k.stored.replay.specs own w.body.faithful in
+    let b = body_by merge told k.stored.replay.specs specs w.body faithful in
+    record {
+      body = b;
+      known = known;
+      same = all_to _ _ steps (λ step there is. own_spec merge told party k.stored.replay.specs own (job_of step) w.body faithful is) known;
+      each = fits;
+      midway = steps_keep merge told party specs own told.store.manifest.trees told.store.manifest.horizon [] steps lawful b known fits (start merge told specs b);
+    }
+
 commit_by : (merge : Operator) (told : Told) (own : ℕ → JobSpec) (line : ℕ) (party : Party) (steps : List Step) (answer : Answer) → IsLawful merge → stood answer ≡ true → (k : Keeps merge told) → AllByRecursion (λ step. IsKnownTo party told own (job_of step)) steps
     → StepsFit told own told.store.manifest.trees [] steps → Keeps merge (with_manifest told (manifest_of told own steps) (entry_of line party steps answer))
 commit_by merge told own line party steps answer lawful took k known fits =
     let w = whole_of merge told k in
     let entry = entry_of line party steps answer in
     let specs = with_own told.store.history k.stored.replay.specs own in
-    let faithful = faithful_own told k.stored.replay.specs own w.body.faithful in
-    let b = body_by merge told k.stored.replay.specs specs w.body faithful in
     keeps_of merge (with_manifest told (manifest_of told own steps) entry) specs (record {
-      body = commit_body merge told specs own line party steps answer took (record {
-        body = b;
-        known = known;
-        same = all_to _ _ steps (λ step there is. own_spec merge told party k.stored.replay.specs own (job_of step) w.body faithful is) known;
-        each = fits;
-        midway = steps_keep merge told party specs own told.store.manifest.trees told.store.manifest.horizon [] steps lawful b known fits (start merge told specs b);
-      });
+      body = commit_body merge told specs own line party steps answer took (case_of merge told own party steps lawful k known fits);
       draws = draws_mute told.store.jobs_drawn told.store.tables_drawn told.store.history entry refl refl w.draws;
       puts = puts_kept told.store.history entry told.store.tables (table_none (stood answer) entry.event refl) (rw took tt) w.puts;
     })

@@ -22,3 +22,4 @@ pub mod AllCalls
 pub mod SecondJoins
 pub mod StepForms
 pub mod RunReads
+pub mod SparedJobs

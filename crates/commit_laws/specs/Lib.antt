@@ -4,3 +4,4 @@ pub mod RunLaws
 pub mod SecondJoins
 pub mod RunReads
 pub mod StepForms
+pub mod SparedJobs

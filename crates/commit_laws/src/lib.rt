@@ -8,6 +8,7 @@ ghost use Rattle.commit_laws.specs.CommitLaws.{CommitsKeep};
 ghost use Rattle.commit_laws.specs.RunLaws.{CoursesKeep};
 ghost use Rattle.commit_laws.specs.RunReads.{RunsKeepReads};
 ghost use Rattle.commit_laws.specs.SecondJoins.{SecondJoinsRest};
+ghost use Rattle.commit_laws.specs.SparedJobs.{CommitsSpareJobs};
 ghost use Rattle.commit_laws.specs.StepForms.{JoinsReplace, MovesReplace};
 
 /// A run that a join or a move makes of some nodes answers every read from the horizon and the tick
@@ -22,6 +23,12 @@ pub fn runs_keep_reads()
 /// the sources out. No read from the horizon and the tick on changes, and other jobs' sources stay.
 pub fn commits_keep()
     ensures { (merge : Operator) → IsLawful merge → CommitsKeep merge }
+{}
+
+/// A lawful commit spares each job that waits for a worker or runs. The job's sources stay one after
+/// the other in their tree, and settings that fit the job fit it still.
+pub fn commits_spare_jobs()
+    ensures { (merge : Operator) → IsLawful merge → CommitsSpareJobs merge }
 {}
 
 /// Every lawful call keeps the invariant, under a lawful operator and whether a fault strikes it or

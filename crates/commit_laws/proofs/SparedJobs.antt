@@ -1,0 +1,48 @@
+-- A commit spares the jobs that wait for a worker or run.
+use Rattle.std.proofs.Common.{◌≡◌, sym, subst, ℕ, List, [], false}
+use Rattle.std.specs.Prelude.{IsTrue, ◌||◌}
+use Rattle.row_model.specs.Fold.{Operator, IsLawful}
+use Rattle.fleet_model.specs.Jobs.{JobSpec, Job, Scheduled, Running, Compacted, has_status}
+use Rattle.fleet_model.specs.Gates.{reserves_nodes}
+use Rattle.fleet_model.specs.History.{Party, Step}
+use Rattle.fleet_model.specs.Store.{Manifest, stored_jobs}
+use Rattle.fleet_model.specs.JobsFit.{SourcesStand}
+use Rattle.step_model.specs.Past.{Told}
+use Rattle.step_laws.proofs.Elements.{IsIn, all_at}
+use Rattle.step_laws.proofs.Bodies.{JobKept}
+use Rattle.commit_laws.specs.Behind.{joined_by}
+use Rattle.commit_laws.specs.SparedJobs.{IsSpared, CommitsSpareJobs}
+use Rattle.commit_laws.proofs.Stretches.{other_or}
+use Rattle.commit_laws.proofs.JobSteps.{is_done, JobHolds}
+use Rattle.commit_laws.proofs.Midway.{found_job}
+use Rattle.commit_laws.proofs.CommitJobs.{trees_of, manifest_of, CommitCase, done_late, waits_not_late, or_left}
+use Rattle.commit_laws.proofs.Commits.{case_of}
+
+spared : (merge : Operator) (told : Told) (specs own : ℕ → JobSpec) (party : Party) (steps : List Step) (c : CommitCase merge told specs own party steps) (job : Job) → IsIn job (stored_jobs told.store) → IsTrue (has_status Scheduled job || has_status Running job)
+    → IsSpared told (manifest_of told own steps) job
+spared merge told specs own party steps c job there waits = record {
+  stands = holds.stand reserves undone stand;
+  settings = λ settings fit. record { floor = fit.floor; cut = fit.cut; tick = fit.tick; last_run = λ is. holds.oldest reserves undone stand (fit.last_run is) };
+}
+  where
+    kept : JobKept merge told specs job
+    kept = all_at (JobKept merge told specs) (stored_jobs told.store) job c.body.jobs there
+
+    holds : JobHolds told (trees_of told own steps) (joined_by steps []) job
+    holds = all_at (JobHolds told (trees_of told own steps) (joined_by steps [])) (stored_jobs told.store) job c.midway.jobs there
+
+    undone : is_done told.store.history (joined_by steps []) job ≡ false
+    undone = other_or (is_done told.store.history (joined_by steps []) job) (λ is. waits_not_late job.status waits (done_late merge told specs own party steps c job there kept is))
+
+    reserves : IsTrue (reserves_nodes job)
+    reserves = or_left (has_status Scheduled job || has_status Running job) (has_status Compacted job) waits
+
+    stand : SourcesStand told.store.manifest.trees job
+    stand = kept.fits.sources.0 waits
+
+pub commits_spare_jobs : (merge : Operator) → IsLawful merge → CommitsSpareJobs merge
+commits_spare_jobs merge lawful told party steps value job k fits stored waits =
+    subst (λ (v : Manifest). IsSpared told v job) (sym fits.makes) (record { stands = s.stands; settings = λ settings fit. let f = s.settings settings fit in record { floor = f.floor; cut = f.cut; tick = f.tick; last_run = f.last_run } })
+  where
+    s : IsSpared told (manifest_of told fits.specs steps) job
+    s = spared merge told _ fits.specs party steps (case_of merge told fits.specs party steps lawful k fits.known fits.each) job (found_job job.id (stored_jobs told.store) job stored).0 waits
