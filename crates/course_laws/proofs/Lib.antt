@@ -1,0 +1,4 @@
+pub mod Later
+pub mod Puts
+pub mod Starts
+pub mod Releases

@@ -1,0 +1,58 @@
+-- Puts for a version that was got: if that version is still stored, then so is the value.
+use Rattle.std.proofs.Common.{◌≡◌, refl, sym, ◌∙◌, ap, subst, ℕ, List, [], ◌∷◌, ◌++◌, cond, Bool, true, false, Option, Some, None}
+use Rattle.std.specs.Prelude.{IsTrue, ◌&&◌, filter, is_some}
+use Rattle.std.specs.List.{AllByRecursion}
+use Rattle.row_model.specs.Fold.{Operator}
+use Rattle.fleet_model.specs.Jobs.{Job}
+use Rattle.fleet_model.specs.History.{Party, Writer, Submitter, Coordinator, Worker, Sweeper, Event, Entry, stood, PutRecords, RecordChange}
+use Rattle.fleet_model.specs.Store.{Records, stored_jobs, jobs_in}
+use Rattle.fleet_model.specs.Records.{Unrecorded, jobs_after}
+use Rattle.fleet_model.specs.Replay.{epoch_after, named_specs}
+use Rattle.fleet_model.specs.Exchanges.{records_version}
+use Rattle.step_model.specs.Past.{Told}
+use Rattle.step_model.specs.Entries.{party_eq, did, last_event, last_entry}
+use Rattle.step_model.specs.LawfulRecords.{NamesFit, RecordsFit, ChangeFits, may_make, OfSome}
+use Rattle.step_laws.proofs.Elements.{any_front, is_itself}
+use Rattle.course_laws.proofs.Later.{Later, RecordsLater}
+
+pub party_itself : (party : Party) → party_eq party party ≡ true
+party_itself Writer = refl
+party_itself Submitter = refl
+party_itself Sweeper = refl
+party_itself (Coordinator n) = is_itself n
+party_itself (Worker n) = is_itself n
+
+-- What a party did, it did later too.
+pub did_later : (is : Event → Bool) (party : Party) (old new : Told) → Later old new → IsTrue (did is party old.store.history) → IsTrue (did is party new.store.history)
+did_later is party old new later h =
+    subst (λ (history : List Entry). IsTrue (did is party history)) (sym later.history)
+    (any_front (λ (entry : Entry). party_eq party entry.party && is entry.event && stood entry.answer) old.store.history later.more h)
+
+-- Records that were got are stored, if their version is.
+pub got_records : (old new : Told) (got : Option Records) → old.store.records ≡ got → Later old new → records_version got ≡ records_version new.store.records → new.store.records ≡ got
+got_records old new got is later same = later.records.same (ap records_version is ∙ same) ∙ is
+
+-- No job is named.
+pub no_names : (party : Party) (told : Told) → NamesFit party told []
+no_names party told = record { once = tt; drawn = tt; replays = λ specs faithful. faithful }
+
+-- A put fits over the records that were got, if its jobs are what the change makes of them.
+pub over_got : (merge : Operator) (party : Party) (told : Told) (got : Records) (change : RecordChange) (u : Unrecorded) (epoch : ℕ) → told.store.records ≡ Some got
+    → ((records : Option Records) → IsTrue (is_some records) → told.store.records ≡ records → IsTrue (may_make told change)) → epoch ≡ epoch_after change (Some got)
+    → ChangeFits merge party told u (jobs_after u change got.jobs) change → RecordsFit merge party told change epoch (jobs_after u change got.jobs)
+over_got merge party told got change u epoch same may is fits = record {
+  there = may (Some got) refl same;
+  unrecorded = u;
+  makes_jobs = ap (λ r. jobs_after u change (jobs_in r)) (sym same);
+  makes_epoch = is ∙ ap (epoch_after change) (sym same);
+  fits = fits;
+}
+
+-- All elements that a filter leaves pass its test.
+pub filter_passes : {A : Type 0} (p : A → Bool) (xs : List A) → AllByRecursion (λ x. p x ≡ true) (filter p xs)
+filter_passes p [] = tt
+filter_passes {A} p (x ∷ xs) = by (p x) refl (filter_passes p xs)
+  where
+    by : (b : Bool) → p x ≡ b → AllByRecursion (λ (y : A). p y ≡ true) (filter p xs) → AllByRecursion (λ (y : A). p y ≡ true) (cond b (x ∷ filter p xs) (filter p xs))
+    by true e rest = (e, rest)
+    by false e rest = rest

@@ -1,0 +1,17 @@
+//! Laws on the steps of a fleet's parties. Each function has an empty body, and its clause states a
+//! law about a step: it is a lawful course, so each of its calls is lawful whatever calls of others
+//! come before it.
+#![tactic(auto)]
+
+ghost use Rattle.course_laws.specs.Releases.{ReleasesAreLawful};
+ghost use Rattle.course_laws.specs.Starts.{StartsAreLawful};
+
+/// The start of a coordinator is a lawful course over any store.
+pub fn starts_are_lawful()
+    ensures { StartsAreLawful }
+{}
+
+/// The step by which a worker gives its live attempts back is a lawful course over any store.
+pub fn releases_are_lawful()
+    ensures { ReleasesAreLawful }
+{}
