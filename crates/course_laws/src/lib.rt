@@ -3,6 +3,7 @@
 //! come before it.
 #![tactic(auto)]
 
+ghost use Rattle.course_laws.specs.Claims.{ClaimsAreLawful};
 ghost use Rattle.course_laws.specs.Releases.{ReleasesAreLawful};
 ghost use Rattle.course_laws.specs.Starts.{StartsAreLawful};
 
@@ -14,4 +15,10 @@ pub fn starts_are_lawful()
 /// The step by which a worker gives its live attempts back is a lawful course over any store.
 pub fn releases_are_lawful()
     ensures { ReleasesAreLawful }
+{}
+
+/// A worker's claim is a lawful course over any store that meets the invariant, if every lawful
+/// call keeps the invariant. The notes of plans that come behind its put are lawful too.
+pub fn claims_are_lawful()
+    ensures { ClaimsAreLawful }
 {}
