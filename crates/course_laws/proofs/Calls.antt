@@ -9,7 +9,7 @@ use Rattle.step_model.specs.Past.{Told}
 use Rattle.step_model.specs.Entries.{was_done}
 use Rattle.step_model.specs.Lawful.{Lawful}
 use Rattle.step_model.specs.LawfulTables.{PlainFits}
-use Rattle.step_model.specs.Rivals.{Caller, Rivals, told_by}
+use Rattle.step_model.specs.Rivals.{Caller, RivalCall, IsRival, RivalsFrom, Rivals, told_by, told_by_rival}
 use Rattle.step_model.specs.Keeps.{Keeps}
 use Rattle.step_model.specs.CourseRuns.{IsLawfulCourse}
 use Rattle.step_model.specs.Course.{Course, calls_each}
@@ -86,3 +86,16 @@ pub in_map : {A B : Type 0} (f : A → B) (xs : List A) (x : A) → IsIn x xs �
 in_map f [] x there = absurd there
 in_map f (y ∷ xs) x (inl same) = inl (ap f same)
 in_map f (y ∷ xs) x (inr there) = inr (in_map f xs x there)
+
+-- ---- what calls of others leave
+
+hold_from : (who : Caller) (P : Told → Type 0) → CallsKeep who.merge → ((told : Told) (call : RivalCall) → Keeps who.merge told → IsRival who told call → P told → P (told_by_rival call told))
+    → (calls : List RivalCall) (old new : Told) → Keeps who.merge old → RivalsFrom who calls old new → P old → P new
+hold_from who P keep each [] old new kept same p = subst P same p
+hold_from who P keep each (call ∷ calls) old new kept lead p =
+    hold_from who P keep each calls (told_by_rival call old) new (keep call.exchange call.line call.party call.strike old kept lead.0.lawful lead.0.strike) lead.1 (each old call kept lead.0 p)
+
+-- What each call of others leaves, all of them leave.
+pub rivals_hold : (who : Caller) (P : Told → Type 0) → CallsKeep who.merge → ((told : Told) (call : RivalCall) → Keeps who.merge told → IsRival who told call → P told → P (told_by_rival call told))
+    → (old new : Told) → Keeps who.merge old → Rivals who old new → P old → P new
+rivals_hold who P keep each old new kept rivals p = hold_from who P keep each rivals.calls old new kept rivals.lead p

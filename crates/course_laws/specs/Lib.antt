@@ -1,3 +1,4 @@
 pub mod Claims
+pub mod Flushes
 pub mod Releases
 pub mod Starts

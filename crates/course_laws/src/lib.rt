@@ -4,6 +4,7 @@
 #![tactic(auto)]
 
 ghost use Rattle.course_laws.specs.Claims.{ClaimsAreLawful};
+ghost use Rattle.course_laws.specs.Flushes.{FlushesAreLawful};
 ghost use Rattle.course_laws.specs.Releases.{ReleasesAreLawful};
 ghost use Rattle.course_laws.specs.Starts.{StartsAreLawful};
 
@@ -21,4 +22,10 @@ pub fn releases_are_lawful()
 /// call keeps the invariant. The notes of plans that come behind its put are lawful too.
 pub fn claims_are_lawful()
     ensures { ClaimsAreLawful }
+{}
+
+/// A flush is a lawful course over any store that meets the invariant, if every lawful call keeps
+/// the invariant. Its name must be one of flushes, and its rows must be some and in bounds.
+pub fn flushes_are_lawful()
+    ensures { FlushesAreLawful }
 {}
