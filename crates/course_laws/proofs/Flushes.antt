@@ -38,6 +38,7 @@ use Rattle.step_laws.proofs.Elements.{IsIn, all_at, all_to, all_true_front, any_
 use Rattle.course_laws.specs.Flushes.{MayAsk, FlushesAreLawful}
 use Rattle.course_laws.proofs.Later.{Later, later_itself, later_then, later_by, rivals_later, later_met, entry_by, answer_by, call_history}
 use Rattle.course_laws.proofs.Calls.{behind, rivals_hold}
+use Rattle.course_laws.proofs.Stood.{unless_both, stood_version}
 use Rattle.course_laws.proofs.Held.{refused, HasRows, call_rows, put_has_rows, drawn_is_high, last_drawn}
 
 -- ---- the faults
@@ -181,25 +182,6 @@ rivals_unused who ask old new keep by kept rivals unused =
 record IsPut (ask : FlushAsk) (told : Told) : Type 0 where
   there : HasRows ask.name ask.rows told.store
   once : was_flushed told.store.history ask.name ≡ false
-
-unless_both : (a b : Bool) → (a ≡ true → b ≡ true → ⊥) → (a && b) ≡ false
-unless_both true true h = absurd (h refl refl)
-unless_both true false h = refl
-unless_both false b h = refl
-
--- A put of the manifest that took effect is for the stored version.
-stood_version : (strike : Strike) (store : Store) (version : ℕ) (change : ManifestChange) (value : Manifest) → stood (answer_by (PutsManifest version change value) strike store) ≡ true → version ≡ store.manifest.version
-stood_version None store version change value took = by (version == store.manifest.version) refl took
-  where
-    by : (b : Bool) → (version == store.manifest.version) ≡ b → stood (cond b (Done (store.manifest.version + 1)) (Conflict store.manifest.version)) ≡ true → version ≡ store.manifest.version
-    by true e took = (Decides-eqb version store.manifest.version).0 e
-    by false e took = absurd (cc took)
-stood_version (Some true) store version change value took = by (version == store.manifest.version) refl took
-  where
-    by : (b : Bool) → (version == store.manifest.version) ≡ b → stood (stands_or_lost (cond b (Done (store.manifest.version + 1)) (Conflict store.manifest.version))) ≡ true → version ≡ store.manifest.version
-    by true e took = (Decides-eqb version store.manifest.version).0 e
-    by false e took = absurd (cc took)
-stood_version (Some false) store version change value took = absurd (cc took)
 
 -- Only the writer flushes.
 flushes_none : (merge : Operator) (party : Party) (told : Told) (x : Exchange) (strike : Strike) (name : ℕ) → party ≢ Writer → Lawful merge party told x → (flushes name (event_of x told.store) && stood (answer_by x strike told.store)) ≡ false

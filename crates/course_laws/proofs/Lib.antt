@@ -2,7 +2,10 @@ pub mod Later
 pub mod Puts
 pub mod Calls
 pub mod Claims
+pub mod Stood
 pub mod Held
+pub mod NewIds
+pub mod Submits
 pub mod Flushes
 pub mod Starts
 pub mod Releases

@@ -2,3 +2,5 @@ pub mod Claims
 pub mod Flushes
 pub mod Releases
 pub mod Starts
+pub mod Rooms
+pub mod Submits

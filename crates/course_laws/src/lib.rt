@@ -7,6 +7,9 @@ ghost use Rattle.course_laws.specs.Claims.{ClaimsAreLawful};
 ghost use Rattle.course_laws.specs.Flushes.{FlushesAreLawful};
 ghost use Rattle.course_laws.specs.Releases.{ReleasesAreLawful};
 ghost use Rattle.course_laws.specs.Starts.{StartsAreLawful};
+ghost use Rattle.course_laws.specs.Submits.{SubmitsAreLawful};
+ghost use Rattle.step_model.specs.Past.{Told};
+ghost use Rattle.step_model.specs.Rivals.{Caller};
 
 /// The start of a coordinator is a lawful course over any store.
 pub fn starts_are_lawful()
@@ -28,4 +31,11 @@ pub fn claims_are_lawful()
 /// the invariant. Its name must be one of flushes, and its rows must be some and in bounds.
 pub fn flushes_are_lawful()
     ensures { FlushesAreLawful }
+{}
+
+/// Submissions are lawful courses over any store that meets the invariant, as long as the history
+/// has room for their draws, and if every lawful call keeps the invariant. Each drawn id is new when
+/// the jobs are put, whatever others did since the draw.
+pub fn submits_are_lawful()
+    ensures { (who : Caller) (told : Told) → SubmitsAreLawful who told }
 {}
