@@ -9,3 +9,4 @@ pub mod Submits
 pub mod Flushes
 pub mod Starts
 pub mod Releases
+pub mod Sweeps

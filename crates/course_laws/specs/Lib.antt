@@ -4,3 +4,4 @@ pub mod Releases
 pub mod Starts
 pub mod Rooms
 pub mod Submits
+pub mod Sweeps

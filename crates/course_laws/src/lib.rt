@@ -8,6 +8,7 @@ ghost use Rattle.course_laws.specs.Flushes.{FlushesAreLawful};
 ghost use Rattle.course_laws.specs.Releases.{ReleasesAreLawful};
 ghost use Rattle.course_laws.specs.Starts.{StartsAreLawful};
 ghost use Rattle.course_laws.specs.Submits.{SubmitsAreLawful};
+ghost use Rattle.course_laws.specs.Sweeps.{SweepsAreLawful};
 ghost use Rattle.step_model.specs.Past.{Told};
 ghost use Rattle.step_model.specs.Rivals.{Caller};
 
@@ -38,4 +39,10 @@ pub fn flushes_are_lawful()
 /// the jobs are put, whatever others did since the draw.
 pub fn submits_are_lawful()
     ensures { (who : Caller) (told : Told) → SubmitsAreLawful who told }
+{}
+
+/// A sweep is a lawful course over a store that meets the invariant, if nobody else calls the store
+/// and no flush is about to bring a table to a tree.
+pub fn sweeps_are_lawful()
+    ensures { SweepsAreLawful }
 {}
