@@ -10,3 +10,5 @@ pub mod Flushes
 pub mod Starts
 pub mod Releases
 pub mod Sweeps
+pub mod OwnCalls
+pub mod Beats

@@ -5,3 +5,4 @@ pub mod Starts
 pub mod Rooms
 pub mod Submits
 pub mod Sweeps
+pub mod Beats

@@ -3,6 +3,7 @@
 //! come before it.
 #![tactic(auto)]
 
+ghost use Rattle.course_laws.specs.Beats.{BeatsAreLawful};
 ghost use Rattle.course_laws.specs.Claims.{ClaimsAreLawful};
 ghost use Rattle.course_laws.specs.Flushes.{FlushesAreLawful};
 ghost use Rattle.course_laws.specs.Releases.{ReleasesAreLawful};
@@ -45,4 +46,10 @@ pub fn submits_are_lawful()
 /// and no flush is about to bring a table to a tree.
 pub fn sweeps_are_lawful()
     ensures { SweepsAreLawful }
+{}
+
+/// A heartbeat of a worker that fits is a lawful course, if every lawful call keeps the invariant
+/// and calls of others keep what the worker holds.
+pub fn beats_are_lawful()
+    ensures { BeatsAreLawful }
 {}

@@ -1,0 +1,94 @@
+-- A worker's own calls that change nothing leave what it holds.
+use Rattle.std.proofs.Common.{◌≡◌, refl, sym, ◌∙◌, ap, subst, ℕ, ◌+◌, List, [], ◌∷◌, ◌++◌, cond, Bool, true, false, inl, inr, ◌⊎◌, Option, Some, None}
+use Rattle.std.specs.Prelude.{IsTrue, IfSome, ◌==◌, ◌&&◌}
+use Rattle.std.specs.List.{AllByRecursion}
+use Rattle.row_model.specs.Fold.{Operator}
+use Rattle.fleet_model.specs.Jobs.{JobSpec, Job, Jobs, Context, job_with}
+use Rattle.fleet_model.specs.History.{Party, Worker, Event, GetManifest, GetRecords, GetTable, Plan, PutRecords, RecordChange, Answer, Done, Conflict, Entry, stood}
+use Rattle.fleet_model.specs.Store.{stored_jobs}
+use Rattle.fleet_model.specs.Parties.{Attempt, LiveWorker, live_attempts}
+use Rattle.fleet_model.specs.AttemptsFit.{ContextFits, AttemptFits, LiveFits, AttemptStands, WorkerFits}
+use Rattle.fleet_model.specs.Exchanges.{Exchange, Plain, PutsRecords, records_version, logged, answer_of}
+use Rattle.step_model.specs.Past.{Told, told_after}
+use Rattle.step_model.specs.Entries.{claims, did, puts_table, party_eq}
+use Rattle.step_model.specs.Faithful.{Faithful}
+use Rattle.step_model.specs.LawfulTables.{MayUse, IsOwnTable}
+use Rattle.step_model.specs.Fits.{AttemptHeld, NotesOwn, noted_tables, WorkerHolds}
+use Rattle.step_model.specs.Rivals.{told_by}
+use Rattle.step_laws.proofs.Elements.{all_to, any_front}
+use Rattle.step_laws.proofs.Mute.{IsQuiet, IsMute, quiet_for, mute_event, mute_refused}
+use Rattle.step_laws.proofs.MuteBodies.{entered, faithful_before, claimed_quiet, if_some_to}
+use Rattle.step_laws.proofs.Grown.{drawn_table_grows}
+use Rattle.step_laws.proofs.Quiet.{told_entered}
+
+may_use : (party : Party) (told : Told) (jobs_drawn tables_drawn : ℕ) (entry : Entry) (job : Job) (table : ℕ) → MayUse party told job table → MayUse party (entered told told.store.deleted jobs_drawn tables_drawn entry) job table
+may_use party told jobs_drawn tables_drawn entry job table (inl named) = inl named
+may_use party told jobs_drawn tables_drawn entry job table (inr own) = inr (record {
+  drawn = drawn_table_grows told.store.history entry table own.drawn;
+  put = any_front (λ (e : Entry). party_eq party e.party && puts_table table e.event && stood e.answer) told.store.history (entry ∷ []) own.put;
+  unused = own.unused;
+  unnamed = own.unnamed;
+})
+
+-- What a worker holds stays behind an entry that says nothing of jobs.
+pub holds_entered : (merge : Operator) (told : Told) (w : LiveWorker) (jobs_drawn tables_drawn : ℕ) (entry : Entry) → IsQuiet (stood entry.answer) entry.event → WorkerHolds merge told w
+    → WorkerHolds merge (entered told told.store.deleted jobs_drawn tables_drawn entry) w
+holds_entered merge told w jobs_drawn tables_drawn entry quiet h = record {
+  fits = λ specs faithful. fits specs (h.fits specs (faithful_before told specs told.store.deleted jobs_drawn tables_drawn entry faithful));
+  each = all_to _ _ w.attempts (λ a there held. record {
+    claimed = any_front (λ (e : Entry). claims w.number a.job a.number e.event && stood e.answer) told.store.history (entry ∷ []) held.claimed;
+    ordered = held.ordered;
+    sources = held.sources;
+  }) h.each;
+  jobs_rise = h.jobs_rise;
+  own = all_to _ _ (live_attempts (stored_jobs told.store) w) (λ a there own. if_some_to _ _ (job_with a.job (stored_jobs told.store))
+      (λ job all. all_to _ _ (noted_tables a) (λ table one may. may_use (Worker w.number) told jobs_drawn tables_drawn entry job table may) all) own) h.own;
+  apart = h.apart;
+}
+  where
+    context_fits : (specs : ℕ → JobSpec) (job : Job) (c : Context) → ContextFits merge told.store specs job c → ContextFits merge (entered told told.store.deleted jobs_drawn tables_drawn entry).store specs job c
+    context_fits specs job c fits = record {
+      claimed = claimed_quiet told.store specs told.store.deleted jobs_drawn tables_drawn entry job.id job.attempt c (quiet_for _ _ job.id quiet) fits.claimed;
+      settings = fits.settings;
+      cut = fits.cut;
+      ranges = fits.ranges;
+      tables = fits.tables;
+    }
+
+    fits : (specs : ℕ → JobSpec) → WorkerFits merge told.store specs w → WorkerFits merge (entered told told.store.deleted jobs_drawn tables_drawn entry).store specs w
+    fits specs f = record {
+      cuts = f.cuts;
+      each = all_to _ _ w.attempts (λ a there stands. record {
+        claimed = claimed_quiet told.store specs told.store.deleted jobs_drawn tables_drawn entry a.job a.number a.context (quiet_for _ _ a.job quiet) stands.claimed;
+        held = stands.held;
+        tables = stands.tables;
+      }) f.each;
+      live = all_to _ _ (live_attempts (stored_jobs told.store) w) (λ a there live. if_some_to _ _ (job_with a.job (stored_jobs told.store))
+          (λ job one. record { sources = one.sources; context = context_fits specs job a.context one.context; published = one.published }) live) f.live;
+    }
+
+-- A get leaves what a worker holds.
+pub holds_got : (merge : Operator) (line : ℕ) (party : Party) (told : Told) (w : LiveWorker) → WorkerHolds merge told w → WorkerHolds merge (told_by line party (Plain GetRecords) None told) w
+holds_got merge line party told w h =
+    let entry : Entry = record { line = line; party = party; event = GetRecords; answer = answer_of (Plain GetRecords) told.store } in
+    subst (λ (t : Told). WorkerHolds merge t w) (sym (told_entered told told.store.deleted told.store.jobs_drawn told.store.tables_drawn entry))
+    (holds_entered merge told w told.store.jobs_drawn told.store.tables_drawn entry (mute_event (stood entry.answer) GetRecords refl).quiet h)
+
+pub holds_table : (merge : Operator) (line : ℕ) (party : Party) (table : ℕ) (told : Told) (w : LiveWorker) → WorkerHolds merge told w → WorkerHolds merge (told_by line party (Plain (GetTable table)) None told) w
+holds_table merge line party table told w h =
+    let entry : Entry = record { line = line; party = party; event = GetTable table; answer = answer_of (Plain (GetTable table)) told.store } in
+    subst (λ (t : Told). WorkerHolds merge t w) (sym (told_entered told told.store.deleted told.store.jobs_drawn told.store.tables_drawn entry))
+    (holds_entered merge told w told.store.jobs_drawn told.store.tables_drawn entry (mute_event (stood entry.answer) (GetTable table) refl).quiet h)
+
+-- A refused put of the records leaves what a worker holds.
+pub holds_refused : (merge : Operator) (line : ℕ) (party : Party) (told : Told) (w : LiveWorker) (version : ℕ) (change : RecordChange) (epoch : ℕ) (jobs : Jobs) → (version == records_version told.store.records) ≡ false
+    → WorkerHolds merge told w → WorkerHolds merge (told_by line party (PutsRecords version change epoch jobs) None told) w
+holds_refused merge line party told w version change epoch jobs other h = by (version == records_version told.store.records) other
+  where
+    by : (b : Bool) → b ≡ false
+        → WorkerHolds merge (told_after told (logged line party (PutRecords change) (cond b (Done (records_version told.store.records + 1)) (Conflict (records_version told.store.records))) (cond b (record told.store { records = Some (record { version = version + 1; epoch = epoch; jobs = jobs }) }) told.store))) w
+    by true e = absurd (cc e)
+    by false e =
+        let entry : Entry = record { line = line; party = party; event = PutRecords change; answer = Conflict (records_version told.store.records) } in
+        subst (λ (t : Told). WorkerHolds merge t w) (sym (told_entered told told.store.deleted told.store.jobs_drawn told.store.tables_drawn entry))
+        (holds_entered merge told w told.store.jobs_drawn told.store.tables_drawn entry (mute_refused (PutRecords change)).quiet h)
