@@ -12,3 +12,6 @@ pub mod Releases
 pub mod Sweeps
 pub mod OwnCalls
 pub mod Beats
+pub mod JobBounds
+pub mod NewTables
+pub mod Outputs

@@ -73,7 +73,7 @@ swept_differ pins store once =
 -- ---- what no sweeper's call changes
 
 -- Another party's last entry is not the new one.
-last_other : (party : Party) (history : List Entry) (entry : Entry) (last : Option Entry) → party_eq party entry.party ≡ false → last_from last party (history ++ entry ∷ []) ≡ last_from last party history
+pub last_other : (party : Party) (history : List Entry) (entry : Entry) (last : Option Entry) → party_eq party entry.party ≡ false → last_from last party (history ++ entry ∷ []) ≡ last_from last party history
 last_other party [] entry last other = ap (λ b. cond b (Some entry) last) other
 last_other party (first ∷ history) entry last other = last_other party history entry (cond (party_eq party first.party) (Some first) last) other
 

@@ -6,3 +6,4 @@ pub mod Rooms
 pub mod Submits
 pub mod Sweeps
 pub mod Beats
+pub mod Outputs

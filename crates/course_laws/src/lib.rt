@@ -6,6 +6,7 @@
 ghost use Rattle.course_laws.specs.Beats.{BeatsAreLawful};
 ghost use Rattle.course_laws.specs.Claims.{ClaimsAreLawful};
 ghost use Rattle.course_laws.specs.Flushes.{FlushesAreLawful};
+ghost use Rattle.course_laws.specs.Outputs.{OutputsAreLawful};
 ghost use Rattle.course_laws.specs.Releases.{ReleasesAreLawful};
 ghost use Rattle.course_laws.specs.Starts.{StartsAreLawful};
 ghost use Rattle.course_laws.specs.Submits.{SubmitsAreLawful};
@@ -52,4 +53,11 @@ pub fn sweeps_are_lawful()
 /// and calls of others keep what the worker holds.
 pub fn beats_are_lawful()
     ensures { BeatsAreLawful }
+{}
+
+/// An output of a worker that fits is a lawful course under a lawful operator, as long as the
+/// history has room for its draw, and if every lawful call keeps the invariant. The drawn id is new
+/// when the table is put, whatever others did since the draw.
+pub fn outputs_are_lawful()
+    ensures { OutputsAreLawful }
 {}
