@@ -1,18 +1,17 @@
 -- A heartbeat of a worker that fits is a lawful course.
 use Rattle.std.proofs.Common.{◌≡◌, refl, sym, ◌∙◌, ap, subst, ℕ, zero, suc, ◌<◌, List, [], ◌∷◌, ◌++◌, cond, Bool, true, false, inl, inr, Option, Some, None, arith}
-use Rattle.std.specs.Prelude.{IsTrue, IfSome, ◌==◌, filter, find, map}
+use Rattle.std.specs.Prelude.{IfSome, ◌==◌}
 use Rattle.std.specs.List.{AllByRecursion}
 use Rattle.std.proofs.lemmas.Bool.Decides.{Decides-eqb}
 use Rattle.row_model.specs.Lists.{Pairs}
-use Rattle.row_model.specs.Fold.{Operator}
-use Rattle.fleet_model.specs.Jobs.{JobSpec, Job, Jobs, Context, job_with}
-use Rattle.fleet_model.specs.History.{Party, Worker, GetRecords, Beat}
+use Rattle.fleet_model.specs.Jobs.{JobSpec, Job, job_with}
+use Rattle.fleet_model.specs.History.{Worker, GetRecords, Beat}
 use Rattle.fleet_model.specs.Store.{Store, Records, jobs_in, stored_jobs, is_held, AreHeld}
 use Rattle.fleet_model.specs.Handles.{context_tables}
 use Rattle.fleet_model.specs.Records.{Unrecorded, jobs_after}
 use Rattle.fleet_model.specs.Sweeps.{attempt_tables}
 use Rattle.fleet_model.specs.Parties.{Attempt, LiveWorker, attempt_at, is_live, runs_attempt, named, live_attempts}
-use Rattle.fleet_model.specs.AttemptsFit.{AttemptFits, AttemptStands}
+use Rattle.fleet_model.specs.AttemptsFit.{AttemptFits}
 use Rattle.fleet_model.specs.Gates.{is_nonempty}
 use Rattle.fleet_model.specs.Exchanges.{Plain, PutsRecords, records_version}
 use Rattle.step_model.specs.Past.{Told}
@@ -21,7 +20,7 @@ use Rattle.step_model.specs.Lawful.{Lawful}
 use Rattle.step_model.specs.LawfulTables.{MayUse}
 use Rattle.step_model.specs.LawfulRecords.{OfSome, IsLiveAt, Publishes, PublishedApart, BeatFits}
 use Rattle.step_model.specs.TablesKept.{AreApart}
-use Rattle.step_model.specs.Fits.{NotesOwn, noted_tables, WorkerHolds}
+use Rattle.step_model.specs.Fits.{noted_tables, WorkerHolds}
 use Rattle.step_model.specs.Rivals.{Caller, Rivals, told_by}
 use Rattle.step_model.specs.Keeps.{Keeps}
 use Rattle.step_model.specs.CourseRuns.{IsLawfulCourse}

@@ -1,5 +1,5 @@
 -- Calls behind which the invariant holds, gets and notes one after the other, and elements of lists.
-use Rattle.std.proofs.Common.{◌≡◌, refl, sym, ap, subst, ℕ, zero, suc, List, [], ◌∷◌, ◌++◌, cond, Bool, true, false, inl, inr, None, take}
+use Rattle.std.proofs.Common.{◌≡◌, refl, sym, ap, subst, ℕ, zero, suc, List, [], ◌∷◌, cond, Bool, true, false, inl, inr, None, take}
 use Rattle.std.specs.Prelude.{IsTrue, ◌&&◌, filter, map}
 use Rattle.std.specs.List.{AllByRecursion}
 use Rattle.row_model.specs.Lists.{Pairs}
@@ -15,7 +15,7 @@ use Rattle.step_model.specs.CourseRuns.{IsLawfulCourse}
 use Rattle.step_model.specs.Course.{Course, calls_each}
 use Rattle.step_laws.specs.Runs.{CallsKeep}
 use Rattle.step_laws.proofs.Elements.{IsIn, all_to, any_front}
-use Rattle.course_laws.proofs.Later.{Later, later_itself, later_met, later_by, later_then, rivals_later}
+use Rattle.course_laws.proofs.Later.{Later, later_itself, later_by, later_then, rivals_later}
 
 -- A lawful call of one's own leaves a store that keeps the invariant.
 pub behind : (who : Caller) (x : Exchange) (met : Told) → CallsKeep who.merge → Keeps who.merge met → Lawful who.merge who.party met x → Keeps who.merge (told_by who.line who.party x None met)

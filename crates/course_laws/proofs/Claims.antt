@@ -1,12 +1,11 @@
 -- A worker's claim is a lawful course.
-use Rattle.std.proofs.Common.{◌≡◌, ◌≢◌, refl, sym, ◌∙◌, ap, subst, ℕ, zero, suc, ◌+◌, ◌-◌, ◌<◌, List, [], ◌∷◌, cond, Bool, true, false, Option, Some, None, take, length, arith}
+use Rattle.std.proofs.Common.{◌≡◌, ◌≢◌, refl, sym, subst, ℕ, zero, suc, ◌+◌, ◌-◌, ◌<◌, List, [], ◌∷◌, cond, Bool, true, false, Option, Some, None, length, arith}
 use Rattle.std.specs.Prelude.{IsTrue, ◌==◌, ◌&&◌, not, filter, map, flat_map}
 use Rattle.std.specs.List.{AllByRecursion}
 use Rattle.row_model.specs.Lists.{Pairs}
-use Rattle.row_model.specs.Fold.{Operator}
 use Rattle.fleet_model.specs.Jobs.{Job, Jobs, Context, job_with, contains, ids}
-use Rattle.fleet_model.specs.History.{Party, Worker, Event, GetManifest, GetRecords, Plan, Claim, Entry, stood}
-use Rattle.fleet_model.specs.Store.{Manifest, Records, jobs_in, stored_jobs}
+use Rattle.fleet_model.specs.History.{Worker, GetManifest, GetRecords, Claim, Entry, stood}
+use Rattle.fleet_model.specs.Store.{Records, jobs_in}
 use Rattle.fleet_model.specs.Records.{jobs_after}
 use Rattle.fleet_model.specs.Attempts.{ClaimInput}
 use Rattle.fleet_model.specs.Claims.{is_waiting, may_take, claimed_jobs, stopped_jobs}
@@ -16,16 +15,16 @@ use Rattle.step_model.specs.Past.{Told}
 use Rattle.step_model.specs.Entries.{was_claimed, claims, is_in}
 use Rattle.step_model.specs.Lawful.{Lawful}
 use Rattle.step_model.specs.LawfulTables.{PlainFits}
-use Rattle.step_model.specs.LawfulRecords.{OfSome, IsStoredAs, ClaimFits}
-use Rattle.step_model.specs.Rivals.{Caller, Rivals, told_by}
+use Rattle.step_model.specs.LawfulRecords.{OfSome, ClaimFits}
+use Rattle.step_model.specs.Rivals.{Caller, told_by}
 use Rattle.step_model.specs.Keeps.{Keeps}
 use Rattle.step_model.specs.CourseRuns.{IsLawfulCourse}
 use Rattle.step_model.specs.ClaimSteps.{WorkerOptions, Claimed, at_moment, can_start, plan_of, starts_claimed, claim_of, claim_by, claims_from, claim}
 use Rattle.step_model.specs.StepEnds.{StepEnd, most_refused}
-use Rattle.step_model.specs.Course.{Course, Ends, Calls}
+use Rattle.step_model.specs.Course.{Course, Calls}
 use Rattle.step_laws.specs.Runs.{CallsKeep}
 use Rattle.step_laws.proofs.Runs.{rivals_keep}
-use Rattle.step_laws.proofs.Elements.{IsIn, all_at, all_from, all_to, all_flat, any_of, any_push_yes, is_itself, pairs_map}
+use Rattle.step_laws.proofs.Elements.{all_from, all_to, all_flat, any_of, any_push_yes, is_itself, pairs_map}
 use Rattle.step_laws.proofs.Changed.{found_job}
 use Rattle.course_laws.specs.Claims.{ClaimsAreLawful}
 use Rattle.course_laws.proofs.Later.{Later, later_itself, later_met, later_then, later_by, rivals_later, call_history}

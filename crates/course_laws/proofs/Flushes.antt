@@ -1,5 +1,5 @@
 -- A flush is a lawful course.
-use Rattle.std.proofs.Common.{◌≡◌, ◌≢◌, refl, sym, ◌∙◌, ap, subst, ℕ, zero, suc, ◌+◌, ◌<◌, ◌≤◌, ℤ, pos, negsuc, List, [], ◌∷◌, ◌++◌, cond, Bool, true, false, inl, inr, ◌⊎◌, Option, Some, None, arith}
+use Rattle.std.proofs.Common.{◌≡◌, ◌≢◌, refl, sym, ◌∙◌, ap, subst, ℕ, zero, suc, ◌+◌, ◌<◌, ◌≤◌, ℤ, pos, negsuc, List, [], ◌∷◌, ◌++◌, cond, Bool, true, false, inl, inr, Option, Some, None, arith}
 use Rattle.std.specs.Prelude.{IsTrue, ◌==◌, ◌&&◌, not, nat_lt, nat_le, int_lt, int_le, max, ⊤}
 use Rattle.std.specs.List.{AllByRecursion, list_all}
 use Rattle.std.specs.List.Sorted.{IsStrictlySortedBy}
@@ -12,21 +12,21 @@ use Rattle.row_model.specs.Fold.{Operator}
 use Rattle.row_laws.proofs.Order.{row_total}
 use Rattle.row_laws.proofs.ApartRows.{lt_is}
 use Rattle.row_laws.proofs.Elements.{all_weaken}
-use Rattle.fleet_model.specs.Nodes.{Tables, is_among, table_rows, segment_at, last_seq_of}
-use Rattle.fleet_model.specs.Jobs.{contains, drawn_base}
-use Rattle.fleet_model.specs.History.{Party, Writer, Event, GetManifest, PutTable, PutManifest, ManifestEpoch, Flush, Commit, ManifestChange, Entry, Answer, Done, Conflict, stood}
-use Rattle.fleet_model.specs.Store.{Manifest, Store}
+use Rattle.fleet_model.specs.Nodes.{is_among, table_rows, segment_at, last_seq_of}
+use Rattle.fleet_model.specs.Jobs.{drawn_base}
+use Rattle.fleet_model.specs.History.{Party, Writer, Event, GetManifest, PutTable, PutManifest, ManifestEpoch, Flush, Commit, Entry, Done, Conflict, stood}
+use Rattle.fleet_model.specs.Store.{Manifest}
 use Rattle.fleet_model.specs.Tracker.{tracked_after, least_seq_of}
 use Rattle.fleet_model.specs.Trees.{flushed}
 use Rattle.fleet_model.specs.TreesFit.{IsTable}
-use Rattle.fleet_model.specs.Exchanges.{Exchange, Plain, DrawsJob, DrawsTable, PutsTable, PutsManifest, PutsRecords, ListsTables, DeletesTable, event_of, stands_or_lost}
+use Rattle.fleet_model.specs.Exchanges.{Exchange, Plain, DrawsJob, DrawsTable, PutsTable, PutsManifest, PutsRecords, ListsTables, DeletesTable, event_of}
 use Rattle.step_model.specs.Past.{Told}
-use Rattle.step_model.specs.Entries.{last_name, name_in, was_flushed, flushes, drawn_tables, tables_brought_in}
+use Rattle.step_model.specs.Entries.{last_name, name_in, was_flushed, flushes, tables_brought_in}
 use Rattle.step_model.specs.TablesKept.{IsKnownTable}
 use Rattle.step_model.specs.Lawful.{Lawful}
 use Rattle.step_model.specs.LawfulTables.{TableFits, MayName}
 use Rattle.step_model.specs.LawfulManifests.{FlushFits, IsAbove}
-use Rattle.step_model.specs.Rivals.{Caller, Strike, RivalCall, IsRival, Rivals, called, told_by, told_by_rival, is_deletion}
+use Rattle.step_model.specs.Rivals.{Caller, Strike, Rivals, told_by, is_deletion}
 use Rattle.step_model.specs.Keeps.{Keeps}
 use Rattle.step_model.specs.CourseRuns.{IsLawfulCourse}
 use Rattle.step_model.specs.FlushSteps.{FlushAsk, fault_before_get, fault_after_get, is_above, unless_bad, with_flush, puts_unless_put, flushes_from, flush}
@@ -34,7 +34,7 @@ use Rattle.step_model.specs.StepEnds.{StepEnd, Reports, FlushFault, BadName, Bad
 use Rattle.step_model.specs.Course.{Course, Ends, puts_manifest}
 use Rattle.step_laws.specs.Runs.{CallsKeep}
 use Rattle.step_laws.proofs.Runs.{rivals_keep}
-use Rattle.step_laws.proofs.Elements.{IsIn, all_at, all_to, all_true_front, any_push_no, any_element, Passes}
+use Rattle.step_laws.proofs.Elements.{all_at, all_to, all_true_front, any_push_no, any_element, Passes}
 use Rattle.course_laws.specs.Flushes.{MayAsk, FlushesAreLawful}
 use Rattle.course_laws.proofs.Later.{Later, later_itself, later_then, later_by, rivals_later, later_met, entry_by, answer_by, call_history}
 use Rattle.course_laws.proofs.Calls.{behind, rivals_hold}
@@ -118,19 +118,19 @@ not_among merge ask told kept low unused = by (is_among told.store.tables ask.na
     by true e = absurd (at (any_element (λ (table : ℕ × List Row). table.0 == ask.name) told.store.tables e))
     by false e = refl
 
-not_flushed : (merge : Operator) (ask : FlushAsk) (told : Told) → Keeps merge told → is_among told.store.tables ask.name ≡ false → was_flushed told.store.history ask.name ≡ false
-not_flushed merge ask told kept new = by (was_flushed told.store.history ask.name) refl
+pub not_flushed : (merge : Operator) (name : ℕ) (told : Told) → Keeps merge told → is_among told.store.tables name ≡ false → was_flushed told.store.history name ≡ false
+not_flushed merge name told kept new = by (was_flushed told.store.history name) refl
   where
-    brings : (event : Event) (took : Bool) → (flushes ask.name event && took) ≡ true → AllByRecursion (λ id. IsTrue (is_among told.store.tables id)) (tables_brought_in took event) → ⊥
-    brings (PutManifest (Flush other segment floor tick)) true e all = refused (is_among told.store.tables ask.name) new (subst (λ n. IsTrue (is_among told.store.tables n)) (sym ((Decides-eqb ask.name other).0 (both _ true e).0)) all.0)
-    brings event false e all = absurd (cc ((both (flushes ask.name event) false e).1))
+    brings : (event : Event) (took : Bool) → (flushes name event && took) ≡ true → AllByRecursion (λ id. IsTrue (is_among told.store.tables id)) (tables_brought_in took event) → ⊥
+    brings (PutManifest (Flush other segment floor tick)) true e all = refused (is_among told.store.tables name) new (subst (λ n. IsTrue (is_among told.store.tables n)) (sym ((Decides-eqb name other).0 (both _ true e).0)) all.0)
+    brings event false e all = absurd (cc ((both (flushes name event) false e).1))
     brings event true e all = absurd (cc e)
 
-    at : Passes (λ (entry : Entry). flushes ask.name entry.event && stood entry.answer) told.store.history → ⊥
+    at : Passes (λ (entry : Entry). flushes name entry.event && stood entry.answer) told.store.history → ⊥
     at found = brings found.element.event (stood found.element.answer) found.passes (all_at _ told.store.history found.element kept.facts.puts.brought found.there)
 
-    by : (b : Bool) → was_flushed told.store.history ask.name ≡ b → b ≡ false
-    by true e = absurd (at (any_element (λ (entry : Entry). flushes ask.name entry.event && stood entry.answer) told.store.history e))
+    by : (b : Bool) → was_flushed told.store.history name ≡ b → b ≡ false
+    by true e = absurd (at (any_element (λ (entry : Entry). flushes name entry.event && stood entry.answer) told.store.history e))
     by false e = refl
 
 table_fits : (merge : Operator) (party : Party) (last : ℕ) (ask : FlushAsk) (told : Told) → party ≡ Writer → Keeps merge told → IsSoundFlush last ask → IsUnused ask told → TableFits party told.store ask.name ask.rows
@@ -219,7 +219,7 @@ is_put_behind merge line party last ask told kept sound unused =
       there = put_has_rows line party told.store ask.name ask.rows kept.stored.sound.deleted new;
       once = ap (λ (history : List Entry). was_flushed history ask.name) (call_history line party (PutsTable ask.name ask.rows) None told.store)
           ∙ any_push_no (λ (entry : Entry). flushes ask.name entry.event && stood entry.answer) told.store.history (entry_by line party (PutsTable ask.name ask.rows) None told.store) refl
-          ∙ not_flushed merge ask told kept new;
+          ∙ not_flushed merge ask.name told kept new;
     }
 
 -- ---- the put of the manifest

@@ -1,7 +1,6 @@
 -- What calls leave of tables: a table that is held stays held, unless it is deleted, and its rows stay.
-use Rattle.std.proofs.Common.{◌≡◌, refl, sym, ◌∙◌, ap, subst, ℕ, ◌+◌, ◌*◌, ◌%◌, ◌^◌, ◌<◌, ◌≤◌, List, [], ◌∷◌, ◌++◌, cond, Bool, true, false, inl, inr, ◌⊎◌, Option, Some, None, arith}
-use Rattle.std.specs.Prelude.{IsTrue, ◌==◌, ◌&&◌, ◌||◌, not, find, option_map}
-use Rattle.std.proofs.lemmas.Bool.Decides.{Decides-eqb}
+use Rattle.std.proofs.Common.{◌≡◌, refl, ◌∙◌, ap, ℕ, ◌+◌, ◌*◌, ◌%◌, ◌^◌, ◌<◌, List, [], ◌∷◌, ◌++◌, cond, Bool, true, false, inl, inr, ◌⊎◌, Option, Some, None, arith}
+use Rattle.std.specs.Prelude.{IsTrue, ◌==◌, ◌||◌, find, option_map}
 use Rattle.std.proofs.lemmas.Nat.{mod-mul-add}
 use Rattle.row_model.specs.Rows.{Row}
 use Rattle.row_model.specs.Fold.{Operator}

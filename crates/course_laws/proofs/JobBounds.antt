@@ -1,13 +1,13 @@
 -- The rows that a job makes of rows in bounds are in bounds, and in order, if merged bytes are few enough.
-use Rattle.std.proofs.Common.{◌≡◌, ◌≢◌, refl, sym, ◌∙◌, ap, subst, ℕ, zero, suc, ◌+◌, ◌^◌, ◌<◌, ℤ, List, [], ◌∷◌, ◌++◌, cond, Bool, true, false, Option, Some, None, take, drop, length, arith}
-use Rattle.std.specs.Prelude.{IsTrue, IfSome, ◌==◌, ◌||◌, map, filter, find, flat_map, option_map, nat_le, nat_lt, ⊤}
+use Rattle.std.proofs.Common.{◌≡◌, refl, ℕ, zero, suc, ◌^◌, ◌<◌, ℤ, List, [], ◌∷◌, cond, Bool, true, false, Option, Some, None, take, drop, length, arith}
+use Rattle.std.specs.Prelude.{IfSome, ◌==◌, map, find, flat_map, option_map, nat_le, ⊤}
 use Rattle.std.specs.List.{AllByRecursion}
 use Rattle.std.specs.List.Sorted.{IsStrictlySortedBy}
 use Rattle.std.specs.Ordering.{is_lt}
 use Rattle.std.specs.declared.cmp.Ordering.TheVariants.{Less}
 use Rattle.row_model.specs.Chunks.{Chunk, elements, chunk_by, put_before}
 use Rattle.row_model.specs.Rows.{Row, Content, Value, Merge, Tombstone, row_cmp, same_key, sorted_rows, insert_row, is_operand, is_tombstone, is_expired, IsStrictlyOrdered}
-use Rattle.row_model.specs.Fold.{Operator, Outcome, Merged, Refused, merge_one, fold, fold_bytes, IsLawful}
+use Rattle.row_model.specs.Fold.{Operator, Outcome, Merged, Refused, merge_one, fold, fold_bytes}
 use Rattle.row_model.specs.Settings.{Settings}
 use Rattle.row_model.specs.Sizes.{content_len}
 use Rattle.row_model.specs.Bounds.{IsInBounds}

@@ -3,12 +3,11 @@ use Rattle.std.proofs.Common.{◌≡◌, refl, sym, ◌∙◌, ap, subst, ℕ, �
 use Rattle.std.specs.Prelude.{◌==◌}
 use Rattle.std.proofs.lemmas.Bool.Decides.{Decides-eqb}
 use Rattle.std.proofs.lemmas.List.{append-nil, append_assoc}
-use Rattle.fleet_model.specs.Jobs.{Jobs}
-use Rattle.fleet_model.specs.History.{Party, Event, Answer, Lost, Entry}
+use Rattle.fleet_model.specs.History.{Party, Answer, Lost, Entry}
 use Rattle.fleet_model.specs.Store.{Manifest, Records, Store}
 use Rattle.fleet_model.specs.Exchanges.{Exchange, Plain, DrawsJob, DrawsTable, PutsTable, PutsManifest, PutsRecords, ListsTables, DeletesTable, records_version, performed, event_of, answer_of, stands_or_lost}
 use Rattle.step_model.specs.Past.{Told}
-use Rattle.step_model.specs.Rivals.{Caller, Strike, RivalCall, IsRival, RivalsFrom, Rivals, called, told_by, told_by_rival}
+use Rattle.step_model.specs.Rivals.{Caller, Strike, RivalCall, RivalsFrom, Rivals, called, told_by, told_by_rival}
 
 -- The new manifest has a later version, or it is the old one.
 pub record ManifestLater (old new : Manifest) : Type 0 where

@@ -15,3 +15,7 @@ pub mod Beats
 pub mod JobBounds
 pub mod NewTables
 pub mod Outputs
+pub mod Written
+pub mod Free
+pub mod Made
+pub mod Finishes

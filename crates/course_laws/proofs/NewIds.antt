@@ -1,13 +1,13 @@
 -- Ids that a party drew and that no entry mentions: they are new, and stay new whatever others do.
-use Rattle.std.proofs.Common.{◌≡◌, ◌≢◌, refl, sym, ◌∙◌, ap, subst, ℕ, ◌+◌, ◌%◌, ◌^◌, ◌<◌, ◌≤◌, List, [], ◌∷◌, ◌++◌, cond, Bool, true, false, inl, inr, ◌⊎◌, Option, Some, None, length, arith}
-use Rattle.std.specs.Prelude.{IsTrue, ◌==◌, ◌&&◌, ◌||◌, map, find, option_map, if◌then◌else◌}
-use Rattle.std.specs.List.{AllByRecursion, list_any}
+use Rattle.std.proofs.Common.{◌≡◌, ◌≢◌, refl, sym, ◌∙◌, ap, subst, ℕ, ◌+◌, ◌%◌, ◌^◌, ◌<◌, List, [], ◌∷◌, ◌++◌, cond, Bool, true, false, inl, inr, ◌⊎◌, Option, Some, None, arith}
+use Rattle.std.specs.Prelude.{IsTrue, ◌==◌, ◌&&◌, ◌||◌, map, find, option_map}
+use Rattle.std.specs.List.{AllByRecursion}
 use Rattle.std.proofs.lemmas.Bool.Decides.{Decides-eqb}
 use Rattle.std.proofs.lemmas.Nat.{mod-mul-add}
 use Rattle.row_model.specs.Lists.{Pairs}
 use Rattle.row_model.specs.Fold.{Operator}
 use Rattle.fleet_model.specs.Nodes.{Tables, Trees}
-use Rattle.fleet_model.specs.Jobs.{JobSpec, Job, job_with, contains, number_of, id_of, drawn_base}
+use Rattle.fleet_model.specs.Jobs.{JobSpec, Job, job_with, contains, number_of, id_of}
 use Rattle.fleet_model.specs.History.{Party, Writer, Submitter, Coordinator, Worker, Sweeper, Event, DrawJob, PutManifest, PutRecords, ManifestChange, ManifestEpoch, Flush, Commit, RecordChange, Step, Entry, stood}
 use Rattle.fleet_model.specs.Store.{Manifest, stored_jobs, fresh_store}
 use Rattle.fleet_model.specs.Trees.{job_of, stepped_in, stepped_all}
@@ -15,19 +15,19 @@ use Rattle.fleet_model.specs.Records.{firsts}
 use Rattle.fleet_model.specs.Replay.{Objects, named_specs, outputs_in, after_event, after_entry, replayed, plain_objects, plain_manifest}
 use Rattle.fleet_model.specs.Exchanges.{Exchange, Plain, DrawsJob, DrawsTable, PutsTable, PutsManifest, PutsRecords, ListsTables, DeletesTable, event_of, next_job_id}
 use Rattle.step_model.specs.Past.{Told, manifest_with}
-use Rattle.step_model.specs.Entries.{party_eq, made, drew_job, draws_job, drawn_jobs, job_drawn_in, mentioned_in, is_mentioned, was_named, steps_in}
+use Rattle.step_model.specs.Entries.{party_eq, drew_job, draws_job, drawn_jobs, job_drawn_in, mentioned_in, is_mentioned, was_named, steps_in}
 use Rattle.step_model.specs.Faithful.{Faithful, AgreesWith, with_specs, spec_or}
 use Rattle.step_model.specs.LawfulTables.{DrawFits}
 use Rattle.step_model.specs.LawfulManifests.{IsKnownTo}
 use Rattle.step_model.specs.LawfulRecords.{NamesFit, AreNew}
 use Rattle.step_model.specs.Lawful.{Lawful}
-use Rattle.step_model.specs.Rivals.{Caller, Strike, RivalCall, IsRival, Rivals, told_by, told_by_rival}
+use Rattle.step_model.specs.Rivals.{Caller, Strike, Rivals, told_by}
 use Rattle.step_model.specs.Keeps.{Keeps}
 use Rattle.step_laws.specs.Runs.{CallsKeep}
-use Rattle.step_laws.proofs.Elements.{IsIn, all_at, all_from, all_to, all_push, all_front, all_back, all_append, pairs_push, any_front, any_push_no, any_push_yes, any_of, any_element, Passes, is_itself, contains_in, in_contains, contains_no, contains_front, in_append, in_front}
+use Rattle.step_laws.proofs.Elements.{IsIn, all_at, all_from, all_to, all_push, all_front, all_back, pairs_push, any_front, any_push_no, any_push_yes, any_of, any_element, Passes, is_itself, contains_in, in_contains, contains_no, contains_front, in_append, in_front}
 use Rattle.step_laws.proofs.Respecs.{drew_drawn}
-use Rattle.step_laws.proofs.Changed.{IsFound, job_found}
-use Rattle.course_laws.proofs.Later.{Later, entry_by, answer_by, call_history}
+use Rattle.step_laws.proofs.Changed.{job_found}
+use Rattle.course_laws.proofs.Later.{entry_by, answer_by, call_history}
 use Rattle.course_laws.proofs.Calls.{rivals_hold, in_map}
 use Rattle.course_laws.proofs.Puts.{party_itself}
 use Rattle.course_laws.proofs.Stood.{stood_version}

@@ -1,6 +1,6 @@
 -- The id of a table that a party drew last is new until it puts the table, whatever others do.
-use Rattle.std.proofs.Common.{◌≡◌, ◌≢◌, refl, sym, ◌∙◌, ap, subst, ℕ, ◌+◌, ◌*◌, ◌%◌, ◌^◌, ◌<◌, ◌≤◌, List, [], ◌∷◌, ◌++◌, cond, Bool, true, false, inl, inr, ◌⊎◌, Option, Some, None, length, arith}
-use Rattle.std.specs.Prelude.{IsTrue, ◌==◌, ◌&&◌, ◌||◌, max, nat_lt, option_map, ⊤}
+use Rattle.std.proofs.Common.{◌≡◌, ◌≢◌, refl, sym, ◌∙◌, ap, ℕ, ◌+◌, ◌%◌, ◌^◌, ◌<◌, ◌≤◌, List, [], ◌∷◌, ◌++◌, cond, Bool, true, false, inl, inr, ◌⊎◌, Option, Some, None, arith}
+use Rattle.std.specs.Prelude.{◌==◌, ◌&&◌, ◌||◌, nat_lt, option_map, ⊤}
 use Rattle.std.specs.List.{AllByRecursion, list_any}
 use Rattle.std.proofs.lemmas.Bool.Decides.{Decides-eqb}
 use Rattle.std.proofs.lemmas.Bool.{ltb-true}
@@ -8,25 +8,26 @@ use Rattle.std.proofs.lemmas.Nat.{mod-mul-add}
 use Rattle.row_model.specs.Lists.{Pairs}
 use Rattle.row_model.specs.Rows.{Row}
 use Rattle.row_model.specs.Fold.{Operator}
-use Rattle.fleet_model.specs.Nodes.{Tables, is_among}
-use Rattle.fleet_model.specs.Jobs.{contains, number_of, id_of, table_id_of, drawn_base}
+use Rattle.fleet_model.specs.Nodes.{is_among}
+use Rattle.fleet_model.specs.Jobs.{number_of, id_of, table_id_of, drawn_base}
 use Rattle.fleet_model.specs.History.{Party, Event, DrawTable, PutTable, Entry}
 use Rattle.fleet_model.specs.Store.{Store}
-use Rattle.fleet_model.specs.Exchanges.{Exchange, Plain, DrawsJob, DrawsTable, PutsTable, PutsManifest, PutsRecords, ListsTables, DeletesTable, records_version, performed, event_of, next_table_id}
+use Rattle.fleet_model.specs.Exchanges.{Exchange, Plain, DrawsJob, DrawsTable, PutsTable, PutsManifest, PutsRecords, ListsTables, DeletesTable, records_version, performed, next_table_id}
 use Rattle.step_model.specs.Past.{Told}
-use Rattle.step_model.specs.Entries.{party_eq, last_from, last_event, last_name, name_in, drawn_tables, table_drawn_in}
-use Rattle.step_model.specs.TablesKept.{IsKnownTable}
+use Rattle.step_model.specs.Entries.{party_eq, last_from, last_event, last_name, name_in, was_flushed, drawn_tables, table_drawn_in}
+use Rattle.step_model.specs.TablesKept.{IsKnownTable, IsKnownPiece}
 use Rattle.step_model.specs.LawfulTables.{DrawFits, MayName}
 use Rattle.step_model.specs.Lawful.{Lawful}
 use Rattle.step_model.specs.Rivals.{Caller, Strike, RivalCall, IsRival, Rivals, called, told_by, told_by_rival}
 use Rattle.step_model.specs.Keeps.{Keeps}
 use Rattle.step_laws.specs.Runs.{CallsKeep}
-use Rattle.step_laws.proofs.Elements.{IsIn, all_at, any_element, any_push_no, Passes, contains_in, in_contains, in_front, in_back}
+use Rattle.step_laws.proofs.Elements.{IsIn, all_at, any_element, any_push_no, Passes, contains_in, in_front, in_back}
 use Rattle.course_laws.proofs.Later.{entry_by, call_history}
 use Rattle.course_laws.proofs.Calls.{rivals_hold}
 use Rattle.course_laws.proofs.Puts.{party_itself}
 use Rattle.course_laws.proofs.NewIds.{party_same}
 use Rattle.course_laws.proofs.Sweeps.{last_other}
+use Rattle.course_laws.proofs.Flushes.{not_flushed}
 use Rattle.course_laws.proofs.Held.{refused, last_drawn, drawn_is_high}
 
 -- ---- one draw, one party
@@ -194,14 +195,17 @@ differs a b other = by (party_eq a b) refl
     by true e = absurd (other (sym (party_same a b e)))
     by false e = refl
 
+-- The last drawn id stays new behind a call of another party.
+pub last_drawn_on : (who : Caller) (id : ℕ) (told : Told) (call : RivalCall) → Keeps who.merge told → IsRival who told call → IsLastDrawn who.party told id → IsLastDrawn who.party (told_by_rival call told) id
+last_drawn_on who id told call kept rival one = record {
+  last = ap (λ (history : List Entry). last_event who.party history) (call_history call.line call.party call.exchange call.strike told.store)
+      ∙ ap (option_map (λ (e : Entry). e.event)) (last_other who.party told.store.history (entry_by call.line call.party call.exchange call.strike told.store) None (differs who.party call.party rival.other)) ∙ one.last;
+  new = among_called call.line call.party call.exchange call.strike told.store id (others_put_other who.merge who.party call.party told call.exchange id rival.other kept rival.lawful one) one.new;
+}
+
 -- The last drawn id stays new whatever others do.
 pub rivals_last_drawn : (who : Caller) (id : ℕ) (old new : Told) → CallsKeep who.merge → Keeps who.merge old → Rivals who old new → IsLastDrawn who.party old id → IsLastDrawn who.party new id
-rivals_last_drawn who id old new keep kept rivals h =
-    rivals_hold who (λ told. IsLastDrawn who.party told id) keep (λ told call there rival one. record {
-      last = ap (λ (history : List Entry). last_event who.party history) (call_history call.line call.party call.exchange call.strike told.store)
-          ∙ ap (option_map (λ (e : Entry). e.event)) (last_other who.party told.store.history (entry_by call.line call.party call.exchange call.strike told.store) None (differs who.party call.party rival.other)) ∙ one.last;
-      new = among_called call.line call.party call.exchange call.strike told.store id (others_put_other who.merge who.party call.party told call.exchange id rival.other there rival.lawful one) one.new;
-    }) old new kept rivals h
+rivals_last_drawn who id old new keep kept rivals h = rivals_hold who (λ told. IsLastDrawn who.party told id) keep (last_drawn_on who id) old new kept rivals h
 
 -- ---- a draw
 
@@ -227,28 +231,39 @@ last_own : (party : Party) (history : List Entry) (entry : Entry) (last : Option
 last_own party [] entry last own = ap (λ b. cond b (Some entry) last) own
 last_own party (first ∷ history) entry last own = last_own party history entry (cond (party_eq party first.party) (Some first) last) own
 
--- Behind a draw the drawn id is new.
-pub drawn_last : (who : Caller) (told : Told) (moment : ℕ) → Keeps who.merge told → DrawFits told.store → IsLastDrawn who.party (told_by who.line who.party (DrawsTable moment) None told) (next_table_id moment told.store)
-drawn_last who told moment kept short = record {
-  last = ap (option_map (λ (e : Entry). e.event)) (last_own who.party told.store.history (entry_by who.line who.party (DrawsTable moment) None told.store) None (party_itself who.party));
-  new = by (is_among told.store.tables (next_table_id moment told.store)) refl;
-}
-  where
-    never : (id : ℕ) → id ≡ next_table_id moment told.store → IsKnownTable told.store.history id → ⊥
-    never id same (inl drawn) =
-        let few = kept.facts.draws.few in
-        let low = (all_at _ (drawn_tables told.store.history) id kept.facts.draws.tables_counted (contains_in (drawn_tables told.store.history) id drawn)).1 in
-        let next = number moment (drawn_base + (told.store.tables_drawn + 1)) (omega (arith, few, short)) in
-        let equal = ap number_of same in
-        omega (arith, low, next, equal)
-    never id same (inr low) =
-        let small = last_name_small told.store.history in
-        let high = is_high moment (told.store.tables_drawn + 1) in
-        omega (arith, same, low, small, high)
+-- The next id is none of those that the history knows.
+next_unknown : (merge : Operator) (told : Told) (moment id : ℕ) → Keeps merge told → DrawFits told.store → id ≡ next_table_id moment told.store → IsKnownTable told.store.history id → ⊥
+next_unknown merge told moment id kept short same (inl drawn) =
+    let few = kept.facts.draws.few in
+    let low = (all_at _ (drawn_tables told.store.history) id kept.facts.draws.tables_counted (contains_in (drawn_tables told.store.history) id drawn)).1 in
+    let next = number moment (drawn_base + (told.store.tables_drawn + 1)) (omega (arith, few, short)) in
+    let equal = ap number_of same in
+    omega (arith, low, next, equal)
+next_unknown merge told moment id kept short same (inr low) =
+    let small = last_name_small told.store.history in
+    let high = is_high moment (told.store.tables_drawn + 1) in
+    omega (arith, same, low, small, high)
 
+-- No table that was put has the next id.
+next_not_among : (merge : Operator) (told : Told) (moment : ℕ) → Keeps merge told → DrawFits told.store → is_among told.store.tables (next_table_id moment told.store) ≡ false
+next_not_among merge told moment kept short = by (is_among told.store.tables (next_table_id moment told.store)) refl
+  where
     at : Passes (λ (table : ℕ × List Row). table.0 == next_table_id moment told.store) told.store.tables → ⊥
-    at found = never found.element.0 ((Decides-eqb found.element.0 (next_table_id moment told.store)).0 found.passes) (all_at (λ (table : ℕ × List Row). IsKnownTable told.store.history table.0) told.store.tables found.element kept.facts.puts.known found.there)
+    at found = next_unknown merge told moment found.element.0 kept short ((Decides-eqb found.element.0 (next_table_id moment told.store)).0 found.passes)
+        (all_at (λ (table : ℕ × List Row). IsKnownTable told.store.history table.0) told.store.tables found.element kept.facts.puts.known found.there)
 
     by : (b : Bool) → is_among told.store.tables (next_table_id moment told.store) ≡ b → b ≡ false
     by true e = absurd (at (any_element (λ (table : ℕ × List Row). table.0 == next_table_id moment told.store) told.store.tables e))
     by false e = refl
+
+-- No node holds a table with the next id.
+pub next_is_new : (merge : Operator) (told : Told) (moment : ℕ) → Keeps merge told → DrawFits told.store → IsKnownPiece told.store.history (next_table_id moment told.store) → ⊥
+next_is_new merge told moment kept short (inl drawn) = next_unknown merge told moment (next_table_id moment told.store) kept short refl (inl drawn)
+next_is_new merge told moment kept short (inr flushed) = refused (was_flushed told.store.history (next_table_id moment told.store)) (not_flushed merge (next_table_id moment told.store) told kept (next_not_among merge told moment kept short)) flushed
+
+-- Behind a draw the drawn id is new.
+pub drawn_last : (who : Caller) (told : Told) (moment : ℕ) → Keeps who.merge told → DrawFits told.store → IsLastDrawn who.party (told_by who.line who.party (DrawsTable moment) None told) (next_table_id moment told.store)
+drawn_last who told moment kept short = record {
+  last = ap (option_map (λ (e : Entry). e.event)) (last_own who.party told.store.history (entry_by who.line who.party (DrawsTable moment) None told.store) None (party_itself who.party));
+  new = next_not_among who.merge told moment kept short;
+}

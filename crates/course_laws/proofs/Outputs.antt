@@ -1,22 +1,18 @@
 -- An output of a worker is a lawful course, as long as the history has room for its draw.
-use Rattle.std.proofs.Common.{◌≡◌, ◌≢◌, refl, sym, ◌∙◌, ap, subst, ℕ, ◌<◌, List, [], ◌∷◌, cond, Bool, true, false, inl, inr, Option, Some, None, take}
-use Rattle.std.specs.Prelude.{IsTrue, ◌==◌, map, filter, find}
-use Rattle.std.specs.List.{AllByRecursion}
-use Rattle.std.proofs.lemmas.Bool.Decides.{Decides-eqb}
+use Rattle.std.proofs.Common.{◌≡◌, ℕ, List, [], ◌∷◌, cond, Bool, true, false, inl, inr, Option, Some, None, take}
+use Rattle.std.specs.Prelude.{◌==◌, filter}
 use Rattle.row_model.specs.Rows.{Row, IsStrictlyOrdered}
-use Rattle.row_model.specs.Fold.{Operator, IsLawful}
 use Rattle.row_model.specs.Ranges.{Range}
-use Rattle.fleet_model.specs.Nodes.{Tables}
 use Rattle.fleet_model.specs.TreesFit.{IsTable}
-use Rattle.fleet_model.specs.History.{Party, Worker, GetTable}
+use Rattle.fleet_model.specs.History.{Worker, GetTable}
 use Rattle.fleet_model.specs.Attempts.{source_rows, rows_left}
 use Rattle.fleet_model.specs.Parties.{Attempt, LiveWorker, attempt_at}
 use Rattle.fleet_model.specs.Exchanges.{Plain, DrawsTable, PutsTable, next_table_id}
 use Rattle.step_model.specs.Past.{Told}
 use Rattle.step_model.specs.LawfulTables.{TableFits}
-use Rattle.step_model.specs.Rivals.{Caller, Rivals, told_by}
+use Rattle.step_model.specs.Rivals.{Caller, told_by}
 use Rattle.step_model.specs.Keeps.{Keeps}
-use Rattle.step_model.specs.Fits.{AttemptHeld, WorkerHolds}
+use Rattle.step_model.specs.Fits.{AttemptHeld}
 use Rattle.step_model.specs.CourseRuns.{IsLawfulCourse}
 use Rattle.step_model.specs.OutputSteps.{meets, gets_tables, Written, with_noted, writes, gives_back, writes_or_gives_back, output}
 use Rattle.step_model.specs.StepEnds.{StepEnd, Reports, OperatorRefuses, most_refused}
@@ -25,11 +21,11 @@ use Rattle.step_laws.specs.Runs.{CallsKeep}
 use Rattle.step_laws.proofs.Runs.{rivals_keep}
 use Rattle.step_laws.proofs.Elements.{IsIn, all_at}
 use Rattle.course_laws.specs.Rooms.{IsLawfulWithRoom}
-use Rattle.course_laws.specs.Outputs.{DoesRun, OutputsAreLawful}
+use Rattle.course_laws.specs.Outputs.{OutputsAreLawful}
 use Rattle.course_laws.proofs.Calls.{behind}
 use Rattle.course_laws.proofs.Releases.{releases}
 use Rattle.course_laws.proofs.JobBounds.{IsShort, AreGood, left_good, take_good}
-use Rattle.course_laws.proofs.NewTables.{IsLastDrawn, rivals_last_drawn, drawn_last}
+use Rattle.course_laws.proofs.NewTables.{rivals_last_drawn, drawn_last}
 
 -- A lawful course is one where the history has room, too.
 pub with_room : {A : Type 0} (who : Caller) (course : Course A) (told : Told) → IsLawfulCourse who told course → IsLawfulWithRoom who told course
@@ -68,7 +64,7 @@ found_in (first ∷ attempts) job a e = by (job == first.job) (found_in attempts
     by true rest e = inl (cc e)
     by false rest e = inr (rest e)
 
-back_lawful : (A : Type 0) (who : Caller) (w : LiveWorker) (a : Attempt) (message : List ℕ) (told : Told) → who.party ≡ Worker w.number → IsLawfulWithRoom who told (gives_back {A = A} w a message)
+pub back_lawful : (A : Type 0) (who : Caller) (w : LiveWorker) (a : Attempt) (message : List ℕ) (told : Told) → who.party ≡ Worker w.number → IsLawfulWithRoom who told (gives_back {A = A} w a message)
 back_lawful A who w a message told by = with_room who (gives_back {A = A} w a message) told (releases {A = A} who w (a ∷ []) (λ released. Ends (OperatorRefuses message)) by (λ new released. tt) most_refused 0 told)
 
 written_lawful : (who : Caller) (moment : ℕ) (w : LiveWorker) (a : Attempt) (place : ℕ) (rows : List Row) (told : Told) → CallsKeep who.merge → Keeps who.merge told → AreGood rows → IsLawfulWithRoom who told (writes moment w a place rows)

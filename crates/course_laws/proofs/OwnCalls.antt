@@ -1,22 +1,20 @@
 -- A worker's own calls that change nothing leave what it holds.
-use Rattle.std.proofs.Common.{◌≡◌, refl, sym, ◌∙◌, ap, subst, ℕ, ◌+◌, List, [], ◌∷◌, ◌++◌, cond, Bool, true, false, inl, inr, ◌⊎◌, Option, Some, None}
-use Rattle.std.specs.Prelude.{IsTrue, IfSome, ◌==◌, ◌&&◌}
-use Rattle.std.specs.List.{AllByRecursion}
+use Rattle.std.proofs.Common.{◌≡◌, refl, sym, subst, ℕ, ◌+◌, [], ◌∷◌, cond, Bool, true, false, inl, inr, Some, None}
+use Rattle.std.specs.Prelude.{◌==◌, ◌&&◌}
 use Rattle.row_model.specs.Fold.{Operator}
 use Rattle.fleet_model.specs.Jobs.{JobSpec, Job, Jobs, Context, job_with}
-use Rattle.fleet_model.specs.History.{Party, Worker, Event, GetManifest, GetRecords, GetTable, Plan, PutRecords, RecordChange, Answer, Done, Conflict, Entry, stood}
+use Rattle.fleet_model.specs.History.{Party, Worker, GetRecords, GetTable, PutRecords, RecordChange, Done, Conflict, Entry, stood}
 use Rattle.fleet_model.specs.Store.{stored_jobs}
-use Rattle.fleet_model.specs.Parties.{Attempt, LiveWorker, live_attempts}
-use Rattle.fleet_model.specs.AttemptsFit.{ContextFits, AttemptFits, LiveFits, AttemptStands, WorkerFits}
-use Rattle.fleet_model.specs.Exchanges.{Exchange, Plain, PutsRecords, records_version, logged, answer_of}
+use Rattle.fleet_model.specs.Parties.{LiveWorker, live_attempts}
+use Rattle.fleet_model.specs.AttemptsFit.{ContextFits, WorkerFits}
+use Rattle.fleet_model.specs.Exchanges.{Plain, PutsRecords, records_version, logged, answer_of}
 use Rattle.step_model.specs.Past.{Told, told_after}
-use Rattle.step_model.specs.Entries.{claims, did, puts_table, party_eq}
-use Rattle.step_model.specs.Faithful.{Faithful}
-use Rattle.step_model.specs.LawfulTables.{MayUse, IsOwnTable}
-use Rattle.step_model.specs.Fits.{AttemptHeld, NotesOwn, noted_tables, WorkerHolds}
+use Rattle.step_model.specs.Entries.{claims, puts_table, party_eq}
+use Rattle.step_model.specs.LawfulTables.{MayUse}
+use Rattle.step_model.specs.Fits.{noted_tables, WorkerHolds}
 use Rattle.step_model.specs.Rivals.{told_by}
 use Rattle.step_laws.proofs.Elements.{all_to, any_front}
-use Rattle.step_laws.proofs.Mute.{IsQuiet, IsMute, quiet_for, mute_event, mute_refused}
+use Rattle.step_laws.proofs.Mute.{IsQuiet, quiet_for, mute_event, mute_refused}
 use Rattle.step_laws.proofs.MuteBodies.{entered, faithful_before, claimed_quiet, if_some_to}
 use Rattle.step_laws.proofs.Grown.{drawn_table_grows}
 use Rattle.step_laws.proofs.Quiet.{told_entered}

@@ -1,19 +1,18 @@
 -- Puts for a version that was got: if that version is still stored, then so is the value.
-use Rattle.std.proofs.Common.{◌≡◌, refl, sym, ◌∙◌, ap, subst, ℕ, List, [], ◌∷◌, ◌++◌, cond, Bool, true, false, Option, Some, None}
+use Rattle.std.proofs.Common.{◌≡◌, refl, sym, ◌∙◌, ap, subst, ℕ, List, [], ◌∷◌, cond, Bool, true, false, Option, Some}
 use Rattle.std.specs.Prelude.{IsTrue, ◌&&◌, filter, is_some}
 use Rattle.std.specs.List.{AllByRecursion}
 use Rattle.row_model.specs.Fold.{Operator}
-use Rattle.fleet_model.specs.Jobs.{Job}
-use Rattle.fleet_model.specs.History.{Party, Writer, Submitter, Coordinator, Worker, Sweeper, Event, Entry, stood, PutRecords, RecordChange}
-use Rattle.fleet_model.specs.Store.{Records, stored_jobs, jobs_in}
+use Rattle.fleet_model.specs.History.{Party, Writer, Submitter, Coordinator, Worker, Sweeper, Event, Entry, stood, RecordChange}
+use Rattle.fleet_model.specs.Store.{Records, jobs_in}
 use Rattle.fleet_model.specs.Records.{Unrecorded, jobs_after}
-use Rattle.fleet_model.specs.Replay.{epoch_after, named_specs}
+use Rattle.fleet_model.specs.Replay.{epoch_after}
 use Rattle.fleet_model.specs.Exchanges.{records_version}
 use Rattle.step_model.specs.Past.{Told}
-use Rattle.step_model.specs.Entries.{party_eq, did, last_event, last_entry}
-use Rattle.step_model.specs.LawfulRecords.{NamesFit, RecordsFit, ChangeFits, may_make, OfSome}
+use Rattle.step_model.specs.Entries.{party_eq, did}
+use Rattle.step_model.specs.LawfulRecords.{NamesFit, RecordsFit, ChangeFits, may_make}
 use Rattle.step_laws.proofs.Elements.{any_front, is_itself}
-use Rattle.course_laws.proofs.Later.{Later, RecordsLater}
+use Rattle.course_laws.proofs.Later.{Later}
 
 pub party_itself : (party : Party) → party_eq party party ≡ true
 party_itself Writer = refl

@@ -1,18 +1,18 @@
 -- The steps by which a worker gives attempts back are lawful courses.
-use Rattle.std.proofs.Common.{◌≡◌, refl, sym, ◌∙◌, ap, subst, ℕ, zero, suc, List, [], ◌∷◌, cond, Bool, true, false, Option, Some, None}
-use Rattle.std.specs.Prelude.{IsTrue, ◌==◌, filter}
+use Rattle.std.proofs.Common.{◌≡◌, refl, sym, subst, ℕ, zero, suc, List, [], ◌∷◌, cond, Bool, true, false, Option, Some, None}
+use Rattle.std.specs.Prelude.{◌==◌, filter}
 use Rattle.std.specs.List.{AllByRecursion}
 use Rattle.fleet_model.specs.Jobs.{Job, job_with}
 use Rattle.fleet_model.specs.History.{Worker, GetRecords, Release}
-use Rattle.fleet_model.specs.Store.{Records, jobs_in, stored_jobs}
+use Rattle.fleet_model.specs.Store.{Records, jobs_in}
 use Rattle.fleet_model.specs.Records.{jobs_after}
 use Rattle.fleet_model.specs.Parties.{Attempt, LiveWorker, is_live, runs_attempt, named, attempt_jobs}
 use Rattle.fleet_model.specs.Gates.{is_nonempty}
 use Rattle.fleet_model.specs.Exchanges.{Plain, PutsRecords, records_version}
 use Rattle.step_model.specs.Past.{Told}
 use Rattle.step_model.specs.Lawful.{Lawful}
-use Rattle.step_model.specs.LawfulRecords.{RecordsFit, OfSome, IsLiveAt, IsStoredAs}
-use Rattle.step_model.specs.Rivals.{Caller, Rivals, told_by}
+use Rattle.step_model.specs.LawfulRecords.{OfSome, IsLiveAt, IsStoredAs}
+use Rattle.step_model.specs.Rivals.{Caller, told_by}
 use Rattle.step_model.specs.CourseRuns.{IsLawfulCourse}
 use Rattle.step_model.specs.ClaimSteps.{at_moment}
 use Rattle.step_model.specs.BeatSteps.{release_of, release_by, releases_from, release_all}

@@ -1,23 +1,22 @@
 -- The start of a coordinator is a lawful course.
-use Rattle.std.proofs.Common.{◌≡◌, refl, sym, ◌∙◌, ap, subst, ℕ, zero, suc, ◌+◌, ◌≤◌, List, cond, Bool, true, false, Option, Some, None, arith}
-use Rattle.std.specs.Prelude.{IsTrue, ◌==◌, ◌&&◌, nat_lt, max}
+use Rattle.std.proofs.Common.{◌≡◌, refl, sym, ap, subst, ℕ, zero, suc, ◌+◌, ◌≤◌, List, cond, Bool, true, false, Option, None, arith}
+use Rattle.std.specs.Prelude.{IsTrue, ◌==◌, ◌&&◌, nat_lt}
 use Rattle.fleet_model.specs.Jobs.{trimmed}
-use Rattle.fleet_model.specs.History.{Party, Coordinator, Event, GetManifest, GetRecords, PutManifest, ManifestEpoch, RecordsEpoch, Entry, Answer, Done, Conflict, stood}
+use Rattle.fleet_model.specs.History.{Party, Coordinator, GetManifest, GetRecords, ManifestEpoch, RecordsEpoch, Entry, stood}
 use Rattle.fleet_model.specs.Store.{Manifest, Records, jobs_in, records_epoch}
-use Rattle.fleet_model.specs.Records.{Unrecorded}
 use Rattle.fleet_model.specs.Exchanges.{Plain, PutsManifest, PutsRecords, records_version}
 use Rattle.step_model.specs.Past.{Told}
 use Rattle.step_model.specs.Entries.{party_eq, did_put_epoch, puts_epoch}
 use Rattle.step_model.specs.Lawful.{Lawful}
 use Rattle.step_model.specs.LawfulManifests.{EpochFits}
 use Rattle.step_model.specs.LawfulRecords.{RecordsFit}
-use Rattle.step_model.specs.Rivals.{Caller, Rivals, told_by}
+use Rattle.step_model.specs.Rivals.{Caller, told_by}
 use Rattle.step_model.specs.CourseRuns.{IsLawfulCourse}
 use Rattle.step_model.specs.ClaimSteps.{at_moment}
 use Rattle.step_model.specs.PollSteps.{start, starts_from, epoch_above, holds_at_start, unless_fenced}
 use Rattle.step_model.specs.PollSteps as step
 use Rattle.step_model.specs.StepEnds.{StepEnd, Reports, Fenced, most_refused}
-use Rattle.step_model.specs.Course.{Course, Ends, puts_manifest}
+use Rattle.step_model.specs.Course.{Course, Ends}
 use Rattle.step_laws.proofs.Elements.{any_push_yes, is_itself}
 use Rattle.course_laws.specs.Starts.{StartsAreLawful}
 use Rattle.course_laws.proofs.Later.{Later, later_itself, rivals_later, later_met, call_history}

@@ -1,6 +1,6 @@
 -- Submissions are lawful courses, as long as the history has room for their draws.
-use Rattle.std.proofs.Common.{◌≡◌, refl, sym, ◌∙◌, ap, subst, ℕ, zero, suc, List, [], ◌∷◌, ◌++◌, cond, Bool, true, false, Option, Some, None}
-use Rattle.std.specs.Prelude.{IsTrue, ◌==◌}
+use Rattle.std.proofs.Common.{◌≡◌, refl, sym, subst, ℕ, zero, suc, List, [], ◌∷◌, ◌++◌, cond, Bool, true, false, Option, Some, None}
+use Rattle.std.specs.Prelude.{◌==◌}
 use Rattle.std.proofs.lemmas.List.{append-nil, append_assoc}
 use Rattle.fleet_model.specs.Jobs.{JobSpec}
 use Rattle.fleet_model.specs.History.{Submitter, GetManifest, GetRecords, Submit}
@@ -11,7 +11,7 @@ use Rattle.fleet_model.specs.Scheduler as scheduler
 use Rattle.fleet_model.specs.Exchanges.{Plain, DrawsJob, PutsRecords, records_version, next_job_id}
 use Rattle.step_model.specs.Past.{Told}
 use Rattle.step_model.specs.Lawful.{Lawful}
-use Rattle.step_model.specs.Rivals.{Caller, Rivals, told_by}
+use Rattle.step_model.specs.Rivals.{Caller, told_by}
 use Rattle.step_model.specs.Keeps.{Keeps}
 use Rattle.step_model.specs.ClaimSteps.{at_moment}
 use Rattle.step_model.specs.SubmitSteps.{submits_drawn, submits_specs, submit_by, submits_from, submit, submits_generated, request_by, requests_from, submit_request}

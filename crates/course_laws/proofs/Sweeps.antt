@@ -5,22 +5,21 @@ use Rattle.std.specs.List.{AllByRecursion}
 use Rattle.row_model.specs.Lists.{Pairs}
 use Rattle.row_model.specs.Rows.{Row}
 use Rattle.fleet_model.specs.Jobs.{contains, is_active, put_id, in_id_order}
-use Rattle.fleet_model.specs.History.{Party, Writer, Sweeper, Event, GetManifest, GetRecords, Entry}
-use Rattle.fleet_model.specs.Store.{Manifest, Records, Store, stored_jobs, is_held, held_tables}
+use Rattle.fleet_model.specs.History.{Party, Writer, Sweeper, GetManifest, GetRecords, Entry}
+use Rattle.fleet_model.specs.Store.{Manifest, Records, Store, stored_jobs, held_tables}
 use Rattle.fleet_model.specs.Handles.{named_tables}
 use Rattle.fleet_model.specs.Sweeps.{is_unneeded, swept_tables}
 use Rattle.fleet_model.specs.Exchanges.{Exchange, Plain, ListsTables, DeletesTable}
 use Rattle.fleet_laws.proofs.Sweeps.{sweep_is_exact}
 use Rattle.step_model.specs.Past.{Told}
-use Rattle.step_model.specs.Entries.{party_eq, last_from, last_entry, is_pending, is_pending_in}
+use Rattle.step_model.specs.Entries.{party_eq, last_from, is_pending, is_pending_in}
 use Rattle.step_model.specs.Lawful.{Lawful}
 use Rattle.step_model.specs.LawfulTables.{DeletionFits}
-use Rattle.step_model.specs.Rivals.{Caller, RivalCall, RivalsFrom, Rivals, told_by}
-use Rattle.step_model.specs.Keeps.{Keeps}
+use Rattle.step_model.specs.Rivals.{Caller, RivalsFrom, Rivals, told_by}
 use Rattle.step_model.specs.CourseRuns.{IsLawfulCourse}
 use Rattle.step_model.specs.SweepSteps.{deletes_each, sweep}
 use Rattle.step_model.specs.Course.{Course, Ends, Calls}
-use Rattle.step_laws.proofs.Elements.{IsIn, all_from, all_to, in_contains, pairs_map}
+use Rattle.step_laws.proofs.Elements.{all_from, in_contains, pairs_map}
 use Rattle.step_laws.proofs.Held.{held_but}
 use Rattle.course_laws.specs.Sweeps.{SweepsAreLawful}
 use Rattle.course_laws.proofs.Calls.{pairs_filter}

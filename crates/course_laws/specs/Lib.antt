@@ -7,3 +7,5 @@ pub mod Submits
 pub mod Sweeps
 pub mod Beats
 pub mod Outputs
+pub mod Free
+pub mod Finishes

@@ -5,6 +5,7 @@
 
 ghost use Rattle.course_laws.specs.Beats.{BeatsAreLawful};
 ghost use Rattle.course_laws.specs.Claims.{ClaimsAreLawful};
+ghost use Rattle.course_laws.specs.Finishes.{FinishesAreLawful};
 ghost use Rattle.course_laws.specs.Flushes.{FlushesAreLawful};
 ghost use Rattle.course_laws.specs.Outputs.{OutputsAreLawful};
 ghost use Rattle.course_laws.specs.Releases.{ReleasesAreLawful};
@@ -60,4 +61,12 @@ pub fn beats_are_lawful()
 /// when the table is put, whatever others did since the draw.
 pub fn outputs_are_lawful()
     ensures { OutputsAreLawful }
+{}
+
+/// A finish of a worker that fits is a lawful course under a lawful operator, as long as the history
+/// has room for its draws, if every lawful call keeps the invariant, and if calls of others keep
+/// what the worker holds and name none of its free tables. The put that ends the job names outputs
+/// that hold all rows that the attempt's settings make of the job's sources.
+pub fn finishes_are_lawful()
+    ensures { FinishesAreLawful }
 {}

@@ -1,0 +1,156 @@
+-- The table that a party puts under the id that it drew last is free to be named, and stays so behind its own calls.
+use Rattle.std.proofs.Common.{◌≡◌, refl, sym, ◌∙◌, subst, ℕ, ◌+◌, List, [], ◌∷◌, ◌++◌, cond, Bool, true, false, inl, inr, ◌⊎◌, None, length}
+use Rattle.std.specs.Prelude.{IsTrue, ◌==◌, ◌&&◌, not, filter, flat_map}
+use Rattle.std.specs.List.{AllByRecursion}
+use Rattle.row_model.specs.Rows.{Row}
+use Rattle.row_model.specs.Fold.{Operator}
+use Rattle.fleet_model.specs.Nodes.{is_among, Node}
+use Rattle.fleet_model.specs.Jobs.{Job, Jobs, contains, is_active}
+use Rattle.fleet_model.specs.History.{Party, PutTable, Done, Entry, stood}
+use Rattle.fleet_model.specs.Store.{Manifest, stored_jobs, is_held, AreHeld}
+use Rattle.fleet_model.specs.Handles.{tree_tables, job_tables}
+use Rattle.fleet_model.specs.Exchanges.{Exchange, DrawsTable, PutsTable, next_table_id}
+use Rattle.step_model.specs.Past.{Told}
+use Rattle.step_model.specs.Entries.{party_eq, puts_table}
+use Rattle.step_model.specs.LawfulTables.{DrawFits, was_piece, other_tables, IsOwnTable}
+use Rattle.step_model.specs.TablesKept.{IsKnownPiece}
+use Rattle.step_model.specs.Rivals.{Caller, Strike, Rivals, called, told_by}
+use Rattle.step_model.specs.Keeps.{Keeps}
+use Rattle.step_laws.specs.Runs.{CallsKeep}
+use Rattle.step_laws.proofs.Elements.{IsIn, all_at, all_from, all_flat, all_true_front, any_element, any_front, any_push_no, any_push_yes, Passes, is_itself, contains_in, contains_no, in_contains, in_front, in_back, in_append}
+use Rattle.step_laws.proofs.Grown.{drawn_table_grows}
+use Rattle.step_laws.proofs.Held.{held_put}
+use Rattle.step_laws.proofs.MuteBodies.{entered}
+use Rattle.step_laws.proofs.TableBodies.{with_table}
+use Rattle.step_laws.proofs.Quiet.{told_entered}
+use Rattle.course_laws.specs.Free.{IsFree}
+use Rattle.course_laws.proofs.Later.{entry_by}
+use Rattle.course_laws.proofs.Calls.{rivals_hold, filtered}
+use Rattle.course_laws.proofs.Puts.{party_itself}
+use Rattle.course_laws.proofs.Held.{refused, last_drawn}
+use Rattle.course_laws.proofs.NewTables.{IsLastDrawn, last_drawn_on, drawn_last, next_is_new}
+
+-- ---- a table that is not put yet is named by nothing
+
+-- No stored node holds a table that was not put.
+not_in_trees : (merge : Operator) (told : Told) (id : ℕ) → Keeps merge told → is_among told.store.tables id ≡ false → contains (flat_map tree_tables told.store.manifest.trees) id ≡ false
+not_in_trees merge told id kept new = contains_no (flat_map tree_tables told.store.manifest.trees) id (λ there. refused (is_among told.store.tables id) new
+    (all_at (λ n. IsTrue (is_among told.store.tables n)) (flat_map tree_tables told.store.manifest.trees) id
+    (all_flat _ tree_tables told.store.manifest.trees (all_from _ told.store.manifest.trees (λ s one. all_flat _ (λ (node : Node). node.pieces) s.tree (all_from _ s.tree (λ node other.
+    pieces_put node.pieces (all_at _ s.tree node (all_at _ told.store.manifest.trees s kept.stored.tables.pieces one) other)))))) there))
+  where
+    pieces_put : (ids : List ℕ) → AreHeld told.store ids → AllByRecursion (λ n. IsTrue (is_among told.store.tables n)) ids
+    pieces_put ids held = all_from _ ids (λ n there. held_put told.store n (all_at _ ids n (all_true_front (is_held told.store) ids held) there))
+
+-- No active job names a table that was not put.
+not_in_jobs : (merge : Operator) (told : Told) (id : ℕ) → Keeps merge told → is_among told.store.tables id ≡ false → contains (flat_map job_tables (filter is_active (stored_jobs told.store))) id ≡ false
+not_in_jobs merge told id kept new = contains_no (flat_map job_tables (filter is_active (stored_jobs told.store))) id (λ there. refused (is_among told.store.tables id) new
+    (all_at (λ n. IsTrue (is_among told.store.tables n)) (flat_map job_tables (filter is_active (stored_jobs told.store))) id
+    (all_flat _ job_tables (filter is_active (stored_jobs told.store)) (all_from _ (filter is_active (stored_jobs told.store)) (λ job one.
+    let both = all_at _ (filter is_active (stored_jobs told.store)) job (filtered is_active (stored_jobs told.store)) one in
+    all_from _ (job_tables job) (λ n other. held_put told.store n (all_at _ (job_tables job) n (all_true_front (is_held told.store) (job_tables job) (all_at _ (stored_jobs told.store) job kept.stored.tables.jobs both.0 both.1).named) other))))) there))
+
+-- ---- between the draw and the put
+
+-- The party drew the id last, no table has it, and no node ever held it.
+pub record IsUnput (party : Party) (told : Told) (id : ℕ) : Type 0 where
+  pub last : IsLastDrawn party told id
+  pub unused : was_piece told.past id ≡ false
+
+unused_on : (merge : Operator) (line : ℕ) (party : Party) (x : Exchange) (strike : Strike) (told : Told) (id : ℕ) → Keeps merge (told_by line party x strike told) → is_among (told_by line party x strike told).store.tables id ≡ false
+    → was_piece told.past id ≡ false → was_piece (told_by line party x strike told).past id ≡ false
+unused_on merge line party x strike told id kept new unused = by (told.store.manifest.version == (called line party x strike told.store).manifest.version)
+  where
+    by : (b : Bool) → was_piece (cond b told.past (told.past ++ (called line party x strike told.store).manifest ∷ [])) id ≡ false
+    by true = unused
+    by false = any_push_no (λ (m : Manifest). contains (flat_map tree_tables m.trees) id) told.past (called line party x strike told.store).manifest (not_in_trees merge (told_by line party x strike told) id kept new) ∙ unused
+
+pub rivals_unput : (who : Caller) (id : ℕ) (old new : Told) → CallsKeep who.merge → Keeps who.merge old → Rivals who old new → IsUnput who.party old id → IsUnput who.party new id
+rivals_unput who id old new keep kept rivals h =
+    rivals_hold who (λ told. IsUnput who.party told id) keep (λ told call there rival one.
+    let last = last_drawn_on who id told call there rival one.last in
+    record {
+      last = last;
+      unused = unused_on who.merge call.line call.party call.exchange call.strike told id (keep call.exchange call.line call.party call.strike told there rival.lawful rival.strike) last.new one.unused;
+    }) old new kept rivals h
+
+pub drawn_unput : (who : Caller) (told : Told) (moment : ℕ) → CallsKeep who.merge → Keeps who.merge told → DrawFits told.store → IsUnput who.party (told_by who.line who.party (DrawsTable moment) None told) (next_table_id moment told.store)
+drawn_unput who told moment keep kept short =
+    let last = drawn_last who told moment kept short in
+    record {
+      last = last;
+      unused = unused_on who.merge who.line who.party (DrawsTable moment) None told (next_table_id moment told.store) (keep (DrawsTable moment) who.line who.party None told kept short tt) last.new
+          (before (was_piece told.past (next_table_id moment told.store)) refl);
+    }
+  where
+    at : Passes (λ (m : Manifest). contains (flat_map tree_tables m.trees) (next_table_id moment told.store)) told.past → ⊥
+    at found = next_is_new who.merge told moment kept short
+        (all_at (IsKnownPiece told.store.history) (flat_map tree_tables found.element.trees) (next_table_id moment told.store)
+        (all_at (λ (m : Manifest). AllByRecursion (IsKnownPiece told.store.history) (flat_map tree_tables m.trees)) told.past found.element kept.facts.pieces.pieces found.there)
+        (contains_in (flat_map tree_tables found.element.trees) (next_table_id moment told.store) found.passes))
+
+    before : (b : Bool) → was_piece told.past (next_table_id moment told.store) ≡ b → was_piece told.past (next_table_id moment told.store) ≡ false
+    before true e = absurd (at (any_element (λ (m : Manifest). contains (flat_map tree_tables m.trees) (next_table_id moment told.store)) told.past e))
+    before false e = e
+
+-- ---- behind the put
+
+pub free_entered : (party : Party) (told : Told) (jobs_drawn tables_drawn : ℕ) (entry : Entry) (table : ℕ) → IsFree party told table → IsFree party (entered told told.store.deleted jobs_drawn tables_drawn entry) table
+free_entered party told jobs_drawn tables_drawn entry table h = record {
+  drawn = drawn_table_grows told.store.history entry table h.drawn;
+  put = any_front (λ (e : Entry). party_eq party e.party && puts_table table e.event && stood e.answer) told.store.history (entry ∷ []) h.put;
+  unused = h.unused;
+  unnamed = h.unnamed;
+}
+
+-- The table is free behind its put.
+pub free_put : (merge : Operator) (line : ℕ) (party : Party) (table : ℕ) (rows : List Row) (told : Told) → Keeps merge told → IsUnput party told table → IsFree party (told_by line party (PutsTable table rows) None told) table
+free_put merge line party table rows told kept h =
+    let entry : Entry = record { line = line; party = party; event = PutTable table (length rows); answer = Done 0 } in
+    subst (λ (t : Told). IsFree party t table) (sym (told_entered (with_table told (table, rows)) told.store.deleted told.store.jobs_drawn told.store.tables_drawn entry)) (record {
+      drawn = drawn_table_grows told.store.history entry table (last_drawn party table told.store.history h.last.last);
+      put = any_push_yes (λ (e : Entry). party_eq party e.party && puts_table table e.event && stood e.answer) told.store.history entry (rw (party_itself party, is_itself table) refl);
+      unused = h.unused;
+      unnamed = not_in_jobs merge told table kept h.last.new;
+    })
+
+pub free_behind_draw : (line : ℕ) (party : Party) (moment : ℕ) (told : Told) (table : ℕ) → IsFree party told table → IsFree party (told_by line party (DrawsTable moment) None told) table
+free_behind_draw line party moment told table h =
+    let entry = entry_by line party (DrawsTable moment) None told.store in
+    subst (λ (t : Told). IsFree party t table) (sym (told_entered told told.store.deleted told.store.jobs_drawn (told.store.tables_drawn + 1) entry)) (free_entered party told told.store.jobs_drawn (told.store.tables_drawn + 1) entry table h)
+
+pub free_behind_put : (line : ℕ) (party : Party) (other : ℕ) (rows : List Row) (told : Told) (table : ℕ) → IsFree party told table → IsFree party (told_by line party (PutsTable other rows) None told) table
+free_behind_put line party other rows told table h =
+    let entry : Entry = record { line = line; party = party; event = PutTable other (length rows); answer = Done 0 } in
+    let grown = with_table told (other, rows) in
+    subst (λ (t : Told). IsFree party t table) (sym (told_entered grown told.store.deleted told.store.jobs_drawn told.store.tables_drawn entry))
+    (free_entered party grown told.store.jobs_drawn told.store.tables_drawn entry table (record { drawn = h.drawn; put = h.put; unused = h.unused; unnamed = h.unnamed }))
+
+-- A free table is the party's own for each job.
+pub free_own : (party : Party) (told : Told) (id table : ℕ) → IsFree party told table → IsOwnTable party told id table
+free_own party told id table h = record {
+  drawn = h.drawn;
+  put = h.put;
+  unused = h.unused;
+  unnamed = contains_no (other_tables id (stored_jobs told.store)) table (λ there. refused (contains (flat_map job_tables (filter is_active (stored_jobs told.store))) table) h.unnamed
+      (in_contains (flat_map job_tables (filter is_active (stored_jobs told.store))) table (fewer (stored_jobs told.store) there)));
+}
+  where
+    skip : (job : Job) (jobs : Jobs) (b : Bool) → IsIn table (flat_map job_tables (filter is_active jobs)) → IsIn table (flat_map job_tables (cond b (job ∷ filter is_active jobs) (filter is_active jobs)))
+    skip job jobs true there = in_back table (job_tables job) (flat_map job_tables (filter is_active jobs)) there
+    skip job jobs false there = there
+
+    by : (job : Job) (jobs : Jobs) (active other : Bool) → (IsIn table (flat_map job_tables (filter (λ j. is_active j && not (id == j.id)) jobs)) → IsIn table (flat_map job_tables (filter is_active jobs)))
+        → IsIn table (flat_map job_tables (cond (active && other) (job ∷ filter (λ j. is_active j && not (id == j.id)) jobs) (filter (λ j. is_active j && not (id == j.id)) jobs)))
+        → IsIn table (flat_map job_tables (cond active (job ∷ filter is_active jobs) (filter is_active jobs)))
+    by job jobs true true rest there = first (in_append table (job_tables job) (flat_map job_tables (filter (λ j. is_active j && not (id == j.id)) jobs)) there)
+      where
+        first : IsIn table (job_tables job) ⊎ IsIn table (flat_map job_tables (filter (λ j. is_active j && not (id == j.id)) jobs)) → IsIn table (job_tables job ++ flat_map job_tables (filter is_active jobs))
+        first (inl one) = in_front table (job_tables job) (flat_map job_tables (filter is_active jobs)) one
+        first (inr one) = in_back table (job_tables job) (flat_map job_tables (filter is_active jobs)) (rest one)
+    by job jobs true false rest there = skip job jobs true (rest there)
+    by job jobs false other rest there = rest there
+
+    fewer : (jobs : Jobs) → IsIn table (flat_map job_tables (filter (λ j. is_active j && not (id == j.id)) jobs)) → IsIn table (flat_map job_tables (filter is_active jobs))
+    fewer [] there = there
+    fewer (job ∷ jobs) there = by job jobs (is_active job) (not (id == job.id)) (fewer jobs) there

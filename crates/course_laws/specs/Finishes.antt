@@ -1,0 +1,32 @@
+-- The law on finishes.
+use Rattle.std.specs.Prelude.{◌≡◌, ℕ, List, Option, Some, None, true, ⊤}
+use Rattle.std.specs.List.{AllByRecursion}
+use Rattle.row_model.specs.Fold.{Operator, IsLawful}
+use Rattle.fleet_model.specs.Nodes.{Tables}
+use Rattle.fleet_model.specs.History.{Worker}
+use Rattle.fleet_model.specs.Attempts.{rows_left}
+use Rattle.fleet_model.specs.Parties.{Attempt, LiveWorker}
+use Rattle.step_model.specs.Past.{Told}
+use Rattle.step_model.specs.Rivals.{Caller}
+use Rattle.step_model.specs.Keeps.{Keeps}
+use Rattle.step_model.specs.Fits.{WorkerHolds}
+use Rattle.step_model.specs.ClaimSteps.{WorkerOptions}
+use Rattle.step_model.specs.OutputSteps.{finish}
+use Rattle.step_laws.specs.Runs.{CallsKeep}
+use Rattle.course_laws.specs.Rooms.{IsLawfulWithRoom}
+use Rattle.course_laws.specs.Beats.{RivalsKeepWorker}
+use Rattle.course_laws.specs.Free.{RivalsKeepFree}
+use Rattle.course_laws.specs.Outputs.{DoesRun}
+
+-- If the operator refused no fold, all ranges of the attempt are whole.
+abbrev pub WholeUnless : Operator → Tables → Attempt → Option (List ℕ) → Type 0
+WholeUnless merge tables a None = AllByRecursion (λ range. (rows_left merge tables a.context.settings a.sources range).whole ≡ true) a.context.ranges
+WholeUnless merge tables a (Some message) = ⊤
+
+-- A finish of a worker that fits is a lawful course under a lawful operator, as long as the history
+-- has room for its draws, if every lawful call keeps the invariant, and if calls of others keep what
+-- the worker holds and name none of its free tables.
+abbrev pub FinishesAreLawful : Type 0
+FinishesAreLawful = (who : Caller) (told : Told) (options : WorkerOptions) (moment : ℕ) (w : LiveWorker) (a : Attempt) (refusal : Option (List ℕ)) → CallsKeep who.merge → RivalsKeepWorker who w → RivalsKeepFree who
+    → IsLawful who.merge → who.party ≡ Worker w.number → Keeps who.merge told → WorkerHolds who.merge told w → DoesRun w a → WholeUnless who.merge told.store.tables a refusal
+    → IsLawfulWithRoom who told (finish who.merge told.store.tables options moment w a refusal)
