@@ -30,10 +30,11 @@ use Rattle.step_model.specs.Course.{Course, Ends}
 use Rattle.step_laws.specs.Runs.{CallsKeep}
 use Rattle.step_laws.proofs.Runs.{rivals_keep}
 use Rattle.step_laws.proofs.Elements.{IsIn, all_at, all_from, all_back, all_true_front, all_true_from, is_itself, pairs_map}
+use Rattle.step_laws.proofs.TableReplays.{all_filter}
 use Rattle.course_laws.specs.Beats.{RivalsKeepWorker, BeatsAreLawful}
 use Rattle.course_laws.proofs.Later.{Later, later_itself, later_met}
 use Rattle.course_laws.proofs.Puts.{got_records, no_names, over_got, filter_passes}
-use Rattle.course_laws.proofs.Calls.{behind, all_filter, pairs_filter, all_map}
+use Rattle.course_laws.proofs.Calls.{behind, pairs_filter, all_map}
 use Rattle.course_laws.proofs.OwnCalls.{holds_got, holds_refused}
 
 -- ---- what a store and a worker have in common

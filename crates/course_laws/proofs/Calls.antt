@@ -1,6 +1,6 @@
 -- Calls behind which the invariant holds, gets and notes one after the other, and elements of lists.
 use Rattle.std.proofs.Common.{◌≡◌, refl, sym, ap, subst, ℕ, zero, suc, List, [], ◌∷◌, cond, Bool, true, false, inl, inr, None, take}
-use Rattle.std.specs.Prelude.{IsTrue, ◌&&◌, filter, map}
+use Rattle.std.specs.Prelude.{IsTrue, ◌&&◌, filter, map, ◌||◌, ◌⊎◌}
 use Rattle.std.specs.List.{AllByRecursion}
 use Rattle.row_model.specs.Lists.{Pairs}
 use Rattle.fleet_model.specs.History.{Event, Entry, stood}
@@ -15,6 +15,7 @@ use Rattle.step_model.specs.CourseRuns.{IsLawfulCourse}
 use Rattle.step_model.specs.Course.{Course, calls_each}
 use Rattle.step_laws.specs.Runs.{CallsKeep}
 use Rattle.step_laws.proofs.Elements.{IsIn, all_to, any_front}
+use Rattle.step_laws.proofs.TableReplays.{all_filter}
 use Rattle.course_laws.proofs.Later.{Later, later_itself, later_by, later_then, rivals_later}
 
 -- A lawful call of one's own leaves a store that keeps the invariant.
@@ -39,17 +40,17 @@ done_later is old new later h =
 
 -- ---- elements
 
+pub both : (a b : Bool) → (a && b) ≡ true → (a ≡ true) × (b ≡ true)
+both true b h = (refl, h)
+both false b h = absurd (cc h)
+
+pub or_cases : (a b : Bool) → (a || b) ≡ true → (a ≡ true) ⊎ (b ≡ true)
+or_cases true b e = inl refl
+or_cases false b e = inr e
+
 pub and_first : (a b : Bool) → (a && b) ≡ true → a ≡ true
 and_first true b e = refl
 and_first false b e = absurd (cc e)
-
-pub all_filter : {A : Type 0} (P : A → Type 0) (p : A → Bool) (xs : List A) → AllByRecursion P xs → AllByRecursion P (filter p xs)
-all_filter P p [] h = tt
-all_filter P p (x ∷ xs) h = by (p x) (all_filter P p xs h.1)
-  where
-    by : (b : Bool) → AllByRecursion P (filter p xs) → AllByRecursion P (cond b (x ∷ filter p xs) (filter p xs))
-    by true rest = (h.0, rest)
-    by false rest = rest
 
 pub pairs_filter : {A : Type 0} (R : A → A → Type 0) (p : A → Bool) (xs : List A) → Pairs R xs → Pairs R (filter p xs)
 pairs_filter R p [] h = tt

@@ -26,10 +26,11 @@ use Rattle.step_laws.specs.Runs.{CallsKeep}
 use Rattle.step_laws.proofs.Runs.{rivals_keep}
 use Rattle.step_laws.proofs.Elements.{all_from, all_to, all_flat, any_of, any_push_yes, is_itself, pairs_map}
 use Rattle.step_laws.proofs.Changed.{found_job}
+use Rattle.step_laws.proofs.TableReplays.{all_filter}
 use Rattle.course_laws.specs.Claims.{ClaimsAreLawful}
 use Rattle.course_laws.proofs.Later.{Later, later_itself, later_met, later_then, later_by, rivals_later, call_history}
 use Rattle.course_laws.proofs.Puts.{got_records, no_names, over_got}
-use Rattle.course_laws.proofs.Calls.{behind, calls_lawful, done_later, and_first, all_filter, pairs_filter, all_take, pairs_take, filtered, all_map, in_map}
+use Rattle.course_laws.proofs.Calls.{behind, calls_lawful, done_later, and_first, pairs_filter, all_take, pairs_take, filtered, all_map, in_map}
 
 -- ---- the claimed jobs
 

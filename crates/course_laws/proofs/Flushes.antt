@@ -37,15 +37,11 @@ use Rattle.step_laws.proofs.Runs.{rivals_keep}
 use Rattle.step_laws.proofs.Elements.{all_at, all_to, all_true_front, any_push_no, any_element, Passes}
 use Rattle.course_laws.specs.Flushes.{MayAsk, FlushesAreLawful}
 use Rattle.course_laws.proofs.Later.{Later, later_itself, later_then, later_by, rivals_later, later_met, entry_by, answer_by, call_history}
-use Rattle.course_laws.proofs.Calls.{behind, rivals_hold}
+use Rattle.course_laws.proofs.Calls.{behind, rivals_hold, both}
 use Rattle.course_laws.proofs.Stood.{unless_both, stood_version}
 use Rattle.course_laws.proofs.Held.{refused, HasRows, call_rows, put_has_rows, drawn_is_high, last_drawn}
 
 -- ---- the faults
-
-both : (a b : Bool) → (a && b) ≡ true → (a ≡ true) × (b ≡ true)
-both true b h = (refl, h)
-both false b h = absurd (cc h)
 
 -- If each row is before the next one, the rows are strictly ordered.
 ordered_of_test : (rows : List Row) → are_ordered rows ≡ true → IsStrictlyOrdered rows

@@ -21,7 +21,8 @@ use Rattle.fleet_model.specs.Nodes.{Tables, table_rows, rows_or_none}
 use Rattle.fleet_model.specs.TreesFit.{IsTable}
 use Rattle.fleet_model.specs.Attempts.{source_rows, range_rows, rows_left, noted_rows}
 use Rattle.step_laws.proofs.Elements.{all_append}
-use Rattle.course_laws.proofs.Calls.{all_filter, all_take}
+use Rattle.step_laws.proofs.TableReplays.{all_filter}
+use Rattle.course_laws.proofs.Calls.{all_take}
 
 -- The merged bytes of the operator are fewer than 2^32.
 abbrev pub IsShort : Operator → Type 0

@@ -1,6 +1,6 @@
 -- Ids that a party drew and that no entry mentions: they are new, and stay new whatever others do.
 use Rattle.std.proofs.Common.{◌≡◌, ◌≢◌, refl, sym, ◌∙◌, ap, subst, ℕ, ◌+◌, ◌%◌, ◌^◌, ◌<◌, List, [], ◌∷◌, ◌++◌, cond, Bool, true, false, inl, inr, ◌⊎◌, Option, Some, None, arith}
-use Rattle.std.specs.Prelude.{IsTrue, ◌==◌, ◌&&◌, ◌||◌, map, find, option_map}
+use Rattle.std.specs.Prelude.{IsTrue, ◌==◌, ◌&&◌, map, find, option_map}
 use Rattle.std.specs.List.{AllByRecursion}
 use Rattle.std.proofs.lemmas.Bool.Decides.{Decides-eqb}
 use Rattle.std.proofs.lemmas.Nat.{mod-mul-add}
@@ -25,10 +25,10 @@ use Rattle.step_model.specs.Rivals.{Caller, Strike, Rivals, told_by}
 use Rattle.step_model.specs.Keeps.{Keeps}
 use Rattle.step_laws.specs.Runs.{CallsKeep}
 use Rattle.step_laws.proofs.Elements.{IsIn, all_at, all_from, all_to, all_push, all_front, all_back, pairs_push, any_front, any_push_no, any_push_yes, any_of, any_element, Passes, is_itself, contains_in, in_contains, contains_no, contains_front, in_append, in_front}
-use Rattle.step_laws.proofs.Respecs.{drew_drawn}
+use Rattle.step_laws.proofs.Respecs.{drew_drawn, all_firsts}
 use Rattle.step_laws.proofs.Changed.{job_found}
 use Rattle.course_laws.proofs.Later.{entry_by, answer_by, call_history}
-use Rattle.course_laws.proofs.Calls.{rivals_hold, in_map}
+use Rattle.course_laws.proofs.Calls.{rivals_hold, in_map, both, or_cases, all_map}
 use Rattle.course_laws.proofs.Puts.{party_itself}
 use Rattle.course_laws.proofs.Stood.{stood_version}
 use Rattle.course_laws.proofs.Held.{refused}
@@ -42,14 +42,6 @@ party_same Sweeper Sweeper e = refl
 party_same (Coordinator n) (Coordinator m) e = ap Coordinator ((Decides-eqb n m).0 e)
 party_same (Worker n) (Worker m) e = ap Worker ((Decides-eqb n m).0 e)
 party_same a b e = absurd (cc e)
-
-or_cases : (a b : Bool) → (a || b) ≡ true → (a ≡ true) ⊎ (b ≡ true)
-or_cases true b e = inl refl
-or_cases false b e = inr e
-
-both : (a b : Bool) → (a && b) ≡ true → (a ≡ true) × (b ≡ true)
-both true b h = (refl, h)
-both false b h = absurd (cc h)
 
 -- An id is drawn once, so one party drew it.
 one_drew : (a b : Party) (id : ℕ) (history : List Entry) → Pairs (λ x y. number_of x < number_of y) (drawn_jobs history) → IsTrue (drew_job a history id) → IsTrue (drew_job b history id) → a ≡ b
@@ -94,14 +86,6 @@ mentioned_drawn merge told id kept h = at (any_element (λ (e : Entry). contains
     at found = all_at (λ n. IsTrue (contains (drawn_jobs told.store.history) n)) (mentioned_in found.element) id
         (all_at (λ (e : Entry). AllByRecursion (λ n. IsTrue (contains (drawn_jobs told.store.history) n)) (mentioned_in e)) told.store.history found.element kept.facts.names.drawn found.there)
         (contains_in (mentioned_in found.element) id found.passes)
-
-all_map_to : {A B : Type 0} (P : B → Type 0) (f : A → B) (xs : List A) → AllByRecursion (λ x. P (f x)) xs → AllByRecursion P (map f xs)
-all_map_to P f [] h = tt
-all_map_to P f (x ∷ xs) h = (h.0, all_map_to P f xs h.1)
-
-all_map_firsts : {A : Type 0} (P : ℕ → Type 0) (pairs : List (ℕ × A)) → AllByRecursion (λ p. P p.0) pairs → AllByRecursion P (firsts pairs)
-all_map_firsts P [] h = tt
-all_map_firsts P (p ∷ pairs) h = (h.0, all_map_firsts P pairs h.1)
 
 none_of : (id : ℕ) (took : Bool) → IsIn id (cond took [] []) → ⊥
 none_of id true there = there
@@ -151,7 +135,7 @@ others_mention_none merge party caller line x strike told other kept lawful id d
     not_theirs theirs = other (one_drew caller party id told.store.history kept.facts.draws.jobs_rise theirs drew)
 
     in_named : (change : RecordChange) → NamesFit caller told (named_specs (PutRecords change)) → IsIn id (firsts (named_specs (PutRecords change))) → ⊥
-    in_named change fits there = not_theirs (all_at (λ n. IsTrue (drew_job caller told.store.history n)) (firsts (named_specs (PutRecords change))) id (all_map_firsts (λ n. IsTrue (drew_job caller told.store.history n)) (named_specs (PutRecords change)) fits.drawn) there)
+    in_named change fits there = not_theirs (all_at (λ n. IsTrue (drew_job caller told.store.history n)) (firsts (named_specs (PutRecords change))) id (all_firsts (λ n. IsTrue (drew_job caller told.store.history n)) (named_specs (PutRecords change)) fits.drawn) there)
 
     unknown : (specs : ℕ → JobSpec) → IsKnownTo caller told specs id → ⊥
     unknown specs known = look (job_with id (stored_jobs told.store)) refl
@@ -168,7 +152,7 @@ others_mention_none merge party caller line x strike told other kept lawful id d
     in_steps version change value false e lawful there = there
     in_steps version (Commit steps) value true e lawful there =
         let fits = lawful (stood_version strike told.store version (Commit steps) value e) in
-        unknown fits.specs (all_at (IsKnownTo caller told fits.specs) (map job_of steps) id (all_map_to (IsKnownTo caller told fits.specs) job_of steps fits.known) there)
+        unknown fits.specs (all_at (IsKnownTo caller told fits.specs) (map job_of steps) id (all_map (IsKnownTo caller told fits.specs) job_of steps fits.known) there)
     in_steps version (ManifestEpoch epoch) value true e lawful there = there
     in_steps version (Flush name segment floor tick) value true e lawful there = there
 
@@ -200,7 +184,7 @@ rivals_fresh who pairs old new keep kept rivals h =
 
 -- ---- draws
 
-number : (moment n : ℕ) → n < 2 ^ 80 → number_of (id_of moment n) ≡ n
+pub number : (moment n : ℕ) → n < 2 ^ 80 → number_of (id_of moment n) ≡ n
 number moment n small = mod-mul-add (moment % 2 ^ 48) (2 ^ 80) n small
 
 -- The next id has a greater number than each drawn one.

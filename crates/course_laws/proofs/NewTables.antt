@@ -1,15 +1,14 @@
 -- The id of a table that a party drew last is new until it puts the table, whatever others do.
-use Rattle.std.proofs.Common.{◌≡◌, ◌≢◌, refl, sym, ◌∙◌, ap, ℕ, ◌+◌, ◌%◌, ◌^◌, ◌<◌, ◌≤◌, List, [], ◌∷◌, ◌++◌, cond, Bool, true, false, inl, inr, ◌⊎◌, Option, Some, None, arith}
+use Rattle.std.proofs.Common.{◌≡◌, ◌≢◌, refl, sym, ◌∙◌, ap, ℕ, ◌+◌, ◌<◌, ◌≤◌, List, [], ◌∷◌, ◌++◌, cond, Bool, true, false, inl, inr, ◌⊎◌, Option, Some, None, arith}
 use Rattle.std.specs.Prelude.{◌==◌, ◌&&◌, ◌||◌, nat_lt, option_map, ⊤}
 use Rattle.std.specs.List.{AllByRecursion, list_any}
 use Rattle.std.proofs.lemmas.Bool.Decides.{Decides-eqb}
 use Rattle.std.proofs.lemmas.Bool.{ltb-true}
-use Rattle.std.proofs.lemmas.Nat.{mod-mul-add}
 use Rattle.row_model.specs.Lists.{Pairs}
 use Rattle.row_model.specs.Rows.{Row}
 use Rattle.row_model.specs.Fold.{Operator}
 use Rattle.fleet_model.specs.Nodes.{is_among}
-use Rattle.fleet_model.specs.Jobs.{number_of, id_of, table_id_of, drawn_base}
+use Rattle.fleet_model.specs.Jobs.{number_of, table_id_of, drawn_base}
 use Rattle.fleet_model.specs.History.{Party, Event, DrawTable, PutTable, Entry}
 use Rattle.fleet_model.specs.Store.{Store}
 use Rattle.fleet_model.specs.Exchanges.{Exchange, Plain, DrawsJob, DrawsTable, PutsTable, PutsManifest, PutsRecords, ListsTables, DeletesTable, records_version, performed, next_table_id}
@@ -23,9 +22,9 @@ use Rattle.step_model.specs.Keeps.{Keeps}
 use Rattle.step_laws.specs.Runs.{CallsKeep}
 use Rattle.step_laws.proofs.Elements.{IsIn, all_at, any_element, any_push_no, Passes, contains_in, in_front, in_back}
 use Rattle.course_laws.proofs.Later.{entry_by, call_history}
-use Rattle.course_laws.proofs.Calls.{rivals_hold}
+use Rattle.course_laws.proofs.Calls.{rivals_hold, both, or_cases}
 use Rattle.course_laws.proofs.Puts.{party_itself}
-use Rattle.course_laws.proofs.NewIds.{party_same}
+use Rattle.course_laws.proofs.NewIds.{party_same, number}
 use Rattle.course_laws.proofs.Sweeps.{last_other}
 use Rattle.course_laws.proofs.Flushes.{not_flushed}
 use Rattle.course_laws.proofs.Held.{refused, last_drawn, drawn_is_high}
@@ -40,10 +39,6 @@ draws_table id event = false
 abbrev drew_table : Party → List Entry → ℕ → Bool
 drew_table party history id = list_any (λ entry. party_eq party entry.party && draws_table id entry.event) history
 
-or_cases : (a b : Bool) → (a || b) ≡ true → (a ≡ true) ⊎ (b ≡ true)
-or_cases true b e = inl refl
-or_cases false b e = inr e
-
 or_left : (a b : Bool) → a ≡ true → (a || b) ≡ true
 or_left true b e = refl
 or_left false b e = absurd (cc e)
@@ -51,10 +46,6 @@ or_left false b e = absurd (cc e)
 or_right : (a b : Bool) → b ≡ true → (a || b) ≡ true
 or_right true b e = refl
 or_right false b e = e
-
-both : (a b : Bool) → (a && b) ≡ true → (a ≡ true) × (b ≡ true)
-both true b h = (refl, h)
-both false b h = absurd (cc h)
 
 drew_in : (party : Party) (id : ℕ) (history : List Entry) → drew_table party history id ≡ true → IsIn id (drawn_tables history)
 drew_in party id history h = at history (any_element (λ (e : Entry). party_eq party e.party && draws_table id e.event) history h)
@@ -220,9 +211,6 @@ last_name_small (entry ∷ history) = let first = small entry.event in let rest 
         by true e = ltb-true table drawn_base e
         by false e = omega arith
     small event = omega arith
-
-number : (moment n : ℕ) → n < 2 ^ 80 → number_of (id_of moment n) ≡ n
-number moment n small = mod-mul-add (moment % 2 ^ 48) (2 ^ 80) n small
 
 is_high : (moment n : ℕ) → drawn_base + n ≤ table_id_of moment n
 is_high moment n = omega arith
