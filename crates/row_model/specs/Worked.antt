@@ -1,6 +1,6 @@
 -- Small examples of the definitions: what a job makes of some rows and how they read, how rows are cut into
 -- tables and blocks, and how keys are cut into ranges.
-use Rattle.std.specs.Prelude.{◌≡◌, ℕ, ◌^◌, ℤ, pos, Bool, true, false, List, [], ◌∷◌, map, length, Option, Some, None, codes}
+use Rattle.std.specs.Prelude.{◌≡◌, ℕ, ◌^◌, ℤ, pos, Bool, true, false, List, [], ◌∷◌, ◌++◌, map, length, Option, Some, None, codes}
 use Rattle.row_model.specs.Rows.{Row, Content, Value, Merge, Tombstone}
 use Rattle.row_model.specs.Fold.{Merged}
 use Rattle.row_model.specs.Append.{append}
@@ -12,6 +12,7 @@ use Rattle.row_model.specs.JobRows.{job_rows}
 use Rattle.row_model.specs.Ranges.{Range, Unbounded, Included, Excluded, all_keys}
 use Rattle.row_model.specs.Sizes.{Block, blocks, encoded_size, estimated_size, table_size}
 use Rattle.row_model.specs.Tables.{cut_tables}
+use Rattle.row_model.specs.TableBytes.{table_bytes}
 use Rattle.row_model.specs.Plan.{Anchor, select_boundaries, sample_anchors}
 
 -- A row with the key "a" and no creation stamp.
@@ -114,6 +115,26 @@ pub record TablesAreCut : Type 0 where
   pub bytes : table_size five_versions ≡ 50
   pub one_block : blocks five_versions ≡ record { first_key = codes "a"; offset = 0 } ∷ []
   pub rows_of_tables : map length (cut_tables 15 five_versions) ≡ 2 ∷ 2 ∷ 1 ∷ []
+
+-- ---- bytes
+
+-- Two rows of one key make one block. The second row shares the whole key.
+abbrev pub two_versions : List Row
+two_versions = a_row (Value (codes "5")) 5 None ∷ a_row (Value (codes "4")) 4 None ∷ []
+
+abbrev pub frame_of_two : List ℕ
+frame_of_two = 0 ∷ 0 ∷ 0 ∷ 0 ∷ 0 ∷ 0 ∷ 0 ∷ 1 ∷ 0 ∷ 2 ∷ 0 ∷ 0 ∷ 0 ∷ 0 ∷ 0 ∷ 0 ∷ 0 ∷ 0x25 ∷ []
+
+abbrev pub first_of_two : List ℕ
+first_of_two = 0 ∷ 0 ∷ 0 ∷ 1 ∷ 0x61 ∷ 0 ∷ 0 ∷ 0 ∷ 0 ∷ 0 ∷ 0 ∷ 0 ∷ 5 ∷ 0 ∷ 0 ∷ 0 ∷ 0 ∷ 1 ∷ 0x35 ∷ []
+
+abbrev pub second_of_two : List ℕ
+second_of_two = 0 ∷ 1 ∷ 0 ∷ 0 ∷ 0 ∷ 0 ∷ 0 ∷ 0 ∷ 0 ∷ 0 ∷ 0 ∷ 4 ∷ 0 ∷ 0 ∷ 0 ∷ 0 ∷ 1 ∷ 0x34 ∷ []
+
+-- The two rows as bytes: the number of blocks, the header of the block, and the rows.
+pub record TablesHaveBytes : Type 0 where
+  pub bytes : table_bytes two_versions ≡ frame_of_two ++ first_of_two ++ second_of_two
+  pub count : length (table_bytes two_versions) ≡ 55
 
 -- ---- plans
 

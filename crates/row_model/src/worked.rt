@@ -1,7 +1,7 @@
 //! Small worked examples of the definitions. Each function has an empty body, and its clause states
 //! values of definitions. The examples are in specs/Worked.antt.
 
-ghost use Rattle.row_model.specs.Worked.{AnchorsAreSampled, FoldedAndThenExpired, KeysAreCut, OldTombstonesGo, OldVersionsGo, RowsHaveSizes, StampsStayApart, TablesAreCut, TheCutKeepsOperands, TheCutKeepsVersions};
+ghost use Rattle.row_model.specs.Worked.{AnchorsAreSampled, FoldedAndThenExpired, KeysAreCut, OldTombstonesGo, OldVersionsGo, RowsHaveSizes, StampsStayApart, TablesAreCut, TablesHaveBytes, TheCutKeepsOperands, TheCutKeepsVersions};
 
 /// A tombstone at sequence 4 is above values at 2 and 1. With the cut 3, a job drops the value at
 /// 1, and the reads at 3 and at 4 do not change.
@@ -48,6 +48,12 @@ pub fn rows_have_sizes()
 /// into.
 pub fn tables_are_cut()
     ensures { TablesAreCut }
+{}
+
+/// Two rows of one key, written as the bytes of a table. The second row shares the key of the first
+/// row, so none of its bytes are written again.
+pub fn tables_have_bytes()
+    ensures { TablesHaveBytes }
 {}
 
 /// The ranges that six lists of anchors are cut into. A cut comes where the bytes of the earlier
