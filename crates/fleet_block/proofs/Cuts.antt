@@ -1,0 +1,124 @@
+-- Cutting rows into blocks, one block at a time.
+use Rattle.std.proofs.Common.{◌≡◌, ◌≢◌, refl, sym, ◌∙◌, ap, subst, ℕ, zero, suc, ◌<◌, ◌≤◌, ◌+◌, ◌*◌, List, [], ◌∷◌, ◌++◌, length, take, drop, Bool, true, false, cond, arith}
+use Rattle.std.specs.Prelude.{nat_le}
+use Rattle.std.specs.List.{AllByRecursion, flat_map}
+use Rattle.std.proofs.lemmas.List.{append_assoc, take-map, drop-map}
+use Rattle.row_model.specs.Bounds.{IsInBounds}
+use Rattle.row_model.specs.Rows.{Row}
+use Rattle.row_model.specs.Sizes.{block_bytes, estimated_size, or_full}
+use Rattle.row_model.specs.Tables.{with_row}
+use Rattle.row_model.specs.TableBytes.{blocks_of_rows}
+use Rattle.fleet_rows.specs.declared.row.RowEntry.{RowEntry}
+use Rattle.fleet_rows.specs.Row.{row_of, rows_of}
+use Rattle.fleet_block.specs.Cuts.{first_block_len}
+
+pub all_take : {A : Type 0} (P : A → Type 0) (n : ℕ) (xs : List A) → AllByRecursion P xs → AllByRecursion P (take n xs)
+all_take P zero xs h = tt
+all_take P (suc n) [] h = tt
+all_take P (suc n) (x ∷ xs) h = (h.0, all_take P n xs h.1)
+
+pub all_drop : {A : Type 0} (P : A → Type 0) (n : ℕ) (xs : List A) → AllByRecursion P xs → AllByRecursion P (drop n xs)
+all_drop P zero xs h = h
+all_drop P (suc n) [] h = tt
+all_drop P (suc n) (x ∷ xs) h = all_drop P n xs h.1
+
+not_full : (n : ℕ) → nat_le block_bytes n ≡ false → n < 4096
+not_full n e = grind arith
+
+pub first_within : (filled : ℕ) (rows : List Row) → first_block_len filled rows ≤ length rows
+first_within filled [] = omega arith
+first_within filled (r ∷ rows) = by (nat_le block_bytes (filled + estimated_size r)) (first_within (filled + estimated_size r) rows)
+  where
+    by : (b : Bool) → first_block_len (filled + estimated_size r) rows ≤ length rows → cond b 1 (1 + first_block_len (filled + estimated_size r) rows) ≤ length (r ∷ rows)
+    by true h = omega arith
+    by false h = omega arith
+
+pub first_some : (filled : ℕ) (rows : List Row) → rows ≢ [] → 0 < first_block_len filled rows
+first_some filled [] some = absurd (some refl)
+first_some filled (r ∷ rows) some = by (nat_le block_bytes (filled + estimated_size r))
+  where
+    by : (b : Bool) → 0 < cond b 1 (1 + first_block_len (filled + estimated_size r) rows)
+    by true = omega arith
+    by false = omega arith
+
+first_bounded : (filled : ℕ) (rows : List Row) → filled < 4096 → 8 * first_block_len filled rows + filled < 4104
+first_bounded filled [] below = omega arith
+first_bounded filled (r ∷ rows) below = by (nat_le block_bytes (filled + estimated_size r)) refl (first_bounded (filled + estimated_size r) rows)
+  where
+    by : (b : Bool) → nat_le block_bytes (filled + estimated_size r) ≡ b
+        → (filled + estimated_size r < 4096 → 8 * first_block_len (filled + estimated_size r) rows + (filled + estimated_size r) < 4104)
+        → 8 * cond b 1 (1 + first_block_len (filled + estimated_size r) rows) + filled < 4104
+    by true e rest = omega arith
+    by false e rest = let bound = rest (not_full (filled + estimated_size r) e) in omega (arith, bound)
+
+-- A block has fewer than 2^16 rows.
+pub first_short : (rows : List Row) → first_block_len 0 rows < 65536
+first_short rows = let bound = first_bounded 0 rows (omega arith) in omega (arith, bound)
+
+pub blocks_within : (filled : ℕ) (rows : List Row) → length (blocks_of_rows filled rows) ≤ length rows
+blocks_within filled [] = omega arith
+blocks_within filled (r ∷ rows) = let rest = blocks_within (or_full (filled + estimated_size r)) rows in by (nat_le block_bytes (filled + estimated_size r)) (blocks_of_rows (or_full (filled + estimated_size r)) rows) rest
+  where
+    by : (b : Bool) (later : List (List Row)) → length later ≤ length rows → length (with_row b r later) ≤ length (r ∷ rows)
+    by true later h = omega arith
+    by false [] h = omega arith
+    by false (block ∷ later) h = omega arith
+
+-- A row that does not end its block goes before the rows of the block that the next row opens.
+onto_next : (size : ℕ) (r : Row) (later : List Row) (n m : ℕ) → n ≡ 1 + m → m ≡ first_block_len size later
+    → (later ≢ [] → blocks_of_rows size later ≡ take m later ∷ blocks_of_rows 0 (drop m later))
+    → with_row false r (blocks_of_rows size later) ≡ take n (r ∷ later) ∷ blocks_of_rows 0 (drop n (r ∷ later))
+onto_next size r [] n m at here rest =
+    let one : 1 ≡ n = omega (arith, at, here) in
+    ap (λ k. take k (r ∷ []) ∷ blocks_of_rows 0 (drop k (r ∷ []))) one
+onto_next size r (q ∷ more) n m at here rest =
+    let one : suc m ≡ n = omega (arith, at) in
+    ap (with_row false r) (rest (λ e. cc e))
+    ∙ ap (λ k. take k (r ∷ q ∷ more) ∷ blocks_of_rows 0 (drop k (r ∷ q ∷ more))) one
+
+-- The first block is cut off, and the rows behind it are cut from its end on.
+cut_at_first : (filled : ℕ) (rows : List Row) (n : ℕ) → rows ≢ [] → n ≡ first_block_len filled rows → blocks_of_rows filled rows ≡ take n rows ∷ blocks_of_rows 0 (drop n rows)
+cut_at_first filled [] n some is = absurd (some refl)
+cut_at_first filled (r ∷ rows) n some is = by (nat_le block_bytes (filled + estimated_size r)) is (λ more. cut_at_first (filled + estimated_size r) rows (first_block_len (filled + estimated_size r) rows) more refl)
+  where
+    by : (b : Bool) → n ≡ cond b 1 (1 + first_block_len (filled + estimated_size r) rows)
+        → (rows ≢ [] → blocks_of_rows (filled + estimated_size r) rows ≡ take (first_block_len (filled + estimated_size r) rows) rows ∷ blocks_of_rows 0 (drop (first_block_len (filled + estimated_size r) rows) rows))
+        → with_row b r (blocks_of_rows (cond b 0 (filled + estimated_size r)) rows) ≡ take n (r ∷ rows) ∷ blocks_of_rows 0 (drop n (r ∷ rows))
+    by true e rest = ap (λ k. take k (r ∷ rows) ∷ blocks_of_rows 0 (drop k (r ∷ rows))) (sym e)
+    by false e rest = onto_next (filled + estimated_size r) r rows n (first_block_len (filled + estimated_size r) rows) e refl rest
+
+pub mapped_some : (rows : List RowEntry) → rows ≢ [] → rows_of rows ≢ []
+mapped_some [] some = absurd (some refl)
+mapped_some (r ∷ rows) some = λ e. cc e
+
+pub cut_once : (rest block later : List RowEntry) (n : ℕ) → rest ≢ [] → n ≡ first_block_len 0 (rows_of rest) → block ≡ take n rest → later ≡ drop n rest
+    → blocks_of_rows 0 (rows_of rest) ≡ rows_of block ∷ blocks_of_rows 0 (rows_of later)
+cut_once rest block later n some is front back =
+    cut_at_first 0 (rows_of rest) n (mapped_some rest some) is
+    ∙ ap (λ xs. xs ∷ blocks_of_rows 0 (drop n (rows_of rest))) (take-map row_of n rest ∙ ap rows_of (sym front))
+    ∙ ap (λ xs. rows_of block ∷ blocks_of_rows 0 xs) (drop-map row_of n rest ∙ ap rows_of (sym back))
+
+pub not_empty : (rows : List RowEntry) → 0 < length rows → rows ≢ []
+not_empty [] some = absurd (omega arith)
+not_empty (r ∷ rows) some = λ e. cc e
+
+pub blocks_some : (rows : List Row) → rows ≢ [] → 0 < length (blocks_of_rows 0 rows)
+blocks_some rows some = let cut = ap length (cut_at_first 0 rows (first_block_len 0 rows) some refl) in omega (arith, cut)
+
+pub front_in_bounds : (rest block : List RowEntry) (n : ℕ) → block ≡ take n rest → AllByRecursion IsInBounds (rows_of rest) → AllByRecursion IsInBounds (rows_of block)
+front_in_bounds rest block n front h =
+    subst (AllByRecursion IsInBounds) (take-map row_of n rest ∙ ap rows_of (sym front)) (all_take IsInBounds n (rows_of rest) h)
+
+pub back_in_bounds : (rest later : List RowEntry) (n : ℕ) → later ≡ drop n rest → AllByRecursion IsInBounds (rows_of rest) → AllByRecursion IsInBounds (rows_of later)
+back_in_bounds rest later n back h =
+    subst (AllByRecursion IsInBounds) (drop-map row_of n rest ∙ ap rows_of (sym back)) (all_drop IsInBounds n (rows_of rest) h)
+
+-- What was written of the earlier blocks, and what will be written of the others, is what is written of all
+-- blocks, also once the next block was written.
+pub onward : (spelt : List Row → List ℕ) (so_far more : List ℕ) (block : List Row) (left later all : List (List Row))
+    → left ≡ block ∷ later → so_far ++ flat_map spelt left ≡ flat_map spelt all → more ≡ so_far ++ spelt block → more ++ flat_map spelt later ≡ flat_map spelt all
+onward spelt so_far more block left later all cut before wrote =
+    ap (λ xs. xs ++ flat_map spelt later) wrote
+    ∙ append_assoc so_far (spelt block) (flat_map spelt later)
+    ∙ ap (λ xs. so_far ++ flat_map spelt xs) (sym cut)
+    ∙ before

@@ -1,0 +1,43 @@
+use Rattle.std.proofs.Common.{ap, ◌<◌, length, arith}
+use Rattle.std.proofs.lemmas.List.{length-map}
+use Rattle.row_model.specs.TableBytes.{blocks_of_rows, header_bytes, rows_bytes}
+use Rattle.fleet_rows.specs.Row.{row_of, rows_of}
+use Rattle.fleet_block.proofs.Cuts as cuts
+use Rattle.fleet_block.proofs.write.bytes_from_rows.Goals as goal
+
+pub split_at-requires : goal.split_at-requires
+split_at-requires c =
+    let within = cuts.first_within 0 (rows_of c.rest.rest.now) in
+    omega (arith, within, c.first_block_len.ensures.value, length-map c.rest.rest.now row_of)
+
+pub put_block-requires-clause-in_bounds : goal.put_block-requires-clause-in_bounds
+put_block-requires-clause-in_bounds c = cuts.front_in_bounds c.rest.rest.now c.split_at.result.0.now c.first_block_len.result c.split_at.ensures.front c.rest.invariant.in_bounds
+
+pub put_block-requires-clause-short : goal.put_block-requires-clause-short
+put_block-requires-clause-short c =
+    let short = cuts.first_short (rows_of c.rest.rest.now) in
+    omega (arith, short, c.first_block_len.ensures.value, c.split_at.ensures.front_len)
+
+pub overflow_add-count : goal.overflow_add-count
+overflow_add-count c =
+    let some : 0 < length c.rest.rest.now = grind (arith, c.rest-test.true, c.is_empty.ensures) in
+    let opened = cuts.blocks_some (rows_of c.rest.rest.now) (cuts.mapped_some c.rest.rest.now (cuts.not_empty c.rest.rest.now some)) in
+    let within = cuts.blocks_within 0 (rows_of c.args.rows.now) in
+    omega (arith, c.rest.invariant.counted, opened, within, length-map c.args.rows.now row_of)
+
+pub rest-smaller : goal.rest-smaller
+rest-smaller c =
+    let some : 0 < length c.rest.rest.now = grind (arith, c.rest-test.true, c.is_empty.ensures) in
+    let first = cuts.first_some 0 (rows_of c.rest.rest.now) (cuts.mapped_some c.rest.rest.now (cuts.not_empty c.rest.rest.now some)) in
+    omega (arith, first, c.first_block_len.ensures.value, c.split_at.ensures.back_len)
+
+pub rest-preserved : goal.rest-preserved
+rest-preserved c =
+    let some : 0 < length c.rest.rest.now = grind (arith, c.rest-test.true, c.is_empty.ensures) in
+    let cut = cuts.cut_once c.rest.rest.now c.split_at.result.0.now c.split_at.result.1.now c.first_block_len.result (cuts.not_empty c.rest.rest.now some) c.first_block_len.ensures.value c.split_at.ensures.front c.split_at.ensures.back in
+    record {
+      in_bounds = cuts.back_in_bounds c.rest.rest.now c.split_at.result.1.now c.first_block_len.result c.split_at.ensures.back c.rest.invariant.in_bounds;
+      headers_left = cuts.onward header_bytes c.rest.headers.items _ (rows_of c.split_at.result.0.now) (blocks_of_rows 0 (rows_of c.rest.rest.now)) (blocks_of_rows 0 (rows_of c.split_at.result.1.now)) (blocks_of_rows 0 (rows_of c.args.rows.now)) cut c.rest.invariant.headers_left c.in_ok-put_block.ensures.header;
+      rows_left = cuts.onward rows_bytes c.rest.written.items _ (rows_of c.split_at.result.0.now) (blocks_of_rows 0 (rows_of c.rest.rest.now)) (blocks_of_rows 0 (rows_of c.split_at.result.1.now)) (blocks_of_rows 0 (rows_of c.args.rows.now)) cut c.rest.invariant.rows_left c.in_ok-put_block.ensures.rows;
+      counted = let one = ap length cut in omega (arith, one, c.rest.invariant.counted);
+    }
