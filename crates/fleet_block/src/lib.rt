@@ -2,8 +2,12 @@
 #![tactic(auto)]
 
 mod cut;
+mod field;
+mod number;
 mod put;
+mod row;
 mod shared;
 mod write;
 
+pub use row::row_at;
 pub use write::bytes_from_rows;

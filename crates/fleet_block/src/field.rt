@@ -1,0 +1,124 @@
+//! Reading the fields of a row at a place in some bytes.
+
+ghost use Rattle.std.specs.Prelude.{◌≡◌, ◌<◌, ◌≤◌, ◌^◌, ◌%◌, ◌++◌, is_some, length, slice_range, IfOk, IfSome, IsOkUnless};
+ghost use Rattle.std.specs.Int.{w32, to_be_bytes};
+ghost use Rattle.row_model.specs.Bounds.{IsStampOrNone};
+ghost use Rattle.row_model.specs.Sizes.{content_len};
+ghost use Rattle.row_model.specs.TableBytes.{content_bytes, content_flag, key_bytes, shared_len, stamp_bytes};
+ghost use Rattle.fleet_rows.specs.Row.{content_of};
+ghost use Rattle.fleet_block.specs.Finds.{Finds};
+
+use crate::number::{u16_at, u32_at, u64_at};
+use bytes::Bytes;
+use fleet_rows::{SlateDBError, ValueDeletable};
+use std::alloc::Global;
+
+/// The key at this place, which may share bytes with the block's first key, and the place behind
+/// it.
+pub(crate) fn key_at(
+    alloc: Global,
+    bytes: &Bytes,
+    place: usize,
+    first: &[u8],
+) -> Result<Option<(Bytes, usize)>, SlateDBError>
+    requires { place ≤ length bytes.now }
+    ensures found { IfOk result (Finds (λ k. k) (λ k. key_bytes (shared_len first.now k) k)
+        (λ k. length k ≤ 65535) bytes.now place) }
+    ensures within { IfOk result (λ found. IfSome found (λ f. f.1 ≤ length bytes.now)) }
+    ensures memory { IsOkUnless result SlateDBError.Memory }
+{
+    let Some((shared, place)) = u16_at(bytes, place) else {
+        return Ok(None);
+    };
+    let Some((len, place)) = u16_at(bytes, place) else {
+        return Ok(None);
+    };
+    if first.len() < shared as usize {
+        return Ok(None);
+    }
+    if bytes.len() - place < len as usize {
+        return Ok(None);
+    }
+    let end = place + len as usize;
+    let key = joined(alloc, &first[..shared as usize], bytes, place, end)?;
+    Ok(Some((key, end)))
+}
+
+// The front and the bytes from `place` to `end`. If the front is empty, they share the table's
+// memory.
+fn joined(
+    alloc: Global,
+    front: &[u8],
+    bytes: &Bytes,
+    place: usize,
+    end: usize,
+) -> Result<Bytes, SlateDBError>
+    requires { (place ≤ end) × (end ≤ length bytes.now) }
+    ensures bytes { IfOk result (λ key. key ≡ front.now ++ slice_range bytes.now place end) }
+    ensures memory { IsOkUnless result SlateDBError.Memory }
+{
+    if front.is_empty() {
+        return Ok(bytes.slice(place..end)?);
+    }
+    let mut key = Vec::from_slice(alloc, front)?;
+    key.extend_from_slice(&bytes.as_slice()[place..end])?;
+    Ok(Bytes::from_vec(key)?)
+}
+
+/// The stamp at this place, if it is there, and the place behind it.
+pub(crate) fn stamp_at(bytes: &Bytes, place: usize, is_there: bool) -> Option<(Option<i64>, usize)>
+    requires { place ≤ length bytes.now }
+    ensures found { Finds (λ s. s) stamp_bytes (λ s. IsStampOrNone s × (is_some s ≡ is_there))
+        bytes.now place result }
+    ensures within { IfSome result (λ f. f.1 ≤ length bytes.now) }
+{
+    if !is_there {
+        return Some((None, place));
+    }
+    let (number, place) = u64_at(bytes, place)?;
+    Some((Some(number.cast_signed()), place))
+}
+
+/// The content at this place, of the kind that the flags tell, and the place behind it.
+pub(crate) fn content_at(
+    bytes: &Bytes,
+    place: usize,
+    flags: u8,
+) -> Result<Option<(ValueDeletable, usize)>, SlateDBError>
+    requires { place ≤ length bytes.now }
+    ensures found { IfOk result (Finds content_of content_bytes
+        (λ x. (content_len x < 2 ^ 32) × (flags % 4 ≡ content_flag x)) bytes.now place) }
+    ensures within { IfOk result (λ found. IfSome found (λ f. f.1 ≤ length bytes.now)) }
+    ensures memory { IsOkUnless result SlateDBError.Memory }
+{
+    let kind = flags % 4;
+    if kind == 1 {
+        return Ok(Some((ValueDeletable::Tombstone, place)));
+    }
+    let Some((value, place)) = value_at(bytes, place)? else {
+        return Ok(None);
+    };
+    if kind == 2 {
+        Ok(Some((ValueDeletable::Merge(value), place)))
+    } else {
+        Ok(Some((ValueDeletable::Value(value), place)))
+    }
+}
+
+// The bytes of a value or of an operand. They share the table's memory.
+fn value_at(bytes: &Bytes, place: usize) -> Result<Option<(Bytes, usize)>, SlateDBError>
+    requires { place ≤ length bytes.now }
+    ensures found { IfOk result (Finds (λ v. v) (λ v. to_be_bytes w32 (length v) ++ v)
+        (λ v. length v < 2 ^ 32) bytes.now place) }
+    ensures within { IfOk result (λ found. IfSome found (λ f. f.1 ≤ length bytes.now)) }
+    ensures memory { IsOkUnless result SlateDBError.Memory }
+{
+    let Some((len, place)) = u32_at(bytes, place) else {
+        return Ok(None);
+    };
+    if bytes.len() - place < len as usize {
+        return Ok(None);
+    }
+    let end = place + len as usize;
+    Ok(Some((bytes.slice(place..end)?, end)))
+}

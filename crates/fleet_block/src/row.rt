@@ -1,0 +1,48 @@
+//! Reading a row at a place in some bytes.
+
+ghost use Rattle.std.specs.Prelude.{◌≤◌, length, IfOk, IfSome, IsOkUnless};
+ghost use Rattle.row_model.specs.TableBytes.{row_bytes, IsWritable};
+ghost use Rattle.fleet_rows.specs.Row.{row_of};
+ghost use Rattle.fleet_block.specs.Finds.{Finds};
+
+use crate::field::{content_at, key_at, stamp_at};
+use crate::number::{byte_at, u64_at};
+use bytes::Bytes;
+use fleet_rows::{RowEntry, SlateDBError};
+use std::alloc::Global;
+
+/// The row at this place in a block with this first key, and the place behind it. The block's first
+/// row is read after the empty key. None if no row is written there.
+pub fn row_at(
+    alloc: Global,
+    bytes: &Bytes,
+    place: usize,
+    first: &[u8],
+) -> Result<Option<(RowEntry, usize)>, SlateDBError>
+    requires { place ≤ length bytes.now }
+    ensures found { IfOk result
+        (Finds row_of (row_bytes first.now) IsWritable bytes.now place) }
+    ensures within { IfOk result (λ found. IfSome found (λ f. f.1 ≤ length bytes.now)) }
+    ensures memory { IsOkUnless result SlateDBError.Memory }
+{
+    let Some((key, place)) = key_at(alloc, bytes, place, first)? else {
+        return Ok(None);
+    };
+    let Some((seq, place)) = u64_at(bytes, place) else {
+        return Ok(None);
+    };
+    let Some((flags, place)) = byte_at(bytes, place) else {
+        return Ok(None);
+    };
+    let Some((create_ts, place)) = stamp_at(bytes, place, flags / 4 % 2 == 1) else {
+        return Ok(None);
+    };
+    let Some((expire_ts, place)) = stamp_at(bytes, place, flags / 8 % 2 == 1) else {
+        return Ok(None);
+    };
+    let Some((value, place)) = content_at(bytes, place, flags)? else {
+        return Ok(None);
+    };
+    let row = RowEntry::new(key, value, seq, create_ts, expire_ts);
+    Ok(Some((row, place)))
+}
