@@ -1,16 +1,17 @@
 -- Cutting rows into blocks, one block at a time.
 use Rattle.std.proofs.Common.{◌≡◌, ◌≢◌, refl, sym, ◌∙◌, ap, subst, ℕ, zero, suc, ◌<◌, ◌≤◌, ◌+◌, ◌*◌, List, [], ◌∷◌, ◌++◌, length, take, drop, Bool, true, false, cond, arith}
-use Rattle.std.specs.Prelude.{nat_le}
+use Rattle.std.specs.Prelude.{nat_le, ⊤}
 use Rattle.std.specs.List.{AllByRecursion, flat_map}
 use Rattle.std.proofs.lemmas.List.{append_assoc, take-map, drop-map}
 use Rattle.row_model.specs.Bounds.{IsInBounds}
 use Rattle.row_model.specs.Rows.{Row}
 use Rattle.row_model.specs.Sizes.{block_bytes, estimated_size, or_full}
 use Rattle.row_model.specs.Tables.{with_row}
-use Rattle.row_model.specs.TableBytes.{blocks_of_rows}
+use Rattle.row_model.specs.TableBytes.{blocks_of_rows, IsWritable}
 use Rattle.fleet_rows.specs.declared.row.RowEntry.{RowEntry}
 use Rattle.fleet_rows.specs.Row.{row_of, rows_of}
 use Rattle.fleet_block.specs.Cuts.{first_block_len}
+use Rattle.fleet_block.specs.Finds.{IsBlock, joined}
 
 pub all_take : {A : Type 0} (P : A → Type 0) (n : ℕ) (xs : List A) → AllByRecursion P xs → AllByRecursion P (take n xs)
 all_take P zero xs h = tt
@@ -122,3 +123,52 @@ onward spelt so_far more block left later all cut before wrote =
     ∙ append_assoc so_far (spelt block) (flat_map spelt later)
     ∙ ap (λ xs. so_far ++ flat_map spelt xs) (sym cut)
     ∙ before
+
+-- ---- all blocks
+
+joined_with : (full : Bool) (r : Row) (cut : List (List Row)) → joined (with_row full r cut) ≡ r ∷ joined cut
+joined_with true r cut = refl
+joined_with false r [] = refl
+joined_with false r (rows ∷ cut) = refl
+
+-- The blocks have all the rows, in order.
+pub joined_blocks : (filled : ℕ) (rows : List Row) → joined (blocks_of_rows filled rows) ≡ rows
+joined_blocks filled [] = refl
+joined_blocks filled (r ∷ rows) =
+    joined_with (nat_le block_bytes (filled + estimated_size r)) r (blocks_of_rows (or_full (filled + estimated_size r)) rows)
+    ∙ ap (λ rs. r ∷ rs) (joined_blocks (or_full (filled + estimated_size r)) rows)
+
+-- The first block and the others are short, if the first block already has some bytes.
+AreShort : ℕ → List (List Row) → Type 0
+AreShort filled [] = ⊤
+AreShort filled (rows ∷ cut) = AllByRecursion IsWritable rows × (8 * length rows + filled < 4104) × AllByRecursion IsBlock cut
+
+short_blocks : (cut : List (List Row)) → AreShort 0 cut → AllByRecursion IsBlock cut
+unfolding AreShort
+short_blocks [] h = tt
+short_blocks (rows ∷ cut) h = let bound = h.1 in (record { writable = h.0; short = omega (arith, bound) }, h.2)
+
+short_with : (filled : ℕ) (r : Row) (rows : List Row) → filled < 4096 → IsWritable r → ((more : ℕ) → more < 4096 → AreShort more (blocks_of_rows more rows)) → AreShort filled (blocks_of_rows filled (r ∷ rows))
+unfolding AreShort
+short_with filled r rows below fits rest = by (nat_le block_bytes (filled + estimated_size r)) refl
+  where
+    onto : (cut : List (List Row)) → AreShort (filled + estimated_size r) cut → AreShort filled (with_row false r cut)
+    onto [] h = ((fits, tt), omega arith, tt)
+    onto (b ∷ cut) h = let bound = h.1 in ((fits, h.0), omega (arith, bound), h.2)
+
+    by : (full : Bool) → nat_le block_bytes (filled + estimated_size r) ≡ full → AreShort filled (with_row full r (blocks_of_rows (cond full 0 (filled + estimated_size r)) rows))
+    by true e = ((fits, tt), omega arith, short_blocks (blocks_of_rows 0 rows) (rest 0 (omega arith)))
+    by false e = onto (blocks_of_rows (filled + estimated_size r) rows) (rest (filled + estimated_size r) (not_full (filled + estimated_size r) e))
+
+all_short : (rows : List Row) → AllByRecursion IsWritable rows → (filled : ℕ) → filled < 4096 → AreShort filled (blocks_of_rows filled rows)
+unfolding AreShort
+all_short [] h filled below = tt
+all_short (r ∷ rows) h filled below = short_with filled r rows below h.0 (all_short rows h.1)
+
+-- Each block has fewer than 2^16 rows.
+pub all_blocks : (rows : List Row) → AllByRecursion IsWritable rows → AllByRecursion IsBlock (blocks_of_rows 0 rows)
+all_blocks rows h = short_blocks (blocks_of_rows 0 rows) (all_short rows h 0 (omega arith))
+
+pub all_in_bounds : (rows : List Row) → AllByRecursion IsWritable rows → AllByRecursion IsInBounds rows
+all_in_bounds [] h = tt
+all_in_bounds (r ∷ rows) h = (h.0.in_bounds, all_in_bounds rows h.1)

@@ -4,3 +4,6 @@ pub mod Numbers
 pub mod SharedKeys
 pub mod Fields
 pub mod Found
+pub mod Later
+pub mod Blocks
+pub mod Tables

@@ -1,5 +1,8 @@
 -- What a reader finds at a place in some bytes.
-use Rattle.std.specs.Prelude.{◌≡◌, ℕ, List, ◌++◌, drop, Option, Some, None}
+use Rattle.std.specs.Prelude.{◌≡◌, ◌≢◌, ℕ, ◌<◌, ◌^◌, List, ◌++◌, length, drop, Option, Some, None}
+use Rattle.std.specs.List.{AllByRecursion, flat_map}
+use Rattle.row_model.specs.Rows.{Row}
+use Rattle.row_model.specs.TableBytes.{bytes_of_blocks, header_bytes, row_bytes, rows_bytes, IsWritable}
 
 -- The reader found this value, and behind it are the other bytes.
 abbrev pub IsFound : {A V : Type 0} → (V → A) → A → List ℕ → List ℕ → Option (V × ℕ) → Type 0
@@ -9,3 +12,40 @@ IsFound view x others bytes (Some found) = (view found.0 ≡ x) × (drop found.1
 -- If the bytes from the place on begin with the spelling of a value that fits, the reader finds that value.
 abbrev pub Finds : {A V : Type 0} → (V → A) → (A → List ℕ) → (A → Type 0) → List ℕ → ℕ → Option (V × ℕ) → Type 0
 Finds {A} view spelt Fits bytes place found = (x : A) (others : List ℕ) → Fits x → drop place bytes ≡ spelt x ++ others → IsFound view x others bytes found
+
+-- So many rows, which fit their places in bytes.
+pub record AreRows (count : ℕ) (rows : List Row) : Type 0 where
+  pub writable : AllByRecursion IsWritable rows
+  pub counted : length rows ≡ count
+
+-- The reader finds so many rows of a block with this first key, and puts them behind other rows.
+abbrev pub FindsLater : {V : Type 0} → (V → List Row) → List ℕ → ℕ → List Row → List ℕ → ℕ → Option (V × ℕ) → Type 0
+FindsLater view first count before bytes place found = (rows : List Row) (others : List ℕ) → AreRows count rows → drop place bytes ≡ flat_map (row_bytes first) rows ++ others → IsFound view (before ++ rows) others bytes found
+
+-- A block whose rows fit their places, and whose number of rows fits too.
+pub record IsBlock (rows : List Row) : Type 0 where
+  pub writable : AllByRecursion IsWritable rows
+  pub short : length rows < 2 ^ 16
+
+pub record AreBlocks (count : ℕ) (cut : List (List Row)) : Type 0 where
+  pub blocks : AllByRecursion IsBlock cut
+  pub counted : length cut ≡ count
+
+abbrev pub joined : List (List Row) → List Row
+joined cut = flat_map (λ rows. rows) cut
+
+-- The reader finds so many blocks, whose headers and rows begin at two places, and puts their rows behind
+-- other rows.
+abbrev pub FindsBlocks : {V : Type 0} → (V → List Row) → ℕ → List Row → List ℕ → ℕ → ℕ → Option (V × ℕ) → Type 0
+FindsBlocks view count before bytes header place found = (cut : List (List Row)) (behind others : List ℕ) → AreBlocks count cut
+    → drop header bytes ≡ flat_map header_bytes cut ++ behind → drop place bytes ≡ flat_map rows_bytes cut ++ others → IsFound view (before ++ joined cut) others bytes found
+
+-- The reader finds the rows of the blocks that are written in the bytes.
+abbrev pub FindsAll : {V : Type 0} → (V → List Row) → List ℕ → Option V → Type 0
+FindsAll view bytes None = (cut : List (List Row)) → AllByRecursion IsBlock cut → bytes ≢ bytes_of_blocks cut
+FindsAll view bytes (Some rows) = (cut : List (List Row)) → AllByRecursion IsBlock cut → bytes ≡ bytes_of_blocks cut → view rows ≡ joined cut
+
+-- What was read of all bytes: a value that is spelt so, or nothing where no value is.
+abbrev pub Reads : {A V : Type 0} → (V → A) → (A → List ℕ) → (A → Type 0) → List ℕ → Option V → Type 0
+Reads view spelt Fits bytes None = (x : _) → Fits x → bytes ≢ spelt x
+Reads view spelt Fits bytes (Some found) = Fits (view found) × (bytes ≡ spelt (view found))

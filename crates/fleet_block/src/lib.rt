@@ -1,13 +1,18 @@
 //! Rows written as the bytes of a table, and read from them.
 #![tactic(auto)]
 
+mod block;
 mod cut;
 mod field;
 mod number;
 mod put;
+mod read;
 mod row;
 mod shared;
+mod taken;
 mod write;
 
+pub use block::block_at;
+pub use read::rows_from_bytes;
 pub use row::row_at;
 pub use write::bytes_from_rows;
