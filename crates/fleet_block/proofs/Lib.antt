@@ -7,3 +7,4 @@ pub mod Found
 pub mod Later
 pub mod Blocks
 pub mod Tables
+pub mod Ordered

@@ -1,11 +1,9 @@
 -- Reading all blocks of a table.
-use Rattle.std.proofs.Common.{◌≡◌, refl, sym, ◌∙◌, ap, ℕ, ◌<◌, ◌≤◌, ◌+◌, ◌*◌, ◌^◌, List, [], ◌∷◌, ◌++◌, length, drop, true, arith}
+use Rattle.std.proofs.Common.{◌≡◌, refl, sym, ◌∙◌, ap, ℕ, ◌<◌, ◌≤◌, ◌+◌, ◌*◌, ◌^◌, List, [], ◌∷◌, ◌++◌, length, drop, arith}
 use Rattle.std.specs.List.{flat_map}
 use Rattle.std.proofs.lemmas.List.{append-nil, drop-drop, drop_at, length-append, length-drop}
-use Rattle.row_model.specs.Rows.{Row, are_ordered}
+use Rattle.row_model.specs.Rows.{Row}
 use Rattle.row_model.specs.TableBytes.{bytes_of_blocks, header_bytes, rows_bytes}
-use Rattle.fleet_rows.specs.declared.row.RowEntry.{RowEntry}
-use Rattle.fleet_rows.specs.Row.{rows_of}
 
 pub headers_len : (cut : List (List Row)) → length (flat_map header_bytes cut) ≡ 10 * length cut
 headers_len [] = refl
@@ -32,9 +30,3 @@ rows_behind cut bytes header count counted e =
     ∙ ap (drop (count * 10)) e
     ∙ drop_at (flat_map header_bytes cut) (flat_map rows_bytes cut) (count * 10) (omega (arith, heads, counted))
     ∙ sym (append-nil (flat_map rows_bytes cut))
-
--- A list of at most one row is ordered.
-pub ordered_short : (rows : List RowEntry) → length rows < 2 → are_ordered (rows_of rows) ≡ true
-ordered_short [] h = refl
-ordered_short (r ∷ []) h = refl
-ordered_short (r ∷ q ∷ rows) h = absurd (omega arith)

@@ -15,4 +15,5 @@ mod write;
 pub use block::block_at;
 pub use read::rows_from_bytes;
 pub use row::row_at;
+pub use taken::are_strictly_ordered;
 pub use write::bytes_from_rows;

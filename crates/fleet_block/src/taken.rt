@@ -4,7 +4,7 @@ ghost use Rattle.std.specs.Prelude.{◌≡◌, ◌↔◌, ◌<◌, ◌^◌, IsTr
 ghost use Rattle.std.specs.Ordering.{is_lt};
 ghost use Rattle.std.specs.List.{AllByRecursion};
 ghost use Rattle.row_model.specs.Bounds.{IsStamp, IsStampOrNone};
-ghost use Rattle.row_model.specs.Rows.{are_ordered, row_cmp};
+ghost use Rattle.row_model.specs.Rows.{are_ordered, row_cmp, IsStrictlyOrdered};
 ghost use Rattle.row_model.specs.TableBytes.{IsTaken, IsWritable};
 ghost use Rattle.fleet_rows.specs.Row.{row_of, rows_of};
 
@@ -19,8 +19,11 @@ pub(crate) fn is_taken(rows: &[RowEntry]) -> bool
     !rows.is_empty() && are_strictly_ordered(rows) && are_writable(rows)
 }
 
-fn are_strictly_ordered(rows: &[RowEntry]) -> bool
-    ensures { result ≡ are_ordered (rows_of rows.now) }
+/// Whether the rows are strictly ordered: keys rise, sequences fall within a key, and no two rows
+/// have both in common.
+pub fn are_strictly_ordered(rows: &[RowEntry]) -> bool
+    ensures test { result ≡ are_ordered (rows_of rows.now) }
+    ensures ordered { IsTrue result ↔ IsStrictlyOrdered (rows_of rows.now) }
 {
     let mut rest = rows;
     'rest: while let [row, next, ..] = rest {

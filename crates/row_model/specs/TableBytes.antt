@@ -1,10 +1,10 @@
 -- Tables written as bytes. Rows stand in blocks. A key is written without the bytes that it shares with the
 -- first key of its block. All numbers are big-endian.
-use Rattle.std.specs.Prelude.{◌≡◌, ◌≢◌, ℕ, ◌+◌, ◌-◌, ◌^◌, ◌<◌, ◌==◌, nat_le, true, ℤ, List, [], ◌∷◌, ◌++◌, length, drop, Option, Some, None}
+use Rattle.std.specs.Prelude.{◌≡◌, ◌≢◌, ℕ, ◌+◌, ◌-◌, ◌^◌, ◌<◌, ◌==◌, nat_le, ℤ, List, [], ◌∷◌, ◌++◌, length, drop, Option, Some, None}
 use Rattle.std.specs.Int.{w16, w32, w64, to_be_bytes, cast_unsigned}
 use Rattle.std.specs.List.{AllByRecursion, common_prefix_len, flat_map}
 use Rattle.row_model.specs.Bounds.{IsInBounds, IsStampOrNone}
-use Rattle.row_model.specs.Rows.{Row, Content, Value, Merge, Tombstone, are_ordered}
+use Rattle.row_model.specs.Rows.{Row, Content, Value, Merge, Tombstone, IsStrictlyOrdered}
 use Rattle.row_model.specs.Sizes.{block_bytes, estimated_size, or_full}
 use Rattle.row_model.specs.Tables.{with_row}
 
@@ -79,5 +79,5 @@ pub record IsWritable (r : Row) : Type 0 where
 -- Rows that a table takes.
 pub record IsTaken (rows : List Row) : Type 0 where
   pub some : rows ≢ []
-  pub ordered : are_ordered rows ≡ true
+  pub ordered : IsStrictlyOrdered rows
   pub writable : AllByRecursion IsWritable rows
