@@ -8,3 +8,5 @@ pub mod Later
 pub mod Blocks
 pub mod Tables
 pub mod Ordered
+pub mod Lengths
+pub mod Index

@@ -4,6 +4,7 @@
 mod block;
 mod cut;
 mod field;
+mod laws;
 mod number;
 mod put;
 mod read;
@@ -13,6 +14,7 @@ mod taken;
 mod write;
 
 pub use block::block_at;
+pub use laws::{bytes_tell_rows, rows_are_cut_into_blocks, rows_have_encoded_sizes};
 pub use read::rows_from_bytes;
 pub use row::row_at;
 pub use taken::are_strictly_ordered;
