@@ -1,5 +1,5 @@
 -- The index of the blocks that rows are cut into.
-use Rattle.std.proofs.Common.{◌≡◌, ◌≢◌, refl, sym, ◌∙◌, ap, ℕ, ◌<◌, ◌+◌, List, [], ◌∷◌, Bool, true, false, cond, arith}
+use Rattle.std.proofs.Common.{◌≡◌, ◌≢◌, refl, sym, ◌∙◌, ap, ℕ, ◌+◌, List, [], ◌∷◌, Bool, true, false, cond, arith}
 use Rattle.std.specs.Prelude.{◌==◌, nat_le, sum_by}
 use Rattle.std.specs.List.{AllByRecursion}
 use Rattle.std.proofs.lemmas.List.Sums.{sum_by-cons}
@@ -7,7 +7,7 @@ use Rattle.row_model.specs.Rows.{Row}
 use Rattle.row_model.specs.Sizes.{Block, block_at, block_bytes, blocks_from, estimated_size, or_full, saturated}
 use Rattle.row_model.specs.Tables.{with_row}
 use Rattle.row_model.specs.TableBytes.{blocks_of_rows}
-use Rattle.fleet_block.specs.Laws.{AreTheBlocks, RowsAreCutIntoBlocks, index_from}
+use Rattle.fleet_block.specs.Laws.{RowsAreCutIntoBlocks, index_from}
 use Rattle.fleet_block.proofs.Cuts.{joined_blocks}
 
 filled_with : (full : Bool) (r : Row) (cut : List (List Row)) → AllByRecursion (λ (b : List Row). b ≢ []) cut → AllByRecursion (λ (b : List Row). b ≢ []) (with_row full r cut)
@@ -57,6 +57,7 @@ index_is (r ∷ rows) offset filled = by (nat_le block_bytes (filled + estimated
   where
     later : ℕ → List (List Row)
     later size = blocks_of_rows size rows
+
     by : (full : Bool) → ((size : ℕ) → blocks_from (saturated (offset + estimated_size r)) size rows ≡ index_at (size == 0) (saturated (offset + estimated_size r)) (blocks_of_rows size rows))
         → block_at offset filled r (blocks_from (saturated (offset + estimated_size r)) (cond full 0 (filled + estimated_size r)) rows) ≡ index_at (filled == 0) offset (with_row full r (blocks_of_rows (cond full 0 (filled + estimated_size r)) rows))
     by true rest = ap (block_at offset filled r) (rest 0) ∙ opened_full (filled == 0) offset r (blocks_of_rows 0 rows)

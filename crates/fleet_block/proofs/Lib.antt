@@ -10,3 +10,4 @@ pub mod Tables
 pub mod Ordered
 pub mod Lengths
 pub mod Index
+pub mod Tells
