@@ -1,9 +1,13 @@
 -- Reading all blocks of a table.
-use Rattle.std.proofs.Common.{◌≡◌, refl, sym, ◌∙◌, ap, ℕ, ◌<◌, ◌≤◌, ◌+◌, ◌*◌, ◌^◌, List, [], ◌∷◌, ◌++◌, length, drop, arith}
+use Rattle.std.proofs.Common.{◌≡◌, refl, sym, ◌∙◌, ap, subst, ℕ, ◌<◌, ◌≤◌, ◌+◌, ◌*◌, ◌^◌, List, [], ◌∷◌, ◌++◌, length, drop, Bool, true, false, arith}
 use Rattle.std.specs.List.{flat_map}
 use Rattle.std.proofs.lemmas.List.{append-nil, drop-drop, drop_at, length-append, length-drop}
 use Rattle.row_model.specs.Rows.{Row}
-use Rattle.row_model.specs.TableBytes.{bytes_of_blocks, header_bytes, rows_bytes}
+use Rattle.row_model.specs.TableBytes.{blocks_of_rows, bytes_of_blocks, header_bytes, rows_bytes, table_bytes, IsTaken}
+use Rattle.std.specs.Prelude.{Option, Some, None, not}
+use Rattle.fleet_block.specs.Finds.{FindsAll}
+use Rattle.fleet_block.proofs.Cuts.{all_blocks, joined_blocks}
+use Rattle.fleet_block.proofs.Later.{Rows, view}
 
 pub headers_len : (cut : List (List Row)) → length (flat_map header_bytes cut) ≡ 10 * length cut
 headers_len [] = refl
@@ -30,3 +34,17 @@ rows_behind cut bytes header count counted e =
     ∙ ap (drop (count * 10)) e
     ∙ drop_at (flat_map header_bytes cut) (flat_map rows_bytes cut) (count * 10) (omega (arith, heads, counted))
     ∙ sym (append-nil (flat_map rows_bytes cut))
+
+-- ---- the rows of a table
+
+module _ (rows : List Row) (taken : IsTaken rows) (bytes : List ℕ) (e : bytes ≡ table_bytes rows) (found : Option Rows) (finds : FindsAll view bytes found) where
+  -- A reader of all blocks finds the rows of a table.
+  pub none_missed : found ≡ None → ⊥
+  none_missed is = subst (FindsAll view bytes) is finds (blocks_of_rows 0 rows) (all_blocks rows taken.writable) e
+
+  pub these_found : (v : Rows) → found ≡ Some v → view v ≡ rows
+  these_found v is = subst (FindsAll view bytes) is finds (blocks_of_rows 0 rows) (all_blocks rows taken.writable) e ∙ joined_blocks 0 rows
+
+pub passed : (b : Bool) → false ≡ not b → b ≡ true
+passed true e = refl
+passed false e = absurd (cc e)

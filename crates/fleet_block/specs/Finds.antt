@@ -1,5 +1,5 @@
 -- What a reader finds at a place in some bytes.
-use Rattle.std.specs.Prelude.{◌≡◌, ◌≢◌, ℕ, ◌<◌, ◌^◌, List, ◌++◌, length, drop, Option, Some, None}
+use Rattle.std.specs.Prelude.{◌≡◌, ◌≢◌, ℕ, ◌<◌, ◌^◌, List, ◌++◌, length, drop, Option, Some, None, IfSome, option_map}
 use Rattle.std.specs.List.{AllByRecursion, flat_map}
 use Rattle.row_model.specs.Rows.{Row}
 use Rattle.row_model.specs.TableBytes.{bytes_of_blocks, header_bytes, row_bytes, rows_bytes, IsWritable}
@@ -45,7 +45,7 @@ abbrev pub FindsAll : {V : Type 0} → (V → List Row) → List ℕ → Option 
 FindsAll view bytes None = (cut : List (List Row)) → AllByRecursion IsBlock cut → bytes ≢ bytes_of_blocks cut
 FindsAll view bytes (Some rows) = (cut : List (List Row)) → AllByRecursion IsBlock cut → bytes ≡ bytes_of_blocks cut → view rows ≡ joined cut
 
--- What was read of all bytes: a value that is spelt so, or nothing where no value is.
-abbrev pub Reads : {A V : Type 0} → (V → A) → (A → List ℕ) → (A → Type 0) → List ℕ → Option V → Type 0
-Reads view spelt Fits bytes None = (x : _) → Fits x → bytes ≢ spelt x
-Reads view spelt Fits bytes (Some found) = Fits (view found) × (bytes ≡ spelt (view found))
+-- What was read of all bytes: the value that is spelt so, or nothing where no value is.
+pub record Reads {A V : Type 0} (view : V → A) (spelt : A → List ℕ) (Fits : A → Type 0) (bytes : List ℕ) (found : Option V) : Type 0 where
+  pub spelt_so : IfSome found (λ v. Fits (view v) × (bytes ≡ spelt (view v)))
+  pub only : (x : A) → Fits x → bytes ≡ spelt x → option_map view found ≡ Some x
