@@ -2,7 +2,7 @@
 use Rattle.std.proofs.Common.{◌≡◌, ◌≢◌, refl, sym, ◌∙◌, ap, subst, ℕ, zero, suc, ◌<◌, ◌≤◌, ◌+◌, ◌*◌, List, [], ◌∷◌, ◌++◌, length, take, drop, Bool, true, false, cond, arith}
 use Rattle.std.specs.Prelude.{nat_le, ⊤}
 use Rattle.std.specs.List.{AllByRecursion, flat_map}
-use Rattle.std.proofs.lemmas.List.{append_assoc, take-map, drop-map}
+use Rattle.std.proofs.lemmas.List.{append_assoc, map-append, take-append-drop, take-map, drop-map}
 use Rattle.row_model.specs.Bounds.{IsInBounds}
 use Rattle.row_model.specs.Rows.{Row}
 use Rattle.row_model.specs.Sizes.{block_bytes, estimated_size, or_full}
@@ -172,3 +172,13 @@ all_blocks rows h = short_blocks (blocks_of_rows 0 rows) (all_short rows h 0 (om
 pub all_in_bounds : (rows : List Row) → AllByRecursion IsWritable rows → AllByRecursion IsInBounds rows
 all_in_bounds [] h = tt
 all_in_bounds (r ∷ rows) h = (h.0.in_bounds, all_in_bounds rows h.1)
+
+all_joined : {A : Type 0} (P : A → Type 0) (xs ys : List A) → AllByRecursion P xs → AllByRecursion P ys → AllByRecursion P (xs ++ ys)
+all_joined P [] ys h g = g
+all_joined P (x ∷ xs) ys h g = (h.0, all_joined P xs ys h.1 g)
+
+pub both_writable : (rest block later : List RowEntry) (n : ℕ) → block ≡ take n rest → later ≡ drop n rest → AllByRecursion IsWritable (rows_of block) → AllByRecursion IsWritable (rows_of later) → AllByRecursion IsWritable (rows_of rest)
+both_writable rest block later n front back h g =
+    subst (AllByRecursion IsWritable)
+    (sym (map-append row_of block later) ∙ ap rows_of (ap (λ xs. xs ++ later) front ∙ ap (λ ys. take n rest ++ ys) back ∙ take-append-drop n rest))
+    (all_joined IsWritable (rows_of block) (rows_of later) h g)

@@ -4,6 +4,7 @@
 mod block;
 mod cut;
 mod field;
+mod fits;
 mod laws;
 mod number;
 mod put;

@@ -3,10 +3,11 @@
 ghost use Rattle.std.specs.Prelude.{◌≡◌, ◌++◌, ◌<◌, ◌≤◌, ◌^◌, length, IsOkUnless, OnOk};
 ghost use Rattle.std.specs.Int.{w16, w32, w64, to_be_bytes};
 ghost use Rattle.row_model.specs.Bounds.{IsInBounds};
-ghost use Rattle.row_model.specs.TableBytes.{content_bytes, fields_bytes, key_bytes, row_bytes, row_flags, shared_len, stamp_bytes};
+ghost use Rattle.row_model.specs.TableBytes.{content_bytes, fields_bytes, key_bytes, row_bytes, row_flags, shared_len, stamp_bytes, IsWritable};
 ghost use Rattle.row_model.specs.Sizes.{content_len};
 ghost use Rattle.fleet_rows.specs.Row.{content_of, row_of};
 
+use crate::fits::know_numbers_fit;
 use crate::shared::shared_len;
 use fleet_rows::{RowEntry, SlateDBError, ValueDeletable};
 
@@ -46,9 +47,12 @@ pub(crate) fn put_u64(out: &mut Vec<u8>, number: u64) -> Result<(), SlateDBError
 /// key.
 pub(crate) fn put_row(out: &mut Vec<u8>, first: &[u8], row: &RowEntry) -> Result<(), SlateDBError>
     requires { IsInBounds (row_of row.now) }
-    ensures bytes { OnOk result (out.new.items ≡ out.old.items ++ row_bytes first.now (row_of row.now)) }
+    ensures bytes { OnOk result
+        (out.new.items ≡ out.old.items ++ row_bytes first.now (row_of row.now)) }
+    ensures fit { IsWritable (row_of row.now) }
     ensures memory { IsOkUnless result SlateDBError.Memory }
 {
+    know_numbers_fit(row);
     let key = row.key.as_slice();
     put_key(out, shared_len(first, key), key)?;
     put_fields(out, row)
@@ -110,7 +114,8 @@ fn put_stamp(out: &mut Vec<u8>, stamp: Option<i64>) -> Result<(), SlateDBError>
 
 fn put_content(out: &mut Vec<u8>, content: &ValueDeletable) -> Result<(), SlateDBError>
     requires { content_len (content_of content.now) < 2 ^ 32 }
-    ensures bytes { OnOk result (out.new.items ≡ out.old.items ++ content_bytes (content_of content.now)) }
+    ensures bytes { OnOk result
+        (out.new.items ≡ out.old.items ++ content_bytes (content_of content.now)) }
     ensures memory { IsOkUnless result SlateDBError.Memory }
 {
     match content {

@@ -1,13 +1,13 @@
 //! Tests of the rows that a table takes.
 
-ghost use Rattle.std.specs.Prelude.{◌≡◌, ◌↔◌, ◌<◌, ◌^◌, IsTrue};
+ghost use Rattle.std.specs.Prelude.{◌≡◌, ◌↔◌, IsTrue};
 ghost use Rattle.std.specs.Ordering.{is_lt};
 ghost use Rattle.std.specs.List.{AllByRecursion};
-ghost use Rattle.row_model.specs.Bounds.{IsStamp, IsStampOrNone};
 ghost use Rattle.row_model.specs.Rows.{are_ordered, row_cmp, IsStrictlyOrdered};
 ghost use Rattle.row_model.specs.TableBytes.{IsTaken, IsWritable};
 ghost use Rattle.fleet_rows.specs.Row.{row_of, rows_of};
 
+use crate::fits::know_numbers_fit;
 use fleet_rows::RowEntry;
 use std::cmp::Ordering;
 
@@ -58,28 +58,9 @@ fn are_writable(rows: &[RowEntry]) -> bool
     true
 }
 
-// The sequence and the stamps of a row always fit their places.
 fn is_writable(row: &RowEntry) -> bool
     ensures { IsTrue result ↔ IsWritable (row_of row.now) }
 {
-    know_number_fits(row.seq);
-    know_stamp_fits(row.create_ts);
-    know_stamp_fits(row.expire_ts);
+    know_numbers_fit(row);
     row.is_in_bounds()
 }
-
-fn know_number_fits(number: u64)
-    ensures { number < 2 ^ 64 }
-{}
-
-fn know_stamp_fits(stamp: Option<i64>)
-    ensures { IsStampOrNone stamp }
-{
-    if let Some(number) = stamp {
-        know_signed_fits(number);
-    }
-}
-
-fn know_signed_fits(number: i64)
-    ensures { IsStamp number }
-{}

@@ -4,7 +4,7 @@ ghost use Rattle.std.specs.Prelude.{◌≡◌, ◌≢◌, ◌++◌, ◌<◌, ◌
 ghost use Rattle.std.specs.Int.{w16, w64, to_be_bytes};
 ghost use Rattle.std.specs.List.{AllByRecursion, flat_map};
 ghost use Rattle.row_model.specs.Bounds.{IsInBounds};
-ghost use Rattle.row_model.specs.TableBytes.{header_bytes, row_bytes, rows_bytes, table_bytes};
+ghost use Rattle.row_model.specs.TableBytes.{header_bytes, row_bytes, rows_bytes, table_bytes, IsWritable};
 ghost use Rattle.fleet_rows.specs.Row.{row_of, rows_of};
 
 use crate::cut::first_block_len;
@@ -12,10 +12,12 @@ use crate::put::{put_row, put_u16, put_u64};
 use fleet_rows::{RowEntry, SlateDBError};
 use std::alloc::Global;
 
-/// The bytes of a table that has these rows. The only error is `Memory`.
+/// The bytes of a table that has these rows. The numbers of the rows fit their places. The only
+/// error is `Memory`.
 pub fn bytes_from_rows(alloc: Global, rows: &[RowEntry]) -> Result<Vec<u8>, SlateDBError>
     requires { AllByRecursion IsInBounds (rows_of rows.now) }
     ensures bytes { IfOk result (λ bytes. bytes.items ≡ table_bytes (rows_of rows.now)) }
+    ensures fit { OnOk result (AllByRecursion IsWritable (rows_of rows.now)) }
     ensures memory { IsOkUnless result SlateDBError.Memory }
 {
     let mut headers = Vec::new(alloc);
@@ -42,8 +44,11 @@ fn put_block(
 ) -> Result<(), SlateDBError>
     requires in_bounds { AllByRecursion IsInBounds (rows_of block.now) }
     requires short { length block.now < 2 ^ 16 }
-    ensures header { OnOk result (headers.new.items ≡ headers.old.items ++ header_bytes (rows_of block.now)) }
-    ensures rows { OnOk result (written.new.items ≡ written.old.items ++ rows_bytes (rows_of block.now)) }
+    ensures header { OnOk result
+        (headers.new.items ≡ headers.old.items ++ header_bytes (rows_of block.now)) }
+    ensures rows { OnOk result
+        (written.new.items ≡ written.old.items ++ rows_bytes (rows_of block.now)) }
+    ensures fit { OnOk result (AllByRecursion IsWritable (rows_of block.now)) }
     ensures memory { IsOkUnless result SlateDBError.Memory }
 {
     let start = written.len();
@@ -63,6 +68,7 @@ fn put_header(headers: &mut Vec<u8>, rows: u16, len: u64) -> Result<(), SlateDBE
 fn put_rows(out: &mut Vec<u8>, block: &[RowEntry]) -> Result<(), SlateDBError>
     requires { AllByRecursion IsInBounds (rows_of block.now) }
     ensures bytes { OnOk result (out.new.items ≡ out.old.items ++ rows_bytes (rows_of block.now)) }
+    ensures fit { OnOk result (AllByRecursion IsWritable (rows_of block.now)) }
     ensures memory { IsOkUnless result SlateDBError.Memory }
 {
     if let [row, later @ ..] = block {
@@ -76,6 +82,7 @@ fn put_later(out: &mut Vec<u8>, first: &[u8], later: &[RowEntry]) -> Result<(), 
     requires { AllByRecursion IsInBounds (rows_of later.now) }
     ensures bytes { OnOk result (out.new.items
         ≡ out.old.items ++ flat_map (row_bytes first.now) (rows_of later.now)) }
+    ensures fit { OnOk result (AllByRecursion IsWritable (rows_of later.now)) }
     ensures memory { IsOkUnless result SlateDBError.Memory }
 {
     let mut rest = later;

@@ -37,6 +37,7 @@ rest-preserved c =
     let cut = cuts.cut_once c.rest.rest.now c.split_at.result.0.now c.split_at.result.1.now c.first_block_len.result (cuts.not_empty c.rest.rest.now some) c.first_block_len.ensures.value c.split_at.ensures.front c.split_at.ensures.back in
     record {
       in_bounds = cuts.back_in_bounds c.rest.rest.now c.split_at.result.1.now c.first_block_len.result c.split_at.ensures.back c.rest.invariant.in_bounds;
+      fit = λ later. c.rest.invariant.fit (cuts.both_writable c.rest.rest.now c.split_at.result.0.now c.split_at.result.1.now c.first_block_len.result c.split_at.ensures.front c.split_at.ensures.back c.in_ok-put_block.ensures.fit later);
       headers_left = cuts.onward header_bytes c.rest.headers.items _ (rows_of c.split_at.result.0.now) (blocks_of_rows 0 (rows_of c.rest.rest.now)) (blocks_of_rows 0 (rows_of c.split_at.result.1.now)) (blocks_of_rows 0 (rows_of c.args.rows.now)) cut c.rest.invariant.headers_left c.in_ok-put_block.ensures.header;
       rows_left = cuts.onward rows_bytes c.rest.written.items _ (rows_of c.split_at.result.0.now) (blocks_of_rows 0 (rows_of c.rest.rest.now)) (blocks_of_rows 0 (rows_of c.split_at.result.1.now)) (blocks_of_rows 0 (rows_of c.args.rows.now)) cut c.rest.invariant.rows_left c.in_ok-put_block.ensures.rows;
       counted = let one = ap length cut in omega (arith, one, c.rest.invariant.counted);
