@@ -1,6 +1,6 @@
 //! Reading the rows of a block at a place in some bytes.
 
-ghost use Rattle.std.specs.Prelude.{◌≤◌, ◌++◌, [], length, IfOk, IfSome, IsOkUnless};
+ghost use Rattle.std.specs.Prelude.{◌≤◌, length, IfOk, IfSome, IsOkUnless};
 ghost use Rattle.row_model.specs.TableBytes.{rows_bytes};
 ghost use Rattle.fleet_rows.specs.Row.{rows_of};
 ghost use Rattle.fleet_block.specs.Finds.{AreRows, Finds, FindsLater};
@@ -11,7 +11,7 @@ use fleet_rows::{RowEntry, SlateDBError};
 use std::alloc::Global;
 
 /// The rows of the block that begins at this place and has so many rows, and the place behind it.
-/// None if no such block is written there.
+/// Where no such block is written, the answer is None or any rows. The only error is `Memory`.
 pub fn block_at(
     alloc: Global,
     bytes: &Bytes,

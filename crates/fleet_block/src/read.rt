@@ -1,6 +1,6 @@
 //! Reading the rows of a table from its bytes.
 
-ghost use Rattle.std.specs.Prelude.{◌≡◌, ◌↔◌, ◌<◌, ◌≤◌, ◌^◌, ◌++◌, [], length, IfOk, IfSome, IsOkUnless, IsTrue, OnOk};
+ghost use Rattle.std.specs.Prelude.{◌≡◌, ◌<◌, ◌≤◌, ◌^◌, ◌++◌, [], length, IfOk, IsOkUnless, OnOk};
 ghost use Rattle.row_model.specs.TableBytes.{table_bytes, IsTaken};
 ghost use Rattle.fleet_rows.specs.Row.{rows_of};
 ghost use Rattle.fleet_block.specs.Finds.{FindsAll, FindsBlocks, Reads};

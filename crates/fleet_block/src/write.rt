@@ -1,11 +1,11 @@
 //! Writing rows as the bytes of a table.
 
-ghost use Rattle.std.specs.Prelude.{◌≡◌, ◌≢◌, ◌++◌, ◌<◌, ◌^◌, [], length, IfOk, IsOkUnless, OnOk};
+ghost use Rattle.std.specs.Prelude.{◌≡◌, ◌++◌, ◌<◌, ◌^◌, length, IfOk, IsOkUnless, OnOk};
 ghost use Rattle.std.specs.Int.{w16, w64, to_be_bytes};
 ghost use Rattle.std.specs.List.{AllByRecursion, flat_map};
 ghost use Rattle.row_model.specs.Bounds.{IsInBounds};
 ghost use Rattle.row_model.specs.TableBytes.{header_bytes, row_bytes, rows_bytes, table_bytes, IsWritable};
-ghost use Rattle.fleet_rows.specs.Row.{row_of, rows_of};
+ghost use Rattle.fleet_rows.specs.Row.{rows_of};
 
 use crate::cut::first_block_len;
 use crate::put::{put_row, put_u16, put_u64};
