@@ -11,3 +11,4 @@ pub mod Ordered
 pub mod Lengths
 pub mod Index
 pub mod Tells
+pub mod Stand

@@ -1,9 +1,9 @@
 -- Laws on the bytes of rows and tables, and on the blocks that rows are cut into.
-use Rattle.std.specs.Prelude.{◌≡◌, ◌≢◌, ℕ, ◌+◌, ◌<◌, ◌^◌, List, [], ◌∷◌, length, sum_by}
-use Rattle.std.specs.List.{AllByRecursion}
+use Rattle.std.specs.Prelude.{◌≡◌, ◌≢◌, ℕ, ◌+◌, ◌<◌, ◌^◌, List, [], ◌∷◌, length, sum_by, ◌*◌, ◌++◌, drop}
+use Rattle.std.specs.List.{AllByRecursion, flat_map}
 use Rattle.row_model.specs.Rows.{Row}
 use Rattle.row_model.specs.Sizes.{Block, blocks, encoded_size, estimated_size, saturated}
-use Rattle.row_model.specs.TableBytes.{blocks_of_rows, row_bytes, shared_len, table_bytes, IsWritable}
+use Rattle.row_model.specs.TableBytes.{blocks_of_rows, bytes_of_blocks, row_bytes, rows_bytes, shared_len, table_bytes, IsWritable}
 use Rattle.fleet_block.specs.Finds.{joined}
 
 -- A row is written in as many bytes as its size says.
@@ -28,3 +28,11 @@ pub record AreTheBlocks (rows : List Row) : Type 0 where
 
 abbrev pub RowsAreCutIntoBlocks : Type 0
 RowsAreCutIntoBlocks = (rows : List Row) → AreTheBlocks rows
+
+-- Where the rows of blocks begin: behind the number of blocks and a header of ten bytes for each block.
+abbrev pub rows_place : List (List Row) → ℕ
+rows_place cut = 8 + 10 * length cut
+
+-- The rows of a block stand behind those of the blocks before it.
+abbrev pub BlocksStandInBytes : Type 0
+BlocksStandInBytes = (before after : List (List Row)) (block : List Row) → let cut = before ++ block ∷ after in drop (rows_place cut + length (flat_map rows_bytes before)) (bytes_of_blocks cut) ≡ rows_bytes block ++ flat_map rows_bytes after

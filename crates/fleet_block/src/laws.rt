@@ -1,7 +1,7 @@
 //! Laws on the bytes of rows and tables. Each function has an empty body, and its clause states a
 //! law. The statements are in specs/Laws.antt.
 
-ghost use Rattle.fleet_block.specs.Laws.{BytesTellRows, RowsAreCutIntoBlocks, RowsHaveEncodedSizes};
+ghost use Rattle.fleet_block.specs.Laws.{BlocksStandInBytes, BytesTellRows, RowsAreCutIntoBlocks, RowsHaveEncodedSizes};
 
 /// A row of a block is written in as many bytes as `encoded_size` says. The bytes of its key that
 /// it shares with the block's first key are not counted.
@@ -18,4 +18,10 @@ pub fn bytes_tell_rows()
 /// and offsets of the blocks are those of a table's index.
 pub fn rows_are_cut_into_blocks()
     ensures { RowsAreCutIntoBlocks }
+{}
+
+/// The rows of a block stand behind the number of blocks, the headers, and the rows of the blocks
+/// before it.
+pub fn blocks_stand_in_bytes()
+    ensures { BlocksStandInBytes }
 {}

@@ -15,7 +15,9 @@ mod taken;
 mod write;
 
 pub use block::block_at;
-pub use laws::{bytes_tell_rows, rows_are_cut_into_blocks, rows_have_encoded_sizes};
+pub use laws::{
+    blocks_stand_in_bytes, bytes_tell_rows, rows_are_cut_into_blocks, rows_have_encoded_sizes,
+};
 pub use read::rows_from_bytes;
 pub use row::row_at;
 pub use taken::are_strictly_ordered;

@@ -1,6 +1,6 @@
 -- Tables written as bytes. Rows stand in blocks. A key is written without the bytes that it shares with the
 -- first key of its block. All numbers are big-endian.
-use Rattle.std.specs.Prelude.{◌≡◌, ◌≢◌, ℕ, ◌+◌, ◌-◌, ◌^◌, ◌<◌, ◌==◌, nat_le, ℤ, List, [], ◌∷◌, ◌++◌, length, drop, Option, Some, None}
+use Rattle.std.specs.Prelude.{◌≢◌, ℕ, ◌+◌, ◌-◌, ◌^◌, ◌<◌, ◌==◌, nat_le, ℤ, List, [], ◌∷◌, ◌++◌, length, drop, Option, Some, None}
 use Rattle.std.specs.Int.{w16, w32, w64, to_be_bytes, cast_unsigned}
 use Rattle.std.specs.List.{AllByRecursion, common_prefix_len, flat_map}
 use Rattle.row_model.specs.Bounds.{IsInBounds, IsStampOrNone}
