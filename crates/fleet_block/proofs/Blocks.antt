@@ -9,6 +9,10 @@ use Rattle.row_model.specs.TableBytes.{header_bytes, rows_bytes}
 use Rattle.fleet_block.specs.Finds.{AreRows, Finds, FindsBlocks, IsFound, joined}
 use Rattle.fleet_block.proofs.Later.{Rows, view}
 
+-- The number of rows of a block fits 16 bits.
+pub count_short : (b : List Row) → length b ≤ 512 → length b < 2 ^ 16
+count_short b h = omega arith
+
 -- The bytes of a block are no more than all bytes.
 len_within : (b : List Row) (cut : List (List Row)) (others bytes : List ℕ) (place : ℕ) → drop place bytes ≡ flat_map rows_bytes (b ∷ cut) ++ others → length (rows_bytes b) ≤ length bytes
 len_within b cut others bytes place e =
@@ -26,7 +30,7 @@ module _ {V : Type 0} (of : V → List Row) (bytes : List ℕ) (header place : �
   pub count_stopped : (left : ℕ) → 0 < left → Finds (λ n. n) (to_be_bytes w16) (λ n. n < 2 ^ 16) bytes header None → FindsBlocks of left before bytes header place None
   count_stopped left some finds [] behind others fits h e = let counted = fits.counted in absurd (omega arith)
   count_stopped left some finds (b ∷ cut) behind others fits h e =
-      finds (length b) (to_be_bytes w64 (length (rows_bytes b)) ++ (flat_map header_bytes cut ++ behind)) fits.blocks.0.short h
+      finds (length b) (to_be_bytes w64 (length (rows_bytes b)) ++ (flat_map header_bytes cut ++ behind)) (count_short b fits.blocks.0.short) h
 
   module _ (count middle : ℕ) (counts : Finds (λ n. n) (to_be_bytes w16) (λ n. n < 2 ^ 16) bytes header (Some (count, middle))) where
     len_fits : (b : List Row) (cut : List (List Row)) (others : List ℕ) → length bytes < 2 ^ 64 → drop place bytes ≡ flat_map rows_bytes (b ∷ cut) ++ others → length (rows_bytes b) < 2 ^ 64
@@ -35,14 +39,21 @@ module _ {V : Type 0} (of : V → List Row) (bytes : List ℕ) (header place : �
     pub len_stopped : (left : ℕ) → 0 < left → length bytes < 2 ^ 64 → Finds (λ n. n) (to_be_bytes w64) (λ n. n < 2 ^ 64) bytes middle None → FindsBlocks of left before bytes header place None
     len_stopped left some small finds [] behind others fits h e = let counted = fits.counted in absurd (omega arith)
     len_stopped left some small finds (b ∷ cut) behind others fits h e =
-        let one = counts (length b) (to_be_bytes w64 (length (rows_bytes b)) ++ (flat_map header_bytes cut ++ behind)) fits.blocks.0.short h in
+        let one = counts (length b) (to_be_bytes w64 (length (rows_bytes b)) ++ (flat_map header_bytes cut ++ behind)) (count_short b fits.blocks.0.short) h in
         finds (length (rows_bytes b)) (flat_map header_bytes cut ++ behind) (len_fits b cut others small e) one.1
+
+    pub many_stopped : (left : ℕ) → 0 < left → 512 < count → FindsBlocks of left before bytes header place None
+    many_stopped left some many [] behind others fits h e = let counted = fits.counted in absurd (omega arith)
+    many_stopped left some many (b ∷ cut) behind others fits h e =
+        let one = counts (length b) (to_be_bytes w64 (length (rows_bytes b)) ++ (flat_map header_bytes cut ++ behind)) (count_short b fits.blocks.0.short) h in
+        let short = fits.blocks.0.short in
+        absurd (omega (arith, one.0, short))
 
     module _ (len next_header : ℕ) (lens : Finds (λ n. n) (to_be_bytes w64) (λ n. n < 2 ^ 64) bytes middle (Some (len, next_header))) where
       pub rows_stopped : (left : ℕ) → 0 < left → (found : Option (Rows × ℕ)) → found ≡ None → Finds view rows_bytes (AreRows count) bytes place found → FindsBlocks of left before bytes header place None
       rows_stopped left some found is finds [] behind others fits h e = let counted = fits.counted in absurd (omega arith)
       rows_stopped left some found is finds (b ∷ cut) behind others fits h e =
-          let one = counts (length b) (to_be_bytes w64 (length (rows_bytes b)) ++ (flat_map header_bytes cut ++ behind)) fits.blocks.0.short h in
+          let one = counts (length b) (to_be_bytes w64 (length (rows_bytes b)) ++ (flat_map header_bytes cut ++ behind)) (count_short b fits.blocks.0.short) h in
           subst (IsFound view b (flat_map rows_bytes cut ++ others) bytes) is
           (finds b (flat_map rows_bytes cut ++ others) (record { writable = fits.blocks.0.writable; counted = sym one.0 }) (e ∙ append_assoc (rows_bytes b) (flat_map rows_bytes cut) others))
 
@@ -52,7 +63,7 @@ module _ {V : Type 0} (of : V → List Row) (bytes : List ℕ) (header place : �
       blocks_onward left less is_one small found block next is finds more pushed all rest [] behind others fits h e = let counted = fits.counted in absurd (omega arith)
       blocks_onward left less is_one small found block next is finds more pushed all rest (b ∷ cut) behind others fits h e =
           let counted = fits.counted in
-          let one = counts (length b) (to_be_bytes w64 (length (rows_bytes b)) ++ (flat_map header_bytes cut ++ behind)) fits.blocks.0.short h in
+          let one = counts (length b) (to_be_bytes w64 (length (rows_bytes b)) ++ (flat_map header_bytes cut ++ behind)) (count_short b fits.blocks.0.short) h in
           let two = lens (length (rows_bytes b)) (flat_map header_bytes cut ++ behind) (len_fits b cut others small e) one.1 in
           let here = subst (IsFound view b (flat_map rows_bytes cut ++ others) bytes) is
           (finds b (flat_map rows_bytes cut ++ others) (record { writable = fits.blocks.0.writable; counted = sym one.0 }) (e ∙ append_assoc (rows_bytes b) (flat_map rows_bytes cut) others)) in

@@ -11,6 +11,7 @@ use Rattle.row_model.specs.Sizes.{content_len}
 use Rattle.row_model.specs.TableBytes.{blocks_of_rows, content_bytes, content_flag, header_bytes, key_bytes, row_bytes, row_flags, rows_bytes, shared_len, stamp_bytes, IsWritable}
 use Rattle.fleet_block.specs.Finds.{IsBlock, joined}
 use Rattle.fleet_block.specs.Laws.{BytesTellRows}
+use Rattle.fleet_block.proofs.Blocks.{count_short}
 use Rattle.fleet_block.proofs.Cuts.{all_blocks, blocks_within, joined_blocks}
 use Rattle.fleet_block.proofs.Fields.{behind_created, behind_expires, behind_flags, behind_key, behind_seq, created_there, expires_there, kind_told, row_parts}
 use Rattle.fleet_block.proofs.SharedKeys.{key_joined, shared_within}
@@ -129,7 +130,7 @@ headers_told [] [] xs ys cut_fits others_fit counted e = (tt, e)
 headers_told [] (b ∷ others) xs ys cut_fits others_fit counted e = absurd (omega arith)
 headers_told (a ∷ cut) [] xs ys cut_fits others_fit counted e = absurd (omega arith)
 headers_told (a ∷ cut) (b ∷ others) xs ys cut_fits others_fit counted e =
-    let count = number_16 (length a) (length b) (to_be_bytes w64 (length (rows_bytes a)) ++ (flat_map header_bytes cut ++ xs)) (to_be_bytes w64 (length (rows_bytes b)) ++ (flat_map header_bytes others ++ ys)) cut_fits.0.short others_fit.0.short e in
+    let count = number_16 (length a) (length b) (to_be_bytes w64 (length (rows_bytes a)) ++ (flat_map header_bytes cut ++ xs)) (to_be_bytes w64 (length (rows_bytes b)) ++ (flat_map header_bytes others ++ ys)) (count_short a cut_fits.0.short) (count_short b others_fit.0.short) e in
     let rest = headers_told cut others xs ys cut_fits.1 others_fit.1 (omega arith) (ap (drop 8) count.1) in
     ((count.0, rest.0), rest.1)
 

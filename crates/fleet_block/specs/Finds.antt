@@ -1,5 +1,5 @@
 -- What a reader finds at a place in some bytes.
-use Rattle.std.specs.Prelude.{◌≡◌, ◌≢◌, ℕ, ◌<◌, ◌^◌, List, ◌++◌, length, drop, Option, Some, None, IfSome, option_map}
+use Rattle.std.specs.Prelude.{◌≡◌, ◌≢◌, ℕ, ◌≤◌, List, ◌++◌, length, drop, Option, Some, None, IfSome, option_map}
 use Rattle.std.specs.List.{AllByRecursion, flat_map}
 use Rattle.row_model.specs.Rows.{Row}
 use Rattle.row_model.specs.TableBytes.{bytes_of_blocks, header_bytes, row_bytes, rows_bytes, IsWritable}
@@ -22,10 +22,10 @@ pub record AreRows (count : ℕ) (rows : List Row) : Type 0 where
 abbrev pub FindsLater : {V : Type 0} → (V → List Row) → List ℕ → ℕ → List Row → List ℕ → ℕ → Option (V × ℕ) → Type 0
 FindsLater view first count before bytes place found = (rows : List Row) (others : List ℕ) → AreRows count rows → drop place bytes ≡ flat_map (row_bytes first) rows ++ others → IsFound view (before ++ rows) others bytes found
 
--- A block whose rows fit their places, and whose number of rows fits too.
+-- A block whose rows fit their places. It has at most 512 rows, since each has a size of at least 8 bytes.
 pub record IsBlock (rows : List Row) : Type 0 where
   pub writable : AllByRecursion IsWritable rows
-  pub short : length rows < 2 ^ 16
+  pub short : length rows ≤ 512
 
 pub record AreBlocks (count : ℕ) (cut : List (List Row)) : Type 0 where
   pub blocks : AllByRecursion IsBlock cut

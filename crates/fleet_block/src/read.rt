@@ -16,6 +16,9 @@ use std::alloc::Global;
 // The number of bytes of a block's header.
 const HEADER_BYTES: usize = 10;
 
+// The greatest number of rows of a block. Each row counts at least 8 of its 4,096 bytes.
+const MAX_BLOCK_ROWS: u16 = 512;
+
 /// The rows of the table that has these bytes, or None if no table has them. A table has at least
 /// one row, its rows are strictly ordered, and their lengths are in bounds. The only error is
 /// `Memory`.
@@ -83,6 +86,9 @@ fn blocks_at(
         let Some((_, behind)) = u64_at(bytes, behind) else {
             return Ok(None);
         };
+        if MAX_BLOCK_ROWS < len {
+            return Ok(None);
+        }
         let Some((block, next)) = block_at(alloc, bytes, place, len)? else {
             return Ok(None);
         };

@@ -4,7 +4,7 @@ use Rattle.std.proofs.lemmas.List.{map-append}
 use Rattle.fleet_rows.specs.declared.row.RowEntry.{RowEntry}
 use Rattle.fleet_rows.specs.Row.{row_of, rows_of}
 use Rattle.fleet_block.specs.Finds.{FindsBlocks}
-use Rattle.fleet_block.proofs.Blocks.{blocks_ended, blocks_onward, count_stopped, len_stopped, rows_stopped}
+use Rattle.fleet_block.proofs.Blocks.{blocks_ended, blocks_onward, count_stopped, len_stopped, many_stopped, rows_stopped}
 use Rattle.fleet_block.proofs.Later.{view}
 use Rattle.fleet_block.proofs.read.blocks_at.Goals as goal
 
@@ -41,3 +41,7 @@ left-init c = record {
   rows_within = c.requires.place;
   onward = λ found rest. subst (λ (rows : List RowEntry). FindsBlocks view c.args.count (rows_of rows) c.args.bytes.now c.args.header c.args.place found) c.new-rows.ensures.items rest;
 }
+
+pub returns-then-len-gt-MAX_BLOCK_ROWS-clause-found : goal.returns-then-len-gt-MAX_BLOCK_ROWS-clause-found
+returns-then-len-gt-MAX_BLOCK_ROWS-clause-found c =
+    c.left.invariant.onward None (many_stopped view c.args.bytes.now c.left.header c.left.place (rows_of c.left.rows.items) c.in-Some.len c.in-Some.behind c.in-Some.ensures.found c.left.left (omega arith) (omega arith))
