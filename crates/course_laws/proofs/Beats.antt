@@ -31,11 +31,11 @@ use Rattle.step_laws.specs.Runs.{CallsKeep}
 use Rattle.step_laws.proofs.Runs.{rivals_keep}
 use Rattle.step_laws.proofs.Elements.{IsIn, all_at, all_from, all_back, all_true_front, all_true_from, is_itself, pairs_map}
 use Rattle.step_laws.proofs.TableReplays.{all_filter}
-use Rattle.course_laws.specs.Beats.{RivalsKeepWorker, BeatsAreLawful}
+use Rattle.course_laws.specs.Beats.{BeatsAreLawful}
 use Rattle.course_laws.proofs.Later.{Later, later_itself, later_met}
 use Rattle.course_laws.proofs.Puts.{got_records, no_names, over_got, filter_passes}
 use Rattle.course_laws.proofs.Calls.{behind, pairs_filter, all_map}
-use Rattle.course_laws.proofs.OwnCalls.{holds_got, holds_refused}
+use Rattle.course_laws.proofs.OwnCalls.{RivalsKeepWorker, rivals_keep_worker, holds_got, holds_refused}
 
 -- ---- what a store and a worker have in common
 
@@ -146,7 +146,7 @@ those : (who : Caller) (w : LiveWorker) (moment : ℕ) (again : ℕ → Course (
     → (met : Told) (got : Records) (live : List Attempt) → Fit who w met → met.store.records ≡ Some got → live_attempts got.jobs w ≡ live
     → IsLawfulCourse who (told_by who.line who.party (Plain GetRecords) None met) (beat_of moment w got live again)
 those who w moment again keep stay by tries met got [] fit is these = tt
-those who w moment again keep stay by tries met got (a ∷ live) fit is these = λ put rivals.
+those who w moment again keep stay by tries met got (a ∷ live) fit is these = λ put rivals room.
     let change = Beat w.number (named (a ∷ live)) in
     let jobs = jobs_after (beat_unrecorded moment (a ∷ live)) change got.jobs in
     let there = fit_met who w _ put keep stay (fit_got who w met keep fit) rivals in
@@ -163,13 +163,13 @@ over who w moment again keep stay by tries met (Some got) fit is = those who w m
 
 beats : (who : Caller) (w : LiveWorker) (moment : ℕ) → CallsKeep who.merge → RivalsKeepWorker who w → who.party ≡ Worker w.number → (left seen : ℕ) (told : Told) → Fit who w told → IsLawfulCourse who told (beats_from moment w left seen)
 beats who w moment keep stay by zero seen told fit = tt
-beats who w moment keep stay by (suc left) seen told fit = λ met rivals.
+beats who w moment keep stay by (suc left) seen told fit = λ met rivals room.
     (tt, over who w moment (beats_from moment w left) keep stay by (λ version next there. beats who w moment keep stay by left version next there) met met.store.records (fit_met who w told met keep stay fit rivals) refl)
 
 pub beats_are_lawful : BeatsAreLawful
 unfolding heartbeat
-beats_are_lawful who told moment w keep stay by kept holds = at (is_nonempty w.attempts)
+beats_are_lawful who told moment w keep by kept holds = at (is_nonempty w.attempts)
   where
     at : (b : Bool) → IsLawfulCourse who told (cond b (beats_from moment w most_refused 0) (Ends (Reports (beat_report w []))))
-    at true = beats who w moment keep stay by most_refused 0 told (record { kept = kept; holds = holds })
+    at true = beats who w moment keep (rivals_keep_worker who w keep by) by most_refused 0 told (record { kept = kept; holds = holds })
     at false = tt

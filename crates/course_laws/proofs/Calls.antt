@@ -26,7 +26,7 @@ behind who x met keep kept lawful = keep x who.line who.party None met kept lawf
 pub calls_lawful : {A : Type 0} (who : Caller) (next : Course A) (events : List Event) (told : Told) → ((new : Told) → Later told new → AllByRecursion (PlainFits who.party new.store) events)
     → ((new : Told) → Later told new → IsLawfulCourse who new next) → IsLawfulCourse who told (calls_each events next)
 calls_lawful who next [] told each rest = rest told (later_itself told)
-calls_lawful who next (event ∷ events) told each rest = λ met rivals.
+calls_lawful who next (event ∷ events) told each rest = λ met rivals room.
     let later = rivals_later who told met rivals in
     let on = later_then told met (told_by who.line who.party (Plain event) None met) later (later_by who.line who.party (Plain event) None met) in (
       (each met later).0,

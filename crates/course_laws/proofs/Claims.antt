@@ -130,7 +130,7 @@ ends options moment w these stopped = Calls (Plain GetManifest) (λ met. starts_
 
 after : (who : Caller) (options : WorkerOptions) (moment : ℕ) (w : LiveWorker) (these : Jobs) (stopped : List ℕ) (again : ℕ → Course (StepEnd Claimed)) (told : Told) (version : ℕ) (b : Bool)
     → who.party ≡ Worker w.number → Tries who again → Keeps who.merge told → (b ≡ true → WereClaimed told w.number these) → IsLawfulCourse who told (cond b (ends options moment w these stopped) (again version))
-after who options moment w these stopped again told version true by tries kept claimed = λ met rivals. (
+after who options moment w these stopped again told version true by tries kept claimed = λ met rivals room. (
   tt,
   started_lawful who w _ _ these stopped by (claimed_later told _ w.number these
       (later_then told met _ (rivals_later who told met rivals) (later_by who.line who.party (Plain GetManifest) None met)) (claimed refl)),
@@ -141,7 +141,7 @@ those : (who : Caller) (options : WorkerOptions) (moment : ℕ) (w : LiveWorker)
     → (met : Told) (got : Records) (these : Jobs) → Keeps who.merge met → met.store.records ≡ Some got → Chosen got.jobs these
     → IsLawfulCourse who (told_by who.line who.party (Plain GetRecords) None met) (claim_of options moment w got these stopped again)
 those who options moment w stopped again keep by tries met got [] kept is c = tt
-those who options moment w stopped again keep by tries met got (job ∷ these) kept is c = λ put rivals.
+those who options moment w stopped again keep by tries met got (job ∷ these) kept is c = λ put rivals room.
     let change = Claim w.number (map next_attempt (job ∷ these)) in
     let lawful = put_fits who moment w met put got (job ∷ these) by is (later_met who (Plain GetRecords) met met put (later_itself met) rivals) c in
     let there = rivals_keep who _ put keep (behind who (Plain GetRecords) met keep kept tt) rivals in (
@@ -161,7 +161,7 @@ over who options moment w again keep by tries met (Some got) kept is =
 claim_tries : (who : Caller) (options : WorkerOptions) (moment : ℕ) (w : LiveWorker) → CallsKeep who.merge → who.party ≡ Worker w.number → (left seen : ℕ) (told : Told) → Keeps who.merge told
     → IsLawfulCourse who told (claims_from options moment w left seen)
 claim_tries who options moment w keep by zero seen told kept = tt
-claim_tries who options moment w keep by (suc left) seen told kept = λ met rivals.
+claim_tries who options moment w keep by (suc left) seen told kept = λ met rivals room.
     (tt, over who options moment w (claims_from options moment w left) keep by (λ version next there. claim_tries who options moment w keep by left version next there) met met.store.records (rivals_keep who told met keep kept rivals) refl)
 
 pub claims_are_lawful : ClaimsAreLawful

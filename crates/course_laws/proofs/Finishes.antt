@@ -1,4 +1,4 @@
--- A finish of a worker that fits is a lawful course, as long as the history has room for its draws.
+-- A finish of a worker that fits is a lawful course.
 use Rattle.std.proofs.Common.{◌≡◌, ◌≢◌, refl, sym, ◌∙◌, ap, subst, ℕ, zero, suc, List, [], ◌∷◌, ◌++◌, cond, Bool, true, false, inr, Option, Some, None, drop, length, arith}
 use Rattle.std.specs.Prelude.{IsTrue, IfSome, ◌==◌, map, flat_map}
 use Rattle.std.specs.List.{AllByRecursion, concat}
@@ -39,15 +39,16 @@ use Rattle.step_model.specs.ClaimSteps.{WorkerOptions}
 use Rattle.step_model.specs.OutputSteps.{gets_tables, FinishedJob, all_outputs, ends_job, ends_job_by, ends_from, end_job, finish_or_give_back, finish}
 use Rattle.step_model.specs.StepEnds.{StepEnd, Reports, most_refused}
 use Rattle.step_model.specs.Course.{Course, Ends, calls_each}
+use Rattle.step_model.specs.CourseRuns.{IsLawfulCourse}
 use Rattle.step_laws.proofs.Elements.{IsIn, all_at, all_from, all_to, all_append, all_front, all_back, all_unflat, all_true_front, all_true_from}
 use Rattle.step_laws.proofs.Deletions.{in_filter}
-use Rattle.course_laws.specs.Rooms.{IsLawfulWithRoom}
 use Rattle.course_laws.specs.Finishes.{WholeUnless, FinishesAreLawful}
 use Rattle.course_laws.proofs.Later.{Later, later_itself, later_met}
 use Rattle.course_laws.proofs.Puts.{got_records, no_names, over_got}
 use Rattle.course_laws.proofs.Calls.{behind, all_map}
 use Rattle.course_laws.proofs.JobBounds.{IsShort, AreGood, left_good}
 use Rattle.course_laws.proofs.Free.{free_own}
+use Rattle.course_laws.proofs.OwnCalls.{rivals_keep_worker}
 use Rattle.course_laws.proofs.Made.{Relies, State, state_met, state_got, state_table, state_refused, ids_of, tables_of, all_of, ranges_made}
 use Rattle.course_laws.proofs.Outputs.{found_in, back_lawful}
 
@@ -227,17 +228,17 @@ put_fits who w start old new options moment a made got b e is later s live = (
 
 -- Another try is a lawful course where what was made still stands.
 abbrev Tries : Caller → LiveWorker → Told → Attempt → List (ℕ × List Row) → (ℕ → Course (StepEnd FinishedJob)) → Type 0
-Tries who w start a pairs again = (version : ℕ) (told : Told) → State who w start a pairs told → IsLawfulWithRoom who told (again version)
+Tries who w start a pairs again = (version : ℕ) (told : Told) → State who w start a pairs told → IsLawfulCourse who told (again version)
 
 after : (who : Caller) (w : LiveWorker) (start : Told) (a : Attempt) (pairs : List (ℕ × List Row)) (report : FinishedJob) (again : ℕ → Course (StepEnd FinishedJob)) → Tries who w start a pairs again → (told : Told) (version : ℕ) (b : Bool)
-    → (b ≡ false → State who w start a pairs told) → IsLawfulWithRoom who told (cond b (Ends (Reports report)) (again version))
+    → (b ≡ false → State who w start a pairs told) → IsLawfulCourse who told (cond b (Ends (Reports report)) (again version))
 after who w start a pairs report again tries told version true s = tt
 after who w start a pairs report again tries told version false s = tries version told (s refl)
 
 ended : (who : Caller) (w : LiveWorker) (start : Told) (options : WorkerOptions) (moment : ℕ) (a : Attempt) (made : List (List (ℕ × List Row))) (again : ℕ → Course (StepEnd FinishedJob)) → Relies who w → Begins who w start a
     → map tables_of made ≡ pieces_of who start options a → Tries who w start a (all_of made) again → (met : Told) (got : Records) → State who w start a (all_of made) met → met.store.records ≡ Some got
     → (live : Bool) → is_live got.jobs w.number a ≡ live
-    → IsLawfulWithRoom who (told_by who.line who.party (Plain GetRecords) None met) (ends_job moment w a (all_outputs a.context.ranges (map ids_of made)) got live again)
+    → IsLawfulCourse who (told_by who.line who.party (Plain GetRecords) None met) (ends_job moment w a (all_outputs a.context.ranges (map ids_of made)) got live again)
 ended who w start options moment a made again r b e tries met got s is false live = tt
 ended who w start options moment a made again r b e tries met got s is true live = λ put rivals room.
     let outputs = all_outputs a.context.ranges (map ids_of made) in
@@ -253,12 +254,12 @@ ended who w start options moment a made again r b e tries met got s is true live
 
 ended_by : (who : Caller) (w : LiveWorker) (start : Told) (options : WorkerOptions) (moment : ℕ) (a : Attempt) (made : List (List (ℕ × List Row))) (again : ℕ → Course (StepEnd FinishedJob)) → Relies who w → Begins who w start a
     → map tables_of made ≡ pieces_of who start options a → Tries who w start a (all_of made) again → (met : Told) (records : Option Records) → State who w start a (all_of made) met → met.store.records ≡ records
-    → IsLawfulWithRoom who (told_by who.line who.party (Plain GetRecords) None met) (ends_job_by moment w a (all_outputs a.context.ranges (map ids_of made)) records again)
+    → IsLawfulCourse who (told_by who.line who.party (Plain GetRecords) None met) (ends_job_by moment w a (all_outputs a.context.ranges (map ids_of made)) records again)
 ended_by who w start options moment a made again r b e tries met None s is = tt
 ended_by who w start options moment a made again r b e tries met (Some got) s is = ended who w start options moment a made again r b e tries met got s is (is_live got.jobs w.number a) refl
 
 ends : (who : Caller) (w : LiveWorker) (start : Told) (options : WorkerOptions) (moment : ℕ) (a : Attempt) (made : List (List (ℕ × List Row))) → Relies who w → Begins who w start a → map tables_of made ≡ pieces_of who start options a
-    → (left seen : ℕ) (told : Told) → State who w start a (all_of made) told → IsLawfulWithRoom who told (ends_from moment w a (all_outputs a.context.ranges (map ids_of made)) left seen)
+    → (left seen : ℕ) (told : Told) → State who w start a (all_of made) told → IsLawfulCourse who told (ends_from moment w a (all_outputs a.context.ranges (map ids_of made)) left seen)
 ends who w start options moment a made r b e zero seen told s = tt
 ends who w start options moment a made r b e (suc left) seen told s = λ met rivals room. (
   tt,
@@ -267,14 +268,14 @@ ends who w start options moment a made r b e (suc left) seen told s = λ met riv
 )
 
 end_lawful : (who : Caller) (w : LiveWorker) (start : Told) (options : WorkerOptions) (moment : ℕ) (a : Attempt) (made : List (List (ℕ × List Row))) → Relies who w → Begins who w start a → map tables_of made ≡ pieces_of who start options a
-    → (told : Told) → State who w start a (all_of made) told → IsLawfulWithRoom who told (end_job moment w a (all_outputs a.context.ranges (map ids_of made)))
+    → (told : Told) → State who w start a (all_of made) told → IsLawfulCourse who told (end_job moment w a (all_outputs a.context.ranges (map ids_of made)))
 unfolding end_job
 end_lawful who w start options moment a made r b e told s = ends who w start options moment a made r b e most_refused 0 told s
 
 -- ---- the finish
 
 gets_lawful : {A : Type 0} (who : Caller) (w : LiveWorker) (start : Told) (a : Attempt) (next : Course A) (tables : List ℕ) (told : Told) → Relies who w → State who w start a [] told
-    → ((new : Told) → State who w start a [] new → IsLawfulWithRoom who new next) → IsLawfulWithRoom who told (calls_each (gets_tables tables) next)
+    → ((new : Told) → State who w start a [] new → IsLawfulCourse who new next) → IsLawfulCourse who told (calls_each (gets_tables tables) next)
 gets_lawful who w start a next [] told r s rest = rest told s
 gets_lawful who w start a next (table ∷ tables) told r s rest = λ met rivals room.
     (tt, gets_lawful who w start a next tables (told_by who.line who.party (Plain (GetTable table)) None met) r (state_table who w start a [] table met r (state_met who w start a [] told met r s rivals)) rest)
@@ -290,7 +291,7 @@ begins who w start a by there kept holds whole = record {
 
 made_lawful : (who : Caller) (w : LiveWorker) (start new : Told) (options : WorkerOptions) (moment : ℕ) (a : Attempt) (refusal : Option (List ℕ)) → Relies who w → IsShort who.merge → who.party ≡ Worker w.number → IsIn a w.attempts
     → Keeps who.merge start → WorkerHolds who.merge start w → WholeUnless who.merge start.store.tables a refusal → State who w start a [] new
-    → IsLawfulWithRoom who new (finish_or_give_back who.merge options moment w a refusal start.store.tables)
+    → IsLawfulCourse who new (finish_or_give_back who.merge options moment w a refusal start.store.tables)
 made_lawful who w start new options moment a (Some message) r short by there kept holds whole s = back_lawful FinishedJob who w a message new by
 made_lawful who w start new options moment a None r short by there kept holds whole s =
     let b = begins who w start a by there kept holds whole in
@@ -302,9 +303,9 @@ made_lawful who w start new options moment a None r short by there kept holds wh
 
 pub finishes_are_lawful : FinishesAreLawful
 unfolding finish
-finishes_are_lawful who told options moment w a refusal keep stay free operator by kept holds runs whole =
+finishes_are_lawful who told options moment w a refusal keep free operator by kept holds runs whole =
     let there = found_in w.attempts a.job a runs in
-    let relies : Relies who w = record { keep = keep; stay = stay; free = free } in
+    let relies : Relies who w = record { keep = keep; stay = rivals_keep_worker who w keep by; free = free } in
     let held = (all_at _ w.attempts a (holds.fits kept.stored.replay.specs kept.faithful).each there).held in
     gets_lawful who w told a (finish_or_give_back who.merge options moment w a refusal told.store.tables) a.sources told relies
     (record { kept = kept; holds = holds; old = all_to _ _ (attempt_tables a) (λ id one is. record { held = is; same = refl }) (all_true_front (is_held told.store) (attempt_tables a) held); made = tt })

@@ -274,7 +274,7 @@ ends who moment retention ask again m p tries put kept false e =
 manifest_put : (who : Caller) (moment retention : ℕ) (ask : FlushAsk) (again : ℕ → Course (StepEnd ⊤)) → CallsKeep who.merge → who.party ≡ Writer → ask.name < drawn_base → Tries who ask again
     → (m told : Told) → Later m told → fault_after_get m.store.manifest ask ≡ None → Keeps who.merge told → IsPut ask told
     → IsLawfulCourse who told (puts_manifest m.store.manifest.version (Flush ask.name ask.segment ask.floor ask.tick) (with_flush moment retention ask m.store.manifest) (Ends (Reports tt)) again)
-manifest_put who moment retention ask again keep by low tries m told later none kept put = λ p rivals.
+manifest_put who moment retention ask again keep by low tries m told later none kept put = λ p rivals room.
     let there = rivals_keep who told p keep kept rivals in
     let still = rivals_put who ask told p keep by kept rivals put in
     let lawful : Lawful who.merge who.party p (put_of moment retention ask m.store.manifest) = λ version. flush_fits who.party moment retention ask m p by low (later_then m told p later (rivals_later who told p rivals)) still none version in
@@ -293,7 +293,7 @@ over who moment retention last ask again keep by sound tries is_put m kept state
 over who moment retention last ask again keep by sound tries true m kept state None e =
     manifest_put who moment retention ask again keep by sound.is_name tries m _ (later_by who.line who.party (Plain GetManifest) None m) e (behind who (Plain GetManifest) m keep kept tt)
     (put_on ask who.line who.party (Plain GetManifest) None m refl refl state)
-over who moment retention last ask again keep by sound tries false m kept state None e = λ t rivals.
+over who moment retention last ask again keep by sound tries false m kept state None e = λ t rivals room.
     let there = behind who (Plain GetManifest) m keep kept tt in
     let unused = rivals_unused who ask (told_by who.line who.party (Plain GetManifest) None m) t keep by there rivals (unused_on ask who.line who.party (Plain GetManifest) None m refl state) in
     let kept_there = rivals_keep who (told_by who.line who.party (Plain GetManifest) None m) t keep there rivals in
@@ -311,7 +311,7 @@ rivals_state who false ask old new keep by kept rivals h = rivals_unused who ask
 flush_tries : (who : Caller) (moment retention last : ℕ) (ask : FlushAsk) → CallsKeep who.merge → who.party ≡ Writer → IsSoundFlush last ask → (left : ℕ) (is_put : Bool) (seen : ℕ) (told : Told) → Keeps who.merge told
     → State is_put ask told → IsLawfulCourse who told (flushes_from moment retention ask left is_put seen)
 flush_tries who moment retention last ask keep by sound zero is_put seen told kept state = tt
-flush_tries who moment retention last ask keep by sound (suc left) is_put seen told kept state = λ m rivals. (
+flush_tries who moment retention last ask keep by sound (suc left) is_put seen told kept state = λ m rivals room. (
   tt,
   over who moment retention last ask (flushes_from moment retention ask left true) keep by sound (λ version next there put. flush_tries who moment retention last ask keep by sound left true version next there put) is_put
       m (rivals_keep who told m keep kept rivals) (rivals_state who is_put ask told m keep by kept rivals state) (fault_after_get m.store.manifest ask) refl,

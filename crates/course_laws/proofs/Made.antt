@@ -17,18 +17,17 @@ use Rattle.step_model.specs.Fits.{WorkerHolds}
 use Rattle.step_model.specs.Rivals.{Caller, Rivals, told_by}
 use Rattle.step_model.specs.Keeps.{Keeps}
 use Rattle.step_model.specs.Course.{Course, puts_table, puts_tables, puts_ranges}
+use Rattle.step_model.specs.CourseRuns.{IsLawfulCourse}
 use Rattle.step_laws.specs.Runs.{CallsKeep}
 use Rattle.step_laws.proofs.Runs.{rivals_keep}
 use Rattle.step_laws.proofs.Elements.{all_to, all_push}
 use Rattle.step_laws.proofs.Mute.{IsQuiet, mute_event, mute_refused}
 use Rattle.step_laws.proofs.MuteBodies.{entered}
 use Rattle.step_laws.proofs.Quiet.{told_entered}
-use Rattle.course_laws.specs.Rooms.{IsLawfulWithRoom}
-use Rattle.course_laws.specs.Beats.{RivalsKeepWorker}
 use Rattle.course_laws.specs.Free.{IsFree, RivalsKeepFree}
 use Rattle.course_laws.proofs.Calls.{behind, rivals_hold}
 use Rattle.course_laws.proofs.Held.{HasRows, call_rows, put_has_rows}
-use Rattle.course_laws.proofs.OwnCalls.{holds_entered}
+use Rattle.course_laws.proofs.OwnCalls.{RivalsKeepWorker, holds_entered}
 use Rattle.course_laws.proofs.Written.{holds_put, holds_drawn}
 use Rattle.course_laws.proofs.Free.{IsUnput, rivals_unput, drawn_unput, free_entered, free_put, free_behind_draw, free_behind_put}
 
@@ -127,7 +126,7 @@ abbrev pub tables_of : List (ℕ × List Row) → List (List Row)
 tables_of made = map (λ p. p.1) made
 
 one_made : {A : Type 0} (who : Caller) (w : LiveWorker) (start : Told) (a : Attempt) (moment : ℕ) (rows : List Row) (pairs : List (ℕ × List Row)) (next : ℕ → Course A) (told : Told) → Relies who w → IsTable rows → State who w start a pairs told
-    → ((new : Told) (table : ℕ) → State who w start a (pairs ++ (table, rows) ∷ []) new → IsLawfulWithRoom who new (next table)) → IsLawfulWithRoom who told (puts_table moment rows next)
+    → ((new : Told) (table : ℕ) → State who w start a (pairs ++ (table, rows) ∷ []) new → IsLawfulCourse who new (next table)) → IsLawfulCourse who told (puts_table moment rows next)
 one_made who w start a moment rows pairs next told r sound s goes = λ d before room.
     let table = next_table_id moment d.store in
     let there = state_met who w start a pairs told d r s before in
@@ -142,7 +141,7 @@ one_made who w start a moment rows pairs next told r sound s goes = λ d before 
 
 tables_made : {A : Type 0} (who : Caller) (w : LiveWorker) (start : Told) (a : Attempt) (moment : ℕ) (tables : List (List Row)) (pairs : List (ℕ × List Row)) (next : List ℕ → Course A) (told : Told) → Relies who w
     → AllByRecursion IsTable tables → State who w start a pairs told
-    → ((new : Told) (made : List (ℕ × List Row)) → tables_of made ≡ tables → State who w start a (pairs ++ made) new → IsLawfulWithRoom who new (next (ids_of made))) → IsLawfulWithRoom who told (puts_tables moment tables next)
+    → ((new : Told) (made : List (ℕ × List Row)) → tables_of made ≡ tables → State who w start a (pairs ++ made) new → IsLawfulCourse who new (next (ids_of made))) → IsLawfulCourse who told (puts_tables moment tables next)
 tables_made who w start a moment [] pairs next told r sound s goes = goes told [] refl (subst (λ ps. State who w start a ps told) (sym (append-nil pairs)) s)
 tables_made {A} who w start a moment (rows ∷ tables) pairs next told r sound s goes =
     one_made {A = A} who w start a moment rows pairs (λ table. puts_tables moment tables (λ ids. next (table ∷ ids))) told r sound.0 s (λ new table there.
@@ -156,8 +155,8 @@ all_of made = flat_map (λ tables. tables) made
 -- The puts of the tables of each range are lawful, and what they make is held and free.
 pub ranges_made : {A : Type 0} (who : Caller) (w : LiveWorker) (start : Told) (a : Attempt) (moment : ℕ) (ranges : List (List (List Row))) (pairs : List (ℕ × List Row)) (next : List (List ℕ) → Course A) (told : Told) → Relies who w
     → AllByRecursion (AllByRecursion IsTable) ranges → State who w start a pairs told
-    → ((new : Told) (made : List (List (ℕ × List Row))) → map tables_of made ≡ ranges → State who w start a (pairs ++ all_of made) new → IsLawfulWithRoom who new (next (map ids_of made)))
-    → IsLawfulWithRoom who told (puts_ranges moment ranges next)
+    → ((new : Told) (made : List (List (ℕ × List Row))) → map tables_of made ≡ ranges → State who w start a (pairs ++ all_of made) new → IsLawfulCourse who new (next (map ids_of made)))
+    → IsLawfulCourse who told (puts_ranges moment ranges next)
 ranges_made who w start a moment [] pairs next told r sound s goes = goes told [] refl (subst (λ ps. State who w start a ps told) (sym (append-nil pairs)) s)
 ranges_made {A} who w start a moment (tables ∷ ranges) pairs next told r sound s goes =
     tables_made {A = A} who w start a moment tables pairs (λ ids. puts_ranges moment ranges (λ others. next (ids ∷ others))) told r sound.0 s (λ new made e there.

@@ -1,4 +1,4 @@
--- An output of a worker is a lawful course, as long as the history has room for its draw.
+-- An output of a worker is a lawful course.
 use Rattle.std.proofs.Common.{◌≡◌, ℕ, List, [], ◌∷◌, cond, Bool, true, false, inl, inr, Option, Some, None, take}
 use Rattle.std.specs.Prelude.{◌==◌, filter}
 use Rattle.row_model.specs.Rows.{Row, IsStrictlyOrdered}
@@ -16,32 +16,26 @@ use Rattle.step_model.specs.Fits.{AttemptHeld}
 use Rattle.step_model.specs.CourseRuns.{IsLawfulCourse}
 use Rattle.step_model.specs.OutputSteps.{meets, gets_tables, Written, with_noted, writes, gives_back, writes_or_gives_back, output}
 use Rattle.step_model.specs.StepEnds.{StepEnd, Reports, OperatorRefuses, most_refused}
-use Rattle.step_model.specs.Course.{Course, Ends, Calls, calls_each, puts_table}
+use Rattle.step_model.specs.Course.{Course, Ends, calls_each, puts_table}
 use Rattle.step_laws.specs.Runs.{CallsKeep}
 use Rattle.step_laws.proofs.Runs.{rivals_keep}
 use Rattle.step_laws.proofs.Elements.{IsIn, all_at}
-use Rattle.course_laws.specs.Rooms.{IsLawfulWithRoom}
 use Rattle.course_laws.specs.Outputs.{OutputsAreLawful}
 use Rattle.course_laws.proofs.Calls.{behind}
 use Rattle.course_laws.proofs.Releases.{releases}
 use Rattle.course_laws.proofs.JobBounds.{IsShort, AreGood, left_good, take_good}
 use Rattle.course_laws.proofs.NewTables.{rivals_last_drawn, drawn_last}
 
--- A lawful course is one where the history has room, too.
-pub with_room : {A : Type 0} (who : Caller) (course : Course A) (told : Told) → IsLawfulCourse who told course → IsLawfulWithRoom who told course
-with_room who (Ends answer) told h = tt
-with_room who (Calls x next) told h = λ met rivals room. ((h met rivals).0, with_room who (next met.store) (told_by who.line who.party x None met) (h met rivals).1)
-
 -- Gets of tables are lawful.
-pub gets_lawful : {A : Type 0} (who : Caller) (next : Course A) (tables : List ℕ) (told : Told) → CallsKeep who.merge → Keeps who.merge told → ((new : Told) → Keeps who.merge new → IsLawfulWithRoom who new next)
-    → IsLawfulWithRoom who told (calls_each (gets_tables tables) next)
+pub gets_lawful : {A : Type 0} (who : Caller) (next : Course A) (tables : List ℕ) (told : Told) → CallsKeep who.merge → Keeps who.merge told → ((new : Told) → Keeps who.merge new → IsLawfulCourse who new next)
+    → IsLawfulCourse who told (calls_each (gets_tables tables) next)
 gets_lawful who next [] told keep kept rest = rest told kept
 gets_lawful who next (table ∷ tables) told keep kept rest = λ met rivals room.
     (tt, gets_lawful who next tables (told_by who.line who.party (Plain (GetTable table)) None met) keep (behind who (Plain (GetTable table)) met keep (rivals_keep who told met keep kept rivals) tt) rest)
 
 -- The draw of an id and the put of a table under it are lawful.
 pub table_lawful : {A : Type 0} (who : Caller) (moment : ℕ) (rows : List Row) (next : ℕ → Course A) (told : Told) → CallsKeep who.merge → Keeps who.merge told → IsTable rows
-    → ((new : Told) (table : ℕ) → Keeps who.merge new → IsLawfulWithRoom who new (next table)) → IsLawfulWithRoom who told (puts_table moment rows next)
+    → ((new : Told) (table : ℕ) → Keeps who.merge new → IsLawfulCourse who new (next table)) → IsLawfulCourse who told (puts_table moment rows next)
 table_lawful who moment rows next told keep kept sound rest = λ d before room.
     let table = next_table_id moment d.store in
     let there = rivals_keep who told d keep kept before in
@@ -64,10 +58,10 @@ found_in (first ∷ attempts) job a e = by (job == first.job) (found_in attempts
     by true rest e = inl (cc e)
     by false rest e = inr (rest e)
 
-pub back_lawful : (A : Type 0) (who : Caller) (w : LiveWorker) (a : Attempt) (message : List ℕ) (told : Told) → who.party ≡ Worker w.number → IsLawfulWithRoom who told (gives_back {A = A} w a message)
-back_lawful A who w a message told by = with_room who (gives_back {A = A} w a message) told (releases {A = A} who w (a ∷ []) (λ released. Ends (OperatorRefuses message)) by (λ new released. tt) most_refused 0 told)
+pub back_lawful : (A : Type 0) (who : Caller) (w : LiveWorker) (a : Attempt) (message : List ℕ) (told : Told) → who.party ≡ Worker w.number → IsLawfulCourse who told (gives_back {A = A} w a message)
+back_lawful A who w a message told by = releases {A = A} who w (a ∷ []) (λ released. Ends (OperatorRefuses message)) by (λ new released. tt) most_refused 0 told
 
-written_lawful : (who : Caller) (moment : ℕ) (w : LiveWorker) (a : Attempt) (place : ℕ) (rows : List Row) (told : Told) → CallsKeep who.merge → Keeps who.merge told → AreGood rows → IsLawfulWithRoom who told (writes moment w a place rows)
+written_lawful : (who : Caller) (moment : ℕ) (w : LiveWorker) (a : Attempt) (place : ℕ) (rows : List Row) (told : Told) → CallsKeep who.merge → Keeps who.merge told → AreGood rows → IsLawfulCourse who told (writes moment w a place rows)
 written_lawful who moment w a place [] told keep kept good = tt
 written_lawful who moment w a place (r ∷ rows) told keep kept good =
     table_lawful {A = StepEnd Written} who moment (r ∷ rows) (λ table. Ends (Reports (record { table = Some (table, r ∷ rows); attempts = with_noted place table a w.attempts }))) told keep kept
@@ -75,7 +69,7 @@ written_lawful who moment w a place (r ∷ rows) told keep kept good =
 
 made_lawful : (who : Caller) (told new : Told) (moment : ℕ) (w : LiveWorker) (a : Attempt) (place : ℕ) (range : Range × List ℕ) (rows : ℕ) (refusal : Option (List ℕ)) → CallsKeep who.merge → IsShort who.merge
     → who.party ≡ Worker w.number → Keeps who.merge told → IsStrictlyOrdered (source_rows told.store.tables a.sources) → Keeps who.merge new
-    → IsLawfulWithRoom who new (writes_or_gives_back who.merge moment w a place range rows refusal told.store.tables)
+    → IsLawfulCourse who new (writes_or_gives_back who.merge moment w a place range rows refusal told.store.tables)
 made_lawful who told new moment w a place range rows None keep short by kept ordered there =
     written_lawful who moment w a place (take rows (rows_left who.merge told.store.tables a.context.settings a.sources range).rows) new keep there
     (take_good rows (rows_left who.merge told.store.tables a.context.settings a.sources range).rows (left_good who.merge told.store.tables a.context.settings a.sources range short kept.stored.sound.tables ordered))

@@ -1,4 +1,4 @@
--- A worker's own calls that change nothing leave what it holds.
+-- Calls of others, and a worker's own calls that change nothing, leave what it holds.
 use Rattle.std.proofs.Common.{◌≡◌, refl, sym, subst, ℕ, ◌+◌, [], ◌∷◌, cond, Bool, true, false, inl, inr, Some, None}
 use Rattle.std.specs.Prelude.{◌==◌, ◌&&◌}
 use Rattle.row_model.specs.Fold.{Operator}
@@ -12,12 +12,22 @@ use Rattle.step_model.specs.Past.{Told, told_after}
 use Rattle.step_model.specs.Entries.{claims, puts_table, party_eq}
 use Rattle.step_model.specs.LawfulTables.{MayUse}
 use Rattle.step_model.specs.Fits.{noted_tables, WorkerHolds}
-use Rattle.step_model.specs.Rivals.{told_by}
+use Rattle.step_model.specs.Rivals.{Caller, Rivals, told_by}
+use Rattle.step_model.specs.Keeps.{Keeps}
+use Rattle.step_laws.specs.Runs.{CallsKeep}
 use Rattle.step_laws.proofs.Elements.{all_to, any_front}
 use Rattle.step_laws.proofs.Mute.{IsQuiet, quiet_for, mute_event, mute_refused}
 use Rattle.step_laws.proofs.MuteBodies.{entered, faithful_before, claimed_quiet, if_some_to}
 use Rattle.step_laws.proofs.Grown.{drawn_table_grows}
 use Rattle.step_laws.proofs.Quiet.{told_entered}
+use Rattle.fit_laws.proofs.Workers as fits
+
+-- Calls of others keep what the worker holds.
+abbrev pub RivalsKeepWorker : Caller → LiveWorker → Type 0
+RivalsKeepWorker who w = (old new : Told) → Keeps who.merge old → Rivals who old new → WorkerHolds who.merge old w → WorkerHolds who.merge new w
+
+pub rivals_keep_worker : (who : Caller) (w : LiveWorker) → CallsKeep who.merge → who.party ≡ Worker w.number → RivalsKeepWorker who w
+rivals_keep_worker who w keep by old new kept rivals holds = fits.rivals_keep who old new w keep by kept rivals holds
 
 may_use : (party : Party) (told : Told) (jobs_drawn tables_drawn : ℕ) (entry : Entry) (job : Job) (table : ℕ) → MayUse party told job table → MayUse party (entered told told.store.deleted jobs_drawn tables_drawn entry) job table
 may_use party told jobs_drawn tables_drawn entry job table (inl named) = inl named
@@ -34,6 +44,7 @@ pub holds_entered : (merge : Operator) (told : Told) (w : LiveWorker) (jobs_draw
 holds_entered merge told w jobs_drawn tables_drawn entry quiet h = record {
   fits = λ specs faithful. fits specs (h.fits specs (faithful_before told specs told.store.deleted jobs_drawn tables_drawn entry faithful));
   each = all_to _ _ w.attempts (λ a there held. record {
+    counted = held.counted;
     claimed = any_front (λ (e : Entry). claims w.number a.job a.number e.event && stood e.answer) told.store.history (entry ∷ []) held.claimed;
     ordered = held.ordered;
     sources = held.sources;

@@ -58,7 +58,7 @@ those : {A : Type 0} (who : Caller) (w : LiveWorker) (next : List ℕ → Course
     → (met : Told) (got : Records) (live : List Attempt) → met.store.records ≡ Some got → AllByRecursion (λ a. is_live got.jobs w.number a ≡ true) live
     → IsLawfulCourse who (told_by who.line who.party (Plain GetRecords) None met) (release_of w got live next again)
 those who w next again by lawful tries met got [] is all = lawful _ []
-those who w next again by lawful tries met got (a ∷ live) is all = λ put rivals. (
+those who w next again by lawful tries met got (a ∷ live) is all = λ put rivals room. (
   put_fits who w met put got a live by is (later_met who (Plain GetRecords) met met put (later_itself met) rivals) all,
   after who next again lawful tries _ (records_version put.store.records) (attempt_jobs (a ∷ live)) (got.version == records_version put.store.records),
 )
@@ -73,7 +73,7 @@ over who w attempts next again by lawful tries met (Some got) is = those who w n
 pub releases : {A : Type 0} (who : Caller) (w : LiveWorker) (attempts : List Attempt) (next : List ℕ → Course (StepEnd A)) → who.party ≡ Worker w.number
     → ((told : Told) (released : List ℕ) → IsLawfulCourse who told (next released)) → (left seen : ℕ) (told : Told) → IsLawfulCourse who told (releases_from w attempts next left seen)
 releases who w attempts next by lawful zero seen told = tt
-releases who w attempts next by lawful (suc left) seen told = λ met before.
+releases who w attempts next by lawful (suc left) seen told = λ met before room.
     (tt, over who w attempts next (releases_from w attempts next left) by lawful (λ version told. releases who w attempts next by lawful left version told) met met.store.records refl)
 
 pub releases_are_lawful : ReleasesAreLawful

@@ -65,7 +65,7 @@ ends_lawful who told epoch stored = by (nat_lt epoch stored)
     by false = tt
 
 holds_lawful : (who : Caller) (told : Told) (epoch : ℕ) → IsLawfulCourse who told (holds_at_start epoch)
-holds_lawful who told epoch = λ met rivals. (tt, λ next more. (tt, ends_lawful who _ epoch _))
+holds_lawful who told epoch = λ met rivals room. (tt, λ next more room. (tt, ends_lawful who _ epoch _))
 
 -- Another try of the start is a lawful course anywhere.
 abbrev Tries : Caller → (ℕ → Course (StepEnd ℕ)) → Type 0
@@ -79,7 +79,7 @@ behind_manifest : (who : Caller) (again : ℕ → Course (StepEnd ℕ)) → Trie
     → let epoch = epoch_above m.store.manifest r.store.records in
     IsLawfulCourse who (told_by who.line who.party (PutsManifest m.store.manifest.version (ManifestEpoch epoch) (record m.store.manifest { epoch = epoch })) None p)
     (cond b (step.puts_epoch r.store.records epoch (holds_at_start epoch) again) (again p.store.manifest.version))
-behind_manifest who again tries m r p got true e = λ q rivals.
+behind_manifest who again tries m r p got true e = λ q rivals room.
     let epoch = epoch_above m.store.manifest r.store.records in
     let value : Manifest = record m.store.manifest { epoch = epoch } in
     let x = PutsManifest m.store.manifest.version (ManifestEpoch epoch) value in
@@ -91,11 +91,11 @@ behind_manifest who again tries m r p got false e = tries p.store.manifest.versi
 
 starts : (who : Caller) (number : ℕ) → who.party ≡ Coordinator number → (left seen : ℕ) (told : Told) → IsLawfulCourse who told (starts_from left seen)
 starts who number by zero seen told = tt
-starts who number by (suc left) seen told = λ m before. (
+starts who number by (suc left) seen told = λ m before room. (
   tt,
-  λ r between. (
+  λ r between room. (
     tt,
-    λ p behind.
+    λ p behind room.
         let first = later_met who (Plain GetManifest) m m r (later_itself m) between in
         let second = later_met who (Plain GetRecords) m r p first behind in
         let got = later_met who (Plain GetRecords) r r p (later_itself r) behind in (

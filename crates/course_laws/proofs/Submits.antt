@@ -1,4 +1,4 @@
--- Submissions are lawful courses, as long as the history has room for their draws.
+-- Submissions are lawful courses.
 use Rattle.std.proofs.Common.{◌≡◌, refl, sym, subst, ℕ, zero, suc, List, [], ◌∷◌, ◌++◌, cond, Bool, true, false, Option, Some, None}
 use Rattle.std.specs.Prelude.{◌==◌}
 use Rattle.std.proofs.lemmas.List.{append-nil, append_assoc}
@@ -17,9 +17,9 @@ use Rattle.step_model.specs.ClaimSteps.{at_moment}
 use Rattle.step_model.specs.SubmitSteps.{submits_drawn, submits_specs, submit_by, submits_from, submit, submits_generated, request_by, requests_from, submit_request}
 use Rattle.step_model.specs.StepEnds.{StepEnd, Reports, most_refused}
 use Rattle.step_model.specs.Course.{Course, Ends, draws_jobs}
+use Rattle.step_model.specs.CourseRuns.{IsLawfulCourse}
 use Rattle.step_laws.specs.Runs.{CallsKeep}
 use Rattle.step_laws.proofs.Runs.{rivals_keep}
-use Rattle.course_laws.specs.Rooms.{IsLawfulWithRoom}
 use Rattle.course_laws.specs.Submits.{SubmitsAreLawful}
 use Rattle.course_laws.proofs.Later.{Later, later_itself, later_by, later_then, rivals_later, later_met}
 use Rattle.course_laws.proofs.Calls.{behind}
@@ -30,11 +30,11 @@ use Rattle.course_laws.proofs.NewIds.{AreFresh, rivals_fresh, drawn_fresh, names
 
 -- What comes behind the draws is lawful where the drawn ids are new.
 abbrev Goes : {A B : Type 0} → Caller → Told → List (ℕ × B) → (List (ℕ × B) → Course A) → Type 0
-Goes {A} {B} who start before next = (told : Told) (drawn : List (ℕ × B)) → Keeps who.merge told → Later start told → AreFresh who.party told (before ++ drawn) → IsLawfulWithRoom who told (next drawn)
+Goes {A} {B} who start before next = (told : Told) (drawn : List (ℕ × B)) → Keeps who.merge told → Later start told → AreFresh who.party told (before ++ drawn) → IsLawfulCourse who told (next drawn)
 
 -- Draws one after the other are lawful, and the drawn ids are new.
 pub draws_lawful : {A B : Type 0} (who : Caller) (moment : ℕ) (start : Told) (xs : List B) (before : List (ℕ × B)) (next : List (ℕ × B) → Course A) (told : Told) → CallsKeep who.merge → Keeps who.merge told → Later start told
-    → AreFresh who.party told before → Goes who start before next → IsLawfulWithRoom who told (draws_jobs moment xs next)
+    → AreFresh who.party told before → Goes who start before next → IsLawfulCourse who told (draws_jobs moment xs next)
 draws_lawful {A} {B} who moment start [] before next told keep kept later fresh goes = goes told [] kept later (subst (AreFresh who.party told) (sym (append-nil before)) fresh)
 draws_lawful {A} {B} who moment start (x ∷ xs) before next told keep kept later fresh goes = λ met rivals room.
     let id = next_job_id moment met.store in
@@ -61,9 +61,9 @@ put_fits who moment start new got named by is later fresh = (
 
 -- Another try is a lawful course over each store that meets the invariant.
 abbrev Tries : Caller → (ℕ → Course (StepEnd (List ℕ))) → Type 0
-Tries who again = (version : ℕ) (told : Told) → Keeps who.merge told → IsLawfulWithRoom who told (again version)
+Tries who again = (version : ℕ) (told : Told) → Keeps who.merge told → IsLawfulCourse who told (again version)
 
-after : (who : Caller) (again : ℕ → Course (StepEnd (List ℕ))) → Tries who again → (told : Told) (version : ℕ) (ids : List ℕ) → Keeps who.merge told → (b : Bool) → IsLawfulWithRoom who told (cond b (Ends (Reports ids)) (again version))
+after : (who : Caller) (again : ℕ → Course (StepEnd (List ℕ))) → Tries who again → (told : Told) (version : ℕ) (ids : List ℕ) → Keeps who.merge told → (b : Bool) → IsLawfulCourse who told (cond b (Ends (Reports ids)) (again version))
 after who again tries told version ids kept true = tt
 after who again tries told version ids kept false = tries version told kept
 
@@ -78,19 +78,19 @@ drawn_lawful who moment start got again keep by is tries told (p ∷ named) kept
     )
 
 specs_lawful : (who : Caller) (moment : ℕ) (start told : Told) (got : Records) (specs : List JobSpec) (again : ℕ → Course (StepEnd (List ℕ))) → CallsKeep who.merge → who.party ≡ Submitter → start.store.records ≡ Some got
-    → Tries who again → Later start told → Keeps who.merge told → IsLawfulWithRoom who told (submits_specs moment got specs again)
+    → Tries who again → Later start told → Keeps who.merge told → IsLawfulCourse who told (submits_specs moment got specs again)
 specs_lawful who moment start told got specs again keep by is tries later kept =
     draws_lawful who moment start specs [] (λ drawn. submits_drawn moment got drawn again) told keep kept later (record { drawn = tt; fresh = tt; once = tt }) (drawn_lawful who moment start got again keep by is tries)
 
 -- ---- submissions
 
 submit_over : (who : Caller) (moment : ℕ) (specs : List JobSpec) (again : ℕ → Course (StepEnd (List ℕ))) → CallsKeep who.merge → who.party ≡ Submitter → Tries who again → (met : Told) (records : Option Records) → Keeps who.merge met
-    → met.store.records ≡ records → IsLawfulWithRoom who (told_by who.line who.party (Plain GetRecords) None met) (submit_by moment specs records again)
+    → met.store.records ≡ records → IsLawfulCourse who (told_by who.line who.party (Plain GetRecords) None met) (submit_by moment specs records again)
 submit_over who moment specs again keep by tries met None kept is = tt
 submit_over who moment specs again keep by tries met (Some got) kept is =
     specs_lawful who moment met _ got specs again keep by is tries (later_by who.line who.party (Plain GetRecords) None met) (behind who (Plain GetRecords) met keep kept tt)
 
-submit_tries : (who : Caller) (moment : ℕ) (specs : List JobSpec) → CallsKeep who.merge → who.party ≡ Submitter → (left seen : ℕ) (told : Told) → Keeps who.merge told → IsLawfulWithRoom who told (submits_from moment specs left seen)
+submit_tries : (who : Caller) (moment : ℕ) (specs : List JobSpec) → CallsKeep who.merge → who.party ≡ Submitter → (left seen : ℕ) (told : Told) → Keeps who.merge told → IsLawfulCourse who told (submits_from moment specs left seen)
 submit_tries who moment specs keep by zero seen told kept = tt
 submit_tries who moment specs keep by (suc left) seen told kept = λ met rivals room.
     (tt, submit_over who moment specs (submits_from moment specs left) keep by (λ version next there. submit_tries who moment specs keep by left version next there) met met.store.records (rivals_keep who told met keep kept rivals) refl)
@@ -98,13 +98,13 @@ submit_tries who moment specs keep by (suc left) seen told kept = λ met rivals 
 -- ---- requests
 
 generated_lawful : (who : Caller) (moment : ℕ) (start told : Told) (got : Records) (generated : Generated) (again : ℕ → Course (StepEnd (List ℕ))) → CallsKeep who.merge → who.party ≡ Submitter → start.store.records ≡ Some got
-    → Tries who again → Later start told → Keeps who.merge told → IsLawfulWithRoom who told (submits_generated moment got generated again)
+    → Tries who again → Later start told → Keeps who.merge told → IsLawfulCourse who told (submits_generated moment got generated again)
 generated_lawful who moment start told got (Specs specs) again keep by is tries later kept = specs_lawful who moment start told got specs again keep by is tries later kept
 generated_lawful who moment start told got scheduler.Invalid again keep by is tries later kept = tt
 generated_lawful who moment start told got (scheduler.Declined message) again keep by is tries later kept = tt
 
 request_over : (who : Caller) (moment : ℕ) (asked : Scheduler) (request : Request) (again : ℕ → Course (StepEnd (List ℕ))) → CallsKeep who.merge → who.party ≡ Submitter → Tries who again → (met : Told) (records : Option Records)
-    → Keeps who.merge met → met.store.records ≡ records → IsLawfulWithRoom who (told_by who.line who.party (Plain GetRecords) None met) (request_by moment asked request records again)
+    → Keeps who.merge met → met.store.records ≡ records → IsLawfulCourse who (told_by who.line who.party (Plain GetRecords) None met) (request_by moment asked request records again)
 request_over who moment asked request again keep by tries met None kept is = tt
 request_over who moment asked request again keep by tries met (Some got) kept is = λ m rivals room.
     let there = rivals_keep who (told_by who.line who.party (Plain GetRecords) None met) m keep (behind who (Plain GetRecords) met keep kept tt) rivals in (
@@ -114,7 +114,7 @@ request_over who moment asked request again keep by tries met (Some got) kept is
     )
 
 request_tries : (who : Caller) (moment : ℕ) (asked : Scheduler) (request : Request) → CallsKeep who.merge → who.party ≡ Submitter → (left seen : ℕ) (told : Told) → Keeps who.merge told
-    → IsLawfulWithRoom who told (requests_from moment asked request left seen)
+    → IsLawfulCourse who told (requests_from moment asked request left seen)
 request_tries who moment asked request keep by zero seen told kept = tt
 request_tries who moment asked request keep by (suc left) seen told kept = λ met rivals room. (
   tt,

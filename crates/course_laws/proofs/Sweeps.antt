@@ -32,7 +32,7 @@ alone_same who old new alone rivals = subst (λ calls. RivalsFrom who calls old 
 -- A party that is alone meets what its last call left.
 alone_call : {A : Type 0} (who : Caller) (told : Told) (x : Exchange) (next : Store → Course A) → who.alone ≡ true → Lawful who.merge who.party told x
     → IsLawfulCourse who (told_by who.line who.party x None told) (next told.store) → IsLawfulCourse who told (Calls x next)
-alone_call who told x next alone lawful rest = λ met rivals.
+alone_call who told x next alone lawful rest = λ met rivals room.
     subst (λ (t : Told). Lawful who.merge who.party t x × IsLawfulCourse who (told_by who.line who.party x None t) (next t.store)) (alone_same who told met alone rivals) (lawful, rest)
 
 -- ---- the order of ids

@@ -77,6 +77,7 @@ holds_with_table : (merge : Operator) (told : Told) (new : ℕ × List Row) (w :
 holds_with_table merge told new w kept h = record {
   fits = λ specs f. fits specs (h.fits specs (faithful_without told new specs kept.facts.puts f));
   each = all_to _ _ w.attempts (λ a there held. record {
+    counted = held.counted;
     claimed = held.claimed;
     ordered = subst IsStrictlyOrdered (sym (sources_stay told.store.tables new a.sources (puts a there).sources)) held.ordered;
     sources = held.sources;

@@ -12,9 +12,8 @@ use Rattle.step_model.specs.Keeps.{Keeps}
 use Rattle.step_model.specs.Fits.{WorkerHolds}
 use Rattle.step_model.specs.ClaimSteps.{WorkerOptions}
 use Rattle.step_model.specs.OutputSteps.{finish}
+use Rattle.step_model.specs.CourseRuns.{IsLawfulCourse}
 use Rattle.step_laws.specs.Runs.{CallsKeep}
-use Rattle.course_laws.specs.Rooms.{IsLawfulWithRoom}
-use Rattle.course_laws.specs.Beats.{RivalsKeepWorker}
 use Rattle.course_laws.specs.Free.{RivalsKeepFree}
 use Rattle.course_laws.specs.Outputs.{DoesRun}
 
@@ -23,10 +22,9 @@ abbrev pub WholeUnless : Operator → Tables → Attempt → Option (List ℕ) �
 WholeUnless merge tables a None = AllByRecursion (λ range. (rows_left merge tables a.context.settings a.sources range).whole ≡ true) a.context.ranges
 WholeUnless merge tables a (Some message) = ⊤
 
--- A finish of a worker that fits is a lawful course under a lawful operator, as long as the history
--- has room for its draws, if every lawful call keeps the invariant, and if calls of others keep what
--- the worker holds and name none of its free tables.
+-- A finish of a worker that fits is a lawful course under a lawful operator, if every lawful call
+-- keeps the invariant and calls of others name none of its free tables.
 abbrev pub FinishesAreLawful : Type 0
-FinishesAreLawful = (who : Caller) (told : Told) (options : WorkerOptions) (moment : ℕ) (w : LiveWorker) (a : Attempt) (refusal : Option (List ℕ)) → CallsKeep who.merge → RivalsKeepWorker who w → RivalsKeepFree who
+FinishesAreLawful = (who : Caller) (told : Told) (options : WorkerOptions) (moment : ℕ) (w : LiveWorker) (a : Attempt) (refusal : Option (List ℕ)) → CallsKeep who.merge → RivalsKeepFree who
     → IsLawful who.merge → who.party ≡ Worker w.number → Keeps who.merge told → WorkerHolds who.merge told w → DoesRun w a → WholeUnless who.merge told.store.tables a refusal
-    → IsLawfulWithRoom who told (finish who.merge told.store.tables options moment w a refusal)
+    → IsLawfulCourse who told (finish who.merge told.store.tables options moment w a refusal)

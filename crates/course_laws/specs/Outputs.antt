@@ -9,15 +9,15 @@ use Rattle.step_model.specs.Rivals.{Caller}
 use Rattle.step_model.specs.Keeps.{Keeps}
 use Rattle.step_model.specs.Fits.{WorkerHolds}
 use Rattle.step_model.specs.OutputSteps.{output}
+use Rattle.step_model.specs.CourseRuns.{IsLawfulCourse}
 use Rattle.step_laws.specs.Runs.{CallsKeep}
-use Rattle.course_laws.specs.Rooms.{IsLawfulWithRoom}
 
 -- The worker runs this attempt.
 abbrev pub DoesRun : LiveWorker → Attempt → Type 0
 DoesRun w a = attempt_at a.job w.attempts ≡ Some a
 
--- An output of a worker that fits is a lawful course under a lawful operator, as long as the history
--- has room for its draw, and if every lawful call keeps the invariant.
+-- An output of a worker that fits is a lawful course under a lawful operator, if every lawful call
+-- keeps the invariant.
 abbrev pub OutputsAreLawful : Type 0
 OutputsAreLawful = (who : Caller) (told : Told) (moment : ℕ) (w : LiveWorker) (a : Attempt) (place : ℕ) (range : Range × List ℕ) (rows : ℕ) (refusal : Option (List ℕ)) → CallsKeep who.merge → IsLawful who.merge
-    → who.party ≡ Worker w.number → Keeps who.merge told → WorkerHolds who.merge told w → DoesRun w a → IsLawfulWithRoom who told (output who.merge told.store.tables moment w a place range rows refusal)
+    → who.party ≡ Worker w.number → Keeps who.merge told → WorkerHolds who.merge told w → DoesRun w a → IsLawfulCourse who told (output who.merge told.store.tables moment w a place range rows refusal)

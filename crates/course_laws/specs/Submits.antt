@@ -7,11 +7,11 @@ use Rattle.step_model.specs.Past.{Told}
 use Rattle.step_model.specs.Rivals.{Caller}
 use Rattle.step_model.specs.Keeps.{Keeps}
 use Rattle.step_model.specs.SubmitSteps.{submit, submit_request}
+use Rattle.step_model.specs.CourseRuns.{IsLawfulCourse}
 use Rattle.step_laws.specs.Runs.{CallsKeep}
-use Rattle.course_laws.specs.Rooms.{IsLawfulWithRoom}
 
--- Submissions of jobs and of requests are lawful courses over any store that meets the invariant, as
--- long as the history has room for their draws, and if every lawful call keeps the invariant.
+-- Submissions of jobs and of requests are lawful courses over any store that meets the invariant, if
+-- every lawful call keeps the invariant.
 pub record SubmitsAreLawful (who : Caller) (told : Told) : Type 0 where
-  pub submits : (moment : ℕ) (specs : List JobSpec) → CallsKeep who.merge → Keeps who.merge told → who.party ≡ Submitter → IsLawfulWithRoom who told (submit moment specs)
-  pub requests : (moment : ℕ) (asked : Scheduler) (request : Request) → CallsKeep who.merge → Keeps who.merge told → who.party ≡ Submitter → IsLawfulWithRoom who told (submit_request moment asked request)
+  pub submits : (moment : ℕ) (specs : List JobSpec) → CallsKeep who.merge → Keeps who.merge told → who.party ≡ Submitter → IsLawfulCourse who told (submit moment specs)
+  pub requests : (moment : ℕ) (asked : Scheduler) (request : Request) → CallsKeep who.merge → Keeps who.merge told → who.party ≡ Submitter → IsLawfulCourse who told (submit_request moment asked request)

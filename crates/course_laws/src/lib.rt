@@ -1,6 +1,6 @@
 //! Laws on the steps of a fleet's parties. Each function has an empty body, and its clause states a
 //! law about a step: it is a lawful course, so each of its calls is lawful whatever calls of others
-//! come before it.
+//! come before it. A draw may be made only while the history has room for it, and no law says more.
 #![tactic(auto)]
 
 ghost use Rattle.course_laws.specs.Beats.{BeatsAreLawful};
@@ -37,9 +37,9 @@ pub fn flushes_are_lawful()
     ensures { FlushesAreLawful }
 {}
 
-/// Submissions are lawful courses over any store that meets the invariant, as long as the history
-/// has room for their draws, and if every lawful call keeps the invariant. Each drawn id is new when
-/// the jobs are put, whatever others did since the draw.
+/// Submissions are lawful courses over any store that meets the invariant, if every lawful call
+/// keeps the invariant. Each drawn id is new when the jobs are put, whatever others did since the
+/// draw.
 pub fn submits_are_lawful()
     ensures { (who : Caller) (told : Told) → SubmitsAreLawful who told }
 {}
@@ -50,23 +50,21 @@ pub fn sweeps_are_lawful()
     ensures { SweepsAreLawful }
 {}
 
-/// A heartbeat of a worker that fits is a lawful course, if every lawful call keeps the invariant
-/// and calls of others keep what the worker holds.
+/// A heartbeat of a worker that fits is a lawful course, if every lawful call keeps the invariant.
 pub fn beats_are_lawful()
     ensures { BeatsAreLawful }
 {}
 
-/// An output of a worker that fits is a lawful course under a lawful operator, as long as the
-/// history has room for its draw, and if every lawful call keeps the invariant. The drawn id is new
-/// when the table is put, whatever others did since the draw.
+/// An output of a worker that fits is a lawful course under a lawful operator, if every lawful call
+/// keeps the invariant. The drawn id is new when the table is put, whatever others did since the
+/// draw.
 pub fn outputs_are_lawful()
     ensures { OutputsAreLawful }
 {}
 
-/// A finish of a worker that fits is a lawful course under a lawful operator, as long as the history
-/// has room for its draws, if every lawful call keeps the invariant, and if calls of others keep
-/// what the worker holds and name none of its free tables. The put that ends the job names outputs
-/// that hold all rows that the attempt's settings make of the job's sources.
+/// A finish of a worker that fits is a lawful course under a lawful operator, if every lawful call
+/// keeps the invariant and calls of others name none of its free tables. The put that ends the job
+/// names outputs that hold all rows that the attempt's settings make of the job's sources.
 pub fn finishes_are_lawful()
     ensures { FinishesAreLawful }
 {}

@@ -17,7 +17,7 @@ use Rattle.fleet_model.specs.Exchanges.{Exchange}
 use Rattle.step_model.specs.Past.{Told}
 use Rattle.step_model.specs.Entries.{did_put_epoch, puts_epoch, put_epochs, epoch_in, party_eq, was_named}
 use Rattle.step_model.specs.Merging.{Local, merged_trees}
-use Rattle.step_model.specs.Fits.{MergesIfThere, JobsMerge}
+use Rattle.step_model.specs.Fits.{MergesIfThere, JobsMerge, LocalIsKnown, KnownIfThere, CoordinatorHolds}
 use Rattle.step_model.specs.LawfulManifests.{ManifestFits}
 use Rattle.step_model.specs.LawfulRecords.{RecordsFit, ChangeFits, IsStoredAs, AreNew, OfSome, Publishes, IsLiveAt, Finishes}
 use Rattle.step_model.specs.Rivals.{Caller, RivalCall, RivalsFrom, told_by_rival}
@@ -33,7 +33,7 @@ use Rattle.step_laws.proofs.OpenJobs.{is_open}
 use Rattle.step_laws.proofs.WorkerPuts.{each_named, stored_to, live_open}
 use Rattle.step_laws.proofs.ManifestBodies.{with_manifest}
 use Rattle.step_laws.proofs.RecordsBodies.{with_records}
-use Rattle.fit_laws.specs.FitLaws.{CoordinatorsKeep, CoordinatorKnows, LocalIsKnown, KnownIfThere, RivalsKeepCoordinators}
+use Rattle.fit_laws.specs.FitLaws.{CoordinatorsKeep, RivalsKeepCoordinators}
 use Rattle.fit_laws.proofs.Outcomes.{Outcome, Notes, Deletes, NewTable, NewManifest, NewRecords, outcome, put_manifest, put_records}
 use Rattle.fit_laws.proofs.SameParty.{did_entry, same_party}
 use Rattle.fit_laws.proofs.TreesMerged.{segment_stays, merge_flushed}
@@ -62,14 +62,12 @@ put_grows party history entry n h = any_front (λ (e : Entry). party_eq party e.
 
 -- ---- an entry alone
 
-knows_noted : (told : Told) (c : LiveCoordinator) (local : Option Local) (tables : Tables) (deleted : List ℕ) (jobs_drawn tables_drawn : ℕ) (past : List Manifest) (entry : Entry) → CoordinatorKnows told c local
-    → CoordinatorKnows (record { store = record told.store { tables = tables; deleted = deleted; jobs_drawn = jobs_drawn; tables_drawn = tables_drawn; history = told.store.history ++ entry ∷ [] }; past = past }) c local
+knows_noted : (told : Told) (c : LiveCoordinator) (local : Option Local) (tables : Tables) (deleted : List ℕ) (jobs_drawn tables_drawn : ℕ) (past : List Manifest) (entry : Entry) → CoordinatorHolds told c local
+    → CoordinatorHolds (record { store = record told.store { tables = tables; deleted = deleted; jobs_drawn = jobs_drawn; tables_drawn = tables_drawn; history = told.store.history ++ entry ∷ [] }; past = past }) c local
 knows_noted told c local tables deleted jobs_drawn tables_drawn past entry h = record {
-  holds = record {
-    put = put_grows (Coordinator c.number) told.store.history entry c.epoch h.holds.put;
-    recorded = h.holds.recorded;
-    merges = λ manifest records. merges local (h.holds.merges manifest records);
-  };
+  put = put_grows (Coordinator c.number) told.store.history entry c.epoch h.put;
+  recorded = h.recorded;
+  merges = λ manifest records. merges local (h.merges manifest records);
   known = λ manifest records. known local (h.known manifest records);
 }
   where
@@ -89,15 +87,13 @@ abbrev TreesFollow : Told → LiveCoordinator → Manifest → Type 0
 TreesFollow told c manifest = manifest.epoch ≤ c.epoch → records_epoch told.store.records ≤ c.epoch → (local : Local) → LocalIsKnown told local → merged_trees local.manifest.trees told.store.manifest.trees ≡ told.store.manifest.trees
     → (merged_trees local.manifest.trees manifest.trees ≡ manifest.trees) × AllByRecursion (λ s. IsTrue (is_some (segment_at s.prefix manifest.trees))) local.manifest.trees
 
-knows_manifest : (told : Told) (c : LiveCoordinator) (local : Option Local) (manifest : Manifest) (entry : Entry) → told.store.manifest.epoch ≤ manifest.epoch → TreesFollow told c manifest → CoordinatorKnows told c local
-    → CoordinatorKnows (with_manifest told manifest entry) c local
+knows_manifest : (told : Told) (c : LiveCoordinator) (local : Option Local) (manifest : Manifest) (entry : Entry) → told.store.manifest.epoch ≤ manifest.epoch → TreesFollow told c manifest → CoordinatorHolds told c local
+    → CoordinatorHolds (with_manifest told manifest entry) c local
 knows_manifest told c local manifest entry rises follow h = record {
-  holds = record {
-    put = put_grows (Coordinator c.number) told.store.history entry c.epoch h.holds.put;
-    recorded = h.holds.recorded;
-    merges = λ low records. merges local low records (h.known (omega (arith, rises, low)) records) (h.holds.merges (omega (arith, rises, low)) records);
-  };
-  known = λ low records. known local low records (h.known (omega (arith, rises, low)) records) (h.holds.merges (omega (arith, rises, low)) records);
+  put = put_grows (Coordinator c.number) told.store.history entry c.epoch h.put;
+  recorded = h.recorded;
+  merges = λ low records. merges local low records (h.known (omega (arith, rises, low)) records) (h.merges (omega (arith, rises, low)) records);
+  known = λ low records. known local low records (h.known (omega (arith, rises, low)) records) (h.merges (omega (arith, rises, low)) records);
 }
   where
     merges : (o : Option Local) → manifest.epoch ≤ c.epoch → records_epoch told.store.records ≤ c.epoch → KnownIfThere told o → MergesIfThere o told.store → MergesIfThere o (with_manifest told manifest entry).store
@@ -141,14 +137,12 @@ trees_follow merge told specs party c (Commit (step ∷ steps)) value b other pu
 abbrev JobsFollow : Told → LiveCoordinator → ℕ → Jobs → Type 0
 JobsFollow told c epoch jobs = epoch ≤ c.epoch → (local : Local) → LocalIsKnown told local → JobsMerge local.records.jobs (stored_jobs told.store) → JobsMerge local.records.jobs jobs
 
-knows_records : (told : Told) (c : LiveCoordinator) (local : Option Local) (records : Records) (entry : Entry) → records_epoch told.store.records ≤ records.epoch → JobsFollow told c records.epoch records.jobs → CoordinatorKnows told c local
-    → CoordinatorKnows (with_records told records entry) c local
+knows_records : (told : Told) (c : LiveCoordinator) (local : Option Local) (records : Records) (entry : Entry) → records_epoch told.store.records ≤ records.epoch → JobsFollow told c records.epoch records.jobs → CoordinatorHolds told c local
+    → CoordinatorHolds (with_records told records entry) c local
 knows_records told c local records entry rises follow h = record {
-  holds = record {
-    put = put_grows (Coordinator c.number) told.store.history entry c.epoch h.holds.put;
-    recorded = let low = h.holds.recorded in omega (arith, low, rises);
-    merges = λ manifest low. merges local low (h.known manifest (omega (arith, rises, low))) (h.holds.merges manifest (omega (arith, rises, low)));
-  };
+  put = put_grows (Coordinator c.number) told.store.history entry c.epoch h.put;
+  recorded = let low = h.recorded in omega (arith, low, rises);
+  merges = λ manifest low. merges local low (h.known manifest (omega (arith, rises, low))) (h.merges manifest (omega (arith, rises, low)));
   known = λ manifest low. known local (h.known manifest (omega (arith, rises, low)));
 }
   where
@@ -242,23 +236,23 @@ jobs_follow merge told specs party c (Polled change) epoch jobs b other own reco
 
 -- ---- the law
 
-knows_after : (merge : Operator) (told new : Told) (party : Party) (c : LiveCoordinator) (local : Option Local) (x : Exchange) → Keeps merge told → party ≢ Coordinator c.number → CoordinatorKnows told c local → Outcome merge party told x new → CoordinatorKnows new c local
+knows_after : (merge : Operator) (told new : Told) (party : Party) (c : LiveCoordinator) (local : Option Local) (x : Exchange) → Keeps merge told → party ≢ Coordinator c.number → CoordinatorHolds told c local → Outcome merge party told x new → CoordinatorHolds new c local
 knows_after merge told new party c local x k other h (Notes jobs_drawn tables_drawn entry mute is) =
-    subst (λ n. CoordinatorKnows n c local) (sym is) (knows_noted told c local told.store.tables told.store.deleted jobs_drawn tables_drawn told.past entry h)
+    subst (λ n. CoordinatorHolds n c local) (sym is) (knows_noted told c local told.store.tables told.store.deleted jobs_drawn tables_drawn told.past entry h)
 knows_after merge told new party c local x k other h (Deletes table entry same mute fits is) =
-    subst (λ n. CoordinatorKnows n c local) (sym is) (knows_noted told c local told.store.tables (told.store.deleted ++ table ∷ []) told.store.jobs_drawn told.store.tables_drawn told.past entry h)
+    subst (λ n. CoordinatorHolds n c local) (sym is) (knows_noted told c local told.store.tables (told.store.deleted ++ table ∷ []) told.store.jobs_drawn told.store.tables_drawn told.past entry h)
 knows_after merge told new party c local x k other h (NewTable table rows entry mute fits is) =
-    subst (λ n. CoordinatorKnows n c local) (sym is) (knows_noted told c local (told.store.tables ++ (table, rows) ∷ []) told.store.deleted told.store.jobs_drawn told.store.tables_drawn told.past entry h)
+    subst (λ n. CoordinatorHolds n c local) (sym is) (knows_noted told c local (told.store.tables ++ (table, rows) ∷ []) told.store.deleted told.store.jobs_drawn told.store.tables_drawn told.past entry h)
 knows_after merge told new party c local x k other h (NewManifest version change value line answer took same fits is) =
     let b = (whole_of merge told k).body in
-    subst (λ n. CoordinatorKnows n c local) (sym is)
+    subst (λ n. CoordinatorHolds n c local) (sym is)
     (knows_manifest told c local (put_manifest told value) _ (manifest_epoch told party change value fits)
-    (λ low records l known e. trees_follow merge told k.stored.replay.specs party c change value b other h.holds.put fits low records l known e) h)
+    (λ low records l known e. trees_follow merge told k.stored.replay.specs party c change value b other h.put fits low records l known e) h)
 knows_after merge told new party c local x k other h (NewRecords change epoch jobs line answer took names fits is) =
     let b = (whole_of merge told k).body in
-    subst (λ n. CoordinatorKnows n c local) (sym is)
+    subst (λ n. CoordinatorHolds n c local) (sym is)
     (knows_records told c local (put_records told epoch jobs) _ (after_epoch merge told party change epoch jobs fits)
-    (jobs_follow merge told k.stored.replay.specs party c change epoch jobs b other h.holds.put h.holds.recorded fits) h)
+    (jobs_follow merge told k.stored.replay.specs party c change epoch jobs b other h.put h.recorded fits) h)
 
 pub coordinators_keep : (merge : Operator) → CoordinatorsKeep merge
 coordinators_keep merge x line party strike told c local k other lawful may h = knows_after merge told _ party c local x k other h (outcome merge x line party strike told lawful may)
@@ -266,8 +260,8 @@ coordinators_keep merge x line party strike told c local k other lawful may h = 
 -- ---- calls of others
 
 rivals_from : (who : Caller) (calls : List RivalCall) (old new : Told) (c : LiveCoordinator) (local : Option Local) → CallsKeep who.merge → who.party ≡ Coordinator c.number → Keeps who.merge old → RivalsFrom who calls old new
-    → CoordinatorKnows old c local → CoordinatorKnows new c local
-rivals_from who [] old new c local keep own k same h = subst (λ told. CoordinatorKnows told c local) same h
+    → CoordinatorHolds old c local → CoordinatorHolds new c local
+rivals_from who [] old new c local keep own k same h = subst (λ told. CoordinatorHolds told c local) same h
 rivals_from who (call ∷ calls) old new c local keep own k lead h =
     rivals_from who calls (told_by_rival call old) new c local keep own (keep call.exchange call.line call.party call.strike old k lead.0.lawful lead.0.strike) lead.1
     (coordinators_keep who.merge call.exchange call.line call.party call.strike old c local k (λ same. lead.0.other (same ∙ sym own)) lead.0.lawful lead.0.strike h)

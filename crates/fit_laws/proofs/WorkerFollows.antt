@@ -151,6 +151,7 @@ holds_after merge old new w some was_faithful f h = record {
     live = all_from _ (live_attempts (stored_jobs new.store) w) (λ a there. live specs faithful a (from_filter (is_live (stored_jobs new.store) w.number) w.attempts a there));
   };
   each = all_from _ w.attempts (λ a there. record {
+    counted = (held a there).counted;
     claimed = f.grows a.job a.number (held a there).claimed;
     ordered = subst IsStrictlyOrdered (sym (sources_same a there)) (held a there).ordered;
     sources = sources a there (job_with a.job (stored_jobs new.store)) refl;

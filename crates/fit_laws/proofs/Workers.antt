@@ -18,7 +18,7 @@ use Rattle.step_laws.proofs.Bodies.{whole_of}
 use Rattle.step_laws.proofs.Held.{held_but}
 use Rattle.step_laws.proofs.Deletions.{in_flat}
 use Rattle.step_laws.proofs.TableBodies.{with_table}
-use Rattle.fit_laws.specs.FitLaws.{CountFromOne, SparesTables, WorkersKeep, RivalsKeepWorkers}
+use Rattle.fit_laws.specs.FitLaws.{SparesTables, WorkersKeep, RivalsKeepWorkers}
 use Rattle.fit_laws.proofs.Outcomes.{Outcome, Notes, Deletes, NewTable, NewManifest, NewRecords, outcome, put_manifest, put_records}
 use Rattle.fit_laws.proofs.WorkerFollows.{holds_after}
 use Rattle.fit_laws.proofs.WorkerCalls.{follows_entry, faithful_with_table, follows_table, follows_manifest}
@@ -39,28 +39,28 @@ still_held told w table spared a there held = all_true_from (is_held (record tol
 
 -- ---- what a call leaves
 
-holds_outcome : (merge : Operator) (told new : Told) (party : Party) (w : LiveWorker) (x : Exchange) → Keeps merge told → party ≢ Worker w.number → SparesTables w x → CountFromOne w → WorkerHolds merge told w → Outcome merge party told x new → WorkerHolds merge new w
-holds_outcome merge told new party w x k other spared counted h (Notes jobs_drawn tables_drawn entry mute is) =
+holds_outcome : (merge : Operator) (told new : Told) (party : Party) (w : LiveWorker) (x : Exchange) → Keeps merge told → party ≢ Worker w.number → SparesTables w x → WorkerHolds merge told w → Outcome merge party told x new → WorkerHolds merge new w
+holds_outcome merge told new party w x k other spared h (Notes jobs_drawn tables_drawn entry mute is) =
     subst (λ n. WorkerHolds merge n w) (sym is) (holds_after merge told _ w k.stored.replay.specs k.faithful (follows_entry told w told.store.deleted jobs_drawn tables_drawn entry mute (λ a there held. held)) h)
-holds_outcome merge told new party w x k other spared counted h (Deletes table entry same mute fits is) =
+holds_outcome merge told new party w x k other spared h (Deletes table entry same mute fits is) =
     subst (λ n. WorkerHolds merge n w) (sym is)
     (holds_after merge told _ w k.stored.replay.specs k.faithful (follows_entry told w (told.store.deleted ++ table ∷ []) told.store.jobs_drawn told.store.tables_drawn entry mute (still_held told w table (subst (SparesTables w) same spared))) h)
-holds_outcome merge told new party w x k other spared counted h (NewTable table rows entry mute fits is) =
+holds_outcome merge told new party w x k other spared h (NewTable table rows entry mute fits is) =
     let puts = (whole_of merge told k).puts in
     let specs = k.stored.replay.specs in
     let first = holds_after merge told (with_table told (table, rows)) w specs k.faithful (follows_table told w (table, rows) puts) h in
     subst (λ n. WorkerHolds merge n w) (sym is)
     (holds_after merge (with_table told (table, rows)) _ w specs (faithful_with_table told (table, rows) specs puts k.faithful)
     (follows_entry (with_table told (table, rows)) w told.store.deleted told.store.jobs_drawn told.store.tables_drawn entry mute (λ a there held. held)) first)
-holds_outcome merge told new party w x k other spared counted h (NewManifest version change value line answer took same fits is) =
+holds_outcome merge told new party w x k other spared h (NewManifest version change value line answer took same fits is) =
     let entry : Entry = record { line = line; party = party; event = PutManifest change; answer = answer } in
     subst (λ n. WorkerHolds merge n w) (sym is)
     (holds_after merge told _ w k.stored.replay.specs k.faithful
     (follows_manifest merge told k.stored.replay.specs w (put_manifest told value) entry (whole_of merge told k).body refl (λ job. rw took refl) (manifest_spares merge told party w.number change value k fits)) h)
-holds_outcome merge told new party w x k other spared counted h (NewRecords change epoch jobs line answer took names fits is) =
+holds_outcome merge told new party w x k other spared h (NewRecords change epoch jobs line answer took names fits is) =
     let entry : Entry = record { line = line; party = party; event = PutRecords change; answer = answer } in
     let specs = k.stored.replay.specs in
-    let c : Case merge told specs party w = record { body = (whole_of merge told k).body; puts = (whole_of merge told k).puts; other = other; counted = counted } in
+    let c : Case merge told specs party w = record { body = (whole_of merge told k).body; puts = (whole_of merge told k).puts; other = other; counted = all_to _ _ w.attempts (λ a there held. held.counted) h.each } in
     subst (λ n. WorkerHolds merge n w) (sym is)
     (holds_after merge told _ w specs k.faithful
     (follows_records merge told specs w (put_records told epoch jobs) entry (whole_of merge told k).body (record {
@@ -69,7 +69,7 @@ holds_outcome merge told new party w x k other spared counted h (NewRecords chan
     })) h)
 
 pub workers_keep : (merge : Operator) → WorkersKeep merge
-workers_keep merge x line party strike told w k other lawful may spared counted h = holds_outcome merge told _ party w x k other spared counted h (outcome merge x line party strike told lawful may)
+workers_keep merge x line party strike told w k other lawful may spared h = holds_outcome merge told _ party w x k other spared h (outcome merge x line party strike told lawful may)
 
 -- ---- calls of others
 
@@ -84,12 +84,12 @@ spares_tables w (PutsRecords version change epoch jobs) none = tt
 spares_tables w ListsTables none = tt
 
 rivals_from : (who : Caller) (calls : List RivalCall) (old new : Told) (w : LiveWorker) → CallsKeep who.merge → who.party ≡ Worker w.number → Keeps who.merge old → RivalsFrom who calls old new
-    → CountFromOne w → WorkerHolds who.merge old w → WorkerHolds who.merge new w
-rivals_from who [] old new w keep own k same counted h = subst (λ told. WorkerHolds who.merge told w) same h
-rivals_from who (call ∷ calls) old new w keep own k lead counted h =
-    rivals_from who calls (told_by_rival call old) new w keep own (keep call.exchange call.line call.party call.strike old k lead.0.lawful lead.0.strike) lead.1 counted
+    → WorkerHolds who.merge old w → WorkerHolds who.merge new w
+rivals_from who [] old new w keep own k same h = subst (λ told. WorkerHolds who.merge told w) same h
+rivals_from who (call ∷ calls) old new w keep own k lead h =
+    rivals_from who calls (told_by_rival call old) new w keep own (keep call.exchange call.line call.party call.strike old k lead.0.lawful lead.0.strike) lead.1
     (workers_keep who.merge call.exchange call.line call.party call.strike old w k (λ same. lead.0.other (same ∙ sym own)) lead.0.lawful lead.0.strike
-    (spares_tables w call.exchange lead.0.deletes_none) counted h)
+    (spares_tables w call.exchange lead.0.deletes_none) h)
 
 pub rivals_keep : RivalsKeepWorkers
-rivals_keep who old new w keep own k rivals counted h = rivals_from who rivals.calls old new w keep own k rivals.lead counted h
+rivals_keep who old new w keep own k rivals h = rivals_from who rivals.calls old new w keep own k rivals.lead h

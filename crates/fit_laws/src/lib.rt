@@ -18,14 +18,14 @@ pub fn rivals_keep_workers()
     ensures { RivalsKeepWorkers }
 {}
 
-/// A lawful call of another party keeps what a coordinator holds and knows, whether a fault strikes
-/// the call or not.
+/// A lawful call of another party keeps what a coordinator holds, whether a fault strikes the call
+/// or not.
 pub fn coordinators_keep()
     ensures { (merge : Operator) → CoordinatorsKeep merge }
 {}
 
-/// Calls of others that come between two calls of a coordinator keep what it holds and knows, if
-/// each lawful call keeps the invariant.
+/// Calls of others that come between two calls of a coordinator keep what it holds, if each lawful
+/// call keeps the invariant.
 pub fn rivals_keep_coordinators()
     ensures { RivalsKeepCoordinators }
 {}

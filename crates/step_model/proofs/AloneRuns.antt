@@ -1,12 +1,12 @@
--- A run of a course alone is one of its runs. It is the only one if there are no others and no fault waits.
+-- A run of a course alone is one of its runs, if the history has room for its calls. It is the only one if there are no others and no fault waits.
 use Rattle.std.proofs.Common.{◌≡◌, refl, sym, subst, inl, inr, Bool, true, false, Option, Some, None, List, [], ◌∷◌}
-use Rattle.std.specs.Prelude.{IsTrue, if◌then◌else◌, ◌&&◌, ◌==◌}
+use Rattle.std.specs.Prelude.{IsTrue, if◌then◌else◌, ◌&&◌, ◌==◌, ⊤}
 use Rattle.fleet_model.specs.History.{Event, is_get_or_put}
 use Rattle.fleet_model.specs.Exchanges.{Fault, event_of, strikes, waiting_after, struck_by, does_stand, answered}
 use Rattle.step_model.specs.Past.{Told}
 use Rattle.step_model.specs.Rivals.{Caller, Rivals, RivalsFrom, RivalCall, told_by}
 use Rattle.step_model.specs.Course.{Course, Ends, Calls}
-use Rattle.step_model.specs.CourseRuns.{End, Gives, MeetsFault, Runs}
+use Rattle.step_model.specs.CourseRuns.{End, Gives, MeetsFault, HasRoom, Runs}
 use Rattle.step_model.specs.Alone.{AloneEnd, run_alone}
 
 -- A run alone that has no answer met its fault.
@@ -31,10 +31,15 @@ may_strike event (Some fault) is = by (is_get_or_put event) (fault.k == 1) is
     by true first is = refl
     by false first is = absurd (cc is)
 
-pub run_alone-runs : {A : Type 0} (who : Caller) (course : Course A) (fault : Option Fault) (old : Told) → IsRun who course old (run_alone who.line who.party course fault old.store)
-run_alone-runs who (Ends answer) fault old = record { new = old; stored = refl; runs = (refl, refl) }
-run_alone-runs {A} who (Calls x next) fault old =
-    by (strikes (event_of x old.store) fault) refl (run_alone-runs who (next old.store) (waiting_after (event_of x old.store) fault) (told_by who.line who.party x None old))
+-- The history has room for each call of the course as it runs alone.
+abbrev pub HasRoomAlone : {A : Type 0} → Caller → Course A → Told → Type 0
+HasRoomAlone who (Ends answer) old = ⊤
+HasRoomAlone who (Calls x next) old = HasRoom old x × HasRoomAlone who (next old.store) (told_by who.line who.party x None old)
+
+pub run_alone-runs : {A : Type 0} (who : Caller) (course : Course A) (fault : Option Fault) (old : Told) → HasRoomAlone who course old → IsRun who course old (run_alone who.line who.party course fault old.store)
+run_alone-runs who (Ends answer) fault old room = record { new = old; stored = refl; runs = (refl, refl) }
+run_alone-runs {A} who (Calls x next) fault old room =
+    by (strikes (event_of x old.store) fault) refl (run_alone-runs who (next old.store) (waiting_after (event_of x old.store) fault) (told_by who.line who.party x None old) room.1)
   where
     struck : AloneEnd A
     struck = record { answer = None; store = struck_by (does_stand fault) who.line who.party x old.store; fault = None }
@@ -49,7 +54,7 @@ run_alone-runs {A} who (Calls x next) fault old =
       stored = refl;
       runs = (old, (no_rivals who old, inl (may_strike (event_of x old.store) fault is, (does_stand fault, refl))));
     }
-    by false is rest = record { new = rest.new; stored = rest.stored; runs = (old, (no_rivals who old, inr rest.runs)) }
+    by false is rest = record { new = rest.new; stored = rest.stored; runs = (old, (no_rivals who old, inr (room.0, rest.runs))) }
 
 not_moved : (who : Caller) (calls : List RivalCall) (old met : Told) → calls ≡ [] → RivalsFrom who calls old met → old ≡ met
 not_moved who [] old met none lead = lead
@@ -62,7 +67,7 @@ run_alone-only who (Ends given) old new answer alone runs =
     let gives : given ≡ answer = runs.1 in
     λ i. record { answer = Some (gives i); store = (same i).store; fault = None }
 run_alone-only who (Calls x next) old new answer alone (met, (rivals, inl stops)) = absurd stops
-run_alone-only who (Calls x next) old new answer alone (met, (rivals, inr rest)) =
+run_alone-only who (Calls x next) old new answer alone (met, (rivals, inr (room, rest))) =
     let same : old ≡ met = not_moved who rivals.calls old met (rivals.none alone) rivals.lead in
     run_alone-only who (next old.store) (told_by who.line who.party x None old) new answer alone
     (subst (λ m. Runs who (next m.store) (told_by who.line who.party x None m) new (Gives answer)) (sym same) rest)

@@ -1,9 +1,10 @@
 -- When a worker and a coordinator fit a store: what they hold of it is still so.
-use Rattle.std.specs.Prelude.{◌≡◌, ℕ, ◌<◌, ◌≤◌, IsTrue, IfSome, List, Option, Some, None, ⊤, nat_lt, ◌&&◌}
+use Rattle.std.specs.Prelude.{◌≡◌, ℕ, ◌<◌, ◌≤◌, IsTrue, IfSome, is_some, List, Option, Some, None, ⊤, nat_lt, ◌&&◌}
 use Rattle.std.specs.List.{AllByRecursion, list_any}
 use Rattle.row_model.specs.Lists.{Pairs}
 use Rattle.row_model.specs.Rows.{IsStrictlyOrdered}
 use Rattle.row_model.specs.Fold.{Operator}
+use Rattle.fleet_model.specs.Nodes.{segment_at}
 use Rattle.fleet_model.specs.Jobs.{JobSpec, Job, Jobs, job_with, is_finished}
 use Rattle.fleet_model.specs.History.{Coordinator, Worker}
 use Rattle.fleet_model.specs.Store.{Store, stored_jobs, records_epoch}
@@ -12,7 +13,7 @@ use Rattle.fleet_model.specs.Attempts.{source_rows}
 use Rattle.fleet_model.specs.Parties.{Attempt, LiveWorker, LiveCoordinator, live_attempts}
 use Rattle.fleet_model.specs.AttemptsFit.{WorkerFits}
 use Rattle.step_model.specs.Past.{Told}
-use Rattle.step_model.specs.Entries.{was_claimed, did_put_epoch}
+use Rattle.step_model.specs.Entries.{was_claimed, did_put_epoch, was_named}
 use Rattle.step_model.specs.Faithful.{Faithful}
 use Rattle.step_model.specs.TablesKept.{AreApart}
 use Rattle.step_model.specs.LawfulTables.{MayUse}
@@ -20,9 +21,11 @@ use Rattle.step_model.specs.Merging.{Local, merged_trees, taken}
 
 -- ---- a worker
 
--- The worker claimed the attempt, live or not. Its source tables are those of its job, if the job is
--- stored, and their rows are strictly ordered.
+-- The worker claimed the attempt, live or not. Attempts are counted from 1, so the attempt is at no
+-- Submitted job, whose sources are not known before a poll opens it. Its source tables are those of
+-- its job, if the job is stored, and their rows are strictly ordered.
 pub record AttemptHeld (told : Told) (worker : ℕ) (a : Attempt) : Type 0 where
+  pub counted : 0 < a.number
   pub claimed : IsTrue (was_claimed told.store.history worker a.job a.number)
   pub ordered : IsStrictlyOrdered (source_rows told.store.tables a.sources)
   pub sources : IfSome (job_with a.job (stored_jobs told.store)) (λ job. a.sources ≡ job.source_tables)
@@ -72,9 +75,26 @@ abbrev pub MergesIfThere : Option Local → Store → Type 0
 MergesIfThere None store = ⊤
 MergesIfThere (Some local) store = Merges local store
 
+-- The segment with this prefix is stored.
+abbrev pub IsStoredPrefix : Told → List ℕ → Type 0
+IsStoredPrefix told prefix = IsTrue (is_some (segment_at prefix told.store.manifest.trees))
+
+-- Each segment of the local state is stored, and each local job was named by a put that took effect.
+-- So a flush into a new segment meets no local one, and a new job has the id of no local one.
+pub record LocalIsKnown (told : Told) (local : Local) : Type 0 where
+  pub segments : AllByRecursion (λ s. IsStoredPrefix told s.prefix) local.manifest.trees
+  pub jobs : AllByRecursion (λ job. IsTrue (was_named told.store.history job.id)) local.records.jobs
+
+-- If there is a local state, its segments and jobs are known.
+abbrev pub KnownIfThere : Told → Option Local → Type 0
+KnownIfThere told None = ⊤
+KnownIfThere told (Some local) = LocalIsKnown told local
+
 -- A coordinator put its epoch into the manifest, and the records have this epoch or a later one. If
--- no stored epoch is above its own, its local state says nothing else than what is stored.
+-- no stored epoch is above its own, its local state says nothing else than what is stored, and its
+-- segments and jobs are known.
 pub record CoordinatorHolds (told : Told) (c : LiveCoordinator) (local : Option Local) : Type 0 where
   pub put : IsTrue (did_put_epoch (Coordinator c.number) told.store.history c.epoch)
   pub recorded : c.epoch ≤ records_epoch told.store.records
   pub merges : told.store.manifest.epoch ≤ c.epoch → records_epoch told.store.records ≤ c.epoch → MergesIfThere local told.store
+  pub known : told.store.manifest.epoch ≤ c.epoch → records_epoch told.store.records ≤ c.epoch → KnownIfThere told local
