@@ -47,8 +47,7 @@ use Rattle.course_laws.proofs.Later.{Later, later_itself, later_met}
 use Rattle.course_laws.proofs.Puts.{got_records, no_names, over_got}
 use Rattle.course_laws.proofs.Calls.{behind, all_map}
 use Rattle.course_laws.proofs.JobBounds.{IsShort, AreGood, left_good}
-use Rattle.course_laws.proofs.Free.{free_own}
-use Rattle.course_laws.proofs.OwnCalls.{rivals_keep_worker}
+use Rattle.fit_laws.proofs.FreeTables.{free_own}
 use Rattle.course_laws.proofs.Made.{Relies, State, state_met, state_got, state_table, state_refused, ids_of, tables_of, all_of, ranges_made}
 use Rattle.course_laws.proofs.Outputs.{found_in, back_lawful}
 
@@ -303,9 +302,9 @@ made_lawful who w start new options moment a None r short by there kept holds wh
 
 pub finishes_are_lawful : FinishesAreLawful
 unfolding finish
-finishes_are_lawful who told options moment w a refusal keep free operator by kept holds runs whole =
+finishes_are_lawful who told options moment w a refusal keep operator by kept holds runs whole =
     let there = found_in w.attempts a.job a runs in
-    let relies : Relies who w = record { keep = keep; stay = rivals_keep_worker who w keep by; free = free } in
+    let relies : Relies who w = record { keep = keep; own = by } in
     let held = (all_at _ w.attempts a (holds.fits kept.stored.replay.specs kept.faithful).each there).held in
     gets_lawful who w told a (finish_or_give_back who.merge options moment w a refusal told.store.tables) a.sources told relies
     (record { kept = kept; holds = holds; old = all_to _ _ (attempt_tables a) (λ id one is. record { held = is; same = refl }) (all_true_front (is_held told.store) (attempt_tables a) held); made = tt })

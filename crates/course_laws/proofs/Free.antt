@@ -1,29 +1,29 @@
 -- The table that a party puts under the id that it drew last is free to be named, and stays so behind its own calls.
-use Rattle.std.proofs.Common.{◌≡◌, refl, sym, ◌∙◌, subst, ℕ, ◌+◌, List, [], ◌∷◌, ◌++◌, cond, Bool, true, false, inl, inr, ◌⊎◌, None, length}
-use Rattle.std.specs.Prelude.{IsTrue, ◌==◌, ◌&&◌, not, filter, flat_map}
+use Rattle.std.proofs.Common.{◌≡◌, refl, sym, ◌∙◌, subst, ℕ, ◌+◌, List, [], ◌∷◌, ◌++◌, cond, Bool, true, false, None, length}
+use Rattle.std.specs.Prelude.{IsTrue, ◌==◌, ◌&&◌, filter, flat_map}
 use Rattle.std.specs.List.{AllByRecursion}
 use Rattle.row_model.specs.Rows.{Row}
 use Rattle.row_model.specs.Fold.{Operator}
 use Rattle.fleet_model.specs.Nodes.{is_among, Node}
-use Rattle.fleet_model.specs.Jobs.{Job, Jobs, contains, is_active}
+use Rattle.fleet_model.specs.Jobs.{contains, is_active}
 use Rattle.fleet_model.specs.History.{Party, PutTable, Done, Entry, stood}
 use Rattle.fleet_model.specs.Store.{Manifest, stored_jobs, is_held, AreHeld}
 use Rattle.fleet_model.specs.Handles.{tree_tables, job_tables}
 use Rattle.fleet_model.specs.Exchanges.{Exchange, DrawsTable, PutsTable, next_table_id}
 use Rattle.step_model.specs.Past.{Told}
 use Rattle.step_model.specs.Entries.{party_eq, puts_table}
-use Rattle.step_model.specs.LawfulTables.{DrawFits, was_piece, other_tables, IsOwnTable}
+use Rattle.step_model.specs.LawfulTables.{DrawFits, was_piece}
 use Rattle.step_model.specs.TablesKept.{IsKnownPiece}
 use Rattle.step_model.specs.Rivals.{Caller, Strike, Rivals, called, told_by}
 use Rattle.step_model.specs.Keeps.{Keeps}
 use Rattle.step_laws.specs.Runs.{CallsKeep}
-use Rattle.step_laws.proofs.Elements.{IsIn, all_at, all_from, all_flat, all_true_front, any_element, any_front, any_push_no, any_push_yes, Passes, is_itself, contains_in, contains_no, in_contains, in_front, in_back, in_append}
+use Rattle.step_laws.proofs.Elements.{all_at, all_from, all_flat, all_true_front, any_element, any_front, any_push_no, any_push_yes, Passes, is_itself, contains_in, contains_no}
 use Rattle.step_laws.proofs.Grown.{drawn_table_grows}
 use Rattle.step_laws.proofs.Held.{held_put}
 use Rattle.step_laws.proofs.MuteBodies.{entered}
 use Rattle.step_laws.proofs.TableBodies.{with_table}
 use Rattle.step_laws.proofs.Quiet.{told_entered}
-use Rattle.course_laws.specs.Free.{IsFree}
+use Rattle.fit_laws.specs.Free.{IsFree}
 use Rattle.course_laws.proofs.Later.{entry_by}
 use Rattle.course_laws.proofs.Calls.{rivals_hold, filtered}
 use Rattle.course_laws.proofs.Puts.{party_itself}
@@ -125,32 +125,3 @@ free_behind_put line party other rows told table h =
     let grown = with_table told (other, rows) in
     subst (λ (t : Told). IsFree party t table) (sym (told_entered grown told.store.deleted told.store.jobs_drawn told.store.tables_drawn entry))
     (free_entered party grown told.store.jobs_drawn told.store.tables_drawn entry table (record { drawn = h.drawn; put = h.put; unused = h.unused; unnamed = h.unnamed }))
-
--- A free table is the party's own for each job.
-pub free_own : (party : Party) (told : Told) (id table : ℕ) → IsFree party told table → IsOwnTable party told id table
-free_own party told id table h = record {
-  drawn = h.drawn;
-  put = h.put;
-  unused = h.unused;
-  unnamed = contains_no (other_tables id (stored_jobs told.store)) table (λ there. refused (contains (flat_map job_tables (filter is_active (stored_jobs told.store))) table) h.unnamed
-      (in_contains (flat_map job_tables (filter is_active (stored_jobs told.store))) table (fewer (stored_jobs told.store) there)));
-}
-  where
-    skip : (job : Job) (jobs : Jobs) (b : Bool) → IsIn table (flat_map job_tables (filter is_active jobs)) → IsIn table (flat_map job_tables (cond b (job ∷ filter is_active jobs) (filter is_active jobs)))
-    skip job jobs true there = in_back table (job_tables job) (flat_map job_tables (filter is_active jobs)) there
-    skip job jobs false there = there
-
-    by : (job : Job) (jobs : Jobs) (active other : Bool) → (IsIn table (flat_map job_tables (filter (λ j. is_active j && not (id == j.id)) jobs)) → IsIn table (flat_map job_tables (filter is_active jobs)))
-        → IsIn table (flat_map job_tables (cond (active && other) (job ∷ filter (λ j. is_active j && not (id == j.id)) jobs) (filter (λ j. is_active j && not (id == j.id)) jobs)))
-        → IsIn table (flat_map job_tables (cond active (job ∷ filter is_active jobs) (filter is_active jobs)))
-    by job jobs true true rest there = first (in_append table (job_tables job) (flat_map job_tables (filter (λ j. is_active j && not (id == j.id)) jobs)) there)
-      where
-        first : IsIn table (job_tables job) ⊎ IsIn table (flat_map job_tables (filter (λ j. is_active j && not (id == j.id)) jobs)) → IsIn table (job_tables job ++ flat_map job_tables (filter is_active jobs))
-        first (inl one) = in_front table (job_tables job) (flat_map job_tables (filter is_active jobs)) one
-        first (inr one) = in_back table (job_tables job) (flat_map job_tables (filter is_active jobs)) (rest one)
-    by job jobs true false rest there = skip job jobs true (rest there)
-    by job jobs false other rest there = rest there
-
-    fewer : (jobs : Jobs) → IsIn table (flat_map job_tables (filter (λ j. is_active j && not (id == j.id)) jobs)) → IsIn table (flat_map job_tables (filter is_active jobs))
-    fewer [] there = there
-    fewer (job ∷ jobs) there = by job jobs (is_active job) (not (id == job.id)) (fewer jobs) there

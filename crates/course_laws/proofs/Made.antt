@@ -7,7 +7,7 @@ use Rattle.row_model.specs.Rows.{Row}
 use Rattle.fleet_model.specs.Nodes.{table_rows}
 use Rattle.fleet_model.specs.Jobs.{Jobs}
 use Rattle.fleet_model.specs.TreesFit.{IsTable}
-use Rattle.fleet_model.specs.History.{GetRecords, GetTable, PutRecords, RecordChange, Done, Conflict, Entry, stood}
+use Rattle.fleet_model.specs.History.{Worker, GetRecords, GetTable, PutRecords, RecordChange, Done, Conflict, Entry, stood}
 use Rattle.fleet_model.specs.Sweeps.{attempt_tables}
 use Rattle.fleet_model.specs.Parties.{Attempt, LiveWorker}
 use Rattle.fleet_model.specs.Exchanges.{Plain, DrawsTable, PutsTable, PutsRecords, records_version, logged, answer_of, next_table_id}
@@ -24,18 +24,19 @@ use Rattle.step_laws.proofs.Elements.{all_to, all_push}
 use Rattle.step_laws.proofs.Mute.{IsQuiet, mute_event, mute_refused}
 use Rattle.step_laws.proofs.MuteBodies.{entered}
 use Rattle.step_laws.proofs.Quiet.{told_entered}
-use Rattle.course_laws.specs.Free.{IsFree, RivalsKeepFree}
+use Rattle.fit_laws.specs.Free.{IsFree}
+use Rattle.fit_laws.proofs.FreeTables.{rivals_keep_free}
 use Rattle.course_laws.proofs.Calls.{behind, rivals_hold}
 use Rattle.course_laws.proofs.Held.{HasRows, call_rows, put_has_rows}
-use Rattle.course_laws.proofs.OwnCalls.{RivalsKeepWorker, holds_entered}
+use Rattle.course_laws.proofs.OwnCalls.{rivals_keep_worker, holds_entered}
 use Rattle.course_laws.proofs.Written.{holds_put, holds_drawn}
 use Rattle.course_laws.proofs.Free.{IsUnput, rivals_unput, drawn_unput, free_entered, free_put, free_behind_draw, free_behind_put}
 
--- What a finish may rely on besides the store: what calls keep.
+-- What a finish may rely on besides the store: the worker makes it, and lawful calls keep the
+-- invariant.
 pub record Relies (who : Caller) (w : LiveWorker) : Type 0 where
   pub keep : CallsKeep who.merge
-  pub stay : RivalsKeepWorker who w
-  pub free : RivalsKeepFree who
+  pub own : who.party ≡ Worker w.number
 
 -- The store meets the invariant, the worker fits it, the attempt's tables have the rows that they had
 -- at the start, and the tables that were made since are free and have their rows.
@@ -52,9 +53,9 @@ rows_met who w id rows old new r kept rivals h =
 pub state_met : (who : Caller) (w : LiveWorker) (start : Told) (a : Attempt) (pairs : List (ℕ × List Row)) (old new : Told) → Relies who w → State who w start a pairs old → Rivals who old new → State who w start a pairs new
 state_met who w start a pairs old new r s rivals = record {
   kept = rivals_keep who old new r.keep s.kept rivals;
-  holds = r.stay old new s.kept rivals s.holds;
+  holds = rivals_keep_worker who w r.keep r.own old new s.kept rivals s.holds;
   old = all_to _ _ (attempt_tables a) (λ id there h. rows_met who w id (table_rows start.store.tables id) old new r s.kept rivals h) s.old;
-  made = all_to _ _ pairs (λ p there h. (r.free old new p.0 s.kept rivals h.0, rows_met who w p.0 p.1 old new r s.kept rivals h.1)) s.made;
+  made = all_to _ _ pairs (λ p there h. (rivals_keep_free who old new w.number p.0 r.keep r.own s.kept rivals h.0, rows_met who w p.0 p.1 old new r s.kept rivals h.1)) s.made;
 }
 
 state_drawn : (who : Caller) (w : LiveWorker) (start : Told) (a : Attempt) (pairs : List (ℕ × List Row)) (moment : ℕ) (told : Told) → Relies who w → DrawFits told.store → State who w start a pairs told

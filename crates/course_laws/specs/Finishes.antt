@@ -14,7 +14,6 @@ use Rattle.step_model.specs.ClaimSteps.{WorkerOptions}
 use Rattle.step_model.specs.OutputSteps.{finish}
 use Rattle.step_model.specs.CourseRuns.{IsLawfulCourse}
 use Rattle.step_laws.specs.Runs.{CallsKeep}
-use Rattle.course_laws.specs.Free.{RivalsKeepFree}
 use Rattle.course_laws.specs.Outputs.{DoesRun}
 
 -- If the operator refused no fold, all ranges of the attempt are whole.
@@ -23,8 +22,8 @@ WholeUnless merge tables a None = AllByRecursion (λ range. (rows_left merge tab
 WholeUnless merge tables a (Some message) = ⊤
 
 -- A finish of a worker that fits is a lawful course under a lawful operator, if every lawful call
--- keeps the invariant and calls of others name none of its free tables.
+-- keeps the invariant.
 abbrev pub FinishesAreLawful : Type 0
-FinishesAreLawful = (who : Caller) (told : Told) (options : WorkerOptions) (moment : ℕ) (w : LiveWorker) (a : Attempt) (refusal : Option (List ℕ)) → CallsKeep who.merge → RivalsKeepFree who
+FinishesAreLawful = (who : Caller) (told : Told) (options : WorkerOptions) (moment : ℕ) (w : LiveWorker) (a : Attempt) (refusal : Option (List ℕ)) → CallsKeep who.merge
     → IsLawful who.merge → who.party ≡ Worker w.number → Keeps who.merge told → WorkerHolds who.merge told w → DoesRun w a → WholeUnless who.merge told.store.tables a refusal
     → IsLawfulCourse who told (finish who.merge told.store.tables options moment w a refusal)

@@ -6,5 +6,4 @@ pub mod Submits
 pub mod Sweeps
 pub mod Beats
 pub mod Outputs
-pub mod Free
 pub mod Finishes

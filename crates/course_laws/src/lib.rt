@@ -63,8 +63,8 @@ pub fn outputs_are_lawful()
 {}
 
 /// A finish of a worker that fits is a lawful course under a lawful operator, if every lawful call
-/// keeps the invariant and calls of others name none of its free tables. The put that ends the job
-/// names outputs that hold all rows that the attempt's settings make of the job's sources.
+/// keeps the invariant. The put that ends the job names outputs that hold all rows that the
+/// attempt's settings make of the job's sources.
 pub fn finishes_are_lawful()
     ensures { FinishesAreLawful }
 {}

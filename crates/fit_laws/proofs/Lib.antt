@@ -11,3 +11,4 @@ pub mod CommitsOldest
 pub mod WorkerManifests
 pub mod WorkerRecords
 pub mod Workers
+pub mod FreeTables

@@ -86,14 +86,14 @@ not_named_by party told id t other own there active differs named =
     unequal false e = refl
 
 -- It is not this table.
-abbrev IsNot : ℕ → ℕ → Type 0
+abbrev pub IsNot : ℕ → ℕ → Type 0
 IsNot t id = t ≡ id → ⊥
 
-trees_lack : (t : ℕ) (trees : Trees) → TreesAll (IsNot t) trees → contains (flat_map tree_tables trees) t ≡ false
+pub trees_lack : (t : ℕ) (trees : Trees) → TreesAll (IsNot t) trees → contains (flat_map tree_tables trees) t ≡ false
 trees_lack t trees h = contains_no (flat_map tree_tables trees) t (λ there. all_at (IsNot t) (flat_map tree_tables trees) t
     (all_flat (IsNot t) tree_tables trees (all_to _ _ trees (λ s one all. all_flat (IsNot t) (λ (node : Node). node.pieces) s.tree all) h)) there refl)
 
-lacked : (t : ℕ) (trees : Trees) → contains (flat_map tree_tables trees) t ≡ false → TreesAll (IsNot t) trees
+pub lacked : (t : ℕ) (trees : Trees) → contains (flat_map tree_tables trees) t ≡ false → TreesAll (IsNot t) trees
 lacked t trees h = all_to _ _ trees (λ s there all. all_unflat (IsNot t) (λ (node : Node). node.pieces) s.tree all)
     (all_unflat (IsNot t) tree_tables trees (all_from (IsNot t) (flat_map tree_tables trees) (λ id there same. refused (contains (flat_map tree_tables trees) t) h (in_contains (flat_map tree_tables trees) t (subst (λ n. IsIn n (flat_map tree_tables trees)) (sym same) there)))))
   where
@@ -101,7 +101,7 @@ lacked t trees h = all_to _ _ trees (λ s there all. all_unflat (IsNot t) (λ (n
     refused true e f = absurd (cc e)
     refused false e f = absurd (cc f)
 
-compacted_active : (s : Status) → IsTrue (status_eq Compacted s) → IsTrue (cond (is_finished s) false true)
+pub compacted_active : (s : Status) → IsTrue (status_eq Compacted s) → IsTrue (cond (is_finished s) false true)
 compacted_active Compacted h = refl
 compacted_active Submitted h = absurd (cc h)
 compacted_active Scheduled h = absurd (cc h)
@@ -109,29 +109,35 @@ compacted_active Running h = absurd (cc h)
 compacted_active Completed h = absurd (cc h)
 compacted_active Failed h = absurd (cc h)
 
-commit_tables : (merge : Operator) (told : Told) (specs others : ℕ → JobSpec) (n : ℕ) (job : Job) (t : ℕ) → Body merge told specs → IsIn job (stored_jobs told.store) → IsTrue (has_status Running job) → IsOwnTable (Worker n) told job.id t
-    → (trees : Trees) (joined : List ℕ) (steps : List Step) → StepsFit told others trees joined steps → TreesAll (IsNot t) trees
+-- No job that waits for its commit has this table among its outputs.
+abbrev pub AreSpared : Told → ℕ → Type 0
+AreSpared told t = (job : Job) → IsIn job (stored_jobs told.store) → IsTrue (has_status Compacted job) → IsIn t (concat job.outputs) → ⊥
+
+pub commit_tables : (told : Told) (others : ℕ → JobSpec) (t : ℕ) → AreSpared told t → (trees : Trees) (joined : List ℕ) (steps : List Step) → StepsFit told others trees joined steps → TreesAll (IsNot t) trees
     → TreesAll (IsNot t) (stepped_all told.store.tables (λ id. (others id, outputs_in told.store.records id)) steps trees)
-commit_tables merge told specs others n job t b there runs own trees joined [] fits h = h
-commit_tables merge told specs others n job t b there runs own trees joined (Join id ∷ steps) fits h =
-    commit_tables merge told specs others n job t b there runs own (stepped_in told.store.tables (Join id) (others id) (outputs_in told.store.records id) trees) (id ∷ joined) steps fits.1 (step_all (IsNot t) told.store.tables (Join id) (others id) (outputs_in told.store.records id) trees (subst (λ ids. AllByRecursion (IsNot t) ids) (sym (outputs_are told.store.records id fits.0.job fits.0.stored)) outputs) h)
+commit_tables told others t spared trees joined [] fits h = h
+commit_tables told others t spared trees joined (Join id ∷ steps) fits h =
+    commit_tables told others t spared (stepped_in told.store.tables (Join id) (others id) (outputs_in told.store.records id) trees) (id ∷ joined) steps fits.1 (step_all (IsNot t) told.store.tables (Join id) (others id) (outputs_in told.store.records id) trees (subst (λ ids. AllByRecursion (IsNot t) ids) (sym (outputs_are told.store.records id fits.0.job fits.0.stored)) outputs) h)
   where
     found : IsFound id (stored_jobs told.store) fits.0.job
     found = job_found id (stored_jobs told.store) fits.0.job fits.0.stored
 
-    same : Some job ≡ Some fits.0.job → job ≡ fits.0.job
-    same e = cc e
-
-    differs : job.id ≡ fits.0.job.id → ⊥
-    differs e = not_both job.status runs (subst (λ (j : Job). IsTrue (has_status Compacted j)) (sym (same (sym (found_job (stored_jobs told.store) job b.sound.job_ids there) ∙ ap (λ i. job_with i (stored_jobs told.store)) (e ∙ found.same) ∙ fits.0.stored))) fits.0.finished)
-
     outputs : AllByRecursion (IsNot t) (concat fits.0.job.outputs)
-    outputs = all_from (IsNot t) (concat fits.0.job.outputs) (λ id one is. not_named_by (Worker n) told job.id t fits.0.job own found.there (compacted_active fits.0.job.status fits.0.finished) differs
-        (in_back t (context_tables fits.0.job.context) (concat fits.0.job.outputs) (subst (λ x. IsIn x (concat fits.0.job.outputs)) (sym is) one)))
-commit_tables merge told specs others n job t b there runs own trees joined (Move id ∷ steps) fits h =
-    commit_tables merge told specs others n job t b there runs own (stepped_in told.store.tables (Move id) (others id) (outputs_in told.store.records id) trees) joined steps fits.1 (step_all (IsNot t) told.store.tables (Move id) (others id) [] trees tt h)
-commit_tables merge told specs others n job t b there runs own trees joined (Drain id ∷ steps) fits h =
-    commit_tables merge told specs others n job t b there runs own (stepped_in told.store.tables (Drain id) (others id) (outputs_in told.store.records id) trees) joined steps fits.1 (step_all (IsNot t) told.store.tables (Drain id) (others id) [] trees tt h)
+    outputs = all_from (IsNot t) (concat fits.0.job.outputs) (λ id one is. spared fits.0.job found.there fits.0.finished (subst (λ x. IsIn x (concat fits.0.job.outputs)) (sym is) one))
+commit_tables told others t spared trees joined (Move id ∷ steps) fits h =
+    commit_tables told others t spared (stepped_in told.store.tables (Move id) (others id) (outputs_in told.store.records id) trees) joined steps fits.1 (step_all (IsNot t) told.store.tables (Move id) (others id) [] trees tt h)
+commit_tables told others t spared trees joined (Drain id ∷ steps) fits h =
+    commit_tables told others t spared (stepped_in told.store.tables (Drain id) (others id) (outputs_in told.store.records id) trees) joined steps fits.1 (step_all (IsNot t) told.store.tables (Drain id) (others id) [] trees tt h)
+
+-- A table that is the worker's own for a Running job is none of the outputs that wait for a commit.
+running_spared : (merge : Operator) (told : Told) (specs : ℕ → JobSpec) (n : ℕ) (job : Job) (t : ℕ) → Body merge told specs → IsIn job (stored_jobs told.store) → IsTrue (has_status Running job) → IsOwnTable (Worker n) told job.id t → AreSpared told t
+running_spared merge told specs n job t b there runs own other among finished one =
+    not_named_by (Worker n) told job.id t other own among (compacted_active other.status finished) (λ e. not_both job.status runs (subst (λ (j : Job). IsTrue (has_status Compacted j))
+    (sym (same (sym (found_job (stored_jobs told.store) job b.sound.job_ids there) ∙ ap (λ i. job_with i (stored_jobs told.store)) e ∙ found_job (stored_jobs told.store) other b.sound.job_ids among))) finished))
+    (in_back t (context_tables other.context) (concat other.outputs) one)
+  where
+    same : Some job ≡ Some other → job ≡ other
+    same e = cc e
 
 commit_spares : (merge : Operator) (told : Told) (party : Party) (n : ℕ) (steps : List Step) (value : Manifest) → Keeps merge told → CommitFits party told steps value → ManifestSpares told (put_manifest told value) n
 commit_spares merge told party n steps value k fits = subst (λ (m : Manifest). ManifestSpares told (put_manifest told m) n) (sym fits.makes) (record {
@@ -141,7 +147,7 @@ commit_spares merge told party n steps value k fits = subst (λ (m : Manifest). 
     tick = fit.tick;
     last_run = λ is. subst (λ (m : Manifest). AreOldest (tree_at job.spec.segment m.trees) job.spec.sources) fits.makes (commits_leave_oldest merge party told steps value job k fits (found_job (stored_jobs told.store) job b.sound.job_ids there) runs (fit.last_run is));
   };
-  tables = λ job there runs t own. trees_lack t _ (commit_tables merge told k.stored.replay.specs fits.specs n job t b there runs own told.store.manifest.trees [] steps fits.each (lacked t told.store.manifest.trees (not_stored told.store.manifest told.past t b.past own.unused)));
+  tables = λ job there runs t own. trees_lack t _ (commit_tables told fits.specs t (running_spared merge told k.stored.replay.specs n job t b there runs own) told.store.manifest.trees [] steps fits.each (lacked t told.store.manifest.trees (not_stored told.store.manifest told.past t b.past own.unused)));
 })
   where
     b : Body merge told k.stored.replay.specs

@@ -50,7 +50,7 @@ pub record RecordsSpare (told : Told) (w : LiveWorker) (records : Records) (entr
   pub origins : (a : Attempt) → IsIn a w.attempts → AttemptHeld told w.number a → origin told.store.history a.job a.number ≡ origin (told.store.history ++ entry ∷ []) a.job a.number
   pub jobs : AllByRecursion (JobSpares told w) records.jobs
 
-from_flat : {A B : Type 0} (f : A → List B) (xs : List A) (y : B) → IsIn y (flat_map f xs) → (x : A) × (IsIn x xs × IsIn y (f x))
+pub from_flat : {A B : Type 0} (f : A → List B) (xs : List A) (y : B) → IsIn y (flat_map f xs) → (x : A) × (IsIn x xs × IsIn y (f x))
 from_flat f [] y there = absurd there
 from_flat {A} f (x ∷ xs) y there = by (in_append y (f x) (flat_map f xs) there) (λ one. from_flat f xs y one)
   where

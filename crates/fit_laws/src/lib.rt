@@ -5,6 +5,7 @@
 ghost use Rattle.row_model.specs.Fold.{Operator};
 ghost use Rattle.fit_laws.specs.FitLaws.{CoordinatorsKeep, RivalsKeepCoordinators};
 ghost use Rattle.fit_laws.specs.FitLaws.{RivalsKeepWorkers, WorkersKeep};
+ghost use Rattle.fit_laws.specs.Free.{FreeTablesStay, RivalsKeepFree};
 
 /// A lawful call of another party keeps what a worker holds, whether a fault strikes the call or
 /// not. A deletion must spare the tables that the worker holds for its attempts.
@@ -28,4 +29,16 @@ pub fn coordinators_keep()
 /// call keeps the invariant.
 pub fn rivals_keep_coordinators()
     ensures { RivalsKeepCoordinators }
+{}
+
+/// A lawful call of another party names no table that a worker put and that nothing names yet,
+/// whether a fault strikes the call or not.
+pub fn free_tables_stay()
+    ensures { (merge : Operator) → FreeTablesStay merge }
+{}
+
+/// Calls of others that come between two calls of a worker name none of its free tables, if each
+/// lawful call keeps the invariant.
+pub fn rivals_keep_free()
+    ensures { RivalsKeepFree }
 {}
