@@ -6,6 +6,7 @@ use Rattle.script_model.specs.Grammars.{full_grammar}
 use Rattle.script_model.specs.States.{Inputs, State, fresh_state}
 use Rattle.script_model.specs.Defaults.{default_options}
 use Rattle.script_model.specs.Follows.{ScriptRun}
+use Rattle.script_model.specs.Passing.{PassesAlong}
 
 -- The lines of a script, each with the reply to it. Both are without their newlines.
 abbrev pub Conversation : Type 0
@@ -23,12 +24,14 @@ typed conversation = concat (map (λ said. newline said.0) conversation)
 abbrev pub replies : Conversation → List (List ℕ)
 replies conversation = map (λ said. newline said.1) conversation
 
--- The text is a script, and a fresh fleet with the default options may give exactly these replies.
+-- The text is a script, and a fresh fleet with the default options may give exactly these replies. Each
+-- line leaves a state that passes the tests of `Passing`.
 pub record MayReply (inputs : Inputs) (conversation : Conversation) : Type 0 where
   pub lines : List Line
   pub script : IsScript full_grammar (typed conversation) lines
   pub last : State
   pub run : ScriptRun inputs 1 (fresh_state default_options) lines (replies conversation) last
+  pub passes : PassesAlong inputs 1 (fresh_state default_options) lines (replies conversation) last run
 
 -- The text is a script. A fresh fleet with the default options may give exactly these replies to
 -- its lines, and no others.
