@@ -1,7 +1,7 @@
 -- Worked examples of steps that run while no other party calls the store: which calls they make,
 -- and the answers.
 use Rattle.std.specs.Prelude.{◌≡◌, ℕ, true, false, List, [], ◌∷◌, map, Option, Some, None}
-use Rattle.fleet_model.specs.Nodes.{Run}
+use Rattle.fleet_model.specs.Nodes.{L0, Run, NodeName, Node, Segment, names}
 use Rattle.fleet_model.specs.Jobs.{Job, Compacted}
 use Rattle.fleet_model.specs.History.{Coordinator, Event, GetManifest, GetRecords, PutManifest, PutRecords, ManifestEpoch, Commit, Join, RecordsEpoch, Polled, Answer, Done, Absent, Stands}
 use Rattle.fleet_model.specs.Store.{Store, fresh_store}
@@ -10,6 +10,7 @@ use Rattle.fleet_model.specs.PollStates.{PollState}
 use Rattle.fleet_model.specs.Exchanges.{Fault}
 use Rattle.step_model.specs.StepEnds.{StepEnd, Reports, Fenced}
 use Rattle.step_model.specs.Alone.{AloneEnd, run_alone}
+use Rattle.step_model.specs.Merging.{merged_segment}
 use Rattle.step_model.specs.PollSteps.{PollAsk, start, poll}
 
 -- The calls in the store's history, each with its answer.
@@ -85,3 +86,26 @@ pub record StopsStruck (run : AloneEnd (StepEnd PollState)) : Type 0 where
   pub calls : calls_in run.store ≡ (GetManifest, Done 3) ∷ (GetRecords, Done 2) ∷ (PutManifest (Commit (Join 1 ∷ [])), Stands) ∷ []
   pub horizon : run.store.manifest.horizon ≡ 5
   pub answer : run.answer ≡ None
+
+-- ---- merging
+
+-- A node with this name, which has its flushes and tables elsewhere.
+abbrev bare : NodeName → Node
+bare name = record { name = name; flushes = []; pieces = [] }
+
+-- The root as a coordinator left it: flush 2 and the older ones went into run 0.
+abbrev pub local_root : Segment
+local_root = record { prefix = []; tree = bare (Run 0) ∷ []; last_seq = Some 2; watermark = Some 2 }
+
+-- The root as it is stored: flushes 3 and 4 have come meanwhile.
+abbrev pub stored_root : Segment
+stored_root = record { prefix = []; tree = bare (L0 4) ∷ bare (L0 3) ∷ bare (L0 2) ∷ bare (L0 1) ∷ []; last_seq = Some 4; watermark = None }
+
+-- The merged root has the flushes that are newer than the watermark, and then the local run.
+pub record MergesUpToWatermark (merged : Segment) : Type 0 where
+  pub nodes : names merged.tree ≡ L0 4 ∷ L0 3 ∷ Run 0 ∷ []
+  pub last_seq : merged.last_seq ≡ Some 4
+  pub watermark : merged.watermark ≡ Some 2
+
+abbrev pub merged_root : Segment
+merged_root = merged_segment (Some local_root) stored_root

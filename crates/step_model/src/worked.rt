@@ -2,7 +2,8 @@
 //! a step makes.
 
 ghost use Rattle.std.specs.Prelude.{None, Some, true};
-ghost use Rattle.step_model.specs.Worked.{Commits, Fences, Starts, StopsStruck, polled, started};
+ghost use Rattle.step_model.specs.Worked.{Commits, Fences, MergesUpToWatermark, Starts};
+ghost use Rattle.step_model.specs.Worked.{StopsStruck, merged_root, polled, started};
 
 /// A coordinator starts over a fresh store. The definition `Starts` states its calls and its
 /// answer.
@@ -16,4 +17,10 @@ pub fn polls()
     ensures commits { Commits (polled 1 None) }
     ensures fenced { Fences (polled 0 None) }
     ensures struck { StopsStruck (polled 1 (Some (record { k = 3; stands = true }))) }
+{}
+
+/// A coordinator merges a stored tree into its local one. The stored flushes that its own job took
+/// before do not come back.
+pub fn a_merge()
+    ensures { MergesUpToWatermark merged_root }
 {}
