@@ -8,6 +8,7 @@ use Rattle.script_model.specs.States.{Inputs, State}
 use Rattle.script_model.specs.Follows.{ScriptRun}
 use Rattle.script_model.specs.TreeTests.{all_pairs, are_trees, are_tables, are_named_held}
 use Rattle.script_model.specs.JobTests.{hold_apart, opened_stands, has_context, outputs_fit, worker_fits}
+use Rattle.script_model.specs.ReadTests.{reads_stand}
 use Rattle.script_model.specs.HistoryTests.{specs_in, is_replayed, are_draws, are_names, are_attempts, are_puts, are_joins_and_epochs}
 
 -- The store of the state passes the tests, and so do the live workers.
@@ -28,6 +29,7 @@ passes inputs s =
     && are_attempts s.store
     && are_puts s.store
     && are_joins_and_epochs s.store
+    && reads_stand inputs.merge s.store
 
 -- Each line of the run leaves a state that passes the tests.
 abbrev pub PassesAlong : (inputs : Inputs) (number : ℕ) (old : State) (lines : List Line) (answers : List (List ℕ)) (new : State) → ScriptRun inputs number old lines answers new → Type 0
