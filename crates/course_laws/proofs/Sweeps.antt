@@ -26,7 +26,7 @@ use Rattle.course_laws.proofs.Calls.{pairs_filter}
 
 -- ---- a party that is alone
 
-alone_same : (who : Caller) (old new : Told) → who.alone ≡ true → Rivals who old new → old ≡ new
+pub alone_same : (who : Caller) (old new : Told) → who.alone ≡ true → Rivals who old new → old ≡ new
 alone_same who old new alone rivals = subst (λ calls. RivalsFrom who calls old new) (rivals.none alone) rivals.lead
 
 -- A party that is alone meets what its last call left.
@@ -77,7 +77,7 @@ last_other party [] entry last other = ap (λ b. cond b (Some entry) last) other
 last_other party (first ∷ history) entry last other = last_other party history entry (cond (party_eq party first.party) (Some first) last) other
 
 -- No flush is about to bring a table to a tree.
-abbrev NonePending : Store → Type 0
+abbrev pub NonePending : Store → Type 0
 NonePending store = (table : ℕ) → is_pending store.history table ≡ false
 
 pending_on : (history : List Entry) (entry : Entry) (table : ℕ) → entry.party ≡ Sweeper → is_pending history table ≡ false → is_pending (history ++ entry ∷ []) table ≡ false

@@ -154,7 +154,7 @@ knows_records told c local records entry rises follow h = record {
     known None k = tt
     known (Some l) k = record { segments = k.segments; jobs = all_to _ _ l.records.jobs (λ job there named. named_grows told.store.history entry job.id named) k.jobs }
 
-after_epoch : (merge : Operator) (told : Told) (party : Party) (change : RecordChange) (epoch : ℕ) (jobs : Jobs) → RecordsFit merge party told change epoch jobs → records_epoch told.store.records ≤ epoch
+pub after_epoch : (merge : Operator) (told : Told) (party : Party) (change : RecordChange) (epoch : ℕ) (jobs : Jobs) → RecordsFit merge party told change epoch jobs → records_epoch told.store.records ≤ epoch
 after_epoch merge told party change epoch jobs fits = by change told.store.records (above change fits.unrecorded jobs fits.fits) fits.makes_epoch
   where
     rises : RecordChange → ℕ → Type 0

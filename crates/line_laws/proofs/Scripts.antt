@@ -1,0 +1,171 @@
+-- Scripts keep the invariant: each line does, the rounds of settle lines do, and so do all lines.
+use Rattle.std.proofs.Common.{◌≡◌, refl, sym, ◌∙◌, ap, subst, ℕ, zero, suc, ◌+◌, ◌≤◌, List, [], ◌∷◌, Bool, true, false, Option, Some, None, length, arith}
+use Rattle.std.specs.Prelude.{⊤}
+use Rattle.std.specs.List.{AllByRecursion}
+use Rattle.row_model.specs.Fold.{Operator, IsLawful}
+use Rattle.step_model.specs.Past.{fresh_told}
+use Rattle.step_laws.proofs.Fresh.{fresh_keeps}
+use Rattle.script_model.specs.Script.{Line, Options, Clock, StartCoordinator, StartWorker, KillCoordinator, KillWorker, StopCoordinator, StopWorker, FlushRows, ReadKey, SubmitJob, SubmitDrain, SubmitFull, Poll, CommitOnly, ClaimJobs, Heartbeat, Output, FinishJob, SetFault, ShowTrees, ShowJobs, ShowTables, Dump, Sweep, Scan, Settle, IsInBounds}
+use Rattle.script_model.specs.Replies.{poll_reply, commit_reply}
+use Rattle.script_model.specs.States.{Inputs, State, FleetOptions, fresh_state}
+use Rattle.script_model.specs.LineRuns.{run_line}
+use Rattle.script_model.specs.LineCourses.{prepared, course_of}
+use Rattle.script_model.specs.LineSteps.{MayRefuse, OneCourse}
+use Rattle.script_model.specs.Settles.{is_ok, are_live, has_active, has_added, jobs_run, EndsOr, Step, Finishes, BehindPoll, Rounds}
+use Rattle.script_model.specs.Follows.{SettleStep, LineStep, ScriptRun}
+use Rattle.line_laws.specs.Alone.{HadRoom}
+use Rattle.line_laws.specs.Premises.{StepsKeep}
+use Rattle.line_laws.specs.States.{StateKeeps}
+use Rattle.line_laws.specs.Scripts.{ScriptsKeep}
+use Rattle.line_laws.proofs.AloneRuns.{alone_grows}
+use Rattle.line_laws.proofs.SameLines.{flush_keeps, submit_keeps, full_keeps, sweep_keeps, polls_keep}
+use Rattle.line_laws.proofs.PartyLines.{start_worker_keeps, end_coordinator_keeps, kill_worker_keeps, start_coordinator_keeps}
+use Rattle.line_laws.proofs.WorkerLines.{claim_keeps, heartbeat_keeps, output_keeps, finish_keeps, stop_keeps}
+
+-- ---- one line
+
+-- What a line must see to, of what its bounds say.
+abbrev pub IsAskedWell : Line → Type 0
+IsAskedWell (FlushRows name segment floor tick rows) = IsInBounds (FlushRows name segment floor tick rows)
+IsAskedWell (Output n job place rows) = (1 ≤ place) × (1 ≤ rows)
+IsAskedWell line = ⊤
+
+pub asked_well : (line : Line) → IsInBounds line → IsAskedWell line
+asked_well (FlushRows name segment floor tick rows) is = is
+asked_well (Output n job place rows) is = (is.3, is.5)
+asked_well line is = tt
+
+prepared_keeps : (merge : Operator) (line : Line) (s : State) → StateKeeps merge s → StateKeeps merge (prepared line s)
+prepared_keeps merge (Options timeout concurrent slots ranges table_size moves retention) s k = record { past = k.past; fleet = k.fleet }
+prepared_keeps merge (Clock moment) s k = record { past = k.past; fleet = k.fleet }
+prepared_keeps merge (SetFault n stands) s k = record { past = k.past; fleet = k.fleet }
+prepared_keeps merge line s k = k
+
+course_keeps : (inputs : Inputs) (number : ℕ) (line : Line) (refusal : Option (List ℕ)) (s : State) → IsLawful inputs.merge → StepsKeep → IsAskedWell line → MayRefuse inputs line s refusal → StateKeeps inputs.merge s
+    → HadRoom (run_line number s (course_of inputs line refusal s)).1.store → StateKeeps inputs.merge (run_line number s (course_of inputs line refusal s)).1
+unfolding course_of
+course_keeps inputs number (StartCoordinator n) refusal s lawful steps well may k room = start_coordinator_keeps inputs.merge number n s k lawful steps.starts room
+course_keeps inputs number (StartWorker n release) refusal s lawful steps well may k room = start_worker_keeps inputs.merge number n release s k lawful room
+course_keeps inputs number (KillCoordinator n) refusal s lawful steps well may k room = end_coordinator_keeps inputs.merge number n s k lawful room
+course_keeps inputs number (KillWorker n) refusal s lawful steps well may k room = kill_worker_keeps inputs.merge number n s k lawful room
+course_keeps inputs number (StopCoordinator n) refusal s lawful steps well may k room = end_coordinator_keeps inputs.merge number n s k lawful room
+course_keeps inputs number (StopWorker n) refusal s lawful steps well may k room = stop_keeps inputs.merge number n s k lawful room
+course_keeps inputs number (FlushRows name segment floor tick rows) refusal s lawful steps well may k room = flush_keeps inputs.merge number name segment floor tick rows s k lawful well room
+course_keeps inputs number (SubmitJob segment destination sources) refusal s lawful steps well may k room = submit_keeps inputs.merge number (record { segment = segment; sources = sources; destination = Some destination }) s k lawful room
+course_keeps inputs number (SubmitDrain segment sources) refusal s lawful steps well may k room = submit_keeps inputs.merge number (record { segment = segment; sources = sources; destination = None }) s k lawful room
+course_keeps inputs number (SubmitFull segment) refusal s lawful steps well may k room = full_keeps inputs number segment s k lawful room
+course_keeps inputs number (Poll n) refusal s lawful steps well may k room = polls_keep inputs number false poll_reply n s k lawful steps.polls room
+course_keeps inputs number (CommitOnly n) refusal s lawful steps well may k room = polls_keep inputs number true commit_reply n s k lawful steps.polls room
+course_keeps inputs number (ClaimJobs n) refusal s lawful steps well may k room = claim_keeps inputs.merge number n s k lawful steps.workers room
+course_keeps inputs number (Heartbeat n) refusal s lawful steps well may k room = heartbeat_keeps inputs.merge number n s k lawful steps.workers room
+course_keeps inputs number (Output n job place rows) refusal s lawful steps well may k room = output_keeps inputs number n job place rows refusal s k lawful steps.workers well.0 well.1 room
+course_keeps inputs number (FinishJob n job) refusal s lawful steps well may k room = finish_keeps inputs number n job refusal s k lawful steps.workers may room
+course_keeps inputs number Sweep refusal s lawful steps well may k room = sweep_keeps inputs.merge number s k lawful room
+course_keeps inputs number (Options timeout concurrent slots ranges table_size moves retention) refusal s lawful steps well may k room = record { past = k.past; fleet = k.fleet }
+course_keeps inputs number (Clock moment) refusal s lawful steps well may k room = record { past = k.past; fleet = k.fleet }
+course_keeps inputs number (ReadKey segment key seq now) refusal s lawful steps well may k room = record { past = k.past; fleet = k.fleet }
+course_keeps inputs number (SetFault n stands) refusal s lawful steps well may k room = record { past = k.past; fleet = k.fleet }
+course_keeps inputs number ShowTrees refusal s lawful steps well may k room = record { past = k.past; fleet = k.fleet }
+course_keeps inputs number ShowJobs refusal s lawful steps well may k room = record { past = k.past; fleet = k.fleet }
+course_keeps inputs number (ShowTables segment node) refusal s lawful steps well may k room = record { past = k.past; fleet = k.fleet }
+course_keeps inputs number (Dump segment node) refusal s lawful steps well may k room = record { past = k.past; fleet = k.fleet }
+course_keeps inputs number (Scan segment from to seq now limit) refusal s lawful steps well may k room = record { past = k.past; fleet = k.fleet }
+course_keeps inputs number (Settle coordinator worker rounds) refusal s lawful steps well may k room = record { past = k.past; fleet = k.fleet }
+
+-- ---- what leads to what
+
+-- Histories grow from the one state to the other, and the invariant stays if there was room.
+pub record Leads (merge : Operator) (old new : State) : Type 0 where
+  pub grows : length old.store.history ≤ length new.store.history
+  pub keeps : HadRoom new.store → StateKeeps merge old → StateKeeps merge new
+
+leads_nowhere : (merge : Operator) (old new : State) → new ≡ old → Leads merge old new
+leads_nowhere merge old new same = subst (Leads merge old) (sym same) (record { grows = omega arith; keeps = λ room k. k })
+
+leads_on : (merge : Operator) (old mid new : State) → Leads merge old mid → Leads merge mid new → Leads merge old new
+leads_on merge old mid new first second =
+    let low = first.grows in
+    let high = second.grows in
+    record { grows = omega (arith, low, high); keeps = λ room k. second.keeps room (first.keeps (omega (arith, high, room)) k) }
+
+prepared_history : (line : Line) (s : State) → (prepared line s).store ≡ s.store
+prepared_history (Options timeout concurrent slots ranges table_size moves retention) s = refl
+prepared_history (Clock moment) s = refl
+prepared_history (SetFault n stands) s = refl
+prepared_history line s = refl
+
+pub course_leads : (inputs : Inputs) (number : ℕ) (old : State) (line : Line) (answer : List ℕ) (new : State) → IsLawful inputs.merge → StepsKeep → IsAskedWell line → OneCourse inputs number old line answer new → Leads inputs.merge old new
+course_leads inputs number old line answer new lawful steps well one =
+    let s = prepared line old in
+    let refusal = one.does.refusal in
+    let is : run_line number s (course_of inputs line refusal s) ≡ (answer, new) = ap (run_line number s) (sym one.does.is) ∙ one.ends in
+    let there : (run_line number s (course_of inputs line refusal s)).1 ≡ new = ap (λ (p : List ℕ × State). p.1) is in
+    subst (Leads inputs.merge old) there (record {
+      grows = let c = course_of inputs line refusal s in
+          let on = alone_grows number c.party c.course s.fault s.store in
+          let same = ap (λ store. length (store.history)) (prepared_history line old) in
+          omega (arith, on, same);
+      keeps = λ room k. course_keeps inputs number line refusal s lawful steps well one.does.may (prepared_keeps inputs.merge line old k) room;
+    })
+
+-- ---- settle lines
+
+ends_lead : (merge : Operator) (ok : Bool) (told : List ℕ) (old behind : State) (answer : List ℕ) (new : State) (Rest : Type 0) → Leads merge old behind → (Rest → Leads merge behind new) → EndsOr ok told behind answer new Rest → Leads merge old new
+ends_lead merge true told old behind answer new Rest first next rest = leads_on merge old behind new first (next rest)
+ends_lead merge false told old behind answer new Rest first next rest = leads_on merge old behind new first (leads_nowhere merge behind new rest.1)
+
+step_leads : (inputs : Inputs) (number : ℕ) (line : Line) (old : State) (answer : List ℕ) (new : State) (Rest : State → Type 0) → IsLawful inputs.merge → StepsKeep → IsAskedWell line → ((behind : State) → Rest behind → Leads inputs.merge behind new)
+    → Step inputs number line old answer new Rest → Leads inputs.merge old new
+step_leads inputs number line old answer new Rest lawful steps well next step =
+    ends_lead inputs.merge (is_ok step.told) step.told old step.behind answer new (Rest step.behind) (course_leads inputs number old line step.told step.behind lawful steps well step.does) (next step.behind) step.rest
+
+finishes_lead : (inputs : Inputs) (number worker : ℕ) (jobs : List ℕ) (s : State) (answer : List ℕ) (new : State) (Rest : State → Type 0) → IsLawful inputs.merge → StepsKeep → ((behind : State) → Rest behind → Leads inputs.merge behind new)
+    → Finishes inputs number worker jobs s answer new Rest → Leads inputs.merge s new
+finishes_lead inputs number worker [] s answer new Rest lawful steps next rest = next s rest
+finishes_lead inputs number worker (job ∷ jobs) s answer new Rest lawful steps next step =
+    step_leads inputs number (FinishJob worker job) s answer new (λ behind. Finishes inputs number worker jobs behind answer new Rest) lawful steps tt
+    (λ behind rest. finishes_lead inputs number worker jobs behind answer new Rest lawful steps next rest) step
+
+behind_poll_leads : (active added : Bool) (inputs : Inputs) (number worker round : ℕ) (s : State) (answer : List ℕ) (new : State) (Next : State → Type 0) → IsLawful inputs.merge → StepsKeep → ((behind : State) → Next behind → Leads inputs.merge behind new)
+    → BehindPoll active added inputs number worker round s answer new Next → Leads inputs.merge s new
+behind_poll_leads true added inputs number worker round s answer new Next lawful steps next step =
+    step_leads inputs number (ClaimJobs worker) s answer new (λ claimed. Finishes inputs number worker (jobs_run worker claimed) claimed answer new Next) lawful steps tt
+    (λ claimed rest. finishes_lead inputs number worker (jobs_run worker claimed) claimed answer new Next lawful steps next rest) step
+behind_poll_leads false true inputs number worker round s answer new Next lawful steps next rest = next s rest
+behind_poll_leads false false inputs number worker round s answer new Next lawful steps next rest = leads_nowhere inputs.merge s new rest.1
+
+rounds_lead : (inputs : Inputs) (number coordinator worker left taken : ℕ) (s : State) (answer : List ℕ) (new : State) → IsLawful inputs.merge → StepsKeep → Rounds inputs number coordinator worker left taken s answer new → Leads inputs.merge s new
+rounds_lead inputs number coordinator worker zero taken s answer new lawful steps rest = leads_nowhere inputs.merge s new rest.1
+rounds_lead inputs number coordinator worker (suc left) taken s answer new lawful steps step =
+    step_leads inputs number (Poll coordinator) s answer new
+    (λ behind. BehindPoll (has_active behind) (has_added coordinator behind) inputs number worker (taken + 1) behind answer new (λ next. Rounds inputs number coordinator worker left (taken + 1) next answer new)) lawful steps tt
+    (λ behind rest.
+    behind_poll_leads (has_active behind) (has_added coordinator behind) inputs number worker (taken + 1) behind answer new (λ next. Rounds inputs number coordinator worker left (taken + 1) next answer new) lawful steps
+    (λ next more. rounds_lead inputs number coordinator worker left (taken + 1) next answer new lawful steps more) rest) step
+
+settle_leads : (live : Bool) (inputs : Inputs) (number : ℕ) (old : State) (coordinator worker rounds : ℕ) (answer : List ℕ) (new : State) → IsLawful inputs.merge → StepsKeep → SettleStep live inputs number old coordinator worker rounds answer new
+    → Leads inputs.merge old new
+settle_leads true inputs number old coordinator worker rounds answer new lawful steps step = rounds_lead inputs number coordinator worker rounds 0 old answer new lawful steps step
+settle_leads false inputs number old coordinator worker rounds answer new lawful steps step = course_leads inputs number old (Settle coordinator worker rounds) answer new lawful steps tt step
+
+-- ---- lines
+
+pub line_leads : (inputs : Inputs) (number : ℕ) (old : State) (line : Line) (answer : List ℕ) (new : State) → IsLawful inputs.merge → StepsKeep → IsInBounds line → LineStep inputs number old line answer new → Leads inputs.merge old new
+line_leads inputs number old (Settle coordinator worker rounds) answer new lawful steps is step = settle_leads (are_live coordinator worker old) inputs number old coordinator worker rounds answer new lawful steps step
+line_leads inputs number old line answer new lawful steps is step = course_leads inputs number old line answer new lawful steps (asked_well line is) step
+
+pub run_leads : (inputs : Inputs) (number : ℕ) (old : State) (lines : List Line) (answers : List (List ℕ)) (new : State) → IsLawful inputs.merge → StepsKeep → AllByRecursion IsInBounds lines → ScriptRun inputs number old lines answers new → Leads inputs.merge old new
+run_leads inputs number old [] [] new lawful steps is run = leads_nowhere inputs.merge old new run
+run_leads inputs number old (line ∷ lines) (answer ∷ answers) new lawful steps is (mid, step, rest) =
+    leads_on inputs.merge old mid new (line_leads inputs number old line answer mid lawful steps is.0 step) (run_leads inputs (number + 1) mid lines answers new lawful steps is.1 rest)
+run_leads inputs number old [] (answer ∷ answers) new lawful steps is run = absurd run
+run_leads inputs number old (line ∷ lines) [] new lawful steps is run = absurd run
+
+fresh_state_keeps : (merge : Operator) (options : FleetOptions) → StateKeeps merge (fresh_state options)
+fresh_state_keeps merge options = record {
+  past = fresh_told.past;
+  fleet = record { store = fresh_keeps merge; workers = tt; coordinators = tt; workers_differ = tt; coordinators_differ = tt; none_pending = λ table. refl };
+}
+
+pub scripts_keep : ScriptsKeep
+scripts_keep inputs lines last steps run = (run_leads inputs 1 (fresh_state run.options) lines run.answers last run.lawful steps run.in_bounds run.run).keeps run.had_room (fresh_state_keeps inputs.merge run.options)
