@@ -58,7 +58,7 @@ state_met who w start a pairs old new r s rivals = record {
   made = all_to _ _ pairs (λ p there h. (rivals_keep_free who old new w.number p.0 r.keep r.own s.kept rivals h.0, rows_met who w p.0 p.1 old new r s.kept rivals h.1)) s.made;
 }
 
-state_drawn : (who : Caller) (w : LiveWorker) (start : Told) (a : Attempt) (pairs : List (ℕ × List Row)) (moment : ℕ) (told : Told) → Relies who w → DrawFits told.store → State who w start a pairs told
+pub state_drawn : (who : Caller) (w : LiveWorker) (start : Told) (a : Attempt) (pairs : List (ℕ × List Row)) (moment : ℕ) (told : Told) → Relies who w → DrawFits told.store → State who w start a pairs told
     → State who w start a pairs (told_by who.line who.party (DrawsTable moment) None told)
 state_drawn who w start a pairs moment told r room s = record {
   kept = behind who (DrawsTable moment) told r.keep s.kept room;
@@ -67,7 +67,7 @@ state_drawn who w start a pairs moment told r room s = record {
   made = all_to _ _ pairs (λ p there h. (free_behind_draw who.line who.party moment told p.0 h.0, call_rows who.line who.party (DrawsTable moment) None told.store p.0 p.1 refl h.1)) s.made;
 }
 
-state_put : (who : Caller) (w : LiveWorker) (start : Told) (a : Attempt) (pairs : List (ℕ × List Row)) (table : ℕ) (rows : List Row) (told : Told) → Relies who w → IsUnput who.party told table → TableFits who.party told.store table rows
+pub state_put : (who : Caller) (w : LiveWorker) (start : Told) (a : Attempt) (pairs : List (ℕ × List Row)) (table : ℕ) (rows : List Row) (told : Told) → Relies who w → IsUnput who.party told table → TableFits who.party told.store table rows
     → State who w start a pairs told → State who w start a (pairs ++ (table, rows) ∷ []) (told_by who.line who.party (PutsTable table rows) None told)
 state_put who w start a pairs table rows told r unput fits s = record {
   kept = behind who (PutsTable table rows) told r.keep s.kept fits;

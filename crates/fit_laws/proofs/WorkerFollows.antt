@@ -50,21 +50,21 @@ pub record Follows (old new : Told) (w : LiveWorker) : Type 0 where
 abbrev pub RowsStay : Tables → Tables → Type 0
 RowsStay old new = (id : ℕ) → IsTrue (is_among old id) → table_rows new id ≡ table_rows old id
 
-flat_rows : (old new : Tables) (ids : List ℕ) → RowsStay old new → AllByRecursion (λ id. IsTrue (is_among old id)) ids → flat_map (table_rows new) ids ≡ flat_map (table_rows old) ids
+pub flat_rows : (old new : Tables) (ids : List ℕ) → RowsStay old new → AllByRecursion (λ id. IsTrue (is_among old id)) ids → flat_map (table_rows new) ids ≡ flat_map (table_rows old) ids
 flat_rows old new [] stay put = refl
 flat_rows old new (id ∷ ids) stay put =
     let first = stay id put.0 in
     let rest = flat_rows old new ids stay put.1 in
     λ i. first i ++ rest i
 
-map_rows : (old new : Tables) (ids : List ℕ) → RowsStay old new → AllByRecursion (λ id. IsTrue (is_among old id)) ids → map (table_rows new) ids ≡ map (table_rows old) ids
+pub map_rows : (old new : Tables) (ids : List ℕ) → RowsStay old new → AllByRecursion (λ id. IsTrue (is_among old id)) ids → map (table_rows new) ids ≡ map (table_rows old) ids
 map_rows old new [] stay put = refl
 map_rows old new (id ∷ ids) stay put =
     let first = stay id put.0 in
     let rest = map_rows old new ids stay put.1 in
     λ i. first i ∷ rest i
 
-tables_stay : (merge : Operator) (old new : Tables) (sources : List ℕ) (context : Context) → RowsStay old new → AllByRecursion (λ id. IsTrue (is_among old id)) sources → AllByRecursion (λ id. IsTrue (is_among old id)) (context_tables (Some context))
+pub tables_stay : (merge : Operator) (old new : Tables) (sources : List ℕ) (context : Context) → RowsStay old new → AllByRecursion (λ id. IsTrue (is_among old id)) sources → AllByRecursion (λ id. IsTrue (is_among old id)) (context_tables (Some context))
     → TablesFit merge old sources context → TablesFit merge new sources context
 tables_stay merge old new sources context stay put noted fits = all_to _ _ context.ranges (λ range there one. still range (all_at _ context.ranges range each there) one) fits
   where
@@ -93,7 +93,7 @@ from_filter {A} p (y ∷ xs) x there = by (p y) refl (from_filter p xs x) there
     by false e rest there = later (rest there)
 
 -- A relation between every two of some elements holds between every two of fewer.
-fewer_pairs : {A : Type 0} (R : A → A → Type 0) (p q : A → Bool) (xs : List A) → ((x : A) → IsIn x xs → q x ≡ true → p x ≡ true) → Pairs R (filter p xs) → Pairs R (filter q xs)
+pub fewer_pairs : {A : Type 0} (R : A → A → Type 0) (p q : A → Bool) (xs : List A) → ((x : A) → IsIn x xs → q x ≡ true → p x ≡ true) → Pairs R (filter p xs) → Pairs R (filter q xs)
 fewer_pairs R p q [] h pairs = tt
 fewer_pairs {A} R p q (x ∷ xs) h pairs = by (p x) refl (q x) refl (λ rest. fewer_pairs R p q xs (λ y there. h y (inr there)) rest) pairs
   where
@@ -137,10 +137,10 @@ still_live old new w a f there held live = by (job_with a.job (stored_jobs new.s
 -- ---- the fit
 
 -- The stored job of a live attempt is Running.
-runs_running : (w : LiveWorker) (a : Attempt) (job : Job) → IsTrue (runs_attempt w.number a.number (Some job)) → IsTrue (has_status Running job)
+pub runs_running : (w : LiveWorker) (a : Attempt) (job : Job) → IsTrue (runs_attempt w.number a.number (Some job)) → IsTrue (has_status Running job)
 runs_running w a job runs = first_of (has_status Running job) (is_leased_to w.number job.lease) (a.number == job.attempt) runs
 
-runs_number : (w : LiveWorker) (a : Attempt) (job : Job) → IsTrue (runs_attempt w.number a.number (Some job)) → a.number ≡ job.attempt
+pub runs_number : (w : LiveWorker) (a : Attempt) (job : Job) → IsTrue (runs_attempt w.number a.number (Some job)) → a.number ≡ job.attempt
 runs_number w a job runs = (Decides-eqb a.number job.attempt).0 (last_of (has_status Running job) (is_leased_to w.number job.lease) (a.number == job.attempt) runs)
 
 pub holds_after : (merge : Operator) (old new : Told) (w : LiveWorker) (some : ℕ → JobSpec) → Faithful old some → Follows old new w → WorkerHolds merge old w → WorkerHolds merge new w

@@ -1,0 +1,255 @@
+-- A worker's own call keeps what it holds.
+use Rattle.std.proofs.Common.{◌≡◌, refl, sym, ◌∙◌, ap, subst, ℕ, ◌+◌, ◌≤◌, List, [], ◌∷◌, ◌++◌, cond, Bool, true, false, inl, inr, Option, Some, None, length, arith}
+use Rattle.std.specs.Prelude.{IsTrue, IfSome, ◌==◌, ◌&&◌, is_none, if◌then◌else◌}
+use Rattle.std.specs.List.{AllByRecursion, concat}
+use Rattle.std.proofs.lemmas.Bool.Decides.{Decides-eqb}
+use Rattle.row_model.specs.Rows.{Row}
+use Rattle.row_model.specs.Fold.{Operator}
+use Rattle.fleet_model.specs.Jobs.{Job, Jobs, Status, Submitted, Scheduled, Running, Compacted, Completed, Failed, status_eq, has_status, is_finished, is_active, contains, changed, trimmed, job_with}
+use Rattle.fleet_model.specs.History.{Party, Worker, Event, GetManifest, GetRecords, GetTable, Plan, Start, Kill, ListTables, DrawJob, PutRecords, RecordChange, RecordsEpoch, Submit, Claim, Beat, Finish, Release, Polled, Done, Conflict, Answer, Entry, stood}
+use Rattle.fleet_model.specs.Handles.{job_tables, context_tables}
+use Rattle.fleet_model.specs.Store.{Records, stored_jobs}
+use Rattle.fleet_model.specs.Records.{Unrecorded, firsts, claimed_by, beaten_by, finished_by, to_waiting, jobs_after}
+use Rattle.fleet_model.specs.Parties.{Attempt, LiveWorker, attempt_jobs, is_live, is_leased_to, live_attempts, runs_attempt}
+use Rattle.fleet_model.specs.Claims.{is_waiting}
+use Rattle.fleet_model.specs.Claimed.{beaten_in, if_earlier, origin}
+use Rattle.fleet_model.specs.Exchanges.{Exchange, Plain, DrawsJob, DrawsTable, PutsTable, PutsManifest, PutsRecords, ListsTables, DeletesTable, records_version, logged, event_of, next_job_id}
+use Rattle.step_model.specs.Past.{Told, told_after}
+use Rattle.step_model.specs.LawfulTables.{PlainFits}
+use Rattle.step_model.specs.LawfulRecords.{ChangeFits, RecordsFit, OfSome, IsLiveAt, Publishes}
+use Rattle.step_model.specs.TablesKept.{AreApart}
+use Rattle.step_model.specs.Rivals.{told_by}
+use Rattle.step_model.specs.Keeps.{Keeps}
+use Rattle.step_model.specs.Fits.{AttemptHeld, WorkerHolds, noted_tables}
+use Rattle.step_laws.proofs.Elements.{IsIn, all_at, all_to, contains_in, in_contains}
+use Rattle.step_laws.proofs.Deletions.{in_filter}
+use Rattle.step_laws.proofs.OwnTables.{apart_at}
+use Rattle.step_laws.proofs.Mute.{IsMute, mute_event}
+use Rattle.step_laws.proofs.Told.{beaten_stays}
+use Rattle.step_laws.proofs.Beaten.{attempt_named}
+use Rattle.step_laws.proofs.Quiet.{told_entered}
+use Rattle.step_laws.proofs.Bodies.{Body, whole_of}
+use Rattle.step_laws.proofs.TableBodies.{active_if_open}
+use Rattle.step_laws.proofs.RecordsBodies.{with_records, told_with_records}
+use Rattle.step_laws.proofs.Changed.{found_job, job_found}
+use Rattle.step_laws.proofs.WorkerPuts.{stored_as, stored_to, each_named, live_open, live_attempt}
+use Rattle.fit_laws.proofs.AttemptFacts.{claimed_up_to, origin_kept}
+use Rattle.course_laws.proofs.Calls.{in_map}
+use Rattle.course_laws.proofs.OwnCalls.{holds_entered, holds_refused}
+use Rattle.course_laws.proofs.Written.{holds_put, holds_drawn}
+use Rattle.after_laws.specs.OwnCalls.{SparesOwn, IsOwnCall, OwnCallsKeep}
+use Rattle.after_laws.proofs.OwnPuts.{LeftAs, OwnPut, left_records, holds_own}
+
+-- ---- entries
+
+entry_holds : (merge : Operator) (line : ℕ) (party : Party) (told : Told) (w : LiveWorker) (jobs_drawn : ℕ) (event : Event) (answer : Answer) → IsMute (stood answer) event → WorkerHolds merge told w
+    → WorkerHolds merge (told_after told (record told.store { jobs_drawn = jobs_drawn; history = told.store.history ++ record { line = line; party = party; event = event; answer = answer } ∷ [] })) w
+entry_holds merge line party told w jobs_drawn event answer mute h =
+    let entry : Entry = record { line = line; party = party; event = event; answer = answer } in
+    subst (λ (t : Told). WorkerHolds merge t w) (sym (told_entered told told.store.deleted jobs_drawn told.store.tables_drawn entry)) (holds_entered merge told w jobs_drawn told.store.tables_drawn entry mute.quiet h)
+
+plain_holds : (merge : Operator) (line : ℕ) (party : Party) (told : Told) (w : LiveWorker) (event : Event) (answer : Answer) → PlainFits party told.store event → WorkerHolds merge told w → WorkerHolds merge (told_after told (logged line party event answer told.store)) w
+plain_holds merge line party told w GetManifest answer fits h = entry_holds merge line party told w told.store.jobs_drawn GetManifest answer (mute_event (stood answer) GetManifest refl) h
+plain_holds merge line party told w GetRecords answer fits h = entry_holds merge line party told w told.store.jobs_drawn GetRecords answer (mute_event (stood answer) GetRecords refl) h
+plain_holds merge line party told w (GetTable table) answer fits h = entry_holds merge line party told w told.store.jobs_drawn (GetTable table) answer (mute_event (stood answer) (GetTable table) refl) h
+plain_holds merge line party told w (Plan job attempt ranges) answer fits h = entry_holds merge line party told w told.store.jobs_drawn (Plan job attempt ranges) answer (mute_event (stood answer) (Plan job attempt ranges) refl) h
+plain_holds merge line party told w (Start other) answer fits h = entry_holds merge line party told w told.store.jobs_drawn (Start other) answer (mute_event (stood answer) (Start other) refl) h
+plain_holds merge line party told w (Kill other) answer fits h = entry_holds merge line party told w told.store.jobs_drawn (Kill other) answer (mute_event (stood answer) (Kill other) refl) h
+plain_holds merge line party told w event answer fits h = absurd fits
+
+-- ---- changes that are no heartbeats
+
+refused : (b : Bool) → b ≡ false → IsTrue b → ⊥
+refused true e h = absurd (cc e)
+refused false e h = absurd (cc h)
+
+same_worker : (n m : ℕ) (party : Party) → party ≡ Worker n → party ≡ Worker m → m ≡ n
+same_worker n m party own by = cc (sym own ∙ by)
+
+-- The entry says nothing of heartbeats, so origins stay.
+quiet_origin : (told : Told) (entry : Entry) (a : Attempt) → (if stood entry.answer then beaten_in a.job entry.event else None) ≡ None → origin told.store.history a.job a.number ≡ origin (told.store.history ++ entry ∷ []) a.job a.number
+quiet_origin told entry a quiet = sym (ap (if_earlier a.number) (beaten_stays a.job told.store.history entry quiet))
+
+waiting_active : (s : Status) (free : Bool) → IsTrue (status_eq Scheduled s && free) → IsTrue (cond (is_finished s) false true)
+waiting_active Scheduled free h = refl
+waiting_active Running free h = refl
+waiting_active Submitted free h = refl
+waiting_active Compacted free h = refl
+waiting_active Completed free h = absurd (cc h)
+waiting_active Failed free h = absurd (cc h)
+
+record InFirsts (id : ℕ) (attempts : List (ℕ × ℕ)) : Type 0 where
+  number : ℕ
+  there : IsIn (id, number) attempts
+
+in_firsts : (id : ℕ) (attempts : List (ℕ × ℕ)) → IsIn id (firsts attempts) → InFirsts id attempts
+in_firsts id [] there = absurd there
+in_firsts id (a ∷ attempts) (inl same) = record { number = a.1; there = inl (λ i. (same i, a.1)) }
+in_firsts id (a ∷ attempts) (inr there) = let found = in_firsts id attempts there in record { number = found.number; there = inr found.there }
+
+-- The entry of the worker's put.
+abbrev pub own_entry : ℕ → Party → Told → RecordChange → Entry
+own_entry line party told change = record { line = line; party = party; event = PutRecords change; answer = Done (records_version told.store.records + 1) }
+
+claim_spares : (merge : Operator) (line : ℕ) (party : Party) (told : Told) (w : LiveWorker) (u : Unrecorded) (worker : ℕ) (attempts : List (ℕ × ℕ)) (jobs : Jobs) → Keeps merge told → ChangeFits merge party told u jobs (Claim worker attempts)
+    → SparesOwn told w jobs (Claim worker attempts) → OwnPut told w (claimed_by worker u.moment) (firsts attempts) (own_entry line party told (Claim worker attempts))
+claim_spares merge line party told w u worker attempts jobs k fits spares = record {
+  ids = λ job. refl;
+  specs = λ job. refl;
+  sources = λ job. refl;
+  origins = λ a there held. quiet_origin told (own_entry line party told (Claim worker attempts)) a refl;
+  named = λ a there was one id has now runs. absurd (runs_none a there (subst (λ n. IsTrue (contains (firsts attempts) n)) id has));
+  others = λ a there live lacks old one has active t noted named. (waits old one has, named);
+}
+  where
+    runs_none : (a : Attempt) → IsIn a w.attempts → IsTrue (contains (firsts attempts) a.job) → ⊥
+    runs_none a there has =
+        let found = in_firsts a.job attempts (contains_in (firsts attempts) a.job has) in
+        refused (contains (attempt_jobs w.attempts) a.job) (all_at (λ p. contains (attempt_jobs w.attempts) p.0 ≡ false) attempts (a.job, found.number) spares found.there)
+        (in_contains (attempt_jobs w.attempts) a.job (in_map (λ (x : Attempt). x.job) w.attempts a there))
+
+    waits : (old : Job) → IsIn old (stored_jobs told.store) → IsTrue (contains (firsts attempts) old.id) → IsTrue (is_active old)
+    waits old one has =
+        let is = each_named told k.stored.replay.specs merge (λ job. IsTrue (is_waiting job)) attempts (whole_of merge told k).body (all_to _ _ attempts (λ a there h. stored_to told (λ job. IsTrue (is_waiting job) × (a.1 ≡ job.attempt + 1)) (λ job. IsTrue (is_waiting job)) a.0 (λ job one. one.0) h) fits.each) old one has in
+        waiting_active old.status (is_none old.lease) is
+
+release_spares : (merge : Operator) (line : ℕ) (party : Party) (told : Told) (w : LiveWorker) (u : Unrecorded) (worker : ℕ) (attempts : List (ℕ × ℕ)) (jobs : Jobs) → Keeps merge told → ChangeFits merge party told u jobs (Release worker attempts)
+    → OwnPut told w to_waiting (firsts attempts) (own_entry line party told (Release worker attempts))
+release_spares merge line party told w u worker attempts jobs k fits = record {
+  ids = λ job. refl;
+  specs = λ job. refl;
+  sources = λ job. refl;
+  origins = λ a there held. quiet_origin told (own_entry line party told (Release worker attempts)) a refl;
+  named = λ a there was one id has now runs. absurd (cc runs);
+  others = λ a there live lacks old one has active t noted named. (runs old one has, named);
+}
+  where
+    -- The job is live at some attempt of the worker.
+    AtSome : Job → Type 0
+    AtSome job = (n : ℕ) × IsLiveAt worker n job
+
+    runs : (old : Job) → IsIn old (stored_jobs told.store) → IsTrue (contains (firsts attempts) old.id) → IsTrue (is_active old)
+    runs old one has =
+        let is = each_named told k.stored.replay.specs merge AtSome attempts (whole_of merge told k).body (all_to _ _ attempts (λ a there h. stored_to told (IsLiveAt worker a.1) AtSome a.0 (λ job one. (a.1, one)) h) fits.each) old one has in
+        active_if_open old (live_open worker is.0 old is.1)
+
+finish_spares : (merge : Operator) (line : ℕ) (party : Party) (told : Told) (w : LiveWorker) (u : Unrecorded) (worker id attempt : ℕ) (outputs : List (List ℕ)) (jobs : Jobs) → SparesOwn told w jobs (Finish worker id attempt outputs)
+    → OwnPut told w (finished_by worker u outputs) (id ∷ []) (own_entry line party told (Finish worker id attempt outputs))
+finish_spares merge line party told w u worker id attempt outputs jobs spares = record {
+  ids = λ job. refl;
+  specs = λ job. refl;
+  sources = λ job. refl;
+  origins = λ a there held. quiet_origin told (own_entry line party told (Finish worker id attempt outputs)) a refl;
+  named = λ a there was one same has now runs. absurd (cc runs);
+  others = λ a there live lacks old one has active t noted named.
+      absurd (apart_at (concat outputs) (noted_tables a) t (all_at _ (live_attempts (stored_jobs told.store) w) a spares (in_filter (is_live (stored_jobs told.store) w.number) w.attempts a there live)
+      (λ same. refused (contains (id ∷ []) a.job) lacks (in_contains (id ∷ []) a.job (inl same)))) named noted);
+}
+
+-- ---- a heartbeat
+
+beat_spares : (merge : Operator) (line : ℕ) (party : Party) (told : Told) (w : LiveWorker) (u : Unrecorded) (worker : ℕ) (attempts : List (ℕ × ℕ)) → Keeps merge told → party ≡ Worker w.number
+    → ChangeFits merge party told u (jobs_after u (Beat worker attempts) (stored_jobs told.store)) (Beat worker attempts)
+    → SparesOwn told w (jobs_after u (Beat worker attempts) (stored_jobs told.store)) (Beat worker attempts) → OwnPut told w (beaten_by worker u) (firsts attempts) (own_entry line party told (Beat worker attempts))
+beat_spares merge line party told w u worker attempts k own fits spares = record {
+  ids = λ job. refl;
+  specs = λ job. refl;
+  sources = λ job. refl;
+  origins = λ a there held. origin_kept told.store.history (own_entry line party told (Beat worker attempts)) a.job a.number (λ n e. later a held n (attempt_named a.job n attempts e));
+  named = λ a there was one id has now runs. left a there was one id has now runs;
+  others = λ a there live lacks old one has active t noted named. absurd (refused (contains (firsts attempts) a.job) lacks (spared a there live).0);
+}
+  where
+    spared : (a : Attempt) → IsIn a w.attempts → is_live (stored_jobs told.store) w.number a ≡ true → IsTrue (contains (firsts attempts) a.job) × OfSome (λ job. job.context ≡ Some a.context) (job_with a.job (jobs_after u (Beat worker attempts) (stored_jobs told.store)))
+    spared a there live = all_at _ (live_attempts (stored_jobs told.store) w) a spares (in_filter (is_live (stored_jobs told.store) w.number) w.attempts a there live)
+
+    later : (a : Attempt) → AttemptHeld told w.number a → (n : ℕ) → IsIn (a.job, n) attempts → a.number ≤ n
+    later a held n there =
+        let found = stored_as told (λ job. IsLiveAt worker n job × OfSome (Publishes merge party told job) (u.published a.job)) a.job (all_at _ attempts (a.job, n) fits.each there) in
+        let same = live_attempt worker n found.job found.so.0 in
+        let low : a.number ≤ found.job.attempt = subst (λ o. IfSome o (λ (j : Job). a.number ≤ j.attempt)) found.stored (claimed_up_to merge told k.stored.replay.specs (whole_of merge told k).body w.number a.job a.number held.claimed).1 in
+        omega (arith, low, same)
+
+    -- The job is leased to the worker.
+    IsLeased : Job → Type 0
+    IsLeased job = IsTrue (is_leased_to w.number job.lease)
+
+    leased : (was : Job) → IsIn was (stored_jobs told.store) → IsTrue (contains (firsts attempts) was.id) → IsLeased was
+    leased was one has = each_named told k.stored.replay.specs merge IsLeased attempts (whole_of merge told k).body (all_to _ _ attempts (λ a there h. stored_to told (λ job. IsLiveAt worker a.1 job × OfSome (Publishes merge party told job) (u.published a.0)) IsLeased a.0
+        (λ job one. subst (λ m. IsTrue (is_leased_to m job.lease)) (same_worker w.number worker party own fits.by) (second (has_status Running job) (is_leased_to worker job.lease) (a.1 == job.attempt) one.0)) h) fits.each) was one has
+      where
+        second : (a b c : Bool) → IsTrue (a && b && c) → IsTrue b
+        second true true c h = refl
+        second true false c h = absurd (cc h)
+        second false b c h = absurd (cc h)
+
+    left : (a : Attempt) → IsIn a w.attempts → (was : Job) → IsIn was (stored_jobs told.store) → was.id ≡ a.job → IsTrue (contains (firsts attempts) was.id)
+        → job_with a.job (trimmed (changed (beaten_by worker u) (firsts attempts) (stored_jobs told.store))) ≡ Some (beaten_by worker u was) → IsTrue (runs_attempt w.number a.number (Some (beaten_by worker u was))) → LeftAs w.number a was (beaten_by worker u was)
+    left a there was one id has now runs =
+        let run = again (has_status Running was) (is_leased_to w.number (beaten_by worker u was).lease) (is_leased_to w.number was.lease) (a.number == was.attempt) runs (leased was one has) in
+        let stored = subst (λ n. job_with n (stored_jobs told.store) ≡ Some was) id (found_job (stored_jobs told.store) was (whole_of merge told k).body.sound.job_ids one) in
+        record {
+          runs = run;
+          attempt = refl;
+          context = subst (OfSome (λ job. job.context ≡ Some a.context)) now (spared a there (ap (runs_attempt w.number a.number) stored ∙ run)).1;
+        }
+      where
+        again : (a b c d : Bool) → IsTrue (a && b && d) → IsTrue c → IsTrue (a && c && d)
+        again true true true d h k = h
+        again true true false d h k = absurd (cc k)
+        again true false c d h k = absurd (cc h)
+        again false b c d h k = absurd (cc h)
+
+-- ---- puts of the records
+
+pub put_told : (line : ℕ) (party : Party) (told : Told) (version : ℕ) (change : RecordChange) (epoch : ℕ) (jobs : Jobs) → (version == records_version told.store.records) ≡ true
+    → told_by line party (PutsRecords version change epoch jobs) None told ≡ with_records told (record { version = version + 1; epoch = epoch; jobs = jobs }) (own_entry line party told change)
+put_told line party told version change epoch jobs e = by (version == records_version told.store.records) e
+  where
+    by : (b : Bool) → b ≡ true
+        → told_after told (logged line party (PutRecords change) (cond b (Done (records_version told.store.records + 1)) (Conflict (records_version told.store.records))) (cond b (record told.store { records = Some (record { version = version + 1; epoch = epoch; jobs = jobs }) }) told.store))
+        ≡ with_records told (record { version = version + 1; epoch = epoch; jobs = jobs }) (own_entry line party told change)
+    by true e = told_with_records told (record { version = version + 1; epoch = epoch; jobs = jobs }) (own_entry line party told change)
+    by false e = absurd (cc e)
+
+change_holds : (merge : Operator) (line : ℕ) (party : Party) (told : Told) (w : LiveWorker) (version : ℕ) (change : RecordChange) (epoch : ℕ) (jobs : Jobs) (u : Unrecorded) → Keeps merge told → party ≡ Worker w.number
+    → ChangeFits merge party told u (jobs_after u change (stored_jobs told.store)) change → SparesOwn told w (jobs_after u change (stored_jobs told.store)) change → WorkerHolds merge told w
+    → WorkerHolds merge (with_records told (record { version = version; epoch = epoch; jobs = jobs_after u change (stored_jobs told.store) }) (own_entry line party told change)) w
+change_holds merge line party told w version (Claim worker attempts) epoch jobs u k own fits spares h =
+    holds_own merge told w (claimed_by worker u.moment) (firsts attempts) (own_entry line party told (Claim worker attempts)) version epoch k.stored.replay.specs (whole_of merge told k).body
+    (claim_spares merge line party told w u worker attempts (jobs_after u (Claim worker attempts) (stored_jobs told.store)) k fits spares) h
+change_holds merge line party told w version (Beat worker attempts) epoch jobs u k own fits spares h =
+    holds_own merge told w (beaten_by worker u) (firsts attempts) (own_entry line party told (Beat worker attempts)) version epoch k.stored.replay.specs (whole_of merge told k).body (beat_spares merge line party told w u worker attempts k own fits spares) h
+change_holds merge line party told w version (Finish worker id attempt outputs) epoch jobs u k own fits spares h =
+    holds_own merge told w (finished_by worker u outputs) (id ∷ []) (own_entry line party told (Finish worker id attempt outputs)) version epoch k.stored.replay.specs (whole_of merge told k).body
+    (finish_spares merge line party told w u worker id attempt outputs (jobs_after u (Finish worker id attempt outputs) (stored_jobs told.store)) spares) h
+change_holds merge line party told w version (Release worker attempts) epoch jobs u k own fits spares h =
+    holds_own merge told w to_waiting (firsts attempts) (own_entry line party told (Release worker attempts)) version epoch k.stored.replay.specs (whole_of merge told k).body
+    (release_spares merge line party told w u worker attempts (jobs_after u (Release worker attempts) (stored_jobs told.store)) k fits) h
+change_holds merge line party told w version (RecordsEpoch other) epoch jobs u k own fits spares h = absurd spares
+change_holds merge line party told w version (Submit named) epoch jobs u k own fits spares h = absurd spares
+change_holds merge line party told w version (Polled change) epoch jobs u k own fits spares h = absurd spares
+
+records_hold : (merge : Operator) (line : ℕ) (party : Party) (told : Told) (w : LiveWorker) (version : ℕ) (change : RecordChange) (epoch : ℕ) (jobs : Jobs) → Keeps merge told → party ≡ Worker w.number
+    → (version == records_version told.store.records) ≡ true → RecordsFit merge party told change epoch jobs → SparesOwn told w jobs change → WorkerHolds merge told w → WorkerHolds merge (told_by line party (PutsRecords version change epoch jobs) None told) w
+records_hold merge line party told w version change epoch jobs k own e fits spares h =
+    subst (λ (t : Told). WorkerHolds merge t w) (sym (put_told line party told version change epoch jobs e))
+    (subst (λ js. WorkerHolds merge (with_records told (record { version = version + 1; epoch = epoch; jobs = js }) (own_entry line party told change)) w) (sym fits.makes_jobs)
+    (change_holds merge line party told w (version + 1) change epoch jobs fits.unrecorded k own (subst (λ js. ChangeFits merge party told fits.unrecorded js change) fits.makes_jobs fits.fits) (subst (λ js. SparesOwn told w js change) fits.makes_jobs spares) h))
+
+-- ---- all calls
+
+pub own_calls_keep : (merge : Operator) → OwnCallsKeep merge
+own_calls_keep merge (Plain event) line party told w k own lawful is h = plain_holds merge line party told w event _ lawful h
+own_calls_keep merge (DrawsJob moment) line party told w k own lawful is h =
+    entry_holds merge line party told w (told.store.jobs_drawn + 1) (DrawJob (next_job_id moment told.store)) (Done 0) (mute_event true (DrawJob (next_job_id moment told.store)) refl) h
+own_calls_keep merge (DrawsTable moment) line party told w k own lawful is h = holds_drawn merge line party moment told w h
+own_calls_keep merge (PutsTable table rows) line party told w k own lawful is h = holds_put merge line party table rows told w k h
+own_calls_keep merge ListsTables line party told w k own lawful is h = entry_holds merge line party told w told.store.jobs_drawn (event_of ListsTables told.store) (Done 0) (mute_event true (event_of ListsTables told.store) refl) h
+own_calls_keep merge (PutsManifest version change value) line party told w k own lawful is h = absurd is
+own_calls_keep merge (DeletesTable table) line party told w k own lawful is h = absurd is
+own_calls_keep merge (PutsRecords version change epoch jobs) line party told w k own lawful is h = by (version == records_version told.store.records) refl
+  where
+    by : (b : Bool) → (version == records_version told.store.records) ≡ b → WorkerHolds merge (told_by line party (PutsRecords version change epoch jobs) None told) w
+    by true e = let same = (Decides-eqb version (records_version told.store.records)).0 e in records_hold merge line party told w version change epoch jobs k own e (lawful.1 same) (is same) h
+    by false e = holds_refused merge line party told w version change epoch jobs e h

@@ -1,0 +1,33 @@
+-- The law on heartbeats.
+use Rattle.std.specs.Prelude.{◌≡◌, IsTrue, ℕ, List, Some}
+use Rattle.std.specs.List.{AllByRecursion}
+use Rattle.fleet_model.specs.Jobs.{job_with}
+use Rattle.fleet_model.specs.History.{Worker}
+use Rattle.fleet_model.specs.Store.{stored_jobs}
+use Rattle.fleet_model.specs.Parties.{Attempt, LiveWorker, runs_attempt}
+use Rattle.step_model.specs.Past.{Told}
+use Rattle.step_model.specs.Rivals.{Caller}
+use Rattle.step_model.specs.Keeps.{Keeps}
+use Rattle.step_model.specs.Fits.{WorkerHolds}
+use Rattle.step_model.specs.CourseRuns.{Gives, Runs}
+use Rattle.step_model.specs.StepEnds.{Reports}
+use Rattle.step_model.specs.LawfulRecords.{IsStoredAs}
+use Rattle.step_model.specs.BeatSteps.{Beaten, heartbeat}
+use Rattle.step_laws.specs.Runs.{CallsKeep}
+use Rattle.after_laws.specs.Behind.{FitsAfter}
+
+-- The job of the attempt is Running with the worker at the attempt, and the attempt's context is
+-- published.
+abbrev pub IsBeaten : Told → ℕ → Attempt → Type 0
+IsBeaten told worker a = IsStoredAs told a.job (λ job. IsTrue (runs_attempt worker a.number (Some job)) × (job.context ≡ Some a.context))
+
+-- Behind a heartbeat that reports, each attempt that the worker runs is live and its context is
+-- published. So the worker keeps no attempt that was not live.
+abbrev pub AllAreBeaten : Caller → LiveWorker → Told → ℕ → Type 0
+AllAreBeaten who w old moment = (new : Told) (report : Beaten) → Runs who (heartbeat moment w) old new (Gives (Reports report)) → AllByRecursion (IsBeaten new w.number) report.attempts
+
+-- A worker that fits also fits behind its heartbeat, if every lawful call keeps the invariant. All
+-- attempts that it keeps are beaten.
+abbrev pub BeatsKeepFit : Type 0
+BeatsKeepFit = (who : Caller) (old : Told) (moment : ℕ) (w : LiveWorker) → CallsKeep who.merge → who.party ≡ Worker w.number → Keeps who.merge old → WorkerHolds who.merge old w
+    → FitsAfter who w (λ (report : Beaten). report.attempts) old (heartbeat moment w) × AllAreBeaten who w old moment

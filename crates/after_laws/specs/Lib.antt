@@ -1,0 +1,4 @@
+pub mod OwnCalls
+pub mod Behind
+pub mod Beats
+pub mod Releases

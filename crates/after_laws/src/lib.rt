@@ -1,0 +1,27 @@
+//! Laws on what a worker holds behind its own steps. Each function has an empty body, and its clause
+//! states a law: a worker that fits a store also fits the store that its step leaves, whatever calls
+//! of others come in between.
+#![tactic(auto)]
+
+ghost use Rattle.row_model.specs.Fold.{Operator};
+ghost use Rattle.after_laws.specs.Beats.{BeatsKeepFit};
+ghost use Rattle.after_laws.specs.OwnCalls.{OwnCallsKeep};
+ghost use Rattle.after_laws.specs.Releases.{ReleasesKeepFit};
+
+/// A lawful call of the worker itself keeps what it holds, if no fault strikes the call. Its puts of
+/// the records must spare its live attempts: a claim takes no job that the worker runs, a heartbeat
+/// publishes the attempts' own contexts, and a finish names no table of another live attempt.
+pub fn own_calls_keep()
+    ensures { (merge : Operator) → OwnCallsKeep merge }
+{}
+
+/// A worker fits behind its heartbeat, and runs only attempts that were live and are beaten.
+pub fn beats_keep_fit()
+    ensures { BeatsKeepFit }
+{}
+
+/// A worker fits behind the step by which it gives its live attempts back. None of them is live any
+/// more.
+pub fn releases_keep_fit()
+    ensures { ReleasesKeepFit }
+{}
