@@ -35,6 +35,7 @@ use Rattle.course_laws.proofs.Made.{Relies}
 use Rattle.after_laws.specs.Behind.{FitsBehind}
 use Rattle.after_laws.specs.Beats.{IsBeaten, BeatsKeepFit}
 use Rattle.after_laws.specs.OwnCalls.{SparesOwn}
+use Rattle.after_laws.proofs.Live.{IsLive, live_at}
 use Rattle.after_laws.proofs.Runs.{Made, call_by, stopped, reported, ended}
 use Rattle.after_laws.proofs.Attempts.{holds_fewer}
 use Rattle.after_laws.proofs.OwnCalls.{put_told, own_calls_keep}
@@ -52,19 +53,6 @@ beaten_jobs moment w live jobs = jobs_after (published_at moment live) (Beat w.n
 -- The job is Running with the worker at the attempt, and has the attempt's context.
 abbrev HasBeaten : ℕ → Attempt → Jobs → Type 0
 HasBeaten worker a jobs = OfSome (λ job. IsTrue (runs_attempt worker a.number (Some job)) × (job.context ≡ Some a.context)) (job_with a.job jobs)
-
--- The job that a live attempt runs at.
-record IsLive (worker : ℕ) (jobs : Jobs) (a : Attempt) : Type 0 where
-  job : Job
-  stored : job_with a.job jobs ≡ Some job
-  runs : IsTrue (runs_attempt worker a.number (Some job))
-
-live_at : (worker : ℕ) (jobs : Jobs) (a : Attempt) → is_live jobs worker a ≡ true → IsLive worker jobs a
-live_at worker jobs a live = by (job_with a.job jobs) refl live
-  where
-    by : (o : Option Job) → job_with a.job jobs ≡ o → runs_attempt worker a.number o ≡ true → IsLive worker jobs a
-    by None e never = absurd (cc never)
-    by (Some job) e runs = record { job = job; stored = e; runs = runs }
 
 -- The jobs of live attempts are active.
 live_active : (worker : ℕ) (a : Attempt) (job : Job) → IsTrue (runs_attempt worker a.number (Some job)) → IsTrue (is_active job)

@@ -1,4 +1,5 @@
+use Rattle.after_laws.proofs.Releases as law
 use Rattle.after_laws.proofs.releases_keep_fit.Goals as goal
 
 pub returns : goal.returns
-returns c = ?
+returns c = law.releases_keep_fit

@@ -1,0 +1,32 @@
+-- Attempts that are live over some jobs, and lists of which a test leaves nothing.
+use Rattle.std.proofs.Common.{◌≡◌, refl, ℕ, List, [], ◌∷◌, cond, Bool, true, false, Option, Some, None}
+use Rattle.std.specs.Prelude.{IsTrue, filter}
+use Rattle.std.specs.List.{AllByRecursion}
+use Rattle.fleet_model.specs.Jobs.{Job, Jobs, job_with}
+use Rattle.fleet_model.specs.Parties.{Attempt, is_live, runs_attempt}
+
+-- The job that a live attempt runs at.
+pub record IsLive (worker : ℕ) (jobs : Jobs) (a : Attempt) : Type 0 where
+  pub job : Job
+  pub stored : job_with a.job jobs ≡ Some job
+  pub runs : IsTrue (runs_attempt worker a.number (Some job))
+
+pub live_at : (worker : ℕ) (jobs : Jobs) (a : Attempt) → is_live jobs worker a ≡ true → IsLive worker jobs a
+live_at worker jobs a live = by (job_with a.job jobs) refl live
+  where
+    by : (o : Option Job) → job_with a.job jobs ≡ o → runs_attempt worker a.number o ≡ true → IsLive worker jobs a
+    by None e never = absurd (cc never)
+    by (Some job) e runs = record { job = job; stored = e; runs = runs }
+
+-- What a test leaves nothing of, passes it nowhere.
+pub none_pass : {A : Type 0} (p : A → Bool) (xs : List A) → filter p xs ≡ [] → AllByRecursion (λ x. p x ≡ false) xs
+none_pass p [] e = tt
+none_pass p (x ∷ xs) e = by (p x) refl (none_pass p xs) e
+  where
+    by : (b : Bool) → p x ≡ b → (filter p xs ≡ [] → AllByRecursion (λ y. p y ≡ false) xs) → cond b (x ∷ filter p xs) (filter p xs) ≡ [] → (p x ≡ false) × AllByRecursion (λ y. p y ≡ false) xs
+    by true f rest e = absurd (cc e)
+    by false f rest e = (f, rest e)
+
+pub pass_none : {A : Type 0} (p : A → Bool) (xs : List A) → AllByRecursion (λ x. p x ≡ false) xs → filter p xs ≡ []
+pass_none p [] h = refl
+pass_none p (x ∷ xs) h = rw h.0 (pass_none p xs h.1)

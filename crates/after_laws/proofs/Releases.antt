@@ -1,0 +1,192 @@
+-- A worker fits behind a release, and none of the released attempts is live any more.
+use Rattle.std.proofs.Common.{◌≡◌, refl, sym, ◌∙◌, ap, subst, ℕ, zero, suc, ◌<◌, List, [], ◌∷◌, cond, Bool, true, false, Option, Some, None}
+use Rattle.std.specs.Prelude.{IsTrue, ◌==◌, filter, ⊤}
+use Rattle.std.specs.List.{AllByRecursion}
+use Rattle.std.proofs.lemmas.Bool.Decides.{Decides-eqb}
+use Rattle.row_model.specs.Lists.{Pairs}
+use Rattle.fleet_model.specs.Jobs.{Job, Jobs, contains, job_with}
+use Rattle.fleet_model.specs.History.{Worker, GetRecords, Release}
+use Rattle.fleet_model.specs.Store.{Store, Records, jobs_in, stored_jobs}
+use Rattle.fleet_model.specs.Records.{firsts, to_waiting, jobs_after}
+use Rattle.fleet_model.specs.Parties.{Attempt, LiveWorker, attempt_jobs, is_live, runs_attempt, named, live_attempts}
+use Rattle.fleet_model.specs.Gates.{is_nonempty}
+use Rattle.fleet_model.specs.Exchanges.{Exchange, Plain, PutsRecords, records_version}
+use Rattle.step_model.specs.Past.{Told}
+use Rattle.step_model.specs.Rivals.{Caller, Rivals, told_by}
+use Rattle.step_model.specs.Keeps.{Keeps}
+use Rattle.step_model.specs.Fits.{WorkerHolds}
+use Rattle.step_model.specs.Course.{Course, Ends}
+use Rattle.step_model.specs.CourseRuns.{End, Gives, MeetsFault, LacksMemory, StopsAt, Runs, IsLawfulCourse}
+use Rattle.step_model.specs.StepEnds.{StepEnd, Reports, GivesUp, most_refused}
+use Rattle.step_model.specs.ClaimSteps.{at_moment}
+use Rattle.step_model.specs.BeatSteps.{release_of, release_by, releases_from, release_all}
+use Rattle.step_laws.proofs.Elements.{IsIn, all_at, all_from, in_contains}
+use Rattle.step_laws.proofs.Changed.{on_these, by_these, found_job, job_found}
+use Rattle.step_laws.proofs.Deletions.{in_filter}
+use Rattle.course_laws.proofs.Beats.{Fit, fit_got}
+use Rattle.course_laws.proofs.Calls.{in_map}
+use Rattle.course_laws.proofs.Later.{later_itself, later_met}
+use Rattle.course_laws.proofs.Puts.{got_records}
+use Rattle.course_laws.proofs.Made.{Relies}
+use Rattle.course_laws.proofs.Releases.{releases_are_lawful}
+use Rattle.after_laws.specs.Behind.{FitsBehind}
+use Rattle.after_laws.specs.Releases.{ReleasesKeepFit}
+use Rattle.after_laws.proofs.Live.{IsLive, live_at, none_pass, pass_none}
+use Rattle.after_laws.proofs.Runs.{Made, call_by, stopped, reported, ended}
+use Rattle.after_laws.proofs.OwnPuts.{FromStored, from_stored}
+use Rattle.after_laws.proofs.OwnCalls.{put_told, own_calls_keep}
+
+-- ---- no attempt is live
+
+-- None of these attempts is live.
+abbrev pub AreOver : LiveWorker → List Attempt → Told → Type 0
+AreOver w attempts told = AllByRecursion (λ a. is_live (stored_jobs told.store) w.number a ≡ false) attempts
+
+refused : (b : Bool) → b ≡ false → IsTrue b → ⊥
+refused true e h = absurd (cc e)
+refused false e h = absurd (cc h)
+
+-- The attempts that a put gives back are live no more, and no other one was live.
+gone : (told : Told) (w : LiveWorker) (attempts : List Attempt) (jobs : Jobs) → Pairs (λ a b. a.id < b.id) (stored_jobs told.store)
+    → jobs ≡ jobs_after (at_moment 0) (Release w.number (named (filter (is_live (stored_jobs told.store) w.number) attempts))) (stored_jobs told.store)
+    → AllByRecursion (λ a. is_live jobs w.number a ≡ false) attempts
+gone told w attempts jobs rise made = all_from _ attempts (λ a there. over a there (is_live jobs w.number a) refl)
+  where
+    these : List ℕ
+    these = firsts (named (filter (is_live (stored_jobs told.store) w.number) attempts))
+
+    At : Attempt → Job → Type 0
+    At a job = job.id ≡ a.job → IsTrue (runs_attempt w.number a.number (Some job)) → ⊥
+
+    at : (a : Attempt) → IsIn a attempts → (was : Job) → IsIn was (stored_jobs told.store) → At a (on_these to_waiting these was)
+    at a there was one = by_these (At a) to_waiting these was (λ has id runs. absurd (cc runs))
+        (λ lacks id runs.
+            let stored = subst (λ n. job_with n (stored_jobs told.store) ≡ Some was) id (found_job (stored_jobs told.store) was rise one) in
+            let live = in_filter (is_live (stored_jobs told.store) w.number) attempts a there (ap (runs_attempt w.number a.number) stored ∙ runs) in
+            refused (contains these was.id) lacks (subst (λ n. IsTrue (contains these n)) (sym id)
+            (in_contains these a.job (in_map (λ (p : ℕ × ℕ). p.0) _ (a.job, a.number) (in_map (λ (x : Attempt). (x.job, x.number)) (filter (is_live (stored_jobs told.store) w.number) attempts) a live)))))
+
+    over : (a : Attempt) → IsIn a attempts → (b : Bool) → is_live jobs w.number a ≡ b → b ≡ false
+    over a there false e = refl
+    over a there true e =
+        let l = live_at w.number jobs a e in
+        let found = job_found a.job jobs l.job l.stored in
+        let from = from_stored told to_waiting these l.job (subst (IsIn l.job) made found.there) in
+        absurd (subst (At a) (sym from.is) (at a there from.was from.there) found.same l.runs)
+
+-- ---- tries
+
+-- What a release leads to: it stops, gives up, or goes on where none of the attempts is live.
+pub record Ways (A : Type 0) (R : Type 0) (who : Caller) (w : LiveWorker) (attempts : List Attempt) (next : List ℕ → Course (StepEnd A)) (new : Told) (end : End (StepEnd A)) : Type 0 where
+  pub stops : (x : Exchange) (met : Told) → Fit who w met → StopsAt who x met new end → R
+  pub gives_up : (seen : ℕ) (told : Told) → Fit who w told → Runs who (Ends (GivesUp seen)) told new end → R
+  pub goes : (told : Told) (released : List ℕ) → Fit who w told → AreOver w attempts told → IsLawfulCourse who told (next released) → Runs who (next released) told new end → R
+
+-- What a lawful course leads to, from a store that the worker fits.
+abbrev Leads : {A : Type 0} → Type 0 → Caller → LiveWorker → Course (StepEnd A) → (old new : Told) → End (StepEnd A) → Type 0
+Leads R who w course old new end = Fit who w old → IsLawfulCourse who old course → Runs who course old new end → R
+
+those : {A : Type 0} (R : Type 0) (who : Caller) (w : LiveWorker) (attempts : List Attempt) (next : List ℕ → Course (StepEnd A)) (again : ℕ → Course (StepEnd A)) (new : Told) (end : End (StepEnd A)) → Relies who w → Ways A R who w attempts next new end
+    → ((version : ℕ) (old : Told) → Leads R who w (again version) old new end) → (met : Told) (got : Records) (live : List Attempt) → met.store.records ≡ Some got → filter (is_live got.jobs w.number) attempts ≡ live
+    → Leads R who w (release_of w got live next again) (told_by who.line who.party (Plain GetRecords) None met) new end
+those R who w attempts next again new end r ways tries met got [] is these fit lawful run =
+    ways.goes _ [] fit (subst (λ o. AllByRecursion (λ a. is_live (jobs_in o) w.number a ≡ false) attempts) (sym is) (none_pass (is_live got.jobs w.number) attempts these)) lawful run
+those {A} R who w attempts next again new end r ways tries met got (a ∷ live) is these fit lawful run = call_by R who w x (λ (s : Store). again_or (records_version s.records) (got.version == records_version s.records))
+    (told_by who.line who.party (Plain GetRecords) None met) new end r fit lawful run (λ at there stop. ways.stops x at there stop) put
+  where
+    x : Exchange
+    x = PutsRecords got.version (Release w.number (named (a ∷ live))) got.epoch (jobs_after (at_moment 0) (Release w.number (named (a ∷ live))) got.jobs)
+
+    again_or : ℕ → Bool → Course (StepEnd A)
+    again_or version b = cond b (next (attempt_jobs (a ∷ live))) (again version)
+
+    put : Made who w x (λ (s : Store). again_or (records_version s.records) (got.version == records_version s.records)) (told_by who.line who.party (Plain GetRecords) None met) new end → R
+    put m = by (got.version == records_version m.met.store.records) refl m.further m.run
+      where
+        after : Told
+        after = told_by who.line who.party x None m.met
+
+        holds : WorkerHolds who.merge after w
+        holds = own_calls_keep who.merge x who.line who.party m.met w m.fit.kept r.own m.lawful (λ same. tt) m.fit.holds
+
+        none : (got.version == records_version m.met.store.records) ≡ true → AreOver w attempts after
+        none e =
+            let stored : m.met.store.records ≡ Some got = got_records met m.met (Some got) is (later_met who (Plain GetRecords) met met m.met (later_itself met) m.rivals) ((Decides-eqb got.version (records_version m.met.store.records)).0 e) in
+            let put = ap (λ (told : Told). stored_jobs told.store) (put_told who.line who.party m.met got.version (Release w.number (named (a ∷ live))) got.epoch (jobs_after (at_moment 0) (Release w.number (named (a ∷ live))) got.jobs) e) in
+            gone m.met w attempts (stored_jobs after.store) m.fit.kept.stored.sound.job_ids
+            (put ∙ ap (λ l. jobs_after (at_moment 0) (Release w.number (named l)) got.jobs) (sym these)
+            ∙ ap (λ o. jobs_after (at_moment 0) (Release w.number (named (filter (is_live (jobs_in o) w.number) attempts))) (jobs_in o)) (sym stored))
+
+        by : (b : Bool) → (got.version == records_version m.met.store.records) ≡ b → IsLawfulCourse who after (again_or (records_version m.met.store.records) b) → Runs who (again_or (records_version m.met.store.records) b) after new end → R
+        by true e lawful run = ways.goes after (attempt_jobs (a ∷ live)) (record { kept = m.kept; holds = holds }) (none e) lawful run
+        by false e lawful run = tries (records_version m.met.store.records) after (record { kept = m.kept; holds = holds }) lawful run
+
+over : {A : Type 0} (R : Type 0) (who : Caller) (w : LiveWorker) (attempts : List Attempt) (next : List ℕ → Course (StepEnd A)) (again : ℕ → Course (StepEnd A)) (new : Told) (end : End (StepEnd A)) → Relies who w → Ways A R who w attempts next new end
+    → ((version : ℕ) (old : Told) → Leads R who w (again version) old new end) → (met : Told) (records : Option Records) → met.store.records ≡ records
+    → Leads R who w (release_by w attempts records next again) (told_by who.line who.party (Plain GetRecords) None met) new end
+over R who w attempts next again new end r ways tries met None is fit lawful run =
+    ways.goes _ [] fit (subst (λ o. AllByRecursion (λ a. is_live (jobs_in o) w.number a ≡ false) attempts) (sym is) (all_from _ attempts (λ a there. refl))) lawful run
+over R who w attempts next again new end r ways tries met (Some got) is fit lawful run = those R who w attempts next again new end r ways tries met got (filter (is_live got.jobs w.number) attempts) is refl fit lawful run
+
+pub released : {A : Type 0} (R : Type 0) (who : Caller) (w : LiveWorker) (attempts : List Attempt) (next : List ℕ → Course (StepEnd A)) (new : Told) (end : End (StepEnd A)) → Relies who w → Ways A R who w attempts next new end → (left seen : ℕ) (old : Told)
+    → Leads R who w (releases_from w attempts next left seen) old new end
+released R who w attempts next new end r ways zero seen old fit lawful run = ways.gives_up seen old fit run
+released {A} R who w attempts next new end r ways (suc left) seen old fit lawful run = call_by R who w (Plain GetRecords) (λ (s : Store). release_by w attempts s.records next (releases_from w attempts next left)) old new end r fit lawful run
+    (λ at there stop. ways.stops (Plain GetRecords) at there stop)
+    (λ m. over {A = A} R who w attempts next (releases_from w attempts next left) new end r ways (λ version one. released {A = A} R who w attempts next new end r ways left version one) m.met m.met.store.records refl (fit_got who w m.met r.keep m.fit) m.further m.run)
+
+-- ---- the step
+
+-- Where the run reports, no attempt of the worker is live.
+abbrev NoneLeft : LiveWorker → Told → End (StepEnd (List ℕ)) → Type 0
+NoneLeft w new (Gives (Reports report)) = AreOver w w.attempts new
+NoneLeft w new (Gives answer) = ⊤
+NoneLeft w new MeetsFault = ⊤
+NoneLeft w new LacksMemory = ⊤
+
+none_reported : (who : Caller) (w : LiveWorker) (answer : StepEnd (List ℕ)) (old new : Told) (end : End (StepEnd (List ℕ))) → AreOver w w.attempts old → Runs who (Ends answer) old new end → NoneLeft w new end
+none_reported who w answer old new (Gives (Reports report)) all run = subst (AreOver w w.attempts) run.0 all
+none_reported who w answer old new (Gives other) all run = tt
+none_reported who w answer old new MeetsFault all run = tt
+none_reported who w answer old new LacksMemory all run = tt
+
+no_report : (who : Caller) (w : LiveWorker) (seen : ℕ) (old new : Told) (end : End (StepEnd (List ℕ))) → Runs who (Ends (GivesUp seen)) old new end → NoneLeft w new end
+no_report who w seen old new (Gives (Reports report)) run = absurd (cc run.1)
+no_report who w seen old new (Gives answer) run = tt
+no_report who w seen old new MeetsFault run = tt
+no_report who w seen old new LacksMemory run = tt
+
+stops_left : (who : Caller) (w : LiveWorker) (x : Exchange) (met new : Told) (end : End (StepEnd (List ℕ))) → StopsAt who x met new end → NoneLeft w new end
+stops_left who w x met new (Gives answer) stops = absurd stops
+stops_left who w x met new MeetsFault stops = tt
+stops_left who w x met new LacksMemory stops = tt
+
+-- What a run of the step leaves.
+abbrev Left : Caller → LiveWorker → Told → End (StepEnd (List ℕ)) → Type 0
+Left who w new end = FitsBehind who.merge w (λ released. w.attempts) new end × NoneLeft w new end
+
+reports : (who : Caller) (w : LiveWorker) (jobs : List ℕ) (old new : Told) (end : End (StepEnd (List ℕ))) → WorkerHolds who.merge old w → AreOver w w.attempts old → Runs who (Ends (Reports jobs)) old new end → Left who w new end
+reports who w jobs old new end holds all run = (reported who w (λ released. w.attempts) jobs old new end holds holds run, none_reported who w (Reports jobs) old new end all run)
+
+release_fits : (who : Caller) (w : LiveWorker) → Relies who w → (old new : Told) (end : End (StepEnd (List ℕ))) → Leads (Left who w new end) who w (release_all w) old new end
+unfolding release_all
+release_fits who w r old new end = by (is_nonempty w.attempts) refl
+  where
+    none : (xs : List Attempt) → is_nonempty xs ≡ false → AllByRecursion (λ a. is_live (stored_jobs old.store) w.number a ≡ false) xs
+    none [] e = tt
+    none (x ∷ xs) e = absurd (cc e)
+
+    by : (b : Bool) → is_nonempty w.attempts ≡ b → Leads (Left who w new end) who w (cond b (releases_from w w.attempts (λ released. Ends (Reports released)) most_refused 0) (Ends (Reports []))) old new end
+    by true e = released (Left who w new end) who w w.attempts (λ released. Ends (Reports released)) new end r (record {
+      stops = λ x met fit stop. (stopped who w (λ released. w.attempts) x met new end fit.holds stop, stops_left who w x met new end stop);
+      gives_up = λ seen told fit run. (ended who w (λ released. w.attempts) (GivesUp seen) told new end (λ report e. absurd (cc e)) fit.holds run, no_report who w seen told new end run);
+      goes = λ told released fit over lawful run. reports who w released told new end fit.holds over run;
+    }) most_refused 0 old
+    by false e = λ fit lawful run. reports who w [] old new end fit.holds (none w.attempts e) run
+
+pub releases_keep_fit : ReleasesKeepFit
+releases_keep_fit who old w keep own kept holds = (
+  λ new end run. (release_fits who w (record { keep = keep; own = own }) old new end (record { kept = kept; holds = holds }) (releases_are_lawful who old w own) run).0,
+  λ new jobs run. pass_none (is_live (stored_jobs new.store) w.number) w.attempts
+      (release_fits who w (record { keep = keep; own = own }) old new (Gives (Reports jobs)) (record { kept = kept; holds = holds }) (releases_are_lawful who old w own) run).1,
+)
