@@ -1,3 +1,4 @@
+pub mod Heaps
 pub mod Merges
 pub mod MergedRows
 pub mod RisingRows

@@ -1,10 +1,10 @@
 -- The least head of a merge, and a step of the merge.
-use Rattle.std.proofs.Common.{◌≡◌, ◌∙◌, sym, refl, ap, subst, ℕ, ◌+◌, ◌<◌, List, [], ◌∷◌, ◌++◌, suc, zero, Ok, Err, inl, inr, Option, Some, None, Bool, true, false, cond, drop, drop-cons, add-one, get_or, length, arith, zero-add, add-zero, ◌-◌, ◌≤◌}
+use Rattle.std.proofs.Common.{◌≡◌, ◌∙◌, sym, refl, ap, subst, ℕ, ◌+◌, ◌<◌, List, [], ◌∷◌, ◌++◌, suc, zero, Ok, Err, inl, inr, Option, Some, None, Bool, true, false, cond, add-one, get_or, length, arith, ◌≤◌}
 use Rattle.std.specs.Option.{option_to_list, option_map}
 use Rattle.std.specs.List.{AllByRecursion}
 use Rattle.std.specs.Prelude.{map, ◌&&◌}
 use Rattle.std.proofs.lemmas.Bool.{and_parts}
-use Rattle.std.proofs.lemmas.List.{drop_all, length-map, map-set}
+use Rattle.std.proofs.lemmas.List.{length-map, map-set}
 use Rattle.std.proofs.Math.ListN.{get_or-map, set}
 use Rattle.row_model.specs.Rows.{Row}
 use Rattle.fleet_rows.specs.Row.{row_of, rows_of}
@@ -12,62 +12,7 @@ use Rattle.fleet_rows.specs.declared.row.RowEntry.{RowEntry}
 use Rattle.fleet_rows.specs.declared.errors.SlateDBError.{SlateDBError}
 use Rattle.fleet_iter.specs.Iteration.{IteratorState, Nexts, NextAnswers, CanFail, behind_first, without_first, is_exact}
 use Rattle.fleet_iter.specs.declared.iterator.IterationOrder.{IterationOrder}
-use Rattle.fleet_iter.specs.Merge.{best, choose, goes_first, goes_ahead, passes, merged, merge_two, merge_into, merged_left, lists, rows_left, AllTaken, IsTaken, are_whole, are_steady, are_exact, manner, manners, OneFailedBy, Steps, Takes, Drops, AllBegun}
-
--- What was found, with its place counted from i places further in front.
-abbrev pub shifted : ℕ → Option (ℕ × RowEntry) → Option (ℕ × RowEntry)
-shifted i None = None
-shifted i (Some p) = Some (p.0 + i, p.1)
-
--- The lesser of a head and of what was found after it.
-abbrev pub pick : (order : IterationOrder) → ℕ → Option RowEntry → Option (ℕ × RowEntry) → Option (ℕ × RowEntry)
-pick order i None f = f
-pick order i (Some x) None = Some (i, x)
-pick order i (Some x) (Some q) = cond (goes_first order (row_of x) (row_of q.1)) (Some (i, x)) (Some q)
-
-choose_shifted : (order : IterationOrder) → (i : ℕ) (h : Option RowEntry) (b : Option (ℕ × RowEntry)) → shifted i (choose order h b) ≡ pick order i h (shifted (i + 1) b)
-choose_shifted order i None None = refl
-choose_shifted order i None (Some p) = let e : (p.0 + 1) + i ≡ p.0 + (i + 1) = omega arith in ap (λ (n : ℕ). Some (n, p.1)) e
-choose_shifted order i (Some x) None = ap (λ (n : ℕ). Some (n, x)) (zero-add i)
-choose_shifted order i (Some x) (Some p) = by_test (goes_first order (row_of x) (row_of p.1)) where
-  by_test : (t : Bool) → shifted i (cond t (Some (0, x)) (Some (p.0 + 1, p.1))) ≡ cond t (Some (i, x)) (Some (p.0 + (i + 1), p.1))
-  by_test true = ap (λ (n : ℕ). Some (n, x)) (zero-add i)
-  by_test false = let e : (p.0 + 1) + i ≡ p.0 + (i + 1) = omega arith in ap (λ (n : ℕ). Some (n, p.1)) e
-
--- A search from a place on picks between the head there and what was found after it.
-best_from : (order : IterationOrder) → (hs : List (Option RowEntry)) (i : ℕ) (h : Option RowEntry) → i < length hs → h ≡ get_or hs i h → shifted i (best order (drop i hs)) ≡ pick order i h (shifted (i + 1) (best order (drop (i + 1) hs)))
-best_from order hs i h lt is =
-    let e : drop i hs ≡ h ∷ drop (i + 1) hs = rw (add-one, drop-cons hs i h, ← is) in
-    ap (λ (z : List (Option RowEntry)). shifted i (best order z)) e ∙ choose_shifted order i h (best order (drop (i + 1) hs))
-
--- A head that goes before what was found is picked.
-pub picked : (order : IterationOrder) → (i : ℕ) (x : RowEntry) (f : Option (ℕ × RowEntry)) → goes_ahead order x f ≡ true → pick order i (Some x) f ≡ Some (i, x)
-picked order i x None h = refl
-picked order i x (Some q) h = ap (λ b. cond b (Some (i, x)) (Some q)) h
-
-pub passed : (order : IterationOrder) → (i : ℕ) (x : RowEntry) (f : Option (ℕ × RowEntry)) → goes_ahead order x f ≡ false → pick order i (Some x) f ≡ f
-passed order i x None h = absurd (cc)
-passed order i x (Some q) h = ap (λ b. cond b (Some (i, x)) (Some q)) h
-
--- The search goes on by one head, towards the front.
-pub found_more : (order : IterationOrder) → (hs : List (Option RowEntry)) (n : ℕ) (h : Option RowEntry) (f g : Option (ℕ × RowEntry)) → 0 < n → n ≤ length hs → h ≡ get_or hs (n - 1) h → f ≡ shifted n (best order (drop n hs)) → g ≡ pick order (n - 1) h f → g ≡ shifted (n - 1) (best order (drop (n - 1) hs))
-found_more order hs n h f g pos le is inv e =
-    let one : (n - 1) + 1 ≡ n = omega arith in
-    let lt : n - 1 < length hs = omega arith in
-    let b = best_from order hs (n - 1) h lt is in
-    e ∙ (ap (pick order (n - 1) h) inv ∙ sym (subst (λ m. shifted (n - 1) (best order (drop (n - 1) hs)) ≡ pick order (n - 1) h (shifted m (best order (drop m hs)))) one b))
-
--- No head is found after all heads.
-pub found_none : (order : IterationOrder) → (hs : List (Option RowEntry)) → None ≡ shifted (length hs) (best order (drop (length hs) hs))
-found_none order hs = rw (drop_all (length hs) hs (omega arith)) refl
-
-pub all_found : (order : IterationOrder) → (hs : List (Option RowEntry)) (n : ℕ) (f : Option (ℕ × RowEntry)) → n ≤ 0 → f ≡ shifted n (best order (drop n hs)) → f ≡ best order hs
-all_found order hs n f le h =
-    let zero : n ≡ 0 = omega arith in
-    subst (λ m. f ≡ shifted m (best order (drop m hs))) zero h ∙ unshifted (best order hs) where
-      unshifted : (p : Option (ℕ × RowEntry)) → shifted 0 p ≡ p
-      unshifted None = refl
-      unshifted (Some p) = ap (λ (m : ℕ). Some (m, p.1)) (add-zero p.0)
+use Rattle.fleet_iter.specs.Merge.{best, choose, goes_first, passes, merged, merge_two, merge_into, merged_left, lists, rows_left, AllTaken, IsTaken, are_whole, are_steady, are_exact, manner, manners, OneFailedBy, Steps, Takes, Drops, AllBegun}
 
 behind_none : (order : IterationOrder) → (b : Option (ℕ × RowEntry)) → choose order None b ≡ None → b ≡ None
 behind_none order None e = refl

@@ -1,5 +1,5 @@
 -- Strictly ordered rows after a cursor.
-use Rattle.std.proofs.Common.{◌≡◌, ◌∙◌, sym, refl, ap, subst, Some, ℕ, ◌<◌, ◌≤◌, List, [], ◌∷◌, ◌&&◌, not, Bool, true, false, cond, Option, arith}
+use Rattle.std.proofs.Common.{◌≡◌, ◌∙◌, sym, refl, ap, subst, Some, ℕ, ◌<◌, ◌≤◌, List, [], ◌∷◌, not, Bool, true, false, cond, Option, arith}
 use Rattle.std.specs.Prelude.{filter, bytes_eq, nat_le}
 use Rattle.std.specs.List.{AllByRecursion}
 use Rattle.std.specs.List.Sorted.{IsStrictlySortedBy}

@@ -28,7 +28,7 @@ entry_cmp a b = ordering_then (key_cmp_in (a.order, a.row.key) (b.order, b.row.k
 
 -- ---- the order of entries is total
 
-keys_total : (order : IterationOrder) → IsTotalOrder (keys_in order)
+pub keys_total : (order : IterationOrder) → IsTotalOrder (keys_in order)
 keys_total Ascending = nat_list_cmp_total
 keys_total Descending = back_total nat_list_cmp_total
 

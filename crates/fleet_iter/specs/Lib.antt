@@ -1,4 +1,5 @@
 pub mod Entry
+pub mod Heads
 pub mod Iteration
 pub mod List
 pub mod Merge

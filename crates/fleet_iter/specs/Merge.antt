@@ -93,11 +93,6 @@ abbrev pub found_row : Option (ℕ × Bor RowEntry) → Option (ℕ × RowEntry)
 found_row None = None
 found_row (Some p) = Some (p.0, p.1.now)
 
--- Whether a row goes before the row that was found among the heads after it. It does if none was found.
-abbrev pub goes_ahead : IterationOrder → RowEntry → Option (ℕ × RowEntry) → Bool
-goes_ahead order x None = true
-goes_ahead order x (Some p) = goes_first order (row_of x) (row_of p.1)
-
 -- Whether a row was found and passes a test.
 abbrev pub passes : (Row → Bool) → Option (ℕ × RowEntry) → Bool
 passes test None = false

@@ -8,10 +8,10 @@ use Rattle.fleet_iter.specs.declared.merge.MergeIterator.{MergeIterator}
 
 -- All rows that a merge has left, in its order. With dedup this includes the rows that it will not give.
 abbrev pub merge_of : {T : Type 0} → (T → IteratorState) → MergeIterator T → List Row
-merge_of state m = merged_left m.order m.heads.items (map state m.sources.items)
+merge_of state m = merged_left m.heads.order m.heads.rows (map state m.sources.items)
 
 abbrev pub state_of : {T : Type 0} → (T → IteratorState) → MergeIterator T → IteratorState
-state_of state m = merging m.order m.dedup m.initialised m.failure m.heads.items (map state m.sources.items)
+state_of state m = merging m.heads.order m.dedup m.initialised m.failure m.heads.rows (map state m.sources.items)
 
 abbrev pub IsSound : {T : Type 0} → (T → Type 0) → (T → IteratorState) → MergeIterator T → Type 0
-IsSound sound state m = AllByRecursion sound m.sources.items × Fits m.failure m.initialised m.heads.items (map state m.sources.items)
+IsSound sound state m = AllByRecursion sound m.sources.items × Fits m.failure m.initialised m.heads.rows (map state m.sources.items)

@@ -5,6 +5,7 @@
 mod boxes;
 mod entry;
 mod failure;
+mod heads;
 mod iterator;
 mod list;
 mod merge;

@@ -1,16 +1,16 @@
 //! Merges, which give the rows of several iterators in order.
 
 ghost use Rattle.std.specs.Prelude.{◌≡◌, ◌≢◌, ◌++◌, map, true, false, [], Some, None, IfOk, IfErr, OnOk};
-ghost use Rattle.std.specs.Option.{option_map};
 ghost use Rattle.std.specs.List.{AllByRecursion};
 ghost use Rattle.row_laws.specs.Keys.{is_below};
 ghost use Rattle.fleet_rows.specs.Row.{row_of};
 ghost use Rattle.fleet_iter.specs.Iteration.{IteratorState, Inits, Nexts, Seeks, CanFail, AreRising, from_key, is_exact};
 ghost use Rattle.fleet_iter.specs.declared.iterator.IterationOrder.TheVariants as in_order;
-ghost use Rattle.fleet_iter.specs.Merge.{keys_in, cmp_in, hides, best, found_row, goes_ahead, passes, head_passes, AllTaken, Takes, Drops, Steps, Skips, SkipsTo, StepsFrom, is_told, Begins, LeavesFrom, NoneFailed, IsHandedOn, starting, merged, merged_left, rows_left, given, are_whole, are_exact, MergesSort, MergesRise};
+ghost use Rattle.fleet_iter.specs.Merge.{keys_in, cmp_in, hides, head_passes, AllTaken, Takes, Drops, Steps, Skips, SkipsTo, StepsFrom, is_told, Begins, LeavesFrom, NoneFailed, IsHandedOn, starting, merged, merged_left, rows_left, given, are_whole, are_exact, MergesSort, MergesRise};
 ghost use Rattle.fleet_iter.specs.Tracked.{row_bytes, first_bytes, kept_back, counted, taken_at_once};
 ghost use Rattle.fleet_iter.specs.MergeState.{state_of, merge_of, IsSound};
 
+use crate::heads::Heads;
 use crate::tracked::row_bytes;
 use crate::{Failure, IterationOrder, RowEntryIterator, RowSource, TrackedRowEntryIterator};
 use bytes::Bytes;
@@ -36,78 +36,32 @@ pub(crate) fn compare(order: IterationOrder, row: &RowEntry, other: &RowEntry) -
 }
 
 // Whether a row hides a later one: both have the same key, and the first one is no operand.
-fn hides(row: &RowEntry, other: &RowEntry) -> bool
+pub(crate) fn hides(row: &RowEntry, other: &RowEntry) -> bool
     ensures { result ≡ hides (row_of row.now) (row_of other.now) }
 {
     !matches!(row.value, ValueDeletable::Merge(_)) && row.key == other.key
 }
 
-// Whether a row goes before the row that was found among the heads after it. It does if none was
-// found.
-fn goes_ahead(order: IterationOrder, row: &RowEntry, found: &Option<(usize, &RowEntry)>) -> bool
-    ensures { result ≡ goes_ahead order row.now (found_row found.now) }
-{
-    match found {
-        Some((_, other)) => compare(order, row, other) != Ordering::Greater,
-        None => true,
-    }
-}
-
-// The least head with its place. None if there is no head.
-fn least_row(order: IterationOrder, heads: &[Option<RowEntry>]) -> Option<(usize, &RowEntry)>
-    ensures { found_row result ≡ best order heads.now }
-{
-    let mut found: Option<(usize, &RowEntry)> = None;
-    'heads: for i in (0..heads.len()).rev() {
-        if let Some(row) = &heads[i] {
-            if goes_ahead(order, row, &found) {
-                found = Some((i, row));
-            }
-        }
-    }
-    found
-}
-
-// The place of the least head. None if there is no head.
-fn least(order: IterationOrder, heads: &[Option<RowEntry>]) -> Option<usize>
-    ensures { result ≡ option_map (λ p. p.0) (best order heads.now) }
-{
-    match least_row(order, heads) {
-        Some((place, _)) => Some(place),
-        None => None,
-    }
-}
-
-// Whether there is a least head and the row hides it.
-fn least_is_hidden(order: IterationOrder, heads: &[Option<RowEntry>], row: &RowEntry) -> bool
-    ensures { result ≡ passes (hides (row_of row.now)) (best order heads.now) }
-{
-    match least_row(order, heads) {
-        Some((_, other)) => hides(row, other),
-        None => false,
-    }
-}
-
 // Takes the least head, and reads the next row of its source as its new head.
 fn take_least<T: RowSource>(
     alloc: Global,
-    order: IterationOrder,
     sources: &mut Vec<T>,
-    heads: &mut Vec<Option<RowEntry>>,
+    heads: &mut Heads,
 ) -> Result<Option<RowEntry>, SlateDBError>
-    requires taken { AllTaken heads.old.items (map T.state sources.old.items) }
+    requires taken { AllTaken heads.old.rows (map T.state sources.old.items) }
     requires sound { AllByRecursion T.sound sources.old.items }
-    ensures ok { IfOk result (Takes order false heads.old.items
-        (map T.state sources.old.items) heads.new.items (map T.state sources.new.items)) }
+    ensures ok { IfOk result (Takes heads.old.order false heads.old.rows
+        (map T.state sources.old.items) heads.new.rows (map T.state sources.new.items)) }
     ensures err { IfErr result (CanFail (are_whole (map T.state sources.old.items))) }
     ensures handed { IfErr result (IsHandedOn (map T.state sources.new.items)) }
+    ensures order { heads.new.order ≡ heads.old.order }
     ensures sound { AllByRecursion T.sound sources.new.items }
 {
-    let Some(place) = least(order, heads) else {
+    let Some((place, _)) = heads.least() else {
         return Ok(None);
     };
     let head = sources[place].next_row(alloc)?;
-    Ok(mem::replace(&mut heads[place], head))
+    Ok(heads.replace_least(head))
 }
 
 // Initialises a source and takes its first row.
@@ -127,15 +81,16 @@ fn first_row<T: RowSource>(alloc: Global, source: &mut T) -> Result<Option<RowEn
 fn take_heads<T: RowSource>(
     alloc: Global,
     sources: &mut Vec<T>,
-    heads: &mut Vec<Option<RowEntry>>,
+    heads: &mut Heads,
 ) -> Result<(), SlateDBError>
-    requires none { heads.old.items ≡ [] }
+    requires none { heads.old.rows ≡ [] }
     requires alive { NoneFailed (map T.state sources.old.items) }
     requires sound { AllByRecursion T.sound sources.old.items }
     ensures ok { OnOk result
-        (Begins (map T.state sources.old.items) heads.new.items (map T.state sources.new.items)) }
+        (Begins (map T.state sources.old.items) heads.new.rows (map T.state sources.new.items)) }
     ensures err { IfErr result (CanFail (are_whole (map T.state sources.old.items))) }
     ensures handed { IfErr result (IsHandedOn (map T.state sources.new.items)) }
+    ensures order { heads.new.order ≡ heads.old.order }
     ensures sound { AllByRecursion T.sound sources.new.items }
 {
     'sources: for i in 0..sources.len() {
@@ -149,21 +104,21 @@ fn take_heads<T: RowSource>(
 // head.
 fn drop_least<T: RowSource>(
     alloc: Global,
-    order: IterationOrder,
     sources: &mut Vec<T>,
-    heads: &mut Vec<Option<RowEntry>>,
+    heads: &mut Heads,
 ) -> Result<u64, SlateDBError>
-    requires taken { AllTaken heads.old.items (map T.state sources.old.items) }
+    requires taken { AllTaken heads.old.rows (map T.state sources.old.items) }
     requires sound { AllByRecursion T.sound sources.old.items }
-    ensures ok { IfOk result (λ _. Drops order heads.old.items
-        (map T.state sources.old.items) heads.new.items (map T.state sources.new.items)) }
+    ensures ok { IfOk result (λ _. Drops heads.old.order heads.old.rows
+        (map T.state sources.old.items) heads.new.rows (map T.state sources.new.items)) }
     ensures bytes { IfOk result (λ bytes. bytes
-        ≡ first_bytes (merged_left order heads.old.items (map T.state sources.old.items))) }
+        ≡ first_bytes (merged_left heads.old.order heads.old.rows (map T.state sources.old.items))) }
     ensures err { IfErr result (CanFail (are_whole (map T.state sources.old.items))) }
     ensures handed { IfErr result (IsHandedOn (map T.state sources.new.items)) }
+    ensures order { heads.new.order ≡ heads.old.order }
     ensures sound { AllByRecursion T.sound sources.new.items }
 {
-    match take_least(alloc, order, sources, heads)? {
+    match take_least(alloc, sources, heads)? {
         Some(row) => Ok(row_bytes(&row)),
         None => Ok(0),
     }
@@ -278,28 +233,58 @@ fn skip_below<T: RowSource>(
     Ok(())
 }
 
+// Drops the rows below a key. The heads are taken out by the places of their sources, and put back
+// once the sources are sought.
+fn seek_heads<T: RowSource>(
+    alloc: Global,
+    sources: &mut Vec<T>,
+    heads: &mut Heads,
+    key: &[u8],
+) -> Result<(), SlateDBError>
+    requires taken { AllTaken heads.old.rows (map T.state sources.old.items) }
+    requires rising { AreRising
+        (merged_left heads.old.order heads.old.rows (map T.state sources.old.items)) }
+    requires sound { AllByRecursion T.sound sources.old.items }
+    ensures ok { OnOk result (SkipsTo
+        (is_told heads.old.order (are_exact (map T.state sources.old.items))) heads.old.order
+        key.now heads.old.rows (map T.state sources.old.items) heads.new.rows
+        (map T.state sources.new.items)) }
+    ensures leaves { OnOk result
+        (LeavesFrom key.now heads.old.rows sources.old.items heads.new.rows sources.new.items) }
+    ensures err { IfErr result (CanFail (are_exact (map T.state sources.old.items))) }
+    ensures handed { IfErr result (IsHandedOn (map T.state sources.new.items)) }
+    ensures order { heads.new.order ≡ heads.old.order }
+    ensures sound { AllByRecursion T.sound sources.new.items }
+{
+    let order = heads.order();
+    let mut rows = heads.take_rows(alloc)?;
+    skip_below(alloc, order, sources, &mut rows, key)?;
+    heads.fill(rows)?;
+    Ok(())
+}
+
 // Drops the rows that a row hides, and adds their bytes to the count.
 fn skip_hidden<T: RowSource>(
     alloc: Global,
-    order: IterationOrder,
     sources: &mut Vec<T>,
-    heads: &mut Vec<Option<RowEntry>>,
+    heads: &mut Heads,
     row: &RowEntry,
     processed: u64,
 ) -> Result<u64, SlateDBError>
-    requires taken { AllTaken heads.old.items (map T.state sources.old.items) }
+    requires taken { AllTaken heads.old.rows (map T.state sources.old.items) }
     requires sound { AllByRecursion T.sound sources.old.items }
-    ensures ok { IfOk result (λ _. Skips order (hides (row_of row.now)) heads.old.items
-        (map T.state sources.old.items) heads.new.items (map T.state sources.new.items)) }
+    ensures ok { IfOk result (λ _. Skips heads.old.order (hides (row_of row.now)) heads.old.rows
+        (map T.state sources.old.items) heads.new.rows (map T.state sources.new.items)) }
     ensures bytes { IfOk result (λ count. count ≡ counted processed (kept_back
-        (row_of row.now) (merged_left order heads.old.items (map T.state sources.old.items)))) }
+        (row_of row.now) (merged_left heads.old.order heads.old.rows (map T.state sources.old.items)))) }
     ensures err { IfErr result (CanFail (are_whole (map T.state sources.old.items))) }
     ensures handed { IfErr result (IsHandedOn (map T.state sources.new.items)) }
+    ensures order { heads.new.order ≡ heads.old.order }
     ensures sound { AllByRecursion T.sound sources.new.items }
 {
     let mut count = processed;
-    'hidden: while least_is_hidden(order, heads, row) {
-        let bytes = drop_least(alloc, order, sources, heads)?;
+    'hidden: while heads.least_is_hidden(row) {
+        let bytes = drop_least(alloc, sources, heads)?;
         count = count.saturating_add(bytes);
     }
     Ok(count)
@@ -309,28 +294,28 @@ fn skip_hidden<T: RowSource>(
 // of all of them to the count.
 fn take_given<T: RowSource>(
     alloc: Global,
-    order: IterationOrder,
     dedup: bool,
     sources: &mut Vec<T>,
-    heads: &mut Vec<Option<RowEntry>>,
+    heads: &mut Heads,
     processed: &mut u64,
 ) -> Result<Option<RowEntry>, SlateDBError>
-    requires taken { AllTaken heads.old.items (map T.state sources.old.items) }
+    requires taken { AllTaken heads.old.rows (map T.state sources.old.items) }
     requires sound { AllByRecursion T.sound sources.old.items }
-    ensures ok { IfOk result (Takes order dedup heads.old.items
-        (map T.state sources.old.items) heads.new.items (map T.state sources.new.items)) }
+    ensures ok { IfOk result (Takes heads.old.order dedup heads.old.rows
+        (map T.state sources.old.items) heads.new.rows (map T.state sources.new.items)) }
     ensures all { IfOk result
-        (λ _. merged_left order heads.old.items (map T.state sources.old.items)
-        ≡ taken_at_once dedup (merged_left order heads.old.items (map T.state sources.old.items))
-        ++ merged_left order heads.new.items (map T.state sources.new.items)) }
+        (λ _. merged_left heads.old.order heads.old.rows (map T.state sources.old.items)
+        ≡ taken_at_once dedup (merged_left heads.old.order heads.old.rows (map T.state sources.old.items))
+        ++ merged_left heads.old.order heads.new.rows (map T.state sources.new.items)) }
     ensures bytes { IfOk result (λ _. processed.new ≡ counted processed.old
-        (taken_at_once dedup (merged_left order heads.old.items (map T.state sources.old.items)))) }
+        (taken_at_once dedup (merged_left heads.old.order heads.old.rows (map T.state sources.old.items)))) }
     ensures unchanged { IfErr result (λ _. processed.new ≡ processed.old) }
     ensures err { IfErr result (CanFail (are_whole (map T.state sources.old.items))) }
     ensures handed { IfErr result (IsHandedOn (map T.state sources.new.items)) }
+    ensures order { heads.new.order ≡ heads.old.order }
     ensures sound { AllByRecursion T.sound sources.new.items }
 {
-    let Some(row) = take_least(alloc, order, sources, heads)? else {
+    let Some(row) = take_least(alloc, sources, heads)? else {
         return Ok(None);
     };
     let count = processed.saturating_add(row_bytes(&row));
@@ -338,7 +323,7 @@ fn take_given<T: RowSource>(
         *processed = count;
         return Ok(Some(row));
     }
-    *processed = skip_hidden(alloc, order, sources, heads, &row, count)?;
+    *processed = skip_hidden(alloc, sources, heads, &row, count)?;
     Ok(Some(row))
 }
 
@@ -347,9 +332,9 @@ fn take_given<T: RowSource>(
 #[derive(Drop)]
 pub struct MergeIterator<T: RowEntryIterator> {
     sources: Vec<T>,
-    // The next row of each source. There are none until the sources are initialised.
-    heads: Vec<Option<RowEntry>>,
-    order: IterationOrder,
+    // The next row of each source, in the order of the merge. There are none until the sources are
+    // initialised.
+    heads: Heads,
     dedup: bool,
     initialised: bool,
     failure: Failure,
@@ -386,8 +371,7 @@ impl<T: RowEntryIterator> MergeIterator<T> {
     {
         MergeIterator {
             sources: iterators,
-            heads: Vec::new(alloc),
-            order,
+            heads: Heads::new(alloc, order),
             dedup: true,
             initialised: false,
             failure: Failure::new(),
@@ -460,11 +444,9 @@ impl<T: RowEntryIterator> RowEntryIterator for MergeIterator<T> {
         if !self.initialised {
             return Err(SlateDBError::IteratorNotInitialized);
         }
-        let order = self.order;
         let dedup = self.dedup;
         match take_given(
             alloc,
-            order,
             dedup,
             &mut self.sources,
             &mut self.heads,
@@ -482,8 +464,8 @@ impl<T: RowEntryIterator> RowEntryIterator for MergeIterator<T> {
             (state_of T.state self.old) (state_of T.state self.new) result }
         ensures all { is_exact (state_of T.state self.old) ≡ true → OnOk result
             (merge_of T.state self.new ≡ from_key next_key.now (merge_of T.state self.old)) }
-        ensures leaves { OnOk result (LeavesFrom next_key.now self.old.heads.items
-            self.old.sources.items self.new.heads.items self.new.sources.items) }
+        ensures leaves { OnOk result (LeavesFrom next_key.now self.old.heads.rows
+            self.old.sources.items self.new.heads.rows self.new.sources.items) }
         ensures handed { self.old.failure ≡ None → self.old.initialised
             ≡ true → IfErr result (IsHandedOn (map T.state self.new.sources.items)) }
         ensures idle { self.old.failure ≢ None → self.new ≡ self.old }
@@ -496,8 +478,7 @@ impl<T: RowEntryIterator> RowEntryIterator for MergeIterator<T> {
         if !self.initialised {
             return Err(SlateDBError::IteratorNotInitialized);
         }
-        let order = self.order;
-        match skip_below(alloc, order, &mut self.sources, &mut self.heads, next_key) {
+        match seek_heads(alloc, &mut self.sources, &mut self.heads, next_key) {
             Ok(()) => Ok(()),
             Err(error) => Err(self.failure.fail(error)),
         }

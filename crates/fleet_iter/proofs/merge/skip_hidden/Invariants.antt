@@ -14,11 +14,12 @@ invariant-hidden g l =
     let old = map f l.fn.sources.items in
     record {
       sound : AllByRecursion g.T.RowSource.sound l.sources.items;
-      taken : AllTaken l.heads.items ss;
-      rows : without_first (hides (row_of l.row)) (merged_left l.order l.heads.items ss) ≡ without_first (hides (row_of l.row)) (merged_left l.order l.fn.heads.items old);
+      taken : AllTaken l.heads.rows ss;
+      rows : without_first (hides (row_of l.row)) (merged_left l.heads.order l.heads.rows ss) ≡ without_first (hides (row_of l.row)) (merged_left l.fn.heads.order l.fn.heads.rows old);
+      order : l.heads.order ≡ l.fn.heads.order;
       same_manner : manners ss ≡ manners old;
-      bytes : counted l.count (kept_back (row_of l.row) (merged_left l.order l.heads.items ss)) ≡ counted l.processed (kept_back (row_of l.row) (merged_left l.order l.fn.heads.items old));
+      bytes : counted l.count (kept_back (row_of l.row) (merged_left l.heads.order l.heads.rows ss)) ≡ counted l.processed (kept_back (row_of l.row) (merged_left l.fn.heads.order l.fn.heads.rows old));
     }
 
 abbrev pub decreases-hidden : goal.decreases-hidden
-decreases-hidden g l = length (merged_left l.order l.heads.items (map g.T.RowSource.state l.sources.items))
+decreases-hidden g l = length (merged_left l.heads.order l.heads.rows (map g.T.RowSource.state l.sources.items))

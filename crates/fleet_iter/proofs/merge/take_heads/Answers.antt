@@ -4,6 +4,7 @@ use Rattle.std.proofs.lemmas.Result.{err_from_is_err_and}
 use Rattle.std.proofs.lemmas.List.{map-set, length-map, length-append}
 use Rattle.std.proofs.Math.ListN.{set, length-set}
 use Rattle.fleet_rows.specs.declared.row.RowEntry.{RowEntry}
+use Rattle.fleet_iter.specs.Heads.{HeadRows}
 use Rattle.fleet_iter.specs.Iteration.{IteratorState, CanFail}
 use Rattle.fleet_iter.specs.Merge.{AllBegun, lists, rows_left, all_whole, manners}
 use Rattle.fleet_iter.proofs.Merges.{alive_at, begin_more, all_begun, one_fails, one_failed, state_at, state_within, all_set}
@@ -14,7 +15,7 @@ first_row-requires-clause-alive g c =
     let f = g.T.RowSource.state in
     let xs = c.sources.sources.items in
     let x = c.index_mut.result.now in
-    alive_at c.sources.heads.items (map f xs) c.sources.i (f x) c.sources.invariant.begun c.sources.invariant.count
+    alive_at c.sources.heads.rows (map f xs) c.sources.i (f x) c.sources.invariant.begun c.sources.invariant.count
     (state_within f xs c.args.sources.now.items c.sources.i c.sources.invariant.size (omega arith)) (state_at f xs c.sources.i x c.index_mut.ensures.value)
 
 pub returns-in_err-head-clause-err : goal.returns-in_err-head-clause-err
@@ -40,7 +41,7 @@ pub sources-preserved : goal.sources-preserved
 sources-preserved g c =
     let f = g.T.RowSource.state in
     let xs = c.sources.sources.items in
-    let hs = c.sources.heads.items in
+    let hs = c.sources.heads.rows in
     let ss = map f xs in
     let k = c.sources.i in
     let y = c.first_row.new.source in
@@ -48,9 +49,9 @@ sources-preserved g c =
     let x = c.index_mut.result.now in
     let within = state_within f xs c.args.sources.now.items k c.sources.invariant.size (omega arith) in
     let m = begin_more hs ss k (f x) (f y) h c.sources.invariant.begun c.sources.invariant.count within (state_at f xs k x c.index_mut.ensures.value) c.in_ok-head.ensures.ok in
-    let pushed : c.push.new.self.items ≡ hs ++ h ∷ [] = c.in_ok-push.ensures.items in
+    let pushed : c.push.new.self.rows ≡ hs ++ h ∷ [] = ap (λ (w : HeadRows). w.rows) c.in_ok-push.ensures.ok in
     let moved : map f (set xs k y) ≡ set ss k (f y) = map-set f xs k y in
-    let more : length c.push.new.self.items ≡ length (hs ++ h ∷ []) = ap length pushed in
+    let more : length c.push.new.self.rows ≡ length (hs ++ h ∷ []) = ap length pushed in
     let most : length (hs ++ h ∷ []) ≡ length hs + length (h ∷ []) = length-append hs (h ∷ []) in
     let count : length hs ≡ k = c.sources.invariant.count in
     record {
@@ -59,6 +60,7 @@ sources-preserved g c =
       size = length-set xs k y ∙ c.sources.invariant.size;
       begun = subst (λ (w : List (Option RowEntry)). AllBegun w (map f (set xs k y))) (sym pushed) (subst (λ (w : List IteratorState). AllBegun (hs ++ h ∷ []) w) (sym moved) m.begun);
       rows = ap (λ (w : List (Option RowEntry)). lists w (rows_left (map f (set xs k y)))) pushed ∙ (ap (λ (w : List IteratorState). lists (hs ++ h ∷ []) (rows_left w)) moved ∙ (m.rows ∙ c.sources.invariant.rows));
+      order = ap (λ (w : HeadRows). w.order) c.in_ok-push.ensures.ok ∙ c.sources.invariant.order;
       same_manner = ap manners moved ∙ (m.same_manner ∙ c.sources.invariant.same_manner);
     }
 
@@ -69,5 +71,5 @@ returns-clause-ok g c =
     let ss = map f xs in
     let d : length ss ≡ length xs = length-map _ _ in
     let n : length xs ≡ length c.args.sources.now.items = c.sources.invariant.size in
-    let count : length c.sources.heads.items ≡ c.sources.i = c.sources.invariant.count in
-    record { rows = c.sources.invariant.rows; taken = all_begun c.sources.heads.items ss c.sources.invariant.begun (omega (arith, d, n, count)); same_manner = c.sources.invariant.same_manner }
+    let count : length c.sources.heads.rows ≡ c.sources.i = c.sources.invariant.count in
+    record { rows = c.sources.invariant.rows; taken = all_begun c.sources.heads.rows ss c.sources.invariant.begun (omega (arith, d, n, count)); same_manner = c.sources.invariant.same_manner }

@@ -11,9 +11,10 @@ invariant-sources g l =
     let old = map f l.fn.sources.items in
     record {
       sound : AllByRecursion g.T.RowSource.sound l.sources.items;
-      count : length l.heads.items ≡ l.i;
+      count : length l.heads.rows ≡ l.i;
       size : length l.sources.items ≡ length l.fn.sources.items;
-      begun : AllBegun l.heads.items ss;
-      rows : lists l.heads.items (rows_left ss) ≡ rows_left old;
+      begun : AllBegun l.heads.rows ss;
+      rows : lists l.heads.rows (rows_left ss) ≡ rows_left old;
+      order : l.heads.order ≡ l.fn.heads.order;
       same_manner : manners ss ≡ manners old;
     }

@@ -4,66 +4,49 @@ use Rattle.std.specs.Option.{option_map}
 use Rattle.std.proofs.lemmas.Result.{err_from_is_err_and}
 use Rattle.std.proofs.lemmas.List.{map-set, length-map}
 use Rattle.std.proofs.Math.ListN.{set}
+use Rattle.fleet_iter.specs.Heads.{HeadRows, refilled}
 use Rattle.fleet_iter.specs.Merge.{AllTaken, Takes, best}
 use Rattle.fleet_iter.specs.Iteration.{IteratorState}
 use Rattle.fleet_iter.specs.declared.iterator.IterationOrder.{IterationOrder}
 use Rattle.fleet_rows.specs.declared.row.RowEntry.{RowEntry}
-use Rattle.fleet_iter.proofs.Merges.{placed, placed_none, same_count, best_within, taken_at, refused, refusal_marks, one_failed, state_at, takes_none, takes_all, takes_head, steps_of, all_at}
+use Rattle.fleet_iter.proofs.Merges.{same_count, best_within, taken_at, refused, refusal_marks, one_failed, state_at, takes_none, takes_all, steps_of, all_at}
 use Rattle.fleet_iter.proofs.merge.take_least.Goals as goal
 
-place_of : (order : IterationOrder) (hs ms : List (Option RowEntry)) (r : Option ℕ) (k : ℕ) → r ≡ Some k → r ≡ option_map (λ p. p.0) (best order ms) → ms ≡ hs → Some k ≡ option_map (λ p. p.0) (best order hs)
-place_of order hs ms r k e f q = sym e ∙ (f ∙ ap (λ (w : List (Option RowEntry)). option_map (λ p. p.0) (best order w)) q)
-
--- At the place that was found there is the least head, and there is a source.
-found : {T : Type 0} (f : T → IteratorState) (order : IterationOrder) (hs : List (Option RowEntry)) (xs : List T) (k : ℕ) → AllTaken hs (map f xs) → Some k ≡ option_map (λ p. p.0) (best order hs)
-    → (x : RowEntry) × (best order hs ≡ Some (k, x)) × (k < length (map f xs))
-found f order hs xs k taken at =
-    let p = placed (best order hs) k at in
-    let within = best_within order hs k p.0 p.1 in
+-- At the place of the least head there is a source.
+source_within : {T : Type 0} (f : T → IteratorState) (order : IterationOrder) (hs : List (Option RowEntry)) (xs : List T) (k : ℕ) (x : RowEntry) → AllTaken hs (map f xs) → best order hs ≡ Some (k, x) → k < length (map f xs)
+source_within f order hs xs k x taken at =
+    let within = best_within order hs k x at in
     let count = same_count hs (map f xs) taken in
-    (p.0, p.1, omega (arith, within, count))
+    omega (arith, within, count)
 
 pub returns-in_default-clause-ok : goal.returns-in_default-clause-ok
-returns-in_default-clause-ok g c =
-    takes_none _ _ _ c.requires.taken (placed_none _ (sym c.in_default.is ∙ (c.least.ensures ∙ ap (λ (w : List (Option RowEntry)). option_map {U = ℕ} (λ p. p.0) (best c.args.order w)) c.deref.ensures.value)))
+returns-in_default-clause-ok g c = takes_none _ _ _ c.requires.taken (sym c.in_default.ensures)
 
 pub index_mut-requires : goal.index_mut-requires
 index_mut-requires g c =
-    let hs = c.args.heads.now.items in
-    let ss = map g.T.RowSource.state c.args.sources.now.items in
-    let p = placed (best c.args.order hs) c.in-Some.place (place_of c.args.order hs _ _ _ c.in-Some.is c.least.ensures c.deref.ensures.value) in
-    let a : c.in-Some.place < length hs = best_within c.args.order hs c.in-Some.place p.0 p.1 in
-    let b : length hs ≡ length ss = same_count hs ss c.requires.taken in
-    let d : length ss ≡ length c.args.sources.now.items = length-map _ _ in
-    omega (arith, a, b, d)
+    let f = g.T.RowSource.state in
+    let xs = c.args.sources.now.items in
+    let lt = source_within f c.args.heads.now.order c.args.heads.now.rows xs c.in-Some.place c.in-Some.field-0-1.now c.requires.taken (sym c.in-Some.ensures) in
+    let count : length (map f xs) ≡ length xs = length-map _ _ in
+    omega (arith, lt, count)
 
 pub next_row-requires : goal.next_row-requires
 next_row-requires g c =
-    let hs = c.args.heads.now.items in
+    let f = g.T.RowSource.state in
     let xs = c.args.sources.now.items in
-    let ss = map g.T.RowSource.state xs in
     let k = c.in-Some.place in
-    let p = placed (best c.args.order hs) k (place_of c.args.order hs _ _ _ c.in-Some.is c.least.ensures c.deref.ensures.value) in
-    let a : k < length hs = best_within c.args.order hs k p.0 p.1 in
-    let b : length hs ≡ length ss = same_count hs ss c.requires.taken in
-    let d : length ss ≡ length xs = length-map _ _ in
-    let lt : k < length xs = omega (arith, a, b, d) in
-    all_at g.T.RowSource.sound xs k c.index_mut.result.now lt c.index_mut.ensures.value c.requires.sound
-
-pub index_mut-requires-2 : goal.index_mut-requires-2
-index_mut-requires-2 g c =
-    let hs = c.args.heads.now.items in
-    let p = placed (best c.args.order hs) c.in-Some.place (place_of c.args.order hs _ _ _ c.in-Some.is c.least.ensures c.deref.ensures.value) in
-    omega (arith, best_within c.args.order hs c.in-Some.place p.0 p.1)
+    let lt = source_within f c.args.heads.now.order c.args.heads.now.rows xs k c.in-Some.field-0-1.now c.requires.taken (sym c.in-Some.ensures) in
+    let count : length (map f xs) ≡ length xs = length-map _ _ in
+    all_at g.T.RowSource.sound xs k c.index_mut.result.now (omega (arith, lt, count)) c.index_mut.ensures.value c.requires.sound
 
 pub returns-in_err-head-clause-err : goal.returns-in_err-head-clause-err
 returns-in_err-head-clause-err g c =
-    let hs = c.args.heads.now.items in
+    let hs = c.args.heads.now.rows in
     let f = g.T.RowSource.state in
     let xs = c.args.sources.now.items in
     let ss = map f xs in
     let k = c.in-Some.place in
-    let (row, at, lt) = found f c.args.order hs xs k c.requires.taken (place_of c.args.order hs _ _ _ c.in-Some.is c.least.ensures c.deref.ensures.value) in
+    let lt = source_within f c.args.heads.now.order hs xs k c.in-Some.field-0-1.now c.requires.taken (sym c.in-Some.ensures) in
     let s = f c.index_mut.result.now in
     let is = state_at f xs k c.index_mut.result.now c.index_mut.ensures.value in
     let t = taken_at hs ss c.requires.taken k lt s is in
@@ -72,12 +55,12 @@ returns-in_err-head-clause-err g c =
 
 pub returns-in_err-head-clause-handed : goal.returns-in_err-head-clause-handed
 returns-in_err-head-clause-handed g c =
-    let hs = c.args.heads.now.items in
+    let hs = c.args.heads.now.rows in
     let f = g.T.RowSource.state in
     let xs = c.args.sources.now.items in
     let ss = map f xs in
     let k = c.in-Some.place in
-    let (row, at, lt) = found f c.args.order hs xs k c.requires.taken (place_of c.args.order hs _ _ _ c.in-Some.is c.least.ensures c.deref.ensures.value) in
+    let lt = source_within f c.args.heads.now.order hs xs k c.in-Some.field-0-1.now c.requires.taken (sym c.in-Some.ensures) in
     let s = f c.index_mut.result.now in
     let is = state_at f xs k c.index_mut.result.now c.index_mut.ensures.value in
     let t = taken_at hs ss c.requires.taken k lt s is in
@@ -88,19 +71,24 @@ returns-in_err-head-clause-handed g c =
 
 pub returns-clause-ok : goal.returns-clause-ok
 returns-clause-ok g c =
-    let hs = c.args.heads.now.items in
+    let order = c.args.heads.now.order in
+    let hs = c.args.heads.now.rows in
     let f = g.T.RowSource.state in
     let xs = c.args.sources.now.items in
     let ss = map f xs in
     let k = c.in-Some.place in
-    let (row, at, lt) = found f c.args.order hs xs k c.requires.taken (place_of c.args.order hs _ _ _ c.in-Some.is c.least.ensures c.deref.ensures.value) in
+    let row = c.in-Some.field-0-1.now in
+    let at : best order hs ≡ Some (k, row) = sym c.in-Some.ensures in
+    let lt = source_within f order hs xs k row c.requires.taken at in
     let s = f c.index_mut.result.now in
     let is = state_at f xs k c.index_mut.result.now c.index_mut.ensures.value in
     let t = taken_at hs ss c.requires.taken k lt s is in
-    let st = steps_of t.0 s (f c.next_row.new.self) c.in_ok-head.head t.1 c.in_ok-head.ensures.next in
-    let whole = takes_all c.args.order hs ss c.requires.taken k row at s (f c.next_row.new.self) c.in_ok-head.head is st in
-    let given : Some row ≡ c.replace.result = sym ((takes_head c.args.order hs ss c.requires.taken k row at).head c.index_mut-2.result.now) ∙ (sym c.index_mut-2.ensures.value ∙ sym c.replace.ensures.value) in
-    let A : Option RowEntry → _ = λ o. Takes c.args.order false hs ss (set hs k c.in_ok-head.head) (set ss k (f c.next_row.new.self)) o in
-    let B : List IteratorState → _ = λ w. Takes c.args.order false hs ss (set hs k c.in_ok-head.head) w c.replace.result in
-    let D : Option RowEntry → _ = λ h. Takes c.args.order false hs ss (set hs k h) (map f (set xs k c.next_row.new.self)) c.replace.result in
-    subst D (sym c.replace.ensures.after) (subst B (sym (map-set f xs k c.next_row.new.self)) (subst A given whole))
+    let y = c.next_row.new.self in
+    let head = c.in_ok-head.head in
+    let whole = takes_all order hs ss c.requires.taken k row at s (f y) head is (steps_of t.0 s (f y) head t.1 c.in_ok-head.ensures.next) in
+    let given : Some row ≡ c.replace_least.result = sym (c.replace_least.ensures.taken ∙ ap (option_map {U = RowEntry} (λ p. p.1)) at) in
+    let rows : set hs k head ≡ c.replace_least.new.self.rows = sym (ap (λ (h : HeadRows). h.rows) c.replace_least.ensures.heads ∙ ap (λ b. refilled b head hs) at) in
+    let A : Option RowEntry → _ = λ o. Takes order false hs ss (set hs k head) (set ss k (f y)) o in
+    let B : List IteratorState → _ = λ w. Takes order false hs ss (set hs k head) w c.replace_least.result in
+    let D : List (Option RowEntry) → _ = λ w. Takes order false hs ss w (map f (set xs k y)) c.replace_least.result in
+    subst D rows (subst B (sym (map-set f xs k y)) (subst A given whole))
