@@ -12,3 +12,5 @@ pub mod Lengths
 pub mod Index
 pub mod Tells
 pub mod Stand
+pub mod Glances
+pub mod Places

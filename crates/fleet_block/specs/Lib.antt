@@ -1,3 +1,5 @@
 pub mod Cuts
 pub mod Finds
 pub mod Laws
+pub mod Glances
+pub mod Places

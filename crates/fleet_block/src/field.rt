@@ -1,17 +1,53 @@
 //! Reading the fields of a row at a place in some bytes.
 
-ghost use Rattle.std.specs.Prelude.{◌≡◌, ◌<◌, ◌≤◌, ◌^◌, ◌%◌, ◌++◌, is_some, length, slice_range, IfOk, IfSome, IsOkUnless};
+ghost use Rattle.std.specs.Prelude.{◌≡◌, ◌<◌, ◌≤◌, ◌^◌, ◌%◌, ◌+◌, ◌++◌, is_some, length, slice_range, IfOk, IfSome, IsOkUnless};
 ghost use Rattle.std.specs.Int.{w32, to_be_bytes};
 ghost use Rattle.row_model.specs.Bounds.{IsStampOrNone};
 ghost use Rattle.row_model.specs.Sizes.{content_len};
 ghost use Rattle.row_model.specs.TableBytes.{content_bytes, content_flag, key_bytes, shared_len, stamp_bytes};
 ghost use Rattle.fleet_rows.specs.Row.{content_of};
 ghost use Rattle.fleet_block.specs.Finds.{Finds};
+ghost use Rattle.fleet_block.specs.Glances.{key_of};
 
 use crate::number::{u16_at, u32_at, u64_at};
 use bytes::Bytes;
 use fleet_rows::{SlateDBError, ValueDeletable};
 use std::alloc::Global;
+
+/// Where a key stands: it has so many bytes of its block's first key, and then `len` bytes from
+/// `start` on.
+#[derive(Clone, Copy, Debug)]
+pub(crate) struct KeyParts {
+    pub(crate) shared: usize,
+    pub(crate) start: usize,
+    pub(crate) len: usize,
+}
+
+/// Where the key at this place stands, which may share bytes with the block's first key, and the
+/// place behind it.
+pub(crate) fn key_parts_at(bytes: &Bytes, place: usize, first: &[u8]) -> Option<(KeyParts, usize)>
+    requires { place ≤ length bytes.now }
+    ensures found { Finds (key_of first.now bytes.now)
+        (λ k. key_bytes (shared_len first.now k) k) (λ k. length k ≤ 65535) bytes.now place result }
+    ensures within { IfSome result (λ f. (f.0.shared ≤ length first.now)
+        × (f.0.start + f.0.len ≡ f.1) × (f.1 ≤ length bytes.now)) }
+{
+    let Some((shared, place)) = u16_at(bytes, place) else {
+        return None;
+    };
+    let Some((len, start)) = u16_at(bytes, place) else {
+        return None;
+    };
+    let shared = shared as usize;
+    let len = len as usize;
+    if first.len() < shared {
+        return None;
+    }
+    if bytes.len() - start < len {
+        return None;
+    }
+    Some((KeyParts { shared, start, len }, start + len))
+}
 
 /// The key at this place, which may share bytes with the block's first key, and the place behind
 /// it.
@@ -27,20 +63,10 @@ pub(crate) fn key_at(
     ensures within { IfOk result (λ found. IfSome found (λ f. f.1 ≤ length bytes.now)) }
     ensures memory { IsOkUnless result SlateDBError.Memory }
 {
-    let Some((shared, place)) = u16_at(bytes, place) else {
+    let Some((parts, end)) = key_parts_at(bytes, place, first) else {
         return Ok(None);
     };
-    let Some((len, place)) = u16_at(bytes, place) else {
-        return Ok(None);
-    };
-    if first.len() < shared as usize {
-        return Ok(None);
-    }
-    if bytes.len() - place < len as usize {
-        return Ok(None);
-    }
-    let end = place + len as usize;
-    let key = joined(alloc, &first[..shared as usize], bytes, place, end)?;
+    let key = joined(alloc, &first[..parts.shared], bytes, parts.start, end)?;
     Ok(Some((key, end)))
 }
 

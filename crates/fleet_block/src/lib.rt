@@ -5,8 +5,10 @@ mod block;
 mod cut;
 mod field;
 mod fits;
+mod glance;
 mod laws;
 mod number;
+mod place;
 mod put;
 mod read;
 mod row;
@@ -15,10 +17,12 @@ mod taken;
 mod write;
 
 pub use block::block_at;
+pub use glance::compared_at;
 pub use laws::{
     blocks_stand_in_bytes, bytes_tell_rows, rows_are_cut_into_blocks, rows_have_encoded_sizes,
 };
+pub use place::BlockPlace;
 pub use read::rows_from_bytes;
 pub use row::row_at;
 pub use taken::are_strictly_ordered;
-pub use write::bytes_from_rows;
+pub use write::{bytes_from_rows, written_rows};

@@ -4,13 +4,48 @@ ghost use Rattle.std.specs.Prelude.{◌≡◌, ◌++◌, ◌<◌, ◌^◌, lengt
 ghost use Rattle.std.specs.Int.{w16, w64, to_be_bytes};
 ghost use Rattle.std.specs.List.{AllByRecursion, flat_map};
 ghost use Rattle.row_model.specs.Bounds.{IsInBounds};
-ghost use Rattle.row_model.specs.TableBytes.{header_bytes, row_bytes, rows_bytes, table_bytes, IsWritable};
+ghost use Rattle.row_model.specs.TableBytes.{blocks_of_rows, header_bytes, row_bytes, rows_bytes, table_bytes, IsWritable};
 ghost use Rattle.fleet_rows.specs.Row.{rows_of};
+ghost use Rattle.fleet_block.specs.Places.{places_from};
 
+use crate::BlockPlace;
 use crate::cut::first_block_len;
 use crate::put::{put_row, put_u16, put_u64};
 use fleet_rows::{RowEntry, SlateDBError};
 use std::alloc::Global;
+
+/// The bytes of a table that has these rows, and where its blocks begin. The numbers of the rows
+/// fit their places. The only error is `Memory`.
+pub fn written_rows(
+    alloc: Global,
+    rows: &[RowEntry],
+) -> Result<(Vec<u8>, Vec<BlockPlace>), SlateDBError>
+    requires { AllByRecursion IsInBounds (rows_of rows.now) }
+    ensures bytes { IfOk result (λ written. written.0.items ≡ table_bytes (rows_of rows.now)) }
+    ensures places { IfOk result
+        (λ written. written.1.items ≡ places_from 0 0 (blocks_of_rows 0 (rows_of rows.now))) }
+    ensures fit { OnOk result (AllByRecursion IsWritable (rows_of rows.now)) }
+    ensures memory { IsOkUnless result SlateDBError.Memory }
+{
+    let mut headers = Vec::new(alloc);
+    let mut written = Vec::new(alloc);
+    let mut places = Vec::new(alloc);
+    let mut row = 0;
+    let mut rest = rows;
+    'rest: while !rest.is_empty() {
+        let (block, later) = rest.split_at(first_block_len(rest));
+        let place = written.len();
+        places.push(BlockPlace { row, place })?;
+        put_block(&mut headers, &mut written, block)?;
+        row += block.len();
+        rest = later;
+    }
+    let mut out = Vec::new(alloc);
+    put_u64(&mut out, places.len() as u64)?;
+    out.extend_from_slice(headers.as_slice())?;
+    out.extend_from_slice(written.as_slice())?;
+    Ok((out, places))
+}
 
 /// The bytes of a table that has these rows. The numbers of the rows fit their places. The only
 /// error is `Memory`.
@@ -20,21 +55,8 @@ pub fn bytes_from_rows(alloc: Global, rows: &[RowEntry]) -> Result<Vec<u8>, Slat
     ensures fit { OnOk result (AllByRecursion IsWritable (rows_of rows.now)) }
     ensures memory { IsOkUnless result SlateDBError.Memory }
 {
-    let mut headers = Vec::new(alloc);
-    let mut written = Vec::new(alloc);
-    let mut count = 0;
-    let mut rest = rows;
-    'rest: while !rest.is_empty() {
-        let (block, later) = rest.split_at(first_block_len(rest));
-        put_block(&mut headers, &mut written, block)?;
-        count += 1;
-        rest = later;
-    }
-    let mut out = Vec::new(alloc);
-    put_u64(&mut out, count)?;
-    out.extend_from_slice(headers.as_slice())?;
-    out.extend_from_slice(written.as_slice())?;
-    Ok(out)
+    let (bytes, _) = written_rows(alloc, rows)?;
+    Ok(bytes)
 }
 
 fn put_block(

@@ -5,7 +5,7 @@ use Rattle.std.proofs.lemmas.List.{length-drop, length-append}
 use Rattle.row_model.specs.TableBytes.{shared_len}
 use Rattle.fleet_block.proofs.Numbers.{part_found}
 use Rattle.fleet_block.proofs.SharedKeys.{shared_within, key_joined}
-use Rattle.fleet_block.proofs.field.key_at.Goals as goal
+use Rattle.fleet_block.proofs.field.key_parts_at.Goals as goal
 
 pub returns-in_default-clause-found : goal.returns-in_default-clause-found
 returns-in_default-clause-found c k others fits e =
@@ -27,14 +27,14 @@ returns-then-first-shared-clause-found c k others fits e =
     let one = c.in-Some.ensures.found shared (to_be_bytes w16 (length k - shared) ++ (drop shared k ++ others)) (omega (arith, within.1)) e in
     absurd (omega (arith, one.0, within.0))
 
-pub returns-then-len-place-clause-found : goal.returns-then-len-place-clause-found
-returns-then-len-place-clause-found c k others fits e =
+pub returns-then-len-start-clause-found : goal.returns-then-len-start-clause-found
+returns-then-len-start-clause-found c k others fits e =
     let shared : ℕ = shared_len c.args.first.now k in
     let within = shared_within c.args.first.now k in
     let one = c.in-Some.ensures.found shared (to_be_bytes w16 (length k - shared) ++ (drop shared k ++ others)) (omega (arith, within.1)) e in
     let two = c.in-Some-u16_at.ensures.found (length k - shared) (drop shared k ++ others) (omega arith) one.1 in
     let all = ap length two.1 in
-    absurd (omega (arith, two.0, all, length-drop c.in-Some-u16_at.place c.args.bytes.now, length-append (drop shared k) others, length-drop shared k))
+    absurd (omega (arith, two.0, all, length-drop c.in-Some-u16_at.start c.args.bytes.now, length-append (drop shared k) others, length-drop shared k))
 
 pub returns-clause-found : goal.returns-clause-found
 returns-clause-found c k others fits e =
@@ -42,6 +42,6 @@ returns-clause-found c k others fits e =
     let within = shared_within c.args.first.now k in
     let one = c.in-Some.ensures.found shared (to_be_bytes w16 (length k - shared) ++ (drop shared k ++ others)) (omega (arith, within.1)) e in
     let two = c.in-Some-u16_at.ensures.found (length k - shared) (drop shared k ++ others) (omega arith) one.1 in
-    let part : List ℕ = slice_range c.args.bytes.now c.in-Some-u16_at.place (c.in-Some-u16_at.place + c.in-Some-u16_at.len) in
-    let rest = part_found (drop shared k) c.args.bytes.now others part c.in-Some-u16_at.place c.in-Some-u16_at.len (two.0 ∙ sym (length-drop shared k)) two.1 refl in
-    (c.in_ok-key.ensures.bytes ∙ ap (λ n. take n c.args.first.now ++ part) one.0 ∙ ap (λ xs. take shared c.args.first.now ++ xs) rest.0 ∙ key_joined c.args.first.now k, rest.1)
+    let part : List ℕ = slice_range c.args.bytes.now c.in-Some-u16_at.start (c.in-Some-u16_at.start + c.in-Some-u16_at.len) in
+    let rest = part_found (drop shared k) c.args.bytes.now others part c.in-Some-u16_at.start c.in-Some-u16_at.len (two.0 ∙ sym (length-drop shared k)) two.1 refl in
+    (ap (λ n. take n c.args.first.now ++ part) one.0 ∙ ap (λ xs. take shared c.args.first.now ++ xs) rest.0 ∙ key_joined c.args.first.now k, rest.1)
