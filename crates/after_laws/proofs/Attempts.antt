@@ -1,19 +1,19 @@
 -- A worker that fits also fits with fewer attempts, and with one more that fits.
 use Rattle.std.proofs.Common.{◌≡◌, refl, sym, ◌∙◌, ap, subst, ℕ, ◌<◌, List, [], ◌∷◌, cond, Bool, true, false, inl, inr, ◌⊎◌, arith}
-use Rattle.std.specs.Prelude.{filter, nat_lt}
+use Rattle.std.specs.Prelude.{IsTrue, not, filter, nat_lt}
 use Rattle.std.specs.List.{AllByRecursion}
 use Rattle.std.proofs.lemmas.Bool.{ltb-true, ltb-false}
 use Rattle.row_model.specs.Lists.{Pairs}
 use Rattle.row_model.specs.Fold.{Operator}
-use Rattle.fleet_model.specs.Jobs.{JobSpec, knows_cut}
+use Rattle.fleet_model.specs.Jobs.{JobSpec, contains, knows_cut}
 use Rattle.fleet_model.specs.Store.{stored_jobs}
-use Rattle.fleet_model.specs.Parties.{Attempt, LiveWorker, is_live, live_attempts, put_attempt}
+use Rattle.fleet_model.specs.Parties.{Attempt, LiveWorker, is_live, live_attempts, without_attempts, put_attempt}
 use Rattle.fleet_model.specs.AttemptsFit.{LiveFits, AttemptStands}
 use Rattle.step_model.specs.Past.{Told}
 use Rattle.step_model.specs.Faithful.{Faithful}
 use Rattle.step_model.specs.TablesKept.{AreApart}
 use Rattle.step_model.specs.Fits.{AttemptHeld, NotesOwn, WorkerHolds, noted_tables}
-use Rattle.step_laws.proofs.Elements.{IsIn, all_at, all_from, all_to}
+use Rattle.step_laws.proofs.Elements.{IsIn, all_at, all_from, all_to, in_contains}
 use Rattle.step_laws.proofs.Deletions.{in_filter}
 use Rattle.step_laws.proofs.TableReplays.{all_filter}
 use Rattle.step_laws.proofs.OwnTables.{apart_from, apart_at}
@@ -152,3 +152,23 @@ holds_added merge told w a n h =
       own = all_put_live _ live a w.attempts n.own h.own;
       apart = pairs_put (λ x y. AreApart (noted_tables x) (noted_tables y)) live a w.attempts (λ e b there. let one = n.apart e b there in (one, turned (noted_tables a) (noted_tables b) one)) h.apart;
     }
+
+-- ---- two live attempts
+
+-- Two live attempts have noted no table in common.
+pub apart_two : (xs : List Attempt) (a b : Attempt) → Pairs (λ x y. AreApart (noted_tables x) (noted_tables y)) xs → IsIn a xs → IsIn b xs → (a ≡ b → ⊥) → AreApart (noted_tables a) (noted_tables b)
+apart_two [] a b h one other differs = absurd one
+apart_two (x ∷ xs) a b h (inl first) (inl second) differs = absurd (differs (sym first ∙ second))
+apart_two (x ∷ xs) a b h (inl first) (inr other) differs = subst (λ (y : Attempt). AreApart (noted_tables y) (noted_tables b)) first (all_at _ xs b h.0 other)
+apart_two (x ∷ xs) a b h (inr one) (inl second) differs = turned (noted_tables b) (noted_tables a) (subst (λ (y : Attempt). AreApart (noted_tables y) (noted_tables a)) second (all_at _ xs a h.0 one))
+apart_two (x ∷ xs) a b h (inr one) (inr other) differs = apart_two xs a b h.1 one other differs
+
+-- An attempt that is left without those of a job is at another job.
+pub left_other : (job : ℕ) (attempts : List Attempt) (b : Attempt) → IsIn b (without_attempts (job ∷ []) attempts) → IsIn b attempts × (b.job ≡ job → ⊥)
+left_other job attempts b there =
+    let found = from_filter (λ (a : Attempt). not (contains (job ∷ []) a.job)) attempts b there in
+    (found.0, λ same. refused (contains (job ∷ []) b.job) found.1 (in_contains (job ∷ []) b.job (inl (sym same))))
+  where
+    refused : (c : Bool) → not c ≡ true → IsTrue c → ⊥
+    refused true e h = absurd (cc e)
+    refused false e h = absurd (cc h)

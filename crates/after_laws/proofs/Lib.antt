@@ -5,3 +5,5 @@ pub mod OwnCalls
 pub mod Live
 pub mod Beats
 pub mod Releases
+pub mod Tables
+pub mod Outputs

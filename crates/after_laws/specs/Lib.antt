@@ -2,3 +2,4 @@ pub mod OwnCalls
 pub mod Behind
 pub mod Beats
 pub mod Releases
+pub mod Outputs

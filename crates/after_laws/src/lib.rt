@@ -6,6 +6,7 @@
 ghost use Rattle.row_model.specs.Fold.{Operator};
 ghost use Rattle.after_laws.specs.Beats.{BeatsKeepFit};
 ghost use Rattle.after_laws.specs.OwnCalls.{OwnCallsKeep};
+ghost use Rattle.after_laws.specs.Outputs.{OutputsKeepFit};
 ghost use Rattle.after_laws.specs.Releases.{ReleasesKeepFit};
 
 /// A lawful call of the worker itself keeps what it holds, if no fault strikes the call. Its puts of
@@ -24,4 +25,10 @@ pub fn beats_keep_fit()
 /// more.
 pub fn releases_keep_fit()
     ensures { ReleasesKeepFit }
+{}
+
+/// A worker fits behind its output. The table that it put is noted for the range whose next rows it
+/// holds. Where the operator refused a fold, the attempt is given back.
+pub fn outputs_keep_fit()
+    ensures { OutputsKeepFit }
 {}

@@ -77,23 +77,23 @@ cut_sound size rows good =
 
 -- ---- rows of outputs
 
-flat_append : {A B : Type 0} (f : A → List B) (xs ys : List A) → flat_map f (xs ++ ys) ≡ flat_map f xs ++ flat_map f ys
+pub flat_append : {A B : Type 0} (f : A → List B) (xs ys : List A) → flat_map f (xs ++ ys) ≡ flat_map f xs ++ flat_map f ys
 flat_append f [] ys = refl
 flat_append f (x ∷ xs) ys = ap (λ zs. f x ++ zs) (flat_append f xs ys) ∙ sym (append_assoc (f x) (flat_map f xs) (flat_map f ys))
 
-flat_same : {A B : Type 0} (f g : A → List B) (xs : List A) → AllByRecursion (λ x. f x ≡ g x) xs → flat_map f xs ≡ flat_map g xs
+pub flat_same : {A B : Type 0} (f g : A → List B) (xs : List A) → AllByRecursion (λ x. f x ≡ g x) xs → flat_map f xs ≡ flat_map g xs
 flat_same f g [] same = refl
 flat_same f g (x ∷ xs) same =
     let first = same.0 in
     let rest = flat_same f g xs same.1 in
     λ i. first i ++ rest i
 
-drop_front : {A : Type 0} (xs ys : List A) → drop (length xs) (xs ++ ys) ≡ ys
+pub drop_front : {A : Type 0} (xs ys : List A) → drop (length xs) (xs ++ ys) ≡ ys
 drop_front [] ys = refl
 drop_front (x ∷ xs) ys = drop_front xs ys
 
 -- A prefix and what is behind it are the whole.
-prefix_whole : (xs all : List Row) → IsPrefixOf xs all → xs ++ drop (length xs) all ≡ all
+pub prefix_whole : (xs all : List Row) → IsPrefixOf xs all → xs ++ drop (length xs) all ≡ all
 prefix_whole xs all prefix = ap (λ (ys : List Row). xs ++ ys) (ap (drop (length xs)) (sym prefix.1) ∙ drop_front xs prefix.0) ∙ prefix.1
 
 made_rows : (tables : Tables) (made : List (ℕ × List Row)) → AllByRecursion (λ p. table_rows tables p.0 ≡ p.1) made → noted_rows tables (ids_of made) ≡ flat_map (λ table. table) (tables_of made)

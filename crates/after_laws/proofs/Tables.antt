@@ -1,0 +1,88 @@
+-- Runs that get tables and put tables.
+use Rattle.std.proofs.Common.{◌≡◌, refl, sym, ap, subst, ℕ, zero, suc, List, [], ◌∷◌, ◌++◌, Bool, true, false, Option, Some, None, map}
+use Rattle.std.specs.Prelude.{IsTrue, flat_map}
+use Rattle.std.specs.List.{AllByRecursion}
+use Rattle.std.proofs.lemmas.List.{append-nil, append_assoc}
+use Rattle.row_model.specs.Rows.{Row}
+use Rattle.fleet_model.specs.Nodes.{is_among}
+use Rattle.fleet_model.specs.Handles.{context_tables}
+use Rattle.fleet_model.specs.History.{GetTable}
+use Rattle.fleet_model.specs.Store.{Store, is_held}
+use Rattle.fleet_model.specs.Parties.{Attempt, LiveWorker}
+use Rattle.fleet_model.specs.Sweeps.{attempt_tables}
+use Rattle.fleet_model.specs.Exchanges.{Exchange, Plain, DrawsTable, PutsTable, next_table_id}
+use Rattle.step_model.specs.Past.{Told}
+use Rattle.step_model.specs.Rivals.{Caller, told_by}
+use Rattle.step_model.specs.Keeps.{Keeps}
+use Rattle.step_model.specs.Fits.{WorkerHolds, noted_tables}
+use Rattle.step_model.specs.Course.{Course, Calls, calls_each, puts_table, puts_tables, puts_ranges}
+use Rattle.step_model.specs.CourseRuns.{End, StopsAt, Runs, IsLawfulCourse}
+use Rattle.step_model.specs.StepEnds.{StepEnd}
+use Rattle.step_model.specs.OutputSteps.{gets_tables}
+use Rattle.step_laws.proofs.Elements.{IsIn, all_at, all_back, all_true_front}
+use Rattle.step_laws.proofs.Held.{held_put}
+use Rattle.course_laws.proofs.Beats.{Fit}
+use Rattle.course_laws.proofs.Free.{IsUnput, rivals_unput, drawn_unput}
+use Rattle.course_laws.proofs.Made.{Relies, State, state_met, state_drawn, state_put, state_table, ids_of, tables_of, all_of}
+use Rattle.after_laws.proofs.Runs.{Made, call_by}
+
+-- Where a run of the worker stops at a call, this follows.
+abbrev pub Stops : {A : Type 0} → Type 0 → Caller → LiveWorker → Told → End (StepEnd A) → Type 0
+Stops R who w new end = (x : Exchange) (met : Told) → Fit who w met → StopsAt who x met new end → R
+
+fit_of : (who : Caller) (w : LiveWorker) (start : Told) (a : Attempt) (pairs : List (ℕ × List Row)) (told : Told) → State who w start a pairs told → Fit who w told
+fit_of who w start a pairs told s = record { kept = s.kept; holds = s.holds }
+
+-- ---- gets
+
+-- Gets of tables leave what was made.
+pub gets : {A : Type 0} (R : Type 0) (who : Caller) (w : LiveWorker) (start : Told) (a : Attempt) (next : Course (StepEnd A)) (new : Told) (end : End (StepEnd A)) → Relies who w → Stops R who w new end
+    → ((told : Told) → State who w start a [] told → IsLawfulCourse who told next → Runs who next told new end → R)
+    → (tables : List ℕ) (old : Told) → State who w start a [] old → IsLawfulCourse who old (calls_each (gets_tables tables) next) → Runs who (calls_each (gets_tables tables) next) old new end → R
+gets R who w start a next new end r stops goes [] old s lawful run = goes old s lawful run
+gets {A} R who w start a next new end r stops goes (table ∷ tables) old s lawful run =
+    call_by R who w (Plain (GetTable table)) (λ (met : Store). calls_each (gets_tables tables) next) old new end r (fit_of who w start a [] old s) lawful run (λ met fit stop. stops (Plain (GetTable table)) met fit stop)
+    (λ m. gets {A = A} R who w start a next new end r stops goes tables (told_by who.line who.party (Plain (GetTable table)) None m.met) (state_table who w start a [] table m.met r (state_met who w start a [] old m.met r s m.rivals)) m.further m.run)
+
+-- ---- one table
+
+-- No attempt of the worker has noted the table.
+abbrev pub IsUnnoted : LiveWorker → ℕ → Type 0
+IsUnnoted w table = (b : Attempt) → IsIn b w.attempts → IsIn table (noted_tables b) → ⊥
+
+-- A table that was not put is noted nowhere.
+unnoted : (who : Caller) (w : LiveWorker) (told : Told) (table : ℕ) → Keeps who.merge told → WorkerHolds who.merge told w → is_among told.store.tables table ≡ false → IsUnnoted w table
+unnoted who w told table kept holds new b there noted =
+    refused (is_among told.store.tables table) new
+    (held_put told.store table (all_at _ (noted_tables b) table (all_back _ b.sources (context_tables (Some b.context)) (all_true_front (is_held told.store) (attempt_tables b) (all_at _ w.attempts b (holds.fits kept.stored.replay.specs kept.faithful).each there).held)) noted))
+  where
+    refused : (b : Bool) → b ≡ false → IsTrue b → ⊥
+    refused true e h = absurd (cc e)
+    refused false e h = absurd (cc h)
+
+pub puts_one : {A : Type 0} (R : Type 0) (who : Caller) (w : LiveWorker) (start : Told) (a : Attempt) (moment : ℕ) (rows : List Row) (pairs : List (ℕ × List Row)) (next : ℕ → Course (StepEnd A)) (new : Told) (end : End (StepEnd A)) → Relies who w → Stops R who w new end
+    → ((told : Told) (table : ℕ) → State who w start a (pairs ++ (table, rows) ∷ []) told → IsUnnoted w table → IsLawfulCourse who told (next table) → Runs who (next table) told new end → R)
+    → (old : Told) → State who w start a pairs old → IsLawfulCourse who old (puts_table moment rows next) → Runs who (puts_table moment rows next) old new end → R
+puts_one {A} R who w start a moment rows pairs next new end r stops goes old s lawful run =
+    call_by R who w (DrawsTable moment) then old new end r (fit_of who w start a pairs old s) lawful run (λ met fit stop. stops (DrawsTable moment) met fit stop) drawn
+  where
+    then : Store → Course (StepEnd A)
+    then met = Calls (PutsTable (next_table_id moment met) rows) (λ after. next (next_table_id moment met))
+
+    drawn : Made who w (DrawsTable moment) then old new end → R
+    drawn d = call_by R who w (PutsTable table rows) (λ (after : Store). next table) behind new end r (fit_of who w start a pairs behind state) d.further d.run (λ met fit stop. stops (PutsTable table rows) met fit stop) put
+      where
+        table : ℕ
+        table = next_table_id moment d.met.store
+
+        behind : Told
+        behind = told_by who.line who.party (DrawsTable moment) None d.met
+
+        state : State who w start a pairs behind
+        state = state_drawn who w start a pairs moment d.met r d.room (state_met who w start a pairs old d.met r s d.rivals)
+
+        put : Made who w (PutsTable table rows) (λ (after : Store). next table) behind new end → R
+        put m =
+            let unput = rivals_unput who table behind m.met r.keep d.kept m.rivals (drawn_unput who d.met moment r.keep d.fit.kept d.room) in
+            goes (told_by who.line who.party (PutsTable table rows) None m.met) table (state_put who w start a pairs table rows m.met r unput m.lawful (state_met who w start a pairs behind m.met r state m.rivals))
+            (unnoted who w m.met table m.fit.kept m.fit.holds unput.last.new) m.further m.run
