@@ -7,3 +7,4 @@ pub mod Beats
 pub mod Releases
 pub mod Tables
 pub mod Outputs
+pub mod Finishes

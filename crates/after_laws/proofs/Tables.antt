@@ -19,7 +19,7 @@ use Rattle.step_model.specs.Course.{Course, Calls, calls_each, puts_table, puts_
 use Rattle.step_model.specs.CourseRuns.{End, StopsAt, Runs, IsLawfulCourse}
 use Rattle.step_model.specs.StepEnds.{StepEnd}
 use Rattle.step_model.specs.OutputSteps.{gets_tables}
-use Rattle.step_laws.proofs.Elements.{IsIn, all_at, all_back, all_true_front}
+use Rattle.step_laws.proofs.Elements.{IsIn, all_at, all_append, all_back, all_true_front}
 use Rattle.step_laws.proofs.Held.{held_put}
 use Rattle.course_laws.proofs.Beats.{Fit}
 use Rattle.course_laws.proofs.Free.{IsUnput, rivals_unput, drawn_unput}
@@ -86,3 +86,28 @@ puts_one {A} R who w start a moment rows pairs next new end r stops goes old s l
             let unput = rivals_unput who table behind m.met r.keep d.kept m.rivals (drawn_unput who d.met moment r.keep d.fit.kept d.room) in
             goes (told_by who.line who.party (PutsTable table rows) None m.met) table (state_put who w start a pairs table rows m.met r unput m.lawful (state_met who w start a pairs behind m.met r state m.rivals))
             (unnoted who w m.met table m.fit.kept m.fit.holds unput.last.new) m.further m.run
+
+-- ---- many tables
+
+-- No attempt of the worker has noted one of these tables.
+abbrev pub AreUnnoted : LiveWorker → List (ℕ × List Row) → Type 0
+AreUnnoted w made = AllByRecursion (λ p. IsUnnoted w p.0) made
+
+puts_list : {A : Type 0} (R : Type 0) (who : Caller) (w : LiveWorker) (start : Told) (a : Attempt) (moment : ℕ) (new : Told) (end : End (StepEnd A)) → Relies who w → Stops R who w new end → (tables : List (List Row)) (pairs : List (ℕ × List Row)) (next : List ℕ → Course (StepEnd A))
+    → ((told : Told) (made : List (ℕ × List Row)) → State who w start a (pairs ++ made) told → AreUnnoted w made → IsLawfulCourse who told (next (ids_of made)) → Runs who (next (ids_of made)) told new end → R)
+    → (old : Told) → State who w start a pairs old → IsLawfulCourse who old (puts_tables moment tables next) → Runs who (puts_tables moment tables next) old new end → R
+puts_list R who w start a moment new end r stops [] pairs next goes old s lawful run = goes old [] (subst (λ ps. State who w start a ps old) (sym (append-nil pairs)) s) tt lawful run
+puts_list {A} R who w start a moment new end r stops (rows ∷ tables) pairs next goes old s lawful run =
+    puts_one {A = A} R who w start a moment rows pairs (λ table. puts_tables moment tables (λ ids. next (table ∷ ids))) new end r stops
+    (λ told table state lacks further on. puts_list {A = A} R who w start a moment new end r stops tables (pairs ++ (table, rows) ∷ []) (λ ids. next (table ∷ ids))
+    (λ later made all none last rest. goes later ((table, rows) ∷ made) (subst (λ ps. State who w start a ps later) (append_assoc pairs ((table, rows) ∷ []) made) all) (lacks, none) last rest) told state further on) old s lawful run
+
+-- The puts of the tables of all ranges.
+pub puts_all : {A : Type 0} (R : Type 0) (who : Caller) (w : LiveWorker) (start : Told) (a : Attempt) (moment : ℕ) (new : Told) (end : End (StepEnd A)) → Relies who w → Stops R who w new end → (ranges : List (List (List Row))) (pairs : List (ℕ × List Row)) (next : List (List ℕ) → Course (StepEnd A))
+    → ((told : Told) (made : List (List (ℕ × List Row))) → State who w start a (pairs ++ all_of made) told → AreUnnoted w (all_of made) → IsLawfulCourse who told (next (map ids_of made)) → Runs who (next (map ids_of made)) told new end → R)
+    → (old : Told) → State who w start a pairs old → IsLawfulCourse who old (puts_ranges moment ranges next) → Runs who (puts_ranges moment ranges next) old new end → R
+puts_all R who w start a moment new end r stops [] pairs next goes old s lawful run = goes old [] (subst (λ ps. State who w start a ps old) (sym (append-nil pairs)) s) tt lawful run
+puts_all {A} R who w start a moment new end r stops (tables ∷ ranges) pairs next goes old s lawful run =
+    puts_list {A = A} R who w start a moment new end r stops tables pairs (λ ids. puts_ranges moment ranges (λ others. next (ids ∷ others)))
+    (λ told made state lacks further on. puts_all {A = A} R who w start a moment new end r stops ranges (pairs ++ made) (λ others. next (ids_of made ∷ others))
+    (λ later others all none last rest. goes later (made ∷ others) (subst (λ ps. State who w start a ps later) (append_assoc pairs made (all_of others)) all) (all_append _ made (all_of others) lacks none) last rest) told state further on) old s lawful run

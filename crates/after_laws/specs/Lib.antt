@@ -3,3 +3,4 @@ pub mod Behind
 pub mod Beats
 pub mod Releases
 pub mod Outputs
+pub mod Finishes

@@ -6,6 +6,7 @@
 ghost use Rattle.row_model.specs.Fold.{Operator};
 ghost use Rattle.after_laws.specs.Beats.{BeatsKeepFit};
 ghost use Rattle.after_laws.specs.OwnCalls.{OwnCallsKeep};
+ghost use Rattle.after_laws.specs.Finishes.{FinishesKeepFit};
 ghost use Rattle.after_laws.specs.Outputs.{OutputsKeepFit};
 ghost use Rattle.after_laws.specs.Releases.{ReleasesKeepFit};
 
@@ -31,4 +32,9 @@ pub fn releases_keep_fit()
 /// holds. Where the operator refused a fold, the attempt is given back.
 pub fn outputs_keep_fit()
     ensures { OutputsKeepFit }
+{}
+
+/// A worker fits behind its finish, and runs the finished attempt no more. Its other attempts stay.
+pub fn finishes_keep_fit()
+    ensures { FinishesKeepFit }
 {}

@@ -122,7 +122,7 @@ output_rows now then size all (r ∷ ranges) (ps ∷ made) old new e prefix =
     let rest = output_rows now then size all ranges made old.1 new.1 further prefix.1 in
     flat_append (table_rows now) (r.1 ++ ids_of ps) (concat (all_outputs ranges (map ids_of made))) ∙ (λ i. first i ++ rest i)
 
-outputs_all : (P : ℕ → Type 0) (ranges : List (Range × List ℕ)) (made : List (List (ℕ × List Row))) → AllByRecursion P (flat_map (λ range. range.1) ranges) → AllByRecursion (λ p. P p.0) (all_of made)
+pub outputs_all : (P : ℕ → Type 0) (ranges : List (Range × List ℕ)) (made : List (List (ℕ × List Row))) → AllByRecursion P (flat_map (λ range. range.1) ranges) → AllByRecursion (λ p. P p.0) (all_of made)
     → AllByRecursion P (concat (all_outputs ranges (map ids_of made)))
 outputs_all P [] made old new = tt
 outputs_all P (r ∷ ranges) [] old new = all_append P r.1 _ (all_front P r.1 _ old) (outputs_all P ranges [] (all_back P r.1 _ old) tt)
