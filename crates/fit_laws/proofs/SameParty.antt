@@ -28,7 +28,7 @@ pairs_back R [] ys h = h
 pairs_back R (x ∷ xs) ys h = pairs_back R xs ys h.1
 
 -- Two entries that say the same number are one, if no number is said twice.
-pub same_place : (f : Entry → List ℕ) (R : ℕ → ℕ → Type 0) (n : ℕ) → (R n n → ⊥) → (history : List Entry) (x y : Entry) → Pairs R (flat_map f history) → IsIn x history → IsIn y history → IsIn n (f x) → IsIn n (f y) → x ≡ y
+pub same_place : {B : Type 0} (f : Entry → List B) (R : B → B → Type 0) (n : B) → (R n n → ⊥) → (history : List Entry) (x y : Entry) → Pairs R (flat_map f history) → IsIn x history → IsIn y history → IsIn n (f x) → IsIn n (f y) → x ≡ y
 same_place f R n never [] x y h there other one two = absurd there
 same_place f R n never (e ∷ history) x y h (inl first) (inl second) one two = sym first ∙ second
 same_place f R n never (e ∷ history) x y h (inl first) (inr other) one two =

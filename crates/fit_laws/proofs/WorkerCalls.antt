@@ -1,5 +1,5 @@
 -- What notes, deletions, tables and manifests of others leave of a worker's fit.
-use Rattle.std.proofs.Common.{◌≡◌, refl, sym, ◌∙◌, subst, ℕ, ◌+◌, List, [], ◌∷◌, ◌++◌, Bool, false, inl, inr, Some, None}
+use Rattle.std.proofs.Common.{◌≡◌, refl, sym, ◌∙◌, ap, subst, ℕ, ◌+◌, List, [], ◌∷◌, ◌++◌, Bool, false, inl, inr, Some, None}
 use Rattle.std.specs.Prelude.{IsTrue, IfSome, ◌&&◌, flat_map, if◌then◌else◌}
 use Rattle.row_model.specs.Rows.{Row}
 use Rattle.row_model.specs.Settings.{Settings}
@@ -11,7 +11,7 @@ use Rattle.fleet_model.specs.Store.{Manifest, stored_jobs, is_held, AreHeld}
 use Rattle.fleet_model.specs.Parties.{Attempt, LiveWorker}
 use Rattle.fleet_model.specs.Sweeps.{attempt_tables}
 use Rattle.fleet_model.specs.JobsFit.{SettingsFit}
-use Rattle.fleet_model.specs.Claimed.{beaten_in}
+use Rattle.fleet_model.specs.Claimed.{beaten_in, if_earlier, origin}
 use Rattle.step_model.specs.Past.{Told}
 use Rattle.step_model.specs.Entries.{claims, was_claimed, did, party_eq, puts_table}
 use Rattle.step_model.specs.Faithful.{Faithful}
@@ -20,12 +20,12 @@ use Rattle.step_model.specs.TablesKept.{PutsKept}
 use Rattle.step_model.specs.Fits.{AttemptHeld}
 use Rattle.step_laws.proofs.Elements.{IsIn, all_to, all_true_front, all_true_from, any_front}
 use Rattle.step_laws.proofs.Mute.{IsMute, quiet_for}
-use Rattle.step_laws.proofs.Told.{settings_stay, ranges_stay}
+use Rattle.step_laws.proofs.Told.{beaten_stays, settings_stay, ranges_stay}
 use Rattle.step_laws.proofs.Alike.{settings_same}
 use Rattle.step_laws.proofs.Grown.{drawn_table_grows}
 use Rattle.step_laws.proofs.Bodies.{Body}
 use Rattle.step_laws.proofs.Held.{held_grows, rows_stay}
-use Rattle.step_laws.proofs.MuteBodies.{entered, Matches, faithful_before, claimed_quiet}
+use Rattle.step_laws.proofs.MuteBodies.{entered, Matches, faithful_before}
 use Rattle.step_laws.proofs.TableBodies.{with_table, same_with_table}
 use Rattle.step_laws.proofs.ManifestEpochs.{no_new_piece}
 use Rattle.step_laws.proofs.ManifestBodies.{with_manifest, faithful_before_manifest}
@@ -43,6 +43,10 @@ did_grows is party history entry h = any_front (λ (e : Entry). party_eq party e
 pub held_sources : (told : Told) (n : ℕ) (a : Attempt) (job : Job) → AttemptHeld told n a → job_with a.job (stored_jobs told.store) ≡ Some job → a.sources ≡ job.source_tables
 held_sources told n a job h e = subst (λ o. IfSome o (λ (j : Job). a.sources ≡ j.source_tables)) e h.sources
 
+-- An entry that is no heartbeat of the attempt's job leaves its origin.
+origin_quiet : (history : List Entry) (entry : Entry) (a : Attempt) → (if stood entry.answer then beaten_in a.job entry.event else None) ≡ None → origin history a.job a.number ≡ origin (history ++ entry ∷ []) a.job a.number
+origin_quiet history entry a quiet = sym (ap (if_earlier a.number) (beaten_stays a.job history entry quiet))
+
 -- ---- an entry alone
 
 pub follows_entry : (told : Told) (w : LiveWorker) (deleted : List ℕ) (jobs_drawn tables_drawn : ℕ) (entry : Entry) → IsMute (stood entry.answer) entry.event
@@ -50,7 +54,9 @@ pub follows_entry : (told : Told) (w : LiveWorker) (deleted : List ℕ) (jobs_dr
 follows_entry told w deleted jobs_drawn tables_drawn entry mute held = record {
   grows = λ job number h. claim_grows told.store.history entry w.number job number h;
   faithful = λ specs f. faithful_before told specs deleted jobs_drawn tables_drawn entry f;
-  claims = λ specs f a there h claimed. claimed_quiet told.store specs deleted jobs_drawn tables_drawn entry a.job a.number a.context (quiet_for _ _ a.job mute.quiet) claimed;
+  origins = λ a there h. origin_quiet told.store.history entry a (quiet_for _ _ a.job mute.quiet).beaten;
+  settings_told = λ specs f a there h s e. settings_stay told.store.tables specs told.store.history entry a.job a.number s (quiet_for _ _ a.job mute.quiet).beaten e;
+  ranges_told = λ a there h ranges e. ranges_stay told.store.history entry a.job a.number ranges (quiet_for _ _ a.job mute.quiet).beaten e;
   held = held;
   rows = λ id put. refl;
   jobs = λ a there h job e runs. e;
@@ -81,10 +87,9 @@ pub follows_table : (told : Told) (w : LiveWorker) (new : ℕ × List Row) → P
 follows_table told w new puts = record {
   grows = λ job number h. h;
   faithful = λ specs f. faithful_without_table told new specs puts f;
-  claims = λ specs f a there h claimed. record {
-    settings = settings_same (told.store.tables ++ new ∷ []) told.store.tables specs specs told.store.history a.job a.number (same_with_table told new specs puts) refl ∙ claimed.settings;
-    ranges = claimed.ranges;
-  };
+  origins = λ a there h. refl;
+  settings_told = λ specs f a there h s e. settings_same (told.store.tables ++ new ∷ []) told.store.tables specs specs told.store.history a.job a.number (same_with_table told new specs puts) refl ∙ e;
+  ranges_told = λ a there h ranges e. e;
   held = λ a there held. all_true_from (is_held (with_table told new).store) (attempt_tables a) (all_to _ _ (attempt_tables a) (λ id one it. held_grows told.store new id it) (all_true_front (is_held told.store) (attempt_tables a) held));
   rows = λ id put. rows_stay told.store.tables new id put;
   jobs = λ a there h job e runs. e;
@@ -109,10 +114,9 @@ pub follows_manifest : (merge : Operator) (told : Told) (specs : ℕ → JobSpec
 follows_manifest merge told specs w manifest entry b next quiet spares = record {
   grows = λ job number h. claim_grows told.store.history entry w.number job number h;
   faithful = λ others f. faithful_before_manifest merge told specs others manifest entry b next f;
-  claims = λ others f a there h claimed. record {
-    settings = settings_stay told.store.tables others told.store.history entry a.job a.number _ (quiet a.job) claimed.settings;
-    ranges = ranges_stay told.store.history entry a.job a.number _ (quiet a.job) claimed.ranges;
-  };
+  origins = λ a there h. origin_quiet told.store.history entry a (quiet a.job);
+  settings_told = λ others f a there h s e. settings_stay told.store.tables others told.store.history entry a.job a.number s (quiet a.job) e;
+  ranges_told = λ a there h ranges e. ranges_stay told.store.history entry a.job a.number ranges (quiet a.job) e;
   held = λ a there held. held;
   rows = λ id put. refl;
   jobs = λ a there h job e runs. e;

@@ -18,7 +18,7 @@ use Rattle.fleet_model.specs.Attempts.{source_rows, noted_rows, range_rows}
 use Rattle.fleet_model.specs.Parties.{Attempt, LiveWorker, is_live, is_leased_to, live_attempts, runs_attempt}
 use Rattle.fleet_model.specs.Sweeps.{attempt_tables}
 use Rattle.fleet_model.specs.JobsFit.{SettingsFit}
-use Rattle.fleet_model.specs.Claimed.{IsClaimed}
+use Rattle.fleet_model.specs.Claimed.{IsClaimed, origin, settings_of, ranges_of}
 use Rattle.fleet_model.specs.AttemptsFit.{TablesFit, AttemptFits, LiveFits, AttemptStands}
 use Rattle.step_model.specs.Past.{Told}
 use Rattle.step_model.specs.Entries.{was_claimed}
@@ -36,7 +36,10 @@ use Rattle.step_laws.proofs.Changed.{job_found}
 pub record Follows (old new : Told) (w : LiveWorker) : Type 0 where
   pub grows : (job number : ℕ) → IsTrue (was_claimed old.store.history w.number job number) → IsTrue (was_claimed new.store.history w.number job number)
   pub faithful : (specs : ℕ → JobSpec) → Faithful new specs → Faithful old specs
-  pub claims : (specs : ℕ → JobSpec) → Faithful new specs → (a : Attempt) → IsIn a w.attempts → AttemptHeld old w.number a → IsClaimed old.store specs a.job a.number a.context → IsClaimed new.store specs a.job a.number a.context
+  pub origins : (a : Attempt) → IsIn a w.attempts → AttemptHeld old w.number a → origin old.store.history a.job a.number ≡ origin new.store.history a.job a.number
+  pub settings_told : (specs : ℕ → JobSpec) → Faithful new specs → (a : Attempt) → IsIn a w.attempts → AttemptHeld old w.number a → (s : Settings)
+      → settings_of old.store.tables specs old.store.history a.job a.number ≡ Some s → settings_of new.store.tables specs new.store.history a.job a.number ≡ Some s
+  pub ranges_told : (a : Attempt) → IsIn a w.attempts → AttemptHeld old w.number a → (ranges : List Range) → ranges_of old.store.history a.job a.number ≡ Some ranges → ranges_of new.store.history a.job a.number ≡ Some ranges
   pub held : (a : Attempt) → IsIn a w.attempts → AreHeld old.store (attempt_tables a) → AreHeld new.store (attempt_tables a)
   pub rows : (id : ℕ) → IsTrue (is_among old.store.tables id) → table_rows new.store.tables id ≡ table_rows old.store.tables id
   pub jobs : (a : Attempt) → IsIn a w.attempts → AttemptHeld old w.number a → (job : Job) → job_with a.job (stored_jobs new.store) ≡ Some job → IsTrue (runs_attempt w.number a.number (Some job)) → job_with a.job (stored_jobs old.store) ≡ Some job
@@ -185,7 +188,7 @@ holds_after merge old new w some was_faithful f h = record {
         let was = stood specs faithful a there in
         let put = all_put specs faithful a there in
         record {
-          claimed = f.claims specs faithful a there (held a there) was.claimed;
+          claimed = record { settings = f.settings_told specs faithful a there (held a there) _ was.claimed.settings; ranges = f.ranges_told a there (held a there) _ was.claimed.ranges };
           held = f.held a there was.held;
           tables = tables_stay merge old.store.tables new.store.tables a.sources a.context f.rows (all_front _ a.sources (context_tables (Some a.context)) put) (all_back _ a.sources (context_tables (Some a.context)) put) was.tables;
         }

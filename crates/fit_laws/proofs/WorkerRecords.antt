@@ -65,10 +65,9 @@ pub follows_records : (merge : Operator) (told : Told) (specs : ℕ → JobSpec)
 follows_records merge told specs w records entry b spare = record {
   grows = λ job number h. claim_grows told.store.history entry w.number job number h;
   faithful = λ others f. faithful_before_records told others records entry f;
-  claims = λ others f a there h claimed. record {
-    settings = settings_stay_at told.store.tables others told.store.history entry a.job a.number _ (spare.origins a there h) claimed.settings;
-    ranges = ranges_stay_at told.store.history entry a.job a.number _ (spare.origins a there h) claimed.ranges;
-  };
+  origins = spare.origins;
+  settings_told = λ others f a there h s e. settings_stay_at told.store.tables others told.store.history entry a.job a.number s (spare.origins a there h) e;
+  ranges_told = λ a there h ranges e. ranges_stay_at told.store.history entry a.job a.number ranges (spare.origins a there h) e;
   held = λ a there held. held;
   rows = λ id put. refl;
   jobs = λ a there h job e runs.

@@ -1,15 +1,16 @@
 -- A lawful call of another party keeps what a worker holds.
-use Rattle.std.proofs.Common.{◌≡◌, ◌≢◌, refl, sym, ◌∙◌, subst, ℕ, List, [], ◌∷◌, ◌++◌, Bool, true, false}
+use Rattle.std.proofs.Common.{◌≡◌, ◌≢◌, refl, sym, ◌∙◌, subst, ℕ, ◌<◌, List, [], ◌∷◌, ◌++◌, Bool, true, false}
 use Rattle.std.specs.List.{AllByRecursion}
 use Rattle.row_model.specs.Fold.{Operator}
-use Rattle.fleet_model.specs.Jobs.{contains}
+use Rattle.fleet_model.specs.Jobs.{JobSpec, contains}
 use Rattle.fleet_model.specs.History.{Party, Worker, Entry, PutManifest, PutRecords}
 use Rattle.fleet_model.specs.Store.{is_held, AreHeld}
 use Rattle.fleet_model.specs.Parties.{Attempt, LiveWorker}
 use Rattle.fleet_model.specs.Sweeps.{attempt_tables, worker_tables}
 use Rattle.fleet_model.specs.Exchanges.{Exchange, Plain, DrawsJob, DrawsTable, PutsTable, PutsManifest, PutsRecords, ListsTables, DeletesTable}
 use Rattle.step_model.specs.Past.{Told}
-use Rattle.step_model.specs.Rivals.{Caller, RivalCall, RivalsFrom, told_by_rival, is_deletion}
+use Rattle.step_model.specs.Faithful.{Faithful}
+use Rattle.step_model.specs.Rivals.{Caller, RivalCall, Rivals, RivalsFrom, told_by_rival, is_deletion}
 use Rattle.step_model.specs.Keeps.{Keeps}
 use Rattle.step_model.specs.Fits.{WorkerHolds}
 use Rattle.step_laws.specs.Runs.{CallsKeep}
@@ -20,7 +21,7 @@ use Rattle.step_laws.proofs.Deletions.{in_flat}
 use Rattle.step_laws.proofs.TableBodies.{with_table}
 use Rattle.fit_laws.specs.FitLaws.{SparesTables, WorkersKeep, RivalsKeepWorkers}
 use Rattle.fit_laws.proofs.Outcomes.{Outcome, Notes, Deletes, NewTable, NewManifest, NewRecords, outcome, put_manifest, put_records}
-use Rattle.fit_laws.proofs.WorkerFollows.{holds_after}
+use Rattle.fit_laws.proofs.WorkerFollows.{Follows, holds_after}
 use Rattle.fit_laws.proofs.WorkerCalls.{follows_entry, faithful_with_table, follows_table, follows_manifest}
 use Rattle.fit_laws.proofs.WorkerManifests.{manifest_spares}
 use Rattle.fit_laws.proofs.WorkerRecords.{Case, JobSpares, follows_records, change_spares, origins_stay}
@@ -39,37 +40,44 @@ still_held told w table spared a there held = all_true_from (is_held (record tol
 
 -- ---- what a call leaves
 
-holds_outcome : (merge : Operator) (told new : Told) (party : Party) (w : LiveWorker) (x : Exchange) → Keeps merge told → party ≢ Worker w.number → SparesTables w x → WorkerHolds merge told w → Outcome merge party told x new → WorkerHolds merge new w
-holds_outcome merge told new party w x k other spared h (Notes jobs_drawn tables_drawn entry mute is) =
-    subst (λ n. WorkerHolds merge n w) (sym is) (holds_after merge told _ w k.stored.replay.specs k.faithful (follows_entry told w told.store.deleted jobs_drawn tables_drawn entry mute (λ a there held. held)) h)
-holds_outcome merge told new party w x k other spared h (Deletes table entry same mute fits is) =
-    subst (λ n. WorkerHolds merge n w) (sym is)
-    (holds_after merge told _ w k.stored.replay.specs k.faithful (follows_entry told w (told.store.deleted ++ table ∷ []) told.store.jobs_drawn told.store.tables_drawn entry mute (still_held told w table (subst (SparesTables w) same spared))) h)
-holds_outcome merge told new party w x k other spared h (NewTable table rows entry mute fits is) =
+-- Every lawful call of another party keeps what each call keeps that leaves the worker's claims, its
+-- tables, its live jobs and their settings.
+pub follows_outcome : (merge : Operator) (told new : Told) (party : Party) (w : LiveWorker) (x : Exchange) (P : Told → Type 0) → Keeps merge told → party ≢ Worker w.number → SparesTables w x → AllByRecursion (λ a. 0 < a.number) w.attempts
+    → ((old now : Told) (specs : ℕ → JobSpec) → Faithful old specs → Follows old now w → P old → P now) → P told → Outcome merge party told x new → P new
+follows_outcome merge told new party w x P k other spared counted step h (Notes jobs_drawn tables_drawn entry mute is) =
+    subst P (sym is) (step told _ k.stored.replay.specs k.faithful (follows_entry told w told.store.deleted jobs_drawn tables_drawn entry mute (λ a there held. held)) h)
+follows_outcome merge told new party w x P k other spared counted step h (Deletes table entry same mute fits is) =
+    subst P (sym is)
+    (step told _ k.stored.replay.specs k.faithful (follows_entry told w (told.store.deleted ++ table ∷ []) told.store.jobs_drawn told.store.tables_drawn entry mute (still_held told w table (subst (SparesTables w) same spared))) h)
+follows_outcome merge told new party w x P k other spared counted step h (NewTable table rows entry mute fits is) =
     let puts = (whole_of merge told k).puts in
     let specs = k.stored.replay.specs in
-    let first = holds_after merge told (with_table told (table, rows)) w specs k.faithful (follows_table told w (table, rows) puts) h in
-    subst (λ n. WorkerHolds merge n w) (sym is)
-    (holds_after merge (with_table told (table, rows)) _ w specs (faithful_with_table told (table, rows) specs puts k.faithful)
+    let first = step told (with_table told (table, rows)) specs k.faithful (follows_table told w (table, rows) puts) h in
+    subst P (sym is)
+    (step (with_table told (table, rows)) _ specs (faithful_with_table told (table, rows) specs puts k.faithful)
     (follows_entry (with_table told (table, rows)) w told.store.deleted told.store.jobs_drawn told.store.tables_drawn entry mute (λ a there held. held)) first)
-holds_outcome merge told new party w x k other spared h (NewManifest version change value line answer took same fits is) =
+follows_outcome merge told new party w x P k other spared counted step h (NewManifest version change value line answer took same fits is) =
     let entry : Entry = record { line = line; party = party; event = PutManifest change; answer = answer } in
-    subst (λ n. WorkerHolds merge n w) (sym is)
-    (holds_after merge told _ w k.stored.replay.specs k.faithful
+    subst P (sym is)
+    (step told _ k.stored.replay.specs k.faithful
     (follows_manifest merge told k.stored.replay.specs w (put_manifest told value) entry (whole_of merge told k).body refl (λ job. rw took refl) (manifest_spares merge told party w.number change value k fits)) h)
-holds_outcome merge told new party w x k other spared h (NewRecords change epoch jobs line answer took names fits is) =
+follows_outcome merge told new party w x P k other spared counted step h (NewRecords change epoch jobs line answer took names fits is) =
     let entry : Entry = record { line = line; party = party; event = PutRecords change; answer = answer } in
     let specs = k.stored.replay.specs in
-    let c : Case merge told specs party w = record { body = (whole_of merge told k).body; puts = (whole_of merge told k).puts; other = other; counted = all_to _ _ w.attempts (λ a there held. held.counted) h.each } in
-    subst (λ n. WorkerHolds merge n w) (sym is)
-    (holds_after merge told _ w specs k.faithful
+    let c : Case merge told specs party w = record { body = (whole_of merge told k).body; puts = (whole_of merge told k).puts; other = other; counted = counted } in
+    subst P (sym is)
+    (step told _ specs k.faithful
     (follows_records merge told specs w (put_records told epoch jobs) entry (whole_of merge told k).body (record {
       origins = λ a there held. origins_stay merge told specs party w fits.unrecorded change jobs line answer a c fits.fits held;
       jobs = subst (λ js. AllByRecursion (JobSpares told w) js) (sym fits.makes_jobs) (change_spares merge told specs party w fits.unrecorded change jobs c fits.fits);
     })) h)
 
+counted_of : (merge : Operator) (told : Told) (w : LiveWorker) → WorkerHolds merge told w → AllByRecursion (λ a. 0 < a.number) w.attempts
+counted_of merge told w h = all_to _ _ w.attempts (λ a there held. held.counted) h.each
+
 pub workers_keep : (merge : Operator) → WorkersKeep merge
-workers_keep merge x line party strike told w k other lawful may spared h = holds_outcome merge told _ party w x k other spared h (outcome merge x line party strike told lawful may)
+workers_keep merge x line party strike told w k other lawful may spared h =
+    follows_outcome merge told _ party w x (λ t. WorkerHolds merge t w) k other spared (counted_of merge told w h) (λ old now specs faithful follows one. holds_after merge old now w specs faithful follows one) h (outcome merge x line party strike told lawful may)
 
 -- ---- calls of others
 
@@ -83,13 +91,20 @@ spares_tables w (PutsManifest version change value) none = tt
 spares_tables w (PutsRecords version change epoch jobs) none = tt
 spares_tables w ListsTables none = tt
 
-rivals_from : (who : Caller) (calls : List RivalCall) (old new : Told) (w : LiveWorker) → CallsKeep who.merge → who.party ≡ Worker w.number → Keeps who.merge old → RivalsFrom who calls old new
-    → WorkerHolds who.merge old w → WorkerHolds who.merge new w
-rivals_from who [] old new w keep own k same h = subst (λ told. WorkerHolds who.merge told w) same h
-rivals_from who (call ∷ calls) old new w keep own k lead h =
-    rivals_from who calls (told_by_rival call old) new w keep own (keep call.exchange call.line call.party call.strike old k lead.0.lawful lead.0.strike) lead.1
-    (workers_keep who.merge call.exchange call.line call.party call.strike old w k (λ same. lead.0.other (same ∙ sym own)) lead.0.lawful lead.0.strike
-    (spares_tables w call.exchange lead.0.deletes_none) h)
+follows_from : (who : Caller) (calls : List RivalCall) (old new : Told) (w : LiveWorker) (P : Told → Type 0) → CallsKeep who.merge → who.party ≡ Worker w.number → AllByRecursion (λ a. 0 < a.number) w.attempts
+    → ((old now : Told) (specs : ℕ → JobSpec) → Faithful old specs → Follows old now w → P old → P now) → Keeps who.merge old → RivalsFrom who calls old new → P old → P new
+follows_from who [] old new w P keep own counted step k same h = subst P same h
+follows_from who (call ∷ calls) old new w P keep own counted step k lead h =
+    follows_from who calls (told_by_rival call old) new w P keep own counted step (keep call.exchange call.line call.party call.strike old k lead.0.lawful lead.0.strike) lead.1
+    (follows_outcome who.merge old _ call.party w call.exchange P k (λ same. lead.0.other (same ∙ sym own)) (spares_tables w call.exchange lead.0.deletes_none) counted step h
+    (outcome who.merge call.exchange call.line call.party call.strike old lead.0.lawful lead.0.strike))
+
+-- Calls of others keep what each call keeps that leaves the worker's claims, its tables, its live jobs
+-- and their settings.
+pub rivals_follow : (who : Caller) (old new : Told) (w : LiveWorker) (P : Told → Type 0) → CallsKeep who.merge → who.party ≡ Worker w.number → AllByRecursion (λ a. 0 < a.number) w.attempts
+    → ((old now : Told) (specs : ℕ → JobSpec) → Faithful old specs → Follows old now w → P old → P now) → Keeps who.merge old → Rivals who old new → P old → P new
+rivals_follow who old new w P keep own counted step k rivals h = follows_from who rivals.calls old new w P keep own counted step k rivals.lead h
 
 pub rivals_keep : RivalsKeepWorkers
-rivals_keep who old new w keep own k rivals h = rivals_from who rivals.calls old new w keep own k rivals.lead h
+rivals_keep who old new w keep own k rivals h =
+    rivals_follow who old new w (λ t. WorkerHolds who.merge t w) keep own (counted_of who.merge old w h) (λ one now specs faithful follows holds. holds_after who.merge one now w specs faithful follows holds) k rivals h
