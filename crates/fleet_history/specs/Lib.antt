@@ -1,0 +1,4 @@
+pub mod Parties
+pub mod Changes
+pub mod Entries
+pub mod Notes
