@@ -8,3 +8,4 @@ pub mod Releases
 pub mod Tables
 pub mod Outputs
 pub mod Finishes
+pub mod Sources
