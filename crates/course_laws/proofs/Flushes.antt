@@ -81,7 +81,7 @@ three_after true true c h = absurd (cc h)
 three_after true false true h = absurd (cc h)
 three_after true false false h = (refl, (refl, refl))
 
-tick_rises : (a b : ℤ) → int_lt a b ≡ false → IsTrue (int_le b a)
+pub tick_rises : (a b : ℤ) → int_lt a b ≡ false → IsTrue (int_le b a)
 tick_rises (pos a) (pos b) h = le-leb b a (ltb-false a b h)
 tick_rises (pos a) (negsuc b) h = refl
 tick_rises (negsuc a) (pos b) h = absurd (cc h)

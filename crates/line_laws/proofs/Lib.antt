@@ -10,3 +10,7 @@ pub mod SameLines
 pub mod PartyLines
 pub mod WorkerLines
 pub mod Scripts
+pub mod ReadLines
+pub mod PollRuns
+pub mod PollSays
+pub mod PollLines

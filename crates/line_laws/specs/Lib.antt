@@ -2,3 +2,7 @@ pub mod Alone
 pub mod Premises
 pub mod States
 pub mod Scripts
+pub mod Ran
+pub mod ReadLines
+pub mod PollRuns
+pub mod PollLines

@@ -1,7 +1,10 @@
-//! Laws on the lines of scripts. Each function has an empty body, and its clause states a law.
+//! Laws on the lines of scripts. Each function has an empty body, and its clause states a law about
+//! every run of lines from a fresh fleet, with any scheduler and a lawful operator.
 #![tactic(auto)]
 
 ghost use Rattle.line_laws.specs.Alone.{AloneRuns};
+ghost use Rattle.line_laws.specs.PollLines.{PollsCommit};
+ghost use Rattle.line_laws.specs.ReadLines.{ReadsAnswer};
 ghost use Rattle.line_laws.specs.Scripts.{ScriptsKeep};
 
 /// A course that runs alone over a store runs as courses do, if the history had room for its draws.
@@ -9,7 +12,22 @@ pub fn alone_runs()
     ensures { AloneRuns }
 {}
 
-/// Each line of a script leaves a state that keeps the invariant, under a lawful operator.
+/// The state behind each line keeps the invariant, and each live party fits it, whatever parties
+/// are killed and whatever faults strike. The premises are said of the steps that lines take.
 pub fn scripts_keep()
     ensures { ScriptsKeep }
+{}
+
+/// A read is refused below the horizon and before the tick. Each other read prints the fold over
+/// the rows that were flushed into its segment and not drained, and the stored tables read alike.
+pub fn reads_answer()
+    ensures { ReadsAnswer }
+{}
+
+/// A poll that is not refused frees exactly the stale jobs. It commits, in the order of their ids,
+/// exactly the finished jobs that pass the gate. Each commit puts one run of the job's rows, under
+/// the settings of one claim, in place of its sources, and all other nodes stay. If a join of the
+/// job took effect before, the trees stay too.
+pub fn polls_commit()
+    ensures { PollsCommit }
 {}

@@ -1,0 +1,161 @@
+-- What the state says that a poll reached: which jobs it freed, committed and failed, and its steps.
+use Rattle.std.proofs.Common.{◌≡◌, refl, sym, ◌∙◌, ap, subst, ℕ, ◌+◌, ◌<◌, List, [], ◌∷◌, ◌++◌, cond, Bool, true, false, Option, Some, None, append-nil, append_assoc}
+use Rattle.std.specs.Prelude.{map, filter, flat_map}
+use Rattle.std.specs.List.{AllByRecursion, list_any}
+use Rattle.row_model.specs.Lists.{Pairs}
+use Rattle.fleet_model.specs.Jobs.{JobSpec, is_drain, Job, Jobs, Submitted, Compacted, has_status, ids, contains, changed, is_stale}
+use Rattle.fleet_model.specs.History.{Step, Join, Move, Drain}
+use Rattle.fleet_model.specs.Store.{Records, Store, stored_jobs, jobs_in}
+use Rattle.fleet_model.specs.Records.{to_waiting}
+use Rattle.fleet_model.specs.Gates.{commit_gate, submit_gate}
+use Rattle.fleet_model.specs.Scheduler.{Scheduler}
+use Rattle.fleet_model.specs.PollStates.{PollOptions, PollInput, PollState, begun, accepts}
+use Rattle.fleet_model.specs.Polls.{free_stale, commit_by, commit_job, each, commit_finished, clashes, add_by, add_drawn, lost_to_scheduler, can_move, drain_job, move_job, schedule_job, open_by, open_job, open_submitted, committed}
+use Rattle.step_model.specs.PollSteps.{PollAsk, records_or_none}
+use Rattle.step_laws.proofs.Elements.{pairs_map, all_append}
+use Rattle.course_laws.proofs.Calls.{pairs_filter}
+use Rattle.line_laws.specs.PollRuns.{input_at, reached}
+use Rattle.line_laws.specs.PollLines.{verdicts, passed, failed, IsAtOnce, PollSays}
+
+-- ---- commits
+
+-- What commits of jobs with these verdicts leave.
+record Committed (v : List (ℕ × Option ℕ)) (p q : PollState) : Type 0 where
+  pub freed : q.freed ≡ p.freed
+  pub done : q.done ≡ p.done ++ flat_map passed v
+  pub lost : q.lost ≡ p.lost ++ flat_map failed v
+  pub steps : q.steps ≡ p.steps ++ map Join (flat_map passed v)
+
+commits_leave : (input : PollInput) (jobs : Jobs) (p : PollState) → Committed (verdicts input jobs p) p (each (commit_job input) jobs p)
+commits_leave input [] p = record { freed = refl; done = sym (append-nil p.done); lost = sym (append-nil p.lost); steps = sym (append-nil p.steps) }
+commits_leave input (job ∷ jobs) p = by (commit_gate p.trees (accepts input p) job) (commits_leave input jobs (commit_job input job p))
+  where
+    by : (rule : Option ℕ) → Committed (verdicts input jobs (commit_by input job rule p)) (commit_by input job rule p) (each (commit_job input) jobs (commit_by input job rule p))
+        → Committed ((job.id, rule) ∷ verdicts input jobs (commit_by input job rule p)) p (each (commit_job input) jobs (commit_by input job rule p))
+    by (Some rule) c = record { freed = c.freed; done = c.done; lost = c.lost ∙ append_assoc p.lost ((job.id, rule) ∷ []) _; steps = c.steps }
+    by None c = record { freed = c.freed; done = c.done ∙ append_assoc p.done (job.id ∷ []) _; lost = c.lost; steps = c.steps ∙ append_assoc p.steps (Join job.id ∷ []) _ }
+
+passed_all : (P : ℕ → Type 0) (input : PollInput) (jobs : Jobs) (p : PollState) → AllByRecursion (λ (job : Job). P job.id) jobs → AllByRecursion P (flat_map passed (verdicts input jobs p))
+passed_all P input [] p all = tt
+passed_all P input (job ∷ jobs) p all = by (commit_gate p.trees (accepts input p) job) (passed_all P input jobs (commit_job input job p) all.1)
+  where
+    by : (rule : Option ℕ) → AllByRecursion P (flat_map passed (verdicts input jobs (commit_by input job rule p))) → AllByRecursion P (flat_map passed ((job.id, rule) ∷ verdicts input jobs (commit_by input job rule p)))
+    by (Some rule) rest = rest
+    by None rest = (all.0, rest)
+
+passed_rise : (input : PollInput) (jobs : Jobs) (p : PollState) → Pairs (λ (a b : Job). a.id < b.id) jobs → Pairs (λ a b. a < b) (flat_map passed (verdicts input jobs p))
+passed_rise input [] p rise = tt
+passed_rise input (job ∷ jobs) p rise = by (commit_gate p.trees (accepts input p) job) (passed_rise input jobs (commit_job input job p) rise.1)
+  where
+    by : (rule : Option ℕ) → Pairs (λ a b. a < b) (flat_map passed (verdicts input jobs (commit_by input job rule p))) → Pairs (λ a b. a < b) (flat_map passed ((job.id, rule) ∷ verdicts input jobs (commit_by input job rule p)))
+    by (Some rule) rest = rest
+    by None rest = (passed_all (λ id. job.id < id) input jobs (commit_by input job None p) rise.0, rest)
+
+-- ---- later steps
+
+-- The later steps of a poll free, commit and fail none of the finished jobs, and join nothing.
+record Leaves (p q : PollState) : Type 0 where
+  pub freed : q.freed ≡ p.freed
+  pub done : q.done ≡ p.done
+  pub lost : q.lost ≡ p.lost
+  pub more : List Step
+  pub steps : q.steps ≡ p.steps ++ more
+  pub at_once : AllByRecursion IsAtOnce more
+
+leaves_itself : (p : PollState) → Leaves p p
+leaves_itself p = record { freed = refl; done = refl; lost = refl; more = []; steps = sym (append-nil p.steps); at_once = tt }
+
+leaves_on : (p q r : PollState) → Leaves p q → Leaves q r → Leaves p r
+leaves_on p q r one other = record {
+  freed = other.freed ∙ one.freed;
+  done = other.done ∙ one.done;
+  lost = other.lost ∙ one.lost;
+  more = one.more ++ other.more;
+  steps = other.steps ∙ ap (λ (steps : List Step). steps ++ other.more) one.steps ∙ append_assoc p.steps one.more other.more;
+  at_once = all_append IsAtOnce one.more other.more one.at_once other.at_once;
+}
+
+add_leaves : (place : ℕ) (drawn : List (ℕ × JobSpec)) (p : PollState) → Leaves p (add_drawn place drawn p)
+add_leaves place [] p = leaves_itself p
+add_leaves place (d ∷ drawn) p =
+    let q = add_by d.0 place d.1 (list_any (clashes d.1) p.jobs) p in
+    leaves_on p q (add_drawn (place + 1) drawn q) (by (list_any (clashes d.1) p.jobs)) (add_leaves (place + 1) drawn q)
+  where
+    by : (b : Bool) → Leaves p (add_by d.0 place d.1 b p)
+    by true = record { freed = refl; done = refl; lost = refl; more = []; steps = sym (append-nil p.steps); at_once = tt }
+    by false = record { freed = refl; done = refl; lost = refl; more = []; steps = sym (append-nil p.steps); at_once = tt }
+
+open_leaves : (input : PollInput) (job : Job) (p : PollState) → Leaves p (open_job input job p)
+open_leaves input job p = by (submit_gate p.trees p.jobs (lost_to_scheduler p.lost) (accepts input p) job)
+  where
+    kinds : (drains moves : Bool) → Leaves p (cond drains (drain_job input job p) (cond moves (move_job input job p) (schedule_job job p)))
+    kinds true moves = record { freed = refl; done = refl; lost = refl; more = Drain job.id ∷ []; steps = refl; at_once = (tt, tt) }
+    kinds false true = record { freed = refl; done = refl; lost = refl; more = Move job.id ∷ []; steps = refl; at_once = (tt, tt) }
+    kinds false false = record { freed = refl; done = refl; lost = refl; more = []; steps = sym (append-nil p.steps); at_once = tt }
+
+    by : (rule : Option ℕ) → Leaves p (open_by input job rule p)
+    by (Some rule) = record { freed = refl; done = refl; lost = refl; more = []; steps = sym (append-nil p.steps); at_once = tt }
+    by None = kinds (is_drain job.spec) (can_move input p.trees job.spec)
+
+opens_leave : (input : PollInput) (jobs : Jobs) (p : PollState) → Leaves p (each (open_job input) jobs p)
+opens_leave input [] p = leaves_itself p
+opens_leave input (job ∷ jobs) p = leaves_on p (open_job input job p) (each (open_job input) jobs (open_job input job p)) (open_leaves input job p) (opens_leave input jobs (open_job input job p))
+
+-- ---- all steps
+
+got_jobs : (records : Option Records) → (records_or_none records).jobs ≡ jobs_in records
+got_jobs None = refl
+got_jobs (Some records) = refl
+
+-- Jobs that are freed keep their ids.
+freed_rise : (these : List ℕ) (jobs : Jobs) → Pairs (λ (a b : Job). a.id < b.id) jobs → Pairs (λ (a b : Job). a.id < b.id) (changed to_waiting these jobs)
+freed_rise these jobs rise = pairs_map (λ (a b : Job). a.id < b.id) (λ (a b : Job). a.id < b.id) (λ (job : Job). cond (contains these job.id) (to_waiting job) job) jobs
+    (λ x y one other low. subst (λ (n : ℕ). n < (cond (contains these y.id) (to_waiting y) y).id) (sym (same x (contains these x.id))) (subst (λ (n : ℕ). x.id < n) (sym (same y (contains these y.id))) low)) rise
+  where
+    same : (job : Job) (b : Bool) → (cond b (to_waiting job) job).id ≡ job.id
+    same job true = refl
+    same job false = refl
+
+says_by : (epoch : ℕ) (options : PollOptions) (scheduler : Scheduler) (moment : ℕ) (commits_only : Bool) (store : Store) (drawn : List (ℕ × JobSpec)) → Pairs (λ (a b : Job). a.id < b.id) (stored_jobs store)
+    → let ask : PollAsk = record { epoch = epoch; options = options; scheduler = scheduler; moment = moment; commits_only = commits_only } in PollSays ask store (reached ask store drawn)
+unfolding committed
+says_by epoch options scheduler moment true store drawn rise =
+    let ask : PollAsk = record { epoch = epoch; options = options; scheduler = scheduler; moment = moment; commits_only = true } in
+    let input = input_at ask store in
+    let start = begun input.manifest.trees input.manifest.horizon input.records.jobs in
+    let jobs = filter (has_status Compacted) start.jobs in
+    let c = commits_leave input jobs start in
+    let rising = subst (Pairs (λ (a b : Job). a.id < b.id)) (sym (got_jobs store.records)) rise in
+    record {
+      frees = c.freed;
+      commits = c.done;
+      loses = c.lost;
+      in_order = subst (Pairs (λ a b. a < b)) (sym c.done) (passed_rise input jobs start (pairs_filter _ (has_status Compacted) start.jobs rising));
+      others = [];
+      steps = c.steps ∙ ap (map Join) (sym c.done) ∙ sym (append-nil (map Join _));
+      at_once = tt;
+    }
+says_by epoch options scheduler moment false store drawn rise =
+    let ask : PollAsk = record { epoch = epoch; options = options; scheduler = scheduler; moment = moment; commits_only = false } in
+    let input = input_at ask store in
+    let first = begun input.manifest.trees input.manifest.horizon input.records.jobs in
+    let start = free_stale input first in
+    let jobs = filter (has_status Compacted) start.jobs in
+    let c = commits_leave input jobs start in
+    let mid = commit_finished input start in
+    let added = add_drawn 1 drawn mid in
+    let l = leaves_on mid added (open_submitted input added) (add_leaves 1 drawn mid) (opens_leave input (filter (has_status Submitted) added.jobs) added) in
+    let rising = subst (Pairs (λ (a b : Job). a.id < b.id)) (sym (got_jobs store.records)) rise in
+    let done = l.done ∙ c.done in
+    record {
+      frees = l.freed ∙ c.freed ∙ ap (λ (jobs : Jobs). ids (filter (is_stale options.timeout moment) jobs)) (got_jobs store.records);
+      commits = done;
+      loses = l.lost ∙ c.lost;
+      in_order = subst (Pairs (λ a b. a < b)) (sym done) (passed_rise input jobs start (pairs_filter _ (has_status Compacted) start.jobs (freed_rise start.freed first.jobs rising)));
+      others = l.more;
+      steps = l.steps ∙ ap (λ (steps : List Step). steps ++ l.more) (c.steps ∙ ap (map Join) (sym done));
+      at_once = l.at_once;
+    }
+
+pub poll_says : (ask : PollAsk) (store : Store) (drawn : List (ℕ × JobSpec)) → Pairs (λ (a b : Job). a.id < b.id) (stored_jobs store) → PollSays ask store (reached ask store drawn)
+poll_says ask store drawn rise = says_by ask.epoch ask.options ask.scheduler ask.moment ask.commits_only store drawn rise

@@ -1,0 +1,47 @@
+-- What a line that reads a key replies.
+use Rattle.std.proofs.Common.{◌≡◌, refl, sym, ◌∙◌, ap, ℕ, ◌≤◌, List, cond, Bool, true, false}
+use Rattle.std.specs.Prelude.{ℤ, ◌||◌, nat_lt, int_lt, int_le, IsTrue}
+use Rattle.std.proofs.lemmas.Bool.{ltb-false}
+use Rattle.fleet_model.specs.Store.{Manifest}
+use Rattle.fleet_model.specs.Reads.{flushed_read}
+use Rattle.fleet_laws.proofs.StoredReads.{stores_answer_reads}
+use Rattle.course_laws.proofs.Flushes.{tick_rises}
+use Rattle.script_model.specs.Script.{ReadKey}
+use Rattle.script_model.specs.States.{Inputs, State}
+use Rattle.script_model.specs.Replies.{read_reply, not_retained}
+use Rattle.script_model.specs.Looks.{is_not_retained, read_line}
+use Rattle.script_model.specs.LineRuns.{run_line}
+use Rattle.script_model.specs.LineCourses.{course_of}
+use Rattle.script_model.specs.LineSteps.{OneCourse}
+use Rattle.line_laws.specs.ReadLines.{ReadsAnswer}
+use Rattle.line_laws.proofs.Scripts.{scripts_keep}
+
+-- What a read that is not refused asks of the horizon and the tick.
+pub record IsRetained (m : Manifest) (seq : ℕ) (now : ℤ) : Type 0 where
+  pub horizon : m.horizon ≤ seq
+  pub tick : IsTrue (int_le m.tick now)
+
+is_retained : (m : Manifest) (seq : ℕ) (now : ℤ) → is_not_retained m seq now ≡ false → IsRetained m seq now
+is_retained m seq now e = by (nat_lt seq m.horizon) (int_lt now m.tick) refl refl e
+  where
+    by : (a b : Bool) → nat_lt seq m.horizon ≡ a → int_lt now m.tick ≡ b → (a || b) ≡ false → IsRetained m seq now
+    by true b low early e = absurd (cc e)
+    by false true low early e = absurd (cc e)
+    by false false low early e = record { horizon = ltb-false seq m.horizon low; tick = tick_rises now m.tick early }
+
+read_is : (inputs : Inputs) (number : ℕ) (old new : State) (segment key : List ℕ) (seq : ℕ) (now : ℤ) (answer : List ℕ) → OneCourse inputs number old (ReadKey segment key seq now) answer new → run_line number old (read_line inputs segment key seq now old) ≡ (answer, new)
+unfolding course_of
+read_is inputs number old new segment key seq now answer one = ap (run_line number old) (sym one.does.is) ∙ one.ends
+
+pub reads_answer : ReadsAnswer
+reads_answer inputs lines old new segment key seq now answer steps ran =
+    let is = read_is inputs ran.number old new segment key seq now answer ran.step in
+    let m = old.store.manifest in
+    let printed = λ (b : Bool). cond b (not_retained m.horizon m.tick) (read_reply (flushed_read inputs.merge old.store segment key seq now)) in
+    let told : printed (is_not_retained m seq now) ≡ answer = ap (λ (p : List ℕ × State). p.0) is in
+    record {
+      refused = λ e. sym told ∙ ap printed e;
+      printed = λ e. sym told ∙ ap printed e;
+      stored = λ e. let r = is_retained m seq now e in stores_answer_reads inputs.merge old.store (scripts_keep inputs lines old steps ran.before).fleet.store.stored segment key seq now r.horizon r.tick;
+      same = sym (ap (λ (p : List ℕ × State). p.1) is);
+    }

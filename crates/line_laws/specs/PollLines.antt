@@ -1,0 +1,115 @@
+-- The law on polls: what a line of a poll does that is not refused.
+use Rattle.std.specs.Prelude.{◌≡◌, ℕ, ◌<◌, Bool, true, false, IsTrue, if◌then◌else◌, List, [], ◌∷◌, ◌++◌, map, filter, flat_map, Option, Some, None, ⊤}
+use Rattle.std.specs.List.{AllByRecursion, concat}
+use Rattle.row_model.specs.Lists.{Pairs}
+use Rattle.row_model.specs.Fold.{Operator}
+use Rattle.fleet_model.specs.Nodes.{Trees}
+use Rattle.fleet_model.specs.Jobs.{Job, Jobs, Compacted, has_status, ids, is_stale, job_with}
+use Rattle.fleet_model.specs.History.{Party, Coordinator, Step, Join, Move, Drain}
+use Rattle.fleet_model.specs.Store.{Store, stored_jobs}
+use Rattle.fleet_model.specs.Parties.{LiveCoordinator, coordinator_with}
+use Rattle.fleet_model.specs.Trees.{stepped_in}
+use Rattle.fleet_model.specs.Gates.{commit_gate}
+use Rattle.fleet_model.specs.JobsFit.{was_joined}
+use Rattle.fleet_model.specs.PollStates.{PollInput, PollState, begun, accepts}
+use Rattle.fleet_model.specs.Polls.{free_stale, commit_job}
+use Rattle.step_model.specs.Past.{Told}
+use Rattle.step_model.specs.PollSteps.{PollAsk, is_unchanged}
+use Rattle.commit_laws.specs.Behind.{trees_behind}
+use Rattle.commit_laws.specs.StepForms.{JoinReplaces}
+use Rattle.script_model.specs.Script.{Line, Poll, CommitOnly}
+use Rattle.script_model.specs.States.{Inputs, State}
+use Rattle.script_model.specs.Replies.{poll_reply, commit_reply}
+use Rattle.script_model.specs.PollLines.{poll_ask}
+use Rattle.script_model.specs.Settles.{is_ok}
+use Rattle.line_laws.specs.Premises.{StepsKeep}
+use Rattle.line_laws.specs.Ran.{ThenRan}
+use Rattle.line_laws.specs.PollRuns.{input_at, PollDid, CommitPut}
+
+-- ---- what a poll reaches
+
+-- The state of a poll as its commits begin. A whole poll has freed the stale jobs by then.
+abbrev pub before_commits : PollAsk → PollInput → PollState
+before_commits ask input = let p = begun input.manifest.trees input.manifest.horizon input.records.jobs in if ask.commits_only then p else free_stale input p
+
+-- The verdicts on these finished jobs, one after the other: the id of each, and the rule of the gate that
+-- fails, if one does, on the trees that the commits before it left.
+abbrev pub verdicts : PollInput → Jobs → PollState → List (ℕ × Option ℕ)
+verdicts input [] p = []
+verdicts input (job ∷ jobs) p = (job.id, commit_gate p.trees (accepts input p) job) ∷ verdicts input jobs (commit_job input job p)
+
+-- The verdicts on all finished jobs that a poll finds.
+abbrev pub all_verdicts : PollAsk → PollInput → List (ℕ × Option ℕ)
+all_verdicts ask input = let p = before_commits ask input in verdicts input (filter (has_status Compacted) p.jobs) p
+
+-- The job of a verdict, if the job passed the gate.
+abbrev pub passed : ℕ × Option ℕ → List ℕ
+passed (id, None) = id ∷ []
+passed (id, Some rule) = []
+
+-- The job of a verdict with the rule that it failed, if it failed one.
+abbrev pub failed : ℕ × Option ℕ → List (ℕ × ℕ)
+failed (id, None) = []
+failed (id, Some rule) = (id, rule) ∷ []
+
+-- The step is a move or a drain, which a poll takes as it opens a job.
+abbrev pub IsAtOnce : Step → Type 0
+IsAtOnce (Join id) = ⊥
+IsAtOnce (Move id) = ⊤
+IsAtOnce (Drain id) = ⊤
+
+-- A whole poll frees exactly the stale jobs. Each poll commits, in the order of their ids, exactly the
+-- finished jobs that pass the gate, and each other finished job fails with its rule. The joins of the
+-- committed jobs come first among its steps, in this order.
+pub record PollSays (ask : PollAsk) (store : Store) (p : PollState) : Type 0 where
+  pub frees : p.freed ≡ (if ask.commits_only then [] else ids (filter (is_stale ask.options.timeout ask.moment) (stored_jobs store)))
+  pub commits : p.done ≡ flat_map passed (all_verdicts ask (input_at ask store))
+  pub loses : p.lost ≡ flat_map failed (all_verdicts ask (input_at ask store))
+  pub in_order : Pairs (λ a b. a < b) p.done
+  pub others : List Step
+  pub steps : p.steps ≡ map Join p.done ++ others
+  pub at_once : AllByRecursion IsAtOnce others
+
+-- ---- what its commits do to the trees
+
+-- The commit of a finished job over these trees. The first join of the job puts one run of the job's rows
+-- in place of its sources, and all other nodes stay. A later join changes no tree.
+pub record JoinDone (merge : Operator) (at : Told) (trees : Trees) (id : ℕ) : Type 0 where
+  pub job : Job
+  pub stored : job_with id (stored_jobs at.store) ≡ Some job
+  pub first_time : was_joined at.store.history id ≡ false → JoinReplaces merge at trees job
+  pub again : IsTrue (was_joined at.store.history id) → stepped_in at.store.tables (Join id) job.spec (concat job.outputs) trees ≡ trees
+
+-- A poll that changed the trees or the horizon put one manifest. Its trees are those behind all steps of
+-- the poll, and each committed job was joined over the trees that the joins before it left.
+pub record CommitsRight (merge : Operator) (party : Party) (old : Store) (p : PollState) : Type 0 where
+  pub put : CommitPut merge party old p
+  pub trees : p.trees ≡ trees_behind put.at put.fits.specs p.steps
+  pub joins : (first : List ℕ) (id : ℕ) (rest : List ℕ) → first ++ id ∷ rest ≡ p.done → JoinDone merge put.at (trees_behind put.at put.fits.specs (map Join first)) id
+
+-- ---- the line
+
+-- The line by which this coordinator polls, or only commits.
+abbrev pub poll_of : Bool → ℕ → Line
+poll_of true n = CommitOnly n
+poll_of false n = Poll n
+
+-- The reply to a poll that reached this state.
+abbrev pub told_by_poll : Bool → PollState → List ℕ
+told_by_poll true p = commit_reply p
+told_by_poll false p = poll_reply p
+
+-- A live coordinator polled, the line prints the state that it reached, and the store has what it put.
+pub record PollRan (inputs : Inputs) (commits_only : Bool) (n : ℕ) (old : State) (answer : List ℕ) (new : State) : Type 0 where
+  pub coordinator : LiveCoordinator
+  pub live : coordinator_with n old.parties ≡ Some coordinator
+  pub p : PollState
+  pub printed : answer ≡ told_by_poll commits_only p
+  pub did : PollDid (poll_ask inputs old coordinator commits_only) old.store new.store p
+  pub says : PollSays (poll_ask inputs old coordinator commits_only) old.store p
+  pub right : is_unchanged old.store.manifest p ≡ false → CommitsRight inputs.merge (Coordinator n) old.store p
+
+-- Each poll of a script that is not refused does so.
+abbrev pub PollsCommit : Type 0
+PollsCommit = (inputs : Inputs) (lines : List Line) (old new : State) (commits_only : Bool) (n : ℕ) (answer : List ℕ) → StepsKeep → ThenRan inputs lines old (poll_of commits_only n) answer new → is_ok answer ≡ true
+    → PollRan inputs commits_only n old answer new

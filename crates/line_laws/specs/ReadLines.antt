@@ -1,0 +1,24 @@
+-- The law on reads: what a line that reads a key replies.
+use Rattle.std.specs.Prelude.{◌≡◌, ℕ, ℤ, true, false, List}
+use Rattle.row_model.specs.Fold.{Operator}
+use Rattle.fleet_model.specs.Reads.{flushed_read, stored_read}
+use Rattle.script_model.specs.Script.{Line, ReadKey}
+use Rattle.script_model.specs.States.{Inputs, State}
+use Rattle.script_model.specs.Replies.{read_reply, not_retained}
+use Rattle.script_model.specs.Looks.{is_not_retained}
+use Rattle.line_laws.specs.Premises.{StepsKeep}
+use Rattle.line_laws.specs.Ran.{ThenRan}
+
+-- A read below the horizon or before the tick is refused. Each other read prints the fold over all rows
+-- that were flushed into its segment and not drained, and the tables that are stored read alike. A read
+-- changes nothing.
+pub record ReadAnswers (merge : Operator) (old : State) (segment key : List ℕ) (seq : ℕ) (now : ℤ) (answer : List ℕ) (new : State) : Type 0 where
+  pub refused : is_not_retained old.store.manifest seq now ≡ true → answer ≡ not_retained old.store.manifest.horizon old.store.manifest.tick
+  pub printed : is_not_retained old.store.manifest seq now ≡ false → answer ≡ read_reply (flushed_read merge old.store segment key seq now)
+  pub stored : is_not_retained old.store.manifest seq now ≡ false → stored_read merge old.store segment key seq now ≡ flushed_read merge old.store segment key seq now
+  pub same : new ≡ old
+
+-- Each line that reads a key, in a script whose operator is lawful, answers so.
+abbrev pub ReadsAnswer : Type 0
+ReadsAnswer = (inputs : Inputs) (lines : List Line) (old new : State) (segment key : List ℕ) (seq : ℕ) (now : ℤ) (answer : List ℕ) → StepsKeep → ThenRan inputs lines old (ReadKey segment key seq now) answer new
+    → ReadAnswers inputs.merge old segment key seq now answer new
