@@ -51,7 +51,7 @@ records_fit who old new records epoch is later low put = (no_names who.party new
         }
 
 -- Behind a put of an epoch for the stored version, the party did put the epoch.
-put_stood : (who : Caller) (met : Told) (version epoch : ℕ) (value : Manifest) → (version == met.store.manifest.version) ≡ true
+pub put_stood : (who : Caller) (met : Told) (version epoch : ℕ) (value : Manifest) → (version == met.store.manifest.version) ≡ true
     → IsTrue (did_put_epoch who.party (told_by who.line who.party (PutsManifest version (ManifestEpoch epoch) value) None met).store.history epoch)
 put_stood who met version epoch value e =
     subst (λ (history : List Entry). IsTrue (did_put_epoch who.party history epoch)) (sym (call_history who.line who.party (PutsManifest version (ManifestEpoch epoch) value) None met.store))

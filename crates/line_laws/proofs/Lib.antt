@@ -7,10 +7,11 @@ pub mod Lines
 pub mod Steps
 pub mod Flushes
 pub mod SameLines
+pub mod PollRuns
+pub mod StartFits
 pub mod PartyLines
 pub mod WorkerLines
 pub mod Scripts
 pub mod ReadLines
-pub mod PollRuns
 pub mod PollSays
 pub mod PollLines

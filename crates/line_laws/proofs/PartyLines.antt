@@ -28,13 +28,13 @@ use Rattle.script_model.specs.Replies.{ok, reply}
 use Rattle.script_model.specs.LineRuns.{LineEnd, LineCourse, run_line, line_end, no_such_party, if_some}
 use Rattle.script_model.specs.Starts.{killed_first, start_notes, start_coordinator, only_notes, release_of, start_worker, end_coordinator, kill_worker}
 use Rattle.line_laws.specs.Alone.{HadRoom}
-use Rattle.line_laws.specs.Premises.{StartsKeepFit}
 use Rattle.line_laws.specs.States.{FleetKeeps, StateKeeps}
 use Rattle.line_laws.proofs.Courses.{Split, split, all_calls, runs_hold, then_lawful, notes_lawful}
 use Rattle.line_laws.proofs.Fewer.{no_attempts}
 use Rattle.line_laws.proofs.Others.{coordinator_holds}
 use Rattle.line_laws.proofs.Lines.{caller_of, told_of, Left, Spares, line_keeps, coordinator_gone, coordinator_comes, worker_gone, worker_stays}
 use Rattle.line_laws.proofs.Steps.{none_comes}
+use Rattle.line_laws.proofs.StartFits.{start_fits}
 use Rattle.line_laws.proofs.SameLines.{no_party_keeps}
 
 -- ---- notes
@@ -133,8 +133,8 @@ kill_worker_keeps merge number n s k lawful room = by (worker_with n s.parties) 
 
 -- ---- the start of a coordinator
 
-pub start_coordinator_keeps : (merge : Operator) (number n : ℕ) (s : State) (k : StateKeeps merge s) → IsLawful merge → StartsKeepFit → HadRoom (run_line number s (start_coordinator n s)).1.store → StateKeeps merge (run_line number s (start_coordinator n s)).1
-start_coordinator_keeps merge number n s k lawful starts_fit room =
+pub start_coordinator_keeps : (merge : Operator) (number n : ℕ) (s : State) (k : StateKeeps merge s) → IsLawful merge → HadRoom (run_line number s (start_coordinator n s)).1.store → StateKeeps merge (run_line number s (start_coordinator n s)).1
+start_coordinator_keeps merge number n s k lawful room =
     line_keeps merge number s (start_coordinator n s) k lawful line_lawful tt (record {
       struck = λ new run left. coordinator_gone merge number n told new s.parties k.fleet left (none new MeetsFault run);
       gives = λ new end run left. gave new end run left (split who step (λ end. calls_each (start_notes n end) (Ends (ends end))) told new end run);
@@ -181,7 +181,7 @@ start_coordinator_keeps merge number n s k lawful starts_fit room =
         let keep = calls_keep merge lawful in
         let b = behind_notes who kills start told mid (Reports epoch) keep refl kills_own k.fleet.store first in
         runs_hold who (λ x. ⊤) (λ t. CoordinatorHolds t c None) (calls_each (start_notes n (Reports epoch)) (Ends (ends (Reports epoch)))) refl keep (coordinator_holds who c) (all_calls (λ x. ⊤) (λ x. tt) (calls_each (start_notes n (Reports epoch)) (Ends (ends (Reports epoch))))) mid new (Gives end)
-        (runs_keep who step keep told mid (Gives (Reports epoch)) k.fleet.store step_is first) (behind_lawful (Reports epoch) mid) second (starts_fit who n epoch b.mid mid lawful refl b.kept b.run)
+        (runs_keep who step keep told mid (Gives (Reports epoch)) k.fleet.store step_is first) (behind_lawful (Reports epoch) mid) second (start_fits who n epoch b.mid mid lawful refl refl b.kept b.run)
 
     by : (answer : StepEnd ℕ) (mid new : Told) (end : LineEnd) → Left who s.parties new → NonePending new.store → Runs who step told mid (Gives answer) → Runs who (calls_each (start_notes n answer) (Ends (ends answer))) mid new (Gives end)
         → FleetKeeps merge new (ends answer).parties

@@ -44,7 +44,7 @@ prepared_keeps merge line s k = k
 course_keeps : (inputs : Inputs) (number : ℕ) (line : Line) (refusal : Option (List ℕ)) (s : State) → IsLawful inputs.merge → StepsKeep → IsAskedWell line → MayRefuse inputs line s refusal → StateKeeps inputs.merge s
     → HadRoom (run_line number s (course_of inputs line refusal s)).1.store → StateKeeps inputs.merge (run_line number s (course_of inputs line refusal s)).1
 unfolding course_of
-course_keeps inputs number (StartCoordinator n) refusal s lawful steps well may k room = start_coordinator_keeps inputs.merge number n s k lawful steps.starts room
+course_keeps inputs number (StartCoordinator n) refusal s lawful steps well may k room = start_coordinator_keeps inputs.merge number n s k lawful room
 course_keeps inputs number (StartWorker n release) refusal s lawful steps well may k room = start_worker_keeps inputs.merge number n release s k lawful room
 course_keeps inputs number (KillCoordinator n) refusal s lawful steps well may k room = end_coordinator_keeps inputs.merge number n s k lawful room
 course_keeps inputs number (KillWorker n) refusal s lawful steps well may k room = kill_worker_keeps inputs.merge number n s k lawful room

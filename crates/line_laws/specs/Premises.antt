@@ -15,7 +15,7 @@ use Rattle.step_model.specs.StepEnds.{StepEnd, Reports}
 use Rattle.step_model.specs.ClaimSteps.{WorkerOptions, claim}
 use Rattle.step_model.specs.BeatSteps.{heartbeat}
 use Rattle.step_model.specs.OutputSteps.{output, finish}
-use Rattle.step_model.specs.PollSteps.{PollAsk, start, poll}
+use Rattle.step_model.specs.PollSteps.{PollAsk, poll}
 use Rattle.course_laws.specs.Outputs.{DoesRun}
 use Rattle.course_laws.specs.Finishes.{WholeUnless}
 
@@ -25,11 +25,6 @@ use Rattle.course_laws.specs.Finishes.{WholeUnless}
 abbrev pub PollsAreLawful : Type 0
 PollsAreLawful = (who : Caller) (told : Told) (ask : PollAsk) (c : LiveCoordinator) → IsLawful who.merge → who.alone ≡ true → who.party ≡ Coordinator c.number → ask.epoch ≡ c.epoch → Keeps who.merge told → CoordinatorHolds told c None
     → IsLawfulCourse who told (poll ask)
-
--- A coordinator that started fits with the epoch that its start reports.
-abbrev pub StartsKeepFit : Type 0
-StartsKeepFit = (who : Caller) (number epoch : ℕ) (old new : Told) → IsLawful who.merge → who.party ≡ Coordinator number → Keeps who.merge old → Runs who start old new (Gives (Reports epoch))
-    → CoordinatorHolds new (record { number = number; epoch = epoch }) None
 
 -- ---- a worker
 
@@ -63,5 +58,4 @@ pub record WorkersKeepFit : Type 0 where
 -- Each step that a script needs is lawful, and its party fits behind it.
 pub record StepsKeep : Type 0 where
   pub polls : PollsAreLawful
-  pub starts : StartsKeepFit
   pub workers : WorkersKeepFit
