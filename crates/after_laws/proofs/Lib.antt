@@ -9,3 +9,5 @@ pub mod Tables
 pub mod Outputs
 pub mod Finishes
 pub mod Sources
+pub mod Begun
+pub mod Taken

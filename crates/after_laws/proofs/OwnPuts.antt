@@ -61,7 +61,7 @@ itself xs = ([], append-nil xs)
     append-nil [] = refl
     append-nil (x ∷ xs) = ap (λ ys. x ∷ ys) (append-nil xs)
 
-ranges_extend : (ranges : List (Range × List ℕ)) → Extends ranges ranges
+pub ranges_extend : (ranges : List (Range × List ℕ)) → Extends ranges ranges
 ranges_extend [] = tt
 ranges_extend (r ∷ ranges) = (refl, itself r.1, ranges_extend ranges)
 

@@ -55,7 +55,7 @@ chosen slots w jobs rise =
 -- ---- the put
 
 -- The attempt at a job that a claim begins.
-abbrev next_attempt : Job → ℕ × ℕ
+abbrev pub next_attempt : Job → ℕ × ℕ
 next_attempt job = (job.id, job.attempt + 1)
 
 claim_fits : (who : Caller) (w : LiveWorker) (new : Told) (got : Records) (these : Jobs) → who.party ≡ Worker w.number → new.store.records ≡ Some got → Chosen got.jobs these
@@ -80,13 +80,13 @@ put_fits who moment w old new got these by is later c = (
 -- ---- the notes of plans
 
 -- All these jobs were claimed, each at its next attempt.
-abbrev WereClaimed : Told → ℕ → Jobs → Type 0
+abbrev pub WereClaimed : Told → ℕ → Jobs → Type 0
 WereClaimed told worker these = AllByRecursion (λ job. IsTrue (was_claimed told.store.history worker job.id (job.attempt + 1))) these
 
-claimed_later : (old new : Told) (worker : ℕ) (these : Jobs) → Later old new → WereClaimed old worker these → WereClaimed new worker these
+pub claimed_later : (old new : Told) (worker : ℕ) (these : Jobs) → Later old new → WereClaimed old worker these → WereClaimed new worker these
 claimed_later old new worker these later h = all_to _ _ these (λ job there one. done_later (claims worker job.id (job.attempt + 1)) old new later one) h
 
-put_stood : (who : Caller) (met : Told) (version worker epoch : ℕ) (these jobs : Jobs) → (version == records_version met.store.records) ≡ true
+pub put_stood : (who : Caller) (met : Told) (version worker epoch : ℕ) (these jobs : Jobs) → (version == records_version met.store.records) ≡ true
     → WereClaimed (told_by who.line who.party (PutsRecords version (Claim worker (map next_attempt these)) epoch jobs) None met) worker these
 put_stood who met version worker epoch these jobs e = all_from _ these (λ job there.
     let x = PutsRecords version (Claim worker (map next_attempt these)) epoch jobs in
