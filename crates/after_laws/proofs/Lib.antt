@@ -11,3 +11,5 @@ pub mod Finishes
 pub mod Sources
 pub mod Begun
 pub mod Taken
+pub mod Awaits
+pub mod Starts
