@@ -27,12 +27,12 @@ use Rattle.line_laws.proofs.WorkerLines.{claim_keeps, heartbeat_keeps, output_ke
 -- What a line must see to, of what its bounds say.
 abbrev pub IsAskedWell : Line → Type 0
 IsAskedWell (FlushRows name segment floor tick rows) = IsInBounds (FlushRows name segment floor tick rows)
-IsAskedWell (Output n job place rows) = (1 ≤ place) × (1 ≤ rows)
+IsAskedWell (Output n job place rows) = 1 ≤ place
 IsAskedWell line = ⊤
 
 pub asked_well : (line : Line) → IsInBounds line → IsAskedWell line
 asked_well (FlushRows name segment floor tick rows) is = is
-asked_well (Output n job place rows) is = (is.3, is.5)
+asked_well (Output n job place rows) is = is.3
 asked_well line is = tt
 
 prepared_keeps : (merge : Operator) (line : Line) (s : State) → StateKeeps merge s → StateKeeps merge (prepared line s)
@@ -56,10 +56,10 @@ course_keeps inputs number (SubmitDrain segment sources) refusal s lawful steps 
 course_keeps inputs number (SubmitFull segment) refusal s lawful steps well may k room = full_keeps inputs number segment s k lawful room
 course_keeps inputs number (Poll n) refusal s lawful steps well may k room = polls_keep inputs number false poll_reply n s k lawful steps.polls room
 course_keeps inputs number (CommitOnly n) refusal s lawful steps well may k room = polls_keep inputs number true commit_reply n s k lawful steps.polls room
-course_keeps inputs number (ClaimJobs n) refusal s lawful steps well may k room = claim_keeps inputs.merge number n s k lawful steps.workers room
-course_keeps inputs number (Heartbeat n) refusal s lawful steps well may k room = heartbeat_keeps inputs.merge number n s k lawful steps.workers room
-course_keeps inputs number (Output n job place rows) refusal s lawful steps well may k room = output_keeps inputs number n job place rows refusal s k lawful steps.workers well.0 well.1 room
-course_keeps inputs number (FinishJob n job) refusal s lawful steps well may k room = finish_keeps inputs number n job refusal s k lawful steps.workers may room
+course_keeps inputs number (ClaimJobs n) refusal s lawful steps well may k room = claim_keeps inputs.merge number n s k lawful steps.claims room
+course_keeps inputs number (Heartbeat n) refusal s lawful steps well may k room = heartbeat_keeps inputs.merge number n s k lawful room
+course_keeps inputs number (Output n job place rows) refusal s lawful steps well may k room = output_keeps inputs number n job place rows refusal s k lawful well room
+course_keeps inputs number (FinishJob n job) refusal s lawful steps well may k room = finish_keeps inputs number n job refusal s k lawful may room
 course_keeps inputs number Sweep refusal s lawful steps well may k room = sweep_keeps inputs.merge number s k lawful room
 course_keeps inputs number (Options timeout concurrent slots ranges table_size moves retention) refusal s lawful steps well may k room = record { past = k.past; fleet = k.fleet }
 course_keeps inputs number (Clock moment) refusal s lawful steps well may k room = record { past = k.past; fleet = k.fleet }

@@ -26,6 +26,10 @@ use Rattle.course_laws.proofs.Beats.{found_attempt, beats_are_lawful}
 use Rattle.course_laws.proofs.Outputs.{outputs_are_lawful}
 use Rattle.course_laws.proofs.Finishes.{finishes_are_lawful}
 use Rattle.course_laws.proofs.Releases.{releases_are_lawful}
+use Rattle.after_laws.specs.Behind.{FitsBehind, FitsAfter}
+use Rattle.after_laws.proofs.Beats.{beats_keep_fit}
+use Rattle.after_laws.proofs.Outputs.{outputs_keep_fit}
+use Rattle.after_laws.proofs.Finishes.{finishes_keep_fit}
 use Rattle.script_model.specs.States.{Inputs, State}
 use Rattle.script_model.specs.Replies.{reply, jobs_text, claim_reply, beat_reply, output_reply, ranges_text}
 use Rattle.script_model.specs.LineRuns.{LineEnd, LineCourse, run_line, line_end, step_parties, no_such_party, if_some}
@@ -33,7 +37,7 @@ use Rattle.script_model.specs.WorkLines.{worker_options, running, worker_line, c
 use Rattle.script_model.specs.LineCourses.{attempt_numbered, job_at, range_at}
 use Rattle.script_model.specs.Refusals.{left_in, FinishMay}
 use Rattle.line_laws.specs.Alone.{HadRoom}
-use Rattle.line_laws.specs.Premises.{KeepsFit, attempts_behind, WorkersKeepFit}
+use Rattle.line_laws.specs.Premises.{ClaimsKeepFit}
 use Rattle.line_laws.specs.States.{FleetKeeps, StateKeeps}
 use Rattle.line_laws.proofs.Courses.{Split, split, then_lawful}
 use Rattle.line_laws.proofs.Parties.{found}
@@ -60,14 +64,14 @@ is_worker merge s k n w e =
 -- The worker that runs these attempts behind the step is live and fits.
 ends_fit : {A : Type 0} (merge : Operator) (number : ℕ) (s : State) (k : StateKeeps merge s) (w : LiveWorker) (reported : A → List Attempt) (refused : List Attempt) (new : Told) (end : StepEnd A)
     → Left (caller_of merge number (Worker w.number)) s.parties new → NonePending new.store → (WorkerHolds merge new w → WorkerHolds merge new (record w { attempts = refused }))
-    → WorkerHolds merge new (record w { attempts = attempts_behind reported w.attempts end }) → FleetKeeps merge new (step_parties (λ (report : A). running w s (reported report)) (running w s refused) end)
+    → FitsBehind merge w reported new (Gives end) → FleetKeeps merge new (step_parties (λ (report : A). running w s (reported report)) (running w s refused) end)
 ends_fit merge number s k w reported refused new (Reports report) left none fewer holds = worker_stays merge number (told_of merge s k) new s.parties (record w { attempts = reported report }) k.fleet left none holds
 ends_fit merge number s k w reported refused new end left none fewer holds = worker_stays merge number (told_of merge s k) new s.parties (record w { attempts = refused }) k.fleet left none (fewer holds)
 
 -- A worker that does a lawful step, and fits behind it, leaves a state that keeps the invariant.
 work_keeps : {A : Type 0} (merge : Operator) (number : ℕ) (s : State) (k : StateKeeps merge s) (w : LiveWorker) (step : Course (StepEnd A)) (told : A → List ℕ) (reported : A → List Attempt) (refused : List Attempt) → IsLawful merge
     → WorkerHolds merge (told_of merge s k) w → ((t : Told) → WorkerHolds merge t w → WorkerHolds merge t (record w { attempts = refused }))
-    → IsLawfulCourse (caller_of merge number (Worker w.number)) (told_of merge s k) step → KeepsFit (caller_of merge number (Worker w.number)) w reported (told_of merge s k) step
+    → IsLawfulCourse (caller_of merge number (Worker w.number)) (told_of merge s k) step → FitsAfter (caller_of merge number (Worker w.number)) w reported (told_of merge s k) step
     → HadRoom (run_line number s (worker_line w s step told reported refused)).1.store → StateKeeps merge (run_line number s (worker_line w s step told reported refused)).1
 work_keeps {A} merge number s k w step told reported refused lawful holds fewer step_is fits room =
     line_keeps merge number s c k lawful is tt (record {
@@ -96,9 +100,9 @@ work_keeps {A} merge number s k w step told reported refused lawful holds fewer 
     gave : (new : Told) (end : LineEnd) → NonePending new.store → Left who s.parties new → StepEnded who step ends old new end → FleetKeeps merge new end.parties
     gave new end quiet left ended =
         subst (FleetKeeps merge new) (ap (λ (e : LineEnd). e.parties) ended.is)
-        (ends_fit merge number s k w reported refused new ended.answer left quiet (fewer new) (fits new ended.answer lawful refl k.fleet.store holds ended.run))
+        (ends_fit merge number s k w reported refused new ended.answer left quiet (fewer new) (fits new (Gives ended.answer) ended.run))
 
-pub claim_keeps : (merge : Operator) (number n : ℕ) (s : State) (k : StateKeeps merge s) → IsLawful merge → WorkersKeepFit → HadRoom (run_line number s (claim_line n s)).1.store → StateKeeps merge (run_line number s (claim_line n s)).1
+pub claim_keeps : (merge : Operator) (number n : ℕ) (s : State) (k : StateKeeps merge s) → IsLawful merge → ClaimsKeepFit → HadRoom (run_line number s (claim_line n s)).1.store → StateKeeps merge (run_line number s (claim_line n s)).1
 claim_keeps merge number n s k lawful fit room = by (worker_with n s.parties) refl room
   where
     line : Option LiveWorker → LineCourse
@@ -110,10 +114,10 @@ claim_keeps merge number n s k lawful fit room = by (worker_with n s.parties) re
         let is = is_worker merge s k n w e in
         let who : Caller = caller_of merge number (Worker w.number) in
         work_keeps merge number s k w (claim (worker_options s.options) s.moment w) (λ r. claim_reply r.begun r.stopped) (λ r. r.attempts) w.attempts lawful is.holds (λ t h. h)
-        (claims_are_lawful who (told_of merge s k) (worker_options s.options) s.moment w (calls_keep merge lawful) k.fleet.store refl) (fit.claims who w (told_of merge s k) (worker_options s.options) s.moment) room
+        (claims_are_lawful who (told_of merge s k) (worker_options s.options) s.moment w (calls_keep merge lawful) k.fleet.store refl) (fit who (told_of merge s k) (worker_options s.options) s.moment w lawful refl refl k.fleet.store is.holds) room
 
-pub heartbeat_keeps : (merge : Operator) (number n : ℕ) (s : State) (k : StateKeeps merge s) → IsLawful merge → WorkersKeepFit → HadRoom (run_line number s (heartbeat_line n s)).1.store → StateKeeps merge (run_line number s (heartbeat_line n s)).1
-heartbeat_keeps merge number n s k lawful fit room = by (worker_with n s.parties) refl room
+pub heartbeat_keeps : (merge : Operator) (number n : ℕ) (s : State) (k : StateKeeps merge s) → IsLawful merge → HadRoom (run_line number s (heartbeat_line n s)).1.store → StateKeeps merge (run_line number s (heartbeat_line n s)).1
+heartbeat_keeps merge number n s k lawful room = by (worker_with n s.parties) refl room
   where
     line : Option LiveWorker → LineCourse
     line o = if_some o (no_such_party s) (λ w. worker_line w s (heartbeat s.moment w) (λ r. beat_reply r.beat r.not_owner) (λ r. r.attempts) w.attempts)
@@ -124,7 +128,7 @@ heartbeat_keeps merge number n s k lawful fit room = by (worker_with n s.parties
         let is = is_worker merge s k n w e in
         let who : Caller = caller_of merge number (Worker w.number) in
         work_keeps merge number s k w (heartbeat s.moment w) (λ r. beat_reply r.beat r.not_owner) (λ r. r.attempts) w.attempts lawful is.holds (λ t h. h)
-        (beats_are_lawful who (told_of merge s k) s.moment w (calls_keep merge lawful) refl k.fleet.store is.holds) (fit.beats who w (told_of merge s k) s.moment) room
+        (beats_are_lawful who (told_of merge s k) s.moment w (calls_keep merge lawful) refl k.fleet.store is.holds) (beats_keep_fit who (told_of merge s k) s.moment w (calls_keep merge lawful) refl k.fleet.store is.holds).0 room
 
 -- ---- outputs and finishes
 
@@ -147,9 +151,9 @@ is_attempt merge s k n job p e = by (worker_with n s.parties) refl e
     by None f e = absurd (cc e)
     by (Some w) f e = at w (is_worker merge s k n w f) (attempt_numbered job w.attempts) refl e
 
-pub finish_keeps : (inputs : Inputs) (number n job : ℕ) (refusal : Option (List ℕ)) (s : State) (k : StateKeeps inputs.merge s) → IsLawful inputs.merge → WorkersKeepFit → FinishMay inputs s (job_at s n job) refusal
+pub finish_keeps : (inputs : Inputs) (number n job : ℕ) (refusal : Option (List ℕ)) (s : State) (k : StateKeeps inputs.merge s) → IsLawful inputs.merge → FinishMay inputs s (job_at s n job) refusal
     → let c = if_some (job_at s n job) (no_such_party s) (λ found. finish_line inputs s found.0 found.1 refusal) in HadRoom (run_line number s c).1.store → StateKeeps inputs.merge (run_line number s c).1
-finish_keeps inputs number n job refusal s k lawful fit may room = by (job_at s n job) refl may room
+finish_keeps inputs number n job refusal s k lawful may room = by (job_at s n job) refl may room
   where
     whole : (a : Attempt) (refusal : Option (List ℕ)) (w : LiveWorker) → FinishMay inputs s (Some (w, a)) refusal → WholeUnless inputs.merge s.store.tables a refusal
     whole a None w may = all_true_front (λ (range : Range × List ℕ). (left_in inputs s a range).whole) a.context.ranges may
@@ -166,11 +170,11 @@ finish_keeps inputs number n job refusal s k lawful fit may room = by (job_at s 
         let step = finish inputs.merge s.store.tables (worker_options s.options) s.moment w a refusal in
         work_keeps inputs.merge number s k w step (λ r. reply (codes "ok" ∷ ranges_text r.outputs ∷ [])) (λ r. r.attempts) (dropped w a) lawful is.holds (λ t h. fewer_attempts inputs.merge t w _ h)
         (finishes_are_lawful who (told_of inputs.merge s k) (worker_options s.options) s.moment w a refusal (calls_keep inputs.merge lawful) lawful refl k.fleet.store is.holds is.runs (whole a refusal w may))
-        (fit.finishes who w (told_of inputs.merge s k) (worker_options s.options) s.moment a refusal is.runs (whole a refusal w may)) room
+        (finishes_keep_fit who (told_of inputs.merge s k) (worker_options s.options) s.moment w a refusal (calls_keep inputs.merge lawful) lawful refl k.fleet.store is.holds is.runs (whole a refusal w may)) room
 
-pub output_keeps : (inputs : Inputs) (number n job place rows : ℕ) (refusal : Option (List ℕ)) (s : State) (k : StateKeeps inputs.merge s) → IsLawful inputs.merge → WorkersKeepFit → 1 ≤ place → 1 ≤ rows
+pub output_keeps : (inputs : Inputs) (number n job place rows : ℕ) (refusal : Option (List ℕ)) (s : State) (k : StateKeeps inputs.merge s) → IsLawful inputs.merge → 1 ≤ place
     → let c = if_some (range_at s n job place) (no_such_party s) (λ found. output_line inputs s found.0 found.1 place found.2 rows refusal) in HadRoom (run_line number s c).1.store → StateKeeps inputs.merge (run_line number s c).1
-output_keeps inputs number n job place rows refusal s k lawful fit counted some room = at (job_at s n job) refl room
+output_keeps inputs number n job place rows refusal s k lawful counted room = at (job_at s n job) refl room
   where
     line : Option (LiveWorker × Attempt × (Range × List ℕ)) → LineCourse
     line o = if_some o (no_such_party s) (λ found. output_line inputs s found.0 found.1 place found.2 rows refusal)
@@ -187,7 +191,7 @@ output_keeps inputs number n job place rows refusal s k lawful fit counted some 
         let who : Caller = caller_of inputs.merge number (Worker w.number) in
         work_keeps inputs.merge number s k w (output inputs.merge s.store.tables s.moment w a place range rows refusal) (λ r. output_reply r.table) (λ r. r.attempts) (dropped w a) lawful is.holds (λ t h. fewer_attempts inputs.merge t w _ h)
         (outputs_are_lawful who (told_of inputs.merge s k) s.moment w a place range rows refusal (calls_keep inputs.merge lawful) lawful refl k.fleet.store is.holds is.runs)
-        (fit.outputs who w (told_of inputs.merge s k) s.moment a place range rows refusal is.runs (record { counted = omega (arith, counted); is = e }) (omega (arith, some))) room
+        (outputs_keep_fit who (told_of inputs.merge s k) s.moment w a place range rows refusal (calls_keep inputs.merge lawful) lawful refl k.fleet.store is.holds is.runs (record { counted = omega (arith, counted); there = e })) room
 
     at : (o : Option (LiveWorker × Attempt)) → job_at s n job ≡ o
         → let r = if_some {B = Option (LiveWorker × Attempt × (Range × List ℕ))} o None (λ found. in_range found (slice_get found.1.context.ranges (place - 1))) in HadRoom (run_line number s (line r)).1.store → StateKeeps inputs.merge (run_line number s (line r)).1
