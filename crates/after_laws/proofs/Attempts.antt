@@ -60,7 +60,7 @@ holds_fewer merge told w keep h = record {
 
 -- ---- one more attempt
 
-all_put : (P : Attempt → Type 0) (a : Attempt) (xs : List Attempt) → P a → AllByRecursion P xs → AllByRecursion P (put_attempt a xs)
+pub all_put : (P : Attempt → Type 0) (a : Attempt) (xs : List Attempt) → P a → AllByRecursion P xs → AllByRecursion P (put_attempt a xs)
 all_put P a [] one all = (one, tt)
 all_put P a (b ∷ xs) one all = by (nat_lt a.job b.job) (all_put P a xs one all.1)
   where

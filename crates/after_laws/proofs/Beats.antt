@@ -23,8 +23,6 @@ use Rattle.step_model.specs.BeatSteps.{Beaten, published_by, context_of, beat_re
 use Rattle.step_laws.specs.Runs.{CallsKeep}
 use Rattle.step_laws.proofs.Elements.{IsIn, all_at, all_from, all_to, contains_in, in_contains, is_itself}
 use Rattle.step_laws.proofs.Changed.{on_these, found_job, job_found}
-use Rattle.step_laws.proofs.TableBodies.{active_if_open}
-use Rattle.step_laws.proofs.WorkerPuts.{live_open}
 use Rattle.fit_laws.proofs.JobsMerged.{StayActive, changed_stay, with_changed}
 use Rattle.fit_laws.proofs.WorkerFollows.{from_filter}
 use Rattle.course_laws.proofs.Beats.{Fit, fit_got, found_attempt, beats_are_lawful}
@@ -35,7 +33,7 @@ use Rattle.course_laws.proofs.Made.{Relies}
 use Rattle.after_laws.specs.Behind.{FitsBehind}
 use Rattle.after_laws.specs.Beats.{IsBeaten, BeatsKeepFit}
 use Rattle.after_laws.specs.OwnCalls.{SparesOwn}
-use Rattle.after_laws.proofs.Live.{IsLive, live_at}
+use Rattle.after_laws.proofs.Live.{IsLive, live_at, live_active}
 use Rattle.after_laws.proofs.Runs.{Made, call_by, stopped, reported, ended}
 use Rattle.after_laws.proofs.Attempts.{holds_fewer}
 use Rattle.after_laws.proofs.OwnCalls.{put_told, own_calls_keep}
@@ -53,10 +51,6 @@ beaten_jobs moment w live jobs = jobs_after (published_at moment live) (Beat w.n
 -- The job is Running with the worker at the attempt, and has the attempt's context.
 abbrev HasBeaten : ℕ → Attempt → Jobs → Type 0
 HasBeaten worker a jobs = OfSome (λ job. IsTrue (runs_attempt worker a.number (Some job)) × (job.context ≡ Some a.context)) (job_with a.job jobs)
-
--- The jobs of live attempts are active.
-live_active : (worker : ℕ) (a : Attempt) (job : Job) → IsTrue (runs_attempt worker a.number (Some job)) → IsTrue (is_active job)
-live_active worker a job runs = active_if_open job (live_open worker a.number job runs)
 
 -- An attempt that the heartbeat names for the job.
 record NamedFrom (id : ℕ) (live : List Attempt) : Type 0 where

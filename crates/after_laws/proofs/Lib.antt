@@ -13,3 +13,4 @@ pub mod Begun
 pub mod Taken
 pub mod Awaits
 pub mod Starts
+pub mod Plans

@@ -2,8 +2,10 @@
 use Rattle.std.proofs.Common.{◌≡◌, refl, ℕ, List, [], ◌∷◌, cond, Bool, true, false, Option, Some, None}
 use Rattle.std.specs.Prelude.{IsTrue, filter}
 use Rattle.std.specs.List.{AllByRecursion}
-use Rattle.fleet_model.specs.Jobs.{Job, Jobs, job_with}
+use Rattle.fleet_model.specs.Jobs.{Job, Jobs, is_active, job_with}
 use Rattle.fleet_model.specs.Parties.{Attempt, is_live, runs_attempt}
+use Rattle.step_laws.proofs.TableBodies.{active_if_open}
+use Rattle.step_laws.proofs.WorkerPuts.{live_open}
 
 -- The job that a live attempt runs at.
 pub record IsLive (worker : ℕ) (jobs : Jobs) (a : Attempt) : Type 0 where
@@ -17,6 +19,10 @@ live_at worker jobs a live = by (job_with a.job jobs) refl live
     by : (o : Option Job) → job_with a.job jobs ≡ o → runs_attempt worker a.number o ≡ true → IsLive worker jobs a
     by None e never = absurd (cc never)
     by (Some job) e runs = record { job = job; stored = e; runs = runs }
+
+-- The jobs of live attempts are active.
+pub live_active : (worker : ℕ) (a : Attempt) (job : Job) → IsTrue (runs_attempt worker a.number (Some job)) → IsTrue (is_active job)
+live_active worker a job runs = active_if_open job (live_open worker a.number job runs)
 
 -- What a test leaves nothing of, passes it nowhere.
 pub none_pass : {A : Type 0} (p : A → Bool) (xs : List A) → filter p xs ≡ [] → AllByRecursion (λ x. p x ≡ false) xs
