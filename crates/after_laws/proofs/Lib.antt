@@ -14,3 +14,4 @@ pub mod Taken
 pub mod Awaits
 pub mod Starts
 pub mod Plans
+pub mod Claims

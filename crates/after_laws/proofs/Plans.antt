@@ -86,7 +86,7 @@ pub record IsTakenOver (merge : Operator) (told : Told) (b : Began) (job : Job) 
 abbrev pub IsStarting : Operator → Told → Began → Job → Type 0
 IsStarting merge told b job = IsPlanless told b job ⊎ IsTakenOver merge told b job
 
-runs_follow : (old now : Told) (w : LiveWorker) (a : Attempt) (taken : Job) → Follows old now (single w a) → AttemptHeld old w.number a → RunsAs w a taken old → RunsAs w a taken now
+pub runs_follow : (old now : Told) (w : LiveWorker) (a : Attempt) (taken : Job) → Follows old now (single w a) → AttemptHeld old w.number a → RunsAs w a taken old → RunsAs w a taken now
 runs_follow old now w a taken f held runs job e is = runs job (f.jobs a (inl refl) held job e is) is
 
 started_follow : (merge : Operator) (old now : Told) (b : Began) (job : Job) (specs : ℕ → JobSpec) → Faithful old specs → Follows old now (single b.w (attempt_of b job)) → IsStarted merge old b job → IsStarted merge now b job

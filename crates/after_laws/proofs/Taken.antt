@@ -117,7 +117,7 @@ took_held merge told w moment job context k t = record {
   sources = subst (λ o. IfSome o (λ (j : Job). job.source_tables ≡ j.source_tables)) (sym t.stored) refl;
 }
 
-took_runs : (told : Told) (w : LiveWorker) (moment : ℕ) (job : Job) (context : Context) → Took told w moment job → RunsAs w (attempt_with job context) (taken_by w moment job) told
+pub took_runs : (told : Told) (w : LiveWorker) (moment : ℕ) (job : Job) (context : Context) → Took told w moment job → RunsAs w (attempt_with job context) (taken_by w moment job) told
 took_runs told w moment job context t other e runs = cc (sym e ∙ t.stored)
 
 took_sources : (merge : Operator) (told : Told) (w : LiveWorker) (moment : ℕ) (job : Job) → Keeps merge told → Took told w moment job → AllByRecursion (λ id. IsTrue (is_held told.store id)) job.source_tables

@@ -4,3 +4,4 @@ pub mod Beats
 pub mod Releases
 pub mod Outputs
 pub mod Finishes
+pub mod Claims

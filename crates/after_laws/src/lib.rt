@@ -6,6 +6,7 @@
 ghost use Rattle.row_model.specs.Fold.{Operator};
 ghost use Rattle.after_laws.specs.Beats.{BeatsKeepFit};
 ghost use Rattle.after_laws.specs.OwnCalls.{OwnCallsKeep};
+ghost use Rattle.after_laws.specs.Claims.{ClaimsKeepFit};
 ghost use Rattle.after_laws.specs.Finishes.{FinishesKeepFit};
 ghost use Rattle.after_laws.specs.Outputs.{OutputsKeepFit};
 ghost use Rattle.after_laws.specs.Releases.{ReleasesKeepFit};
@@ -37,4 +38,10 @@ pub fn outputs_keep_fit()
 /// A worker fits behind its finish, and runs the finished attempt no more. Its other attempts stay.
 pub fn finishes_keep_fit()
     ensures { FinishesKeepFit }
+{}
+
+/// A worker fits behind its claim. Each attempt that it began has its job's published context, or a
+/// fresh one from the manifest that the worker got. The waiting jobs that it still ran are stopped.
+pub fn claims_keep_fit()
+    ensures { ClaimsKeepFit }
 {}
