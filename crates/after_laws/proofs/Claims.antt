@@ -311,7 +311,7 @@ those who options moment w left again r new end tries met got (job ∷ rest) is 
         after = told_by who.line who.party x None m.met
 
         holds : WorkerHolds who.merge after w
-        holds = own_calls_keep who.merge x who.line who.party m.met w m.fit.kept r.own m.lawful (λ same. all_map (λ (a : ℕ × ℕ). contains (attempt_jobs w.attempts) a.0 ≡ false) next_attempt these not_run) m.fit.holds
+        holds = own_calls_keep who.merge x who.line who.party m.met w m.fit.kept r.own m.lawful (λ same. tt) m.fit.holds
 
         by : (b : Bool) → (got.version == records_version m.met.store.records) ≡ b → IsLawfulCourse who after (again_or (records_version m.met.store.records) b) → Runs who (again_or (records_version m.met.store.records) b) after new end
             → FitsBehind who.merge w (λ report. report.attempts) new end

@@ -78,35 +78,28 @@ waiting_active Compacted free h = refl
 waiting_active Completed free h = absurd (cc h)
 waiting_active Failed free h = absurd (cc h)
 
-record InFirsts (id : ℕ) (attempts : List (ℕ × ℕ)) : Type 0 where
-  number : ℕ
-  there : IsIn (id, number) attempts
-
-in_firsts : (id : ℕ) (attempts : List (ℕ × ℕ)) → IsIn id (firsts attempts) → InFirsts id attempts
-in_firsts id [] there = absurd there
-in_firsts id (a ∷ attempts) (inl same) = record { number = a.1; there = inl (λ i. (same i, a.1)) }
-in_firsts id (a ∷ attempts) (inr there) = let found = in_firsts id attempts there in record { number = found.number; there = inr found.there }
-
 -- The entry of the worker's put.
 abbrev pub own_entry : ℕ → Party → Told → RecordChange → Entry
 own_entry line party told change = record { line = line; party = party; event = PutRecords change; answer = Done (records_version told.store.records + 1) }
 
 claim_spares : (merge : Operator) (line : ℕ) (party : Party) (told : Told) (w : LiveWorker) (u : Unrecorded) (worker : ℕ) (attempts : List (ℕ × ℕ)) (jobs : Jobs) → Keeps merge told → ChangeFits merge party told u jobs (Claim worker attempts)
-    → SparesOwn told w jobs (Claim worker attempts) → OwnPut told w (claimed_by worker u.moment) (firsts attempts) (own_entry line party told (Claim worker attempts))
-claim_spares merge line party told w u worker attempts jobs k fits spares = record {
+    → OwnPut told w (claimed_by worker u.moment) (firsts attempts) (own_entry line party told (Claim worker attempts))
+claim_spares merge line party told w u worker attempts jobs k fits = record {
   ids = λ job. refl;
   specs = λ job. refl;
   sources = λ job. refl;
   origins = λ a there held. quiet_origin told (own_entry line party told (Claim worker attempts)) a refl;
-  named = λ a there was one id has now runs. absurd (runs_none a there (subst (λ n. IsTrue (contains (firsts attempts) n)) id has));
+  named = λ a there held was one id has now runs. absurd (runs_none a held was one id (live_attempt w.number a.number (claimed_by worker u.moment was) runs));
   others = λ a there live lacks old one has active t noted named. (waits old one has, named);
 }
   where
-    runs_none : (a : Attempt) → IsIn a w.attempts → IsTrue (contains (firsts attempts) a.job) → ⊥
-    runs_none a there has =
-        let found = in_firsts a.job attempts (contains_in (firsts attempts) a.job has) in
-        refused (contains (attempt_jobs w.attempts) a.job) (all_at (λ p. contains (attempt_jobs w.attempts) p.0 ≡ false) attempts (a.job, found.number) spares found.there)
-        (in_contains (attempt_jobs w.attempts) a.job (in_map (λ (x : Attempt). x.job) w.attempts a there))
+    -- The job is claimed at a later attempt than those that the worker claimed before.
+    runs_none : (a : Attempt) → AttemptHeld told w.number a → (was : Job) → IsIn was (stored_jobs told.store) → was.id ≡ a.job → a.number ≡ was.attempt + 1 → ⊥
+    runs_none a held was one id next =
+        let b = (whole_of merge told k).body in
+        let stored = subst (λ n. job_with n (stored_jobs told.store) ≡ Some was) id (found_job (stored_jobs told.store) was b.sound.job_ids one) in
+        let low : a.number ≤ was.attempt = subst (λ o. IfSome o (λ (j : Job). a.number ≤ j.attempt)) stored (claimed_up_to merge told k.stored.replay.specs b w.number a.job a.number held.claimed).1 in
+        absurd (omega (arith, low, next))
 
     waits : (old : Job) → IsIn old (stored_jobs told.store) → IsTrue (contains (firsts attempts) old.id) → IsTrue (is_active old)
     waits old one has =
@@ -120,7 +113,7 @@ release_spares merge line party told w u worker attempts jobs k fits = record {
   specs = λ job. refl;
   sources = λ job. refl;
   origins = λ a there held. quiet_origin told (own_entry line party told (Release worker attempts)) a refl;
-  named = λ a there was one id has now runs. absurd (cc runs);
+  named = λ a there held was one id has now runs. absurd (cc runs);
   others = λ a there live lacks old one has active t noted named. (runs old one has, named);
 }
   where
@@ -140,7 +133,7 @@ finish_spares merge line party told w u worker id attempt outputs jobs spares = 
   specs = λ job. refl;
   sources = λ job. refl;
   origins = λ a there held. quiet_origin told (own_entry line party told (Finish worker id attempt outputs)) a refl;
-  named = λ a there was one same has now runs. absurd (cc runs);
+  named = λ a there held was one same has now runs. absurd (cc runs);
   others = λ a there live lacks old one has active t noted named.
       absurd (apart_at (concat outputs) (noted_tables a) t (all_at _ (live_attempts (stored_jobs told.store) w) a spares (in_filter (is_live (stored_jobs told.store) w.number) w.attempts a there live)
       (λ same. refused (contains (id ∷ []) a.job) lacks (in_contains (id ∷ []) a.job (inl same)))) named noted);
@@ -156,7 +149,7 @@ beat_spares merge line party told w u worker attempts k own fits spares = record
   specs = λ job. refl;
   sources = λ job. refl;
   origins = λ a there held. origin_kept told.store.history (own_entry line party told (Beat worker attempts)) a.job a.number (λ n e. later a held n (attempt_named a.job n attempts e));
-  named = λ a there was one id has now runs. left a there was one id has now runs;
+  named = λ a there held was one id has now runs. left a there was one id has now runs;
   others = λ a there live lacks old one has active t noted named. absurd (refused (contains (firsts attempts) a.job) lacks (spared a there live).0);
 }
   where
@@ -217,7 +210,7 @@ change_holds : (merge : Operator) (line : ℕ) (party : Party) (told : Told) (w 
     → WorkerHolds merge (with_records told (record { version = version; epoch = epoch; jobs = jobs_after u change (stored_jobs told.store) }) (own_entry line party told change)) w
 change_holds merge line party told w version (Claim worker attempts) epoch jobs u k own fits spares h =
     holds_own merge told w (claimed_by worker u.moment) (firsts attempts) (own_entry line party told (Claim worker attempts)) version epoch k.stored.replay.specs (whole_of merge told k).body
-    (claim_spares merge line party told w u worker attempts (jobs_after u (Claim worker attempts) (stored_jobs told.store)) k fits spares) h
+    (claim_spares merge line party told w u worker attempts (jobs_after u (Claim worker attempts) (stored_jobs told.store)) k fits) h
 change_holds merge line party told w version (Beat worker attempts) epoch jobs u k own fits spares h =
     holds_own merge told w (beaten_by worker u) (firsts attempts) (own_entry line party told (Beat worker attempts)) version epoch k.stored.replay.specs (whole_of merge told k).body (beat_spares merge line party told w u worker attempts k own fits spares) h
 change_holds merge line party told w version (Finish worker id attempt outputs) epoch jobs u k own fits spares h =

@@ -47,7 +47,7 @@ pub record OwnPut (told : Told) (w : LiveWorker) (f : Job → Job) (these : List
   pub specs : (job : Job) → (f job).spec ≡ job.spec
   pub sources : (job : Job) → (f job).source_tables ≡ job.source_tables
   pub origins : (a : Attempt) → IsIn a w.attempts → AttemptHeld told w.number a → origin told.store.history a.job a.number ≡ origin (told.store.history ++ entry ∷ []) a.job a.number
-  pub named : (a : Attempt) → IsIn a w.attempts → (was : Job) → IsIn was (stored_jobs told.store) → was.id ≡ a.job → IsTrue (contains these was.id)
+  pub named : (a : Attempt) → IsIn a w.attempts → AttemptHeld told w.number a → (was : Job) → IsIn was (stored_jobs told.store) → was.id ≡ a.job → IsTrue (contains these was.id)
       → job_with a.job (trimmed (changed f these (stored_jobs told.store))) ≡ Some (f was) → IsTrue (runs_attempt w.number a.number (Some (f was))) → LeftAs w.number a was (f was)
   pub others : (a : Attempt) → IsIn a w.attempts → is_live (stored_jobs told.store) w.number a ≡ true → contains these a.job ≡ false → (old : Job) → IsIn old (stored_jobs told.store) → IsTrue (contains these old.id) → IsTrue (is_active (f old))
       → (t : ℕ) → IsIn t (noted_tables a) → IsIn t (job_tables (f old)) → IsTrue (is_active old) × IsIn t (job_tables old)
@@ -147,8 +147,8 @@ unnamed_still told w f these entry version epoch a id t put there live lacks sam
         (subst Names (sym from.is) (now_names from.was from.there)) (left (is_active found.0) (not (id == found.0.id)) kept.1) (differs found.0 kept.1) found.1.1
 
 still : (told : Told) (w : LiveWorker) (f : Job → Job) (these : List ℕ) (entry : Entry) (version epoch : ℕ) (merge : Operator) (specs : ℕ → JobSpec) → Body merge told specs → OwnPut told w f these entry
-    → (a : Attempt) → IsIn a w.attempts → is_live (stored_jobs (with_records told (left_records told f these version epoch) entry).store) w.number a ≡ true → Still told (with_records told (left_records told f these version epoch) entry) w a
-still told w f these entry version epoch merge specs b put a there live = by (job_with a.job jobs) refl live
+    → (a : Attempt) → IsIn a w.attempts → AttemptHeld told w.number a → is_live (stored_jobs (with_records told (left_records told f these version epoch) entry).store) w.number a ≡ true → Still told (with_records told (left_records told f these version epoch) entry) w a
+still told w f these entry version epoch merge specs b put a there held live = by (job_with a.job jobs) refl live
   where
     jobs : Jobs
     jobs = (left_records told f these version epoch).jobs
@@ -187,7 +187,7 @@ still told w f these entry version epoch merge specs b put a there live = by (jo
 
     beaten : (was : Job) → IsIn was (stored_jobs told.store) → was.id ≡ a.job → IsTrue (contains these was.id) → job_with a.job jobs ≡ Some (f was) → IsTrue (runs_attempt w.number a.number (Some (f was))) → Still told new w a
     beaten was one id has now runs =
-        let l = put.named a there was one id has now runs in
+        let l = put.named a there held was one id has now runs in
         let stored = subst (λ n. job_with n (stored_jobs told.store) ≡ Some was) id (found_job (stored_jobs told.store) was b.sound.job_ids one) in
         record {
           job = f was;
@@ -233,7 +233,7 @@ holds_own merge told w f these entry version epoch specs b put h = record {
         each = all_to _ _ w.attempts (λ a there stands. record { claimed = claim others a there stands.claimed; held = stands.held; tables = stands.tables }) (h.fits others old).each;
         live = all_from _ (live_attempts jobs w) (λ a there.
             let found = from_filter (is_live jobs w.number) w.attempts a there in
-            let s = still told w f these entry version epoch merge specs b put a found.0 found.1 in
+            let s = still told w f these entry version epoch merge specs b put a found.0 (held a found.0) found.1 in
             let was_live = in_filter (is_live (stored_jobs told.store) w.number) w.attempts a found.0 s.live in
             live others a found.0 s (all_at _ w.attempts a (h.fits others old).each found.0) (all_at (LiveFits merge told.store others) (live_attempts (stored_jobs told.store) w) a (h.fits others old).live was_live));
       };
@@ -246,11 +246,11 @@ holds_own merge told w f these entry version epoch specs b put h = record {
   jobs_rise = h.jobs_rise;
   own = all_from _ (live_attempts jobs w) (λ a there.
       let found = from_filter (is_live jobs w.number) w.attempts a there in
-      let s = still told w f these entry version epoch merge specs b put a found.0 found.1 in
+      let s = still told w f these entry version epoch merge specs b put a found.0 (held a found.0) found.1 in
       let was_live = in_filter (is_live (stored_jobs told.store) w.number) w.attempts a found.0 s.live in
       subst (λ o. IfSome o (λ job. AllByRecursion (MayUse (Worker w.number) new job) (noted_tables a))) (sym s.now)
       (s.own (subst (λ o. IfSome o (λ job. AllByRecursion (MayUse (Worker w.number) told job) (noted_tables a))) s.stored (all_at (NotesOwn told w.number) (live_attempts (stored_jobs told.store) w) a h.own was_live))));
-  apart = fewer_pairs _ (is_live (stored_jobs told.store) w.number) (is_live jobs w.number) w.attempts (λ a there live. (still told w f these entry version epoch merge specs b put a there live).live) h.apart;
+  apart = fewer_pairs _ (is_live (stored_jobs told.store) w.number) (is_live jobs w.number) w.attempts (λ a there live. (still told w f these entry version epoch merge specs b put a there (held a there) live).live) h.apart;
 }
   where
     jobs : Jobs

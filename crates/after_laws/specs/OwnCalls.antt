@@ -1,12 +1,12 @@
 -- The law on a worker's own calls.
-use Rattle.std.specs.Prelude.{◌≡◌, ℕ, false, IsTrue, Some, None, ⊤}
+use Rattle.std.specs.Prelude.{◌≡◌, ℕ, IsTrue, Some, None, ⊤}
 use Rattle.std.specs.List.{AllByRecursion, concat}
 use Rattle.row_model.specs.Fold.{Operator}
 use Rattle.fleet_model.specs.Jobs.{Jobs, contains, job_with}
 use Rattle.fleet_model.specs.History.{Party, Worker, RecordChange, Claim, Beat, Finish, Release}
 use Rattle.fleet_model.specs.Store.{stored_jobs}
 use Rattle.fleet_model.specs.Records.{firsts}
-use Rattle.fleet_model.specs.Parties.{LiveWorker, attempt_jobs, live_attempts}
+use Rattle.fleet_model.specs.Parties.{LiveWorker, live_attempts}
 use Rattle.fleet_model.specs.Exchanges.{Exchange, PutsManifest, PutsRecords, DeletesTable, records_version}
 use Rattle.step_model.specs.Past.{Told}
 use Rattle.step_model.specs.Lawful.{Lawful}
@@ -17,10 +17,10 @@ use Rattle.step_model.specs.Keeps.{Keeps}
 use Rattle.step_model.specs.Fits.{WorkerHolds, noted_tables}
 
 -- What a worker's put of the records has to see to, so that its attempts still fit. `jobs` are the
--- jobs that it puts. A claim takes no job that the worker runs. A heartbeat names all live attempts
--- and publishes their own contexts. A finish names no table that is noted for another live attempt.
+-- jobs that it puts. A heartbeat names all live attempts and publishes their own contexts. A finish
+-- names no table that is noted for a live attempt at another job.
 abbrev pub SparesOwn : Told → LiveWorker → (jobs : Jobs) → RecordChange → Type 0
-SparesOwn told w jobs (Claim worker attempts) = AllByRecursion (λ a. contains (attempt_jobs w.attempts) a.0 ≡ false) attempts
+SparesOwn told w jobs (Claim worker attempts) = ⊤
 SparesOwn told w jobs (Beat worker attempts) =
     AllByRecursion (λ a. IsTrue (contains (firsts attempts) a.job) × OfSome (λ job. job.context ≡ Some a.context) (job_with a.job jobs)) (live_attempts (stored_jobs told.store) w)
 SparesOwn told w jobs (Finish worker id attempt outputs) = AllByRecursion (λ a. (id ≡ a.job → ⊥) → AreApart (concat outputs) (noted_tables a)) (live_attempts (stored_jobs told.store) w)

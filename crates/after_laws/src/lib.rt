@@ -12,8 +12,8 @@ ghost use Rattle.after_laws.specs.Outputs.{OutputsKeepFit};
 ghost use Rattle.after_laws.specs.Releases.{ReleasesKeepFit};
 
 /// A lawful call of the worker itself keeps what it holds, if no fault strikes the call. Its puts of
-/// the records must spare its live attempts: a claim takes no job that the worker runs, a heartbeat
-/// publishes the attempts' own contexts, and a finish names no table of another live attempt.
+/// the records must spare its live attempts: a heartbeat publishes the attempts' own contexts, and a
+/// finish names no table that is noted for another one.
 pub fn own_calls_keep()
     ensures { (merge : Operator) → OwnCallsKeep merge }
 {}
