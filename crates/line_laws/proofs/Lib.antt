@@ -13,5 +13,8 @@ pub mod PartyLines
 pub mod WorkerLines
 pub mod Scripts
 pub mod ReadLines
+pub mod Reports
 pub mod PollSays
 pub mod PollLines
+pub mod ClaimRuns
+pub mod ClaimLines

@@ -54,7 +54,7 @@ pub record IsWorker (merge : Operator) (s : State) (k : StateKeeps merge s) (n :
   pub number : n ≡ w.number
   pub holds : WorkerHolds merge (told_of merge s k) w
 
-is_worker : (merge : Operator) (s : State) (k : StateKeeps merge s) (n : ℕ) (w : LiveWorker) → worker_with n s.parties ≡ Some w → IsWorker merge s k n w
+pub is_worker : (merge : Operator) (s : State) (k : StateKeeps merge s) (n : ℕ) (w : LiveWorker) → worker_with n s.parties ≡ Some w → IsWorker merge s k n w
 is_worker merge s k n w e =
     let f = found (λ (w : LiveWorker). n == w.number) s.parties.workers w e in
     record { number = (Decides-eqb n w.number).0 f.passes; holds = all_at (WorkerHolds merge (told_of merge s k)) s.parties.workers w k.fleet.workers f.there }

@@ -3,6 +3,7 @@
 #![tactic(auto)]
 
 ghost use Rattle.line_laws.specs.Alone.{AloneRuns};
+ghost use Rattle.line_laws.specs.ClaimLines.{ClaimsTake};
 ghost use Rattle.line_laws.specs.PollLines.{PollsCommit};
 ghost use Rattle.line_laws.specs.ReadLines.{ReadsAnswer};
 ghost use Rattle.line_laws.specs.Scripts.{ScriptsKeep};
@@ -30,4 +31,10 @@ pub fn reads_answer()
 /// job took effect before, the trees stay too.
 pub fn polls_commit()
     ensures { PollsCommit }
+{}
+
+/// A claim that is not refused takes and stops exactly the jobs of its rule, and begins an attempt
+/// at each job that it takes, under the manifest that is stored. The line prints them.
+pub fn claims_take()
+    ensures { ClaimsTake }
 {}
