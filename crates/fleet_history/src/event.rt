@@ -1,6 +1,8 @@
 //! The events of a history.
 
 ghost use Rattle.std.specs.Prelude.{◌≡◌, IfOk, IsOkUnless};
+ghost use Rattle.fleet_model.specs.History.{is_get_or_put};
+ghost use Rattle.fleet_history.specs.Entries.{event_of};
 
 use crate::{ManifestChange, Party, RecordChange};
 use fleet_range::RangeList;
@@ -32,6 +34,21 @@ pub enum Event {
 }
 
 impl Event {
+    /// Whether a fault may strike the event, because it is a get or a put. A list counts as a get,
+    /// and a deletion as a put.
+    pub fn is_get_or_put(&self) -> bool
+        ensures { result ≡ is_get_or_put (event_of self.now) }
+    {
+        !matches!(
+            self,
+            Event::DrawJob(_)
+                | Event::DrawTable(_)
+                | Event::Plan(..)
+                | Event::Start(_)
+                | Event::Kill(_)
+        )
+    }
+
     /// A copy.
     pub fn clone(&self) -> Result<Event, SlateDBError>
         ensures copy { IfOk result (λ copy. copy ≡ self.now) }

@@ -1,0 +1,6 @@
+pub mod Calls
+pub mod Logs
+pub mod ByIds
+pub mod Memories
+pub mod Kept
+pub mod Ends

@@ -1,0 +1,78 @@
+-- What each call of a store asks, and what it answers.
+use Rattle.std.specs.Prelude.{◌≡◌, ℕ, List, Option, Result, ⊤}
+use Rattle.row_model.specs.Rows.{Row}
+use Rattle.fleet_model.specs.History.{GetManifest, GetRecords, GetTable}
+use Rattle.fleet_model.specs.Exchanges.{Exchange, Plain, DrawsJob, DrawsTable, Fault, PutsTable, ListsTables, DeletesTable, next_job_id, next_table_id, records_version}
+use Rattle.fleet_model.specs.Store.{Store}
+use Rattle.step_model.specs.Past.{Told}
+use Rattle.step_model.specs.Lawful.{Lawful}
+use Rattle.step_model.specs.Rivals.{Caller, Rivals}
+use Rattle.fleet_rows.specs.declared.errors.SlateDBError.{SlateDBError}
+use Rattle.fleet_table.specs.declared.manifest.Manifest.{Manifest}
+use Rattle.fleet_table.specs.declared.manifest.VersionedManifest.{VersionedManifest}
+use Rattle.fleet_jobs.specs.JobParts.{JobParts}
+use Rattle.fleet_book.specs.VersionedRecords.{VersionedRecords}
+use Rattle.fleet_book.specs.declared.compactions.Compactions.{Compactions}
+use Rattle.fleet_history.specs.Changes.{manifest_change_of}
+use Rattle.fleet_history.specs.declared.manifest_change.ManifestChange.{ManifestChange}
+use Rattle.fleet_history.specs.declared.note.Note.{Note}
+use Rattle.fleet_history.specs.declared.record_change.RecordChange.{RecordChange}
+use Rattle.fleet_store.specs.Called.{Called, Never, PutsNext, ShowsStored}
+use Rattle.fleet_store.specs.Exchanges.{manifest_put, records_put, noted}
+use Rattle.fleet_store.specs.Manifests.{HasTrees, IsManifest}
+use Rattle.fleet_store.specs.Records.{AreRecords, DescribeTables}
+use Rattle.fleet_store.specs.Tables.{held_rows, held_ids}
+
+-- The call is lawful at each store that calls of others may leave.
+abbrev pub MayCall : Caller → Told → (Store → Exchange) → Type 0
+MayCall who told x = (met : Told) → Rivals who told met → Lawful who.merge who.party met (x met.store)
+
+-- A put of the manifest fits each store that calls of others may leave: it is lawful, and if its version is
+-- stored, then it has the trees that the change makes of the stored ones.
+pub record ManifestPutFits (who : Caller) (told : Told) (version : ℕ) (value : Manifest) (why : ManifestChange) (jobs : List JobParts) : Type 0 where
+  pub lawful : MayCall who told (manifest_put version value why jobs)
+  pub shown : (met : Told) → Rivals who told met → version ≡ met.store.manifest.version → HasTrees value jobs (manifest_change_of why) met.store
+
+-- A put of the records fits each store that calls of others may leave: it is lawful, and if its version is
+-- stored, then it describes its tables.
+pub record RecordsPutFit (who : Caller) (told : Told) (version : ℕ) (value : Compactions) (why : RecordChange) : Type 0 where
+  pub lawful : MayCall who told (λ met. records_put version value why)
+  pub shown : (met : Told) → Rivals who told met → version ≡ records_version met.store.records → DescribeTables value.jobs met.store
+
+-- What a call of each kind leaves and answers. `old` and `new` are what is told before and after, `before` and
+-- `after` count the faults, and `waits` and `left` are the faults that wait.
+module _ (who : Caller) (old new : Told) (before after : ℕ) (waits left : Option Fault) where
+  abbrev pub GetsManifest : Result VersionedManifest SlateDBError → Type 0
+  GetsManifest result = Called who old new before after waits left (λ met. Plain GetManifest) (λ met manifest. IsManifest manifest met) Never result
+
+  abbrev pub PutsManifest : ℕ → Manifest → ManifestChange → List JobParts → Result ℕ SlateDBError → Type 0
+  PutsManifest version value why jobs result =
+      Called who old new before after waits left (manifest_put version value why jobs) (λ met. PutsNext version met.manifest.version) (λ met. ShowsStored version met.manifest.version) result
+
+  abbrev pub GetsRecords : Result (Option VersionedRecords) SlateDBError → Type 0
+  GetsRecords result = Called who old new before after waits left (λ met. Plain GetRecords) (λ met records. AreRecords records met) Never result
+
+  abbrev pub PutsRecords : ℕ → Compactions → RecordChange → Result ℕ SlateDBError → Type 0
+  PutsRecords version value why result =
+      Called who old new before after waits left (λ met. records_put version value why) (λ met. PutsNext version (records_version met.records)) (λ met. ShowsStored version (records_version met.records)) result
+
+  abbrev pub PutsTableRows : ℕ → List Row → Result Unit SlateDBError → Type 0
+  PutsTableRows id rows result = Called who old new before after waits left (λ met. PutsTable id rows) (λ met done. ⊤) Never result
+
+  abbrev pub GetsTable : ℕ → Result (Option (List Row)) SlateDBError → Type 0
+  GetsTable id result = Called who old new before after waits left (λ met. Plain (GetTable id)) (λ met rows. rows ≡ held_rows id met) Never result
+
+  abbrev pub DrawsJobId : ℕ → Result ℕ SlateDBError → Type 0
+  DrawsJobId moment result = Called who old new before after waits left (λ met. DrawsJob moment) (λ met id. id ≡ next_job_id moment met) Never result
+
+  abbrev pub DrawsTableId : ℕ → Result ℕ SlateDBError → Type 0
+  DrawsTableId moment result = Called who old new before after waits left (λ met. DrawsTable moment) (λ met id. id ≡ next_table_id moment met) Never result
+
+  abbrev pub Notes : Note → Result Unit SlateDBError → Type 0
+  Notes note result = Called who old new before after waits left (λ met. noted note) (λ met done. ⊤) Never result
+
+  abbrev pub ListsHeld : Result (List ℕ) SlateDBError → Type 0
+  ListsHeld result = Called who old new before after waits left (λ met. ListsTables) (λ met ids. ids ≡ held_ids met) Never result
+
+  abbrev pub Deletes : ℕ → Result Unit SlateDBError → Type 0
+  Deletes id result = Called who old new before after waits left (λ met. DeletesTable id) (λ met done. ⊤) Never result

@@ -1,0 +1,11 @@
+pub mod Handles
+pub mod Manifests
+pub mod Records
+pub mod Exchanges
+pub mod Tables
+pub mod Called
+pub mod Asks
+pub mod Calls
+pub mod Strikes
+pub mod Log
+pub mod Memory

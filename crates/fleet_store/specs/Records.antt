@@ -1,0 +1,28 @@
+-- Which records of the model the records of a program stand for.
+use Rattle.std.specs.Prelude.{◌≡◌, List, [], ◌++◌, flat_map, Option, Some, None, option_map}
+use Rattle.std.specs.List.{AllByRecursion}
+use Rattle.fleet_model.specs.Store.{Store}
+use Rattle.fleet_table.specs.declared.handle.SsTableHandle.{SsTableHandle}
+use Rattle.fleet_jobs.specs.Contexts.{ranges_in}
+use Rattle.fleet_jobs.specs.JobParts.{JobParts}
+use Rattle.fleet_book.specs.VersionedRecords.{VersionedRecords}
+use Rattle.fleet_book.specs.Versions.{records_of}
+use Rattle.fleet_store.specs.Handles.{IsDescribed}
+
+-- The tables that a record describes: those of its context, and its outputs.
+abbrev pub job_handles : JobParts → List SsTableHandle
+job_handles job = flat_map (λ part. part.output_ssts) (ranges_in job.ctx) ++ flat_map (λ tables. tables) job.outputs
+
+-- The records describe tables that were put into the store.
+abbrev pub DescribeTables : List JobParts → Store → Type 0
+DescribeTables jobs store = AllByRecursion (IsDescribed store.tables) (flat_map job_handles jobs)
+
+-- The jobs of the program's records, or none if there are no records.
+abbrev pub jobs_or_none : Option VersionedRecords → List JobParts
+jobs_or_none None = []
+jobs_or_none (Some records) = records.compactions.jobs
+
+-- The program's records are the stored ones, and describe their tables.
+pub record AreRecords (records : Option VersionedRecords) (store : Store) : Type 0 where
+  pub same : option_map records_of records ≡ store.records
+  pub handles : DescribeTables (jobs_or_none records) store

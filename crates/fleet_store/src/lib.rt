@@ -1,0 +1,12 @@
+//! The store by which parties meet, and its place in memory.
+#![tactic(auto)]
+
+mod call;
+mod log;
+mod memory;
+mod store;
+mod under;
+
+pub use memory::MemStore;
+pub use store::{Store, SweepStore};
+pub use under::Under;

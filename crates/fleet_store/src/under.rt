@@ -1,0 +1,96 @@
+//! A store in memory that is lent together with a merge operator.
+
+ghost use Rattle.std.specs.Prelude.{◌≡◌};
+
+use crate::memory::ended;
+use crate::{MemStore, Store};
+use fleet_book::{Compactions, VersionedCompactions};
+use fleet_fold::MergeOperator;
+use fleet_history::{ManifestChange, Note, RecordChange};
+use fleet_rows::{SlateDBError, Ulid};
+use fleet_table::{Manifest, TableData, VersionedManifest};
+
+/// A store in memory, lent together with the operator under which its rows are merged. Nobody else
+/// calls it.
+#[derive(Drop)]
+pub struct Under<'a, 'o, O: MergeOperator> {
+    store: &'a mut MemStore,
+    operator: &'o O,
+}
+
+impl MemStore {
+    /// Lends the store together with an operator.
+    pub fn under<'a, 'o, O: MergeOperator>(&'a mut self, operator: &'o O) -> Under<'a, 'o, O>
+        ensures same_reference { result.store.ghost_name ≡ self.entry.ghost_name }
+        ensures store { result.store.now ≡ self.old }
+        ensures operator { result.operator.now ≡ operator.now }
+    {
+        Under {
+            store: self,
+            operator,
+        }
+    }
+}
+
+impl<O: MergeOperator> Store for Under<'_, '_, O> {
+    ghost use Rattle.fleet_store.specs.Memory.{caller_of};
+
+    ghost told = { λ u. u.store.now.told };
+
+    ghost who = { λ u. caller_of (O.merged (O.settings u.operator.now)) u.store.now };
+
+    ghost faults = { λ u. u.store.now.faults };
+
+    ghost waits = { λ u. u.store.now.waits };
+
+    ghost lent = { λ u. u.store.ghost_name };
+
+    ghost place = { λ _. 0 };
+
+    fn get_manifest(&mut self) -> Result<VersionedManifest, SlateDBError> {
+        ended(self.store.make_get_manifest())
+    }
+
+    fn put_manifest(
+        &mut self,
+        version: u64,
+        value: Manifest,
+        why: ManifestChange,
+        jobs: &Compactions,
+    ) -> Result<u64, SlateDBError> {
+        ended(self.store.make_put_manifest(version, value, why, jobs))
+    }
+
+    fn get_records(&mut self) -> Result<Option<VersionedCompactions>, SlateDBError> {
+        ended(self.store.make_get_records())
+    }
+
+    fn put_records(
+        &mut self,
+        version: u64,
+        value: Compactions,
+        why: RecordChange,
+    ) -> Result<u64, SlateDBError> {
+        ended(self.store.make_put_records(version, value, why))
+    }
+
+    fn put_table(&mut self, id: Ulid, table: TableData) -> Result<(), SlateDBError> {
+        ended(self.store.make_put_table(id, table))
+    }
+
+    fn get_table(&mut self, id: Ulid) -> Result<Option<TableData>, SlateDBError> {
+        ended(self.store.make_get_table(id))
+    }
+
+    fn draw_job(&mut self, moment: u64) -> Result<Ulid, SlateDBError> {
+        ended(self.store.make_draw_job(moment))
+    }
+
+    fn note(&mut self, note: Note) -> Result<(), SlateDBError> {
+        ended(self.store.make_note(note))
+    }
+
+    fn draw_table(&mut self, moment: u64) -> Result<Ulid, SlateDBError> {
+        ended(self.store.make_draw_table(moment))
+    }
+}
