@@ -1,6 +1,6 @@
 -- A worker fits behind its heartbeat.
 use Rattle.std.proofs.Common.{◌≡◌, refl, sym, ◌∙◌, ap, subst, ℕ, zero, suc, ◌<◌, List, [], ◌∷◌, cond, Bool, true, false, inl, inr, ◌⊎◌, Option, Some, None}
-use Rattle.std.specs.Prelude.{IsTrue, ◌==◌, ◌&&◌, option_map, map, ⊤}
+use Rattle.std.specs.Prelude.{IsTrue, ◌==◌, ◌&&◌, option_map, map}
 use Rattle.std.specs.List.{AllByRecursion}
 use Rattle.std.proofs.lemmas.Bool.Decides.{Decides-eqb}
 use Rattle.row_model.specs.Lists.{Pairs}
@@ -17,7 +17,7 @@ use Rattle.step_model.specs.Rivals.{Caller, Rivals, told_by}
 use Rattle.step_model.specs.Keeps.{Keeps}
 use Rattle.step_model.specs.Fits.{WorkerHolds}
 use Rattle.step_model.specs.Course.{Course, Ends}
-use Rattle.step_model.specs.CourseRuns.{End, Gives, MeetsFault, LacksMemory, StopsAt, Runs, IsLawfulCourse}
+use Rattle.step_model.specs.CourseRuns.{End, Gives, Runs, IsLawfulCourse}
 use Rattle.step_model.specs.StepEnds.{StepEnd, Reports, GivesUp, most_refused}
 use Rattle.step_model.specs.BeatSteps.{Beaten, published_by, context_of, beat_report, beat_of, beat_by, beats_from, heartbeat}
 use Rattle.step_laws.specs.Runs.{CallsKeep}
@@ -30,11 +30,10 @@ use Rattle.course_laws.proofs.Calls.{in_map, pairs_filter}
 use Rattle.course_laws.proofs.Later.{later_itself, later_met}
 use Rattle.course_laws.proofs.Puts.{got_records}
 use Rattle.course_laws.proofs.Made.{Relies}
-use Rattle.after_laws.specs.Behind.{FitsBehind}
 use Rattle.after_laws.specs.Beats.{IsBeaten, BeatsKeepFit}
 use Rattle.after_laws.specs.OwnCalls.{SparesOwn}
 use Rattle.after_laws.proofs.Live.{IsLive, live_at, live_active}
-use Rattle.after_laws.proofs.Runs.{Made, call_by, stopped, reported, ended}
+use Rattle.after_laws.proofs.Runs.{Made, Left, call_by, left_stopped, left_reported, left_ended}
 use Rattle.after_laws.proofs.Attempts.{holds_fewer}
 use Rattle.after_laws.proofs.OwnCalls.{put_told, own_calls_keep}
 
@@ -140,46 +139,22 @@ at_put who w moment met put got live is these fit rivals version =
 
 -- ---- tries
 
--- Where the run reports, all attempts of the report are beaten.
-abbrev AreBeaten : ℕ → Told → End (StepEnd Beaten) → Type 0
-AreBeaten worker new (Gives (Reports report)) = AllByRecursion (IsBeaten new worker) report.attempts
-AreBeaten worker new (Gives answer) = ⊤
-AreBeaten worker new MeetsFault = ⊤
-AreBeaten worker new LacksMemory = ⊤
-
--- What a run of the heartbeat leaves.
-abbrev Left : Caller → LiveWorker → Told → End (StepEnd Beaten) → Type 0
-Left who w new end = FitsBehind who.merge w (λ report. report.attempts) new end × AreBeaten w.number new end
+-- All attempts of the report are beaten.
+abbrev AreBeaten : ℕ → Told → Beaten → Type 0
+AreBeaten worker new report = AllByRecursion (IsBeaten new worker) report.attempts
 
 -- What a lawful course leads to, from a store that the worker fits.
 abbrev Behind : Caller → LiveWorker → Course (StepEnd Beaten) → (old new : Told) → End (StepEnd Beaten) → Type 0
-Behind who w course old new end = Fit who w old → IsLawfulCourse who old course → Runs who course old new end → Left who w new end
+Behind who w course old new end = Fit who w old → IsLawfulCourse who old course → Runs who course old new end → Left who w (λ report. report.attempts) (AreBeaten w.number) new end
 
 -- What another try leads to.
 abbrev Tries : Caller → LiveWorker → (ℕ → Course (StepEnd Beaten)) → Type 0
 Tries who w again = (version : ℕ) (old new : Told) (end : End (StepEnd Beaten)) → Behind who w (again version) old new end
 
-none_beaten : (who : Caller) (worker : ℕ) (x : Exchange) (met new : Told) (end : End (StepEnd Beaten)) → StopsAt who x met new end → AreBeaten worker new end
-none_beaten who worker x met new (Gives answer) stops = absurd stops
-none_beaten who worker x met new MeetsFault stops = tt
-none_beaten who worker x met new LacksMemory stops = tt
-
-stops_at : (who : Caller) (w : LiveWorker) (x : Exchange) (met new : Told) (end : End (StepEnd Beaten)) → Fit who w met → StopsAt who x met new end → Left who w new end
-stops_at who w x met new end fit stops = (stopped who w _ x met new end fit.holds stops, none_beaten who w.number x met new end stops)
-
-all_beaten : (who : Caller) (worker : ℕ) (report : Beaten) (old new : Told) (end : End (StepEnd Beaten)) → AllByRecursion (IsBeaten old worker) report.attempts → Runs who (Ends (Reports report)) old new end → AreBeaten worker new end
-all_beaten who worker report old new (Gives (Reports other)) all run =
-    let same : report ≡ other = cc run.1 in
-    subst (λ (told : Told). AllByRecursion (IsBeaten told worker) other.attempts) run.0 (subst (λ (r : Beaten). AllByRecursion (IsBeaten old worker) r.attempts) same all)
-all_beaten who worker report old new (Gives answer) all run = absurd (cc run.1)
-all_beaten who worker report old new MeetsFault all run = tt
-all_beaten who worker report old new LacksMemory all run = tt
-
 -- A heartbeat that reports leaves a worker that keeps its live attempts.
 reports : (who : Caller) (w : LiveWorker) (jobs : Jobs) (old new : Told) (end : End (StepEnd Beaten)) → WorkerHolds who.merge old w → AllByRecursion (IsBeaten old w.number) (live_attempts jobs w) → Runs who (Ends (Reports (beat_report w jobs))) old new end
-    → Left who w new end
-reports who w jobs old new end holds all run =
-    (reported who w _ (beat_report w jobs) old new end holds (holds_fewer who.merge old w (is_live jobs w.number) holds) run, all_beaten who w.number (beat_report w jobs) old new end all run)
+    → Left who w (λ report. report.attempts) (AreBeaten w.number) new end
+reports who w jobs old new end holds all run = left_reported who w (λ (report : Beaten). report.attempts) (AreBeaten w.number) (beat_report w jobs) old new end holds (holds_fewer who.merge old w (is_live jobs w.number) holds) all run
 
 none_live : (told : Told) (w : LiveWorker) → AllByRecursion (IsBeaten told w.number) (live_attempts [] w)
 none_live told w = all_from _ (live_attempts [] w) (λ a there. absurd (never (from_filter (is_live [] w.number) w.attempts a there).1))
@@ -192,8 +167,8 @@ those : (who : Caller) (w : LiveWorker) (moment : ℕ) (again : ℕ → Course (
 those who w moment again r tries met got [] is these new end fit lawful run =
     let told = told_by who.line who.party (Plain GetRecords) None met in
     reports who w got.jobs told new end fit.holds (subst (AllByRecursion (IsBeaten told w.number)) (sym these) tt) run
-those who w moment again r tries met got (a ∷ live) is these new end fit lawful run = call_by (Left who w new end) who w x (λ (s : Store). again_or (records_version s.records) (got.version == records_version s.records))
-    (told_by who.line who.party (Plain GetRecords) None met) new end r fit lawful run (λ at there stops. stops_at who w x at new end there stops) put
+those who w moment again r tries met got (a ∷ live) is these new end fit lawful run = call_by (Left who w (λ (report : Beaten). report.attempts) (AreBeaten w.number) new end) who w x (λ (s : Store). again_or (records_version s.records) (got.version == records_version s.records))
+    (told_by who.line who.party (Plain GetRecords) None met) new end r fit lawful run (λ at there stops. left_stopped who w (λ (report : Beaten). report.attempts) (AreBeaten w.number) x at new end there.holds stops) put
   where
     x : Exchange
     x = PutsRecords got.version (Beat w.number (named (a ∷ live))) got.epoch (beaten_jobs moment w (a ∷ live) got.jobs)
@@ -201,7 +176,7 @@ those who w moment again r tries met got (a ∷ live) is these new end fit lawfu
     again_or : ℕ → Bool → Course (StepEnd Beaten)
     again_or version b = cond b (Ends (Reports (beat_report w got.jobs))) (again version)
 
-    put : Made who w x (λ (s : Store). again_or (records_version s.records) (got.version == records_version s.records)) (told_by who.line who.party (Plain GetRecords) None met) new end → Left who w new end
+    put : Made who w x (λ (s : Store). again_or (records_version s.records) (got.version == records_version s.records)) (told_by who.line who.party (Plain GetRecords) None met) new end → Left who w (λ (report : Beaten). report.attempts) (AreBeaten w.number) new end
     put m = by (got.version == records_version m.met.store.records) refl m.further m.run
       where
         at : got.version ≡ records_version m.met.store.records → AtPut w moment got (a ∷ live) m.met
@@ -227,7 +202,7 @@ those who w moment again r tries met got (a ∷ live) is these new end fit lawfu
         holds = own_calls_keep who.merge x who.line who.party m.met w m.fit.kept r.own m.lawful spares m.fit.holds
 
         by : (b : Bool) → (got.version == records_version m.met.store.records) ≡ b → IsLawfulCourse who after (again_or (records_version m.met.store.records) b) → Runs who (again_or (records_version m.met.store.records) b) after new end
-            → Left who w new end
+            → Left who w (λ (report : Beaten). report.attempts) (AreBeaten w.number) new end
         by true e lawful run =
             let stored : stored_jobs after.store ≡ beaten_jobs moment w (a ∷ live) got.jobs =
             ap (λ (told : Told). stored_jobs told.store) (put_told who.line who.party m.met got.version (Beat w.number (named (a ∷ live))) got.epoch (beaten_jobs moment w (a ∷ live) got.jobs) e) in
@@ -240,16 +215,10 @@ over : (who : Caller) (w : LiveWorker) (moment : ℕ) (again : ℕ → Course (S
 over who w moment again r tries met None is new end fit lawful run = let told = told_by who.line who.party (Plain GetRecords) None met in reports who w [] told new end fit.holds (none_live told w) run
 over who w moment again r tries met (Some got) is new end fit lawful run = those who w moment again r tries met got (live_attempts got.jobs w) is refl new end fit lawful run
 
-no_report : (who : Caller) (worker seen : ℕ) (old new : Told) (end : End (StepEnd Beaten)) → Runs who (Ends (GivesUp seen)) old new end → AreBeaten worker new end
-no_report who worker seen old new (Gives (Reports report)) run = absurd (cc run.1)
-no_report who worker seen old new (Gives answer) run = tt
-no_report who worker seen old new MeetsFault run = tt
-no_report who worker seen old new LacksMemory run = tt
-
 beats : (who : Caller) (w : LiveWorker) (moment : ℕ) → Relies who w → (left seen : ℕ) (old new : Told) (end : End (StepEnd Beaten)) → Behind who w (beats_from moment w left seen) old new end
-beats who w moment r zero seen old new end fit lawful run = (ended who w _ (GivesUp seen) old new end (λ report e. absurd (cc e)) fit.holds run, no_report who w.number seen old new end run)
-beats who w moment r (suc left) seen old new end fit lawful run = call_by (Left who w new end) who w (Plain GetRecords) (λ (s : Store). beat_by moment w s.records (beats_from moment w left)) old new end r fit lawful run
-    (λ at there stops. stops_at who w (Plain GetRecords) at new end there stops)
+beats who w moment r zero seen old new end fit lawful run = left_ended who w (λ (report : Beaten). report.attempts) (AreBeaten w.number) (GivesUp seen) old new end (λ report e. absurd (cc e)) fit.holds run
+beats who w moment r (suc left) seen old new end fit lawful run = call_by (Left who w (λ (report : Beaten). report.attempts) (AreBeaten w.number) new end) who w (Plain GetRecords) (λ (s : Store). beat_by moment w s.records (beats_from moment w left)) old new end r fit lawful run
+    (λ at there stops. left_stopped who w (λ (report : Beaten). report.attempts) (AreBeaten w.number) (Plain GetRecords) at new end there.holds stops)
     (λ m. over who w moment (beats_from moment w left) r (λ version one other last. beats who w moment r left version one other last) m.met m.met.store.records refl new end (fit_got who w m.met r.keep m.fit) m.further m.run)
 
 beat_fits : (who : Caller) (w : LiveWorker) (moment : ℕ) → Relies who w → (old new : Told) (end : End (StepEnd Beaten)) → Behind who w (heartbeat moment w) old new end

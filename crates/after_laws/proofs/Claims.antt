@@ -1,8 +1,9 @@
 -- A worker fits behind its claim.
 use Rattle.std.proofs.Common.{◌≡◌, refl, sym, ◌∙◌, ap, subst, ℕ, zero, suc, ◌+◌, ◌-◌, ◌<◌, List, [], ◌∷◌, ◌++◌, cond, Bool, true, false, inl, inr, ◌⊎◌, Option, Some, None, length, arith}
-use Rattle.std.specs.Prelude.{IsTrue, ◌==◌, ◌&&◌, not, filter, map, flat_map}
+use Rattle.std.specs.Prelude.{IsTrue, IfSome, ◌==◌, ◌&&◌, not, filter, map, flat_map}
 use Rattle.std.specs.List.{AllByRecursion}
 use Rattle.std.proofs.lemmas.Bool.Decides.{Decides-eqb}
+use Rattle.std.proofs.lemmas.List.{append-nil}
 use Rattle.row_model.specs.Lists.{Pairs}
 use Rattle.row_model.specs.Fold.{Operator}
 use Rattle.fleet_model.specs.Jobs.{JobSpec, Job, Jobs, Context, knows_cut, contains, trimmed, job_with, ids}
@@ -12,7 +13,7 @@ use Rattle.fleet_model.specs.Store.{Store, Records, jobs_in, stored_jobs}
 use Rattle.fleet_model.specs.Records.{jobs_after}
 use Rattle.fleet_model.specs.Attempts.{ClaimInput, context_or, fresh_context}
 use Rattle.fleet_model.specs.Claims.{is_waiting, may_take, claimed_jobs, stopped_jobs, claimed_attempt}
-use Rattle.fleet_model.specs.Parties.{Attempt, LiveWorker, attempt_jobs, without_attempts, with_attempts}
+use Rattle.fleet_model.specs.Parties.{Attempt, LiveWorker, attempt_jobs, runs_attempt, without_attempts, put_attempt, with_attempts}
 use Rattle.fleet_model.specs.Exchanges.{Exchange, Plain, PutsRecords, records_version}
 use Rattle.step_model.specs.Past.{Told}
 use Rattle.step_model.specs.Rivals.{Caller, Rivals, told_by}
@@ -20,15 +21,16 @@ use Rattle.step_model.specs.Keeps.{Keeps}
 use Rattle.step_model.specs.Faithful.{Faithful}
 use Rattle.step_model.specs.Fits.{WorkerHolds}
 use Rattle.step_model.specs.Course.{Course, Ends, Calls}
-use Rattle.step_model.specs.CourseRuns.{End, Runs, IsLawfulCourse}
+use Rattle.step_model.specs.CourseRuns.{End, Gives, Runs, IsLawfulCourse}
 use Rattle.step_model.specs.StepEnds.{StepEnd, Reports, GivesUp, most_refused}
 use Rattle.step_model.specs.ClaimSteps.{WorkerOptions, Claimed, at_moment, can_start, plan_of, starts_claimed, claim_of, claim_by, claims_from, claim}
-use Rattle.step_laws.proofs.Elements.{IsIn, all_at, all_from, all_to, in_contains}
+use Rattle.step_laws.proofs.Elements.{IsIn, all_at, all_from, all_to, all_append, contains_no, in_contains}
 use Rattle.step_laws.proofs.Changed.{found_job}
 use Rattle.step_laws.proofs.Mute.{mute_event}
 use Rattle.step_laws.proofs.RecordsBodies.{with_records}
 use Rattle.step_laws.proofs.TableReplays.{all_filter}
-use Rattle.fit_laws.proofs.WorkerFollows.{Follows, holds_after}
+use Rattle.commit_laws.proofs.Midway.{only_job}
+use Rattle.fit_laws.proofs.WorkerFollows.{Follows, holds_after, from_filter}
 use Rattle.fit_laws.proofs.WorkerCalls.{claim_grows}
 use Rattle.fit_laws.proofs.Workers.{rivals_follow}
 use Rattle.course_laws.proofs.Beats.{Fit, fit_got}
@@ -37,17 +39,16 @@ use Rattle.course_laws.proofs.Claims.{next_attempt, put_stood, claims_are_lawful
 use Rattle.course_laws.proofs.Later.{later_itself, later_met}
 use Rattle.course_laws.proofs.Puts.{got_records}
 use Rattle.course_laws.proofs.Made.{Relies}
-use Rattle.after_laws.specs.Behind.{FitsBehind}
 use Rattle.after_laws.specs.OwnCalls.{SparesOwn}
-use Rattle.after_laws.specs.Claims.{ClaimsKeepFit}
-use Rattle.after_laws.proofs.Attempts.{holds_fewer}
-use Rattle.after_laws.proofs.Runs.{Made, one_call, stopped, reported, ended}
+use Rattle.after_laws.specs.Claims.{TakesOver, ClaimSays, ClaimsKeepFit}
+use Rattle.after_laws.proofs.Attempts.{all_put, holds_fewer}
+use Rattle.after_laws.proofs.Runs.{Made, Left, call_by, left_stopped, left_reported, left_ended}
 use Rattle.after_laws.proofs.OwnCalls.{own_entry, put_told, own_calls_keep}
 use Rattle.after_laws.proofs.Begun.{single, RunsAs, Waits, waits_follow}
 use Rattle.after_laws.proofs.Taken.{attempt_with, taken_by, blank, over_taken, AreWaiting, stored_taken, Took, took_runs, took_waits, took_over}
 use Rattle.after_laws.proofs.Awaits.{AwaitsGet, awaits_behind, rivals_await, IsUnplanned, none_planned, noted_none, rivals_unplanned}
 use Rattle.after_laws.proofs.Starts.{plain_entry, plain_told, follow_plain, begins_at_get}
-use Rattle.after_laws.proofs.Plans.{Began, IsStarting, IsStarted, runs_follow, plans_noted, holds_begun}
+use Rattle.after_laws.proofs.Plans.{Began, attempt_of, left_of, IsStarting, IsStarted, runs_follow, plans_noted, holds_begun}
 
 -- ---- the jobs that a claim takes
 
@@ -103,16 +104,16 @@ record IsBlank (told : Told) (w : LiveWorker) (moment : ℕ) (job : Job) : Type 
   unplanned : IsUnplanned w.number job.id (job.attempt + 1) told.store.history
 
 -- The worker fits with the attempt alone, which takes over the job's context.
-record TakesOver (merge : Operator) (told : Told) (w : LiveWorker) (moment : ℕ) (job : Job) : Type 0 where
+record TookOver (merge : Operator) (told : Told) (w : LiveWorker) (moment : ℕ) (job : Job) : Type 0 where
   context : Context
   is : job.context ≡ Some context
   runs : RunsAs w (attempt_with job (over_taken w context)) (taken_by w moment job) told
   holds : WorkerHolds merge told (single w (attempt_with job (over_taken w context)))
 
 abbrev IsPending : Operator → Told → LiveWorker → ℕ → Job → Type 0
-IsPending merge told w moment job = IsBlank told w moment job ⊎ TakesOver merge told w moment job
+IsPending merge told w moment job = IsBlank told w moment job ⊎ TookOver merge told w moment job
 
-over_follow : (merge : Operator) (old now : Told) (w : LiveWorker) (moment : ℕ) (job : Job) (t : TakesOver merge old w moment job) (specs : ℕ → JobSpec) → Faithful old specs → Follows old now (single w (attempt_with job (over_taken w t.context))) → TakesOver merge now w moment job
+over_follow : (merge : Operator) (old now : Told) (w : LiveWorker) (moment : ℕ) (job : Job) (t : TookOver merge old w moment job) (specs : ℕ → JobSpec) → Faithful old specs → Follows old now (single w (attempt_with job (over_taken w t.context))) → TookOver merge now w moment job
 over_follow merge old now w moment job t specs faithful f = record {
   context = t.context;
   is = t.is;
@@ -217,7 +218,7 @@ starting_at who options moment w met job k own (inl s) = inl (record {
   });
 })
 starting_at who options moment w met job k own (inr t) =
-    let over = follow_plain (λ told. TakesOver who.merge told w moment job) who.line who.party GetManifest met (single w (attempt_with job (over_taken w t.context))) (mute_event true GetManifest refl)
+    let over = follow_plain (λ told. TookOver who.merge told w moment job) who.line who.party GetManifest met (single w (attempt_with job (over_taken w t.context))) (mute_event true GetManifest refl)
     (λ f. over_follow who.merge met (plain_told who.line who.party GetManifest met) w moment job t k.stored.replay.specs k.faithful f) in
     let same_over : claimed_attempt (input_at options moment w met.store) job ≡ attempt_with job (over_taken w over.context) =
     ap (λ o. attempt_with job (context_or (knows_cut w.release) o (fresh_context (input_at options moment w met.store) job))) over.is in
@@ -227,11 +228,23 @@ starting_at who options moment w met job k own (inr t) =
       started = record { runs = over.runs; holds = subst (λ a. WorkerHolds who.merge (told_by who.line who.party (Plain GetManifest) None met) (single w a)) (sym same_over) over.holds };
     })
 
--- ---- the starts
+-- ---- what the report says
 
--- What a lawful course leads to, from a store that the worker fits.
-abbrev Behind : Caller → LiveWorker → Course (StepEnd Claimed) → (old new : Told) → End (StepEnd Claimed) → Type 0
-Behind who w course old new end = Fit who w old → IsLawfulCourse who old course → Runs who course old new end → FitsBehind who.merge w (λ report. report.attempts) new end
+-- What is so of the report.
+abbrev says : LiveWorker → Told → Claimed → Type 0
+says w told report = ClaimSays told w report
+
+-- The worker ran all these jobs.
+abbrev AreRun : LiveWorker → List ℕ → Type 0
+AreRun w left = AllByRecursion (λ id. IsTrue (contains (attempt_jobs w.attempts) id)) left
+
+are_run : (w : LiveWorker) (jobs : Jobs) → AreRun w (ids (stopped_jobs w jobs))
+are_run w jobs = all_map (λ id. IsTrue (contains (attempt_jobs w.attempts) id)) (λ (job : Job). job.id) (stopped_jobs w jobs)
+    (all_to _ _ (stopped_jobs w jobs) (λ job there h. second (is_waiting job) (contains (attempt_jobs w.attempts) job.id) h.1) (filtered (λ (job : Job). is_waiting job && contains (attempt_jobs w.attempts) job.id) jobs))
+  where
+    second : (a b : Bool) → (a && b) ≡ true → IsTrue b
+    second true b e = e
+    second false b e = absurd (cc e)
 
 -- The worker runs none of these jobs.
 abbrev NotRun : LiveWorker → Jobs → Type 0
@@ -241,14 +254,105 @@ refused : (b : Bool) → b ≡ false → IsTrue b → ⊥
 refused true e h = absurd (cc e)
 refused false e h = absurd (cc h)
 
+-- A live attempt that the claim began takes over the published context.
+takes_over : (told : Told) (b : Began) (job : Job) → RunsAs b.w (attempt_of b job) (left_of b job) told → TakesOver told b.w (attempt_of b job)
+takes_over told b job runs = by (job_with job.id (stored_jobs told.store)) refl
+  where
+    context : (o : Option Context) → context_or (knows_cut b.input.release) o (fresh_context b.input job) ≡ context_or (knows_cut b.w.release) o (context_or (knows_cut b.input.release) o (fresh_context b.input job))
+    context None = refl
+    context (Some c) = ap (λ r. record c { has_cut = knows_cut r }) b.release
+
+    by : (o : Option Job) → job_with job.id (stored_jobs told.store) ≡ o
+        → IfSome o (λ other. IsTrue (runs_attempt b.w.number (job.attempt + 1) (Some other)) → (attempt_of b job).context ≡ context_or (knows_cut b.w.release) other.context (attempt_of b job).context)
+    by None e = tt
+    by (Some other) e = λ is. subst (λ (j : Job). (attempt_of b job).context ≡ context_or (knows_cut b.w.release) j.context (attempt_of b job).context) (sym (runs other e is)) (context job.context)
+
+in_jobs : (attempts : List Attempt) (id : ℕ) → ((a : Attempt) → IsIn a attempts → a.job ≡ id → ⊥) → contains (attempt_jobs attempts) id ≡ false
+in_jobs attempts id none = contains_no (attempt_jobs attempts) id (λ there. find_in attempts there none)
+  where
+    find_in : (xs : List Attempt) → IsIn id (attempt_jobs xs) → ((a : Attempt) → IsIn a xs → a.job ≡ id → ⊥) → ⊥
+    find_in [] there none = there
+    find_in (x ∷ xs) (inl same) none = none x (inl refl) same
+    find_in (x ∷ xs) (inr there) none = find_in xs there (λ a one. none a (inr one))
+
+left_out : (left : List ℕ) (attempts : List Attempt) (a : Attempt) → IsIn a (without_attempts left attempts) → IsIn a attempts × (contains left a.job ≡ false)
+left_out left attempts a there =
+    let found = from_filter (λ (x : Attempt). not (contains left x.job)) attempts a there in
+    (found.0, plain (contains left a.job) found.1)
+  where
+    plain : (b : Bool) → not b ≡ true → b ≡ false
+    plain true e = absurd (cc e)
+    plain false e = refl
+
+-- The worker runs no job that it stopped.
+stopped_idle : (left : List ℕ) (attempts : List Attempt) → AllByRecursion (λ id. contains (attempt_jobs (without_attempts left attempts)) id ≡ false) left
+stopped_idle left attempts = all_from _ left (λ id there. in_jobs (without_attempts left attempts) id (λ a one same. refused (contains left a.job) (left_out left attempts a one).1 (in_contains left a.job (subst (λ n. IsIn n left) (sym same) there))))
+
+in_begun : (new attempts : List Attempt) (a : Attempt) → IsIn a (with_attempts new attempts) → IsIn a new ⊎ IsIn a attempts
+in_begun [] attempts a there = inr there
+in_begun (x ∷ new) attempts a there = by (in_begun new (put_attempt x attempts) a there)
+  where
+    at : (a ≡ x) ⊎ IsIn a attempts → IsIn a (x ∷ new) ⊎ IsIn a attempts
+    at (inl same) = inl (inl (sym same))
+    at (inr one) = inr one
+
+    by : IsIn a new ⊎ IsIn a (put_attempt x attempts) → IsIn a (x ∷ new) ⊎ IsIn a attempts
+    by (inl one) = inl (inr one)
+    by (inr one) = at (all_at (λ y. (y ≡ x) ⊎ IsIn y attempts) (put_attempt x attempts) a (all_put (λ y. (y ≡ x) ⊎ IsIn y attempts) x attempts (inl refl) (all_from _ attempts (λ y there. inr there))) one)
+
+-- An attempt of the report was run before, or is at a job that was started.
+reported_attempt : (b : Began) (chosen : Jobs) (left : List ℕ) (a : Attempt) → IsIn a (with_attempts (map (claimed_attempt b.input) chosen) (without_attempts left b.w.attempts))
+    → ((job : Job) × (IsIn job chosen × (job.id ≡ a.job))) ⊎ IsIn a (without_attempts left b.w.attempts)
+reported_attempt b chosen left a there = by (in_begun (map (claimed_attempt b.input) chosen) (without_attempts left b.w.attempts) a there)
+  where
+    find_in : (jobs : Jobs) → IsIn a (map (claimed_attempt b.input) jobs) → (job : Job) × (IsIn job jobs × (job.id ≡ a.job))
+    find_in [] there = absurd there
+    find_in (job ∷ jobs) (inl same) = (job, (inl refl, ap (λ (x : Attempt). x.job) same))
+    find_in (job ∷ jobs) (inr there) = let found = find_in jobs there in (found.0, (inr found.1.0, found.1.1))
+
+    by : IsIn a (map (claimed_attempt b.input) chosen) ⊎ IsIn a (without_attempts left b.w.attempts) → ((job : Job) × (IsIn job chosen × (job.id ≡ a.job))) ⊎ IsIn a (without_attempts left b.w.attempts)
+    by (inl one) = inl (find_in chosen one)
+    by (inr one) = inr one
+
+left_idle : (b : Began) (these : Jobs) (left : List ℕ) (can : Job → Bool) → Pairs (λ x y. x.id < y.id) these → NotRun b.w these → AreRun b.w left
+    → AllByRecursion (λ id. contains (attempt_jobs (with_attempts (map (claimed_attempt b.input) (filter can these)) (without_attempts left b.w.attempts))) id ≡ false) left
+left_idle b these left can rise none ran = all_from _ left (λ id there. in_jobs _ id (λ a one same. by id there a same (reported_attempt b (filter can these) left a one)))
+  where
+    by : (id : ℕ) → IsIn id left → (a : Attempt) → a.job ≡ id → ((job : Job) × (IsIn job (filter can these) × (job.id ≡ a.job))) ⊎ IsIn a (without_attempts left b.w.attempts) → ⊥
+    by id there a same (inl begun) = refused (contains (attempt_jobs b.w.attempts) begun.0.id) (all_at (λ (job : Job). contains (attempt_jobs b.w.attempts) job.id ≡ false) these begun.0 none (from_filter can these begun.0 begun.1.0).0)
+        (subst (λ n. IsTrue (contains (attempt_jobs b.w.attempts) n)) (sym (begun.1.1 ∙ same)) (all_at (λ n. IsTrue (contains (attempt_jobs b.w.attempts) n)) left id ran there))
+    by id there a same (inr one) = refused (contains left a.job) (left_out left b.w.attempts a one).1 (in_contains left a.job (subst (λ n. IsIn n left) (sym same) there))
+
+released_idle : (b : Began) (these : Jobs) (left : List ℕ) (can : Job → Bool) → Pairs (λ x y. x.id < y.id) these → NotRun b.w these
+    → AllByRecursion (λ id. contains (attempt_jobs (with_attempts (map (claimed_attempt b.input) (filter can these)) (without_attempts left b.w.attempts))) id ≡ false) (ids (filter (λ job. not (can job)) these))
+released_idle b these left can rise none = all_map _ (λ (job : Job). job.id) (filter (λ job. not (can job)) these) (all_from _ (filter (λ job. not (can job)) these) (λ job there.
+    in_jobs _ job.id (λ a one same. by job (from_filter (λ (j : Job). not (can j)) these job there) a same (reported_attempt b (filter can these) left a one))))
+  where
+    never : (c : Bool) → not c ≡ true → c ≡ true → ⊥
+    never true e f = absurd (cc e)
+    never false e f = absurd (cc f)
+
+    by : (job : Job) → IsIn job these × (not (can job) ≡ true) → (a : Attempt) → a.job ≡ job.id → ((j : Job) × (IsIn j (filter can these) × (j.id ≡ a.job))) ⊎ IsIn a (without_attempts left b.w.attempts) → ⊥
+    by job out a same (inl begun) =
+        let in_these = from_filter can these begun.0 begun.1.0 in
+        never (can job) out.1 (subst (λ (j : Job). can j ≡ true) (only_job these begun.0 job rise in_these.0 out.0 (begun.1.1 ∙ same)) in_these.1)
+    by job out a same (inr one) = refused (contains (attempt_jobs b.w.attempts) job.id) (all_at (λ (j : Job). contains (attempt_jobs b.w.attempts) j.id ≡ false) these job none out.0)
+        (in_contains (attempt_jobs b.w.attempts) job.id (subst (λ n. IsIn n (attempt_jobs b.w.attempts)) same (in_map (λ (x : Attempt). x.job) b.w.attempts a (left_out left b.w.attempts a one).0)))
+
+-- ---- the starts
+
+-- What a lawful course leads to, from a store that the worker fits.
+abbrev Behind : Caller → LiveWorker → Course (StepEnd Claimed) → (old new : Told) → End (StepEnd Claimed) → Type 0
+Behind who w course old new end = Fit who w old → IsLawfulCourse who old course → Runs who course old new end → Left who w (λ (report : Claimed). report.attempts) (says w) new end
+
 other_jobs : (w : LiveWorker) (keep : Attempt → Bool) (these : Jobs) → NotRun w these → AllByRecursion (λ job. AllByRecursion (λ (other : Attempt). other.job ≡ job.id → ⊥) (filter keep w.attempts)) these
 other_jobs w keep these none = all_to _ _ these (λ job there lacks. all_filter (λ (other : Attempt). other.job ≡ job.id → ⊥) keep w.attempts (all_from _ w.attempts (λ other one same.
     refused (contains (attempt_jobs w.attempts) job.id) lacks (in_contains (attempt_jobs w.attempts) job.id (subst (λ id. IsIn id (attempt_jobs w.attempts)) same (in_map (λ (x : Attempt). x.job) w.attempts other one)))))) none
 
-started : (who : Caller) (b : Began) (these : Jobs) (left : List ℕ) → Relies who b.w → (new : Told) (end : End (StepEnd Claimed)) (old : Told) → Pairs (λ x y. x.id < y.id) these → NotRun b.w these → AllByRecursion (IsStarting who.merge old b) these
+started : (who : Caller) (b : Began) (these : Jobs) (left : List ℕ) → AreRun b.w left → Relies who b.w → (new : Told) (end : End (StepEnd Claimed)) (old : Told) → Pairs (λ x y. x.id < y.id) these → NotRun b.w these → AllByRecursion (IsStarting who.merge old b) these
     → Behind who b.w (starts_claimed b.input b.w these left) old new end
-started who b these left r new end old rise none starting fit lawful run =
-    plans_noted (FitsBehind who.merge b.w (λ (report : Claimed). report.attempts) new end) who b (Ends (Reports report)) new end r (λ x met there stop. stopped who b.w (λ (report : Claimed). report.attempts) x met new end there.holds stop) chosen
+started who b these left ran r new end old rise none starting fit lawful run =
+    plans_noted (Left who b.w (λ (report : Claimed). report.attempts) (says b.w) new end) who b (Ends (Reports report)) new end r (λ x met there stop. left_stopped who b.w (λ (report : Claimed). report.attempts) (says b.w) x met new end there.holds stop) chosen
     ends chosen (pairs_filter _ can these rise) old fit (all_filter _ can these starting) (λ job there. inl there) lawful run
   where
     can : Job → Bool
@@ -266,28 +370,34 @@ started who b these left r new end old rise none starting fit lawful run =
     }
 
     ends : (told : Told) → Fit who b.w told → ((job : Job) → IsIn job chosen → IsStarted who.merge told b job) → IsLawfulCourse who told (Ends (Reports report)) → Runs who (Ends (Reports report)) told new end
-        → FitsBehind who.merge b.w (λ report. report.attempts) new end
+        → Left who b.w (λ (report : Claimed). report.attempts) (says b.w) new end
     ends told there all lawful run =
         let keep = λ (a : Attempt). not (contains left a.job) in
-        reported who b.w (λ (r : Claimed). r.attempts) report told new end there.holds
-        (holds_begun who.merge told b there.kept chosen (without_attempts left b.w.attempts) (pairs_filter _ can these rise) (all_from _ chosen all) (all_filter _ can these (other_jobs b.w keep these none)) (holds_fewer who.merge told b.w keep there.holds)) run
+        left_reported who b.w (λ (r : Claimed). r.attempts) (says b.w) report told new end there.holds
+        (holds_begun who.merge told b there.kept chosen (without_attempts left b.w.attempts) (pairs_filter _ can these rise) (all_from _ chosen all) (all_filter _ can these (other_jobs b.w keep these none)) (holds_fewer who.merge told b.w keep there.holds)) (record {
+          begun = all_map (TakesOver told b.w) (claimed_attempt b.input) chosen (all_from _ chosen (λ job one. takes_over told b job (all job one).runs));
+          idle = all_append _ left (ids (filter (λ job. not (can job)) these)) (left_idle b these left can rise none ran) (released_idle b these left can rise none);
+        }) run
 
 -- ---- tries
 
-after_put : (who : Caller) (options : WorkerOptions) (moment : ℕ) (w : LiveWorker) (these : Jobs) (left : List ℕ) → Relies who w → (new : Told) (end : End (StepEnd Claimed)) (old : Told) → Pairs (λ x y. x.id < y.id) these → NotRun w these
+after_put : (who : Caller) (options : WorkerOptions) (moment : ℕ) (w : LiveWorker) (these : Jobs) (left : List ℕ) → AreRun w left → Relies who w → (new : Told) (end : End (StepEnd Claimed)) (old : Told) → Pairs (λ x y. x.id < y.id) these → NotRun w these
     → AllByRecursion (IsPending who.merge old w moment) these → Behind who w (Calls (Plain GetManifest) (λ met. starts_claimed (input_at options moment w met) w these left)) old new end
-after_put who options moment w these left r new end old rise none pending fit lawful run =
-    one_call who w (λ (report : Claimed). report.attempts) (Plain GetManifest) (λ (met : Store). starts_claimed (input_at options moment w met) w these left) old new end r fit lawful run (λ m.
-    started who (began_at options moment w m.met.store) these left r new end (told_by who.line who.party (Plain GetManifest) None m.met) rise none
+after_put who options moment w these left ran r new end old rise none pending fit lawful run =
+    call_by (Left who w (λ (report : Claimed). report.attempts) (says w) new end) who w (Plain GetManifest) (λ (met : Store). starts_claimed (input_at options moment w met) w these left) old new end r fit lawful run
+    (λ at there stops. left_stopped who w (λ (report : Claimed). report.attempts) (says w) (Plain GetManifest) at new end there.holds stops) (λ m.
+    started who (began_at options moment w m.met.store) these left ran r new end (told_by who.line who.party (Plain GetManifest) None m.met) rise none
     (all_to _ _ these (λ job there one. starting_at who options moment w m.met job m.fit.kept r.own (rivals_pending who w moment job old m.met r fit.kept m.rivals one)) pending)
     (record { kept = m.kept; holds = own_calls_keep who.merge (Plain GetManifest) who.line who.party m.met w m.fit.kept r.own m.lawful tt m.fit.holds }) m.further m.run)
 
-those : (who : Caller) (options : WorkerOptions) (moment : ℕ) (w : LiveWorker) (left : List ℕ) (again : ℕ → Course (StepEnd Claimed)) → Relies who w → (new : Told) (end : End (StepEnd Claimed)) → ((version : ℕ) (old : Told) → Behind who w (again version) old new end)
+those : (who : Caller) (options : WorkerOptions) (moment : ℕ) (w : LiveWorker) (left : List ℕ) (again : ℕ → Course (StepEnd Claimed)) → AreRun w left → Relies who w → (new : Told) (end : End (StepEnd Claimed)) → ((version : ℕ) (old : Told) → Behind who w (again version) old new end)
     → (met : Told) (got : Records) (these : Jobs) → met.store.records ≡ Some got → AreChosen w got.jobs these → Behind who w (claim_of options moment w got these left again) (told_by who.line who.party (Plain GetRecords) None met) new end
-those who options moment w left again r new end tries met got [] is chosen fit lawful run =
-    reported who w (λ (report : Claimed). report.attempts) (record { begun = []; stopped = left; released = []; attempts = without_attempts left w.attempts }) _ new end fit.holds (holds_fewer who.merge _ w (λ (a : Attempt). not (contains left a.job)) fit.holds) run
-those who options moment w left again r new end tries met got (job ∷ rest) is chosen fit lawful run =
-    one_call who w (λ (report : Claimed). report.attempts) x (λ (s : Store). again_or (records_version s.records) (got.version == records_version s.records)) (told_by who.line who.party (Plain GetRecords) None met) new end r fit lawful run put
+those who options moment w left again ran r new end tries met got [] is chosen fit lawful run =
+    left_reported who w (λ (report : Claimed). report.attempts) (says w) (record { begun = []; stopped = left; released = []; attempts = without_attempts left w.attempts }) _ new end fit.holds (holds_fewer who.merge _ w (λ (a : Attempt). not (contains left a.job)) fit.holds)
+    (record { begun = tt; idle = subst (AllByRecursion (λ id. contains (attempt_jobs (without_attempts left w.attempts)) id ≡ false)) (sym (append-nil left)) (stopped_idle left w.attempts) }) run
+those who options moment w left again ran r new end tries met got (job ∷ rest) is chosen fit lawful run =
+    call_by (Left who w (λ (report : Claimed). report.attempts) (says w) new end) who w x (λ (s : Store). again_or (records_version s.records) (got.version == records_version s.records)) (told_by who.line who.party (Plain GetRecords) None met) new end r fit lawful run
+    (λ at there stops. left_stopped who w (λ (report : Claimed). report.attempts) (says w) x at new end there.holds stops) put
   where
     these : Jobs
     these = job ∷ rest
@@ -304,7 +414,7 @@ those who options moment w left again r new end tries met got (job ∷ rest) is 
     not_run : NotRun w these
     not_run = all_to _ _ these (λ one there c. c.not_run) chosen.each
 
-    put : Made who w x (λ (s : Store). again_or (records_version s.records) (got.version == records_version s.records)) (told_by who.line who.party (Plain GetRecords) None met) new end → FitsBehind who.merge w (λ report. report.attempts) new end
+    put : Made who w x (λ (s : Store). again_or (records_version s.records) (got.version == records_version s.records)) (told_by who.line who.party (Plain GetRecords) None met) new end → Left who w (λ (report : Claimed). report.attempts) (says w) new end
     put m = by (got.version == records_version m.met.store.records) refl m.further m.run
       where
         after : Told
@@ -314,24 +424,25 @@ those who options moment w left again r new end tries met got (job ∷ rest) is 
         holds = own_calls_keep who.merge x who.line who.party m.met w m.fit.kept r.own m.lawful (λ same. tt) m.fit.holds
 
         by : (b : Bool) → (got.version == records_version m.met.store.records) ≡ b → IsLawfulCourse who after (again_or (records_version m.met.store.records) b) → Runs who (again_or (records_version m.met.store.records) b) after new end
-            → FitsBehind who.merge w (λ report. report.attempts) new end
+            → Left who w (λ (report : Claimed). report.attempts) (says w) new end
         by true e lawful run =
             let stored = got_records met m.met (Some got) is (later_met who (Plain GetRecords) met met m.met (later_itself met) m.rivals) ((Decides-eqb got.version (records_version m.met.store.records)).0 e) in
-            after_put who options moment w these left r new end after chosen.rise not_run (pending_behind who w moment m.met got these stored chosen e m.fit.kept m.kept) (record { kept = m.kept; holds = holds }) lawful run
+            after_put who options moment w these left ran r new end after chosen.rise not_run (pending_behind who w moment m.met got these stored chosen e m.fit.kept m.kept) (record { kept = m.kept; holds = holds }) lawful run
         by false e lawful run = tries (records_version m.met.store.records) after (record { kept = m.kept; holds = holds }) lawful run
 
 over : (who : Caller) (options : WorkerOptions) (moment : ℕ) (w : LiveWorker) (again : ℕ → Course (StepEnd Claimed)) → Relies who w → (new : Told) (end : End (StepEnd Claimed)) → ((version : ℕ) (old : Told) → Behind who w (again version) old new end)
     → (met : Told) (records : Option Records) → Keeps who.merge met → met.store.records ≡ records → Behind who w (claim_by options moment w records again) (told_by who.line who.party (Plain GetRecords) None met) new end
 over who options moment w again r new end tries met None kept is fit lawful run =
-    reported who w (λ (report : Claimed). report.attempts) (record { begun = []; stopped = []; released = []; attempts = w.attempts }) _ new end fit.holds fit.holds run
+    left_reported who w (λ (report : Claimed). report.attempts) (says w) (record { begun = []; stopped = []; released = []; attempts = w.attempts }) _ new end fit.holds fit.holds (record { begun = tt; idle = tt }) run
 over who options moment w again r new end tries met (Some got) kept is fit lawful run =
-    those who options moment w (ids (stopped_jobs w got.jobs)) again r new end tries met got (claimed_jobs options.slots w got.jobs) is
+    those who options moment w (ids (stopped_jobs w got.jobs)) again (are_run w got.jobs) r new end tries met got (claimed_jobs options.slots w got.jobs) is
     (are_chosen options.slots w got.jobs (subst (λ o. Pairs (λ a b. a.id < b.id) (jobs_in o)) is kept.stored.sound.job_ids)) fit lawful run
 
 claims : (who : Caller) (options : WorkerOptions) (moment : ℕ) (w : LiveWorker) → Relies who w → (new : Told) (end : End (StepEnd Claimed)) → (left seen : ℕ) (old : Told) → Behind who w (claims_from options moment w left seen) old new end
-claims who options moment w r new end zero seen old fit lawful run = ended who w (λ (report : Claimed). report.attempts) (GivesUp seen) old new end (λ report e. absurd (cc e)) fit.holds run
+claims who options moment w r new end zero seen old fit lawful run = left_ended who w (λ (report : Claimed). report.attempts) (says w) (GivesUp seen) old new end (λ report e. absurd (cc e)) fit.holds run
 claims who options moment w r new end (suc left) seen old fit lawful run =
-    one_call who w (λ (report : Claimed). report.attempts) (Plain GetRecords) (λ (s : Store). claim_by options moment w s.records (claims_from options moment w left)) old new end r fit lawful run
+    call_by (Left who w (λ (report : Claimed). report.attempts) (says w) new end) who w (Plain GetRecords) (λ (s : Store). claim_by options moment w s.records (claims_from options moment w left)) old new end r fit lawful run
+    (λ at there stops. left_stopped who w (λ (report : Claimed). report.attempts) (says w) (Plain GetRecords) at new end there.holds stops)
     (λ m. over who options moment w (claims_from options moment w left) r new end (λ version one. claims who options moment w r new end left version one) m.met m.met.store.records m.fit.kept refl (fit_got who w m.met r.keep m.fit) m.further m.run)
 
 claim_fits : (who : Caller) (options : WorkerOptions) (moment : ℕ) (w : LiveWorker) → Relies who w → (new : Told) (end : End (StepEnd Claimed)) (old : Told) → Behind who w (claim options moment w) old new end
@@ -339,5 +450,7 @@ unfolding claim
 claim_fits who options moment w r new end old fit lawful run = claims who options moment w r new end most_refused 0 old fit lawful run
 
 pub claims_keep_fit : ClaimsKeepFit
-claims_keep_fit who old options moment w keep own kept holds new end run =
-    claim_fits who options moment w (record { keep = keep; own = own }) new end old (record { kept = kept; holds = holds }) (claims_are_lawful who old options moment w keep kept own) run
+claims_keep_fit who old options moment w keep own kept holds = (
+  λ new end run. (claim_fits who options moment w (record { keep = keep; own = own }) new end old (record { kept = kept; holds = holds }) (claims_are_lawful who old options moment w keep kept own) run).0,
+  λ new report run. (claim_fits who options moment w (record { keep = keep; own = own }) new (Gives (Reports report)) old (record { kept = kept; holds = holds }) (claims_are_lawful who old options moment w keep kept own) run).1,
+)

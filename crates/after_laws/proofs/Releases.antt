@@ -1,6 +1,6 @@
 -- A worker fits behind a release, and none of the released attempts is live any more.
 use Rattle.std.proofs.Common.{◌≡◌, refl, sym, ◌∙◌, ap, subst, ℕ, zero, suc, ◌<◌, List, [], ◌∷◌, cond, Bool, true, false, Option, Some, None}
-use Rattle.std.specs.Prelude.{IsTrue, ◌==◌, filter, ⊤}
+use Rattle.std.specs.Prelude.{IsTrue, ◌==◌, filter}
 use Rattle.std.specs.List.{AllByRecursion}
 use Rattle.std.proofs.lemmas.Bool.Decides.{Decides-eqb}
 use Rattle.row_model.specs.Lists.{Pairs}
@@ -16,7 +16,7 @@ use Rattle.step_model.specs.Rivals.{Caller, Rivals, told_by}
 use Rattle.step_model.specs.Keeps.{Keeps}
 use Rattle.step_model.specs.Fits.{WorkerHolds}
 use Rattle.step_model.specs.Course.{Course, Ends}
-use Rattle.step_model.specs.CourseRuns.{End, Gives, MeetsFault, LacksMemory, StopsAt, Runs, IsLawfulCourse}
+use Rattle.step_model.specs.CourseRuns.{End, Gives, StopsAt, Runs, IsLawfulCourse}
 use Rattle.step_model.specs.StepEnds.{StepEnd, Reports, GivesUp, most_refused}
 use Rattle.step_model.specs.ClaimSteps.{at_moment}
 use Rattle.step_model.specs.BeatSteps.{release_of, release_by, releases_from, release_all}
@@ -29,10 +29,9 @@ use Rattle.course_laws.proofs.Later.{later_itself, later_met}
 use Rattle.course_laws.proofs.Puts.{got_records}
 use Rattle.course_laws.proofs.Made.{Relies}
 use Rattle.course_laws.proofs.Releases.{releases_are_lawful}
-use Rattle.after_laws.specs.Behind.{FitsBehind}
 use Rattle.after_laws.specs.Releases.{ReleasesKeepFit}
 use Rattle.after_laws.proofs.Live.{IsLive, live_at, none_pass, pass_none}
-use Rattle.after_laws.proofs.Runs.{Made, call_by, stopped, reported, ended}
+use Rattle.after_laws.proofs.Runs.{Made, Left, call_by, left_stopped, left_reported, left_ended}
 use Rattle.after_laws.proofs.OwnPuts.{FromStored, from_stored}
 use Rattle.after_laws.proofs.OwnCalls.{put_told, own_calls_keep}
 
@@ -137,38 +136,11 @@ released {A} R who w attempts next new end r ways (suc left) seen old fit lawful
 
 -- ---- the step
 
--- Where the run reports, no attempt of the worker is live.
-abbrev NoneLeft : LiveWorker → Told → End (StepEnd (List ℕ)) → Type 0
-NoneLeft w new (Gives (Reports report)) = AreOver w w.attempts new
-NoneLeft w new (Gives answer) = ⊤
-NoneLeft w new MeetsFault = ⊤
-NoneLeft w new LacksMemory = ⊤
+-- No attempt of the worker is live.
+abbrev AreAllOver : LiveWorker → Told → List ℕ → Type 0
+AreAllOver w new released = AreOver w w.attempts new
 
-none_reported : (who : Caller) (w : LiveWorker) (answer : StepEnd (List ℕ)) (old new : Told) (end : End (StepEnd (List ℕ))) → AreOver w w.attempts old → Runs who (Ends answer) old new end → NoneLeft w new end
-none_reported who w answer old new (Gives (Reports report)) all run = subst (AreOver w w.attempts) run.0 all
-none_reported who w answer old new (Gives other) all run = tt
-none_reported who w answer old new MeetsFault all run = tt
-none_reported who w answer old new LacksMemory all run = tt
-
-no_report : (who : Caller) (w : LiveWorker) (seen : ℕ) (old new : Told) (end : End (StepEnd (List ℕ))) → Runs who (Ends (GivesUp seen)) old new end → NoneLeft w new end
-no_report who w seen old new (Gives (Reports report)) run = absurd (cc run.1)
-no_report who w seen old new (Gives answer) run = tt
-no_report who w seen old new MeetsFault run = tt
-no_report who w seen old new LacksMemory run = tt
-
-stops_left : (who : Caller) (w : LiveWorker) (x : Exchange) (met new : Told) (end : End (StepEnd (List ℕ))) → StopsAt who x met new end → NoneLeft w new end
-stops_left who w x met new (Gives answer) stops = absurd stops
-stops_left who w x met new MeetsFault stops = tt
-stops_left who w x met new LacksMemory stops = tt
-
--- What a run of the step leaves.
-abbrev Left : Caller → LiveWorker → Told → End (StepEnd (List ℕ)) → Type 0
-Left who w new end = FitsBehind who.merge w (λ released. w.attempts) new end × NoneLeft w new end
-
-reports : (who : Caller) (w : LiveWorker) (jobs : List ℕ) (old new : Told) (end : End (StepEnd (List ℕ))) → WorkerHolds who.merge old w → AreOver w w.attempts old → Runs who (Ends (Reports jobs)) old new end → Left who w new end
-reports who w jobs old new end holds all run = (reported who w (λ released. w.attempts) jobs old new end holds holds run, none_reported who w (Reports jobs) old new end all run)
-
-release_fits : (who : Caller) (w : LiveWorker) → Relies who w → (old new : Told) (end : End (StepEnd (List ℕ))) → Leads (Left who w new end) who w (release_all w) old new end
+release_fits : (who : Caller) (w : LiveWorker) → Relies who w → (old new : Told) (end : End (StepEnd (List ℕ))) → Leads (Left who w (λ released. w.attempts) (AreAllOver w) new end) who w (release_all w) old new end
 unfolding release_all
 release_fits who w r old new end = by (is_nonempty w.attempts) refl
   where
@@ -176,13 +148,13 @@ release_fits who w r old new end = by (is_nonempty w.attempts) refl
     none [] e = tt
     none (x ∷ xs) e = absurd (cc e)
 
-    by : (b : Bool) → is_nonempty w.attempts ≡ b → Leads (Left who w new end) who w (cond b (releases_from w w.attempts (λ released. Ends (Reports released)) most_refused 0) (Ends (Reports []))) old new end
-    by true e = released (Left who w new end) who w w.attempts (λ released. Ends (Reports released)) new end r (record {
-      stops = λ x met fit stop. (stopped who w (λ released. w.attempts) x met new end fit.holds stop, stops_left who w x met new end stop);
-      gives_up = λ seen told fit run. (ended who w (λ released. w.attempts) (GivesUp seen) told new end (λ report e. absurd (cc e)) fit.holds run, no_report who w seen told new end run);
-      goes = λ told released fit over lawful run. reports who w released told new end fit.holds over run;
+    by : (b : Bool) → is_nonempty w.attempts ≡ b → Leads (Left who w (λ released. w.attempts) (AreAllOver w) new end) who w (cond b (releases_from w w.attempts (λ released. Ends (Reports released)) most_refused 0) (Ends (Reports []))) old new end
+    by true e = released (Left who w (λ released. w.attempts) (AreAllOver w) new end) who w w.attempts (λ released. Ends (Reports released)) new end r (record {
+      stops = λ x met fit stop. left_stopped who w (λ released. w.attempts) (AreAllOver w) x met new end fit.holds stop;
+      gives_up = λ seen told fit run. left_ended who w (λ released. w.attempts) (AreAllOver w) (GivesUp seen) told new end (λ report e. absurd (cc e)) fit.holds run;
+      goes = λ told jobs fit over lawful run. left_reported who w (λ released. w.attempts) (AreAllOver w) jobs told new end fit.holds fit.holds over run;
     }) most_refused 0 old
-    by false e = λ fit lawful run. reports who w [] old new end fit.holds (none w.attempts e) run
+    by false e = λ fit lawful run. left_reported who w (λ released. w.attempts) (AreAllOver w) [] old new end fit.holds fit.holds (none w.attempts e) run
 
 pub releases_keep_fit : ReleasesKeepFit
 releases_keep_fit who old w keep own kept holds = (

@@ -1,4 +1,5 @@
 -- A run of a worker's step, call by call.
+use Rattle.std.specs.Prelude.{⊤}
 use Rattle.std.proofs.Common.{◌≡◌, refl, sym, subst, ℕ, List, [], ◌∷◌, inl, inr, ◌⊎◌, None}
 use Rattle.fleet_model.specs.History.{GetTable, Worker}
 use Rattle.fleet_model.specs.Store.{Store}
@@ -82,3 +83,46 @@ ended who w attempts answer old new (Gives (Reports report)) never h run = absur
 ended who w attempts answer old new (Gives other) never h run = subst (λ told. WorkerHolds who.merge told w) run.0 h
 ended who w attempts answer old new MeetsFault never h run = tt
 ended who w attempts answer old new LacksMemory never h run = subst (λ told. WorkerHolds who.merge told w) run.0 h
+
+-- ---- what is said of reports
+
+-- Where the run reports, this is so of the report.
+abbrev pub ReportsAs : {A : Type 0} → (Told → A → Type 0) → Told → End (StepEnd A) → Type 0
+ReportsAs P new (Gives (Reports report)) = P new report
+ReportsAs P new (Gives answer) = ⊤
+ReportsAs P new MeetsFault = ⊤
+ReportsAs P new LacksMemory = ⊤
+
+-- The worker fits behind the run, and where the run reports, this is so of the report.
+abbrev pub Left : {A : Type 0} → Caller → LiveWorker → (A → List Attempt) → (Told → A → Type 0) → Told → End (StepEnd A) → Type 0
+Left who w attempts P new end = FitsBehind who.merge w attempts new end × ReportsAs P new end
+
+says_stopped : {A : Type 0} (who : Caller) (P : Told → A → Type 0) (x : Exchange) (met new : Told) (end : End (StepEnd A)) → StopsAt who x met new end → ReportsAs P new end
+says_stopped who P x met new (Gives answer) stops = absurd stops
+says_stopped who P x met new MeetsFault stops = tt
+says_stopped who P x met new LacksMemory stops = tt
+
+pub left_stopped : {A : Type 0} (who : Caller) (w : LiveWorker) (attempts : A → List Attempt) (P : Told → A → Type 0) (x : Exchange) (met new : Told) (end : End (StepEnd A)) → WorkerHolds who.merge met w → StopsAt who x met new end → Left who w attempts P new end
+left_stopped who w attempts P x met new end h stops = (stopped who w attempts x met new end h stops, says_stopped who P x met new end stops)
+
+says_reported : {A : Type 0} (who : Caller) (P : Told → A → Type 0) (report : A) (old new : Told) (end : End (StepEnd A)) → P old report → Runs who (Ends (Reports report)) old new end → ReportsAs P new end
+says_reported who P report old new (Gives (Reports other)) h run =
+    let same : report ≡ other = cc run.1 in
+    subst (λ told. P told other) run.0 (subst (P old) same h)
+says_reported who P report old new (Gives answer) h run = absurd (cc run.1)
+says_reported who P report old new MeetsFault h run = tt
+says_reported who P report old new LacksMemory h run = tt
+
+pub left_reported : {A : Type 0} (who : Caller) (w : LiveWorker) (attempts : A → List Attempt) (P : Told → A → Type 0) (report : A) (old new : Told) (end : End (StepEnd A)) → WorkerHolds who.merge old w
+    → WorkerHolds who.merge old (record w { attempts = attempts report }) → P old report → Runs who (Ends (Reports report)) old new end → Left who w attempts P new end
+left_reported who w attempts P report old new end h k p run = (reported who w attempts report old new end h k run, says_reported who P report old new end p run)
+
+says_ended : {A : Type 0} (who : Caller) (P : Told → A → Type 0) (answer : StepEnd A) (old new : Told) (end : End (StepEnd A)) → ((report : A) → answer ≡ Reports report → ⊥) → Runs who (Ends answer) old new end → ReportsAs P new end
+says_ended who P answer old new (Gives (Reports report)) never run = absurd (never report run.1)
+says_ended who P answer old new (Gives other) never run = tt
+says_ended who P answer old new MeetsFault never run = tt
+says_ended who P answer old new LacksMemory never run = tt
+
+pub left_ended : {A : Type 0} (who : Caller) (w : LiveWorker) (attempts : A → List Attempt) (P : Told → A → Type 0) (answer : StepEnd A) (old new : Told) (end : End (StepEnd A)) → ((report : A) → answer ≡ Reports report → ⊥) → WorkerHolds who.merge old w
+    → Runs who (Ends answer) old new end → Left who w attempts P new end
+left_ended who w attempts P answer old new end never h run = (ended who w attempts answer old new end never h run, says_ended who P answer old new end never run)
