@@ -1,28 +1,29 @@
 -- A worker fits behind its finish.
-use Rattle.std.proofs.Common.{◌≡◌, refl, sym, ◌∙◌, ap, subst, ℕ, zero, suc, List, [], ◌∷◌, cond, Bool, true, false, Option, Some, None, map}
-use Rattle.std.specs.Prelude.{◌==◌, not}
+use Rattle.std.proofs.Common.{◌≡◌, refl, sym, ◌∙◌, ap, subst, ℕ, zero, suc, List, [], ◌∷◌, cond, Bool, true, false, inl, Option, Some, None, map}
+use Rattle.std.specs.Prelude.{IsTrue, ◌==◌, not}
 use Rattle.std.specs.List.{AllByRecursion, concat}
 use Rattle.std.proofs.lemmas.Bool.Decides.{Decides-eqb}
 use Rattle.row_model.specs.Rows.{Row}
 use Rattle.row_model.specs.Tables.{cut_tables}
 use Rattle.row_model.specs.Fold.{Operator}
-use Rattle.fleet_model.specs.Jobs.{contains}
+use Rattle.fleet_model.specs.Jobs.{Job, Jobs, contains, changed, trimmed}
 use Rattle.fleet_model.specs.History.{Worker, GetRecords, Finish}
 use Rattle.fleet_model.specs.Store.{Store, Records, jobs_in, stored_jobs}
-use Rattle.fleet_model.specs.Records.{Unrecorded, no_contexts, jobs_after}
+use Rattle.fleet_model.specs.Records.{Unrecorded, no_contexts, finished_by, jobs_after}
 use Rattle.fleet_model.specs.Attempts.{rows_left, finish_cut}
-use Rattle.fleet_model.specs.Parties.{Attempt, LiveWorker, is_live, live_attempts, without_attempts}
+use Rattle.fleet_model.specs.Parties.{Attempt, LiveWorker, is_live, runs_attempt, live_attempts, without_attempts}
 use Rattle.fleet_model.specs.Exchanges.{Exchange, Plain, PutsRecords, records_version}
 use Rattle.step_model.specs.Past.{Told}
 use Rattle.step_model.specs.Rivals.{Caller, told_by}
 use Rattle.step_model.specs.TablesKept.{AreApart}
 use Rattle.step_model.specs.Fits.{WorkerHolds, noted_tables}
 use Rattle.step_model.specs.Course.{Course, Ends}
-use Rattle.step_model.specs.CourseRuns.{End, Runs, IsLawfulCourse}
+use Rattle.step_model.specs.CourseRuns.{End, Gives, Runs, IsLawfulCourse}
 use Rattle.step_model.specs.StepEnds.{StepEnd, Reports, GivesUp, NotOwner, most_refused}
 use Rattle.step_model.specs.ClaimSteps.{WorkerOptions}
 use Rattle.step_model.specs.OutputSteps.{FinishedJob, all_outputs, ends_job, ends_job_by, ends_from, end_job, finish_or_give_back, finish}
-use Rattle.step_laws.proofs.Elements.{IsIn, all_at, all_from, all_to}
+use Rattle.step_laws.proofs.Elements.{IsIn, all_at, all_from, all_to, in_contains}
+use Rattle.step_laws.proofs.Changed.{on_these, by_these, job_found}
 use Rattle.step_laws.proofs.Deletions.{in_filter}
 use Rattle.step_laws.proofs.OwnTables.{apart_from, apart_at}
 use Rattle.fit_laws.proofs.WorkerFollows.{from_filter}
@@ -32,24 +33,52 @@ use Rattle.course_laws.proofs.Puts.{got_records}
 use Rattle.course_laws.proofs.Outputs.{found_in}
 use Rattle.course_laws.proofs.Made.{Relies, State, ids_of, all_of}
 use Rattle.course_laws.proofs.Finishes.{outputs_all, finishes_are_lawful}
-use Rattle.after_laws.specs.Behind.{FitsBehind}
 use Rattle.after_laws.specs.OwnCalls.{SparesOwn}
 use Rattle.after_laws.specs.Finishes.{FinishesKeepFit}
 use Rattle.after_laws.proofs.Attempts.{apart_two, holds_fewer}
-use Rattle.after_laws.proofs.Runs.{Made, one_call, stopped, reported, ended}
-use Rattle.after_laws.proofs.OwnCalls.{own_calls_keep}
+use Rattle.after_laws.proofs.Live.{IsLive, live_at}
+use Rattle.after_laws.proofs.OwnPuts.{FromStored, from_stored}
+use Rattle.after_laws.proofs.Runs.{Made, Left, call_by, left_stopped, left_reported, left_ended}
+use Rattle.after_laws.proofs.OwnCalls.{put_told, own_calls_keep}
 use Rattle.after_laws.proofs.Tables.{Stops, AreUnnoted, gets, puts_all}
-use Rattle.after_laws.proofs.Outputs.{begins, gives_back_fits}
+use Rattle.after_laws.proofs.Outputs.{begins, gives_back_left}
+
+-- The attempt is not live any more.
+abbrev IsOver : LiveWorker → Attempt → Told → FinishedJob → Type 0
+IsOver w a told report = is_live (stored_jobs told.store) w.number a ≡ false
 
 -- What a lawful course leads to, from a store that the worker fits.
-abbrev Behind : Caller → LiveWorker → Course (StepEnd FinishedJob) → (old new : Told) → End (StepEnd FinishedJob) → Type 0
-Behind who w course old new end = Fit who w old → IsLawfulCourse who old course → Runs who course old new end → FitsBehind who.merge w (λ report. report.attempts) new end
+abbrev Behind : Caller → LiveWorker → Attempt → Course (StepEnd FinishedJob) → (old new : Told) → End (StepEnd FinishedJob) → Type 0
+Behind who w a course old new end = Fit who w old → IsLawfulCourse who old course → Runs who course old new end → Left who w (λ (report : FinishedJob). report.attempts) (IsOver w a) new end
 
 -- Where a run stops, the worker fits with the attempts that it ran before.
-stops : (who : Caller) (w : LiveWorker) (new : Told) (end : End (StepEnd FinishedJob)) → Stops (FitsBehind who.merge w (λ report. report.attempts) new end) who w new end
-stops who w new end x met fit stop = stopped who w (λ (report : FinishedJob). report.attempts) x met new end fit.holds stop
+stops : (who : Caller) (w : LiveWorker) (a : Attempt) (new : Told) (end : End (StepEnd FinishedJob)) → Stops (Left who w (λ (report : FinishedJob). report.attempts) (IsOver w a) new end) who w new end
+stops who w a new end x met fit stop = left_stopped who w (λ (report : FinishedJob). report.attempts) (IsOver w a) x met new end fit.holds stop
 
 -- ---- the end of the job
+
+-- An attempt is not live behind a put that makes its job one that does not run.
+finished_over : (told : Told) (w : LiveWorker) (a : Attempt) (f : Job → Job) (jobs : Jobs) → ((job : Job) → (f job).id ≡ job.id) → ((job : Job) → IsTrue (runs_attempt w.number a.number (Some (f job))) → ⊥)
+    → jobs ≡ trimmed (changed f (a.job ∷ []) (stored_jobs told.store)) → is_live jobs w.number a ≡ false
+finished_over told w a f jobs ids over made = by (is_live jobs w.number a) refl
+  where
+    At : Job → Type 0
+    At job = job.id ≡ a.job → IsTrue (runs_attempt w.number a.number (Some job)) → ⊥
+
+    refused : (b : Bool) → b ≡ false → IsTrue b → ⊥
+    refused true e h = absurd (cc e)
+    refused false e h = absurd (cc h)
+
+    at : (was : Job) → At (on_these f (a.job ∷ []) was)
+    at was = by_these At f (a.job ∷ []) was (λ has id runs. over was runs) (λ lacks id runs. refused (contains (a.job ∷ []) was.id) lacks (in_contains (a.job ∷ []) was.id (inl (sym id))))
+
+    by : (b : Bool) → is_live jobs w.number a ≡ b → b ≡ false
+    by true e =
+        let l = live_at w.number jobs a e in
+        let found = job_found a.job jobs l.job l.stored in
+        let from = from_stored told f (a.job ∷ []) l.job (subst (IsIn l.job) made found.there) in
+        absurd (subst At (sym from.is) (at from.was) found.same l.runs)
+    by false e = refl
 
 -- The outputs are noted for no other live attempt.
 apart_outputs : (merge : Operator) (w : LiveWorker) (told : Told) (a : Attempt) (made : List (List (ℕ × List Row))) → WorkerHolds merge told w → IsIn a w.attempts → is_live (stored_jobs told.store) w.number a ≡ true → AreUnnoted w (all_of made)
@@ -63,11 +92,11 @@ apart_outputs merge w told a made h there live lacks = all_from _ (live_attempts
     (all_to _ _ (all_of made) (λ p new none. none b found.0) lacks)) named))
 
 ended_job : (who : Caller) (w : LiveWorker) (moment : ℕ) (a : Attempt) (made : List (List (ℕ × List Row))) (again : ℕ → Course (StepEnd FinishedJob)) → Relies who w → IsIn a w.attempts → AreUnnoted w (all_of made)
-    → (new : Told) (end : End (StepEnd FinishedJob)) → ((version : ℕ) (old : Told) → Behind who w (again version) old new end) → (met : Told) (got : Records) → met.store.records ≡ Some got → (live : Bool) → is_live got.jobs w.number a ≡ live
-    → Behind who w (ends_job moment w a (all_outputs a.context.ranges (map ids_of made)) got live again) (told_by who.line who.party (Plain GetRecords) None met) new end
-ended_job who w moment a made again r there lacks new end tries met got is false live fit lawful run = ended who w (λ (report : FinishedJob). report.attempts) NotOwner _ new end (λ report e. absurd (cc e)) fit.holds run
+    → (new : Told) (end : End (StepEnd FinishedJob)) → ((version : ℕ) (old : Told) → Behind who w a (again version) old new end) → (met : Told) (got : Records) → met.store.records ≡ Some got → (live : Bool) → is_live got.jobs w.number a ≡ live
+    → Behind who w a (ends_job moment w a (all_outputs a.context.ranges (map ids_of made)) got live again) (told_by who.line who.party (Plain GetRecords) None met) new end
+ended_job who w moment a made again r there lacks new end tries met got is false live fit lawful run = left_ended who w (λ (report : FinishedJob). report.attempts) (IsOver w a) NotOwner _ new end (λ report e. absurd (cc e)) fit.holds run
 ended_job who w moment a made again r there lacks new end tries met got is true live fit lawful run =
-    one_call who w (λ (report : FinishedJob). report.attempts) x (λ (s : Store). again_or (records_version s.records) (got.version == records_version s.records)) (told_by who.line who.party (Plain GetRecords) None met) new end r fit lawful run put
+    call_by (Left who w (λ (report : FinishedJob). report.attempts) (IsOver w a) new end) who w x (λ (s : Store). again_or (records_version s.records) (got.version == records_version s.records)) (told_by who.line who.party (Plain GetRecords) None met) new end r fit lawful run (stops who w a new end x) put
   where
     outputs : List (List ℕ)
     outputs = all_outputs a.context.ranges (map ids_of made)
@@ -81,8 +110,8 @@ ended_job who w moment a made again r there lacks new end tries met got is true 
     again_or : ℕ → Bool → Course (StepEnd FinishedJob)
     again_or version b = cond b (Ends (Reports (record { outputs = outputs; attempts = without_attempts (a.job ∷ []) w.attempts }))) (again version)
 
-    put : Made who w x (λ (s : Store). again_or (records_version s.records) (got.version == records_version s.records)) (told_by who.line who.party (Plain GetRecords) None met) new end → FitsBehind who.merge w (λ report. report.attempts) new end
-    put m = by (got.version == records_version m.met.store.records) m.further m.run
+    put : Made who w x (λ (s : Store). again_or (records_version s.records) (got.version == records_version s.records)) (told_by who.line who.party (Plain GetRecords) None met) new end → Left who w (λ (report : FinishedJob). report.attempts) (IsOver w a) new end
+    put m = by (got.version == records_version m.met.store.records) refl m.further m.run
       where
         after : Told
         after = told_by who.line who.party x None m.met
@@ -92,31 +121,37 @@ ended_job who w moment a made again r there lacks new end tries met got is true 
             let stored : m.met.store.records ≡ Some got = got_records met m.met (Some got) is (later_met who (Plain GetRecords) met met m.met (later_itself met) m.rivals) same in
             apart_outputs who.merge w m.met a made m.fit.holds there (ap (λ o. is_live (jobs_in o) w.number a) stored ∙ live) lacks
 
+        over : (got.version == records_version m.met.store.records) ≡ true → is_live (stored_jobs after.store) w.number a ≡ false
+        over e =
+            let stored : m.met.store.records ≡ Some got = got_records met m.met (Some got) is (later_met who (Plain GetRecords) met met m.met (later_itself met) m.rivals) ((Decides-eqb got.version (records_version m.met.store.records)).0 e) in
+            let put = ap (λ (told : Told). stored_jobs told.store) (put_told who.line who.party m.met got.version (Finish w.number a.job a.number outputs) got.epoch (jobs_after u (Finish w.number a.job a.number outputs) got.jobs) e) in
+            finished_over m.met w a (finished_by w.number u outputs) (stored_jobs after.store) (λ job. refl) (λ job runs. cc runs) (put ∙ ap (λ o. jobs_after u (Finish w.number a.job a.number outputs) (jobs_in o)) (sym stored))
+
         holds : WorkerHolds who.merge after w
         holds = own_calls_keep who.merge x who.line who.party m.met w m.fit.kept r.own m.lawful spares m.fit.holds
 
-        by : (b : Bool) → IsLawfulCourse who after (again_or (records_version m.met.store.records) b) → Runs who (again_or (records_version m.met.store.records) b) after new end → FitsBehind who.merge w (λ report. report.attempts) new end
-        by true lawful run = reported who w (λ (report : FinishedJob). report.attempts) (record { outputs = outputs; attempts = without_attempts (a.job ∷ []) w.attempts }) after new end holds
-            (holds_fewer who.merge after w (λ (b : Attempt). not (contains (a.job ∷ []) b.job)) holds) run
-        by false lawful run = tries (records_version m.met.store.records) after (record { kept = m.kept; holds = holds }) lawful run
+        by : (b : Bool) → (got.version == records_version m.met.store.records) ≡ b → IsLawfulCourse who after (again_or (records_version m.met.store.records) b) → Runs who (again_or (records_version m.met.store.records) b) after new end → Left who w (λ (report : FinishedJob). report.attempts) (IsOver w a) new end
+        by true e lawful run = left_reported who w (λ (report : FinishedJob). report.attempts) (IsOver w a) (record { outputs = outputs; attempts = without_attempts (a.job ∷ []) w.attempts }) after new end holds
+            (holds_fewer who.merge after w (λ (b : Attempt). not (contains (a.job ∷ []) b.job)) holds) (over e) run
+        by false e lawful run = tries (records_version m.met.store.records) after (record { kept = m.kept; holds = holds }) lawful run
 
 ended_by : (who : Caller) (w : LiveWorker) (moment : ℕ) (a : Attempt) (made : List (List (ℕ × List Row))) (again : ℕ → Course (StepEnd FinishedJob)) → Relies who w → IsIn a w.attempts → AreUnnoted w (all_of made)
-    → (new : Told) (end : End (StepEnd FinishedJob)) → ((version : ℕ) (old : Told) → Behind who w (again version) old new end) → (met : Told) (records : Option Records) → met.store.records ≡ records
-    → Behind who w (ends_job_by moment w a (all_outputs a.context.ranges (map ids_of made)) records again) (told_by who.line who.party (Plain GetRecords) None met) new end
-ended_by who w moment a made again r there lacks new end tries met None is fit lawful run = ended who w (λ (report : FinishedJob). report.attempts) NotOwner _ new end (λ report e. absurd (cc e)) fit.holds run
+    → (new : Told) (end : End (StepEnd FinishedJob)) → ((version : ℕ) (old : Told) → Behind who w a (again version) old new end) → (met : Told) (records : Option Records) → met.store.records ≡ records
+    → Behind who w a (ends_job_by moment w a (all_outputs a.context.ranges (map ids_of made)) records again) (told_by who.line who.party (Plain GetRecords) None met) new end
+ended_by who w moment a made again r there lacks new end tries met None is fit lawful run = left_ended who w (λ (report : FinishedJob). report.attempts) (IsOver w a) NotOwner _ new end (λ report e. absurd (cc e)) fit.holds run
 ended_by who w moment a made again r there lacks new end tries met (Some got) is fit lawful run = ended_job who w moment a made again r there lacks new end tries met got is (is_live got.jobs w.number a) refl fit lawful run
 
 ends : (who : Caller) (w : LiveWorker) (moment : ℕ) (a : Attempt) (made : List (List (ℕ × List Row))) → Relies who w → IsIn a w.attempts → AreUnnoted w (all_of made) → (new : Told) (end : End (StepEnd FinishedJob)) → (left seen : ℕ) (old : Told)
-    → Behind who w (ends_from moment w a (all_outputs a.context.ranges (map ids_of made)) left seen) old new end
-ends who w moment a made r there lacks new end zero seen old fit lawful run = ended who w (λ (report : FinishedJob). report.attempts) (GivesUp seen) old new end (λ report e. absurd (cc e)) fit.holds run
+    → Behind who w a (ends_from moment w a (all_outputs a.context.ranges (map ids_of made)) left seen) old new end
+ends who w moment a made r there lacks new end zero seen old fit lawful run = left_ended who w (λ (report : FinishedJob). report.attempts) (IsOver w a) (GivesUp seen) old new end (λ report e. absurd (cc e)) fit.holds run
 ends who w moment a made r there lacks new end (suc left) seen old fit lawful run =
-    one_call who w (λ (report : FinishedJob). report.attempts) (Plain GetRecords)
-    (λ (s : Store). ends_job_by moment w a (all_outputs a.context.ranges (map ids_of made)) s.records (ends_from moment w a (all_outputs a.context.ranges (map ids_of made)) left)) old new end r fit lawful run
+    call_by (Left who w (λ (report : FinishedJob). report.attempts) (IsOver w a) new end) who w (Plain GetRecords)
+    (λ (s : Store). ends_job_by moment w a (all_outputs a.context.ranges (map ids_of made)) s.records (ends_from moment w a (all_outputs a.context.ranges (map ids_of made)) left)) old new end r fit lawful run (stops who w a new end (Plain GetRecords))
     (λ m. ended_by who w moment a made (ends_from moment w a (all_outputs a.context.ranges (map ids_of made)) left) r there lacks new end (λ version one. ends who w moment a made r there lacks new end left version one)
     m.met m.met.store.records refl (fit_got who w m.met r.keep m.fit) m.further m.run)
 
 end_fits : (who : Caller) (w : LiveWorker) (moment : ℕ) (a : Attempt) (made : List (List (ℕ × List Row))) → Relies who w → IsIn a w.attempts → AreUnnoted w (all_of made) → (new : Told) (end : End (StepEnd FinishedJob)) (old : Told)
-    → Behind who w (end_job moment w a (all_outputs a.context.ranges (map ids_of made))) old new end
+    → Behind who w a (end_job moment w a (all_outputs a.context.ranges (map ids_of made))) old new end
 unfolding end_job
 end_fits who w moment a made r there lacks new end old fit lawful run = ends who w moment a made r there lacks new end most_refused 0 old fit lawful run
 
@@ -124,23 +159,27 @@ end_fits who w moment a made r there lacks new end old fit lawful run = ends who
 
 made_fits : (who : Caller) (w : LiveWorker) (start : Told) (options : WorkerOptions) (moment : ℕ) (a : Attempt) (refusal : Option (List ℕ)) → Relies who w → IsIn a w.attempts → (new : Told) (end : End (StepEnd FinishedJob)) (told : Told) → State who w start a [] told
     → IsLawfulCourse who told (finish_or_give_back who.merge options moment w a refusal start.store.tables) → Runs who (finish_or_give_back who.merge options moment w a refusal start.store.tables) told new end
-    → FitsBehind who.merge w (λ report. report.attempts) new end
+    → Left who w (λ (report : FinishedJob). report.attempts) (IsOver w a) new end
 made_fits who w start options moment a (Some message) r there new end told s lawful run =
-    gives_back_fits who w (λ (report : FinishedJob). report.attempts) a message told new end r (record { kept = s.kept; holds = s.holds }) lawful run
+    gives_back_left who w (λ (report : FinishedJob). report.attempts) (IsOver w a) a message told new end r (record { kept = s.kept; holds = s.holds }) lawful run
 made_fits who w start options moment a None r there new end told s lawful run =
-    puts_all {A = FinishedJob} (FitsBehind who.merge w (λ (report : FinishedJob). report.attempts) new end) who w start a moment new end r (stops who w new end)
+    puts_all {A = FinishedJob} (Left who w (λ (report : FinishedJob). report.attempts) (IsOver w a) new end) who w start a moment new end r (stops who w a new end)
     (map (λ range. cut_tables options.table_size (rows_left who.merge start.store.tables a.context.settings a.sources range).rows) a.context.ranges) [] (λ ids. end_job moment w a (all_outputs a.context.ranges ids))
     (λ later made state lacks further on. end_fits who w moment a made r there lacks new end later (record { kept = state.kept; holds = state.holds }) further on) told s lawful run
 
 finish_fits : (who : Caller) (w : LiveWorker) (start : Told) (options : WorkerOptions) (moment : ℕ) (a : Attempt) (refusal : Option (List ℕ)) → Relies who w → IsIn a w.attempts → (new : Told) (end : End (StepEnd FinishedJob)) → State who w start a [] start
-    → IsLawfulCourse who start (finish who.merge start.store.tables options moment w a refusal) → Runs who (finish who.merge start.store.tables options moment w a refusal) start new end → FitsBehind who.merge w (λ report. report.attempts) new end
+    → IsLawfulCourse who start (finish who.merge start.store.tables options moment w a refusal) → Runs who (finish who.merge start.store.tables options moment w a refusal) start new end → Left who w (λ (report : FinishedJob). report.attempts) (IsOver w a) new end
 unfolding finish
 finish_fits who w start options moment a refusal r there new end s lawful run =
-    gets {A = FinishedJob} (FitsBehind who.merge w (λ (report : FinishedJob). report.attempts) new end) who w start a (finish_or_give_back who.merge options moment w a refusal start.store.tables) new end r (stops who w new end)
+    gets {A = FinishedJob} (Left who w (λ (report : FinishedJob). report.attempts) (IsOver w a) new end) who w start a (finish_or_give_back who.merge options moment w a refusal start.store.tables) new end r (stops who w a new end)
     (λ told state further on. made_fits who w start options moment a refusal r there new end told state further on) a.sources start s lawful run
 
 pub finishes_keep_fit : FinishesKeepFit
-finishes_keep_fit who old options moment w a refusal keep operator own kept holds runs whole new end run =
-    let there = found_in w.attempts a.job a runs in
-    finish_fits who w old options moment a refusal (record { keep = keep; own = own }) there new end (begins who w old a kept holds there)
-    (finishes_are_lawful who old options moment w a refusal keep operator own kept holds runs whole) run
+finishes_keep_fit who old options moment w a refusal keep operator own kept holds runs whole = (λ new end run. (behind new end run).0, λ new report run. (behind new (Gives (Reports report)) run).1)
+  where
+    there : IsIn a w.attempts
+    there = found_in w.attempts a.job a runs
+
+    behind : (new : Told) (end : End (StepEnd FinishedJob)) → Runs who (finish who.merge old.store.tables options moment w a refusal) old new end → Left who w (λ (report : FinishedJob). report.attempts) (IsOver w a) new end
+    behind new end run = finish_fits who w old options moment a refusal (record { keep = keep; own = own }) there new end (begins who w old a kept holds there)
+        (finishes_are_lawful who old options moment w a refusal keep operator own kept holds runs whole) run

@@ -15,3 +15,4 @@ pub mod Awaits
 pub mod Starts
 pub mod Plans
 pub mod Claims
+pub mod Fewer

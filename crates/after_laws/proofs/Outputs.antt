@@ -1,7 +1,7 @@
 -- A worker fits behind its output: the table that it put is noted for the range whose next rows it
 -- holds.
 use Rattle.std.proofs.Common.{◌≡◌, refl, sym, ◌∙◌, ap, subst, ℕ, zero, suc, ◌-◌, ◌<◌, List, [], ◌∷◌, ◌++◌, cond, Bool, true, false, inl, inr, ◌⊎◌, Option, Some, None, take, drop, length, arith}
-use Rattle.std.specs.Prelude.{IsTrue, IfSome, ◌==◌, not, map, filter, flat_map, slice_get}
+use Rattle.std.specs.Prelude.{IsTrue, IfSome, ◌==◌, not, map, filter, flat_map, slice_get, ⊤}
 use Rattle.std.specs.List.{AllByRecursion}
 use Rattle.std.proofs.lemmas.Bool.Decides.{Decides-eqb}
 use Rattle.std.proofs.lemmas.List.{append_assoc}
@@ -45,7 +45,7 @@ use Rattle.course_laws.proofs.Made.{Relies, State}
 use Rattle.course_laws.proofs.Finishes.{flat_same, drop_front}
 use Rattle.after_laws.specs.Behind.{FitsBehind}
 use Rattle.after_laws.specs.Outputs.{IsRangeAt, OutputsKeepFit}
-use Rattle.after_laws.proofs.Runs.{stopped, reported, ended}
+use Rattle.after_laws.proofs.Runs.{Left, stopped, reported, left_stopped, left_ended}
 use Rattle.after_laws.proofs.Tables.{Stops, IsUnnoted, gets, puts_one}
 use Rattle.after_laws.proofs.Releases.{released}
 use Rattle.after_laws.proofs.Attempts.{Added, holds_fewer, holds_added, apart_two, left_other}
@@ -253,13 +253,13 @@ written who w start a moment place range n (row ∷ rows) new end r runs at is t
         reported who w (λ (report : Written). report.attempts) (report table) after new end made.holds
         (holds_added who.merge after (record w { attempts = without_attempts (a.job ∷ []) w.attempts }) (with_table place table a) more fewer) run
 
-pub gives_back_fits : {A : Type 0} (who : Caller) (w : LiveWorker) (attempts : A → List Attempt) (a : Attempt) (message : List ℕ) (old new : Told) (end : End (StepEnd A)) → Relies who w → Fit who w old → IsLawfulCourse who old (gives_back {A = A} w a message)
-    → Runs who (gives_back {A = A} w a message) old new end → FitsBehind who.merge w attempts new end
-gives_back_fits {A} who w attempts a message old new end r fit lawful run =
-    released {A = A} (FitsBehind who.merge w attempts new end) who w (a ∷ []) (λ released. Ends (OperatorRefuses message)) new end r (record {
-      stops = λ x met fit stop. stopped who w attempts x met new end fit.holds stop;
-      gives_up = λ seen told fit run. ended who w attempts (GivesUp seen) told new end (λ report e. absurd (cc e)) fit.holds run;
-      goes = λ told jobs fit over lawful run. ended who w attempts (OperatorRefuses message) told new end (λ report e. absurd (cc e)) fit.holds run;
+pub gives_back_left : {A : Type 0} (who : Caller) (w : LiveWorker) (attempts : A → List Attempt) (P : Told → A → Type 0) (a : Attempt) (message : List ℕ) (old new : Told) (end : End (StepEnd A)) → Relies who w → Fit who w old
+    → IsLawfulCourse who old (gives_back {A = A} w a message) → Runs who (gives_back {A = A} w a message) old new end → Left who w attempts P new end
+gives_back_left {A} who w attempts P a message old new end r fit lawful run =
+    released {A = A} (Left who w attempts P new end) who w (a ∷ []) (λ released. Ends (OperatorRefuses message)) new end r (record {
+      stops = λ x met fit stop. left_stopped who w attempts P x met new end fit.holds stop;
+      gives_up = λ seen told fit run. left_ended who w attempts P (GivesUp seen) told new end (λ report e. absurd (cc e)) fit.holds run;
+      goes = λ told jobs fit over lawful run. left_ended who w attempts P (OperatorRefuses message) told new end (λ report e. absurd (cc e)) fit.holds run;
     }) most_refused 0 old fit lawful run
 
 made : (who : Caller) (w : LiveWorker) (start : Told) (a : Attempt) (moment place : ℕ) (range : Range × List ℕ) (n : ℕ) (refusal : Option (List ℕ)) (new : Told) (end : End (StepEnd Written)) → Relies who w → IsIn a w.attempts → IsRangeAt a place range
@@ -267,7 +267,7 @@ made : (who : Caller) (w : LiveWorker) (start : Told) (a : Attempt) (moment plac
     → Runs who (writes_or_gives_back who.merge moment w a place range n refusal start.store.tables) told new end → FitsBehind who.merge w (λ report. report.attempts) new end
 made who w start a moment place range n None new end r runs at told s lawful run = written who w start a moment place range n (next_rows who start a range n) new end r runs at refl told s lawful run
 made who w start a moment place range n (Some message) new end r runs at told s lawful run =
-    gives_back_fits who w (λ (report : Written). report.attempts) a message told new end r (record { kept = s.kept; holds = s.holds }) lawful run
+    (gives_back_left who w (λ (report : Written). report.attempts) (λ later report. ⊤) a message told new end r (record { kept = s.kept; holds = s.holds }) lawful run).0
 
 -- What is so as a step at an attempt begins.
 pub begins : (who : Caller) (w : LiveWorker) (old : Told) (a : Attempt) → Keeps who.merge old → WorkerHolds who.merge old w → IsIn a w.attempts → State who w old a [] old

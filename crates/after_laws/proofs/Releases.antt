@@ -60,10 +60,10 @@ gone told w attempts jobs rise made = all_from _ attempts (λ a there. over a th
     at : (a : Attempt) → IsIn a attempts → (was : Job) → IsIn was (stored_jobs told.store) → At a (on_these to_waiting these was)
     at a there was one = by_these (At a) to_waiting these was (λ has id runs. absurd (cc runs))
         (λ lacks id runs.
-            let stored = subst (λ n. job_with n (stored_jobs told.store) ≡ Some was) id (found_job (stored_jobs told.store) was rise one) in
-            let live = in_filter (is_live (stored_jobs told.store) w.number) attempts a there (ap (runs_attempt w.number a.number) stored ∙ runs) in
-            refused (contains these was.id) lacks (subst (λ n. IsTrue (contains these n)) (sym id)
-            (in_contains these a.job (in_map (λ (p : ℕ × ℕ). p.0) _ (a.job, a.number) (in_map (λ (x : Attempt). (x.job, x.number)) (filter (is_live (stored_jobs told.store) w.number) attempts) a live)))))
+        let stored = subst (λ n. job_with n (stored_jobs told.store) ≡ Some was) id (found_job (stored_jobs told.store) was rise one) in
+        let live = in_filter (is_live (stored_jobs told.store) w.number) attempts a there (ap (runs_attempt w.number a.number) stored ∙ runs) in
+        refused (contains these was.id) lacks (subst (λ n. IsTrue (contains these n)) (sym id)
+        (in_contains these a.job (in_map (λ (p : ℕ × ℕ). p.0) _ (a.job, a.number) (in_map (λ (x : Attempt). (x.job, x.number)) (filter (is_live (stored_jobs told.store) w.number) attempts) a live)))))
 
     over : (a : Attempt) → IsIn a attempts → (b : Bool) → is_live jobs w.number a ≡ b → b ≡ false
     over a there false e = refl

@@ -1,3 +1,4 @@
+pub mod Fewer
 pub mod OwnCalls
 pub mod Behind
 pub mod Beats
