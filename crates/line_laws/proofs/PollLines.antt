@@ -33,7 +33,7 @@ use Rattle.script_model.specs.Settles.{is_ok}
 use Rattle.line_laws.specs.Alone.{HadRoom}
 use Rattle.line_laws.specs.Premises.{PollsAreLawful}
 use Rattle.line_laws.specs.States.{StateKeeps}
-use Rattle.line_laws.specs.PollRuns.{PollDid, CommitPut}
+use Rattle.line_laws.specs.PollRuns.{CommitPut}
 use Rattle.line_laws.specs.PollLines.{told_by_poll, PollSays, CommitsRight, PollRan, PollsCommit}
 use Rattle.line_laws.proofs.Parties.{found}
 use Rattle.line_laws.proofs.Lines.{caller_of, told_of}
@@ -115,13 +115,20 @@ ran inputs number commits_only n old k answer new lawful polls_lawful r =
     let is : IsLawfulCourse who told (poll ask) = polls_lawful who told ask r.coordinator lawful refl (ap Coordinator ((Decides-eqb n r.coordinator.number).0 f.passes)) refl k.fleet.store
     (all_at (λ (c : LiveCoordinator). CoordinatorHolds told c None) old.parties.coordinators r.coordinator k.fleet.coordinators f.there) in
     let d = poll_did who ask told r.step.left r.step.report (calls_keep inputs.merge lawful) refl (record { kept = k.fleet.store; lawful = is; run = r.step.run }) in
-    let says = subst (PollSays ask old.store) (sym d.did.is) (poll_says ask old.store d.did.drawn k.fleet.store.stored.sound.job_ids) in
+    let says = subst (PollSays ask old.store d.did.drawn) (sym d.did.is) (poll_says ask old.store d.did.drawn k.fleet.store.stored.sound.job_ids) in
     record {
       coordinator = r.coordinator;
       live = r.live;
       p = r.step.report;
       printed = r.step.printed;
-      did = subst (λ (store : Store). PollDid ask old.store store r.step.report) r.step.stored d.did;
+      did = record {
+        drawn = d.did.drawn;
+        each = d.did.each;
+        is = d.did.is;
+        manifest = ap (λ (store : Store). store.manifest) (sym r.step.stored) ∙ d.did.manifest;
+        records = ap (λ (store : Store). store.records) (sym r.step.stored) ∙ d.did.records;
+        tables = ap (λ (store : Store). store.tables) (sym r.step.stored) ∙ d.did.tables;
+      };
       says = says;
       right = λ changed. commits_right inputs.merge (Coordinator n) old.store r.step.report says.others lawful says.steps (d.put changed);
     }

@@ -15,7 +15,60 @@ use Rattle.step_model.specs.PollSteps.{PollAsk, records_or_none}
 use Rattle.step_laws.proofs.Elements.{pairs_map, all_append}
 use Rattle.course_laws.proofs.Calls.{pairs_filter}
 use Rattle.line_laws.specs.PollRuns.{input_at, reached}
-use Rattle.line_laws.specs.PollLines.{verdicts, passed, failed, IsAtOnce, PollSays}
+use Rattle.line_laws.specs.PollLines.{verdicts, passed, failed, Fate, fate_by, fates, opened, moved, drained, refused, IsAtOnce, PollSays}
+
+-- ---- what was opened
+
+-- No submitted job was opened, moved, drained or refused in between.
+record SameOpened (p q : PollState) : Type 0 where
+  pub opens : q.opened ≡ p.opened
+  pub moves : q.moved ≡ p.moved
+  pub drains : q.drained ≡ p.drained
+  pub refuses : q.refused ≡ p.refused
+
+same_opened : (p : PollState) → SameOpened p p
+same_opened p = record { opens = refl; moves = refl; drains = refl; refuses = refl }
+
+commits_open_none : (input : PollInput) (jobs : Jobs) (p : PollState) → SameOpened p (each (commit_job input) jobs p)
+commits_open_none input [] p = same_opened p
+commits_open_none input (job ∷ jobs) p = by (commit_gate p.trees (accepts input p) job) (commits_open_none input jobs (commit_job input job p))
+  where
+    by : (rule : Option ℕ) → SameOpened (commit_by input job rule p) (each (commit_job input) jobs (commit_by input job rule p)) → SameOpened p (each (commit_job input) jobs (commit_by input job rule p))
+    by (Some rule) s = record { opens = s.opens; moves = s.moves; drains = s.drains; refuses = s.refuses }
+    by None s = record { opens = s.opens; moves = s.moves; drains = s.drains; refuses = s.refuses }
+
+adds_open_none : (place : ℕ) (drawn : List (ℕ × JobSpec)) (p : PollState) → SameOpened p (add_drawn place drawn p)
+adds_open_none place [] p = same_opened p
+adds_open_none place (d ∷ drawn) p = by (list_any (clashes d.1) p.jobs) (adds_open_none (place + 1) drawn (add_by d.0 place d.1 (list_any (clashes d.1) p.jobs) p))
+  where
+    by : (b : Bool) → SameOpened (add_by d.0 place d.1 b p) (add_drawn (place + 1) drawn (add_by d.0 place d.1 b p)) → SameOpened p (add_drawn (place + 1) drawn (add_by d.0 place d.1 b p))
+    by true s = record { opens = s.opens; moves = s.moves; drains = s.drains; refuses = s.refuses }
+    by false s = record { opens = s.opens; moves = s.moves; drains = s.drains; refuses = s.refuses }
+
+-- What jobs with these fates add to what was opened.
+record Opened (f : List (ℕ × Fate)) (p q : PollState) : Type 0 where
+  pub opens : q.opened ≡ p.opened ++ flat_map opened f
+  pub moves : q.moved ≡ p.moved ++ flat_map moved f
+  pub drains : q.drained ≡ p.drained ++ flat_map drained f
+  pub refuses : q.refused ≡ p.refused ++ flat_map refused f
+
+opens_do : (input : PollInput) (jobs : Jobs) (p : PollState) → Opened (fates input jobs p) p (each (open_job input) jobs p)
+opens_do input [] p = record { opens = sym (append-nil p.opened); moves = sym (append-nil p.moved); drains = sym (append-nil p.drained); refuses = sym (append-nil p.refused) }
+opens_do input (job ∷ jobs) p = by (submit_gate p.trees p.jobs (lost_to_scheduler p.lost) (accepts input p) job) (opens_do input jobs (open_job input job p))
+  where
+    after : (drains moves : Bool) → PollState
+    after drains moves = cond drains (drain_job input job p) (cond moves (move_job input job p) (schedule_job job p))
+
+    kinds : (drains moves : Bool) → Opened (fates input jobs (after drains moves)) (after drains moves) (each (open_job input) jobs (after drains moves))
+        → Opened ((job.id, fate_by None drains moves) ∷ fates input jobs (after drains moves)) p (each (open_job input) jobs (after drains moves))
+    kinds true moves o = record { opens = o.opens; moves = o.moves; drains = o.drains ∙ append_assoc p.drained (job.id ∷ []) _; refuses = o.refuses }
+    kinds false true o = record { opens = o.opens; moves = o.moves ∙ append_assoc p.moved (job.id ∷ []) _; drains = o.drains; refuses = o.refuses }
+    kinds false false o = record { opens = o.opens ∙ append_assoc p.opened (job.id ∷ []) _; moves = o.moves; drains = o.drains; refuses = o.refuses }
+
+    by : (rule : Option ℕ) → Opened (fates input jobs (open_by input job rule p)) (open_by input job rule p) (each (open_job input) jobs (open_by input job rule p))
+        → Opened ((job.id, fate_by rule (is_drain job.spec) (can_move input p.trees job.spec)) ∷ fates input jobs (open_by input job rule p)) p (each (open_job input) jobs (open_by input job rule p))
+    by (Some rule) o = record { opens = o.opens; moves = o.moves; drains = o.drains; refuses = o.refuses ∙ append_assoc p.refused ((job.id, rule) ∷ []) _ }
+    by None o = kinds (is_drain job.spec) (can_move input p.trees job.spec) o
 
 -- ---- commits
 
@@ -117,7 +170,7 @@ freed_rise these jobs rise = pairs_map (λ (a b : Job). a.id < b.id) (λ (a b : 
     same job false = refl
 
 says_by : (epoch : ℕ) (options : PollOptions) (scheduler : Scheduler) (moment : ℕ) (commits_only : Bool) (store : Store) (drawn : List (ℕ × JobSpec)) → Pairs (λ (a b : Job). a.id < b.id) (stored_jobs store)
-    → let ask : PollAsk = record { epoch = epoch; options = options; scheduler = scheduler; moment = moment; commits_only = commits_only } in PollSays ask store (reached ask store drawn)
+    → let ask : PollAsk = record { epoch = epoch; options = options; scheduler = scheduler; moment = moment; commits_only = commits_only } in PollSays ask store drawn (reached ask store drawn)
 unfolding committed
 says_by epoch options scheduler moment true store drawn rise =
     let ask : PollAsk = record { epoch = epoch; options = options; scheduler = scheduler; moment = moment; commits_only = true } in
@@ -125,6 +178,7 @@ says_by epoch options scheduler moment true store drawn rise =
     let start = begun input.manifest.trees input.manifest.horizon input.records.jobs in
     let jobs = filter (has_status Compacted) start.jobs in
     let c = commits_leave input jobs start in
+    let o = commits_open_none input jobs start in
     let rising = subst (Pairs (λ (a b : Job). a.id < b.id)) (sym (got_jobs store.records)) rise in
     record {
       frees = c.freed;
@@ -134,6 +188,10 @@ says_by epoch options scheduler moment true store drawn rise =
       others = [];
       steps = c.steps ∙ ap (map Join) (sym c.done) ∙ sym (append-nil (map Join _));
       at_once = tt;
+      opens = o.opens;
+      moves = o.moves;
+      drains = o.drains;
+      refuses = o.refuses;
     }
 says_by epoch options scheduler moment false store drawn rise =
     let ask : PollAsk = record { epoch = epoch; options = options; scheduler = scheduler; moment = moment; commits_only = false } in
@@ -147,6 +205,11 @@ says_by epoch options scheduler moment false store drawn rise =
     let l = leaves_on mid added (open_submitted input added) (add_leaves 1 drawn mid) (opens_leave input (filter (has_status Submitted) added.jobs) added) in
     let rising = subst (Pairs (λ (a b : Job). a.id < b.id)) (sym (got_jobs store.records)) rise in
     let done = l.done ∙ c.done in
+    let waiting = filter (has_status Submitted) added.jobs in
+    let fate = fates input waiting added in
+    let f = opens_do input waiting added in
+    let a = adds_open_none 1 drawn mid in
+    let o = commits_open_none input jobs start in
     record {
       frees = l.freed ∙ c.freed ∙ ap (λ (jobs : Jobs). ids (filter (is_stale options.timeout moment) jobs)) (got_jobs store.records);
       commits = done;
@@ -155,7 +218,11 @@ says_by epoch options scheduler moment false store drawn rise =
       others = l.more;
       steps = l.steps ∙ ap (λ (steps : List Step). steps ++ l.more) (c.steps ∙ ap (map Join) (sym done));
       at_once = l.at_once;
+      opens = f.opens ∙ ap (λ (ids : List ℕ). ids ++ flat_map opened fate) (a.opens ∙ o.opens);
+      moves = f.moves ∙ ap (λ (ids : List ℕ). ids ++ flat_map moved fate) (a.moves ∙ o.moves);
+      drains = f.drains ∙ ap (λ (ids : List ℕ). ids ++ flat_map drained fate) (a.drains ∙ o.drains);
+      refuses = f.refuses ∙ ap (λ (ids : List (ℕ × ℕ)). ids ++ flat_map refused fate) (a.refuses ∙ o.refuses);
     }
 
-pub poll_says : (ask : PollAsk) (store : Store) (drawn : List (ℕ × JobSpec)) → Pairs (λ (a b : Job). a.id < b.id) (stored_jobs store) → PollSays ask store (reached ask store drawn)
+pub poll_says : (ask : PollAsk) (store : Store) (drawn : List (ℕ × JobSpec)) → Pairs (λ (a b : Job). a.id < b.id) (stored_jobs store) → PollSays ask store drawn (reached ask store drawn)
 poll_says ask store drawn rise = says_by ask.epoch ask.options ask.scheduler ask.moment ask.commits_only store drawn rise

@@ -4,15 +4,15 @@ use Rattle.std.specs.List.{AllByRecursion, concat}
 use Rattle.row_model.specs.Lists.{Pairs}
 use Rattle.row_model.specs.Fold.{Operator}
 use Rattle.fleet_model.specs.Nodes.{Trees}
-use Rattle.fleet_model.specs.Jobs.{Job, Jobs, Compacted, has_status, ids, is_stale, job_with}
+use Rattle.fleet_model.specs.Jobs.{JobSpec, is_drain, Job, Jobs, Submitted, Compacted, has_status, ids, is_stale, job_with}
 use Rattle.fleet_model.specs.History.{Party, Coordinator, Step, Join, Move, Drain}
 use Rattle.fleet_model.specs.Store.{Store, stored_jobs}
 use Rattle.fleet_model.specs.Parties.{LiveCoordinator, coordinator_with}
 use Rattle.fleet_model.specs.Trees.{stepped_in}
-use Rattle.fleet_model.specs.Gates.{commit_gate}
+use Rattle.fleet_model.specs.Gates.{commit_gate, submit_gate}
 use Rattle.fleet_model.specs.JobsFit.{was_joined}
 use Rattle.fleet_model.specs.PollStates.{PollInput, PollState, begun, accepts}
-use Rattle.fleet_model.specs.Polls.{free_stale, commit_job}
+use Rattle.fleet_model.specs.Polls.{free_stale, commit_job, commit_finished, add_drawn, lost_to_scheduler, can_move, open_job}
 use Rattle.step_model.specs.Past.{Told}
 use Rattle.step_model.specs.PollSteps.{PollAsk, is_unchanged}
 use Rattle.commit_laws.specs.Behind.{trees_behind}
@@ -52,6 +52,56 @@ abbrev pub failed : ℕ × Option ℕ → List (ℕ × ℕ)
 failed (id, None) = []
 failed (id, Some rule) = (id, rule) ∷ []
 
+-- What a poll makes of a submitted job: it fails by a rule of the gate, or it is drained, moved or opened.
+pub data Fate : Type 0 where
+  Fails : (rule : ℕ) → Fate
+  IsDrained : Fate
+  IsMoved : Fate
+  IsOpened : Fate
+
+-- A job that passes the gate is drained if it is a drain, moved if it can be, and opened otherwise.
+abbrev pub fate_by : Option ℕ → (drains moves : Bool) → Fate
+fate_by (Some rule) drains moves = Fails rule
+fate_by None true moves = IsDrained
+fate_by None false true = IsMoved
+fate_by None false false = IsOpened
+
+-- The fate of a submitted job, given what the poll has reached when it comes to the job.
+abbrev pub fate_of : PollInput → Job → PollState → Fate
+fate_of input job p = fate_by (submit_gate p.trees p.jobs (lost_to_scheduler p.lost) (accepts input p) job) (is_drain job.spec) (can_move input p.trees job.spec)
+
+-- The fates of these submitted jobs, one after the other.
+abbrev pub fates : PollInput → Jobs → PollState → List (ℕ × Fate)
+fates input [] p = []
+fates input (job ∷ jobs) p = (job.id, fate_of input job p) ∷ fates input jobs (open_job input job p)
+
+-- The state of a whole poll as it begins to open jobs: it has committed, and added what the scheduler
+-- proposed.
+abbrev pub before_opening : PollAsk → PollInput → List (ℕ × JobSpec) → PollState
+before_opening ask input drawn = add_drawn 1 drawn (commit_finished input (before_commits ask input))
+
+-- The fates of all submitted jobs that a whole poll finds or adds.
+abbrev pub all_fates : PollAsk → PollInput → List (ℕ × JobSpec) → List (ℕ × Fate)
+all_fates ask input drawn = if ask.commits_only then [] else (let p = before_opening ask input drawn in fates input (filter (has_status Submitted) p.jobs) p)
+
+-- The job, if it is opened, moved or drained.
+abbrev pub opened : ℕ × Fate → List ℕ
+opened (id, IsOpened) = id ∷ []
+opened (id, fate) = []
+
+abbrev pub moved : ℕ × Fate → List ℕ
+moved (id, IsMoved) = id ∷ []
+moved (id, fate) = []
+
+abbrev pub drained : ℕ × Fate → List ℕ
+drained (id, IsDrained) = id ∷ []
+drained (id, fate) = []
+
+-- The job with the rule that it fails, if it fails one.
+abbrev pub refused : ℕ × Fate → List (ℕ × ℕ)
+refused (id, Fails rule) = (id, rule) ∷ []
+refused (id, fate) = []
+
 -- The step is a move or a drain, which a poll takes as it opens a job.
 abbrev pub IsAtOnce : Step → Type 0
 IsAtOnce (Join id) = ⊥
@@ -60,8 +110,9 @@ IsAtOnce (Drain id) = ⊤
 
 -- A whole poll frees exactly the stale jobs. Each poll commits, in the order of their ids, exactly the
 -- finished jobs that pass the gate, and each other finished job fails with its rule. The joins of the
--- committed jobs come first among its steps, in this order.
-pub record PollSays (ask : PollAsk) (store : Store) (p : PollState) : Type 0 where
+-- committed jobs come first among its steps, in this order. A whole poll then opens, moves or drains
+-- exactly the submitted jobs that pass their gate, and each other one fails with its rule.
+pub record PollSays (ask : PollAsk) (store : Store) (drawn : List (ℕ × JobSpec)) (p : PollState) : Type 0 where
   pub frees : p.freed ≡ (if ask.commits_only then [] else ids (filter (is_stale ask.options.timeout ask.moment) (stored_jobs store)))
   pub commits : p.done ≡ flat_map passed (all_verdicts ask (input_at ask store))
   pub loses : p.lost ≡ flat_map failed (all_verdicts ask (input_at ask store))
@@ -69,6 +120,10 @@ pub record PollSays (ask : PollAsk) (store : Store) (p : PollState) : Type 0 whe
   pub others : List Step
   pub steps : p.steps ≡ map Join p.done ++ others
   pub at_once : AllByRecursion IsAtOnce others
+  pub opens : p.opened ≡ flat_map opened (all_fates ask (input_at ask store) drawn)
+  pub moves : p.moved ≡ flat_map moved (all_fates ask (input_at ask store) drawn)
+  pub drains : p.drained ≡ flat_map drained (all_fates ask (input_at ask store) drawn)
+  pub refuses : p.refused ≡ flat_map refused (all_fates ask (input_at ask store) drawn)
 
 -- ---- what its commits do to the trees
 
@@ -106,7 +161,7 @@ pub record PollRan (inputs : Inputs) (commits_only : Bool) (n : ℕ) (old : Stat
   pub p : PollState
   pub printed : answer ≡ told_by_poll commits_only p
   pub did : PollDid (poll_ask inputs old coordinator commits_only) old.store new.store p
-  pub says : PollSays (poll_ask inputs old coordinator commits_only) old.store p
+  pub says : PollSays (poll_ask inputs old coordinator commits_only) old.store did.drawn p
   pub right : is_unchanged old.store.manifest p ≡ false → CommitsRight inputs.merge (Coordinator n) old.store p
 
 -- Each poll of a script that is not refused does so.

@@ -28,7 +28,8 @@ pub fn reads_answer()
 /// A poll that is not refused frees exactly the stale jobs. It commits, in the order of their ids,
 /// exactly the finished jobs that pass the gate. Each commit puts one run of the job's rows, under
 /// the settings of one claim, in place of its sources, and all other nodes stay. If a join of the
-/// job took effect before, the trees stay too.
+/// job took effect before, the trees stay too. A whole poll then opens, moves or drains exactly the
+/// submitted jobs that pass their gate.
 pub fn polls_commit()
     ensures { PollsCommit }
 {}
