@@ -142,11 +142,11 @@ unfolding course_of
 only_is inputs number old new n answer one = ap (run_line number old) (sym one.does.is) ∙ one.ends
 
 pub polls_commit : PollsCommit
-polls_commit inputs lines old new false n answer steps then_ran ok =
-    let k = scripts_keep inputs lines old steps then_ran.before in
-    ran inputs then_ran.number false n old k answer new then_ran.before.lawful steps.polls
+polls_commit inputs lines old new false n answer polls_lawful then_ran ok =
+    let k = scripts_keep inputs lines old polls_lawful then_ran.before in
+    ran inputs then_ran.number false n old k answer new then_ran.before.lawful polls_lawful
     (reported inputs then_ran.number false poll_reply n old k answer new (whole_is inputs then_ran.number old new n answer then_ran.step) then_ran.had_room ok)
-polls_commit inputs lines old new true n answer steps then_ran ok =
-    let k = scripts_keep inputs lines old steps then_ran.before in
-    ran inputs then_ran.number true n old k answer new then_ran.before.lawful steps.polls
+polls_commit inputs lines old new true n answer polls_lawful then_ran ok =
+    let k = scripts_keep inputs lines old polls_lawful then_ran.before in
+    ran inputs then_ran.number true n old k answer new then_ran.before.lawful polls_lawful
     (reported inputs then_ran.number true commit_reply n old k answer new (only_is inputs then_ran.number old new n answer then_ran.step) then_ran.had_room ok)

@@ -28,6 +28,7 @@ use Rattle.course_laws.proofs.Finishes.{finishes_are_lawful}
 use Rattle.course_laws.proofs.Releases.{releases_are_lawful}
 use Rattle.after_laws.specs.Behind.{FitsBehind, FitsAfter}
 use Rattle.after_laws.proofs.Beats.{beats_keep_fit}
+use Rattle.after_laws.proofs.Claims.{claims_keep_fit}
 use Rattle.after_laws.proofs.Outputs.{outputs_keep_fit}
 use Rattle.after_laws.proofs.Finishes.{finishes_keep_fit}
 use Rattle.script_model.specs.States.{Inputs, State}
@@ -37,7 +38,6 @@ use Rattle.script_model.specs.WorkLines.{worker_options, running, worker_line, c
 use Rattle.script_model.specs.LineCourses.{attempt_numbered, job_at, range_at}
 use Rattle.script_model.specs.Refusals.{left_in, FinishMay}
 use Rattle.line_laws.specs.Alone.{HadRoom}
-use Rattle.line_laws.specs.Premises.{ClaimsKeepFit}
 use Rattle.line_laws.specs.States.{FleetKeeps, StateKeeps}
 use Rattle.line_laws.proofs.Courses.{Split, split, then_lawful}
 use Rattle.line_laws.proofs.Parties.{found}
@@ -102,8 +102,8 @@ work_keeps {A} merge number s k w step told reported refused lawful holds fewer 
         subst (FleetKeeps merge new) (ap (λ (e : LineEnd). e.parties) ended.is)
         (ends_fit merge number s k w reported refused new ended.answer left quiet (fewer new) (fits new (Gives ended.answer) ended.run))
 
-pub claim_keeps : (merge : Operator) (number n : ℕ) (s : State) (k : StateKeeps merge s) → IsLawful merge → ClaimsKeepFit → HadRoom (run_line number s (claim_line n s)).1.store → StateKeeps merge (run_line number s (claim_line n s)).1
-claim_keeps merge number n s k lawful fit room = by (worker_with n s.parties) refl room
+pub claim_keeps : (merge : Operator) (number n : ℕ) (s : State) (k : StateKeeps merge s) → IsLawful merge → HadRoom (run_line number s (claim_line n s)).1.store → StateKeeps merge (run_line number s (claim_line n s)).1
+claim_keeps merge number n s k lawful room = by (worker_with n s.parties) refl room
   where
     line : Option LiveWorker → LineCourse
     line o = if_some o (no_such_party s) (λ w. worker_line w s (claim (worker_options s.options) s.moment w) (λ r. claim_reply r.begun r.stopped) (λ r. r.attempts) w.attempts)
@@ -114,7 +114,7 @@ claim_keeps merge number n s k lawful fit room = by (worker_with n s.parties) re
         let is = is_worker merge s k n w e in
         let who : Caller = caller_of merge number (Worker w.number) in
         work_keeps merge number s k w (claim (worker_options s.options) s.moment w) (λ r. claim_reply r.begun r.stopped) (λ r. r.attempts) w.attempts lawful is.holds (λ t h. h)
-        (claims_are_lawful who (told_of merge s k) (worker_options s.options) s.moment w (calls_keep merge lawful) k.fleet.store refl) (fit who (told_of merge s k) (worker_options s.options) s.moment w lawful refl refl k.fleet.store is.holds) room
+        (claims_are_lawful who (told_of merge s k) (worker_options s.options) s.moment w (calls_keep merge lawful) k.fleet.store refl) (claims_keep_fit who (told_of merge s k) (worker_options s.options) s.moment w (calls_keep merge lawful) refl k.fleet.store is.holds) room
 
 pub heartbeat_keeps : (merge : Operator) (number n : ℕ) (s : State) (k : StateKeeps merge s) → IsLawful merge → HadRoom (run_line number s (heartbeat_line n s)).1.store → StateKeeps merge (run_line number s (heartbeat_line n s)).1
 heartbeat_keeps merge number n s k lawful room = by (worker_with n s.parties) refl room

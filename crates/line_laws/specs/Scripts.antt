@@ -6,7 +6,7 @@ use Rattle.script_model.specs.Script.{Line, IsInBounds}
 use Rattle.script_model.specs.States.{Inputs, State, FleetOptions, fresh_state}
 use Rattle.script_model.specs.Follows.{ScriptRun}
 use Rattle.line_laws.specs.Alone.{HadRoom}
-use Rattle.line_laws.specs.Premises.{StepsKeep}
+use Rattle.line_laws.specs.Premises.{PollsAreLawful}
 use Rattle.line_laws.specs.States.{StateKeeps}
 
 -- A fresh fleet ran these lines, which are in bounds, and left this state. The operator is lawful, and
@@ -20,7 +20,7 @@ pub record HasRun (inputs : Inputs) (lines : List Line) (last : State) : Type 0 
   pub run : ScriptRun inputs 1 (fresh_state options) lines answers last
   pub had_room : HadRoom last.store
 
--- The state behind each line of a script keeps the invariant, and each live party fits, if the steps
--- that lines take keep it.
+-- The state behind each line of a script keeps the invariant, and each live party fits, if polls are
+-- lawful courses.
 abbrev pub ScriptsKeep : Type 0
-ScriptsKeep = (inputs : Inputs) (lines : List Line) (last : State) → StepsKeep → HasRun inputs lines last → StateKeeps inputs.merge last
+ScriptsKeep = (inputs : Inputs) (lines : List Line) (last : State) → PollsAreLawful → HasRun inputs lines last → StateKeeps inputs.merge last

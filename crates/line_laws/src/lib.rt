@@ -14,7 +14,7 @@ pub fn alone_runs()
 {}
 
 /// The state behind each line keeps the invariant, and each live party fits it, whatever parties
-/// are killed and whatever faults strike. The premises are said of the steps that lines take.
+/// are killed and whatever faults strike. It has a premise on polls.
 pub fn scripts_keep()
     ensures { ScriptsKeep }
 {}
