@@ -40,7 +40,7 @@ use Rattle.commit_laws.proofs.Midway.{Midway}
 
 -- ---- the gate
 
-all_pass : (rules : List (ℕ × Bool)) → first_failing rules ≡ None → AllByRecursion (λ rule. IsTrue rule.1) rules
+pub all_pass : (rules : List (ℕ × Bool)) → first_failing rules ≡ None → AllByRecursion (λ rule. IsTrue rule.1) rules
 all_pass [] e = tt
 all_pass (rule ∷ rules) e = by rule.1 refl (all_pass rules) e
   where
@@ -49,14 +49,14 @@ all_pass (rule ∷ rules) e = by rule.1 refl (all_pass rules) e
     by false f rest e = absurd (cc e)
 
 -- What the gate says of a job that is done at once.
-record Gated (trees : Trees) (others : Jobs) (spec : JobSpec) (id : ℕ) : Type 0 where
-  some : IsTrue (is_nonempty spec.sources)
-  segment : IsTrue (is_some (segment_at spec.segment trees))
-  stretch : IsTrue (is_drain spec || is_whole_stretch (tree_at spec.segment trees) spec.sources)
-  to : IsTrue (destination_fits trees spec.sources spec.destination)
-  free : IsTrue (list_all (λ other. (id == other.id) || not (reserves_nodes other || contains [] other.id) || is_apart (nodes_of spec) (nodes_of other.spec)) others)
+pub record Gated (trees : Trees) (others : Jobs) (spec : JobSpec) (id : ℕ) : Type 0 where
+  pub some : IsTrue (is_nonempty spec.sources)
+  pub segment : IsTrue (is_some (segment_at spec.segment trees))
+  pub stretch : IsTrue (is_drain spec || is_whole_stretch (tree_at spec.segment trees) spec.sources)
+  pub to : IsTrue (destination_fits trees spec.sources spec.destination)
+  pub free : IsTrue (list_all (λ other. (id == other.id) || not (reserves_nodes other || contains [] other.id) || is_apart (nodes_of spec) (nodes_of other.spec)) others)
 
-gated : (trees : Trees) (others : Jobs) (spec : JobSpec) (id : ℕ) → submit_gate trees others [] (λ other. true) (new_job (id, spec)) ≡ None → Gated trees others spec id
+pub gated : (trees : Trees) (others : Jobs) (spec : JobSpec) (id : ℕ) → submit_gate trees others [] (λ other. true) (new_job (id, spec)) ≡ None → Gated trees others spec id
 gated trees others spec id e =
     let all = all_pass (submitted_rules trees others [] (λ other. true) (new_job (id, spec)) (tree_at spec.segment trees)) e in
     record { some = (both_true (is_nonempty spec.sources) (are_distinct spec.sources) all.0).0; segment = all.1.1.0; stretch = all.1.1.1.1.0; to = all.1.1.1.1.1.1.0; free = all.1.1.1.1.1.1.1.0 }
@@ -97,7 +97,7 @@ away_at_once {merge} {told} {specs} {trees} {joined} {spec} {id} b fits other th
 
 -- ---- moves
 
-lowest_of : (trees : Trees) (id : ℕ) (ids : List ℕ) (s : Segment) → IsIn s trees → IsTrue (is_lowest_or_above id ids (all_run_ids trees)) → IsTrue (is_lowest_or_above id ids (run_ids (names s.tree)))
+pub lowest_of : (trees : Trees) (id : ℕ) (ids : List ℕ) (s : Segment) → IsIn s trees → IsTrue (is_lowest_or_above id ids (all_run_ids trees)) → IsTrue (is_lowest_or_above id ids (run_ids (names s.tree)))
 lowest_of trees id [] s there h = all_true_from (λ run. nat_lt run id) (run_ids (names s.tree)) (all_from _ (run_ids (names s.tree)) (λ r one.
     all_at (λ run. IsTrue (nat_lt run id)) (all_run_ids trees) r (all_true_front (λ run. nat_lt run id) (all_run_ids trees) h) (in_flat (λ (x : Segment). run_ids (names x.tree)) trees s r there one)))
 lowest_of trees id (run ∷ ids) s there h = h

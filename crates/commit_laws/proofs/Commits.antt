@@ -95,7 +95,7 @@ matches_stay past manifest o h = by (manifest_with o.manifest.version past) refl
     by None e h = absurd (cc h)
     by (Some m) e h = ap (option_map plain_manifest) (found_front (λ (other : Manifest). o.manifest.version == other.version) past (manifest ∷ []) m e) ∙ h
 
-faithful_behind : (merge : Operator) (told : Told) (specs own : ℕ → JobSpec) (line : ℕ) (party : Party) (steps : List Step) (answer : Answer) → stood answer ≡ true → CommitCase merge told specs own party steps
+pub faithful_behind : (merge : Operator) (told : Told) (specs own : ℕ → JobSpec) (line : ℕ) (party : Party) (steps : List Step) (answer : Answer) → stood answer ≡ true → CommitCase merge told specs own party steps
     → Faithful (with_manifest told (manifest_of told own steps) (entry_of line party steps answer)) specs
 faithful_behind merge told specs own line party steps answer took c = record {
   agrees = all_push _ told.store.history (entry_of line party steps answer) c.body.faithful.agrees tt;

@@ -40,15 +40,15 @@ use Rattle.commit_laws.specs.RunReads.{run_for}
 
 -- ---- what the gate says
 
-record Passed (trees : Trees) (job : Job) : Type 0 where
-  there : AllByRecursion (λ x. names_contain (names (tree_at job.spec.segment trees)) x ≡ true) job.spec.sources
-  tables : source_pieces job.spec.sources (tree_at job.spec.segment trees) ≡ job.source_tables
+pub record Passed (trees : Trees) (job : Job) : Type 0 where
+  pub there : AllByRecursion (λ x. names_contain (names (tree_at job.spec.segment trees)) x ≡ true) job.spec.sources
+  pub tables : source_pieces job.spec.sources (tree_at job.spec.segment trees) ≡ job.source_tables
 
 rule : (number : ℕ) (b : Bool) (rules : List (ℕ × Bool)) → first_failing ((number, b) ∷ rules) ≡ None → (b ≡ true) × (first_failing rules ≡ None)
 rule number true rules e = (refl, e)
 rule number false rules e = absurd (cc e)
 
-passed : (trees : Trees) (job : Job) → commit_gate trees (λ spec. true) job ≡ None → Passed trees job
+pub passed : (trees : Trees) (job : Job) → commit_gate trees (λ spec. true) job ≡ None → Passed trees job
 passed trees job e =
     let same = bytes_eq (source_pieces job.spec.sources (tree_at job.spec.segment trees)) job.source_tables in
     let four = rule 4 (list_all (names_contain (names (tree_at job.spec.segment trees))) job.spec.sources) ((10, same) ∷ (0, true) ∷ []) e in
@@ -134,7 +134,7 @@ map_same f (s ∷ trees) h = let first = h.0 in let rest = map_same f trees h.1 
 
 -- ---- the law
 
-rest_at : (merge : Operator) (told : Told) (trees : Trees) (horizon : ℕ) (joined : List ℕ) (job : Job) → AllByRecursion (λ s. Named s.tree × InOrder s.tree) trees → Rising trees → Passed trees job → JoinStands told.past trees job
+pub rest_at : (merge : Operator) (told : Told) (trees : Trees) (horizon : ℕ) (joined : List ℕ) (job : Job) → AllByRecursion (λ s. Named s.tree × InOrder s.tree) trees → Rising trees → Passed trees job → JoinStands told.past trees job
     → stepped_in told.store.tables (Join job.id) job.spec (concat job.outputs) trees ≡ trees
 rest_at merge told trees horizon joined job fits rise p (Gone t there gone) =
     absurd (never_both (contains (flat_map tree_tables trees) t) (in_contains (flat_map tree_tables trees) t

@@ -119,16 +119,21 @@ fresh_on {B} party line caller x strike told pairs none h =
       once = h.once;
     }
 
--- A job that is stored was mentioned.
-stored_mentioned : (merge : Operator) (told : Told) (id : ℕ) (job : Job) → Keeps merge told → job_with id (stored_jobs told.store) ≡ Some job → IsTrue (is_mentioned told.store.history id)
-stored_mentioned merge told id job kept e =
+-- A job that is stored was named.
+pub stored_named : (merge : Operator) (told : Told) (id : ℕ) (job : Job) → Keeps merge told → job_with id (stored_jobs told.store) ≡ Some job → IsTrue (was_named told.store.history id)
+stored_named merge told id job kept e =
     let found = job_found id (stored_jobs told.store) job e in
-    subst (λ n. IsTrue (is_mentioned told.store.history n)) found.same (named_mentioned told.store.history job.id (all_at (λ (j : Job). IsTrue (was_named told.store.history j.id)) (stored_jobs told.store) job kept.facts.names.named found.there))
+    subst (λ n. IsTrue (was_named told.store.history n)) found.same (all_at (λ (j : Job). IsTrue (was_named told.store.history j.id)) (stored_jobs told.store) job kept.facts.names.named found.there)
 
--- The entry of another party's lawful call mentions no new id of the party.
-others_mention_none : (merge : Operator) (party caller : Party) (line : ℕ) (x : Exchange) (strike : Strike) (told : Told) → caller ≢ party → Keeps merge told → Lawful merge caller told x → (id : ℕ)
-    → IsTrue (drew_job party told.store.history id) → is_mentioned told.store.history id ≡ false → contains (mentioned_in (entry_by line caller x strike told.store)) id ≡ false
-others_mention_none merge party caller line x strike told other kept lawful id drew fresh =
+-- A job that no entry mentions was not named.
+pub not_named : (history : List Entry) (id : ℕ) → is_mentioned history id ≡ false → (b : Bool) → was_named history id ≡ b → was_named history id ≡ false
+not_named history id fresh true e = absurd (refused (is_mentioned history id) fresh (named_mentioned history id e))
+not_named history id fresh false e = e
+
+-- The entry of another party's lawful call mentions no id that the party drew and that no put has named.
+pub others_mention_none : (merge : Operator) (party caller : Party) (line : ℕ) (x : Exchange) (strike : Strike) (told : Told) → caller ≢ party → Keeps merge told → Lawful merge caller told x → (id : ℕ)
+    → IsTrue (drew_job party told.store.history id) → was_named told.store.history id ≡ false → contains (mentioned_in (entry_by line caller x strike told.store)) id ≡ false
+others_mention_none merge party caller line x strike told other kept lawful id drew unnamed =
     contains_no (mentioned_in (entry_by line caller x strike told.store)) id (λ there. at x lawful (in_append id (firsts (named_specs (event_of x told.store))) _ there))
   where
     not_theirs : IsTrue (drew_job caller told.store.history id) → ⊥
@@ -145,7 +150,7 @@ others_mention_none merge party caller line x strike told other kept lawful id d
           where
             known_none : job_with id (stored_jobs told.store) ≡ None → IsKnownTo caller told specs id → IsTrue (drew_job caller told.store.history id)
             known_none e known = (rw e at known).0
-        look (Some job) e = refused (is_mentioned told.store.history id) fresh (stored_mentioned merge told id job kept e)
+        look (Some job) e = refused (was_named told.store.history id) unnamed (stored_named merge told id job kept e)
 
     in_steps : (version : ℕ) (change : ManifestChange) (value : Manifest) (took : Bool) → stood (answer_by (PutsManifest version change value) strike told.store) ≡ took → Lawful merge caller told (PutsManifest version change value)
         → IsIn id (cond took (steps_in (PutManifest change)) []) → ⊥
@@ -180,7 +185,7 @@ others_mention_none merge party caller line x strike told other kept lawful id d
 pub rivals_fresh : {B : Type 0} (who : Caller) (pairs : List (ℕ × B)) (old new : Told) → CallsKeep who.merge → Keeps who.merge old → Rivals who old new → AreFresh who.party old pairs → AreFresh who.party new pairs
 rivals_fresh who pairs old new keep kept rivals h =
     rivals_hold who (λ told. AreFresh who.party told pairs) keep (λ told call there rival one. fresh_on who.party call.line call.party call.exchange call.strike told pairs
-    (λ id drew fresh. others_mention_none who.merge who.party call.party call.line call.exchange call.strike told rival.other there rival.lawful id drew fresh) one) old new kept rivals h
+    (λ id drew fresh. others_mention_none who.merge who.party call.party call.line call.exchange call.strike told rival.other there rival.lawful id drew (not_named told.store.history id fresh (was_named told.store.history id) refl)) one) old new kept rivals h
 
 -- ---- draws
 
@@ -235,7 +240,7 @@ event_same tables one other (PutManifest (Flush name segment floor tick)) o same
 event_same tables one other (PutRecords change) o same = refl
 event_same tables one other event o same = refl
 
-entry_same : (tables : Tables) (one other : ℕ → JobSpec) (entry : Entry) (o : Objects) → SameFor one other entry → after_entry tables one entry o ≡ after_entry tables other entry o
+pub entry_same : (tables : Tables) (one other : ℕ → JobSpec) (entry : Entry) (o : Objects) → SameFor one other entry → after_entry tables one entry o ≡ after_entry tables other entry o
 entry_same tables one other entry o same = by (stood entry.answer) (all_back (λ id. one id ≡ other id) (firsts (named_specs entry.event)) _ same)
   where
     by : (took : Bool) → AllByRecursion (λ id. one id ≡ other id) (cond took (steps_in entry.event) []) → cond took (after_event tables one entry.event o) o ≡ cond took (after_event tables other entry.event o) o
@@ -275,8 +280,4 @@ pub names_fit : (party : Party) (told : Told) (named : List (ℕ × JobSpec)) �
 names_fit party told named h = record { once = h.once; drawn = h.drawn; replays = λ specs faithful. fresh_faithful told named specs h.fresh faithful }
 
 pub are_new : (party : Party) (told : Told) (named : List (ℕ × JobSpec)) → AreFresh party told named → AreNew told named
-are_new party told named h = all_to _ _ named (λ p there fresh. by p fresh (was_named told.store.history p.0) refl) h.fresh
-  where
-    by : (p : ℕ × JobSpec) → is_mentioned told.store.history p.0 ≡ false → (b : Bool) → was_named told.store.history p.0 ≡ b → was_named told.store.history p.0 ≡ false
-    by p fresh true e = absurd (refused (is_mentioned told.store.history p.0) fresh (named_mentioned told.store.history p.0 e))
-    by p fresh false e = e
+are_new party told named h = all_to _ _ named (λ p there fresh. not_named told.store.history p.0 fresh (was_named told.store.history p.0) refl) h.fresh

@@ -47,17 +47,17 @@ epoch_said n false event e is = absurd (cc is)
 epoch_said n true event e is = absurd (cc e)
 
 -- Each epoch was put by one party.
-one_put : (epoch : ℕ) (history : List Entry) (n : ℕ) (one other : Party) → EpochsKept epoch history → IsTrue (did_put_epoch one history n) → IsTrue (did_put_epoch other history n) → one ≡ other
+pub one_put : (epoch : ℕ) (history : List Entry) (n : ℕ) (one other : Party) → EpochsKept epoch history → IsTrue (did_put_epoch one history n) → IsTrue (did_put_epoch other history n) → one ≡ other
 one_put epoch history n one other k first second =
     same_party (puts_epoch n) (λ (e : Entry). epoch_in (stood e.answer) e.event) (λ a b. a < b) n one other history (λ low. absurd (omega (arith, low))) (λ e is took. epoch_said n (stood e.answer) e.event is took) k.rise first second
 
 -- An epoch that was put is at most the stored one.
-put_low : (epoch : ℕ) (history : List Entry) (n : ℕ) (party : Party) → EpochsKept epoch history → IsTrue (did_put_epoch party history n) → n ≤ epoch
+pub put_low : (epoch : ℕ) (history : List Entry) (n : ℕ) (party : Party) → EpochsKept epoch history → IsTrue (did_put_epoch party history n) → n ≤ epoch
 put_low epoch history n party k did =
     let found = did_entry (puts_epoch n) party history did in
     all_at (λ put. put ≤ epoch) (put_epochs history) n k.up_to (in_flat (λ (e : Entry). epoch_in (stood e.answer) e.event) history found.entry n found.there (epoch_said n (stood found.entry.answer) found.entry.event found.kind found.took))
 
-put_grows : (party : Party) (history : List Entry) (entry : Entry) (n : ℕ) → IsTrue (did_put_epoch party history n) → IsTrue (did_put_epoch party (history ++ entry ∷ []) n)
+pub put_grows : (party : Party) (history : List Entry) (entry : Entry) (n : ℕ) → IsTrue (did_put_epoch party history n) → IsTrue (did_put_epoch party (history ++ entry ∷ []) n)
 put_grows party history entry n h = any_front (λ (e : Entry). party_eq party e.party && puts_epoch n e.event && stood e.answer) history (entry ∷ []) h
 
 -- ---- an entry alone
@@ -65,6 +65,7 @@ put_grows party history entry n h = any_front (λ (e : Entry). party_eq party e.
 knows_noted : (told : Told) (c : LiveCoordinator) (local : Option Local) (tables : Tables) (deleted : List ℕ) (jobs_drawn tables_drawn : ℕ) (past : List Manifest) (entry : Entry) → CoordinatorHolds told c local
     → CoordinatorHolds (record { store = record told.store { tables = tables; deleted = deleted; jobs_drawn = jobs_drawn; tables_drawn = tables_drawn; history = told.store.history ++ entry ∷ [] }; past = past }) c local
 knows_noted told c local tables deleted jobs_drawn tables_drawn past entry h = record {
+  counted = h.counted;
   put = put_grows (Coordinator c.number) told.store.history entry c.epoch h.put;
   recorded = h.recorded;
   merges = λ manifest records. merges local (h.merges manifest records);
@@ -90,6 +91,7 @@ TreesFollow told c manifest = manifest.epoch ≤ c.epoch → records_epoch told.
 knows_manifest : (told : Told) (c : LiveCoordinator) (local : Option Local) (manifest : Manifest) (entry : Entry) → told.store.manifest.epoch ≤ manifest.epoch → TreesFollow told c manifest → CoordinatorHolds told c local
     → CoordinatorHolds (with_manifest told manifest entry) c local
 knows_manifest told c local manifest entry rises follow h = record {
+  counted = h.counted;
   put = put_grows (Coordinator c.number) told.store.history entry c.epoch h.put;
   recorded = h.recorded;
   merges = λ low records. merges local low records (h.known (omega (arith, rises, low)) records) (h.merges (omega (arith, rises, low)) records);
@@ -104,7 +106,7 @@ knows_manifest told c local manifest entry rises follow h = record {
     known None low records k m = tt
     known (Some l) low records k m = record { segments = (follow low records l k m.trees).1; jobs = all_to _ _ l.records.jobs (λ job there named. named_grows told.store.history entry job.id named) k.jobs }
 
-manifest_epoch : (told : Told) (party : Party) (change : ManifestChange) (value : Manifest) → ManifestFits party told change value → told.store.manifest.epoch ≤ value.epoch
+pub manifest_epoch : (told : Told) (party : Party) (change : ManifestChange) (value : Manifest) → ManifestFits party told change value → told.store.manifest.epoch ≤ value.epoch
 manifest_epoch told party (ManifestEpoch epoch) value fits = let above = fits.above in let same : value.epoch ≡ epoch = ap (λ (m : Manifest). m.epoch) fits.makes in omega (arith, above, same)
 manifest_epoch told party (Flush name segment floor tick) value fits = let same : value.epoch ≡ told.store.manifest.epoch = ap (λ (m : Manifest). m.epoch) fits.makes in omega (arith, same)
 manifest_epoch told party (Commit steps) value fits = let same : value.epoch ≡ told.store.manifest.epoch = ap (λ (m : Manifest). m.epoch) fits.makes in omega (arith, same)
@@ -140,6 +142,7 @@ JobsFollow told c epoch jobs = epoch ≤ c.epoch → (local : Local) → LocalIs
 knows_records : (told : Told) (c : LiveCoordinator) (local : Option Local) (records : Records) (entry : Entry) → records_epoch told.store.records ≤ records.epoch → JobsFollow told c records.epoch records.jobs → CoordinatorHolds told c local
     → CoordinatorHolds (with_records told records entry) c local
 knows_records told c local records entry rises follow h = record {
+  counted = h.counted;
   put = put_grows (Coordinator c.number) told.store.history entry c.epoch h.put;
   recorded = let low = h.recorded in omega (arith, low, rises);
   merges = λ manifest low. merges local low (h.known manifest (omega (arith, rises, low))) (h.merges manifest (omega (arith, rises, low)));
@@ -195,7 +198,7 @@ worker_follows merge told specs c epoch f attempts jobs b ids takes opened made 
       takes = takes;
     }) b.trimmed_already m)
 
-waiting_open : (job : Job) → IsTrue (is_waiting job) → IsTrue (is_open job.status)
+pub waiting_open : (job : Job) → IsTrue (is_waiting job) → IsTrue (is_open job.status)
 waiting_open job h = by (has_status Scheduled job) (has_status Running job) h
   where
     by : (a b : Bool) → IsTrue (a && is_none job.lease) → IsTrue (a || b)

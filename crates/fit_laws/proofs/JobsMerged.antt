@@ -247,7 +247,7 @@ put_trimmed new (job ∷ jobs) is active h = by (nat_lt new.id job.id) (put_trim
     by true rest = (inl active, h)
     by false rest = (last h.0, rest)
 
-new_trimmed : (named : List (ℕ × JobSpec)) (jobs : Jobs) → IsTrimmed jobs → IsTrimmed (with_new named jobs)
+pub new_trimmed : (named : List (ℕ × JobSpec)) (jobs : Jobs) → IsTrimmed jobs → IsTrimmed (with_new named jobs)
 new_trimmed [] jobs h = h
 new_trimmed (p ∷ named) jobs h = new_trimmed named (put_job (new_job p) jobs) (put_trimmed (new_job p) jobs refl refl h)
 

@@ -44,7 +44,7 @@ epoch_spares merge told specs party n epoch value b fits = subst (λ (m : Manife
 
 -- ---- a flush
 
-differ_on : (merge : Operator) (told : Told) (specs : ℕ → JobSpec) (name : ℕ) (job : Job) → Body merge told specs → was_flushed told.store.history name ≡ false → SourcesStand told.store.manifest.trees job → Differ name job.spec.sources
+pub differ_on : (merge : Operator) (told : Told) (specs : ℕ → JobSpec) (name : ℕ) (job : Job) → Body merge told specs → was_flushed told.store.history name ≡ false → SourcesStand told.store.manifest.trees job → Differ name job.spec.sources
 differ_on merge told specs name job b once stand = all_to _ _ job.spec.sources (λ x there named. source_differs told.store.history name x once
     (node_flushed told.store.history (tree_at job.spec.segment told.store.manifest.trees) x
     (tree_has (λ tree. AllByRecursion (λ node. IsFlush told.store.history node node.name) tree) job.spec.segment told.store.manifest.trees tt b.nodes.flushes) named))

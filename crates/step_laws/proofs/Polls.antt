@@ -39,7 +39,7 @@ use Rattle.step_laws.proofs.WorkerPuts.{Named, stored_as}
 abbrev pub poll_on : Unrecorded → PollChange → Job → Job
 poll_on u change job = on_these to_failed change.failed (on_these to_completed change.completed (on_these (to_scheduled u.tables_of) change.scheduled (on_these to_waiting change.freed job)))
 
-poll_map : (u : Unrecorded) (change : PollChange) (jobs : Jobs)
+pub poll_map : (u : Unrecorded) (change : PollChange) (jobs : Jobs)
     → changed to_failed change.failed (changed to_completed change.completed (changed (to_scheduled u.tables_of) change.scheduled (changed to_waiting change.freed jobs))) ≡ map (poll_on u change) jobs
 poll_map u change [] = refl
 poll_map u change (job ∷ jobs) = ap (λ js. poll_on u change job ∷ js) (poll_map u change jobs)

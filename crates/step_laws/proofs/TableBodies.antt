@@ -90,7 +90,7 @@ pub record NodePut (tables : Tables) (node : Node) : Type 0 where
   pub pieces : IsTrue (list_all (is_among tables) node.pieces)
   pub flushes : IsTrue (list_all (is_among tables) node.flushes)
 
-tree_stays : (tables : Tables) (new : ℕ × List Row) (s : Segment) → AllByRecursion (NodePut tables) s.tree → IsTree tables s → IsTree (tables ++ new ∷ []) s
+pub tree_stays : (tables : Tables) (new : ℕ × List Row) (s : Segment) → AllByRecursion (NodePut tables) s.tree → IsTree tables s → IsTree (tables ++ new ∷ []) s
 tree_stays tables new s put h = record {
   names_in_order = h.names_in_order;
   newest_first = pairs_to _ _ s.tree (λ a b one other newer. newer_stays a b (rows a one) (rows b other) newer) h.newest_first;
@@ -104,7 +104,7 @@ tree_stays tables new s put h = record {
     newer_stays : (a b : Node) → node_and_flushed_rows (tables ++ new ∷ []) a ≡ node_and_flushed_rows tables a → node_and_flushed_rows (tables ++ new ∷ []) b ≡ node_and_flushed_rows tables b → IsNewer tables a b → IsNewer (tables ++ new ∷ []) a b
     newer_stays a b first second newer = rw (first, second) newer
 
-reads_stay : (merge : Operator) (store : Store) (new : ℕ × List Row) (tree : Tree) → AllByRecursion (NodePut store.tables) tree → TreeKeepsReads merge store tree → TreeKeepsReads merge (record store { tables = store.tables ++ new ∷ [] }) tree
+pub reads_stay : (merge : Operator) (store : Store) (new : ℕ × List Row) (tree : Tree) → AllByRecursion (NodePut store.tables) tree → TreeKeepsReads merge store tree → TreeKeepsReads merge (record store { tables = store.tables ++ new ∷ [] }) tree
 reads_stay merge store new [] put h = tt
 reads_stay merge store new (node ∷ []) put h = λ key. rw (node_stays store.tables new node put.0.pieces, flushes_stay store.tables new node put.0.flushes) (h key)
 reads_stay merge store new (node ∷ other ∷ tree) put h =

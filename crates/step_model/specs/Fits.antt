@@ -90,10 +90,11 @@ abbrev pub KnownIfThere : Told → Option Local → Type 0
 KnownIfThere told None = ⊤
 KnownIfThere told (Some local) = LocalIsKnown told local
 
--- A coordinator put its epoch into the manifest, and the records have this epoch or a later one. If
--- no stored epoch is above its own, its local state says nothing else than what is stored, and its
--- segments and jobs are known.
+-- A coordinator put its epoch into the manifest, and the records have this epoch or a later one.
+-- Epochs are counted from 1, so there are records. If no stored epoch is above its own, its local
+-- state says nothing else than what is stored, and its segments and jobs are known.
 pub record CoordinatorHolds (told : Told) (c : LiveCoordinator) (local : Option Local) : Type 0 where
+  pub counted : 0 < c.epoch
   pub put : IsTrue (did_put_epoch (Coordinator c.number) told.store.history c.epoch)
   pub recorded : c.epoch ≤ records_epoch told.store.records
   pub merges : told.store.manifest.epoch ≤ c.epoch → records_epoch told.store.records ≤ c.epoch → MergesIfThere local told.store

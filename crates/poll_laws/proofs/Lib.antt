@@ -1,0 +1,14 @@
+pub mod Marks
+pub mod Jobs
+pub mod Gates
+pub mod Reached
+pub mod Opens
+pub mod Stages
+pub mod RecordsPut
+pub mod Quiet
+pub mod Transfer
+pub mod Names
+pub mod Adoption
+pub mod Tries
+pub mod Polls
+pub mod Course

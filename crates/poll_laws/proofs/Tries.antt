@@ -1,0 +1,216 @@
+-- The puts of the records by which a poll ends: each is lawful, whatever newer records it merged in between.
+use Rattle.std.proofs.Common.{◌≡◌, refl, sym, ◌∙◌, ap, subst, ℕ, zero, suc, ◌+◌, ◌<◌, ◌≤◌, List, [], cond, Bool, true, false, Option, Some, None, arith}
+use Rattle.std.specs.Prelude.{IsTrue, ◌==◌, nat_lt}
+use Rattle.std.specs.List.{AllByRecursion}
+use Rattle.std.proofs.lemmas.Bool.{ltb-false}
+use Rattle.row_model.specs.Lists.{Pairs}
+use Rattle.fleet_model.specs.Jobs.{JobSpec, Job, Jobs, Scheduled, has_status, job_with, trimmed}
+use Rattle.fleet_model.specs.History.{Party, GetRecords, PutRecords, RecordChange, Polled, Conflict, Done, Entry, stood}
+use Rattle.fleet_model.specs.Store.{Records, stored_jobs, jobs_in, records_epoch}
+use Rattle.fleet_model.specs.JobsFit.{SourcesStand}
+use Rattle.fleet_model.specs.PollStates.{PollState}
+use Rattle.fleet_model.specs.Polls.{change_of, is_nothing}
+use Rattle.fleet_model.specs.Exchanges.{Plain, PutsRecords, records_version, logged, answer_of}
+use Rattle.step_model.specs.Past.{Told, told_after}
+use Rattle.step_model.specs.Entries.{was_named, did_put_epoch}
+use Rattle.step_model.specs.Lawful.{Lawful}
+use Rattle.step_model.specs.Rivals.{Caller, Rivals, told_by}
+use Rattle.step_model.specs.Keeps.{Keeps}
+use Rattle.step_model.specs.CourseRuns.{IsLawfulCourse}
+use Rattle.step_model.specs.Course.{Ends, gets_records, puts_records}
+use Rattle.step_model.specs.PollSteps.{puts_polled, merged_into, records_or_none, unless_fenced}
+use Rattle.step_model.specs.StepEnds.{Reports, GivesUp, Fenced}
+use Rattle.step_laws.specs.Runs.{CallsKeep}
+use Rattle.step_laws.proofs.Elements.{IsIn, all_at, all_to}
+use Rattle.step_laws.proofs.Changed.{found_job}
+use Rattle.step_laws.proofs.MuteBodies.{entered}
+use Rattle.step_laws.proofs.Quiet.{told_entered}
+use Rattle.fit_laws.proofs.Coordinators.{put_grows}
+use Rattle.course_laws.proofs.Calls.{behind}
+use Rattle.course_laws.proofs.Later.{Later, later_itself, later_by, later_then, rivals_later}
+use Rattle.course_laws.proofs.NewIds.{stored_named}
+use Rattle.course_laws.proofs.Puts.{got_records}
+use Rattle.poll_laws.proofs.Jobs.{Among, JobsReached}
+use Rattle.poll_laws.proofs.RecordsPut.{put_fits}
+use Rattle.poll_laws.proofs.Quiet.{Moves, moves_itself, moves_on, Quiet, HasEpoch, rivals_after}
+use Rattle.poll_laws.proofs.Names.{MayName, fits_to_name, rivals_named, own_noted, own_refused}
+use Rattle.poll_laws.proofs.Adoption.{Adopts, merged_reached, merged_opened}
+
+-- What is so of the poll's state as long as no later epoch is in the records: its jobs are marks of those that it got, the stored jobs are those
+-- that these moved to, and the sources of the jobs that it opened stand.
+pub record Good (told : Told) (got : Records) (p : PollState) : Type 0 where
+  pub reached : JobsReached got.jobs p
+  pub moves : Moves got.jobs (stored_jobs told.store)
+  pub opened : AllByRecursion (Among (λ job. IsTrue (has_status Scheduled job) × SourcesStand told.store.manifest.trees job) p.jobs) p.opened
+
+-- The poll is about to put the records. `base` is a store that had the records that it got.
+pub record Puts (who : Caller) (e : ℕ) (base : Told) (got : Records) (p : PollState) (told : Told) : Type 0 where
+  pub kept : Keeps who.merge told
+  pub own : HasEpoch who.party e told
+  pub names : MayName who.party told p.added
+  pub rise : Pairs (λ a b. a.id < b.id) got.jobs
+  pub epoch : got.epoch ≡ e
+  pub is_got : base.store.records ≡ Some got
+  pub later : Later base told
+  pub good : records_epoch told.store.records ≤ e → Good told got p
+
+stands_on : (old new : Told) (p : PollState) → Quiet old new → AllByRecursion (Among (λ job. IsTrue (has_status Scheduled job) × SourcesStand old.store.manifest.trees job) p.jobs) p.opened
+    → AllByRecursion (Among (λ job. IsTrue (has_status Scheduled job) × SourcesStand new.store.manifest.trees job) p.jobs) p.opened
+stands_on old new p q h = all_to _ _ p.opened (λ id there found. (found.0, (found.1.0, (found.1.1.0, (found.1.1.1.0, q.stand found.0 found.1.1.1.1))))) h
+
+good_on : (old new : Told) (got : Records) (p : PollState) → Quiet old new → Good old got p → Good new got p
+good_on old new got p q g = record { reached = g.reached; moves = moves_on got.jobs (stored_jobs old.store) (stored_jobs new.store) g.moves q.jobs; opened = stands_on old new p q g.opened }
+
+puts_met : (who : Caller) (e : ℕ) (base : Told) (got : Records) (p : PollState) (old new : Told) → CallsKeep who.merge → Puts who e base got p old → Rivals who old new → Puts who e base got p new
+puts_met who e base got p old new keep s rivals =
+    let a = rivals_after who e old new keep s.kept s.own rivals in
+    let rises = a.rises in
+    record {
+      kept = a.kept;
+      own = a.own;
+      names = rivals_named who p.added old new keep s.kept rivals s.names;
+      rise = s.rise;
+      epoch = s.epoch;
+      is_got = s.is_got;
+      later = later_then base old new s.later (rivals_later who old new rivals);
+      good = λ low. good_on old new got p (a.quiet low) (s.good (omega (arith, rises, low)));
+    }
+
+-- ---- the put
+
+fits_put : (who : Caller) (e : ℕ) (base : Told) (got : Records) (p : PollState) (told : Told) → Puts who e base got p told → Lawful who.merge who.party told (PutsRecords got.version (Polled (change_of p)) got.epoch (trimmed p.jobs))
+fits_put who e base got p told s = (
+  fits_to_name who.party told p.added s.names,
+  λ version.
+      let same = got_records base told (Some got) s.is_got s.later version in
+      let stored : records_epoch told.store.records ≡ got.epoch = ap records_epoch same in
+      let is = s.epoch in
+      let g = s.good (omega (arith, stored, is)) in
+      put_fits who.merge who.party told got p s.rise (record { reached = g.reached; stored = same; by = subst (λ n. IsTrue (did_put_epoch who.party told.store.history n)) (sym is) s.own.put; opened = g.opened; new = s.names.unnamed }),
+)
+
+-- A put of the records that is refused leaves its entry alone.
+refused_is : (line : ℕ) (party : Party) (told : Told) (version : ℕ) (change : RecordChange) (epoch : ℕ) (jobs : Jobs) → (version == records_version told.store.records) ≡ false
+    → told_by line party (PutsRecords version change epoch jobs) None told
+    ≡ entered told told.store.deleted told.store.jobs_drawn told.store.tables_drawn (record { line = line; party = party; event = PutRecords change; answer = Conflict (records_version told.store.records) })
+refused_is line party told version change epoch jobs other = by (version == records_version told.store.records) other
+  where
+    by : (b : Bool) → b ≡ false
+        → told_after told (logged line party (PutRecords change) (cond b (Done (records_version told.store.records + 1)) (Conflict (records_version told.store.records))) (cond b (record told.store { records = Some (record { version = version + 1; epoch = epoch; jobs = jobs }) }) told.store))
+        ≡ entered told told.store.deleted told.store.jobs_drawn told.store.tables_drawn (record { line = line; party = party; event = PutRecords change; answer = Conflict (records_version told.store.records) })
+    by true e = absurd (cc e)
+    by false e = told_entered told told.store.deleted told.store.jobs_drawn told.store.tables_drawn (record { line = line; party = party; event = PutRecords change; answer = Conflict (records_version told.store.records) })
+
+-- An entry that names no other jobs leaves the poll's state.
+good_entered : (told : Told) (entry : Entry) (got : Records) (p : PollState) → Good told got p → Good (entered told told.store.deleted told.store.jobs_drawn told.store.tables_drawn entry) got p
+good_entered told entry got p g = record { reached = g.reached; moves = g.moves; opened = g.opened }
+
+pub epoch_entered : (party : Party) (e : ℕ) (told : Told) (entry : Entry) → HasEpoch party e told → HasEpoch party e (entered told told.store.deleted told.store.jobs_drawn told.store.tables_drawn entry)
+epoch_entered party e told entry own = record { put = put_grows party told.store.history entry e own.put; recorded = own.recorded }
+
+puts_refused : (who : Caller) (e : ℕ) (base : Told) (got : Records) (p : PollState) (told : Told) → CallsKeep who.merge → Puts who e base got p told → (got.version == records_version told.store.records) ≡ false
+    → Puts who e base got p (told_by who.line who.party (PutsRecords got.version (Polled (change_of p)) got.epoch (trimmed p.jobs)) None told)
+puts_refused who e base got p told keep s other =
+    let x = PutsRecords got.version (Polled (change_of p)) got.epoch (trimmed p.jobs) in
+    let entry : Entry = record { line = who.line; party = who.party; event = PutRecords (Polled (change_of p)); answer = Conflict (records_version told.store.records) } in
+    let is = refused_is who.line who.party told got.version (Polled (change_of p)) got.epoch (trimmed p.jobs) other in
+    let kept = behind who x told keep s.kept (fits_put who e base got p told s) in
+    let later = later_then base told (told_by who.line who.party x None told) s.later (later_by who.line who.party x None told) in
+    subst (Puts who e base got p) (sym is) (record {
+      kept = subst (Keeps who.merge) is kept;
+      own = epoch_entered who.party e told entry s.own;
+      names = own_refused who.party told p.added entry refl refl s.names;
+      rise = s.rise;
+      epoch = s.epoch;
+      is_got = s.is_got;
+      later = subst (Later base) is later;
+      good = λ low. good_entered told entry got p (s.good low);
+    })
+
+-- ---- newer records
+
+-- The state behind the get of newer records and their merge.
+puts_merged : (who : Caller) (e : ℕ) (base : Told) (got newer : Records) (p : PollState) (told : Told) → CallsKeep who.merge → Puts who e base got p told → told.store.records ≡ Some newer → newer.epoch ≤ e
+    → Puts who e (told_by who.line who.party (Plain GetRecords) None told) newer (merged_into p newer.jobs) (told_by who.line who.party (Plain GetRecords) None told)
+puts_merged who e base got newer p told keep s is low =
+    let entry : Entry = record { line = who.line; party = who.party; event = GetRecords; answer = answer_of (Plain GetRecords) told.store } in
+    let same = told_entered told told.store.deleted told.store.jobs_drawn told.store.tables_drawn entry in
+    let kept = behind who (Plain GetRecords) told keep s.kept tt in
+    let stored : records_epoch told.store.records ≡ newer.epoch = ap records_epoch is in
+    let recorded = s.own.recorded in
+    let g = s.good (omega (arith, stored, low)) in
+    let a : Adopts got.jobs newer.jobs p = record { reached = g.reached; moves = subst (λ r. Moves got.jobs (jobs_in r)) is g.moves; rise = rise; once = s.names.once; new = new } in
+    subst (λ t. Puts who e t newer (merged_into p newer.jobs) t) (sym same) (record {
+      kept = subst (Keeps who.merge) same kept;
+      own = epoch_entered who.party e told entry s.own;
+      names = own_noted who.party told told.store.jobs_drawn told.store.tables_drawn p.added entry (none (stood entry.answer)) s.names;
+      rise = rise;
+      epoch = omega (arith, stored, recorded, low);
+      is_got = is;
+      later = later_itself (entered told told.store.deleted told.store.jobs_drawn told.store.tables_drawn entry);
+      good = λ lower. record {
+        reached = merged_reached got.jobs newer.jobs p a;
+        moves = subst (λ r. Moves newer.jobs (jobs_in r)) (sym is) (moves_itself newer.jobs);
+        opened = merged_opened got.jobs newer.jobs p a told.store.manifest.trees g.opened;
+      };
+    })
+  where
+    none : (b : Bool) → cond {A = List ℕ} b [] [] ≡ []
+    none true = refl
+    none false = refl
+
+    rise : Pairs (λ a b. a.id < b.id) newer.jobs
+    rise = subst (λ r. Pairs (λ (a b : Job). a.id < b.id) (jobs_in r)) is s.kept.stored.sound.job_ids
+
+    clash : (b : Bool) → b ≡ false → IsTrue b → ⊥
+    clash true e h = absurd (cc e)
+    clash false e h = absurd (cc h)
+
+    new : (q : ℕ × JobSpec) (job : Job) → IsIn q p.added → IsIn job newer.jobs → q.0 ≡ job.id → ⊥
+    new q job there one same = clash (was_named told.store.history q.0) (all_at (λ (x : ℕ × JobSpec). was_named told.store.history x.0 ≡ false) p.added q s.names.unnamed there)
+        (subst (λ n. IsTrue (was_named told.store.history n)) (sym same) (stored_named who.merge told job.id job s.kept (ap (λ r. job_with job.id (jobs_in r)) is ∙ found_job newer.jobs job rise one)))
+
+-- ---- all tries
+
+-- What comes behind a refused put, if a further put is lawful.
+abbrev Further : Caller → ℕ → ℕ → Type 0
+Further who e left = (base : Told) (got : Records) (p : PollState) (seen : ℕ) (told : Told) → Puts who e base got p told → IsLawfulCourse who told (puts_polled e p got left seen)
+
+over_newer : (who : Caller) (e left seen : ℕ) (base : Told) (got : Records) (p : PollState) (met : Told) → CallsKeep who.merge → 0 < e → Further who e left → Puts who e base got p met → (records : Option Records) → met.store.records ≡ records
+    → IsLawfulCourse who (told_by who.line who.party (Plain GetRecords) None met) (unless_fenced e (records_or_none records).epoch (puts_polled e (merged_into p (records_or_none records).jobs) (records_or_none records) left seen))
+over_newer who e left seen base got p met keep counted further s None is =
+    let recorded = s.own.recorded in
+    let none : records_epoch met.store.records ≡ 0 = ap records_epoch is in
+    absurd (omega (arith, recorded, none, counted))
+over_newer who e left seen base got p met keep counted further s (Some newer) is = by (nat_lt e newer.epoch) refl
+  where
+    by : (b : Bool) → nat_lt e newer.epoch ≡ b → IsLawfulCourse who (told_by who.line who.party (Plain GetRecords) None met) (cond b (Ends (Fenced newer.epoch)) (puts_polled e (merged_into p newer.jobs) newer left seen))
+    by true f = tt
+    by false f = further _ newer (merged_into p newer.jobs) seen _ (puts_merged who e base got newer p met keep s is (ltb-false e newer.epoch f))
+
+after_put : (who : Caller) (e left : ℕ) (base : Told) (got : Records) (p : PollState) (met : Told) → CallsKeep who.merge → 0 < e → Further who e left → Puts who e base got p met → (b : Bool) → (got.version == records_version met.store.records) ≡ b
+    → IsLawfulCourse who (told_by who.line who.party (PutsRecords got.version (Polled (change_of p)) got.epoch (trimmed p.jobs)) None met)
+    (cond b (Ends (Reports p)) (cond (left == 0) (Ends (GivesUp (records_version met.store.records))) (gets_records (λ newer. let got = records_or_none newer in
+    unless_fenced e got.epoch (puts_polled e (merged_into p got.jobs) got left (records_version met.store.records))))))
+after_put who e left base got p met keep counted further s true same = tt
+after_put who e left base got p met keep counted further s false other = by (left == 0)
+  where
+    after : Told
+    after = told_by who.line who.party (PutsRecords got.version (Polled (change_of p)) got.epoch (trimmed p.jobs)) None met
+
+    by : (b : Bool) → IsLawfulCourse who after (cond b (Ends (GivesUp (records_version met.store.records))) (gets_records (λ newer. let got = records_or_none newer in
+        unless_fenced e got.epoch (puts_polled e (merged_into p got.jobs) got left (records_version met.store.records)))))
+    by true = tt
+    by false = λ next rivals room.
+        (tt, over_newer who e left (records_version met.store.records) base got p next keep counted further (puts_met who e base got p after next keep (puts_refused who e base got p met keep s other) rivals) next.store.records refl)
+
+pub puts_lawful : (who : Caller) (e : ℕ) → CallsKeep who.merge → 0 < e → (left : ℕ) (base : Told) (got : Records) (p : PollState) (seen : ℕ) (told : Told) → Puts who e base got p told → IsLawfulCourse who told (puts_polled e p got left seen)
+puts_lawful who e keep counted zero base got p seen told s = tt
+puts_lawful who e keep counted (suc left) base got p seen told s = by (is_nothing (change_of p)) (λ base got p seen told s. puts_lawful who e keep counted left base got p seen told s)
+  where
+    by : (b : Bool) → Further who e left → IsLawfulCourse who told (cond b (Ends (Reports p)) (puts_records got (Polled (change_of p)) got.epoch (trimmed p.jobs) (Ends (Reports p)) (λ seen.
+        cond (left == 0) (Ends (GivesUp seen)) (gets_records (λ newer. let got = records_or_none newer in unless_fenced e got.epoch (puts_polled e (merged_into p got.jobs) got left seen))))))
+    by true further = tt
+    by false further = λ met rivals room.
+        let there = puts_met who e base got p told met keep s rivals in
+        (fits_put who e base got p met there, after_put who e left base got p met keep counted further there (got.version == records_version met.store.records) refl)

@@ -1,0 +1,18 @@
+-- The law on polls.
+use Rattle.std.specs.Prelude.{◌≡◌, ℕ, Option}
+use Rattle.row_model.specs.Fold.{IsLawful}
+use Rattle.fleet_model.specs.History.{Coordinator}
+use Rattle.step_model.specs.Past.{Told}
+use Rattle.step_model.specs.Merging.{Local}
+use Rattle.step_model.specs.Rivals.{Caller}
+use Rattle.step_model.specs.Keeps.{Keeps}
+use Rattle.step_model.specs.Fits.{CoordinatorHolds}
+use Rattle.step_model.specs.CourseRuns.{IsLawfulCourse}
+use Rattle.step_model.specs.PollSteps.{PollAsk, poll}
+use Rattle.step_laws.specs.Runs.{CallsKeep}
+
+-- A poll of a coordinator that fits is a lawful course under a lawful operator, if every lawful call
+-- keeps the invariant.
+abbrev pub PollsAreLawful : Type 0
+PollsAreLawful = (who : Caller) (told : Told) (number : ℕ) (ask : PollAsk) (local : Option Local) → CallsKeep who.merge → IsLawful who.merge → who.party ≡ Coordinator number → Keeps who.merge told
+    → CoordinatorHolds told (record { number = number; epoch = ask.epoch }) local → IsLawfulCourse who told (poll ask)
