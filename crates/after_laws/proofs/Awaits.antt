@@ -20,10 +20,10 @@ use Rattle.step_model.specs.Entries as entries
 use Rattle.step_model.specs.NamesKept.{IsUpTo}
 use Rattle.step_model.specs.LawfulTables.{PlainFits}
 use Rattle.step_model.specs.Lawful.{Lawful}
-use Rattle.step_model.specs.Rivals.{Caller, RivalCall, IsRival, Rivals, told_by_rival}
+use Rattle.step_model.specs.Rivals.{Caller, Rivals}
 use Rattle.step_model.specs.Keeps.{Keeps}
 use Rattle.step_laws.specs.Runs.{CallsKeep}
-use Rattle.step_laws.proofs.Elements.{IsIn, all_at, all_from, all_push, any_element, Passes, is_itself}
+use Rattle.step_laws.proofs.Elements.{IsIn, all_at, all_from, all_push, any_element, is_itself}
 use Rattle.step_laws.proofs.Beaten.{attempt_named}
 use Rattle.fit_laws.proofs.SameParty.{same_place}
 use Rattle.fit_laws.proofs.WorkerCalls.{claim_grows}

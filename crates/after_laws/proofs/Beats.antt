@@ -1,11 +1,11 @@
 -- A worker fits behind its heartbeat.
-use Rattle.std.proofs.Common.{◌≡◌, refl, sym, ◌∙◌, ap, subst, ℕ, zero, suc, ◌<◌, List, [], ◌∷◌, cond, Bool, true, false, inl, inr, ◌⊎◌, Option, Some, None}
-use Rattle.std.specs.Prelude.{IsTrue, ◌==◌, ◌&&◌, option_map, map}
+use Rattle.std.proofs.Common.{◌≡◌, refl, sym, ◌∙◌, ap, subst, ℕ, zero, suc, ◌<◌, List, [], ◌∷◌, cond, Bool, true, false, inl, inr, Option, Some, None}
+use Rattle.std.specs.Prelude.{IsTrue, ◌==◌, ◌&&◌, option_map}
 use Rattle.std.specs.List.{AllByRecursion}
 use Rattle.std.proofs.lemmas.Bool.Decides.{Decides-eqb}
 use Rattle.row_model.specs.Lists.{Pairs}
-use Rattle.fleet_model.specs.Jobs.{Job, Jobs, Running, has_status, is_active, contains, changed, trimmed, job_with}
-use Rattle.fleet_model.specs.History.{Worker, GetRecords, Beat}
+use Rattle.fleet_model.specs.Jobs.{Job, Jobs, Running, has_status, is_active, contains, trimmed, job_with}
+use Rattle.fleet_model.specs.History.{GetRecords, Beat}
 use Rattle.fleet_model.specs.Store.{Store, Records, jobs_in, stored_jobs}
 use Rattle.fleet_model.specs.Records.{Unrecorded, firsts, beaten_by, jobs_after}
 use Rattle.fleet_model.specs.Parties.{Attempt, LiveWorker, is_live, is_leased_to, runs_attempt, named, live_attempts}
@@ -14,14 +14,12 @@ use Rattle.fleet_model.specs.Exchanges.{Exchange, Plain, PutsRecords, records_ve
 use Rattle.step_model.specs.Past.{Told}
 use Rattle.step_model.specs.LawfulRecords.{OfSome}
 use Rattle.step_model.specs.Rivals.{Caller, Rivals, told_by}
-use Rattle.step_model.specs.Keeps.{Keeps}
 use Rattle.step_model.specs.Fits.{WorkerHolds}
 use Rattle.step_model.specs.Course.{Course, Ends}
 use Rattle.step_model.specs.CourseRuns.{End, Gives, Runs, IsLawfulCourse}
 use Rattle.step_model.specs.StepEnds.{StepEnd, Reports, GivesUp, most_refused}
 use Rattle.step_model.specs.BeatSteps.{Beaten, published_by, context_of, beat_report, beat_of, beat_by, beats_from, heartbeat}
-use Rattle.step_laws.specs.Runs.{CallsKeep}
-use Rattle.step_laws.proofs.Elements.{IsIn, all_at, all_from, all_to, contains_in, in_contains, is_itself}
+use Rattle.step_laws.proofs.Elements.{IsIn, all_from, all_to, contains_in, in_contains, is_itself}
 use Rattle.step_laws.proofs.Changed.{on_these, found_job, job_found}
 use Rattle.fit_laws.proofs.JobsMerged.{StayActive, changed_stay, with_changed}
 use Rattle.fit_laws.proofs.WorkerFollows.{from_filter}

@@ -1,34 +1,34 @@
 -- An attempt that a claim begins: what is so of it before its plan is noted, and what a worker that
 -- runs it alone holds behind the note.
-use Rattle.std.proofs.Common.{◌≡◌, refl, sym, ◌∙◌, ap, subst, ℕ, ◌+◌, ◌≤◌, List, [], ◌∷◌, ◌++◌, cond, Bool, true, false, inl, inr, Option, Some, None}
-use Rattle.std.specs.Prelude.{IsTrue, IfSome, ◌==◌, ◌&&◌, map, flat_map, filter}
+use Rattle.std.proofs.Common.{◌≡◌, refl, sym, ◌∙◌, ap, subst, ℕ, List, [], ◌∷◌, ◌++◌, cond, Bool, true, false, inl, Option, Some, None}
+use Rattle.std.specs.Prelude.{IsTrue, IfSome, map, flat_map}
 use Rattle.std.specs.List.{AllByRecursion}
 use Rattle.row_model.specs.Ranges.{Range}
-use Rattle.row_model.specs.Lists.{Pairs, IsPrefixOf}
+use Rattle.row_model.specs.Lists.{Pairs}
 use Rattle.row_model.specs.Rows.{IsStrictlyOrdered, sorted_rows}
 use Rattle.row_model.specs.Fold.{Operator}
 use Rattle.row_model.specs.Plan.{planned}
-use Rattle.fleet_model.specs.Nodes.{is_among, table_rows}
-use Rattle.fleet_model.specs.Jobs.{JobSpec, Job, Context, Running, has_status, knows_cut, job_with}
+use Rattle.fleet_model.specs.Nodes.{is_among}
+use Rattle.fleet_model.specs.Jobs.{JobSpec, Job, knows_cut, job_with}
 use Rattle.fleet_model.specs.History.{Worker}
-use Rattle.fleet_model.specs.Store.{stored_jobs, is_held, AreHeld}
+use Rattle.fleet_model.specs.Store.{stored_jobs, AreHeld}
 use Rattle.fleet_model.specs.Handles.{context_tables}
-use Rattle.fleet_model.specs.Attempts.{source_rows, noted_rows, range_rows}
-use Rattle.fleet_model.specs.Parties.{Attempt, LiveWorker, is_live, is_leased_to, live_attempts, runs_attempt}
+use Rattle.fleet_model.specs.Attempts.{noted_rows, range_rows}
+use Rattle.fleet_model.specs.Parties.{Attempt, LiveWorker, is_live, live_attempts, runs_attempt}
 use Rattle.fleet_model.specs.Sweeps.{attempt_tables}
 use Rattle.fleet_model.specs.JobsFit.{SettingsFit}
 use Rattle.fleet_model.specs.Claimed.{IsClaimed, origin, settings_of, ranges_of, without_cut}
-use Rattle.fleet_model.specs.AttemptsFit.{IsPlanOf, TablesFit, CutFits, ContextExtends, ContextFits, AttemptFits, LiveFits, AttemptStands}
+use Rattle.fleet_model.specs.AttemptsFit.{IsPlanOf, TablesFit, CutFits, ContextExtends, AttemptFits, LiveFits, AttemptStands}
 use Rattle.step_model.specs.Past.{Told}
 use Rattle.step_model.specs.Faithful.{Faithful}
 use Rattle.step_model.specs.LawfulTables.{MayUse}
 use Rattle.step_model.specs.TablesKept.{AreApart}
 use Rattle.step_model.specs.Fits.{AttemptHeld, NotesOwn, WorkerHolds, noted_tables}
-use Rattle.step_laws.proofs.Elements.{IsIn, all_at, all_from, all_front, all_true_front}
+use Rattle.step_laws.proofs.Elements.{all_at, all_from, all_front, all_true_front}
 use Rattle.step_laws.proofs.Held.{are_put}
 use Rattle.step_laws.proofs.Changed.{job_found}
-use Rattle.fit_laws.proofs.WorkerFollows.{Follows, flat_rows, map_rows, from_filter, runs_running}
-use Rattle.after_laws.proofs.Live.{IsLive, live_at}
+use Rattle.fit_laws.proofs.WorkerFollows.{Follows, flat_rows, map_rows, runs_running}
+use Rattle.after_laws.proofs.Live.{live_at}
 
 -- The worker with this attempt alone.
 abbrev pub single : LiveWorker → Attempt → LiveWorker

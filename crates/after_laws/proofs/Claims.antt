@@ -1,13 +1,13 @@
 -- A worker fits behind its claim.
 use Rattle.std.proofs.Common.{◌≡◌, refl, sym, ◌∙◌, ap, subst, ℕ, zero, suc, ◌+◌, ◌-◌, ◌<◌, List, [], ◌∷◌, ◌++◌, cond, Bool, true, false, inl, inr, ◌⊎◌, Option, Some, None, length, arith}
-use Rattle.std.specs.Prelude.{IsTrue, IfSome, ◌==◌, ◌&&◌, not, filter, map, flat_map}
+use Rattle.std.specs.Prelude.{IsTrue, IfSome, ◌==◌, ◌&&◌, not, filter, map}
 use Rattle.std.specs.List.{AllByRecursion}
 use Rattle.std.proofs.lemmas.Bool.Decides.{Decides-eqb}
 use Rattle.std.proofs.lemmas.List.{append-nil}
 use Rattle.row_model.specs.Lists.{Pairs}
 use Rattle.row_model.specs.Fold.{Operator}
 use Rattle.fleet_model.specs.Jobs.{JobSpec, Job, Jobs, Context, knows_cut, contains, trimmed, job_with, ids}
-use Rattle.fleet_model.specs.History.{Worker, GetManifest, GetRecords, RecordChange, Claim, Entry}
+use Rattle.fleet_model.specs.History.{Worker, GetManifest, GetRecords, RecordChange, Claim}
 use Rattle.fleet_model.specs.Claimed.{noted_plan}
 use Rattle.fleet_model.specs.Store.{Store, Records, jobs_in, stored_jobs}
 use Rattle.fleet_model.specs.Records.{jobs_after}
@@ -23,7 +23,7 @@ use Rattle.step_model.specs.Fits.{WorkerHolds}
 use Rattle.step_model.specs.Course.{Course, Ends, Calls}
 use Rattle.step_model.specs.CourseRuns.{End, Gives, Runs, IsLawfulCourse}
 use Rattle.step_model.specs.StepEnds.{StepEnd, Reports, GivesUp, most_refused}
-use Rattle.step_model.specs.ClaimSteps.{WorkerOptions, Claimed, at_moment, can_start, plan_of, starts_claimed, claim_of, claim_by, claims_from, claim}
+use Rattle.step_model.specs.ClaimSteps.{WorkerOptions, Claimed, at_moment, can_start, starts_claimed, claim_of, claim_by, claims_from, claim}
 use Rattle.step_laws.proofs.Elements.{IsIn, all_at, all_from, all_to, all_append, contains_no, in_contains}
 use Rattle.step_laws.proofs.Changed.{found_job}
 use Rattle.step_laws.proofs.Mute.{mute_event}
@@ -39,7 +39,6 @@ use Rattle.course_laws.proofs.Claims.{next_attempt, put_stood, claims_are_lawful
 use Rattle.course_laws.proofs.Later.{later_itself, later_met}
 use Rattle.course_laws.proofs.Puts.{got_records}
 use Rattle.course_laws.proofs.Made.{Relies}
-use Rattle.after_laws.specs.OwnCalls.{SparesOwn}
 use Rattle.after_laws.specs.Claims.{TakesOver, ClaimSays, ClaimsKeepFit}
 use Rattle.after_laws.proofs.Attempts.{all_put, holds_fewer}
 use Rattle.after_laws.proofs.Runs.{Made, Left, call_by, left_stopped, left_reported, left_ended}

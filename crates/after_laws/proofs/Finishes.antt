@@ -7,7 +7,7 @@ use Rattle.row_model.specs.Rows.{Row}
 use Rattle.row_model.specs.Tables.{cut_tables}
 use Rattle.row_model.specs.Fold.{Operator}
 use Rattle.fleet_model.specs.Jobs.{Job, Jobs, contains, changed, trimmed}
-use Rattle.fleet_model.specs.History.{Worker, GetRecords, Finish}
+use Rattle.fleet_model.specs.History.{GetRecords, Finish}
 use Rattle.fleet_model.specs.Store.{Store, Records, jobs_in, stored_jobs}
 use Rattle.fleet_model.specs.Records.{Unrecorded, no_contexts, finished_by, jobs_after}
 use Rattle.fleet_model.specs.Attempts.{rows_left, finish_cut}
@@ -36,8 +36,8 @@ use Rattle.course_laws.proofs.Finishes.{outputs_all, finishes_are_lawful}
 use Rattle.after_laws.specs.OwnCalls.{SparesOwn}
 use Rattle.after_laws.specs.Finishes.{FinishesKeepFit}
 use Rattle.after_laws.proofs.Attempts.{apart_two, holds_fewer}
-use Rattle.after_laws.proofs.Live.{IsLive, live_at}
-use Rattle.after_laws.proofs.OwnPuts.{FromStored, from_stored}
+use Rattle.after_laws.proofs.Live.{live_at}
+use Rattle.after_laws.proofs.OwnPuts.{from_stored}
 use Rattle.after_laws.proofs.Runs.{Made, Left, call_by, left_stopped, left_reported, left_ended}
 use Rattle.after_laws.proofs.OwnCalls.{put_told, own_calls_keep}
 use Rattle.after_laws.proofs.Tables.{Stops, AreUnnoted, gets, puts_all}

@@ -1,44 +1,41 @@
 -- A worker fits behind its output: the table that it put is noted for the range whose next rows it
 -- holds.
-use Rattle.std.proofs.Common.{◌≡◌, refl, sym, ◌∙◌, ap, subst, ℕ, zero, suc, ◌-◌, ◌<◌, List, [], ◌∷◌, ◌++◌, cond, Bool, true, false, inl, inr, ◌⊎◌, Option, Some, None, take, drop, length, arith}
-use Rattle.std.specs.Prelude.{IsTrue, IfSome, ◌==◌, not, map, filter, flat_map, slice_get, ⊤}
+use Rattle.std.proofs.Common.{◌≡◌, refl, sym, ◌∙◌, ap, subst, ℕ, zero, suc, ◌-◌, ◌<◌, List, [], ◌∷◌, ◌++◌, cond, Bool, true, false, inl, inr, Option, Some, None, take, drop, length, arith}
+use Rattle.std.specs.Prelude.{IsTrue, ◌==◌, not, map, filter, flat_map, slice_get, ⊤}
 use Rattle.std.specs.List.{AllByRecursion}
 use Rattle.std.proofs.lemmas.Bool.Decides.{Decides-eqb}
 use Rattle.std.proofs.lemmas.List.{append_assoc}
-use Rattle.row_model.specs.Lists.{Pairs, IsPrefixOf}
+use Rattle.row_model.specs.Lists.{IsPrefixOf}
 use Rattle.row_model.specs.Rows.{Row, sorted_rows}
 use Rattle.row_model.specs.Ranges.{Range, rows_in}
 use Rattle.row_model.specs.JobRows.{job_rows}
-use Rattle.row_model.specs.Fold.{Operator}
-use Rattle.fleet_model.specs.Nodes.{Tables, table_rows}
-use Rattle.fleet_model.specs.Jobs.{JobSpec, Job, Context, contains, job_with}
-use Rattle.fleet_model.specs.History.{Worker, GetTable}
-use Rattle.fleet_model.specs.Store.{Store, stored_jobs, is_held, AreHeld}
+use Rattle.fleet_model.specs.Nodes.{table_rows}
+use Rattle.fleet_model.specs.Jobs.{JobSpec, Job, contains, job_with}
+use Rattle.fleet_model.specs.History.{Worker}
+use Rattle.fleet_model.specs.Store.{stored_jobs, is_held, AreHeld}
 use Rattle.fleet_model.specs.Handles.{context_tables}
 use Rattle.fleet_model.specs.Attempts.{source_rows, range_rows, rows_left, noted_rows}
-use Rattle.fleet_model.specs.Parties.{Attempt, LiveWorker, is_live, live_attempts, without_attempts, put_attempt}
+use Rattle.fleet_model.specs.Parties.{Attempt, LiveWorker, is_live, live_attempts, without_attempts}
 use Rattle.fleet_model.specs.Sweeps.{attempt_tables}
 use Rattle.fleet_model.specs.Claimed.{IsClaimed}
-use Rattle.fleet_model.specs.AttemptsFit.{Extends, ContextExtends, ContextFits, AttemptFits, AttemptStands, LiveFits, TablesFit}
+use Rattle.fleet_model.specs.AttemptsFit.{Extends, AttemptFits, TablesFit}
 use Rattle.step_model.specs.Past.{Told}
-use Rattle.step_model.specs.Faithful.{Faithful}
 use Rattle.step_model.specs.LawfulTables.{MayUse}
 use Rattle.step_model.specs.TablesKept.{AreApart}
-use Rattle.step_model.specs.Fits.{AttemptHeld, NotesOwn, WorkerHolds, noted_tables}
+use Rattle.step_model.specs.Fits.{WorkerHolds, noted_tables}
 use Rattle.step_model.specs.OutputSteps.{noted_at, meets, Written, with_noted, writes, gives_back, writes_or_gives_back, output}
 use Rattle.step_model.specs.Keeps.{Keeps}
 use Rattle.step_model.specs.Course.{Ends}
 use Rattle.step_model.specs.CourseRuns.{End, Runs, IsLawfulCourse}
 use Rattle.step_model.specs.StepEnds.{StepEnd, Reports, GivesUp, OperatorRefuses, most_refused}
 use Rattle.step_model.specs.Rivals.{Caller}
-use Rattle.step_laws.proofs.Elements.{IsIn, all_at, all_from, all_to, all_append, all_front, all_back, all_flat, all_unflat, all_true_front, all_true_from, flat_push}
+use Rattle.step_laws.proofs.Elements.{IsIn, all_at, all_from, all_to, all_append, all_front, all_back, all_unflat, all_true_front, all_true_from, flat_push}
 use Rattle.step_laws.proofs.Deletions.{in_filter}
 use Rattle.step_laws.proofs.MuteBodies.{if_some_to}
 use Rattle.step_laws.proofs.OwnTables.{apart_from, apart_at}
 use Rattle.fit_laws.specs.Free.{IsFree}
 use Rattle.fit_laws.proofs.FreeTables.{free_own}
 use Rattle.fit_laws.proofs.WorkerFollows.{from_filter}
-use Rattle.course_laws.proofs.Held.{HasRows}
 use Rattle.course_laws.proofs.Beats.{Fit}
 use Rattle.course_laws.proofs.Outputs.{found_in, outputs_are_lawful}
 use Rattle.course_laws.proofs.Made.{Relies, State}

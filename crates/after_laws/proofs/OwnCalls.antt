@@ -1,44 +1,40 @@
 -- A worker's own call keeps what it holds.
-use Rattle.std.proofs.Common.{◌≡◌, refl, sym, ◌∙◌, ap, subst, ℕ, ◌+◌, ◌≤◌, List, [], ◌∷◌, ◌++◌, cond, Bool, true, false, inl, inr, Option, Some, None, length, arith}
+use Rattle.std.proofs.Common.{◌≡◌, refl, sym, ◌∙◌, ap, subst, ℕ, ◌+◌, ◌≤◌, List, [], ◌∷◌, ◌++◌, cond, Bool, true, false, inl, Some, None, arith}
 use Rattle.std.specs.Prelude.{IsTrue, IfSome, ◌==◌, ◌&&◌, is_none, if◌then◌else◌}
-use Rattle.std.specs.List.{AllByRecursion, concat}
+use Rattle.std.specs.List.{concat}
 use Rattle.std.proofs.lemmas.Bool.Decides.{Decides-eqb}
-use Rattle.row_model.specs.Rows.{Row}
 use Rattle.row_model.specs.Fold.{Operator}
 use Rattle.fleet_model.specs.Jobs.{Job, Jobs, Status, Submitted, Scheduled, Running, Compacted, Completed, Failed, status_eq, has_status, is_finished, is_active, contains, changed, trimmed, job_with}
-use Rattle.fleet_model.specs.History.{Party, Worker, Event, GetManifest, GetRecords, GetTable, Plan, Start, Kill, ListTables, DrawJob, PutRecords, RecordChange, RecordsEpoch, Submit, Claim, Beat, Finish, Release, Polled, Done, Conflict, Answer, Entry, stood}
-use Rattle.fleet_model.specs.Handles.{job_tables, context_tables}
-use Rattle.fleet_model.specs.Store.{Records, stored_jobs}
+use Rattle.fleet_model.specs.History.{Party, Worker, Event, GetManifest, GetRecords, GetTable, Plan, Start, Kill, DrawJob, PutRecords, RecordChange, RecordsEpoch, Submit, Claim, Beat, Finish, Release, Polled, Done, Conflict, Answer, Entry, stood}
+use Rattle.fleet_model.specs.Store.{stored_jobs}
 use Rattle.fleet_model.specs.Records.{Unrecorded, firsts, claimed_by, beaten_by, finished_by, to_waiting, jobs_after}
-use Rattle.fleet_model.specs.Parties.{Attempt, LiveWorker, attempt_jobs, is_live, is_leased_to, live_attempts, runs_attempt}
+use Rattle.fleet_model.specs.Parties.{Attempt, LiveWorker, is_live, is_leased_to, live_attempts, runs_attempt}
 use Rattle.fleet_model.specs.Claims.{is_waiting}
 use Rattle.fleet_model.specs.Claimed.{beaten_in, if_earlier, origin}
-use Rattle.fleet_model.specs.Exchanges.{Exchange, Plain, DrawsJob, DrawsTable, PutsTable, PutsManifest, PutsRecords, ListsTables, DeletesTable, records_version, logged, event_of, next_job_id}
+use Rattle.fleet_model.specs.Exchanges.{Plain, DrawsJob, DrawsTable, PutsTable, PutsManifest, PutsRecords, ListsTables, DeletesTable, records_version, logged, event_of, next_job_id}
 use Rattle.step_model.specs.Past.{Told, told_after}
 use Rattle.step_model.specs.LawfulTables.{PlainFits}
 use Rattle.step_model.specs.LawfulRecords.{ChangeFits, RecordsFit, OfSome, IsLiveAt, Publishes}
-use Rattle.step_model.specs.TablesKept.{AreApart}
 use Rattle.step_model.specs.Rivals.{told_by}
 use Rattle.step_model.specs.Keeps.{Keeps}
 use Rattle.step_model.specs.Fits.{AttemptHeld, WorkerHolds, noted_tables}
-use Rattle.step_laws.proofs.Elements.{IsIn, all_at, all_to, contains_in, in_contains}
+use Rattle.step_laws.proofs.Elements.{IsIn, all_at, all_to, in_contains}
 use Rattle.step_laws.proofs.Deletions.{in_filter}
 use Rattle.step_laws.proofs.OwnTables.{apart_at}
 use Rattle.step_laws.proofs.Mute.{IsMute, mute_event}
 use Rattle.step_laws.proofs.Told.{beaten_stays}
 use Rattle.step_laws.proofs.Beaten.{attempt_named}
 use Rattle.step_laws.proofs.Quiet.{told_entered}
-use Rattle.step_laws.proofs.Bodies.{Body, whole_of}
+use Rattle.step_laws.proofs.Bodies.{whole_of}
 use Rattle.step_laws.proofs.TableBodies.{active_if_open}
 use Rattle.step_laws.proofs.RecordsBodies.{with_records, told_with_records}
-use Rattle.step_laws.proofs.Changed.{found_job, job_found}
+use Rattle.step_laws.proofs.Changed.{found_job}
 use Rattle.step_laws.proofs.WorkerPuts.{stored_as, stored_to, each_named, live_open, live_attempt}
 use Rattle.fit_laws.proofs.AttemptFacts.{claimed_up_to, origin_kept}
-use Rattle.course_laws.proofs.Calls.{in_map}
 use Rattle.course_laws.proofs.OwnCalls.{holds_entered, holds_refused}
 use Rattle.course_laws.proofs.Written.{holds_put, holds_drawn}
-use Rattle.after_laws.specs.OwnCalls.{SparesOwn, IsOwnCall, OwnCallsKeep}
-use Rattle.after_laws.proofs.OwnPuts.{LeftAs, OwnPut, left_records, holds_own}
+use Rattle.after_laws.specs.OwnCalls.{SparesOwn, OwnCallsKeep}
+use Rattle.after_laws.proofs.OwnPuts.{LeftAs, OwnPut, holds_own}
 
 -- ---- entries
 

@@ -1,27 +1,26 @@
 -- A worker's own put of the records leaves what it holds, if the put changes the jobs of its live
 -- attempts to those that it runs still.
-use Rattle.std.proofs.Common.{◌≡◌, refl, sym, ◌∙◌, ap, subst, ℕ, List, [], ◌∷◌, ◌++◌, cond, Bool, true, false, inl, inr, ◌⊎◌, Option, Some, None}
-use Rattle.std.specs.Prelude.{IsTrue, IfSome, ◌==◌, ◌&&◌, not, flat_map, filter}
+use Rattle.std.proofs.Common.{◌≡◌, refl, sym, ◌∙◌, ap, subst, ℕ, List, [], ◌∷◌, ◌++◌, Bool, true, false, inl, inr, Option, Some, None}
+use Rattle.std.specs.Prelude.{IsTrue, IfSome, ◌==◌, ◌&&◌, not, filter}
 use Rattle.std.specs.List.{AllByRecursion}
 use Rattle.std.proofs.lemmas.Bool.Decides.{Decides-eqb}
 use Rattle.row_model.specs.Ranges.{Range}
-use Rattle.row_model.specs.Lists.{Pairs, IsPrefixOf}
+use Rattle.row_model.specs.Lists.{IsPrefixOf}
 use Rattle.row_model.specs.Fold.{Operator}
-use Rattle.fleet_model.specs.Jobs.{JobSpec, Job, Jobs, Context, Running, has_status, is_active, contains, changed, trimmed, job_with}
+use Rattle.fleet_model.specs.Jobs.{JobSpec, Job, Jobs, is_active, contains, changed, trimmed, job_with}
 use Rattle.fleet_model.specs.History.{Worker, Entry}
 use Rattle.fleet_model.specs.Store.{Records, stored_jobs}
 use Rattle.fleet_model.specs.Handles.{job_tables, context_tables}
-use Rattle.fleet_model.specs.Parties.{Attempt, LiveWorker, is_live, is_leased_to, live_attempts, runs_attempt}
+use Rattle.fleet_model.specs.Parties.{Attempt, LiveWorker, is_live, live_attempts, runs_attempt}
 use Rattle.fleet_model.specs.Claimed.{IsClaimed, origin}
 use Rattle.fleet_model.specs.JobsFit.{SettingsFit}
-use Rattle.fleet_model.specs.AttemptsFit.{IsPlanOf, TablesFit, Extends, ContextExtends, AttemptFits, AttemptStands, ContextFits, LiveFits}
+use Rattle.fleet_model.specs.AttemptsFit.{IsPlanOf, TablesFit, Extends, ContextExtends, AttemptFits, AttemptStands, LiveFits}
 use Rattle.step_model.specs.Past.{Told}
 use Rattle.step_model.specs.Entries.{puts_table}
-use Rattle.step_model.specs.Faithful.{Faithful}
 use Rattle.step_model.specs.LawfulTables.{MayUse, IsOwnTable, other_tables}
 use Rattle.step_model.specs.Fits.{AttemptHeld, NotesOwn, WorkerHolds, noted_tables}
-use Rattle.step_laws.proofs.Elements.{IsIn, all_at, all_from, all_to, contains_in, contains_no, in_contains, in_front}
-use Rattle.step_laws.proofs.Deletions.{in_flat, in_filter}
+use Rattle.step_laws.proofs.Elements.{IsIn, all_at, all_from, all_to, contains_no, in_contains, in_front}
+use Rattle.step_laws.proofs.Deletions.{in_filter}
 use Rattle.step_laws.proofs.Told.{settings_stay_at, ranges_stay_at}
 use Rattle.step_laws.proofs.Grown.{drawn_table_grows}
 use Rattle.step_laws.proofs.Bodies.{Body}

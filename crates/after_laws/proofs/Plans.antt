@@ -6,34 +6,33 @@ use Rattle.std.proofs.lemmas.Bool.Decides.{Decides-eqb}
 use Rattle.row_model.specs.Lists.{Pairs}
 use Rattle.row_model.specs.Fold.{Operator}
 use Rattle.row_model.specs.Ranges.{Range}
-use Rattle.fleet_model.specs.Jobs.{JobSpec, Job, Jobs, Context, knows_cut, is_active, contains, job_with}
-use Rattle.fleet_model.specs.History.{Party, Worker, Event, Plan, Done, Entry, stood}
+use Rattle.fleet_model.specs.Jobs.{JobSpec, Job, Jobs, Context, knows_cut, is_active}
+use Rattle.fleet_model.specs.History.{Worker, Event, Plan, Done}
 use Rattle.fleet_model.specs.Store.{Store, stored_jobs}
 use Rattle.fleet_model.specs.Handles.{job_tables, context_tables}
 use Rattle.fleet_model.specs.Attempts.{ClaimInput, context_or, attempt_context, fresh_context}
-use Rattle.fleet_model.specs.Parties.{Attempt, LiveWorker, is_live, live_attempts, runs_attempt, put_attempt, with_attempts}
+use Rattle.fleet_model.specs.Parties.{Attempt, LiveWorker, is_live, live_attempts, put_attempt, with_attempts}
 use Rattle.fleet_model.specs.Claims.{claimed_attempt}
-use Rattle.fleet_model.specs.Claimed.{planned_in, noted_plan, ranges_of}
-use Rattle.fleet_model.specs.Exchanges.{Exchange, Plain}
+use Rattle.fleet_model.specs.Claimed.{planned_in, noted_plan}
+use Rattle.fleet_model.specs.Exchanges.{Plain}
 use Rattle.step_model.specs.Past.{Told}
 use Rattle.step_model.specs.Faithful.{Faithful}
 use Rattle.step_model.specs.Rivals.{Caller, Rivals, told_by}
 use Rattle.step_model.specs.Keeps.{Keeps}
-use Rattle.step_model.specs.LawfulTables.{MayUse, IsOwnTable}
+use Rattle.step_model.specs.LawfulTables.{MayUse}
 use Rattle.step_model.specs.TablesKept.{AreApart, NameApart}
 use Rattle.step_model.specs.Fits.{AttemptHeld, NotesOwn, WorkerHolds, noted_tables}
 use Rattle.step_model.specs.Course.{Course, calls_each}
-use Rattle.step_model.specs.CourseRuns.{End, StopsAt, Runs, IsLawfulCourse}
+use Rattle.step_model.specs.CourseRuns.{End, Runs, IsLawfulCourse}
 use Rattle.step_model.specs.StepEnds.{StepEnd}
 use Rattle.step_model.specs.ClaimSteps.{Claimed, plan_of}
-use Rattle.step_laws.specs.Runs.{CallsKeep}
-use Rattle.step_laws.proofs.Elements.{IsIn, all_at, all_from, all_to, contains_in, in_front}
+use Rattle.step_laws.proofs.Elements.{IsIn, all_at, all_to, contains_in, in_front}
 use Rattle.step_laws.proofs.Bodies.{whole_of}
 use Rattle.step_laws.proofs.Changed.{job_found}
 use Rattle.step_laws.proofs.Mute.{mute_event}
 use Rattle.step_laws.proofs.OwnTables.{apart_from, apart_at}
 use Rattle.commit_laws.proofs.Midway.{two_jobs}
-use Rattle.fit_laws.proofs.WorkerFollows.{Follows, holds_after, from_filter, runs_running}
+use Rattle.fit_laws.proofs.WorkerFollows.{Follows, holds_after, from_filter}
 use Rattle.fit_laws.proofs.WorkerCalls.{claim_grows}
 use Rattle.fit_laws.proofs.WorkerManifests.{not_named_by}
 use Rattle.fit_laws.proofs.Workers.{rivals_follow}
@@ -41,10 +40,10 @@ use Rattle.course_laws.proofs.Beats.{Fit}
 use Rattle.course_laws.proofs.Made.{Relies}
 use Rattle.after_laws.proofs.Live.{IsLive, live_at, live_active}
 use Rattle.after_laws.proofs.Attempts.{Added, all_put, holds_added}
-use Rattle.after_laws.proofs.Runs.{Made, call_by}
+use Rattle.after_laws.proofs.Runs.{call_by}
 use Rattle.after_laws.proofs.Tables.{Stops}
 use Rattle.after_laws.proofs.OwnCalls.{own_calls_keep}
-use Rattle.after_laws.proofs.Begun.{single, RunsAs, Waits, Begun, begun_follow, begun_holds, fresh_noted}
+use Rattle.after_laws.proofs.Begun.{single, RunsAs, Begun, begun_follow, begun_holds, fresh_noted}
 use Rattle.after_laws.proofs.Taken.{attempt_with, taken_by}
 use Rattle.after_laws.proofs.Awaits.{IsUnplanned, rivals_unplanned, noted_none, noted_now}
 use Rattle.after_laws.proofs.Starts.{plain_entry, plain_told, follow_plain, fresh_is}

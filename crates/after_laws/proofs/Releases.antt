@@ -5,22 +5,21 @@ use Rattle.std.specs.List.{AllByRecursion}
 use Rattle.std.proofs.lemmas.Bool.Decides.{Decides-eqb}
 use Rattle.row_model.specs.Lists.{Pairs}
 use Rattle.fleet_model.specs.Jobs.{Job, Jobs, contains, job_with}
-use Rattle.fleet_model.specs.History.{Worker, GetRecords, Release}
+use Rattle.fleet_model.specs.History.{GetRecords, Release}
 use Rattle.fleet_model.specs.Store.{Store, Records, jobs_in, stored_jobs}
 use Rattle.fleet_model.specs.Records.{firsts, to_waiting, jobs_after}
-use Rattle.fleet_model.specs.Parties.{Attempt, LiveWorker, attempt_jobs, is_live, runs_attempt, named, live_attempts}
+use Rattle.fleet_model.specs.Parties.{Attempt, LiveWorker, attempt_jobs, is_live, runs_attempt, named}
 use Rattle.fleet_model.specs.Gates.{is_nonempty}
 use Rattle.fleet_model.specs.Exchanges.{Exchange, Plain, PutsRecords, records_version}
 use Rattle.step_model.specs.Past.{Told}
-use Rattle.step_model.specs.Rivals.{Caller, Rivals, told_by}
-use Rattle.step_model.specs.Keeps.{Keeps}
+use Rattle.step_model.specs.Rivals.{Caller, told_by}
 use Rattle.step_model.specs.Fits.{WorkerHolds}
 use Rattle.step_model.specs.Course.{Course, Ends}
 use Rattle.step_model.specs.CourseRuns.{End, Gives, StopsAt, Runs, IsLawfulCourse}
 use Rattle.step_model.specs.StepEnds.{StepEnd, Reports, GivesUp, most_refused}
 use Rattle.step_model.specs.ClaimSteps.{at_moment}
 use Rattle.step_model.specs.BeatSteps.{release_of, release_by, releases_from, release_all}
-use Rattle.step_laws.proofs.Elements.{IsIn, all_at, all_from, in_contains}
+use Rattle.step_laws.proofs.Elements.{IsIn, all_from, in_contains}
 use Rattle.step_laws.proofs.Changed.{on_these, by_these, found_job, job_found}
 use Rattle.step_laws.proofs.Deletions.{in_filter}
 use Rattle.course_laws.proofs.Beats.{Fit, fit_got}
@@ -30,9 +29,9 @@ use Rattle.course_laws.proofs.Puts.{got_records}
 use Rattle.course_laws.proofs.Made.{Relies}
 use Rattle.course_laws.proofs.Releases.{releases_are_lawful}
 use Rattle.after_laws.specs.Releases.{ReleasesKeepFit}
-use Rattle.after_laws.proofs.Live.{IsLive, live_at, none_pass, pass_none}
+use Rattle.after_laws.proofs.Live.{live_at, none_pass, pass_none}
 use Rattle.after_laws.proofs.Runs.{Made, Left, call_by, left_stopped, left_reported, left_ended}
-use Rattle.after_laws.proofs.OwnPuts.{FromStored, from_stored}
+use Rattle.after_laws.proofs.OwnPuts.{from_stored}
 use Rattle.after_laws.proofs.OwnCalls.{put_told, own_calls_keep}
 
 -- ---- no attempt is live

@@ -1,10 +1,9 @@
 -- A run of a worker's step, call by call.
 use Rattle.std.specs.Prelude.{⊤}
-use Rattle.std.proofs.Common.{◌≡◌, refl, sym, subst, ℕ, List, [], ◌∷◌, inl, inr, ◌⊎◌, None}
-use Rattle.fleet_model.specs.History.{GetTable, Worker}
+use Rattle.std.proofs.Common.{◌≡◌, subst, List, inl, inr, ◌⊎◌, None}
 use Rattle.fleet_model.specs.Store.{Store}
 use Rattle.fleet_model.specs.Parties.{Attempt, LiveWorker}
-use Rattle.fleet_model.specs.Exchanges.{Exchange, Plain}
+use Rattle.fleet_model.specs.Exchanges.{Exchange}
 use Rattle.step_model.specs.Past.{Told}
 use Rattle.step_model.specs.Lawful.{Lawful}
 use Rattle.step_model.specs.Rivals.{Caller, Rivals, told_by}

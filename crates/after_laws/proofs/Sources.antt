@@ -1,25 +1,25 @@
 -- The sources of a job that stand in the trees: their tables are held, their rows are in order, and
 -- they are the oldest nodes if the job makes the last run of its tree.
-use Rattle.std.proofs.Common.{◌≡◌, refl, sym, ◌∙◌, ap, subst, ℕ, ◌<◌, ◌≤◌, List, [], ◌∷◌, ◌++◌, cond, Bool, true, false, inl, inr, Option, Some, None, arith}
-use Rattle.std.specs.Prelude.{IsTrue, ◌==◌, ◌&&◌, ◌||◌, not, nat_lt, flat_map}
-use Rattle.std.specs.List.{AllByRecursion, list_all, list_any}
+use Rattle.std.proofs.Common.{◌≡◌, refl, sym, ◌∙◌, ap, subst, ℕ, ◌<◌, ◌≤◌, List, [], ◌∷◌, ◌++◌, Bool, true, false, inl, inr, Option, Some, None, arith}
+use Rattle.std.specs.Prelude.{IsTrue, ◌&&◌, ◌||◌, not, nat_lt, flat_map}
+use Rattle.std.specs.List.{AllByRecursion, list_any}
 use Rattle.std.proofs.lemmas.Bool.Decides.{Decides-eqb}
 use Rattle.std.proofs.lemmas.Bool.{ltb-true}
 use Rattle.row_model.specs.Lists.{Pairs}
-use Rattle.row_model.specs.Rows.{Row, sorted_rows, IsStrictlyOrdered}
+use Rattle.row_model.specs.Rows.{sorted_rows, IsStrictlyOrdered}
 use Rattle.row_model.specs.Fold.{Operator}
 use Rattle.row_laws.proofs.Merges.{apart_are_ordered}
-use Rattle.fleet_model.specs.Nodes.{Tables, table_rows, NodeName, L0, Run, is_l0, Node, Tree, names, node_rows, Trees, tree_at}
-use Rattle.fleet_model.specs.Jobs.{JobSpec, Job, contains}
+use Rattle.fleet_model.specs.Nodes.{NodeName, L0, Run, is_l0, Node, Tree, names, node_rows, Trees, tree_at}
+use Rattle.fleet_model.specs.Jobs.{JobSpec, Job}
 use Rattle.fleet_model.specs.Gates.{is_nonempty}
-use Rattle.fleet_model.specs.Sources.{run_ids, older_nodes, begins_with_run, reaches_oldest, is_lowest_or_above}
-use Rattle.fleet_model.specs.Store.{Store, is_held, AreHeld}
+use Rattle.fleet_model.specs.Sources.{run_ids, older_nodes, reaches_oldest, is_lowest_or_above}
+use Rattle.fleet_model.specs.Store.{is_held, AreHeld}
 use Rattle.fleet_model.specs.Trees.{source_nodes, source_pieces}
 use Rattle.fleet_model.specs.TreesFit.{IsNewer, StandsBefore}
 use Rattle.fleet_model.specs.JobsFit.{SourcesStand, DestinationFits, AreOldest}
 use Rattle.fleet_model.specs.Attempts.{is_last, is_last_run, source_rows}
 use Rattle.step_model.specs.Past.{Told}
-use Rattle.step_laws.proofs.Elements.{IsIn, all_at, all_from, all_to, all_flat, all_true_front, contains_in, in_append, in_front, in_back}
+use Rattle.step_laws.proofs.Elements.{IsIn, all_at, all_to, all_flat, all_true_front, contains_in, in_front, in_back}
 use Rattle.step_laws.proofs.Bodies.{Body}
 use Rattle.commit_laws.proofs.Commits.{start}
 use Rattle.commit_laws.proofs.JobSteps.{tree_before}
@@ -27,7 +27,7 @@ use Rattle.commit_laws.proofs.RunRows.{nodes_apart, rows_of_pieces}
 use Rattle.commit_laws.proofs.Segments.{SegmentFits, segment_named}
 use Rattle.commit_laws.proofs.TreeReads.{with_horizon}
 use Rattle.commit_laws.proofs.Steps.{StretchAt, stretch_at}
-use Rattle.commit_laws.proofs.Stretches.{Named, nodes_named, all_taken, pairs_first, pairs_second, pairs_of, run_in, in_runs}
+use Rattle.commit_laws.proofs.Stretches.{nodes_named, all_taken, pairs_first, pairs_second, pairs_of, run_in, in_runs}
 use Rattle.fit_laws.proofs.Tails.{older_split}
 
 -- ---- the nodes

@@ -1,30 +1,26 @@
 -- What an attempt has behind the get of the manifest that follows its claim.
-use Rattle.std.proofs.Common.{◌≡◌, refl, sym, ◌∙◌, ap, subst, ℕ, ◌+◌, ◌≤◌, ℤ, pos, negsuc, List, [], ◌∷◌, ◌++◌, cond, Bool, true, false, Option, Some, None, arith}
-use Rattle.std.specs.Prelude.{IsTrue, IfSome, ◌==◌, int_le, map, option_map}
-use Rattle.std.specs.List.{AllByRecursion}
+use Rattle.std.proofs.Common.{◌≡◌, refl, sym, ◌∙◌, ap, subst, ℕ, ◌+◌, ℤ, pos, negsuc, List, [], ◌∷◌, ◌++◌, true, false, Some, None, arith}
+use Rattle.std.specs.Prelude.{IsTrue, int_le, map, option_map}
 use Rattle.std.proofs.lemmas.Bool.{le-leb}
 use Rattle.std.proofs.lemmas.List.{append-nil}
-use Rattle.row_model.specs.Fold.{Operator}
 use Rattle.row_model.specs.Ranges.{Range}
 use Rattle.row_model.specs.Plan.{planned}
 use Rattle.fleet_laws.proofs.Cuts.{cuts_are_low}
 use Rattle.fleet_model.specs.Nodes.{table_rows}
 use Rattle.fleet_model.specs.Jobs.{JobSpec, Job, Context, Release, One, Two, knows_cut, job_with}
-use Rattle.fleet_model.specs.History.{Party, Worker, Event, GetManifest, Done, Entry, stood}
+use Rattle.fleet_model.specs.History.{Party, Worker, Event, GetManifest, Entry, stood}
 use Rattle.fleet_model.specs.Store.{Store, stored_jobs, fresh_store, AreHeld}
 use Rattle.fleet_model.specs.Replay.{Objects, replayed, plain_objects, plain_manifest}
 use Rattle.fleet_model.specs.Attempts.{ClaimInput, claim_cut, claim_settings, fresh_context}
-use Rattle.fleet_model.specs.Parties.{Attempt, LiveWorker, runs_attempt}
-use Rattle.fleet_model.specs.Claimed.{is_worker, objects_at_claim, origin, settings_of, without_cut}
+use Rattle.fleet_model.specs.Parties.{Attempt, LiveWorker}
+use Rattle.fleet_model.specs.Claimed.{is_worker, objects_at_claim, settings_of, without_cut}
 use Rattle.fleet_model.specs.JobsFit.{SettingsFit}
-use Rattle.fleet_model.specs.AttemptsFit.{CutFits}
 use Rattle.fleet_model.specs.Exchanges.{Plain, answer_of}
 use Rattle.step_model.specs.Past.{Told}
 use Rattle.step_model.specs.Faithful.{Faithful}
 use Rattle.step_model.specs.Rivals.{Caller, told_by}
 use Rattle.step_model.specs.Keeps.{Keeps}
-use Rattle.step_model.specs.Fits.{AttemptHeld}
-use Rattle.step_laws.proofs.Elements.{IsIn, all_at, all_from, is_itself}
+use Rattle.step_laws.proofs.Elements.{all_at, all_from, is_itself}
 use Rattle.step_laws.proofs.Alike.{replays_alike}
 use Rattle.step_laws.proofs.Bodies.{whole_of}
 use Rattle.step_laws.proofs.Changed.{job_found}

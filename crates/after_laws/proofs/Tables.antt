@@ -1,6 +1,6 @@
 -- Runs that get tables and put tables.
-use Rattle.std.proofs.Common.{◌≡◌, refl, sym, ap, subst, ℕ, zero, suc, List, [], ◌∷◌, ◌++◌, Bool, true, false, Option, Some, None, map}
-use Rattle.std.specs.Prelude.{IsTrue, flat_map}
+use Rattle.std.proofs.Common.{◌≡◌, sym, subst, ℕ, List, [], ◌∷◌, ◌++◌, Bool, true, false, Some, None, map}
+use Rattle.std.specs.Prelude.{IsTrue}
 use Rattle.std.specs.List.{AllByRecursion}
 use Rattle.std.proofs.lemmas.List.{append-nil, append_assoc}
 use Rattle.row_model.specs.Rows.{Row}
@@ -22,8 +22,8 @@ use Rattle.step_model.specs.OutputSteps.{gets_tables}
 use Rattle.step_laws.proofs.Elements.{IsIn, all_at, all_append, all_back, all_true_front}
 use Rattle.step_laws.proofs.Held.{held_put}
 use Rattle.course_laws.proofs.Beats.{Fit}
-use Rattle.course_laws.proofs.Free.{IsUnput, rivals_unput, drawn_unput}
-use Rattle.course_laws.proofs.Made.{Relies, State, state_met, state_drawn, state_put, state_table, ids_of, tables_of, all_of}
+use Rattle.course_laws.proofs.Free.{rivals_unput, drawn_unput}
+use Rattle.course_laws.proofs.Made.{Relies, State, state_met, state_drawn, state_put, state_table, ids_of, all_of}
 use Rattle.after_laws.proofs.Runs.{Made, call_by}
 
 -- Where a run of the worker stops at a call, this follows.

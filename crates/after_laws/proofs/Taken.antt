@@ -1,39 +1,37 @@
 -- What the put of a claim leaves of each job that it takes.
-use Rattle.std.proofs.Common.{◌≡◌, refl, sym, ◌∙◌, ap, subst, ℕ, ◌+◌, ◌<◌, ◌≤◌, List, [], ◌∷◌, ◌++◌, cond, Bool, true, false, pos, inl, inr, Option, Some, None, arith}
-use Rattle.std.specs.Prelude.{IsTrue, IfSome, ◌==◌, ◌&&◌, ◌||◌, not, is_some, is_none, map, option_map, find, if◌then◌else◌}
+use Rattle.std.proofs.Common.{◌≡◌, refl, sym, ◌∙◌, ap, subst, ℕ, ◌+◌, ◌<◌, List, [], ◌∷◌, cond, Bool, true, false, pos, inl, inr, Option, Some, None, arith}
+use Rattle.std.specs.Prelude.{IsTrue, IfSome, ◌&&◌, ◌||◌, not, is_some, is_none, map, option_map, if◌then◌else◌}
 use Rattle.std.specs.List.{AllByRecursion, concat}
-use Rattle.std.proofs.lemmas.Bool.Decides.{Decides-eqb}
 use Rattle.row_model.specs.Lists.{Pairs}
-use Rattle.row_model.specs.Settings.{Settings}
 use Rattle.row_model.specs.Fold.{Operator}
-use Rattle.fleet_model.specs.Jobs.{JobSpec, Job, Jobs, Context, Release, One, Two, knows_cut, Status, Submitted, Scheduled, Running, Compacted, Completed, Failed, status_eq, has_status, is_finished, is_active, contains, changed, trimmed, job_with}
-use Rattle.fleet_model.specs.History.{Party, Worker, Event, PutRecords, Claim, Beat, Entry, stood}
-use Rattle.fleet_model.specs.Store.{stored_jobs, is_held, AreHeld}
+use Rattle.fleet_model.specs.Jobs.{JobSpec, Job, Jobs, Context, Release, One, Two, knows_cut, Status, Submitted, Scheduled, Running, Compacted, Completed, Failed, status_eq, is_finished, is_active, contains, trimmed, job_with}
+use Rattle.fleet_model.specs.History.{Worker, Event, PutRecords, Claim, Beat, Entry, stood}
+use Rattle.fleet_model.specs.Store.{stored_jobs, is_held}
 use Rattle.fleet_model.specs.Handles.{job_tables, context_tables}
 use Rattle.fleet_model.specs.Records.{firsts, claimed_by, jobs_after}
-use Rattle.fleet_model.specs.Parties.{Attempt, LiveWorker, runs_attempt}
+use Rattle.fleet_model.specs.Parties.{Attempt, LiveWorker}
 use Rattle.fleet_model.specs.Sweeps.{attempt_tables}
 use Rattle.fleet_model.specs.Claims.{is_waiting, has_no_cut, may_take}
-use Rattle.fleet_model.specs.Claimed.{IsClaimed, number_in, attempt_of, beaten_in, or_else, first_beaten, if_earlier, origin}
-use Rattle.fleet_model.specs.AttemptsFit.{beats, was_beaten, CutFits, ContextExtends, ContextFits, AttemptFits, AttemptStands, JobContext}
+use Rattle.fleet_model.specs.Claimed.{IsClaimed, beaten_in, or_else, first_beaten, if_earlier, origin}
+use Rattle.fleet_model.specs.AttemptsFit.{beats, was_beaten, CutFits, ContextExtends, ContextFits, AttemptFits}
 use Rattle.step_model.specs.Past.{Told}
 use Rattle.step_model.specs.Entries.{was_claimed}
 use Rattle.step_model.specs.Faithful.{Faithful}
 use Rattle.step_model.specs.Keeps.{Keeps}
 use Rattle.step_model.specs.LawfulTables.{MayUse}
-use Rattle.step_model.specs.Fits.{AttemptHeld, NotesOwn, WorkerHolds, noted_tables}
+use Rattle.step_model.specs.Fits.{AttemptHeld, WorkerHolds, noted_tables}
 use Rattle.step_model.specs.ClaimSteps.{at_moment}
-use Rattle.step_laws.proofs.Elements.{IsIn, all_at, all_from, all_append, all_front, all_true_front, all_true_from, in_contains, contains_in, in_front, is_itself}
+use Rattle.step_laws.proofs.Elements.{IsIn, all_at, all_from, all_append, all_front, all_true_front, all_true_from, in_contains, contains_in, in_front}
 use Rattle.step_laws.proofs.Alike.{replays_alike, settings_same}
 use Rattle.step_laws.proofs.Beaten.{attempt_named}
-use Rattle.step_laws.proofs.Bodies.{Body, JobKept, whole_of}
+use Rattle.step_laws.proofs.Bodies.{JobKept, whole_of}
 use Rattle.step_laws.proofs.Changed.{on_these, found_job, job_found}
 use Rattle.fit_laws.proofs.JobsMerged.{StayActive, changed_stay, with_changed}
 use Rattle.course_laws.proofs.Calls.{in_map}
 use Rattle.course_laws.proofs.Claims.{next_attempt}
 use Rattle.after_laws.proofs.OwnPuts.{ranges_extend}
 use Rattle.after_laws.proofs.Sources.{sources_ordered, sources_held}
-use Rattle.after_laws.proofs.Begun.{single, RunsAs, Waits, Alone, holds_alone}
+use Rattle.after_laws.proofs.Begun.{single, RunsAs, Waits, holds_alone}
 
 -- ---- the jobs
 

@@ -1,9 +1,7 @@
 -- The law on heartbeats.
-use Rattle.std.specs.Prelude.{◌≡◌, IsTrue, ℕ, List, Some}
+use Rattle.std.specs.Prelude.{◌≡◌, IsTrue, ℕ, Some}
 use Rattle.std.specs.List.{AllByRecursion}
-use Rattle.fleet_model.specs.Jobs.{job_with}
 use Rattle.fleet_model.specs.History.{Worker}
-use Rattle.fleet_model.specs.Store.{stored_jobs}
 use Rattle.fleet_model.specs.Parties.{Attempt, LiveWorker, runs_attempt}
 use Rattle.step_model.specs.Past.{Told}
 use Rattle.step_model.specs.Rivals.{Caller}
