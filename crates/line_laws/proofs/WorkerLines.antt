@@ -114,7 +114,7 @@ claim_keeps merge number n s k lawful room = by (worker_with n s.parties) refl r
         let is = is_worker merge s k n w e in
         let who : Caller = caller_of merge number (Worker w.number) in
         work_keeps merge number s k w (claim (worker_options s.options) s.moment w) (λ r. claim_reply r.begun r.stopped) (λ r. r.attempts) w.attempts lawful is.holds (λ t h. h)
-        (claims_are_lawful who (told_of merge s k) (worker_options s.options) s.moment w (calls_keep merge lawful) k.fleet.store refl) (claims_keep_fit who (told_of merge s k) (worker_options s.options) s.moment w (calls_keep merge lawful) refl k.fleet.store is.holds) room
+        (claims_are_lawful who (told_of merge s k) (worker_options s.options) s.moment w (calls_keep merge lawful) k.fleet.store refl) (claims_keep_fit who (told_of merge s k) (worker_options s.options) s.moment w (calls_keep merge lawful) refl k.fleet.store is.holds).0 room
 
 pub heartbeat_keeps : (merge : Operator) (number n : ℕ) (s : State) (k : StateKeeps merge s) → IsLawful merge → HadRoom (run_line number s (heartbeat_line n s)).1.store → StateKeeps merge (run_line number s (heartbeat_line n s)).1
 heartbeat_keeps merge number n s k lawful room = by (worker_with n s.parties) refl room
@@ -170,7 +170,7 @@ finish_keeps inputs number n job refusal s k lawful may room = by (job_at s n jo
         let step = finish inputs.merge s.store.tables (worker_options s.options) s.moment w a refusal in
         work_keeps inputs.merge number s k w step (λ r. reply (codes "ok" ∷ ranges_text r.outputs ∷ [])) (λ r. r.attempts) (dropped w a) lawful is.holds (λ t h. fewer_attempts inputs.merge t w _ h)
         (finishes_are_lawful who (told_of inputs.merge s k) (worker_options s.options) s.moment w a refusal (calls_keep inputs.merge lawful) lawful refl k.fleet.store is.holds is.runs (whole a refusal w may))
-        (finishes_keep_fit who (told_of inputs.merge s k) (worker_options s.options) s.moment w a refusal (calls_keep inputs.merge lawful) lawful refl k.fleet.store is.holds is.runs (whole a refusal w may)) room
+        (finishes_keep_fit who (told_of inputs.merge s k) (worker_options s.options) s.moment w a refusal (calls_keep inputs.merge lawful) lawful refl k.fleet.store is.holds is.runs (whole a refusal w may)).0 room
 
 pub output_keeps : (inputs : Inputs) (number n job place rows : ℕ) (refusal : Option (List ℕ)) (s : State) (k : StateKeeps inputs.merge s) → IsLawful inputs.merge → 1 ≤ place
     → let c = if_some (range_at s n job place) (no_such_party s) (λ found. output_line inputs s found.0 found.1 place found.2 rows refusal) in HadRoom (run_line number s c).1.store → StateKeeps inputs.merge (run_line number s c).1
