@@ -130,6 +130,7 @@ ran inputs number commits_only n old k answer new lawful polls_lawful r =
         tables = ap (λ (store : Store). store.tables) (sym r.step.stored) ∙ d.did.tables;
       };
       says = says;
+      jobs = d.jobs;
       right = λ changed. commits_right inputs.merge (Coordinator n) old.store r.step.report says.others lawful says.steps (d.put changed);
     }
 

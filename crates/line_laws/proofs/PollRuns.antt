@@ -3,8 +3,9 @@ use Rattle.std.proofs.Common.{◌≡◌, refl, sym, ◌∙◌, ap, subst, ℕ, z
 use Rattle.std.specs.Prelude.{◌==◌, nat_lt, map}
 use Rattle.std.proofs.lemmas.Bool.Decides.{Decides-eqb}
 use Rattle.fleet_model.specs.Jobs.{Jobs, trimmed}
-use Rattle.fleet_model.specs.Store.{Manifest, Records, Store, records_epoch}
+use Rattle.fleet_model.specs.Store.{Manifest, Records, Store, jobs_in, records_epoch}
 use Rattle.fleet_model.specs.History.{GetManifest, GetRecords, Commit, Polled, ManifestChange, RecordChange}
+use Rattle.fleet_model.specs.Records.{jobs_after}
 use Rattle.fleet_model.specs.PollStates.{PollState}
 use Rattle.fleet_model.specs.Polls.{change_of, is_nothing}
 use Rattle.fleet_model.specs.Exchanges.{Exchange, Plain, DrawsJob, PutsManifest, PutsRecords, records_version, next_job_id, performed}
@@ -19,7 +20,7 @@ use Rattle.step_model.specs.Lawful.{Lawful}
 use Rattle.step_laws.specs.Runs.{CallsKeep}
 use Rattle.step_laws.proofs.Elements.{is_itself}
 use Rattle.course_laws.proofs.Sweeps.{alone_same}
-use Rattle.line_laws.specs.PollRuns.{input_at, reached, manifest_behind, records_behind, PollDid, SameObjects, CommitPut}
+use Rattle.line_laws.specs.PollRuns.{input_at, reached, manifest_behind, records_behind, PollDid, SameObjects, CommitPut, JobsPut}
 
 -- ---- a party that is alone
 
@@ -120,6 +121,11 @@ record PutRest (p reported : PollState) (old new : Store) : Type 0 where
   pub manifest : new.manifest ≡ old.manifest
   pub records : new.records ≡ records_behind old.records p
   pub tables : new.tables ≡ old.tables
+  pub jobs : is_nothing (change_of p) ≡ false → JobsPut old p
+
+-- The put jobs are the same over another store with the same records.
+jobs_moved : (p : PollState) (a b : Store) → a.records ≡ b.records → JobsPut a p → JobsPut b p
+jobs_moved p a b same put = record { unrecorded = put.unrecorded; made = put.made ∙ ap (λ (r : Option Records). jobs_after put.unrecorded (Polled (change_of p)) (jobs_in r)) same }
 
 puts_rest : (who : Caller) (epoch : ℕ) (p reported : PollState) (left seen : ℕ) (told new : Told) → CallsKeep who.merge → who.alone ≡ true → Going who (puts_polled epoch p (records_or_none told.store.records) left seen) told new (Reports reported)
     → PutRest p reported told.store new.store
@@ -133,9 +139,9 @@ puts_rest who epoch p reported (suc left) seen told new keep alone going =
     there : got.version ≡ records_version told.store.records
     there = got_version told.store.records
 
-    ended : is_nothing (change_of p) ≡ false → Runs who (Ends (Reports p)) (told_by who.line who.party (PutsRecords got.version (Polled (change_of p)) got.epoch (trimmed p.jobs)) None told) new (Gives (Reports reported))
+    ended : is_nothing (change_of p) ≡ false → JobsPut told.store p → Runs who (Ends (Reports p)) (told_by who.line who.party (PutsRecords got.version (Polled (change_of p)) got.epoch (trimmed p.jobs)) None told) new (Gives (Reports reported))
         → PutRest p reported told.store new.store
-    ended e run =
+    ended e jobs run =
         let put = subst (λ (version : ℕ). RecordsPut told.store (performed (PutsRecords version (Polled (change_of p)) got.epoch (trimmed p.jobs)) told.store) got.epoch (trimmed p.jobs)) (sym there) (records_put (Polled (change_of p)) got.epoch (trimmed p.jobs) told.store) in
         let left = run.0 in
         record {
@@ -144,6 +150,7 @@ puts_rest who epoch p reported (suc left) seen told new keep alone going =
           records = ap (λ (t : Told). t.store.records) (sym left) ∙ put.records ∙ ap (λ (n : ℕ). Some (record { version = records_version told.store.records + 1; epoch = n; jobs = trimmed p.jobs })) (got_epoch told.store.records)
               ∙ sym (ap (λ (b : Bool). cond b told.store.records (Some (record { version = records_version told.store.records + 1; epoch = records_epoch told.store.records; jobs = trimmed p.jobs }))) e);
           tables = ap (λ (t : Told). t.store.tables) (sym left) ∙ put.tables;
+          jobs = λ changed. jobs;
         }
 
     by : (again : ℕ → Course (StepEnd PollState)) (b : Bool) → is_nothing (change_of p) ≡ b
@@ -153,13 +160,16 @@ puts_rest who epoch p reported (suc left) seen told new keep alone going =
       manifest = ap (λ (t : Told). t.store.manifest) (sym left);
       records = ap (λ (t : Told). t.store.records) (sym left) ∙ sym (ap (λ (b : Bool). cond b told.store.records (Some (record { version = records_version told.store.records + 1; epoch = records_epoch told.store.records; jobs = trimmed p.jobs }))) e);
       tables = ap (λ (t : Told). t.store.tables) (sym left);
+      jobs = λ changed. absurd (cc (e, changed));
     }
     by again false e going =
         let x = PutsRecords got.version (Polled (change_of p)) got.epoch (trimmed p.jobs) in
         let same : (got.version == records_version told.store.records) ≡ true = (Decides-eqb got.version (records_version told.store.records)).1 there in
         let next : Store → Course (StepEnd PollState) = λ met. cond (got.version == records_version met.records) (Ends (Reports p)) (again (records_version met.records)) in
-        ended e (subst (λ (b : Bool). Runs who (cond b (Ends (Reports p)) (again (records_version told.store.records))) (told_by who.line who.party x None told) new (Gives (Reports reported))) same
-        (alone_next who x next told new (Reports reported) keep alone going).going.run)
+        let gone = alone_next who x next told new (Reports reported) keep alone going in
+        let fits = gone.call.1 there in
+        ended e (record { unrecorded = fits.unrecorded; made = fits.makes_jobs })
+        (subst (λ (b : Bool). Runs who (cond b (Ends (Reports p)) (again (records_version told.store.records))) (told_by who.line who.party x None told) new (Gives (Reports reported))) same gone.going.run)
 
 -- What a poll leaves that reached this state and has put nothing yet.
 record PutAll (who : Caller) (p reported : PollState) (old new : Store) : Type 0 where
@@ -168,6 +178,7 @@ record PutAll (who : Caller) (p reported : PollState) (old new : Store) : Type 0
   pub records : new.records ≡ records_behind old.records p
   pub tables : new.tables ≡ old.tables
   pub put : is_unchanged old.manifest p ≡ false → CommitPut who.merge who.party old p
+  pub jobs : is_nothing (change_of p) ≡ false → JobsPut old p
 
 puts_all : (who : Caller) (epoch : ℕ) (p reported : PollState) (left seen : ℕ) (again : ℕ → Course (StepEnd PollState)) (told new : Told) → CallsKeep who.merge → who.alone ≡ true
     → Going who (puts_trees epoch p told.store.manifest (records_or_none told.store.records) left seen again) told new (Reports reported) → PutAll who p reported told.store new.store
@@ -189,6 +200,7 @@ puts_all who epoch p reported left seen again told new keep alone going = by (is
       records = rest.records ∙ ap (λ (r : Option Records). records_behind r p) put.records;
       tables = rest.tables ∙ put.tables;
       put = λ changed. commit;
+      jobs = λ changed. jobs_moved p _ told.store put.records (rest.jobs changed);
     }
 
     by : (b : Bool) → is_unchanged m p ≡ b
@@ -202,6 +214,7 @@ puts_all who epoch p reported left seen again told new keep alone going = by (is
           records = rest.records;
           tables = rest.tables;
           put = λ changed. absurd (cc (e, changed));
+          jobs = rest.jobs;
         }
     by false e going =
         let x = PutsManifest m.version (Commit p.steps) value in
@@ -225,6 +238,7 @@ unfenced who epoch stored next told new p going = by (nat_lt epoch stored) going
 pub record PollKept (who : Caller) (ask : PollAsk) (old new : Store) (p : PollState) : Type 0 where
   pub did : PollDid ask old new p
   pub put : is_unchanged old.manifest p ≡ false → CommitPut who.merge who.party old p
+  pub jobs : is_nothing (change_of p) ≡ false → JobsPut old p
 
 polls_did : (who : Caller) (ask : PollAsk) (left seen : ℕ) (told new : Told) (p : PollState) → CallsKeep who.merge → who.alone ≡ true → Going who (polls_from ask left seen) told new (Reports p) → PollKept who ask told.store new.store p
 polls_did who ask zero seen told new p keep alone going = absurd (cc (going.run.1))
@@ -259,6 +273,7 @@ polls_did who ask (suc left) seen told new p keep alone going =
             tables = all.tables ∙ d.same.tables;
           };
           put = λ changed. moved q all.is (all.put (ap (λ (m : Manifest). is_unchanged m q) d.same.manifest ∙ ap (is_unchanged told.store.manifest) (sym all.is) ∙ changed));
+          jobs = λ changed. subst (JobsPut told.store) (sym all.is) (jobs_moved q d.mid.store told.store d.same.records (all.jobs (ap (λ (r : PollState). is_nothing (change_of r)) (sym all.is) ∙ changed)));
         }
       where
         moved : (q : PollState) → p ≡ q → CommitPut who.merge who.party d.mid.store q → CommitPut who.merge who.party told.store p

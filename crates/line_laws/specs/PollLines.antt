@@ -12,7 +12,7 @@ use Rattle.fleet_model.specs.Trees.{stepped_in}
 use Rattle.fleet_model.specs.Gates.{commit_gate, submit_gate}
 use Rattle.fleet_model.specs.JobsFit.{was_joined}
 use Rattle.fleet_model.specs.PollStates.{PollInput, PollState, begun, accepts}
-use Rattle.fleet_model.specs.Polls.{free_stale, commit_job, commit_finished, add_drawn, lost_to_scheduler, can_move, open_job}
+use Rattle.fleet_model.specs.Polls.{free_stale, commit_job, commit_finished, add_drawn, lost_to_scheduler, can_move, open_job, change_of, is_nothing}
 use Rattle.step_model.specs.Past.{Told}
 use Rattle.step_model.specs.PollSteps.{PollAsk, is_unchanged}
 use Rattle.commit_laws.specs.Behind.{trees_behind}
@@ -24,7 +24,7 @@ use Rattle.script_model.specs.PollLines.{poll_ask}
 use Rattle.script_model.specs.Settles.{is_ok}
 use Rattle.line_laws.specs.Premises.{PollsAreLawful}
 use Rattle.line_laws.specs.Ran.{ThenRan}
-use Rattle.line_laws.specs.PollRuns.{input_at, PollDid, CommitPut}
+use Rattle.line_laws.specs.PollRuns.{input_at, PollDid, CommitPut, JobsPut}
 
 -- ---- what a poll reaches
 
@@ -162,6 +162,7 @@ pub record PollRan (inputs : Inputs) (commits_only : Bool) (n : ℕ) (old : Stat
   pub printed : answer ≡ told_by_poll commits_only p
   pub did : PollDid (poll_ask inputs old coordinator commits_only) old.store new.store p
   pub says : PollSays (poll_ask inputs old coordinator commits_only) old.store did.drawn p
+  pub jobs : is_nothing (change_of p) ≡ false → JobsPut old.store p
   pub right : is_unchanged old.store.manifest p ≡ false → CommitsRight inputs.merge (Coordinator n) old.store p
 
 -- Each poll of a script that is not refused does so.

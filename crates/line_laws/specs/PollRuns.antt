@@ -2,8 +2,9 @@
 use Rattle.std.specs.Prelude.{◌≡◌, ℕ, ◌+◌, if◌then◌else◌, List, map, Option, Some}
 use Rattle.row_model.specs.Fold.{Operator}
 use Rattle.fleet_model.specs.Jobs.{JobSpec, trimmed}
-use Rattle.fleet_model.specs.History.{Party}
-use Rattle.fleet_model.specs.Store.{Manifest, Records, Store, records_epoch}
+use Rattle.fleet_model.specs.History.{Party, Polled}
+use Rattle.fleet_model.specs.Records.{Unrecorded, jobs_after}
+use Rattle.fleet_model.specs.Store.{Manifest, Records, Store, stored_jobs, records_epoch}
 use Rattle.fleet_model.specs.PollStates.{PollInput, PollState}
 use Rattle.fleet_model.specs.Polls.{change_of, is_nothing}
 use Rattle.fleet_model.specs.Exchanges.{records_version}
@@ -52,3 +53,10 @@ pub record CommitPut (merge : Operator) (party : Party) (old : Store) (p : PollS
   pub kept : Keeps merge at
   pub same : SameObjects old at.store
   pub fits : CommitFits party at p.steps (record at.store.manifest { trees = p.trees; horizon = p.horizon })
+
+-- The jobs that a poll put which reached this state: they are what its change makes of the stored ones. A
+-- freed job waits for a worker again and keeps its context, and a job that the change does not name stays
+-- as it was.
+pub record JobsPut (old : Store) (p : PollState) : Type 0 where
+  pub unrecorded : Unrecorded
+  pub made : trimmed p.jobs ≡ jobs_after unrecorded (Polled (change_of p)) (stored_jobs old)
