@@ -1,9 +1,10 @@
 -- Scripts keep the invariant: each line does, the rounds of settle lines do, and so do all lines.
-use Rattle.std.proofs.Common.{◌≡◌, refl, sym, ◌∙◌, ap, subst, ℕ, zero, suc, ◌+◌, ◌≤◌, List, [], ◌∷◌, Bool, true, false, Option, Some, None, length, arith}
+use Rattle.std.proofs.Common.{◌≡◌, refl, sym, ◌∙◌, ap, subst, ℕ, zero, suc, ◌+◌, ◌≤◌, List, [], ◌∷◌, ◌++◌, Bool, true, false, Option, Some, None, length, arith}
 use Rattle.std.specs.Prelude.{⊤}
 use Rattle.std.specs.List.{AllByRecursion}
 use Rattle.row_model.specs.Fold.{Operator, IsLawful}
 use Rattle.step_model.specs.Past.{fresh_told}
+use Rattle.step_laws.proofs.Elements.{all_front, all_back}
 use Rattle.step_laws.proofs.Fresh.{fresh_keeps}
 use Rattle.script_model.specs.Script.{Line, Options, Clock, StartCoordinator, StartWorker, KillCoordinator, KillWorker, StopCoordinator, StopWorker, FlushRows, ReadKey, SubmitJob, SubmitDrain, SubmitFull, Poll, CommitOnly, ClaimJobs, Heartbeat, Output, FinishJob, SetFault, ShowTrees, ShowJobs, ShowTables, Dump, Sweep, Scan, Settle, IsInBounds}
 use Rattle.script_model.specs.Replies.{poll_reply, commit_reply}
@@ -16,7 +17,7 @@ use Rattle.script_model.specs.Follows.{SettleStep, LineStep, ScriptRun}
 use Rattle.line_laws.specs.Alone.{HadRoom}
 use Rattle.line_laws.specs.Premises.{PollsAreLawful}
 use Rattle.line_laws.specs.States.{StateKeeps}
-use Rattle.line_laws.specs.Scripts.{ScriptsKeep}
+use Rattle.line_laws.specs.Scripts.{FirstLinesRun, ScriptsKeep}
 use Rattle.line_laws.proofs.AloneRuns.{alone_grows}
 use Rattle.line_laws.proofs.SameLines.{flush_keeps, submit_keeps, full_keeps, sweep_keeps, polls_keep}
 use Rattle.line_laws.proofs.PartyLines.{start_worker_keeps, end_coordinator_keeps, kill_worker_keeps, start_coordinator_keeps}
@@ -169,3 +170,39 @@ fresh_state_keeps merge options = record {
 
 pub scripts_keep : ScriptsKeep
 scripts_keep inputs lines last polls_lawful run = (run_leads inputs 1 (fresh_state run.options) lines run.answers last run.lawful polls_lawful run.in_bounds run.run).keeps run.had_room (fresh_state_keeps inputs.merge run.options)
+
+-- ---- the first lines
+
+-- A run of lines, cut in two.
+record CutRun (inputs : Inputs) (number : ℕ) (old : State) (first others : List Line) (last : State) : Type 0 where
+  mid : State
+  front : List (List ℕ)
+  back : List (List ℕ)
+  before : ScriptRun inputs number old first front mid
+  rest : ScriptRun inputs (length first + number) mid others back last
+
+cut_run : (inputs : Inputs) (number : ℕ) (old : State) (first others : List Line) (answers : List (List ℕ)) (last : State) → ScriptRun inputs number old (first ++ others) answers last → CutRun inputs number old first others last
+cut_run inputs number old [] others answers last run = record { mid = old; front = []; back = answers; before = refl; rest = subst (λ (n : ℕ). ScriptRun inputs n old others answers last) (omega arith) run }
+cut_run inputs number old (line ∷ first) others [] last run = absurd run
+cut_run inputs number old (line ∷ first) others (answer ∷ answers) last (mid, step, run) = further (cut_run inputs (number + 1) mid first others answers last run)
+  where
+    further : CutRun inputs (number + 1) mid first others last → CutRun inputs number old (line ∷ first) others last
+    further c = record {
+      mid = c.mid;
+      front = answer ∷ c.front;
+      back = c.back;
+      before = (mid, step, c.before);
+      rest = subst (λ (n : ℕ). ScriptRun inputs n c.mid others c.back last) (omega arith) c.rest;
+    }
+
+pub first_lines_run : FirstLinesRun
+first_lines_run inputs first others last polls_lawful run =
+    let c = cut_run inputs 1 (fresh_state run.options) first others run.answers last run.run in
+    let grows = (run_leads inputs (length first + 1) c.mid others c.back last run.lawful polls_lawful (all_back IsInBounds first others run.in_bounds) c.rest).grows in
+    let room = run.had_room in
+    record {
+      mid = c.mid;
+      before = record { lawful = run.lawful; in_bounds = all_front IsInBounds first others run.in_bounds; options = run.options; answers = c.front; run = c.before; had_room = omega (arith, grows, room) };
+      answers = c.back;
+      rest = c.rest;
+    }

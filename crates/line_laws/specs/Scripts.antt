@@ -1,5 +1,5 @@
 -- The law on scripts: each line leaves a state that keeps the invariant.
-use Rattle.std.specs.Prelude.{ℕ, List}
+use Rattle.std.specs.Prelude.{ℕ, ◌+◌, List, ◌++◌, length}
 use Rattle.std.specs.List.{AllByRecursion}
 use Rattle.row_model.specs.Fold.{IsLawful}
 use Rattle.script_model.specs.Script.{Line, IsInBounds}
@@ -10,8 +10,7 @@ use Rattle.line_laws.specs.Premises.{PollsAreLawful}
 use Rattle.line_laws.specs.States.{StateKeeps}
 
 -- A fresh fleet ran these lines, which are in bounds, and left this state. The operator is lawful, and
--- the history of the state had room for all draws. The first lines of a script are lines too, so this
--- is said of the state behind each line.
+-- the history of the state had room for all draws.
 pub record HasRun (inputs : Inputs) (lines : List Line) (last : State) : Type 0 where
   pub lawful : IsLawful inputs.merge
   pub in_bounds : AllByRecursion IsInBounds lines
@@ -19,6 +18,18 @@ pub record HasRun (inputs : Inputs) (lines : List Line) (last : State) : Type 0 
   pub answers : List (List ℕ)
   pub run : ScriptRun inputs 1 (fresh_state options) lines answers last
   pub had_room : HadRoom last.store
+
+-- The first lines ran too, in a run of their own, and then the others from the state that they left.
+pub record RanFirst (inputs : Inputs) (first others : List Line) (last : State) : Type 0 where
+  pub mid : State
+  pub before : HasRun inputs first mid
+  pub answers : List (List ℕ)
+  pub rest : ScriptRun inputs (length first + 1) mid others answers last
+
+-- Lines that ran may be cut in two anywhere. So what is said of the last state of a run is said of the
+-- state behind each of its lines.
+abbrev pub FirstLinesRun : Type 0
+FirstLinesRun = (inputs : Inputs) (first others : List Line) (last : State) → PollsAreLawful → HasRun inputs (first ++ others) last → RanFirst inputs first others last
 
 -- The state behind each line of a script keeps the invariant, and each live party fits, if polls are
 -- lawful courses.

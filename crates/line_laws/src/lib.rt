@@ -6,7 +6,7 @@ ghost use Rattle.line_laws.specs.Alone.{AloneRuns};
 ghost use Rattle.line_laws.specs.ClaimLines.{ClaimsTake};
 ghost use Rattle.line_laws.specs.PollLines.{PollsCommit};
 ghost use Rattle.line_laws.specs.ReadLines.{ReadsAnswer};
-ghost use Rattle.line_laws.specs.Scripts.{ScriptsKeep};
+ghost use Rattle.line_laws.specs.Scripts.{FirstLinesRun, ScriptsKeep};
 
 /// A course that runs alone over a store runs as courses do, if the history had room for its draws.
 pub fn alone_runs()
@@ -17,6 +17,12 @@ pub fn alone_runs()
 /// are killed and whatever faults strike. It has a premise on polls.
 pub fn scripts_keep()
     ensures { ScriptsKeep }
+{}
+
+/// The lines of a run may be cut in two anywhere: the first ones ran too. So what the other laws
+/// say of the last state of a run, they say of the state behind each of its lines.
+pub fn first_lines_run()
+    ensures { FirstLinesRun }
 {}
 
 /// A read is refused below the horizon and before the tick. Each other read prints the fold over
