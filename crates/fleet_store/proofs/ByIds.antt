@@ -17,11 +17,11 @@ use Rattle.fleet_store.specs.Memory.{by_id}
 use Rattle.fleet_store.specs.Tables.{rows_among}
 
 -- A key is found at itself.
-at_itself : (n : ℕ) → is_at (nat_cmp n) n ≡ true
+pub at_itself : (n : ℕ) → is_at (nat_cmp n) n ≡ true
 at_itself n = unsigned_tied n n ∙ eq-eqb n n refl
 
 -- A key is not found at another.
-at_other : (q k : ℕ) → q ≢ k → is_at (nat_cmp q) k ≡ false
+pub at_other : (q k : ℕ) → q ≢ k → is_at (nat_cmp q) k ≡ false
 at_other q k other = unsigned_tied q k ∙ ne_eqb q k other
 
 -- What was inserted is found.

@@ -1,14 +1,15 @@
 -- What a store in memory keeps stays what is told of it, call by call.
-use Rattle.std.proofs.Common.{◌≡◌, refl, ap, sym, subst, ◌∙◌, ℕ, ◌+◌, ◌≤◌, ◌==◌, ◌&&◌, Bool, true, false, if◌then◌else◌, List, [], ◌∷◌, length, Option, Some, None, option_map, arith}
-use Rattle.std.specs.BTreeMap.{insert_entry}
+use Rattle.std.proofs.Common.{IsTrue, ◌≡◌, refl, ap, sym, subst, ◌∙◌, ℕ, ◌+◌, ◌≤◌, ◌==◌, ◌&&◌, Bool, true, false, if◌then◌else◌, List, [], ◌∷◌, length, Option, Some, None, option_map, arith}
+use Rattle.std.specs.BTreeMap.{insert_entry, is_at}
+use Rattle.std.specs.Map.{remove_entry}
 use Rattle.std.specs.Ordering.{nat_cmp}
 use Rattle.std.proofs.lemmas.Bool.{eqb-true}
 use Rattle.std.proofs.lemmas.List.Sums.{fold-append}
 use Rattle.row_model.specs.Rows.{Row}
 use Rattle.fleet_model.specs.History.{DrawJob, DrawTable, Event}
-use Rattle.fleet_model.specs.Exchanges.{Exchange, Plain, DrawsJob, DrawsTable, Fault, PutsTable, ListsTables, next_job_id, next_table_id, performed, records_version}
+use Rattle.fleet_model.specs.Exchanges.{DeletesTable, Exchange, Plain, DrawsJob, DrawsTable, Fault, PutsTable, ListsTables, next_job_id, next_table_id, performed, records_version}
 use Rattle.fleet_model.specs.Nodes.{Tables, is_among}
-use Rattle.fleet_model.specs.Store.{Store, held_tables}
+use Rattle.fleet_model.specs.Store.{Store, held_tables, is_held}
 use Rattle.step_model.specs.Rivals.{Strike, called}
 use Rattle.fleet_table.specs.declared.manifest.Manifest.{Manifest}
 use Rattle.fleet_table.specs.declared.manifest.VersionedManifest.{VersionedManifest}
@@ -28,7 +29,8 @@ use Rattle.fleet_store.specs.Memory.{IsMemory, by_id}
 use Rattle.fleet_store.specs.Records.{AreRecords, DescribeTables}
 use Rattle.fleet_store.specs.Strikes.{is_performed, performed_under, strike_by}
 use Rattle.fleet_store.proofs.Calls.{called_is}
-use Rattle.fleet_store.proofs.Memories.{all_map, among_front, apart_from, described_stays, held_more, named_stays, not_gone, pairs_last}
+use Rattle.fleet_store.proofs.Memories.{all_last, all_map, among_front, apart_from, described_stays, held_more, named_stays, not_gone, pairs_last, was_put}
+use Rattle.fleet_store.proofs.Removed.{held_less, without_by_id}
 
 -- A longer history changes nothing else.
 longer : (store : Store) (history : _) (many more : ℕ) (manifest : VersionedManifest) (records : Option VersionedRecords) (held : Tables) (jobs tables : ℕ)
@@ -243,6 +245,33 @@ table_kept old new id rows strike manifest records held jobs tables later adds n
           ∙ ap by_id (sym (held_more store id rows (not_gone store.tables store.deleted id is.gone none))));
       once = pairs_last _ store.tables (id, rows) is.once (apart_from store.tables id none);
       gone = all_map _ _ store.deleted (λ gone. among_front store.tables (id, rows) gone) is.gone;
+      jobs_are = is.jobs_are;
+      tables_are = is.tables_are;
+      manifest_low = omega (arith, is.manifest_low);
+      records_low = omega (arith, is.records_low);
+      jobs_low = omega (arith, is.jobs_low);
+      tables_low = omega (arith, is.tables_low);
+    }
+    at false = more_room store (length old.history) manifest records held jobs tables is
+
+-- A deleted table is no longer held, if the deletion stands.
+pub deletion_kept : (old new : LogParts) (id : ℕ) (strike : Strike) (manifest : VersionedManifest) (records : Option VersionedRecords) (held : Tables) (jobs tables : ℕ) (later : Tables)
+    → Adds (DeletesTable id) old new strike → IsTrue (is_held old.told.store id)
+    → later ≡ (if is_performed strike then remove_entry (is_at (nat_cmp id)) held else held)
+    → IsMemory old.told.store (length old.history) manifest records held jobs tables → IsMemory new.told.store (length new.history) manifest records later jobs tables
+deletion_kept old new id strike manifest records held jobs tables later adds there is_later is =
+    behind old new (DeletesTable id) strike manifest records later jobs tables adds (rw is_later (at (is_performed strike)))
+  where
+    store : Store
+    store = old.told.store
+
+    at : (p : Bool) → IsMemory (if p then performed (DeletesTable id) store else store) (length old.history + 1) manifest records (if p then remove_entry (is_at (nat_cmp id)) held else held) jobs tables
+    at true = record {
+      manifest_is = record { same = is.manifest_is.same; views = is.manifest_is.views };
+      records_are = record { same = is.records_are.same; handles = is.records_are.handles };
+      held_are = ap (remove_entry (is_at (nat_cmp id))) is.held_are ∙ (without_by_id id (held_tables store) ∙ ap by_id (sym (held_less store.deleted id store.tables)));
+      once = is.once;
+      gone = all_last _ store.deleted id is.gone (was_put store.deleted id store.tables there);
       jobs_are = is.jobs_are;
       tables_are = is.tables_are;
       manifest_low = omega (arith, is.manifest_low);

@@ -4,3 +4,5 @@ pub mod ByIds
 pub mod Memories
 pub mod Kept
 pub mod Ends
+pub mod Listed
+pub mod Removed

@@ -6,7 +6,7 @@ use Rattle.step_model.specs.Rivals.{Strike}
 use Rattle.std.specs.List.{AllByRecursion}
 use Rattle.std.specs.Option.{is_some}
 use Rattle.std.specs.BTreeMap.{insert_entry, is_at}
-use Rattle.std.specs.Map.{lookup, remove_entry}
+use Rattle.std.specs.Map.{keys_of, lookup, remove_entry}
 use Rattle.std.specs.Ordering.{nat_cmp}
 use Rattle.std.proofs.lemmas.Bool.{eqb-true, ne_eqb}
 use Rattle.std.proofs.lemmas.List.Elements.{filter-append}
@@ -22,8 +22,11 @@ use Rattle.fleet_book.specs.VersionedRecords.{VersionedRecords}
 use Rattle.fleet_store.specs.Handles.{IsDescribed, NamesTable}
 use Rattle.fleet_store.specs.Memory.{IsMemory, is_done}
 use Rattle.fleet_store.specs.Strikes.{is_performed}
-use Rattle.fleet_store.specs.Tables.{rows_among, held_rows}
+use Rattle.fleet_store.specs.Tables.{held_ids, held_rows, rows_among}
 use Rattle.fleet_store.proofs.ByIds.{found, removed_inserted}
+use Rattle.fleet_store.proofs.Listed.{as_many, keys_by_id}
+use Rattle.std.proofs.Common.{length, map}
+use Rattle.std.proofs.lemmas.List.{length-map}
 
 -- ---- lists
 
@@ -47,7 +50,7 @@ pairs_filter R p (x ∷ xs) h = by (p x) (all_filter (R x) p xs h.0) (pairs_filt
     by true here rest = (here, rest)
     by false here rest = rest
 
-all_last : {A : Type 0} (P : A → Type 0) (xs : List A) (y : A) → AllByRecursion P xs → P y → AllByRecursion P (xs ++ y ∷ [])
+pub all_last : {A : Type 0} (P : A → Type 0) (xs : List A) (y : A) → AllByRecursion P xs → P y → AllByRecursion P (xs ++ y ∷ [])
 all_last P [] y h last = (last, tt)
 all_last P (x ∷ xs) y h last = (h.0, all_last P xs y h.1 last)
 
@@ -155,3 +158,31 @@ pub taken_away_at_last : (added : Result Strike AllocError) (before between afte
     → between ≡ insert_entry nat_cmp before id rows → after ≡ remove_entry (is_at (nat_cmp id)) between → OnErr added (after ≡ before)
 taken_away_at_last (Err wanting) before between after id rows none put gone = gone ∙ (ap (remove_entry (is_at (nat_cmp id))) put ∙ removed_inserted id rows before none)
 taken_away_at_last (Ok strike) before between after id rows none put gone = tt
+
+-- ---- a list of the held tables
+
+-- The ids that are kept are those that are held.
+pub ids_are : (store : Store) (many : ℕ) (manifest : VersionedManifest) (records : Option VersionedRecords) (held : Tables) (jobs tables : ℕ)
+    → IsMemory store many manifest records held jobs tables → keys_of held ≡ held_ids store
+ids_are store many manifest records held jobs tables is = ap keys_of is.held_are ∙ keys_by_id (held_tables store) (pairs_filter _ _ store.tables is.once)
+
+-- There are as many ids as tables.
+pub ids_many : (store : Store) → length (held_ids store) ≡ length (held_tables store)
+ids_many store = as_many (map (λ table. table.0) (held_tables store)) ∙ length-map (held_tables store) (λ table. table.0)
+
+-- A held table was put.
+pub was_put : (deleted : List ℕ) (id : ℕ) (tables : Tables) → IsTrue (is_among (filter (λ table. not (contains deleted table.0)) tables) id) → IsTrue (is_among tables id)
+was_put deleted id [] there = absurd (cc there)
+was_put deleted id (t ∷ tables) there = by (contains deleted t.0) (t.0 == id) (was_put deleted id tables) (subst IsTrue (split (contains deleted t.0)) there)
+  where
+    left : Tables
+    left = filter (λ table. not (contains deleted table.0)) tables
+
+    split : (b : Bool) → is_among (if not b then t ∷ left else left) id ≡ (if not b then (t.0 == id) || is_among left id else is_among left id)
+    split true = refl
+    split false = refl
+
+    by : (b c : Bool) → (IsTrue (is_among left id) → IsTrue (is_among tables id)) → IsTrue (if not b then c || is_among left id else is_among left id) → IsTrue (c || is_among tables id)
+    by b true rest there = refl
+    by true false rest there = rest there
+    by false false rest there = rest there

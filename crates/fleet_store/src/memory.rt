@@ -1,8 +1,8 @@
 //! A store in memory.
 
-ghost use Rattle.std.specs.Prelude.{◌≡◌, ◌+◌, ◌<◌, ◌≤◌, ◌^◌, ◌&&◌, ◌==◌, [], None, Some, false, if◌then◌else◌, OnErr, IfOk, option_map, ⊤};
+ghost use Rattle.std.specs.Prelude.{◌≡◌, ◌+◌, ◌<◌, ◌≤◌, ◌^◌, ◌&&◌, ◌==◌, [], None, Some, false, if◌then◌else◌, OnErr, IfOk, IsOkUnless, option_map, IsTrue, ⊤};
 ghost use Rattle.std.specs.BTreeMap.{insert_entry, is_at};
-ghost use Rattle.std.specs.Map.{lookup};
+ghost use Rattle.std.specs.Map.{keys_of, lookup, remove_entry};
 ghost use Rattle.std.specs.Option.{is_some, option_copied};
 ghost use Rattle.std.specs.Ordering.{nat_cmp};
 ghost use Rattle.row_model.specs.Fold.{Operator};
@@ -10,7 +10,7 @@ ghost use Rattle.fleet_model.specs.Exchanges as exchange;
 ghost use Rattle.fleet_model.specs.Exchanges.{DeletesTable, DrawsJob, DrawsTable, Fault, ListsTables, Plain, PutsTable, next_job_id, next_table_id, records_version};
 ghost use Rattle.fleet_model.specs.History as event;
 ghost use Rattle.fleet_model.specs.Nodes.{is_among};
-ghost use Rattle.fleet_model.specs.Store.{is_held};
+ghost use Rattle.fleet_model.specs.Store.{fresh_store, is_held};
 ghost use Rattle.fleet_model.specs.Jobs.{id_of};
 ghost use Rattle.fleet_history.specs.Changes.{manifest_change_of};
 ghost use Rattle.fleet_history.specs.Entries.{answer_of, history_of};
@@ -31,7 +31,9 @@ use crate::log::{Log, takes_effect};
 use fleet_book::{Compactions, VersionedCompactions};
 use fleet_history::{Answer, Event, HistoryEntry, ManifestChange, Note, Party, RecordChange};
 use fleet_rows::{DRAWN_BASE, JobList, SlateDBError, Ulid};
-use fleet_table::{Manifest, ManifestCore, TableData, VersionedManifest};
+use fleet_table::{
+    LsmTreeState, Manifest, ManifestCore, SegmentList, TableData, TrackerList, VersionedManifest,
+};
 use std::alloc::{AllocError, Global};
 use std::collections::BTreeMap;
 use std::marker::Model;
@@ -66,6 +68,28 @@ impl Model for MemStore {
 }
 
 impl MemStore {
+    /// A fresh store. Its manifest has an empty root tree, and it has no records.
+    pub fn new(alloc: Global) -> Result<MemStore, SlateDBError>
+        ensures store { IfOk result (λ store. store ≡ record {
+          told = fresh_told;
+          history = [];
+          line = 0;
+          party = Writer;
+          faults = 0;
+          waits = None;
+        }) }
+        ensures memory { IsOkUnless result SlateDBError.Memory }
+    {
+        Ok(MemStore {
+            log: Log::new(alloc),
+            manifest: fresh_manifest(alloc),
+            records: None,
+            tables: BTreeMap::new(alloc),
+            jobs_drawn: 0,
+            tables_drawn: 0,
+        })
+    }
+
     /// The manifest, looked at without a call.
     pub fn manifest(&self) -> &VersionedManifest
         ensures { IsManifest result.now self.now.told.store }
@@ -78,6 +102,13 @@ impl MemStore {
         ensures { AreRecords (option_copied result) self.now.told.store }
     {
         self.records.as_ref()
+    }
+
+    /// The table with this id, looked at without a call, or None if it is not held.
+    pub fn table(&self, id: Ulid) -> Option<&TableData>
+        ensures { option_copied result ≡ held_rows id self.now.told.store }
+    {
+        self.tables.get(&id)
     }
 
     /// The history.
@@ -224,6 +255,70 @@ impl MemStore {
         let answer = table_answer(&table);
         let strike = self.log.add_plain(Event::GetTable(id), answer)?;
         Ok((strike, Ok(table)))
+    }
+
+    pub(crate) fn make_list_tables(&mut self, alloc: Global) -> Outcome<JobList>
+        ensures { Makes ListsTables (λ ids. ids ≡ held_ids self.old.told.store)
+            (Never self.old.told.store) self.old self.new result }
+    {
+        let ids = JobList::from_vec(ids_of(alloc, &self.tables)?);
+        let count = ids.len();
+        let made = Made::ListsTables;
+        let strike = self
+            .log
+            .add(made, Event::ListTables(count), Answer::Done(0))?;
+        Ok((strike, Ok(ids)))
+    }
+}
+
+impl MemStore {
+    pub(crate) fn make_delete_table(&mut self, id: Ulid) -> Outcome<()>
+        requires { IsTrue (is_held self.old.told.store id) }
+        ensures { Makes (DeletesTable id) (λ done. ⊤) (Never self.old.told.store)
+            self.old self.new result }
+    {
+        let made = Made::DeletesTable(id);
+        let strike = self.log.add(made, Event::DeleteTable(id), Answer::Done(0))?;
+        drop_table(&mut self.tables, takes_effect(strike), id);
+        Ok((strike, Ok(())))
+    }
+}
+
+// Drops a table, if its deletion stands.
+fn drop_table(tables: &mut BTreeMap<Ulid, TableData>, stands: bool, id: Ulid)
+    ensures { tables.new.entries ≡ (if stands
+        then remove_entry (is_at (nat_cmp id)) tables.old.entries
+        else tables.old.entries) }
+{
+    if stands {
+        tables.remove(&id);
+    }
+}
+
+// The ids of the tables, in rising order.
+fn ids_of(alloc: Global, tables: &BTreeMap<Ulid, TableData>) -> Result<Vec<Ulid>, AllocError>
+    ensures { IfOk result (λ ids. ids.items ≡ keys_of tables.now.entries) }
+{
+    tables.keys().copied().collect(alloc)
+}
+
+// The manifest of a fresh store.
+fn fresh_manifest(alloc: Global) -> VersionedManifest
+    ensures { IsManifest result fresh_store }
+{
+    VersionedManifest {
+        id: 1,
+        manifest: Manifest {
+            compactor_epoch: 0,
+            core: ManifestCore {
+                tree: LsmTreeState::new(alloc),
+                segments: SegmentList::new(alloc),
+                recent_snapshot_min_seq: 0,
+                last_l0_clock_tick: i64::MIN,
+                tracker: TrackerList::new(alloc),
+                horizon: 0,
+            },
+        },
     }
 }
 

@@ -11,6 +11,7 @@ use fleet_book::{Compactions, VersionedCompactions};
 use fleet_history::{ManifestChange, Note, RecordChange};
 use fleet_rows::{JobList, SlateDBError, Ulid};
 use fleet_table::{Manifest, TableData, VersionedManifest};
+use std::alloc::Global;
 
 /// A store that parties share. Each call that is not refused for want of memory is one entry of
 /// its history. Calls of others may come before a call, if the store is not alone. A put, a note
@@ -132,7 +133,7 @@ pub trait Store {
 /// A store whose tables can be listed and deleted.
 pub trait SweepStore: Store {
     /// The ids of the tables that are held, in rising order.
-    fn list_tables(&mut self) -> Result<JobList, SlateDBError>
+    fn list_tables(&mut self, alloc: Global) -> Result<JobList, SlateDBError>
         ensures lists { asks.ListsHeld (Self.who self.old) (Self.told self.old) (Self.told self.new)
             (Self.faults self.old) (Self.faults self.new) (Self.waits self.old) (Self.waits self.new) result }
         ensures same_who { Self.who self.new ≡ Self.who self.old }

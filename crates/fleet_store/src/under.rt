@@ -3,12 +3,13 @@
 ghost use Rattle.std.specs.Prelude.{◌≡◌};
 
 use crate::memory::ended;
-use crate::{MemStore, Store};
+use crate::{MemStore, Store, SweepStore};
 use fleet_book::{Compactions, VersionedCompactions};
 use fleet_fold::MergeOperator;
 use fleet_history::{ManifestChange, Note, RecordChange};
-use fleet_rows::{SlateDBError, Ulid};
+use fleet_rows::{JobList, SlateDBError, Ulid};
 use fleet_table::{Manifest, TableData, VersionedManifest};
+use std::alloc::Global;
 
 /// A store in memory, lent together with the operator under which its rows are merged. Nobody else
 /// calls it.
@@ -92,5 +93,15 @@ impl<O: MergeOperator> Store for Under<'_, '_, O> {
 
     fn draw_table(&mut self, moment: u64) -> Result<Ulid, SlateDBError> {
         ended(self.store.make_draw_table(moment))
+    }
+}
+
+impl<O: MergeOperator> SweepStore for Under<'_, '_, O> {
+    fn list_tables(&mut self, alloc: Global) -> Result<JobList, SlateDBError> {
+        ended(self.store.make_list_tables(alloc))
+    }
+
+    fn delete_table(&mut self, id: Ulid) -> Result<(), SlateDBError> {
+        ended(self.store.make_delete_table(id))
     }
 }
