@@ -16,3 +16,4 @@ pub mod Starts
 pub mod Plans
 pub mod Claims
 pub mod Fewer
+pub mod Refusals

@@ -4,5 +4,6 @@ pub mod Behind
 pub mod Beats
 pub mod Releases
 pub mod Outputs
+pub mod Refusals
 pub mod Finishes
 pub mod Claims

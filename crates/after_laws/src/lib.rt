@@ -9,8 +9,9 @@ ghost use Rattle.after_laws.specs.Beats.{BeatsKeepFit};
 ghost use Rattle.after_laws.specs.Claims.{ClaimsKeepFit};
 ghost use Rattle.after_laws.specs.Fewer.{FewerFit, IdleFit};
 ghost use Rattle.after_laws.specs.Finishes.{FinishesKeepFit};
-ghost use Rattle.after_laws.specs.Outputs.{OutputsKeepFit};
+ghost use Rattle.after_laws.specs.Outputs.{OutputsKeepFit, OutputsSay};
 ghost use Rattle.after_laws.specs.OwnCalls.{OwnCallsKeep};
+ghost use Rattle.after_laws.specs.Refusals.{RefusalsGiveBack};
 ghost use Rattle.after_laws.specs.Releases.{ReleasesKeepFit};
 
 /// A lawful call of the worker itself keeps what it holds, if no fault strikes the call. Its puts of
@@ -42,9 +43,19 @@ pub fn beats_keep_fit()
 {}
 
 /// A worker fits behind its output. The table that it put is noted for the range whose next rows it
-/// holds. Where the operator refused a fold, the attempt is given back.
+/// holds.
 pub fn outputs_keep_fit()
     ensures { OutputsKeepFit }
+{}
+
+/// A table that an output reports is held, has the next rows of its range, and is noted for it.
+pub fn outputs_say()
+    ensures { OutputsSay }
+{}
+
+/// Where the operator refuses a fold, the attempt is given back, so it is not live any more.
+pub fn refusals_give_back()
+    ensures { RefusalsGiveBack }
 {}
 
 /// A worker fits behind its finish. Its other attempts stay, and the finished one is not live.
