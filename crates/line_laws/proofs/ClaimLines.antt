@@ -35,13 +35,13 @@ found_worker : (n : ℕ) (w : LiveWorker) (parties : Parties) → n ≡ w.number
 found_worker n w parties same = ap (λ (b : Bool). cond b (Some w) (find (λ (v : LiveWorker). n == v.number) (without_worker w.number parties).workers)) ((Decides-eqb n w.number).1 same)
 
 pub claims_take : ClaimsTake
-claims_take inputs lines old new n answer polls_lawful then_ran ok = by (worker_with n old.parties) refl (claim_is inputs then_ran.number old new n answer then_ran.step)
+claims_take inputs lines old new n answer then_ran ok = by (worker_with n old.parties) refl (claim_is inputs then_ran.number old new n answer then_ran.step)
   where
     merge_lawful : IsLawful inputs.merge
     merge_lawful = then_ran.before.lawful
 
     k : StateKeeps inputs.merge old
-    k = scripts_keep inputs lines old polls_lawful then_ran.before
+    k = scripts_keep inputs lines old then_ran.before
 
     line : Option LiveWorker → LineCourse
     line o = if_some o (no_such_party old) (λ w. worker_line w old (claim (worker_options old.options) old.moment w) (λ r. claim_reply r.begun r.stopped) (λ r. r.attempts) w.attempts)

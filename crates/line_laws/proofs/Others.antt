@@ -73,6 +73,7 @@ coordinator_holds who c x strike told kept lawful may one h =
     let rises = called_epoch who.merge who.line who.party told x strike lawful in
     let low = h.recorded in
     record {
+      counted = h.counted;
       put = subst (λ (history : List Entry). IsTrue (did_put_epoch (Coordinator c.number) history c.epoch)) (sym (call_history who.line who.party x strike told.store))
           (any_front (λ (e : Entry). party_eq (Coordinator c.number) e.party && puts_epoch c.epoch e.event && stood e.answer) told.store.history (entry_by who.line who.party x strike told.store ∷ []) h.put);
       recorded = omega (arith, rises, low);

@@ -21,6 +21,7 @@ use Rattle.step_model.specs.PollSteps.{poll}
 use Rattle.step_laws.proofs.Elements.{all_at, all_front}
 use Rattle.commit_laws.specs.Behind.{joined_by}
 use Rattle.commit_laws.proofs.AllCalls.{calls_keep}
+use Rattle.poll_laws.proofs.Course.{polls_are_lawful}
 use Rattle.commit_laws.proofs.StepForms.{joins_replace}
 use Rattle.script_model.specs.Script.{Poll, CommitOnly}
 use Rattle.script_model.specs.States.{Inputs, State}
@@ -31,7 +32,6 @@ use Rattle.script_model.specs.LineSteps.{OneCourse}
 use Rattle.script_model.specs.PollLines.{poll_ask, polls}
 use Rattle.script_model.specs.Settles.{is_ok}
 use Rattle.line_laws.specs.Alone.{HadRoom}
-use Rattle.line_laws.specs.Premises.{PollsAreLawful}
 use Rattle.line_laws.specs.States.{StateKeeps}
 use Rattle.line_laws.specs.PollRuns.{CommitPut}
 use Rattle.line_laws.specs.PollLines.{told_by_poll, PollSays, CommitsRight, PollRan, PollsCommit}
@@ -105,14 +105,14 @@ reported inputs number commits_only told n old k answer new is room ok = by (coo
 
 -- ---- the law
 
-ran : (inputs : Inputs) (number : ℕ) (commits_only : Bool) (n : ℕ) (old : State) (k : StateKeeps inputs.merge old) (answer : List ℕ) (new : State) → IsLawful inputs.merge → PollsAreLawful
+ran : (inputs : Inputs) (number : ℕ) (commits_only : Bool) (n : ℕ) (old : State) (k : StateKeeps inputs.merge old) (answer : List ℕ) (new : State) → IsLawful inputs.merge
     → Reported inputs number commits_only (told_by_poll commits_only) n old k answer new → PollRan inputs commits_only n old answer new
-ran inputs number commits_only n old k answer new lawful polls_lawful r =
+ran inputs number commits_only n old k answer new lawful r =
     let who : Caller = caller_of inputs.merge number (Coordinator n) in
     let told = told_of inputs.merge old k in
     let ask = poll_ask inputs old r.coordinator commits_only in
     let f = found (λ (c : LiveCoordinator). n == c.number) old.parties.coordinators r.coordinator r.live in
-    let is : IsLawfulCourse who told (poll ask) = polls_lawful who told ask r.coordinator lawful refl (ap Coordinator ((Decides-eqb n r.coordinator.number).0 f.passes)) refl k.fleet.store
+    let is : IsLawfulCourse who told (poll ask) = polls_are_lawful who told r.coordinator.number ask None (calls_keep inputs.merge lawful) lawful (ap Coordinator ((Decides-eqb n r.coordinator.number).0 f.passes)) k.fleet.store
     (all_at (λ (c : LiveCoordinator). CoordinatorHolds told c None) old.parties.coordinators r.coordinator k.fleet.coordinators f.there) in
     let d = poll_did who ask told r.step.left r.step.report (calls_keep inputs.merge lawful) refl (record { kept = k.fleet.store; lawful = is; run = r.step.run }) in
     let says = subst (PollSays ask old.store d.did.drawn) (sym d.did.is) (poll_says ask old.store d.did.drawn k.fleet.store.stored.sound.job_ids) in
@@ -143,11 +143,11 @@ unfolding course_of
 only_is inputs number old new n answer one = ap (run_line number old) (sym one.does.is) ∙ one.ends
 
 pub polls_commit : PollsCommit
-polls_commit inputs lines old new false n answer polls_lawful then_ran ok =
-    let k = scripts_keep inputs lines old polls_lawful then_ran.before in
-    ran inputs then_ran.number false n old k answer new then_ran.before.lawful polls_lawful
+polls_commit inputs lines old new false n answer then_ran ok =
+    let k = scripts_keep inputs lines old then_ran.before in
+    ran inputs then_ran.number false n old k answer new then_ran.before.lawful
     (reported inputs then_ran.number false poll_reply n old k answer new (whole_is inputs then_ran.number old new n answer then_ran.step) then_ran.had_room ok)
-polls_commit inputs lines old new true n answer polls_lawful then_ran ok =
-    let k = scripts_keep inputs lines old polls_lawful then_ran.before in
-    ran inputs then_ran.number true n old k answer new then_ran.before.lawful polls_lawful
+polls_commit inputs lines old new true n answer then_ran ok =
+    let k = scripts_keep inputs lines old then_ran.before in
+    ran inputs then_ran.number true n old k answer new then_ran.before.lawful
     (reported inputs then_ran.number true commit_reply n old k answer new (only_is inputs then_ran.number old new n answer then_ran.step) then_ran.had_room ok)

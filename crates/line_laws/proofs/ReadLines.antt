@@ -34,7 +34,7 @@ unfolding course_of
 read_is inputs number old new segment key seq now answer one = ap (run_line number old) (sym one.does.is) ∙ one.ends
 
 pub reads_answer : ReadsAnswer
-reads_answer inputs lines old new segment key seq now answer polls_lawful ran =
+reads_answer inputs lines old new segment key seq now answer ran =
     let is = read_is inputs ran.number old new segment key seq now answer ran.step in
     let m = old.store.manifest in
     let printed = λ (b : Bool). cond b (not_retained m.horizon m.tick) (read_reply (flushed_read inputs.merge old.store segment key seq now)) in
@@ -42,6 +42,6 @@ reads_answer inputs lines old new segment key seq now answer polls_lawful ran =
     record {
       refused = λ e. sym told ∙ ap printed e;
       printed = λ e. sym told ∙ ap printed e;
-      stored = λ e. let r = is_retained m seq now e in stores_answer_reads inputs.merge old.store (scripts_keep inputs lines old polls_lawful ran.before).fleet.store.stored segment key seq now r.horizon r.tick;
+      stored = λ e. let r = is_retained m seq now e in stores_answer_reads inputs.merge old.store (scripts_keep inputs lines old ran.before).fleet.store.stored segment key seq now r.horizon r.tick;
       same = sym (ap (λ (p : List ℕ × State). p.1) is);
     }

@@ -34,6 +34,7 @@ use Rattle.fit_laws.specs.FitLaws.{SparesTables}
 use Rattle.course_laws.specs.Flushes.{MayAsk}
 use Rattle.course_laws.proofs.Flushes.{flushes_are_lawful}
 use Rattle.course_laws.proofs.Submits.{submits_are_lawful}
+use Rattle.poll_laws.proofs.Course.{polls_are_lawful}
 use Rattle.course_laws.proofs.Sweeps.{NonePending, sweeps_are_lawful}
 use Rattle.script_model.specs.States.{Inputs, State}
 use Rattle.script_model.specs.Replies.{ok, reply, jobs_text}
@@ -44,7 +45,6 @@ use Rattle.script_model.specs.Sweeps.{sweep_line}
 use Rattle.script_model.specs.PollLines.{poll_ask, polls}
 use Rattle.script_model.specs.Script.{FlushRows, IsInBounds}
 use Rattle.line_laws.specs.Alone.{HadRoom}
-use Rattle.line_laws.specs.Premises.{PollsAreLawful}
 use Rattle.line_laws.specs.States.{FleetKeeps, StateKeeps}
 use Rattle.line_laws.proofs.Courses.{AllCalls}
 use Rattle.line_laws.proofs.Parties.{found}
@@ -159,9 +159,9 @@ sweep_keeps merge number s k lawful room =
 
 -- ---- polls
 
-pub polls_keep : (inputs : Inputs) (number : ℕ) (commits_only : Bool) (told : PollState → List ℕ) (n : ℕ) (s : State) (k : StateKeeps inputs.merge s) → IsLawful inputs.merge → PollsAreLawful → HadRoom (run_line number s (polls commits_only told inputs n s)).1.store
+pub polls_keep : (inputs : Inputs) (number : ℕ) (commits_only : Bool) (told : PollState → List ℕ) (n : ℕ) (s : State) (k : StateKeeps inputs.merge s) → IsLawful inputs.merge → HadRoom (run_line number s (polls commits_only told inputs n s)).1.store
     → StateKeeps inputs.merge (run_line number s (polls commits_only told inputs n s)).1
-polls_keep inputs number commits_only told n s k lawful polls_lawful room = by (coordinator_with n s.parties) refl room
+polls_keep inputs number commits_only told n s k lawful room = by (coordinator_with n s.parties) refl room
   where
     who : Caller
     who = caller_of inputs.merge number (Coordinator n)
@@ -183,7 +183,7 @@ polls_keep inputs number commits_only told n s k lawful polls_lawful room = by (
         let step = poll (poll_ask inputs s c commits_only) in
         let gone = without_coordinator n s.parties in
         let is : IsLawfulCourse who (told_of inputs.merge s k) (line (Some c)).course = step_lawful who step (line_end told (λ reached. s.parties) gone) (told_of inputs.merge s k)
-        (polls_lawful who (told_of inputs.merge s k) (poll_ask inputs s c commits_only) c lawful refl (ap Coordinator same) refl k.fleet.store
+        (polls_are_lawful who (told_of inputs.merge s k) c.number (poll_ask inputs s c commits_only) None (calls_keep inputs.merge lawful) lawful (ap Coordinator same) k.fleet.store
         (all_at (λ (c : LiveCoordinator). CoordinatorHolds (told_of inputs.merge s k) c None) s.parties.coordinators c k.fleet.coordinators f.there)) in
         line_keeps inputs.merge number s (line (Some c)) k lawful is tt (record {
           struck = λ new run left. coordinator_gone inputs.merge number n (told_of inputs.merge s k) new s.parties k.fleet left (none_comes who (line (Some c)).course (told_of inputs.merge s k) new MeetsFault lawful refl refl k.fleet.store is k.fleet.none_pending run);

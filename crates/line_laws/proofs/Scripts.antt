@@ -15,7 +15,6 @@ use Rattle.script_model.specs.LineSteps.{MayRefuse, OneCourse}
 use Rattle.script_model.specs.Settles.{is_ok, are_live, has_active, has_added, jobs_run, EndsOr, Step, Finishes, BehindPoll, Rounds}
 use Rattle.script_model.specs.Follows.{SettleStep, LineStep, ScriptRun}
 use Rattle.line_laws.specs.Alone.{HadRoom}
-use Rattle.line_laws.specs.Premises.{PollsAreLawful}
 use Rattle.line_laws.specs.States.{StateKeeps}
 use Rattle.line_laws.specs.Scripts.{FirstLinesRun, ScriptsKeep}
 use Rattle.line_laws.proofs.AloneRuns.{alone_grows}
@@ -42,36 +41,36 @@ prepared_keeps merge (Clock moment) s k = record { past = k.past; fleet = k.flee
 prepared_keeps merge (SetFault n stands) s k = record { past = k.past; fleet = k.fleet }
 prepared_keeps merge line s k = k
 
-course_keeps : (inputs : Inputs) (number : ℕ) (line : Line) (refusal : Option (List ℕ)) (s : State) → IsLawful inputs.merge → PollsAreLawful → IsAskedWell line → MayRefuse inputs line s refusal → StateKeeps inputs.merge s
+course_keeps : (inputs : Inputs) (number : ℕ) (line : Line) (refusal : Option (List ℕ)) (s : State) → IsLawful inputs.merge → IsAskedWell line → MayRefuse inputs line s refusal → StateKeeps inputs.merge s
     → HadRoom (run_line number s (course_of inputs line refusal s)).1.store → StateKeeps inputs.merge (run_line number s (course_of inputs line refusal s)).1
 unfolding course_of
-course_keeps inputs number (StartCoordinator n) refusal s lawful polls_lawful well may k room = start_coordinator_keeps inputs.merge number n s k lawful room
-course_keeps inputs number (StartWorker n release) refusal s lawful polls_lawful well may k room = start_worker_keeps inputs.merge number n release s k lawful room
-course_keeps inputs number (KillCoordinator n) refusal s lawful polls_lawful well may k room = end_coordinator_keeps inputs.merge number n s k lawful room
-course_keeps inputs number (KillWorker n) refusal s lawful polls_lawful well may k room = kill_worker_keeps inputs.merge number n s k lawful room
-course_keeps inputs number (StopCoordinator n) refusal s lawful polls_lawful well may k room = end_coordinator_keeps inputs.merge number n s k lawful room
-course_keeps inputs number (StopWorker n) refusal s lawful polls_lawful well may k room = stop_keeps inputs.merge number n s k lawful room
-course_keeps inputs number (FlushRows name segment floor tick rows) refusal s lawful polls_lawful well may k room = flush_keeps inputs.merge number name segment floor tick rows s k lawful well room
-course_keeps inputs number (SubmitJob segment destination sources) refusal s lawful polls_lawful well may k room = submit_keeps inputs.merge number (record { segment = segment; sources = sources; destination = Some destination }) s k lawful room
-course_keeps inputs number (SubmitDrain segment sources) refusal s lawful polls_lawful well may k room = submit_keeps inputs.merge number (record { segment = segment; sources = sources; destination = None }) s k lawful room
-course_keeps inputs number (SubmitFull segment) refusal s lawful polls_lawful well may k room = full_keeps inputs number segment s k lawful room
-course_keeps inputs number (Poll n) refusal s lawful polls_lawful well may k room = polls_keep inputs number false poll_reply n s k lawful polls_lawful room
-course_keeps inputs number (CommitOnly n) refusal s lawful polls_lawful well may k room = polls_keep inputs number true commit_reply n s k lawful polls_lawful room
-course_keeps inputs number (ClaimJobs n) refusal s lawful polls_lawful well may k room = claim_keeps inputs.merge number n s k lawful room
-course_keeps inputs number (Heartbeat n) refusal s lawful polls_lawful well may k room = heartbeat_keeps inputs.merge number n s k lawful room
-course_keeps inputs number (Output n job place rows) refusal s lawful polls_lawful well may k room = output_keeps inputs number n job place rows refusal s k lawful well room
-course_keeps inputs number (FinishJob n job) refusal s lawful polls_lawful well may k room = finish_keeps inputs number n job refusal s k lawful may room
-course_keeps inputs number Sweep refusal s lawful polls_lawful well may k room = sweep_keeps inputs.merge number s k lawful room
-course_keeps inputs number (Options timeout concurrent slots ranges table_size moves retention) refusal s lawful polls_lawful well may k room = record { past = k.past; fleet = k.fleet }
-course_keeps inputs number (Clock moment) refusal s lawful polls_lawful well may k room = record { past = k.past; fleet = k.fleet }
-course_keeps inputs number (ReadKey segment key seq now) refusal s lawful polls_lawful well may k room = record { past = k.past; fleet = k.fleet }
-course_keeps inputs number (SetFault n stands) refusal s lawful polls_lawful well may k room = record { past = k.past; fleet = k.fleet }
-course_keeps inputs number ShowTrees refusal s lawful polls_lawful well may k room = record { past = k.past; fleet = k.fleet }
-course_keeps inputs number ShowJobs refusal s lawful polls_lawful well may k room = record { past = k.past; fleet = k.fleet }
-course_keeps inputs number (ShowTables segment node) refusal s lawful polls_lawful well may k room = record { past = k.past; fleet = k.fleet }
-course_keeps inputs number (Dump segment node) refusal s lawful polls_lawful well may k room = record { past = k.past; fleet = k.fleet }
-course_keeps inputs number (Scan segment from to seq now limit) refusal s lawful polls_lawful well may k room = record { past = k.past; fleet = k.fleet }
-course_keeps inputs number (Settle coordinator worker rounds) refusal s lawful polls_lawful well may k room = record { past = k.past; fleet = k.fleet }
+course_keeps inputs number (StartCoordinator n) refusal s lawful well may k room = start_coordinator_keeps inputs.merge number n s k lawful room
+course_keeps inputs number (StartWorker n release) refusal s lawful well may k room = start_worker_keeps inputs.merge number n release s k lawful room
+course_keeps inputs number (KillCoordinator n) refusal s lawful well may k room = end_coordinator_keeps inputs.merge number n s k lawful room
+course_keeps inputs number (KillWorker n) refusal s lawful well may k room = kill_worker_keeps inputs.merge number n s k lawful room
+course_keeps inputs number (StopCoordinator n) refusal s lawful well may k room = end_coordinator_keeps inputs.merge number n s k lawful room
+course_keeps inputs number (StopWorker n) refusal s lawful well may k room = stop_keeps inputs.merge number n s k lawful room
+course_keeps inputs number (FlushRows name segment floor tick rows) refusal s lawful well may k room = flush_keeps inputs.merge number name segment floor tick rows s k lawful well room
+course_keeps inputs number (SubmitJob segment destination sources) refusal s lawful well may k room = submit_keeps inputs.merge number (record { segment = segment; sources = sources; destination = Some destination }) s k lawful room
+course_keeps inputs number (SubmitDrain segment sources) refusal s lawful well may k room = submit_keeps inputs.merge number (record { segment = segment; sources = sources; destination = None }) s k lawful room
+course_keeps inputs number (SubmitFull segment) refusal s lawful well may k room = full_keeps inputs number segment s k lawful room
+course_keeps inputs number (Poll n) refusal s lawful well may k room = polls_keep inputs number false poll_reply n s k lawful room
+course_keeps inputs number (CommitOnly n) refusal s lawful well may k room = polls_keep inputs number true commit_reply n s k lawful room
+course_keeps inputs number (ClaimJobs n) refusal s lawful well may k room = claim_keeps inputs.merge number n s k lawful room
+course_keeps inputs number (Heartbeat n) refusal s lawful well may k room = heartbeat_keeps inputs.merge number n s k lawful room
+course_keeps inputs number (Output n job place rows) refusal s lawful well may k room = output_keeps inputs number n job place rows refusal s k lawful well room
+course_keeps inputs number (FinishJob n job) refusal s lawful well may k room = finish_keeps inputs number n job refusal s k lawful may room
+course_keeps inputs number Sweep refusal s lawful well may k room = sweep_keeps inputs.merge number s k lawful room
+course_keeps inputs number (Options timeout concurrent slots ranges table_size moves retention) refusal s lawful well may k room = record { past = k.past; fleet = k.fleet }
+course_keeps inputs number (Clock moment) refusal s lawful well may k room = record { past = k.past; fleet = k.fleet }
+course_keeps inputs number (ReadKey segment key seq now) refusal s lawful well may k room = record { past = k.past; fleet = k.fleet }
+course_keeps inputs number (SetFault n stands) refusal s lawful well may k room = record { past = k.past; fleet = k.fleet }
+course_keeps inputs number ShowTrees refusal s lawful well may k room = record { past = k.past; fleet = k.fleet }
+course_keeps inputs number ShowJobs refusal s lawful well may k room = record { past = k.past; fleet = k.fleet }
+course_keeps inputs number (ShowTables segment node) refusal s lawful well may k room = record { past = k.past; fleet = k.fleet }
+course_keeps inputs number (Dump segment node) refusal s lawful well may k room = record { past = k.past; fleet = k.fleet }
+course_keeps inputs number (Scan segment from to seq now limit) refusal s lawful well may k room = record { past = k.past; fleet = k.fleet }
+course_keeps inputs number (Settle coordinator worker rounds) refusal s lawful well may k room = record { past = k.past; fleet = k.fleet }
 
 -- ---- what leads to what
 
@@ -95,8 +94,8 @@ prepared_history (Clock moment) s = refl
 prepared_history (SetFault n stands) s = refl
 prepared_history line s = refl
 
-pub course_leads : (inputs : Inputs) (number : ℕ) (old : State) (line : Line) (answer : List ℕ) (new : State) → IsLawful inputs.merge → PollsAreLawful → IsAskedWell line → OneCourse inputs number old line answer new → Leads inputs.merge old new
-course_leads inputs number old line answer new lawful polls_lawful well one =
+pub course_leads : (inputs : Inputs) (number : ℕ) (old : State) (line : Line) (answer : List ℕ) (new : State) → IsLawful inputs.merge → IsAskedWell line → OneCourse inputs number old line answer new → Leads inputs.merge old new
+course_leads inputs number old line answer new lawful well one =
     let s = prepared line old in
     let refusal = one.does.refusal in
     let is : run_line number s (course_of inputs line refusal s) ≡ (answer, new) = ap (run_line number s) (sym one.does.is) ∙ one.ends in
@@ -106,7 +105,7 @@ course_leads inputs number old line answer new lawful polls_lawful well one =
           let on = alone_grows number c.party c.course s.fault s.store in
           let same = ap (λ store. length (store.history)) (prepared_history line old) in
           omega (arith, on, same);
-      keeps = λ room k. course_keeps inputs number line refusal s lawful polls_lawful well one.does.may (prepared_keeps inputs.merge line old k) room;
+      keeps = λ room k. course_keeps inputs number line refusal s lawful well one.does.may (prepared_keeps inputs.merge line old k) room;
     })
 
 -- ---- settle lines
@@ -115,52 +114,52 @@ ends_lead : (merge : Operator) (ok : Bool) (told : List ℕ) (old behind : State
 ends_lead merge true told old behind answer new Rest first next rest = leads_on merge old behind new first (next rest)
 ends_lead merge false told old behind answer new Rest first next rest = leads_on merge old behind new first (leads_nowhere merge behind new rest.1)
 
-step_leads : (inputs : Inputs) (number : ℕ) (line : Line) (old : State) (answer : List ℕ) (new : State) (Rest : State → Type 0) → IsLawful inputs.merge → PollsAreLawful → IsAskedWell line → ((behind : State) → Rest behind → Leads inputs.merge behind new)
+step_leads : (inputs : Inputs) (number : ℕ) (line : Line) (old : State) (answer : List ℕ) (new : State) (Rest : State → Type 0) → IsLawful inputs.merge → IsAskedWell line → ((behind : State) → Rest behind → Leads inputs.merge behind new)
     → Step inputs number line old answer new Rest → Leads inputs.merge old new
-step_leads inputs number line old answer new Rest lawful polls_lawful well next step =
-    ends_lead inputs.merge (is_ok step.told) step.told old step.behind answer new (Rest step.behind) (course_leads inputs number old line step.told step.behind lawful polls_lawful well step.does) (next step.behind) step.rest
+step_leads inputs number line old answer new Rest lawful well next step =
+    ends_lead inputs.merge (is_ok step.told) step.told old step.behind answer new (Rest step.behind) (course_leads inputs number old line step.told step.behind lawful well step.does) (next step.behind) step.rest
 
-finishes_lead : (inputs : Inputs) (number worker : ℕ) (jobs : List ℕ) (s : State) (answer : List ℕ) (new : State) (Rest : State → Type 0) → IsLawful inputs.merge → PollsAreLawful → ((behind : State) → Rest behind → Leads inputs.merge behind new)
+finishes_lead : (inputs : Inputs) (number worker : ℕ) (jobs : List ℕ) (s : State) (answer : List ℕ) (new : State) (Rest : State → Type 0) → IsLawful inputs.merge → ((behind : State) → Rest behind → Leads inputs.merge behind new)
     → Finishes inputs number worker jobs s answer new Rest → Leads inputs.merge s new
-finishes_lead inputs number worker [] s answer new Rest lawful polls_lawful next rest = next s rest
-finishes_lead inputs number worker (job ∷ jobs) s answer new Rest lawful polls_lawful next step =
-    step_leads inputs number (FinishJob worker job) s answer new (λ behind. Finishes inputs number worker jobs behind answer new Rest) lawful polls_lawful tt
-    (λ behind rest. finishes_lead inputs number worker jobs behind answer new Rest lawful polls_lawful next rest) step
+finishes_lead inputs number worker [] s answer new Rest lawful next rest = next s rest
+finishes_lead inputs number worker (job ∷ jobs) s answer new Rest lawful next step =
+    step_leads inputs number (FinishJob worker job) s answer new (λ behind. Finishes inputs number worker jobs behind answer new Rest) lawful tt
+    (λ behind rest. finishes_lead inputs number worker jobs behind answer new Rest lawful next rest) step
 
-behind_poll_leads : (active added : Bool) (inputs : Inputs) (number worker round : ℕ) (s : State) (answer : List ℕ) (new : State) (Next : State → Type 0) → IsLawful inputs.merge → PollsAreLawful → ((behind : State) → Next behind → Leads inputs.merge behind new)
+behind_poll_leads : (active added : Bool) (inputs : Inputs) (number worker round : ℕ) (s : State) (answer : List ℕ) (new : State) (Next : State → Type 0) → IsLawful inputs.merge → ((behind : State) → Next behind → Leads inputs.merge behind new)
     → BehindPoll active added inputs number worker round s answer new Next → Leads inputs.merge s new
-behind_poll_leads true added inputs number worker round s answer new Next lawful polls_lawful next step =
-    step_leads inputs number (ClaimJobs worker) s answer new (λ claimed. Finishes inputs number worker (jobs_run worker claimed) claimed answer new Next) lawful polls_lawful tt
-    (λ claimed rest. finishes_lead inputs number worker (jobs_run worker claimed) claimed answer new Next lawful polls_lawful next rest) step
-behind_poll_leads false true inputs number worker round s answer new Next lawful polls_lawful next rest = next s rest
-behind_poll_leads false false inputs number worker round s answer new Next lawful polls_lawful next rest = leads_nowhere inputs.merge s new rest.1
+behind_poll_leads true added inputs number worker round s answer new Next lawful next step =
+    step_leads inputs number (ClaimJobs worker) s answer new (λ claimed. Finishes inputs number worker (jobs_run worker claimed) claimed answer new Next) lawful tt
+    (λ claimed rest. finishes_lead inputs number worker (jobs_run worker claimed) claimed answer new Next lawful next rest) step
+behind_poll_leads false true inputs number worker round s answer new Next lawful next rest = next s rest
+behind_poll_leads false false inputs number worker round s answer new Next lawful next rest = leads_nowhere inputs.merge s new rest.1
 
-rounds_lead : (inputs : Inputs) (number coordinator worker left taken : ℕ) (s : State) (answer : List ℕ) (new : State) → IsLawful inputs.merge → PollsAreLawful → Rounds inputs number coordinator worker left taken s answer new → Leads inputs.merge s new
-rounds_lead inputs number coordinator worker zero taken s answer new lawful polls_lawful rest = leads_nowhere inputs.merge s new rest.1
-rounds_lead inputs number coordinator worker (suc left) taken s answer new lawful polls_lawful step =
+rounds_lead : (inputs : Inputs) (number coordinator worker left taken : ℕ) (s : State) (answer : List ℕ) (new : State) → IsLawful inputs.merge → Rounds inputs number coordinator worker left taken s answer new → Leads inputs.merge s new
+rounds_lead inputs number coordinator worker zero taken s answer new lawful rest = leads_nowhere inputs.merge s new rest.1
+rounds_lead inputs number coordinator worker (suc left) taken s answer new lawful step =
     step_leads inputs number (Poll coordinator) s answer new
-    (λ behind. BehindPoll (has_active behind) (has_added coordinator behind) inputs number worker (taken + 1) behind answer new (λ next. Rounds inputs number coordinator worker left (taken + 1) next answer new)) lawful polls_lawful tt
+    (λ behind. BehindPoll (has_active behind) (has_added coordinator behind) inputs number worker (taken + 1) behind answer new (λ next. Rounds inputs number coordinator worker left (taken + 1) next answer new)) lawful tt
     (λ behind rest.
-    behind_poll_leads (has_active behind) (has_added coordinator behind) inputs number worker (taken + 1) behind answer new (λ next. Rounds inputs number coordinator worker left (taken + 1) next answer new) lawful polls_lawful
-    (λ next more. rounds_lead inputs number coordinator worker left (taken + 1) next answer new lawful polls_lawful more) rest) step
+    behind_poll_leads (has_active behind) (has_added coordinator behind) inputs number worker (taken + 1) behind answer new (λ next. Rounds inputs number coordinator worker left (taken + 1) next answer new) lawful
+    (λ next more. rounds_lead inputs number coordinator worker left (taken + 1) next answer new lawful more) rest) step
 
-settle_leads : (live : Bool) (inputs : Inputs) (number : ℕ) (old : State) (coordinator worker rounds : ℕ) (answer : List ℕ) (new : State) → IsLawful inputs.merge → PollsAreLawful → SettleStep live inputs number old coordinator worker rounds answer new
+settle_leads : (live : Bool) (inputs : Inputs) (number : ℕ) (old : State) (coordinator worker rounds : ℕ) (answer : List ℕ) (new : State) → IsLawful inputs.merge → SettleStep live inputs number old coordinator worker rounds answer new
     → Leads inputs.merge old new
-settle_leads true inputs number old coordinator worker rounds answer new lawful polls_lawful step = rounds_lead inputs number coordinator worker rounds 0 old answer new lawful polls_lawful step
-settle_leads false inputs number old coordinator worker rounds answer new lawful polls_lawful step = course_leads inputs number old (Settle coordinator worker rounds) answer new lawful polls_lawful tt step
+settle_leads true inputs number old coordinator worker rounds answer new lawful step = rounds_lead inputs number coordinator worker rounds 0 old answer new lawful step
+settle_leads false inputs number old coordinator worker rounds answer new lawful step = course_leads inputs number old (Settle coordinator worker rounds) answer new lawful tt step
 
 -- ---- lines
 
-pub line_leads : (inputs : Inputs) (number : ℕ) (old : State) (line : Line) (answer : List ℕ) (new : State) → IsLawful inputs.merge → PollsAreLawful → IsInBounds line → LineStep inputs number old line answer new → Leads inputs.merge old new
-line_leads inputs number old (Settle coordinator worker rounds) answer new lawful polls_lawful is step = settle_leads (are_live coordinator worker old) inputs number old coordinator worker rounds answer new lawful polls_lawful step
-line_leads inputs number old line answer new lawful polls_lawful is step = course_leads inputs number old line answer new lawful polls_lawful (asked_well line is) step
+pub line_leads : (inputs : Inputs) (number : ℕ) (old : State) (line : Line) (answer : List ℕ) (new : State) → IsLawful inputs.merge → IsInBounds line → LineStep inputs number old line answer new → Leads inputs.merge old new
+line_leads inputs number old (Settle coordinator worker rounds) answer new lawful is step = settle_leads (are_live coordinator worker old) inputs number old coordinator worker rounds answer new lawful step
+line_leads inputs number old line answer new lawful is step = course_leads inputs number old line answer new lawful (asked_well line is) step
 
-pub run_leads : (inputs : Inputs) (number : ℕ) (old : State) (lines : List Line) (answers : List (List ℕ)) (new : State) → IsLawful inputs.merge → PollsAreLawful → AllByRecursion IsInBounds lines → ScriptRun inputs number old lines answers new → Leads inputs.merge old new
-run_leads inputs number old [] [] new lawful polls_lawful is run = leads_nowhere inputs.merge old new run
-run_leads inputs number old (line ∷ lines) (answer ∷ answers) new lawful polls_lawful is (mid, step, rest) =
-    leads_on inputs.merge old mid new (line_leads inputs number old line answer mid lawful polls_lawful is.0 step) (run_leads inputs (number + 1) mid lines answers new lawful polls_lawful is.1 rest)
-run_leads inputs number old [] (answer ∷ answers) new lawful polls_lawful is run = absurd run
-run_leads inputs number old (line ∷ lines) [] new lawful polls_lawful is run = absurd run
+pub run_leads : (inputs : Inputs) (number : ℕ) (old : State) (lines : List Line) (answers : List (List ℕ)) (new : State) → IsLawful inputs.merge → AllByRecursion IsInBounds lines → ScriptRun inputs number old lines answers new → Leads inputs.merge old new
+run_leads inputs number old [] [] new lawful is run = leads_nowhere inputs.merge old new run
+run_leads inputs number old (line ∷ lines) (answer ∷ answers) new lawful is (mid, step, rest) =
+    leads_on inputs.merge old mid new (line_leads inputs number old line answer mid lawful is.0 step) (run_leads inputs (number + 1) mid lines answers new lawful is.1 rest)
+run_leads inputs number old [] (answer ∷ answers) new lawful is run = absurd run
+run_leads inputs number old (line ∷ lines) [] new lawful is run = absurd run
 
 fresh_state_keeps : (merge : Operator) (options : FleetOptions) → StateKeeps merge (fresh_state options)
 fresh_state_keeps merge options = record {
@@ -169,7 +168,7 @@ fresh_state_keeps merge options = record {
 }
 
 pub scripts_keep : ScriptsKeep
-scripts_keep inputs lines last polls_lawful run = (run_leads inputs 1 (fresh_state run.options) lines run.answers last run.lawful polls_lawful run.in_bounds run.run).keeps run.had_room (fresh_state_keeps inputs.merge run.options)
+scripts_keep inputs lines last run = (run_leads inputs 1 (fresh_state run.options) lines run.answers last run.lawful run.in_bounds run.run).keeps run.had_room (fresh_state_keeps inputs.merge run.options)
 
 -- ---- the first lines
 
@@ -196,9 +195,9 @@ cut_run inputs number old (line ∷ first) others (answer ∷ answers) last (mid
     }
 
 pub first_lines_run : FirstLinesRun
-first_lines_run inputs first others last polls_lawful run =
+first_lines_run inputs first others last run =
     let c = cut_run inputs 1 (fresh_state run.options) first others run.answers last run.run in
-    let grows = (run_leads inputs (length first + 1) c.mid others c.back last run.lawful polls_lawful (all_back IsInBounds first others run.in_bounds) c.rest).grows in
+    let grows = (run_leads inputs (length first + 1) c.mid others c.back last run.lawful (all_back IsInBounds first others run.in_bounds) c.rest).grows in
     let room = run.had_room in
     record {
       mid = c.mid;

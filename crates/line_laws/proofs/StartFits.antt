@@ -1,5 +1,5 @@
 -- A coordinator that started fits with the epoch that its start reports, if nobody else called the store.
-use Rattle.std.proofs.Common.{◌≡◌, sym, ap, subst, ℕ, zero, suc, ◌≤◌, List, [], ◌∷◌, cond, Bool, true, false, Option, None, arith}
+use Rattle.std.proofs.Common.{◌≡◌, sym, ap, subst, ℕ, zero, suc, ◌≤◌, ◌<◌, List, [], ◌∷◌, cond, Bool, true, false, Option, None, arith}
 use Rattle.std.specs.Prelude.{IsTrue, ◌==◌, ◌&&◌, nat_lt, max, ⊤}
 use Rattle.row_model.specs.Fold.{IsLawful}
 use Rattle.fleet_model.specs.Jobs.{trimmed}
@@ -43,18 +43,18 @@ at_end who e epoch told new keep alone going =
     epoch_is who e epoch (max told.store.manifest.epoch (records_epoch told.store.records)) second new (alone_next who (Plain GetRecords) later first new (Reports epoch) keep alone (alone_next who (Plain GetManifest) begin told new (Reports epoch) keep alone going).going).going
 
 -- Behind both puts the coordinator fits with the epoch that it put, and so it does at the end.
-behind_puts : (who : Caller) (number e epoch : ℕ) (told new : Told) → CallsKeep who.merge → who.alone ≡ true → IsTrue (did_put_epoch (Coordinator number) told.store.history e) → e ≤ records_epoch told.store.records
+behind_puts : (who : Caller) (number e epoch : ℕ) (told new : Told) → CallsKeep who.merge → who.alone ≡ true → 0 < e → IsTrue (did_put_epoch (Coordinator number) told.store.history e) → e ≤ records_epoch told.store.records
     → Going who (holds_at_start e) told new (Reports epoch) → CoordinatorHolds new (record { number = number; epoch = epoch }) None
-behind_puts who number e epoch told new keep alone put recorded going =
+behind_puts who number e epoch told new keep alone counted put recorded going =
     let c : LiveCoordinator = record { number = number; epoch = e } in
     subst (λ (n : ℕ). CoordinatorHolds new (record { number = number; epoch = n }) None) (at_end who e epoch told new keep alone going)
     (runs_hold who (λ x. ⊤) (λ t. CoordinatorHolds t c None) (holds_at_start e) alone keep (coordinator_holds who c) (all_calls (λ x. ⊤) (λ x. tt) (holds_at_start e)) told new (Gives (Reports epoch)) going.kept going.lawful going.run
-    (record { put = put; recorded = recorded; merges = λ manifest records. tt; known = λ manifest records. tt }))
+    (record { counted = counted; put = put; recorded = recorded; merges = λ manifest records. tt; known = λ manifest records. tt }))
 
 -- Behind the put of the manifest.
-behind_manifest : (who : Caller) (number e epoch : ℕ) (again : ℕ → Course (StepEnd ℕ)) (told new : Told) → CallsKeep who.merge → who.alone ≡ true → IsTrue (did_put_epoch (Coordinator number) told.store.history e)
+behind_manifest : (who : Caller) (number e epoch : ℕ) (again : ℕ → Course (StepEnd ℕ)) (told new : Told) → CallsKeep who.merge → who.alone ≡ true → 0 < e → IsTrue (did_put_epoch (Coordinator number) told.store.history e)
     → Going who (puts_epoch told.store.records e (holds_at_start e) again) told new (Reports epoch) → CoordinatorHolds new (record { number = number; epoch = epoch }) None
-behind_manifest who number e epoch again told new keep alone put going =
+behind_manifest who number e epoch again told new keep alone counted put going =
     let version = records_version told.store.records in
     let x = PutsRecords version (RecordsEpoch e) e (trimmed (jobs_in told.store.records)) in
     let behind = told_by who.line who.party x None told in
@@ -62,7 +62,7 @@ behind_manifest who number e epoch again told new keep alone put going =
     let gone = alone_next who x next told new (Reports epoch) keep alone going in
     let stored = records_put (RecordsEpoch e) e (trimmed (jobs_in told.store.records)) told.store in
     let recorded : e ≡ records_epoch behind.store.records = sym (ap records_epoch stored.records) in
-    behind_puts who number e epoch behind new keep alone
+    behind_puts who number e epoch behind new keep alone counted
     (subst (λ (history : List Entry). IsTrue (did_put_epoch (Coordinator number) history e)) (sym (call_history who.line who.party x None told.store))
     (any_front (λ (entry : Entry). party_eq (Coordinator number) entry.party && entries.puts_epoch e entry.event && stood entry.answer) told.store.history (entry_by who.line who.party x None told.store ∷ []) put))
     (omega (arith, recorded)) (subst (λ (b : Bool). Going who (cond b (holds_at_start e) (again version)) behind new (Reports epoch)) (is_itself version) gone.going)
@@ -88,7 +88,7 @@ starts_fit who number epoch (suc left) seen told new keep alone by going =
     let four = subst (λ (b : Bool). Going who (cond b (puts_epoch told.store.records e (holds_at_start e) (starts_from left)) (starts_from left m.version)) third new (Reports epoch)) (is_itself m.version) three.going in
     let stored = manifest_put (ManifestEpoch e) value second.store in
     let five = subst (λ (r : Option Records). Going who (puts_epoch r e (holds_at_start e) (starts_from left)) third new (Reports epoch)) (sym stored.records) four in
-    behind_manifest who number e epoch (starts_from left) third new keep alone
+    behind_manifest who number e epoch (starts_from left) third new keep alone (omega arith)
     (subst (λ (party : Party). IsTrue (did_put_epoch party third.store.history e)) by (put_stood who second m.version e value (is_itself m.version))) five
 
 -- The start of a coordinator that is alone leaves it fit.

@@ -12,7 +12,6 @@ use Rattle.script_model.specs.Script.{Line, ClaimJobs}
 use Rattle.script_model.specs.States.{Inputs, State}
 use Rattle.script_model.specs.Replies.{claim_reply}
 use Rattle.script_model.specs.Settles.{is_ok}
-use Rattle.line_laws.specs.Premises.{PollsAreLawful}
 use Rattle.line_laws.specs.Ran.{ThenRan}
 
 -- The jobs that a claim of the worker takes in this state, and those that it stops.
@@ -48,4 +47,4 @@ pub record ClaimRan (n : ℕ) (old : State) (answer : List ℕ) (new : State) : 
 
 -- Each claim of a script that is not refused does so.
 abbrev pub ClaimsTake : Type 0
-ClaimsTake = (inputs : Inputs) (lines : List Line) (old new : State) (n : ℕ) (answer : List ℕ) → PollsAreLawful → ThenRan inputs lines old (ClaimJobs n) answer new → is_ok answer ≡ true → ClaimRan n old answer new
+ClaimsTake = (inputs : Inputs) (lines : List Line) (old new : State) (n : ℕ) (answer : List ℕ) → ThenRan inputs lines old (ClaimJobs n) answer new → is_ok answer ≡ true → ClaimRan n old answer new

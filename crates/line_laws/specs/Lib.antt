@@ -1,5 +1,4 @@
 pub mod Alone
-pub mod Premises
 pub mod States
 pub mod Scripts
 pub mod Ran

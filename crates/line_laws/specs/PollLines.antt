@@ -22,7 +22,6 @@ use Rattle.script_model.specs.States.{Inputs, State}
 use Rattle.script_model.specs.Replies.{poll_reply, commit_reply}
 use Rattle.script_model.specs.PollLines.{poll_ask}
 use Rattle.script_model.specs.Settles.{is_ok}
-use Rattle.line_laws.specs.Premises.{PollsAreLawful}
 use Rattle.line_laws.specs.Ran.{ThenRan}
 use Rattle.line_laws.specs.PollRuns.{input_at, PollDid, CommitPut, JobsPut}
 
@@ -167,5 +166,5 @@ pub record PollRan (inputs : Inputs) (commits_only : Bool) (n : ℕ) (old : Stat
 
 -- Each poll of a script that is not refused does so.
 abbrev pub PollsCommit : Type 0
-PollsCommit = (inputs : Inputs) (lines : List Line) (old new : State) (commits_only : Bool) (n : ℕ) (answer : List ℕ) → PollsAreLawful → ThenRan inputs lines old (poll_of commits_only n) answer new → is_ok answer ≡ true
+PollsCommit = (inputs : Inputs) (lines : List Line) (old new : State) (commits_only : Bool) (n : ℕ) (answer : List ℕ) → ThenRan inputs lines old (poll_of commits_only n) answer new → is_ok answer ≡ true
     → PollRan inputs commits_only n old answer new

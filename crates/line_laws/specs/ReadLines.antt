@@ -6,7 +6,6 @@ use Rattle.script_model.specs.Script.{Line, ReadKey}
 use Rattle.script_model.specs.States.{Inputs, State}
 use Rattle.script_model.specs.Replies.{read_reply, not_retained}
 use Rattle.script_model.specs.Looks.{is_not_retained}
-use Rattle.line_laws.specs.Premises.{PollsAreLawful}
 use Rattle.line_laws.specs.Ran.{ThenRan}
 
 -- A read below the horizon or before the tick is refused. Each other read prints the fold over all rows
@@ -20,5 +19,5 @@ pub record ReadAnswers (merge : Operator) (old : State) (segment key : List ℕ)
 
 -- Each line that reads a key, in a script whose operator is lawful, answers so.
 abbrev pub ReadsAnswer : Type 0
-ReadsAnswer = (inputs : Inputs) (lines : List Line) (old new : State) (segment key : List ℕ) (seq : ℕ) (now : ℤ) (answer : List ℕ) → PollsAreLawful → ThenRan inputs lines old (ReadKey segment key seq now) answer new
+ReadsAnswer = (inputs : Inputs) (lines : List Line) (old new : State) (segment key : List ℕ) (seq : ℕ) (now : ℤ) (answer : List ℕ) → ThenRan inputs lines old (ReadKey segment key seq now) answer new
     → ReadAnswers inputs.merge old segment key seq now answer new

@@ -6,7 +6,6 @@ use Rattle.script_model.specs.Script.{Line, IsInBounds}
 use Rattle.script_model.specs.States.{Inputs, State, FleetOptions, fresh_state}
 use Rattle.script_model.specs.Follows.{ScriptRun}
 use Rattle.line_laws.specs.Alone.{HadRoom}
-use Rattle.line_laws.specs.Premises.{PollsAreLawful}
 use Rattle.line_laws.specs.States.{StateKeeps}
 
 -- A fresh fleet ran these lines, which are in bounds, and left this state. The operator is lawful, and
@@ -29,9 +28,8 @@ pub record RanFirst (inputs : Inputs) (first others : List Line) (last : State) 
 -- Lines that ran may be cut in two anywhere. So what is said of the last state of a run is said of the
 -- state behind each of its lines.
 abbrev pub FirstLinesRun : Type 0
-FirstLinesRun = (inputs : Inputs) (first others : List Line) (last : State) → PollsAreLawful → HasRun inputs (first ++ others) last → RanFirst inputs first others last
+FirstLinesRun = (inputs : Inputs) (first others : List Line) (last : State) → HasRun inputs (first ++ others) last → RanFirst inputs first others last
 
--- The state behind each line of a script keeps the invariant, and each live party fits, if polls are
--- lawful courses.
+-- The state behind each line of a script keeps the invariant, and each live party fits.
 abbrev pub ScriptsKeep : Type 0
-ScriptsKeep = (inputs : Inputs) (lines : List Line) (last : State) → PollsAreLawful → HasRun inputs lines last → StateKeeps inputs.merge last
+ScriptsKeep = (inputs : Inputs) (lines : List Line) (last : State) → HasRun inputs lines last → StateKeeps inputs.merge last

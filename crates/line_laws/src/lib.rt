@@ -14,7 +14,7 @@ pub fn alone_runs()
 {}
 
 /// The state behind each line keeps the invariant, and each live party fits it, whatever parties
-/// are killed and whatever faults strike. It has a premise on polls.
+/// are killed and whatever faults strike.
 pub fn scripts_keep()
     ensures { ScriptsKeep }
 {}
