@@ -1,6 +1,6 @@
 -- A worker fits behind its heartbeat.
 use Rattle.std.proofs.Common.{◌≡◌, refl, sym, ◌∙◌, ap, subst, ℕ, zero, suc, ◌<◌, List, [], ◌∷◌, cond, Bool, true, false, inl, inr, Option, Some, None}
-use Rattle.std.specs.Prelude.{IsTrue, ◌==◌, ◌&&◌, option_map}
+use Rattle.std.specs.Prelude.{IsTrue, ◌==◌, option_map}
 use Rattle.std.specs.List.{AllByRecursion}
 use Rattle.std.proofs.lemmas.Bool.Decides.{Decides-eqb}
 use Rattle.row_model.specs.Lists.{Pairs}
@@ -30,7 +30,7 @@ use Rattle.course_laws.proofs.Puts.{got_records}
 use Rattle.course_laws.proofs.Made.{Relies}
 use Rattle.after_laws.specs.Beats.{IsBeaten, BeatsKeepFit}
 use Rattle.after_laws.specs.OwnCalls.{SparesOwn}
-use Rattle.after_laws.proofs.Live.{IsLive, live_at, live_active}
+use Rattle.after_laws.proofs.Live.{IsLive, live_at, live_active, leased_runs}
 use Rattle.after_laws.proofs.Runs.{Made, Left, call_by, left_stopped, left_reported, left_ended}
 use Rattle.after_laws.proofs.Attempts.{holds_fewer}
 use Rattle.after_laws.proofs.OwnCalls.{put_told, own_calls_keep}
@@ -102,15 +102,9 @@ is_beaten moment w jobs rise short jobs_rise a there =
 
     is : (l : IsLive w.number jobs a) → IsTrue (runs_attempt w.number a.number (Some (f l.job))) × ((f l.job).context ≡ Some a.context)
     is l = (
-      run (has_status Running l.job) (is_leased_to w.number l.job.lease) (is_leased_to w.number (f l.job).lease) (a.number == l.job.attempt) l.runs (is_itself w.number),
+      leased_runs (has_status Running l.job) (is_leased_to w.number l.job.lease) (is_leased_to w.number (f l.job).lease) (a.number == l.job.attempt) l.runs (is_itself w.number),
       ap (published_by live) (job_found a.job jobs l.job l.stored).same ∙ ap context_of (found_attempt live a (pairs_filter _ (is_live jobs w.number) w.attempts jobs_rise) there),
     )
-      where
-        run : (a b c d : Bool) → IsTrue (a && b && d) → IsTrue c → IsTrue (a && c && d)
-        run true true true d h k = h
-        run true true false d h k = absurd (cc k)
-        run true false c d h k = absurd (cc h)
-        run false b c d h k = absurd (cc h)
 
 -- All these attempts are named, with their contexts.
 all_spared : (moment : ℕ) (w : LiveWorker) (jobs : Jobs) → Pairs (λ a b. a.id < b.id) jobs → trimmed jobs ≡ jobs → Pairs (λ a b. a.job < b.job) w.attempts

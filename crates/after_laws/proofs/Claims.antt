@@ -1,5 +1,5 @@
 -- A worker fits behind its claim.
-use Rattle.std.proofs.Common.{◌≡◌, refl, sym, ◌∙◌, ap, subst, ℕ, zero, suc, ◌+◌, ◌-◌, ◌<◌, List, [], ◌∷◌, ◌++◌, cond, Bool, true, false, inl, inr, ◌⊎◌, Option, Some, None, length, arith}
+use Rattle.std.proofs.Common.{◌≡◌, refl, sym, ◌∙◌, ap, subst, ℕ, zero, suc, ◌+◌, ◌-◌, ◌<◌, List, [], ◌∷◌, ◌++◌, cond, Bool, true, false, inl, inr, ◌⊎◌, Option, Some, None, length}
 use Rattle.std.specs.Prelude.{IsTrue, IfSome, ◌==◌, ◌&&◌, not, filter, map}
 use Rattle.std.specs.List.{AllByRecursion}
 use Rattle.std.proofs.lemmas.Bool.Decides.{Decides-eqb}
@@ -39,6 +39,7 @@ use Rattle.course_laws.proofs.Claims.{next_attempt, put_stood, claims_are_lawful
 use Rattle.course_laws.proofs.Later.{later_itself, later_met}
 use Rattle.course_laws.proofs.Puts.{got_records}
 use Rattle.course_laws.proofs.Made.{Relies}
+use Rattle.course_laws.proofs.Held.{refused}
 use Rattle.after_laws.specs.Claims.{TakesOver, ClaimSays, ClaimsKeepFit}
 use Rattle.after_laws.proofs.Attempts.{all_put, holds_fewer}
 use Rattle.after_laws.proofs.Runs.{Made, Left, call_by, left_stopped, left_reported, left_ended}
@@ -47,7 +48,7 @@ use Rattle.after_laws.proofs.Begun.{single, RunsAs, Waits, waits_follow}
 use Rattle.after_laws.proofs.Taken.{attempt_with, taken_by, blank, over_taken, AreWaiting, stored_taken, Took, took_runs, took_waits, took_over}
 use Rattle.after_laws.proofs.Awaits.{AwaitsGet, awaits_behind, rivals_await, IsUnplanned, none_planned, noted_none, rivals_unplanned}
 use Rattle.after_laws.proofs.Starts.{plain_entry, plain_told, follow_plain, begins_at_get}
-use Rattle.after_laws.proofs.Plans.{Began, attempt_of, left_of, IsStarting, IsStarted, runs_follow, plans_noted, holds_begun}
+use Rattle.after_laws.proofs.Plans.{Began, attempt_of, left_of, IsStarting, IsStarted, runs_follow, counted_next, plans_noted, holds_begun}
 
 -- ---- the jobs that a claim takes
 
@@ -119,9 +120,6 @@ over_follow merge old now w moment job t specs faithful f = record {
   runs = runs_follow old now w (attempt_with job (over_taken w t.context)) (taken_by w moment job) f t.holds.each.0 t.runs;
   holds = holds_after merge old now (single w (attempt_with job (over_taken w t.context))) specs faithful f t.holds;
 }
-
-counted_next : (job : Job) → 0 < job.attempt + 1
-counted_next job = omega arith
 
 rivals_pending : (who : Caller) (w : LiveWorker) (moment : ℕ) (job : Job) (old new : Told) → Relies who w → Keeps who.merge old → Rivals who old new → IsPending who.merge old w moment job → IsPending who.merge new w moment job
 rivals_pending who w moment job old new r kept rivals (inl s) = inl (record {
@@ -248,10 +246,6 @@ are_run w jobs = all_map (λ id. IsTrue (contains (attempt_jobs w.attempts) id))
 -- The worker runs none of these jobs.
 abbrev NotRun : LiveWorker → Jobs → Type 0
 NotRun w these = AllByRecursion (λ job. contains (attempt_jobs w.attempts) job.id ≡ false) these
-
-refused : (b : Bool) → b ≡ false → IsTrue b → ⊥
-refused true e h = absurd (cc e)
-refused false e h = absurd (cc h)
 
 -- A live attempt that the claim began takes over the published context.
 takes_over : (told : Told) (b : Began) (job : Job) → RunsAs b.w (attempt_of b job) (left_of b job) told → TakesOver told b.w (attempt_of b job)

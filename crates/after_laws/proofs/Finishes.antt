@@ -33,6 +33,7 @@ use Rattle.course_laws.proofs.Puts.{got_records}
 use Rattle.course_laws.proofs.Outputs.{found_in}
 use Rattle.course_laws.proofs.Made.{Relies, State, ids_of, all_of}
 use Rattle.course_laws.proofs.Finishes.{outputs_all, finishes_are_lawful}
+use Rattle.course_laws.proofs.Held.{refused}
 use Rattle.after_laws.specs.OwnCalls.{SparesOwn}
 use Rattle.after_laws.specs.Finishes.{FinishesKeepFit}
 use Rattle.after_laws.proofs.Attempts.{apart_two, holds_fewer}
@@ -64,10 +65,6 @@ finished_over told w a f jobs ids over made = by (is_live jobs w.number a) refl
   where
     At : Job → Type 0
     At job = job.id ≡ a.job → IsTrue (runs_attempt w.number a.number (Some job)) → ⊥
-
-    refused : (b : Bool) → b ≡ false → IsTrue b → ⊥
-    refused true e h = absurd (cc e)
-    refused false e h = absurd (cc h)
 
     at : (was : Job) → At (on_these f (a.job ∷ []) was)
     at was = by_these At f (a.job ∷ []) was (λ has id runs. over was runs) (λ lacks id runs. refused (contains (a.job ∷ []) was.id) lacks (in_contains (a.job ∷ []) was.id (inl (sym id))))

@@ -1,8 +1,8 @@
+pub mod Live
 pub mod Runs
 pub mod OwnPuts
 pub mod Attempts
 pub mod OwnCalls
-pub mod Live
 pub mod Beats
 pub mod Releases
 pub mod Tables

@@ -1,8 +1,8 @@
 -- Attempts that are live over some jobs, and lists of which a test leaves nothing.
 use Rattle.std.proofs.Common.{◌≡◌, refl, ℕ, List, [], ◌∷◌, cond, Bool, true, false, Option, Some, None}
-use Rattle.std.specs.Prelude.{IsTrue, filter}
+use Rattle.std.specs.Prelude.{IsTrue, ◌&&◌, filter}
 use Rattle.std.specs.List.{AllByRecursion}
-use Rattle.fleet_model.specs.Jobs.{Job, Jobs, is_active, job_with}
+use Rattle.fleet_model.specs.Jobs.{Job, Jobs, Status, Submitted, Scheduled, Running, Compacted, Completed, Failed, status_eq, is_finished, is_active, job_with}
 use Rattle.fleet_model.specs.Parties.{Attempt, is_live, runs_attempt}
 use Rattle.step_laws.proofs.TableBodies.{active_if_open}
 use Rattle.step_laws.proofs.WorkerPuts.{live_open}
@@ -36,3 +36,21 @@ none_pass p (x ∷ xs) e = by (p x) refl (none_pass p xs) e
 pub pass_none : {A : Type 0} (p : A → Bool) (xs : List A) → AllByRecursion (λ x. p x ≡ false) xs → filter p xs ≡ []
 pass_none p [] h = refl
 pass_none p (x ∷ xs) h = rw h.0 (pass_none p xs h.1)
+
+-- ---- tests of jobs
+
+-- A job that waits is active.
+pub waiting_active : (s : Status) (free : Bool) → IsTrue (status_eq Scheduled s && free) → IsTrue (cond (is_finished s) false true)
+waiting_active Scheduled free h = refl
+waiting_active Running free h = refl
+waiting_active Submitted free h = refl
+waiting_active Compacted free h = refl
+waiting_active Completed free h = absurd (cc h)
+waiting_active Failed free h = absurd (cc h)
+
+-- A test of three parts is passed with another second part that is passed.
+pub leased_runs : (a b c d : Bool) → IsTrue (a && b && d) → IsTrue c → IsTrue (a && c && d)
+leased_runs true true true d h k = h
+leased_runs true true false d h k = absurd (cc k)
+leased_runs true false c d h k = absurd (cc h)
+leased_runs false b c d h k = absurd (cc h)

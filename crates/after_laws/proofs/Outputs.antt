@@ -40,6 +40,7 @@ use Rattle.course_laws.proofs.Beats.{Fit}
 use Rattle.course_laws.proofs.Outputs.{found_in, outputs_are_lawful}
 use Rattle.course_laws.proofs.Made.{Relies, State}
 use Rattle.course_laws.proofs.Finishes.{flat_same, drop_front}
+use Rattle.course_laws.proofs.Held.{refused}
 use Rattle.after_laws.specs.Behind.{FitsBehind}
 use Rattle.after_laws.specs.Outputs.{IsRangeAt, OutputsKeepFit}
 use Rattle.after_laws.proofs.Runs.{Left, stopped, reported, left_stopped, left_ended}
@@ -67,10 +68,6 @@ noted_all R place table (r ∷ ranges) range low at more all = by (place == 1) r
         let later : place - 1 ≡ suc (place - 1 - 1) = next (λ one. refused (place == 1) e ((Decides-eqb place 1).1 one)) in
         (all.0, rest (omega (arith, later)) (subst (λ n. slice_get (r ∷ ranges) n ≡ Some range) later at))
       where
-        refused : (b : Bool) → b ≡ false → b ≡ true → ⊥
-        refused true e f = absurd (cc e)
-        refused false e f = absurd (cc f)
-
         next : (place ≡ 1 → ⊥) → place - 1 ≡ suc (place - 1 - 1)
         next other = above (place - 1) refl
           where

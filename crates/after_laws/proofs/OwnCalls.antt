@@ -4,7 +4,7 @@ use Rattle.std.specs.Prelude.{IsTrue, IfSome, ◌==◌, ◌&&◌, is_none, if◌
 use Rattle.std.specs.List.{concat}
 use Rattle.std.proofs.lemmas.Bool.Decides.{Decides-eqb}
 use Rattle.row_model.specs.Fold.{Operator}
-use Rattle.fleet_model.specs.Jobs.{Job, Jobs, Status, Submitted, Scheduled, Running, Compacted, Completed, Failed, status_eq, has_status, is_finished, is_active, contains, changed, trimmed, job_with}
+use Rattle.fleet_model.specs.Jobs.{Job, Jobs, Running, has_status, is_active, contains, changed, trimmed, job_with}
 use Rattle.fleet_model.specs.History.{Party, Worker, Event, GetManifest, GetRecords, GetTable, Plan, Start, Kill, DrawJob, PutRecords, RecordChange, RecordsEpoch, Submit, Claim, Beat, Finish, Release, Polled, Done, Conflict, Answer, Entry, stood}
 use Rattle.fleet_model.specs.Store.{stored_jobs}
 use Rattle.fleet_model.specs.Records.{Unrecorded, firsts, claimed_by, beaten_by, finished_by, to_waiting, jobs_after}
@@ -33,7 +33,9 @@ use Rattle.step_laws.proofs.WorkerPuts.{stored_as, stored_to, each_named, live_o
 use Rattle.fit_laws.proofs.AttemptFacts.{claimed_up_to, origin_kept}
 use Rattle.course_laws.proofs.OwnCalls.{holds_entered, holds_refused}
 use Rattle.course_laws.proofs.Written.{holds_put, holds_drawn}
+use Rattle.course_laws.proofs.Held.{refused}
 use Rattle.after_laws.specs.OwnCalls.{SparesOwn, OwnCallsKeep}
+use Rattle.after_laws.proofs.Live.{waiting_active, leased_runs}
 use Rattle.after_laws.proofs.OwnPuts.{LeftAs, OwnPut, holds_own}
 
 -- ---- entries
@@ -55,24 +57,12 @@ plain_holds merge line party told w event answer fits h = absurd fits
 
 -- ---- changes that are no heartbeats
 
-refused : (b : Bool) → b ≡ false → IsTrue b → ⊥
-refused true e h = absurd (cc e)
-refused false e h = absurd (cc h)
-
 same_worker : (n m : ℕ) (party : Party) → party ≡ Worker n → party ≡ Worker m → m ≡ n
 same_worker n m party own by = cc (sym own ∙ by)
 
 -- The entry says nothing of heartbeats, so origins stay.
 quiet_origin : (told : Told) (entry : Entry) (a : Attempt) → (if stood entry.answer then beaten_in a.job entry.event else None) ≡ None → origin told.store.history a.job a.number ≡ origin (told.store.history ++ entry ∷ []) a.job a.number
 quiet_origin told entry a quiet = sym (ap (if_earlier a.number) (beaten_stays a.job told.store.history entry quiet))
-
-waiting_active : (s : Status) (free : Bool) → IsTrue (status_eq Scheduled s && free) → IsTrue (cond (is_finished s) false true)
-waiting_active Scheduled free h = refl
-waiting_active Running free h = refl
-waiting_active Submitted free h = refl
-waiting_active Compacted free h = refl
-waiting_active Completed free h = absurd (cc h)
-waiting_active Failed free h = absurd (cc h)
 
 -- The entry of the worker's put.
 abbrev pub own_entry : ℕ → Party → Told → RecordChange → Entry
@@ -175,19 +165,13 @@ beat_spares merge line party told w u worker attempts k own fits spares = record
     left : (a : Attempt) → IsIn a w.attempts → (was : Job) → IsIn was (stored_jobs told.store) → was.id ≡ a.job → IsTrue (contains (firsts attempts) was.id)
         → job_with a.job (trimmed (changed (beaten_by worker u) (firsts attempts) (stored_jobs told.store))) ≡ Some (beaten_by worker u was) → IsTrue (runs_attempt w.number a.number (Some (beaten_by worker u was))) → LeftAs w.number a was (beaten_by worker u was)
     left a there was one id has now runs =
-        let run = again (has_status Running was) (is_leased_to w.number (beaten_by worker u was).lease) (is_leased_to w.number was.lease) (a.number == was.attempt) runs (leased was one has) in
+        let run = leased_runs (has_status Running was) (is_leased_to w.number (beaten_by worker u was).lease) (is_leased_to w.number was.lease) (a.number == was.attempt) runs (leased was one has) in
         let stored = subst (λ n. job_with n (stored_jobs told.store) ≡ Some was) id (found_job (stored_jobs told.store) was (whole_of merge told k).body.sound.job_ids one) in
         record {
           runs = run;
           attempt = refl;
           context = subst (OfSome (λ job. job.context ≡ Some a.context)) now (spared a there (ap (runs_attempt w.number a.number) stored ∙ run)).1;
         }
-      where
-        again : (a b c d : Bool) → IsTrue (a && b && d) → IsTrue c → IsTrue (a && c && d)
-        again true true true d h k = h
-        again true true false d h k = absurd (cc k)
-        again true false c d h k = absurd (cc h)
-        again false b c d h k = absurd (cc h)
 
 -- ---- puts of the records
 

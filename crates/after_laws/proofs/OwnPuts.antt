@@ -95,14 +95,6 @@ from_stored told f these job there = all_at (FromStored told f these) (changed f
     (all_on_these (FromStored told f these) f these (stored_jobs told.store) (λ was one. record { was = was; there = one; is = refl }))
     (in_trimmed (changed f these (stored_jobs told.store)) job there)
 
-running_first : (a b c : Bool) → IsTrue (a && b && c) → IsTrue a
-running_first true b c h = refl
-running_first false b c h = absurd (cc h)
-
-refused : (b : Bool) → b ≡ false → IsTrue b → ⊥
-refused true e h = absurd (cc e)
-refused false e h = absurd (cc h)
-
 -- No other active job names a table of the worker's own that is noted for a live attempt.
 unnamed_still : (told : Told) (w : LiveWorker) (f : Job → Job) (these : List ℕ) (entry : Entry) (version epoch : ℕ) (a : Attempt) (id t : ℕ) → OwnPut told w f these entry → IsIn a w.attempts → is_live (stored_jobs told.store) w.number a ≡ true
     → contains these a.job ≡ false → id ≡ a.job → IsIn t (noted_tables a) → IsOwnTable (Worker w.number) told id t → contains (other_tables id (left_records told f these version epoch).jobs) t ≡ false

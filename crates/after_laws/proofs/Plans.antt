@@ -94,7 +94,7 @@ started_follow merge old now b job specs faithful f s = record {
   holds = holds_after merge old now (single b.w (attempt_of b job)) specs faithful f s.holds;
 }
 
-counted_next : (job : Job) → 0 < job.attempt + 1
+pub counted_next : (job : Job) → 0 < job.attempt + 1
 counted_next job = omega arith
 
 rivals_started : (who : Caller) (b : Began) (job : Job) (old new : Told) → Relies who b.w → Keeps who.merge old → Rivals who old new → IsStarted who.merge old b job → IsStarted who.merge new b job

@@ -28,6 +28,7 @@ use Rattle.course_laws.proofs.Later.{later_itself, later_met}
 use Rattle.course_laws.proofs.Puts.{got_records}
 use Rattle.course_laws.proofs.Made.{Relies}
 use Rattle.course_laws.proofs.Releases.{releases_are_lawful}
+use Rattle.course_laws.proofs.Held.{refused}
 use Rattle.after_laws.specs.Releases.{ReleasesKeepFit}
 use Rattle.after_laws.proofs.Live.{live_at, none_pass, pass_none}
 use Rattle.after_laws.proofs.Runs.{Made, Left, call_by, left_stopped, left_reported, left_ended}
@@ -39,10 +40,6 @@ use Rattle.after_laws.proofs.OwnCalls.{put_told, own_calls_keep}
 -- None of these attempts is live.
 abbrev pub AreOver : LiveWorker → List Attempt → Told → Type 0
 AreOver w attempts told = AllByRecursion (λ a. is_live (stored_jobs told.store) w.number a ≡ false) attempts
-
-refused : (b : Bool) → b ≡ false → IsTrue b → ⊥
-refused true e h = absurd (cc e)
-refused false e h = absurd (cc h)
 
 -- The attempts that a put gives back are live no more, and no other one was live.
 gone : (told : Told) (w : LiveWorker) (attempts : List Attempt) (jobs : Jobs) → Pairs (λ a b. a.id < b.id) (stored_jobs told.store)

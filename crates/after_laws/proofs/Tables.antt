@@ -1,6 +1,5 @@
 -- Runs that get tables and put tables.
-use Rattle.std.proofs.Common.{◌≡◌, sym, subst, ℕ, List, [], ◌∷◌, ◌++◌, Bool, true, false, Some, None, map}
-use Rattle.std.specs.Prelude.{IsTrue}
+use Rattle.std.proofs.Common.{◌≡◌, sym, subst, ℕ, List, [], ◌∷◌, ◌++◌, false, Some, None, map}
 use Rattle.std.specs.List.{AllByRecursion}
 use Rattle.std.proofs.lemmas.List.{append-nil, append_assoc}
 use Rattle.row_model.specs.Rows.{Row}
@@ -24,6 +23,7 @@ use Rattle.step_laws.proofs.Held.{held_put}
 use Rattle.course_laws.proofs.Beats.{Fit}
 use Rattle.course_laws.proofs.Free.{rivals_unput, drawn_unput}
 use Rattle.course_laws.proofs.Made.{Relies, State, state_met, state_drawn, state_put, state_table, ids_of, all_of}
+use Rattle.course_laws.proofs.Held.{refused}
 use Rattle.after_laws.proofs.Runs.{Made, call_by}
 
 -- Where a run of the worker stops at a call, this follows.
@@ -55,10 +55,6 @@ unnoted : (who : Caller) (w : LiveWorker) (told : Told) (table : ℕ) → Keeps 
 unnoted who w told table kept holds new b there noted =
     refused (is_among told.store.tables table) new
     (held_put told.store table (all_at _ (noted_tables b) table (all_back _ b.sources (context_tables (Some b.context)) (all_true_front (is_held told.store) (attempt_tables b) (all_at _ w.attempts b (holds.fits kept.stored.replay.specs kept.faithful).each there).held)) noted))
-  where
-    refused : (b : Bool) → b ≡ false → IsTrue b → ⊥
-    refused true e h = absurd (cc e)
-    refused false e h = absurd (cc h)
 
 pub puts_one : {A : Type 0} (R : Type 0) (who : Caller) (w : LiveWorker) (start : Told) (a : Attempt) (moment : ℕ) (rows : List Row) (pairs : List (ℕ × List Row)) (next : ℕ → Course (StepEnd A)) (new : Told) (end : End (StepEnd A)) → Relies who w → Stops R who w new end
     → ((told : Told) (table : ℕ) → State who w start a (pairs ++ (table, rows) ∷ []) told → IsUnnoted w table → IsLawfulCourse who told (next table) → Runs who (next table) told new end → R)

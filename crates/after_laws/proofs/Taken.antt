@@ -4,7 +4,7 @@ use Rattle.std.specs.Prelude.{IsTrue, IfSome, ◌&&◌, ◌||◌, not, is_some, 
 use Rattle.std.specs.List.{AllByRecursion, concat}
 use Rattle.row_model.specs.Lists.{Pairs}
 use Rattle.row_model.specs.Fold.{Operator}
-use Rattle.fleet_model.specs.Jobs.{JobSpec, Job, Jobs, Context, Release, One, Two, knows_cut, Status, Submitted, Scheduled, Running, Compacted, Completed, Failed, status_eq, is_finished, is_active, contains, trimmed, job_with}
+use Rattle.fleet_model.specs.Jobs.{JobSpec, Job, Jobs, Context, Release, One, Two, knows_cut, is_active, contains, trimmed, job_with}
 use Rattle.fleet_model.specs.History.{Worker, Event, PutRecords, Claim, Beat, Entry, stood}
 use Rattle.fleet_model.specs.Store.{stored_jobs, is_held}
 use Rattle.fleet_model.specs.Handles.{job_tables, context_tables}
@@ -29,6 +29,7 @@ use Rattle.step_laws.proofs.Changed.{on_these, found_job, job_found}
 use Rattle.fit_laws.proofs.JobsMerged.{StayActive, changed_stay, with_changed}
 use Rattle.course_laws.proofs.Calls.{in_map}
 use Rattle.course_laws.proofs.Claims.{next_attempt}
+use Rattle.after_laws.proofs.Live.{waiting_active}
 use Rattle.after_laws.proofs.OwnPuts.{ranges_extend}
 use Rattle.after_laws.proofs.Sources.{sources_ordered, sources_held}
 use Rattle.after_laws.proofs.Begun.{single, RunsAs, Waits, holds_alone}
@@ -42,14 +43,6 @@ attempt_with job context = record { job = job.id; number = job.attempt + 1; sour
 -- The job as the claim leaves it.
 abbrev pub taken_by : LiveWorker → ℕ → Job → Job
 taken_by w moment job = claimed_by w.number moment job
-
-waiting_active : (s : Status) (free : Bool) → IsTrue (status_eq Scheduled s && free) → IsTrue (cond (is_finished s) false true)
-waiting_active Scheduled free h = refl
-waiting_active Running free h = refl
-waiting_active Submitted free h = refl
-waiting_active Compacted free h = refl
-waiting_active Completed free h = absurd (cc h)
-waiting_active Failed free h = absurd (cc h)
 
 -- The jobs that a claim takes wait and are stored, by rising id.
 pub record AreWaiting (jobs these : Jobs) : Type 0 where
