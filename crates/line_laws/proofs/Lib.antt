@@ -18,3 +18,4 @@ pub mod PollSays
 pub mod PollLines
 pub mod ClaimRuns
 pub mod ClaimLines
+pub mod Texts

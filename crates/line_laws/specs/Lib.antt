@@ -6,3 +6,4 @@ pub mod ReadLines
 pub mod PollRuns
 pub mod PollLines
 pub mod ClaimLines
+pub mod Texts

@@ -7,6 +7,8 @@ ghost use Rattle.line_laws.specs.ClaimLines.{ClaimsTake};
 ghost use Rattle.line_laws.specs.PollLines.{PollsCommit};
 ghost use Rattle.line_laws.specs.ReadLines.{ReadsAnswer};
 ghost use Rattle.line_laws.specs.Scripts.{FirstLinesRun, ScriptsKeep};
+ghost use Rattle.line_laws.specs.Texts.{TextsRun};
+ghost use Rattle.script_model.specs.States.{FleetOptions, Inputs};
 
 /// A course that runs alone over a store runs as courses do, if the history had room for its draws.
 pub fn alone_runs()
@@ -23,6 +25,12 @@ pub fn scripts_keep()
 /// say of the last state of a run, they say of the state behind each of its lines.
 pub fn first_lines_run()
     ensures { FirstLinesRun }
+{}
+
+/// A fleet that follows a script, as the contract of a whole script says, ran the script's lines. So
+/// these laws hold for it.
+pub fn texts_run()
+    ensures { (inputs : Inputs) (options : FleetOptions) → TextsRun inputs options }
 {}
 
 /// A read is refused below the horizon and before the tick. Each other read prints the fold over
