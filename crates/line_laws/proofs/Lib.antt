@@ -19,3 +19,4 @@ pub mod PollLines
 pub mod ClaimRuns
 pub mod ClaimLines
 pub mod Texts
+pub mod Outputs

@@ -7,3 +7,4 @@ pub mod PollRuns
 pub mod PollLines
 pub mod ClaimLines
 pub mod Texts
+pub mod Outputs

@@ -4,6 +4,7 @@
 
 ghost use Rattle.line_laws.specs.Alone.{AloneRuns};
 ghost use Rattle.line_laws.specs.ClaimLines.{ClaimsTake};
+ghost use Rattle.line_laws.specs.Outputs.{OutputsAreWhole};
 ghost use Rattle.line_laws.specs.PollLines.{PollsCommit};
 ghost use Rattle.line_laws.specs.ReadLines.{ReadsAnswer};
 ghost use Rattle.line_laws.specs.Scripts.{FirstLinesRun, ScriptsKeep};
@@ -52,4 +53,11 @@ pub fn polls_commit()
 /// at each job that it takes, under the manifest that is stored. The line prints them.
 pub fn claims_take()
     ensures { ClaimsTake }
+{}
+
+/// Behind each line, a job that finished and waits for its commit has outputs that hold all rows that
+/// one merge of its source tables makes under the settings of one claim, however often the job was
+/// taken over.
+pub fn outputs_are_whole()
+    ensures { OutputsAreWhole }
 {}
