@@ -89,7 +89,7 @@ behind_manifest who again tries m r p got true e = λ q rivals room.
     )
 behind_manifest who again tries m r p got false e = tries p.store.manifest.version _
 
-starts : (who : Caller) (number : ℕ) → who.party ≡ Coordinator number → (left seen : ℕ) (told : Told) → IsLawfulCourse who told (starts_from left seen)
+pub starts : (who : Caller) (number : ℕ) → who.party ≡ Coordinator number → (left seen : ℕ) (told : Told) → IsLawfulCourse who told (starts_from left seen)
 starts who number by zero seen told = tt
 starts who number by (suc left) seen told = λ m before room. (
   tt,

@@ -51,7 +51,7 @@ use Rattle.poll_laws.proofs.Quiet.{Moves, HasEpoch, epoch_call, rivals_after}
 use Rattle.poll_laws.proofs.Transfer.{AreKept, rivals_kept}
 use Rattle.poll_laws.proofs.Names.{fresh_named, others_same, own_committed, IsNamed}
 use Rattle.poll_laws.proofs.Tries.{Puts, puts_lawful}
-use Rattle.poll_laws.proofs.Polls.{Since, since_itself, since_met, since_noted, Noted, kept_noted, got_noted, drawn_noted, Got, Ready, ready_met, ready_noted, case_at, own_specs, spec_of}
+use Rattle.poll_laws.proofs.Since.{Since, since_itself, since_met, since_noted, Noted, kept_noted, got_noted, drawn_noted, Got, Ready, ready_met, ready_noted, case_at, own_specs, spec_of}
 
 -- ---- trees with the same nodes
 

@@ -10,5 +10,6 @@ pub mod Transfer
 pub mod Names
 pub mod Adoption
 pub mod Tries
-pub mod Polls
+pub mod Since
 pub mod Course
+pub mod Coordinators

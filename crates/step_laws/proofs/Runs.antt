@@ -20,7 +20,7 @@ pub rivals_keep : (who : Caller) (old new : Told) → CallsKeep who.merge → Ke
 rivals_keep who old new keep kept rivals = rivals_from_keep who keep rivals.calls old new kept rivals.lead
 
 -- A call that a fault strikes is no draw, so the history has room for it.
-struck_has_room : (x : Exchange) (told : Told) → IsTrue (is_get_or_put (event_of x told.store)) → HasRoom told x
+pub struck_has_room : (x : Exchange) (told : Told) → IsTrue (is_get_or_put (event_of x told.store)) → HasRoom told x
 struck_has_room (Plain event) told struck = tt
 struck_has_room (DrawsJob moment) told struck = absurd (cc struck)
 struck_has_room (DrawsTable moment) told struck = absurd (cc struck)

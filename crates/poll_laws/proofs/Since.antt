@@ -1,4 +1,4 @@
--- A poll of a coordinator that fits is a lawful course.
+-- What is so since a poll got its two objects, and the case by which its steps are judged.
 use Rattle.std.proofs.Common.{◌≡◌, refl, sym, ◌∙◌, ap, subst, ℕ, ◌+◌, ◌<◌, ◌≤◌, List, [], Bool, true, false, inl, inr, ◌⊎◌, Option, Some, None, arith}
 use Rattle.std.specs.Prelude.{IsTrue, ◌||◌}
 use Rattle.std.specs.List.{concat}
