@@ -20,3 +20,4 @@ pub mod ClaimRuns
 pub mod ClaimLines
 pub mod Texts
 pub mod Outputs
+pub mod WorkedRun

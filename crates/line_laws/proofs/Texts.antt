@@ -10,7 +10,7 @@ use Rattle.line_laws.specs.Alone.{HadRoom}
 use Rattle.line_laws.specs.Texts.{RanText, TextsRun}
 
 -- The lines of a grammar whose lines are in bounds are in bounds.
-all_in_bounds : (grammar : Grammar) → ((before : List Line) (line : Line) → grammar before line → IsInBounds line) → (before lines : List Line) → AreLines grammar before lines → AllByRecursion IsInBounds lines
+pub all_in_bounds : (grammar : Grammar) → ((before : List Line) (line : Line) → grammar before line → IsInBounds line) → (before lines : List Line) → AreLines grammar before lines → AllByRecursion IsInBounds lines
 all_in_bounds grammar bound before [] are = tt
 all_in_bounds grammar bound before (line ∷ lines) are = (bound before line are.0, all_in_bounds grammar bound (before ++ line ∷ []) lines are.1)
 

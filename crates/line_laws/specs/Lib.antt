@@ -8,3 +8,4 @@ pub mod PollLines
 pub mod ClaimLines
 pub mod Texts
 pub mod Outputs
+pub mod WorkedRun

@@ -9,6 +9,7 @@ ghost use Rattle.line_laws.specs.PollLines.{PollsCommit};
 ghost use Rattle.line_laws.specs.ReadLines.{ReadsAnswer};
 ghost use Rattle.line_laws.specs.Scripts.{FirstLinesRun, ScriptsKeep};
 ghost use Rattle.line_laws.specs.Texts.{TextsRun};
+ghost use Rattle.line_laws.specs.WorkedRun.{WorkedRuns};
 ghost use Rattle.script_model.specs.States.{FleetOptions, Inputs};
 
 /// A course that runs alone over a store runs as courses do, if the history had room for its draws.
@@ -60,4 +61,9 @@ pub fn claims_take()
 /// taken over.
 pub fn outputs_are_whole()
     ensures { OutputsAreWhole }
+{}
+
+/// A worked run, in which a job is committed. So the premises of these laws can be met.
+pub fn a_worked_run()
+    ensures { WorkedRuns }
 {}
