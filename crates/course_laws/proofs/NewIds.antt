@@ -99,7 +99,7 @@ pub record AreFresh {B : Type 0} (party : Party) (told : Told) (pairs : List (�
   pub fresh : AllByRecursion (λ p. is_mentioned told.store.history p.0 ≡ false) pairs
   pub once : Pairs (λ p q. p.0 ≢ q.0) pairs
 
-drew_grows : (party : Party) (history : List Entry) (entry : Entry) (id : ℕ) → IsTrue (drew_job party history id) → IsTrue (drew_job party (history ++ entry ∷ []) id)
+pub drew_grows : (party : Party) (history : List Entry) (entry : Entry) (id : ℕ) → IsTrue (drew_job party history id) → IsTrue (drew_job party (history ++ entry ∷ []) id)
 drew_grows party history entry id h = any_front (λ (e : Entry). party_eq party e.party && draws_job id e.event) history (entry ∷ []) h
 
 fresh_push : (history : List Entry) (entry : Entry) (id : ℕ) → contains (mentioned_in entry) id ≡ false → is_mentioned history id ≡ false → is_mentioned (history ++ entry ∷ []) id ≡ false

@@ -22,6 +22,9 @@ use Rattle.poll_laws.proofs.Marks.{Marks, did, did_id, did_spec, did_nothing, Un
 use Rattle.poll_laws.proofs.Jobs.{Among, HeldApart, JobsReached, from_map, IsRunning, IsSubmitted, IsCompacted, MayEnd, submitted_ends, compacted_ends, in_new_old, in_put_new}
 use Rattle.poll_laws.proofs.Quiet.{JobMoves, Stays, Goes, MovedJob, Moves, id_moves}
 use Rattle.poll_laws.proofs.Stages.{jobs_rise}
+use Rattle.step_laws.proofs.OpenJobs.{open_reserves}
+use Rattle.course_laws.proofs.Calls.{in_map}
+use Rattle.poll_laws.proofs.Statuses.{status_of, submitted_holds, ends_not_open, ends_not_running}
 
 -- ---- lists with rising ids
 
@@ -208,15 +211,6 @@ pub record MarksFit (freed opened completed failed : Bool) (job : Job) : Type 0 
   pub ends : IsTrue completed → MayEnd job
   pub fails : IsTrue failed → MayEnd job
 
-status_of : (s t : Status) → IsTrue (status_eq s t) → s ≡ t
-status_of Submitted Submitted h = refl
-status_of Scheduled Scheduled h = refl
-status_of Running Running h = refl
-status_of Compacted Compacted h = refl
-status_of Completed Completed h = refl
-status_of Failed Failed h = refl
-status_of s t h = absurd (cc h)
-
 never_two : (job : Job) (s t : Status) → (status_eq s t ≡ false) → IsTrue (has_status s job) → IsTrue (has_status t job) → ⊥
 never_two job s t differ one other = absurd (cc (sym (subst (λ x. IsTrue (status_eq s x)) (sym (status_of t job.status other)) one) ∙ differ))
 
@@ -226,22 +220,6 @@ ends_cases job h = by (has_status Submitted job) (has_status Compacted job) h
     by : (a b : Bool) → IsTrue (a || b) → IsTrue a ⊎ IsTrue b
     by true b h = inl h
     by false b h = inr h
-
-ends_not_open : (s : Status) → IsTrue (status_eq Submitted s || status_eq Compacted s) → IsTrue (is_open s) → ⊥
-ends_not_open Submitted h k = absurd (cc k)
-ends_not_open Compacted h k = absurd (cc k)
-ends_not_open Scheduled h k = absurd (cc h)
-ends_not_open Running h k = absurd (cc h)
-ends_not_open Completed h k = absurd (cc h)
-ends_not_open Failed h k = absurd (cc h)
-
-ends_not_running : (s : Status) → IsTrue (status_eq Submitted s || status_eq Compacted s) → IsTrue (status_eq Running s) → ⊥
-ends_not_running Submitted h k = absurd (cc k)
-ends_not_running Compacted h k = absurd (cc k)
-ends_not_running Scheduled h k = absurd (cc h)
-ends_not_running Running h k = absurd (cc h)
-ends_not_running Completed h k = absurd (cc h)
-ends_not_running Failed h k = absurd (cc h)
 
 -- A job that may end stays as it is.
 pub ends_stays : (old new : Job) → MayEnd old → JobMoves old new → new ≡ old
@@ -486,22 +464,6 @@ submitted_moves got newer p a P ends ids h = all_to _ _ ids (λ id there found. 
         let m = a.moves.there b old in
         in_new_old p.added newer b (subst (λ (j : Job). IsIn j newer) (ends_stays b m.job (ends b holds) m.moves) m.there)
 
-open_holds : (s : Status) → IsTrue (is_open s) → IsTrue (status_eq Scheduled s || status_eq Running s || status_eq Compacted s)
-open_holds Scheduled h = refl
-open_holds Running h = refl
-open_holds Submitted h = absurd (cc h)
-open_holds Compacted h = absurd (cc h)
-open_holds Completed h = absurd (cc h)
-open_holds Failed h = absurd (cc h)
-
-submitted_holds : (s : Status) → IsTrue (status_eq Submitted s) → IsTrue (status_eq Scheduled s || status_eq Running s || status_eq Compacted s) → ⊥
-submitted_holds Submitted h k = absurd (cc k)
-submitted_holds Scheduled h k = absurd (cc h)
-submitted_holds Running h k = absurd (cc h)
-submitted_holds Compacted h k = absurd (cc h)
-submitted_holds Completed h k = absurd (cc h)
-submitted_holds Failed h k = absurd (cc h)
-
 -- A freed job holds its nodes as it did before.
 freed_holds : (freed opened completed failed : Bool) (tables : List ℕ) (job : Job) → IsTrue (reserves_nodes (done_to false opened completed failed tables job)) → IsTrue (reserves_nodes (done_to freed opened completed failed tables job))
 freed_holds freed opened completed true tables job h = absurd (cc h)
@@ -516,7 +478,7 @@ open_marked freed opened completed true tables job fit is = absurd (ends_not_ope
 open_marked freed opened true false tables job fit is = absurd (ends_not_open job.status (fit.ends refl) is)
 open_marked freed true false false tables job fit is = refl
 open_marked true false false false tables job fit is = refl
-open_marked false false false false tables job fit is = open_holds job.status is
+open_marked false false false false tables job fit is = open_reserves job.status is
 
 -- A job of the merged state that holds nodes, as the poll had it.
 record Before (p : PollState) (new : Job) : Type 0 where
@@ -548,12 +510,7 @@ merged_reached got newer p a = record {
     new_marks = kept_marks p a.reached.tables
 
     marked_in : (b : Job) → IsIn b (with_new p.added got) → IsIn (did marks b) p.jobs
-    marked_in b there = subst (IsIn (did marks b)) (sym a.reached.are) (map_in (with_new p.added got) b there)
-      where
-        map_in : (jobs : Jobs) (x : Job) → IsIn x jobs → IsIn (did marks x) (map (did marks) jobs)
-        map_in [] x there = absurd there
-        map_in (j ∷ jobs) x (inl same) = inl (ap (did marks) same)
-        map_in (j ∷ jobs) x (inr there) = inr (map_in jobs x there)
+    marked_in b there = subst (IsIn (did marks b)) (sym a.reached.are) (in_map (did marks) (with_new p.added got) b there)
 
     same_holds : (x b : Job) → did new_marks b ≡ x → IsIn b (with_new p.added got) → IsTrue (reserves_nodes x) → Before p x
     same_holds x b is there holds = record {
@@ -613,7 +570,7 @@ merged_opened got newer p a trees h = all_from _ p.opened (λ id there. one id t
 
     one : (id : ℕ) → IsIn id p.opened → Among (λ job. IsTrue (has_status Scheduled job) × SourcesStand trees job) p.jobs id → Among (λ job. IsTrue (has_status Scheduled job) × SourcesStand trees job) (merged_jobs p.jobs newer) id
     one id there found =
-        (found.0, (subst (IsIn found.0) (sym (adopted_jobs got newer p a)) (subst (λ (x : Job). IsIn x (map (did new_marks) (with_new p.added newer))) same (map_in (with_new p.added newer) base.0 in_newer)), found.1.1))
+        (found.0, (subst (IsIn found.0) (sym (adopted_jobs got newer p a)) (subst (λ (x : Job). IsIn x (map (did new_marks) (with_new p.added newer))) same (in_map (did new_marks) (with_new p.added newer) base.0 in_newer)), found.1.1))
       where
         base : (b : Job) × (IsIn b (with_new p.added got) × (did marks b ≡ found.0))
         base = from_map (did marks) (with_new p.added got) found.0 (subst (IsIn found.0) a.reached.are found.1.0)
@@ -642,8 +599,3 @@ merged_opened got newer p a trees h = all_from _ p.opened (λ id there. one id t
 
         same : did new_marks base.0 ≡ found.0
         same = ap (λ c. done_to c (contains p.opened base.0.id) (is_completed p base.0.id) (is_failed p base.0.id) (a.reached.tables base.0.id) base.0) (sym not_freed) ∙ base.1.1
-
-        map_in : (jobs : Jobs) (x : Job) → IsIn x jobs → IsIn (did new_marks x) (map (did new_marks) jobs)
-        map_in [] x here = absurd here
-        map_in (j ∷ jobs) x (inl e) = inl (ap (did new_marks) e)
-        map_in (j ∷ jobs) x (inr here) = inr (map_in jobs x here)

@@ -52,6 +52,7 @@ use Rattle.poll_laws.proofs.Transfer.{AreKept, rivals_kept}
 use Rattle.poll_laws.proofs.Names.{fresh_named, others_same, own_committed, IsNamed}
 use Rattle.poll_laws.proofs.Tries.{Puts, puts_lawful}
 use Rattle.poll_laws.proofs.Since.{Since, since_itself, since_met, since_noted, Noted, kept_noted, got_noted, drawn_noted, Got, Ready, ready_met, ready_noted, case_at, own_specs, spec_of}
+use Rattle.course_laws.proofs.Calls.{both}
 
 -- ---- trees with the same nodes
 
@@ -85,10 +86,6 @@ prefixes_all : (tables : Tables) (f : ℕ → JobSpec × List ℕ) (steps : List
 prefixes_all tables f [] base trees h = h
 prefixes_all tables f (step ∷ steps) base trees h =
     prefixes_all tables f steps base (stepped_in tables step (f (job_of step)).0 (f (job_of step)).1 trees) (prefixes_step tables step (f (job_of step)).0 (f (job_of step)).1 base trees h)
-
-both : (a b : Bool) → (a && b) ≡ true → (a ≡ true) × (b ≡ true)
-both true b e = (refl, e)
-both false b e = absurd (cc e)
 
 node_same : (a b : Node) → node_eq a b ≡ true → a ≡ b
 node_same a b e =

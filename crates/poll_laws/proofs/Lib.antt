@@ -1,3 +1,4 @@
+pub mod Statuses
 pub mod Marks
 pub mod Jobs
 pub mod Gates

@@ -16,7 +16,7 @@ use Rattle.fleet_model.specs.Records.{firsts}
 use Rattle.fleet_model.specs.Replay.{named_specs, plain_objects, replayed, after_entry}
 use Rattle.fleet_model.specs.Exchanges.{Exchange}
 use Rattle.step_model.specs.Past.{Told}
-use Rattle.step_model.specs.Entries.{drew_job, draws_job, mentioned_in, was_named, party_eq}
+use Rattle.step_model.specs.Entries.{drew_job, mentioned_in, was_named}
 use Rattle.step_model.specs.Faithful.{Faithful, AgreesWith, with_specs, spec_or}
 use Rattle.step_model.specs.LawfulRecords.{NamesFit}
 use Rattle.step_model.specs.LawfulManifests.{IsKnownTo, StepsFit}
@@ -24,7 +24,7 @@ use Rattle.step_model.specs.Rivals.{Caller, Rivals, told_by_rival}
 use Rattle.step_model.specs.Keeps.{Keeps}
 use Rattle.step_model.specs.TablesKept.{PutsKept}
 use Rattle.step_laws.specs.Runs.{CallsKeep}
-use Rattle.step_laws.proofs.Elements.{IsIn, all_at, all_from, all_to, all_push, any_front, any_push_no, contains_no, in_front, in_contains, Cut, Whole, Before, cut_where}
+use Rattle.step_laws.proofs.Elements.{IsIn, all_at, all_from, all_to, all_push, any_push_no, contains_no, in_front, in_contains, Cut, Whole, Before, cut_where}
 use Rattle.step_laws.proofs.Alike.{replays_alike}
 use Rattle.step_laws.proofs.Bodies.{Body, JobKept, whole_of}
 use Rattle.step_laws.proofs.ManifestBodies.{with_manifest, faithful_before_manifest}
@@ -42,6 +42,8 @@ use Rattle.commit_laws.proofs.CommitSteps.{steps_keep}
 use Rattle.commit_laws.proofs.CommitJobs.{entry_of, manifest_of}
 use Rattle.commit_laws.proofs.Commits.{start, faithful_behind}
 use Rattle.commit_laws.proofs.Midway.{KnownCase, Stored, New, known_case}
+use Rattle.course_laws.proofs.Held.{refused}
+use Rattle.course_laws.proofs.NewIds.{drew_grows}
 
 -- The party drew the ids of these jobs, and no put that took effect named them. Each replay may have their specs.
 pub record MayName (party : Party) (told : Told) (named : List (ℕ × JobSpec)) : Type 0 where
@@ -84,9 +86,6 @@ agreeing_same named specs agrees = λ i id. at id named agrees i
 
 -- ---- an entry that mentions none of the jobs
 
-drew_grows : (party : Party) (history : List Entry) (entry : Entry) (id : ℕ) → IsTrue (drew_job party history id) → IsTrue (drew_job party (history ++ entry ∷ []) id)
-drew_grows party history entry id h = any_front (λ (e : Entry). party_eq party e.party && draws_job id e.event) history (entry ∷ []) h
-
 unnamed_stays : (history : List Entry) (entry : Entry) (id : ℕ) → (IsIn id (firsts (named_specs entry.event)) → ⊥) → was_named history id ≡ false → was_named (history ++ entry ∷ []) id ≡ false
 unnamed_stays history entry id other h =
     any_push_no (λ (e : Entry). contains (firsts (named_specs e.event)) id && stood e.answer) history entry (rw (contains_no (firsts (named_specs entry.event)) id other) refl) ∙ h
@@ -101,10 +100,6 @@ named_on party told new named entry tables grown before none h = record {
   replays = λ specs f. faithful specs f (before specs f) (h.replays specs (before specs f));
 }
   where
-    refused : (b : Bool) → b ≡ false → IsTrue b → ⊥
-    refused true e h = absurd (cc e)
-    refused false e h = absurd (cc h)
-
     -- No job that the entry mentions is among the named ones.
     not_ours : (id : ℕ) → IsIn id (mentioned_in entry) → IsIn id (firsts named) → ⊥
     not_ours id there one = at named (λ p here. none p here) one

@@ -7,7 +7,7 @@ use Rattle.row_model.specs.Fold.{Operator}
 use Rattle.std.specs.Ordering.{is_lt}
 use Rattle.row_model.specs.Rows.{key_cmp}
 use Rattle.fleet_model.specs.Nodes.{Tables, Trees, Segment, Node, is_among, table_rows, segment_at, tree_at}
-use Rattle.fleet_model.specs.Jobs.{JobSpec, is_drain, Job, Jobs, Status, Submitted, Scheduled, Running, Compacted, Completed, Failed, status_eq, nodes_of, has_status, job_with, contains, changed}
+use Rattle.fleet_model.specs.Jobs.{JobSpec, is_drain, Job, Jobs, Submitted, Scheduled, nodes_of, has_status, job_with, contains, changed}
 use Rattle.fleet_model.specs.History.{Party, Move, Drain}
 use Rattle.fleet_model.specs.Sources.{is_apart}
 use Rattle.fleet_model.specs.Store.{stored_jobs}
@@ -39,20 +39,10 @@ use Rattle.poll_laws.proofs.Marks.{did, did_id, did_spec, marks_of, is_completed
 use Rattle.poll_laws.proofs.Jobs.{Among, JobsReached, from_map, IsSubmitted, submitted_ends, in_new_old, IsAwayFrom}
 use Rattle.poll_laws.proofs.Gates.{submittable, passes_beside, free_of, is_free_if, opened_stands}
 use Rattle.poll_laws.proofs.Reached.{Case, TreesReached, MidwayAt, midway_at, Source, IsStored, IsNew, source_of, known_of, named_by, parts, cuts, fits_push, stepped_push, horizon_push, joined_push, specs_on}
+use Rattle.course_laws.proofs.Held.{refused}
+use Rattle.poll_laws.proofs.Statuses.{submitted_holds, scheduled_holds, submitted_scheduled}
 
 -- ---- what stored jobs hold, the poll's jobs hold
-
-clash : (b : Bool) → b ≡ false → IsTrue b → ⊥
-clash true e h = absurd (cc e)
-clash false e h = absurd (cc h)
-
-submitted_holds : (s : Status) → IsTrue (status_eq Submitted s) → IsTrue (status_eq Scheduled s || status_eq Running s || status_eq Compacted s) → ⊥
-submitted_holds Submitted h k = absurd (cc k)
-submitted_holds Scheduled h k = absurd (cc h)
-submitted_holds Running h k = absurd (cc h)
-submitted_holds Compacted h k = absurd (cc h)
-submitted_holds Completed h k = absurd (cc h)
-submitted_holds Failed h k = absurd (cc h)
 
 -- A job of the poll that holds nodes, or that failed by the scheduler's rule.
 pub record HeldBy (p : PollState) (s : Job) : Type 0 where
@@ -102,7 +92,7 @@ held_by {merge} {party} {h} {input} {got} {drawn} {start} {own} {horizon} {p} c 
     no_submitted ids all one = submitted_holds b.status (of_own IsSubmitted (all_at (Among IsSubmitted (with_new p.added got)) ids b.id all (contains_in ids b.id one))) own_holds
 
     not_done : IsTrue (contains p.done b.id) → ⊥
-    not_done one = clash (contains (joined_by p.steps []) s.id) unjoined (subst (λ n. IsTrue (contains (joined_by p.steps []) n)) found.1.1.0 (t.joined b.id ∙ one))
+    not_done one = refused (contains (joined_by p.steps []) s.id) unjoined (subst (λ n. IsTrue (contains (joined_by p.steps []) n)) found.1.1.0 (t.joined b.id ∙ one))
 
     completed : (x y z : Bool) → contains p.done b.id ≡ x → contains p.moved b.id ≡ y → contains p.drained b.id ≡ z → IsTrue (x || (y || z)) → ⊥
     completed true y z e f g one = not_done e
@@ -116,7 +106,7 @@ held_by {merge} {party} {h} {input} {got} {drawn} {start} {own} {horizon} {p} c 
         scheduler : (l : ℕ × ℕ) → IsIn l p.lost → l.0 ≡ b.id → (l.1 ≡ 0) ⊎ IsTrue (was_joined h.store.history l.0) → IsTrue (contains (lost_to_scheduler p.lost) b.id)
         scheduler l one same (inl zero) = subst (λ n. IsTrue (contains (lost_to_scheduler p.lost) n)) same
             (in_contains (lost_to_scheduler p.lost) l.0 (in_map (λ (x : ℕ × ℕ). x.0) (filter (λ x. x.1 == 0) p.lost) l (in_filter (λ (x : ℕ × ℕ). x.1 == 0) p.lost l one ((Decides-eqb l.1 0).1 zero))))
-        scheduler l one same (inr was) = absurd (clash (was_joined h.store.history s.id) never (subst (λ n. IsTrue (was_joined h.store.history n)) (same ∙ found.1.1.0) was))
+        scheduler l one same (inr was) = absurd (refused (was_joined h.store.history s.id) never (subst (λ n. IsTrue (was_joined h.store.history n)) (same ∙ found.1.1.0) was))
 
         at : (l : ℕ × ℕ) × (IsIn l p.lost × (l.0 ≡ b.id)) → IsTrue (contains (lost_to_scheduler p.lost) b.id)
         at l = scheduler l.0 l.1.0 l.1.1 (all_at (λ (x : ℕ × ℕ). (x.1 ≡ 0) ⊎ IsTrue (was_joined h.store.history x.0)) p.lost l.0 t.lost l.1.0)
@@ -180,14 +170,6 @@ away_of trees p input job gate other there differs holds =
     left true y h = refl
     left false y h = absurd (cc h)
 
-scheduled_holds : (s : Status) → IsTrue (status_eq Scheduled s) → IsTrue (status_eq Scheduled s || status_eq Running s || status_eq Compacted s)
-scheduled_holds Scheduled h = refl
-scheduled_holds Submitted h = absurd (cc h)
-scheduled_holds Running h = absurd (cc h)
-scheduled_holds Compacted h = absurd (cc h)
-scheduled_holds Completed h = absurd (cc h)
-scheduled_holds Failed h = absurd (cc h)
-
 -- A job that is not changed stays among the jobs.
 pub still_in : (f : Job → Job) (id : ℕ) (jobs : Jobs) (job : Job) → IsIn job jobs → (id ≡ job.id → ⊥) → IsIn job (changed f (id ∷ []) jobs)
 still_in f id [] job there differs = absurd there
@@ -206,14 +188,6 @@ now_in f (x ∷ jobs) job (inl same) = inl (by (job.id == x.id) ((Decides-eqb jo
     by true e = refl
     by false e = absurd (cc e)
 now_in f (x ∷ jobs) job (inr there) = inr (now_in f jobs job there)
-
-submitted_scheduled : (s : Status) → IsTrue (status_eq Submitted s) → IsTrue (status_eq Scheduled s) → ⊥
-submitted_scheduled Submitted h k = absurd (cc k)
-submitted_scheduled Scheduled h k = absurd (cc h)
-submitted_scheduled Running h k = absurd (cc h)
-submitted_scheduled Compacted h k = absurd (cc h)
-submitted_scheduled Completed h k = absurd (cc h)
-submitted_scheduled Failed h k = absurd (cc h)
 
 -- Opened jobs are others than a submitted one.
 opened_differs : (got : Jobs) (p : PollState) → JobsReached got p → (job opened : Job) → IsIn job p.jobs → IsSubmitted job → IsIn opened p.jobs → IsTrue (has_status Scheduled opened) → job.id ≡ opened.id → ⊥

@@ -1,7 +1,7 @@
 -- What calls of others leave, as long as the records keep the coordinator's epoch: no job is opened, committed or dropped, and trees change by
 -- flushes alone.
 use Rattle.std.proofs.Common.{◌≡◌, ◌≢◌, refl, sym, ◌∙◌, ap, subst, ℕ, ◌+◌, ◌≤◌, List, [], ◌∷◌, ◌++◌, cond, Bool, true, false, inl, inr, ◌⊎◌, arith}
-use Rattle.std.specs.Prelude.{IsTrue, ◌||◌, map, ℤ}
+use Rattle.std.specs.Prelude.{IsTrue, ◌||◌, ℤ}
 use Rattle.std.proofs.lemmas.List.{append-nil, append_assoc}
 use Rattle.row_model.specs.Fold.{Operator}
 use Rattle.fleet_model.specs.Nodes.{NodeName, names, is_among, table_rows, tree_at}
@@ -43,6 +43,8 @@ use Rattle.fit_laws.proofs.Coordinators.{one_put, put_grows, after_epoch, waitin
 use Rattle.fit_laws.proofs.JobsMerged.{StayActive, changed_stay, is_trimmed, trimmed_is, new_trimmed}
 use Rattle.fit_laws.proofs.WorkerManifests.{differ_on}
 use Rattle.poll_laws.proofs.Jobs.{IsSubmitted, from_map, in_new_old}
+use Rattle.step_laws.proofs.OpenJobs.{open_not_submitted}
+use Rattle.course_laws.proofs.Calls.{in_map}
 
 -- ---- jobs
 
@@ -69,22 +71,6 @@ id_moves old new (Goes was is id spec tables) = id
 pub record Moves (old new : Jobs) : Type 0 where
   pub there : (job : Job) → IsIn job old → MovesTo job new
   pub from : (job : Job) → IsIn job new → MovedJob old job ⊎ (IsSubmitted job × ((other : Job) → IsIn other old → other.id ≡ job.id → ⊥))
-
-open_not_compacted : (s : Status) → IsTrue (is_open s) → IsTrue (status_eq Compacted s) → ⊥
-open_not_compacted Scheduled h k = absurd (cc k)
-open_not_compacted Running h k = absurd (cc k)
-open_not_compacted Submitted h k = absurd (cc h)
-open_not_compacted Compacted h k = absurd (cc h)
-open_not_compacted Completed h k = absurd (cc h)
-open_not_compacted Failed h k = absurd (cc h)
-
-open_not_submitted : (s : Status) → IsTrue (is_open s) → IsTrue (status_eq Submitted s) → ⊥
-open_not_submitted Scheduled h k = absurd (cc k)
-open_not_submitted Running h k = absurd (cc k)
-open_not_submitted Submitted h k = absurd (cc h)
-open_not_submitted Compacted h k = absurd (cc h)
-open_not_submitted Completed h k = absurd (cc h)
-open_not_submitted Failed h k = absurd (cc h)
 
 moves_then : (a b c : Job) → JobMoves a b → JobMoves b c → JobMoves a c
 moves_then a b c (Stays e) (Stays f) = Stays (f ∙ e)
@@ -248,11 +234,6 @@ changed_moves f these jobs trims opened ids specs tables = subst (Moves jobs) (s
 
     moves : (job : Job) → IsIn job jobs → JobMoves job (on_these f these job)
     moves job there = by_these (JobMoves job) f these job (λ named. let both = opened job there named in Goes both.0 both.1 (ids job) (specs job) (tables job)) (λ other. Stays refl)
-
-    in_map : (g : Job → Job) (xs : Jobs) (x : Job) → IsIn x xs → IsIn (g x) (map g xs)
-    in_map g [] x there = absurd there
-    in_map g (y ∷ xs) x (inl same) = inl (ap g same)
-    in_map g (y ∷ xs) x (inr there) = inr (in_map g xs x there)
 
 -- Changes of others move jobs, as long as the records keep their epoch.
 change_moves : (merge : Operator) (told : Told) (specs : ℕ → JobSpec) (mine party : Party) (e : ℕ) (u : Unrecorded) (jobs : Jobs) (change : RecordChange) → Body merge told specs → party ≢ mine → IsTrue (did_put_epoch mine told.store.history e)

@@ -5,7 +5,7 @@ use Rattle.std.specs.List.{AllByRecursion, concat}
 use Rattle.row_model.specs.Lists.{Pairs}
 use Rattle.row_model.specs.Fold.{Operator, IsLawful}
 use Rattle.fleet_model.specs.Nodes.{Tables, Trees, is_among, table_rows}
-use Rattle.fleet_model.specs.Jobs.{JobSpec, Job, Jobs, Status, Submitted, Scheduled, Running, Compacted, Completed, Failed, status_eq, has_status, job_with, contains, changed}
+use Rattle.fleet_model.specs.Jobs.{JobSpec, Job, Jobs, Scheduled, Running, Compacted, has_status, job_with, contains, changed}
 use Rattle.fleet_model.specs.History.{Party, Step, Join}
 use Rattle.fleet_model.specs.Store.{stored_jobs}
 use Rattle.fleet_model.specs.Trees.{job_of, stepped_in, stepped_all, horizon_after, horizon_after_all}
@@ -36,6 +36,8 @@ use Rattle.poll_laws.proofs.Marks.{contains_push}
 use Rattle.poll_laws.proofs.Jobs.{Among, HeldApart, JobsReached, is_own, MayEnd, IsSubmitted, IsCompacted, compacted_ends}
 use Rattle.poll_laws.proofs.Names.{IsNamed}
 use Rattle.poll_laws.proofs.Gates.{commits_too, lost_by_scheduler}
+use Rattle.course_laws.proofs.Held.{refused}
+use Rattle.poll_laws.proofs.Statuses.{submitted_compacted}
 
 -- ---- one more step
 
@@ -145,28 +147,12 @@ named_by {party} {h} {got} {added} {job} own (IsNew q there is submitted none dr
 -- A Compacted job that was reached is stored.
 pub compacted_stored : {party : Party} {h : Told} {got : Jobs} {added : List (ℕ × JobSpec)} {job : Job} → IsCompacted job → Source party h got added job → job_with job.id (stored_jobs h.store) ≡ Some job
 compacted_stored {party} {h} {got} {added} {job} compacted (IsStored there stored) = stored
-compacted_stored {party} {h} {got} {added} {job} compacted (IsNew q there is submitted none drew unmentioned) = absurd (never job.status submitted compacted)
-  where
-    never : (s : Status) → IsTrue (status_eq Submitted s) → IsTrue (status_eq Compacted s) → ⊥
-    never Submitted h k = absurd (cc k)
-    never Scheduled h k = absurd (cc h)
-    never Running h k = absurd (cc h)
-    never Compacted h k = absurd (cc h)
-    never Completed h k = absurd (cc h)
-    never Failed h k = absurd (cc h)
+compacted_stored {party} {h} {got} {added} {job} compacted (IsNew q there is submitted none drew unmentioned) = absurd (submitted_compacted job.status submitted compacted)
 
 -- A Compacted job that was reached was got.
 pub compacted_got : {party : Party} {h : Told} {got : Jobs} {added : List (ℕ × JobSpec)} {job : Job} → IsCompacted job → Source party h got added job → IsIn job got
 compacted_got {party} {h} {got} {added} {job} compacted (IsStored there stored) = there
-compacted_got {party} {h} {got} {added} {job} compacted (IsNew q there is submitted none drew unmentioned) = absurd (never job.status submitted compacted)
-  where
-    never : (s : Status) → IsTrue (status_eq Submitted s) → IsTrue (status_eq Compacted s) → ⊥
-    never Submitted h k = absurd (cc k)
-    never Scheduled h k = absurd (cc h)
-    never Running h k = absurd (cc h)
-    never Compacted h k = absurd (cc h)
-    never Completed h k = absurd (cc h)
-    never Failed h k = absurd (cc h)
+compacted_got {party} {h} {got} {added} {job} compacted (IsNew q there is submitted none drew unmentioned) = absurd (submitted_compacted job.status submitted compacted)
 
 -- ---- a commit
 
@@ -287,10 +273,6 @@ trees_lost {merge} {party} {h} {input} {got} {drawn} {start} {own} {horizon} {p}
 
     stands : was_joined h.store.history job.id ≡ false → IsTrue (was_joined h.store.history job.id) ⊎ SourcesStand h.store.manifest.trees job → SourcesStand p.trees job
     stands e (inl was) = absurd (refused (was_joined h.store.history job.id) e was)
-      where
-        refused : (x : Bool) → x ≡ false → IsTrue x → ⊥
-        refused true e h = absurd (cc e)
-        refused false e h = absurd (cc h)
     stands e (inr stand) = (all_at (JobHolds h p.trees (joined_by p.steps [])) (stored_jobs h.store) job m.midway.jobs (found_job job.id (stored_jobs h.store) job stored).0).stand reserves (undone e) stand
 
     why : (x : Bool) → was_joined h.store.history job.id ≡ x → (rule ≡ 0) ⊎ IsTrue (was_joined h.store.history job.id)

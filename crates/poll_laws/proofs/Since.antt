@@ -1,11 +1,11 @@
 -- What is so since a poll got its two objects, and the case by which its steps are judged.
-use Rattle.std.proofs.Common.{◌≡◌, refl, sym, ◌∙◌, ap, subst, ℕ, ◌+◌, ◌<◌, ◌≤◌, List, [], Bool, true, false, inl, inr, ◌⊎◌, Option, Some, None, arith}
-use Rattle.std.specs.Prelude.{IsTrue, ◌||◌}
+use Rattle.std.proofs.Common.{◌≡◌, refl, sym, ◌∙◌, ap, subst, ℕ, ◌+◌, ◌<◌, ◌≤◌, List, [], true, false, inl, inr, ◌⊎◌, Option, Some, None, arith}
+use Rattle.std.specs.Prelude.{IsTrue}
 use Rattle.std.specs.List.{concat}
 use Rattle.row_model.specs.Lists.{Pairs}
 use Rattle.row_model.specs.Fold.{IsLawful}
 use Rattle.fleet_model.specs.Nodes.{Trees}
-use Rattle.fleet_model.specs.Jobs.{JobSpec, Job, Jobs, Status, Submitted, Scheduled, Running, Compacted, Completed, Failed, status_eq, is_active, job_with, contains, nodes_of}
+use Rattle.fleet_model.specs.Jobs.{JobSpec, Job, Jobs, is_active, job_with, contains, nodes_of}
 use Rattle.fleet_model.specs.History.{Event, GetManifest, GetRecords, DrawJob, Done, Entry, stood}
 use Rattle.fleet_model.specs.Store.{Records, stored_jobs, jobs_in, records_epoch, is_held}
 use Rattle.fleet_model.specs.Handles.{job_tables, context_tables}
@@ -29,7 +29,6 @@ use Rattle.step_laws.proofs.Changed.{found_job}
 use Rattle.step_laws.proofs.Held.{held_put}
 use Rattle.step_laws.proofs.Mute.{IsMute, mute_event}
 use Rattle.step_laws.proofs.MuteBodies.{entered}
-use Rattle.step_laws.proofs.OpenJobs.{is_open}
 use Rattle.step_laws.proofs.Quiet.{told_entered}
 use Rattle.step_laws.proofs.TableBodies.{active_if_compacted}
 use Rattle.fit_laws.proofs.Coordinators.{put_grows}
@@ -42,6 +41,9 @@ use Rattle.poll_laws.proofs.Reached.{Case}
 use Rattle.poll_laws.proofs.Quiet.{JobMoves, Stays, Goes, MovedJob, Moves, Quiet, quiet_itself, quiet_then, quiet_noted, HasEpoch, rivals_after}
 use Rattle.poll_laws.proofs.Transfer.{AreKept, kept_outcome, rivals_kept, midway_from}
 use Rattle.poll_laws.proofs.Adoption.{ends_stays}
+use Rattle.step_laws.proofs.OpenJobs.{open_reserves}
+use Rattle.course_laws.proofs.Held.{refused}
+use Rattle.poll_laws.proofs.Statuses.{submitted_holds}
 
 -- ---- what is so since a get
 
@@ -143,26 +145,6 @@ ready_noted who e m r told new s n = record { first = since_noted who e m told n
 
 -- ---- the case of the poll's steps
 
-pub clash : (b : Bool) → b ≡ false → IsTrue b → ⊥
-clash true e h = absurd (cc e)
-clash false e h = absurd (cc h)
-
-open_holds : (s : Status) → IsTrue (is_open s) → IsTrue (status_eq Scheduled s || status_eq Running s || status_eq Compacted s)
-open_holds Scheduled h = refl
-open_holds Running h = refl
-open_holds Submitted h = absurd (cc h)
-open_holds Compacted h = absurd (cc h)
-open_holds Completed h = absurd (cc h)
-open_holds Failed h = absurd (cc h)
-
-submitted_holds : (s : Status) → IsTrue (status_eq Submitted s) → IsTrue (status_eq Scheduled s || status_eq Running s || status_eq Compacted s) → ⊥
-submitted_holds Submitted h k = absurd (cc k)
-submitted_holds Scheduled h k = absurd (cc h)
-submitted_holds Running h k = absurd (cc h)
-submitted_holds Compacted h k = absurd (cc h)
-submitted_holds Completed h k = absurd (cc h)
-submitted_holds Failed h k = absurd (cc h)
-
 -- Later names of jobs.
 named_later : (old new : Told) (id : ℕ) → Later old new → IsTrue (was_named old.store.history id) → IsTrue (was_named new.store.history id)
 named_later old new id later h = done_later (λ event. contains (firsts (named_specs event)) id) old new later h
@@ -182,7 +164,7 @@ case_at who e m r h got ask drawn lawful g s fresh low = record {
       ap (λ n. job_with n (stored_jobs h.store)) (ap (λ (j : Job). j.id) (sym (ends_stays job next.job ends next.moves))) ∙ found_job (stored_jobs h.store) next.job s.first.kept.stored.sound.job_ids next.there ∙ ap (λ (j : Job). Some j) (ends_stays job next.job ends next.moves);
   from = λ x there holds. holder x holds (moves.from x there);
   fresh = all_from _ drawn (λ q there. (unstored q there (job_with q.0 (stored_jobs h.store)) refl, (all_at (λ (p : ℕ × JobSpec). IsTrue (drew_job who.party h.store.history p.0)) drawn q fresh.drawn there, all_at (λ (p : ℕ × JobSpec). is_mentioned h.store.history p.0 ≡ false) drawn q fresh.fresh there)));
-  new_ids = λ q job there one same. clash (was_named h.store.history q.0) (unnamed q there)
+  new_ids = λ q job there one same. refused (was_named h.store.history q.0) (unnamed q there)
       (subst (λ n. IsTrue (was_named h.store.history n)) (sym same) (named_later r h job.id s.second.later (stored_named who.merge r job.id job g.kept_second (found_job (stored_jobs r.store) job g.kept_second.stored.sound.job_ids (stored job one)))));
   once = fresh.once;
   rise = rise;
@@ -206,14 +188,14 @@ case_at who e m r h got ask drawn lawful g s fresh low = record {
 
     unstored : (q : ℕ × JobSpec) → IsIn q drawn → (o : Option Job) → job_with q.0 (stored_jobs h.store) ≡ o → job_with q.0 (stored_jobs h.store) ≡ None
     unstored q there None f = f
-    unstored q there (Some job) f = absurd (clash (was_named h.store.history q.0) (unnamed q there) (stored_named who.merge h q.0 job s.first.kept f))
+    unstored q there (Some job) f = absurd (refused (was_named h.store.history q.0) (unnamed q there) (stored_named who.merge h q.0 job s.first.kept f))
 
     holder : (x : Job) → IsTrue (reserves_nodes x) → MovedJob got.jobs x ⊎ (IsSubmitted x × ((other : Job) → IsIn other got.jobs → other.id ≡ x.id → ⊥)) → Among (λ b. (b.spec ≡ x.spec) × IsTrue (reserves_nodes b)) got.jobs x.id
     holder x holds (inl f) = (f.job, (f.there, at f.moves))
       where
         at : JobMoves f.job x → (f.job.id ≡ x.id) × ((f.job.spec ≡ x.spec) × IsTrue (reserves_nodes f.job))
         at (Stays is) = (ap (λ (j : Job). j.id) (sym is), (ap (λ (j : Job). j.spec) (sym is), subst (λ (j : Job). IsTrue (reserves_nodes j)) is holds))
-        at (Goes was goes id spec tables) = (sym id, (sym spec, open_holds f.job.status was))
+        at (Goes was goes id spec tables) = (sym id, (sym spec, open_reserves f.job.status was))
     holder x holds (inr new) = absurd (submitted_holds x.status new.0 holds)
 
     by : (x y : Job) → HoldApart x y ⊎ HoldApart y x → HoldApart x y

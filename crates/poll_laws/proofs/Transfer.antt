@@ -6,7 +6,7 @@ use Rattle.std.specs.List.{AllByRecursion}
 use Rattle.row_model.specs.Fold.{Operator}
 use Rattle.row_model.specs.Rows.{Row}
 use Rattle.fleet_model.specs.Nodes.{Segment, Trees, names, is_among}
-use Rattle.fleet_model.specs.Jobs.{Job, Status, Submitted, Scheduled, Running, Compacted, Completed, Failed, status_eq, has_status, is_finished, contains}
+use Rattle.fleet_model.specs.Jobs.{Job, Scheduled, Running, Compacted, status_eq, has_status, contains}
 use Rattle.fleet_model.specs.History.{Party, ManifestChange, ManifestEpoch, Flush, Commit, Entry}
 use Rattle.fleet_model.specs.Store.{Manifest, Store, stored_jobs, is_held}
 use Rattle.fleet_model.specs.Handles.{tree_tables}
@@ -25,7 +25,6 @@ use Rattle.step_laws.proofs.FlushFollows.{reads_fewer}
 use Rattle.step_laws.proofs.Grown.{piece_grows, flush_grows, passed_grows}
 use Rattle.step_laws.proofs.Held.{are_put, held_grows, among_grows}
 use Rattle.step_laws.proofs.ManifestEpochs.{not_stored}
-use Rattle.step_laws.proofs.OpenJobs.{is_open}
 use Rattle.step_laws.proofs.TableBodies.{NodePut, tree_stays, reads_stay}
 use Rattle.fit_laws.proofs.Outcomes.{Outcome, Notes, Deletes, NewTable, NewManifest, NewRecords, outcome, put_manifest}
 use Rattle.commit_laws.proofs.TreeReads.{with_horizon}
@@ -35,6 +34,9 @@ use Rattle.commit_laws.proofs.JobSteps.{JobHolds}
 use Rattle.commit_laws.proofs.Midway.{Midway}
 use Rattle.poll_laws.proofs.Jobs.{IsSubmitted}
 use Rattle.poll_laws.proofs.Quiet.{JobMoves, Stays, Goes, MovedJob, Quiet}
+use Rattle.step_laws.proofs.OpenJobs.{open_not_late}
+use Rattle.course_laws.proofs.Held.{refused}
+use Rattle.poll_laws.proofs.Statuses.{submitted_holds, submitted_compacted, open_cases, holds_cases}
 
 -- ---- what is kept of the trees, call by call
 
@@ -130,50 +132,6 @@ joins_past past more trees job (Itself run sources destination none empty) = Its
 same_stands : (trees : Trees) (old new : Job) → new.spec ≡ old.spec → new.source_tables ≡ old.source_tables → SourcesStand trees old → SourcesStand trees new
 same_stands trees old new spec tables h = record { some = rw spec h.some; stretch = rw spec h.stretch; source_tables = rw (spec, tables) h.source_tables; destination = rw spec h.destination }
 
-refused : (b : Bool) → b ≡ false → IsTrue b → ⊥
-refused true e h = absurd (cc e)
-refused false e h = absurd (cc h)
-
-late_not_open : (s : Status) → IsTrue (status_eq Compacted s || is_finished s) → IsTrue (is_open s) → ⊥
-late_not_open Scheduled h k = absurd (cc h)
-late_not_open Running h k = absurd (cc h)
-late_not_open Submitted h k = absurd (cc k)
-late_not_open Compacted h k = absurd (cc k)
-late_not_open Completed h k = absurd (cc k)
-late_not_open Failed h k = absurd (cc k)
-
-submitted_holds : (s : Status) → IsTrue (status_eq Submitted s) → IsTrue (status_eq Scheduled s || status_eq Running s || status_eq Compacted s) → ⊥
-submitted_holds Submitted h k = absurd (cc k)
-submitted_holds Scheduled h k = absurd (cc h)
-submitted_holds Running h k = absurd (cc h)
-submitted_holds Compacted h k = absurd (cc h)
-submitted_holds Completed h k = absurd (cc h)
-submitted_holds Failed h k = absurd (cc h)
-
-submitted_compacted : (s : Status) → IsTrue (status_eq Submitted s) → IsTrue (status_eq Compacted s) → ⊥
-submitted_compacted Submitted h k = absurd (cc k)
-submitted_compacted Compacted h k = absurd (cc h)
-submitted_compacted Scheduled h k = absurd (cc h)
-submitted_compacted Running h k = absurd (cc h)
-submitted_compacted Completed h k = absurd (cc h)
-submitted_compacted Failed h k = absurd (cc h)
-
-open_cases : (s : Status) → IsTrue (is_open s) → IsTrue (status_eq Scheduled s || status_eq Running s)
-open_cases Scheduled h = refl
-open_cases Running h = refl
-open_cases Submitted h = absurd (cc h)
-open_cases Compacted h = absurd (cc h)
-open_cases Completed h = absurd (cc h)
-open_cases Failed h = absurd (cc h)
-
-holds_cases : (s : Status) → IsTrue (status_eq Scheduled s || status_eq Running s || status_eq Compacted s) → IsTrue (status_eq Scheduled s || status_eq Running s) ⊎ IsTrue (status_eq Compacted s)
-holds_cases Scheduled h = inl refl
-holds_cases Running h = inl refl
-holds_cases Compacted h = inr refl
-holds_cases Submitted h = absurd (cc h)
-holds_cases Completed h = absurd (cc h)
-holds_cases Failed h = absurd (cc h)
-
 pub midway_from : (merge : Operator) (m u : Told) → Keeps merge m → Quiet m u → AreKept merge m.store.manifest.trees m.store.manifest.horizon u → Midway merge u m.store.manifest.trees m.store.manifest.horizon []
 midway_from merge m u k q kept = record { kept = kept; jobs = all_from _ (stored_jobs u.store) (λ s there. holds s (q.jobs.from s there)) }
   where
@@ -222,7 +180,7 @@ midway_from merge m u k q kept = record { kept = kept; jobs = all_from _ (stored
         by : JobMoves f.job s → JoinStands u.past m.store.manifest.trees s
         by (Stays e) = subst (JoinStands u.past m.store.manifest.trees) (sym e) (past f.job ((old_kept f.job f.there).facts.stand (subst (λ (j : Job). IsTrue (has_status Compacted j)) e compacted)
             (subst (λ (j : Job). was_joined m.store.history j.id ≡ true) e (sym (q.joined s.id) ∙ was))))
-        by (Goes was_open is id spec tables) = absurd (late_not_open f.job.status ((old_kept f.job f.there).facts.late (subst (λ n. was_joined m.store.history n ≡ true) id (sym (q.joined s.id) ∙ was))) was_open)
+        by (Goes was_open is id spec tables) = absurd (open_not_late f.job.status was_open ((old_kept f.job f.there).facts.late (subst (λ n. was_joined m.store.history n ≡ true) id (sym (q.joined s.id) ∙ was))))
 
     holds : (s : Job) → MovedJob (stored_jobs m.store) s ⊎ (IsSubmitted s × ((other : Job) → IsIn other (stored_jobs m.store) → other.id ≡ s.id → ⊥)) → JobHolds u m.store.manifest.trees [] s
     holds s (inl f) = record {

@@ -35,6 +35,7 @@ use Rattle.poll_laws.proofs.RecordsPut.{put_fits}
 use Rattle.poll_laws.proofs.Quiet.{Moves, moves_itself, moves_on, Quiet, HasEpoch, rivals_after}
 use Rattle.poll_laws.proofs.Names.{MayName, fits_to_name, rivals_named, own_noted, own_refused}
 use Rattle.poll_laws.proofs.Adoption.{Adopts, merged_reached, merged_opened}
+use Rattle.course_laws.proofs.Held.{refused}
 
 -- What is so of the poll's state as long as no later epoch is in the records: its jobs are marks of those that it got, the stored jobs are those
 -- that these moved to, and the sources of the jobs that it opened stand.
@@ -162,12 +163,8 @@ puts_merged who e base got newer p told keep s is low =
     rise : Pairs (λ a b. a.id < b.id) newer.jobs
     rise = subst (λ r. Pairs (λ (a b : Job). a.id < b.id) (jobs_in r)) is s.kept.stored.sound.job_ids
 
-    clash : (b : Bool) → b ≡ false → IsTrue b → ⊥
-    clash true e h = absurd (cc e)
-    clash false e h = absurd (cc h)
-
     new : (q : ℕ × JobSpec) (job : Job) → IsIn q p.added → IsIn job newer.jobs → q.0 ≡ job.id → ⊥
-    new q job there one same = clash (was_named told.store.history q.0) (all_at (λ (x : ℕ × JobSpec). was_named told.store.history x.0 ≡ false) p.added q s.names.unnamed there)
+    new q job there one same = refused (was_named told.store.history q.0) (all_at (λ (x : ℕ × JobSpec). was_named told.store.history x.0 ≡ false) p.added q s.names.unnamed there)
         (subst (λ n. IsTrue (was_named told.store.history n)) (sym same) (stored_named who.merge told job.id job s.kept (ap (λ r. job_with job.id (jobs_in r)) is ∙ found_job newer.jobs job rise one)))
 
 -- ---- all tries
