@@ -483,3 +483,16 @@ fn replace_manifest(manifest: &mut VersionedManifest, stands: bool, value: Manif
         };
     }
 }
+
+fn sends<T: Send>(_value: &T) {}
+
+// A store in memory is to go from thread to thread, so each part of it may. This has no proof if
+// one may not.
+fn needs_send(store: &MemStore) {
+    sends(&store.manifest);
+    sends(&store.records);
+    sends(&store.tables);
+    sends(&store.jobs_drawn);
+    sends(&store.tables_drawn);
+    store.log.needs_send();
+}
