@@ -1,10 +1,10 @@
 -- Courses one after the other, and what a run of a party that is alone keeps.
 use Rattle.std.proofs.Common.{◌≡◌, refl, sym, subst, List, [], ◌∷◌, true, inl, inr, Some, None}
-use Rattle.std.specs.Prelude.{IsTrue, ⊤}
+use Rattle.std.specs.Prelude.{⊤}
 use Rattle.std.specs.List.{AllByRecursion}
-use Rattle.fleet_model.specs.History.{Event, is_get_or_put}
+use Rattle.fleet_model.specs.History.{Event}
 use Rattle.fleet_model.specs.Store.{Store}
-use Rattle.fleet_model.specs.Exchanges.{Exchange, Plain, DrawsJob, DrawsTable, PutsTable, PutsManifest, PutsRecords, ListsTables, DeletesTable, event_of}
+use Rattle.fleet_model.specs.Exchanges.{Exchange, Plain}
 use Rattle.step_model.specs.Past.{Told}
 use Rattle.step_model.specs.Lawful.{Lawful}
 use Rattle.step_model.specs.LawfulTables.{PlainFits}
@@ -13,6 +13,7 @@ use Rattle.step_model.specs.Keeps.{Keeps}
 use Rattle.step_model.specs.Course.{Course, Ends, Calls, then_course, calls_each}
 use Rattle.step_model.specs.CourseRuns.{End, Gives, MeetsFault, LacksMemory, HasRoom, StopsAt, Runs, IsLawfulCourse}
 use Rattle.step_laws.specs.Runs.{CallsKeep}
+use Rattle.step_laws.proofs.Runs.{struck_has_room}
 use Rattle.course_laws.proofs.Sweeps.{alone_same}
 
 -- ---- lawful courses
@@ -60,17 +61,6 @@ pub all_calls : {A : Type 0} (Q : Exchange → Type 0) → ((x : Exchange) → Q
 all_calls Q each (Ends answer) = tt
 all_calls Q each (Calls x next) = (each x, λ met. all_calls Q each (next met))
 
--- A call that a fault strikes is no draw.
-struck_room : (x : Exchange) (told : Told) → IsTrue (is_get_or_put (event_of x told.store)) → HasRoom told x
-struck_room (Plain event) told struck = tt
-struck_room (DrawsJob moment) told struck = absurd (cc struck)
-struck_room (DrawsTable moment) told struck = absurd (cc struck)
-struck_room (PutsTable table rows) told struck = tt
-struck_room (PutsManifest version change value) told struck = tt
-struck_room (PutsRecords version change epoch jobs) told struck = tt
-struck_room ListsTables told struck = tt
-struck_room (DeletesTable table) told struck = tt
-
 -- The calls of this kind that the caller may make keep the property.
 abbrev pub CallsHold : Caller → (Exchange → Type 0) → (Told → Type 0) → Type 0
 CallsHold who Q P = (x : Exchange) (strike : Strike) (told : Told) → Keeps who.merge told → Lawful who.merge who.party told x → MayStrike x told strike → Q x → P told → P (told_by who.line who.party x strike told)
@@ -78,7 +68,7 @@ CallsHold who Q P = (x : Exchange) (strike : Strike) (told : Told) → Keeps who
 stops_hold : {A : Type 0} (who : Caller) (Q : Exchange → Type 0) (P : Told → Type 0) (x : Exchange) (met new : Told) (end : End A) → CallsHold who Q P → Keeps who.merge met → (HasRoom met x → Lawful who.merge who.party met x) → Q x → StopsAt who x met new end
     → P met → P new
 stops_hold who Q P x met new (Gives answer) hold kept lawful one stops p = absurd stops
-stops_hold who Q P x met new MeetsFault hold kept lawful one stops p = subst P (sym stops.1.1) (hold x (Some stops.1.0) met kept (lawful (struck_room x met stops.0)) stops.0 one p)
+stops_hold who Q P x met new MeetsFault hold kept lawful one stops p = subst P (sym stops.1.1) (hold x (Some stops.1.0) met kept (lawful (struck_has_room x met stops.0)) stops.0 one p)
 stops_hold who Q P x met new LacksMemory hold kept lawful one stops p = subst P stops p
 
 -- What each call of a party that is alone keeps, a run of its lawful course keeps.

@@ -1,14 +1,12 @@
 pub mod AloneRuns
 pub mod Courses
 pub mod Parties
-pub mod Fewer
 pub mod Others
 pub mod Lines
 pub mod Steps
 pub mod Flushes
 pub mod SameLines
 pub mod PollRuns
-pub mod StartFits
 pub mod PartyLines
 pub mod WorkerLines
 pub mod Scripts

@@ -40,22 +40,3 @@ others number n xs = all_to _ _ (filter (λ x. not (n == number x)) xs) (λ x th
     refused : (b : Bool) → b ≡ true → not b ≡ true → ⊥
     refused true e h = absurd (cc h)
     refused false e h = absurd (cc e)
-
--- ---- filters
-
-filter_skips : {A : Type 0} (p : A → Bool) (x : A) (xs : List A) → p x ≡ false → filter p (x ∷ xs) ≡ filter p xs
-filter_skips p x xs e = ap (λ b. cond b (x ∷ filter p xs) (filter p xs)) e
-
-filter_takes : {A : Type 0} (p : A → Bool) (x : A) (xs : List A) → p x ≡ true → filter p (x ∷ xs) ≡ x ∷ filter p xs
-filter_takes p x xs e = ap (λ b. cond b (x ∷ filter p xs) (filter p xs)) e
-
--- It does not matter which of two filters comes first.
-pub filters_commute : {A : Type 0} (p q : A → Bool) (xs : List A) → filter p (filter q xs) ≡ filter q (filter p xs)
-filters_commute p q [] = refl
-filters_commute {A} p q (x ∷ xs) = by (p x) (q x) refl refl (filters_commute p q xs)
-  where
-    by : (a b : Bool) → p x ≡ a → q x ≡ b → filter p (filter q xs) ≡ filter q (filter p xs) → filter p (filter q (x ∷ xs)) ≡ filter q (filter p (x ∷ xs))
-    by true true e f rest = ap (filter p) (filter_takes q x xs f) ∙ filter_takes p x (filter q xs) e ∙ ap (λ ys. x ∷ ys) rest ∙ sym (ap (filter q) (filter_takes p x xs e) ∙ filter_takes q x (filter p xs) f)
-    by true false e f rest = ap (filter p) (filter_skips q x xs f) ∙ rest ∙ sym (ap (filter q) (filter_takes p x xs e) ∙ filter_skips q x (filter p xs) f)
-    by false true e f rest = ap (filter p) (filter_takes q x xs f) ∙ filter_skips p x (filter q xs) e ∙ rest ∙ sym (ap (filter q) (filter_skips p x xs e))
-    by false false e f rest = ap (filter p) (filter_skips q x xs f) ∙ rest ∙ sym (ap (filter q) (filter_skips p x xs e))

@@ -23,6 +23,8 @@ use Rattle.step_laws.proofs.Elements.{all_append}
 use Rattle.commit_laws.proofs.AllCalls.{calls_keep}
 use Rattle.course_laws.proofs.Sweeps.{alone_same, NonePending}
 use Rattle.course_laws.proofs.Starts.{starts_are_lawful}
+use Rattle.after_laws.proofs.Fewer.{idle_workers_fit}
+use Rattle.poll_laws.proofs.Coordinators.{starts_fit}
 use Rattle.script_model.specs.States.{State}
 use Rattle.script_model.specs.Replies.{ok, reply}
 use Rattle.script_model.specs.LineRuns.{LineEnd, LineCourse, run_line, line_end, no_such_party, if_some}
@@ -30,11 +32,9 @@ use Rattle.script_model.specs.Starts.{killed_first, start_notes, start_coordinat
 use Rattle.line_laws.specs.Alone.{HadRoom}
 use Rattle.line_laws.specs.States.{FleetKeeps, StateKeeps}
 use Rattle.line_laws.proofs.Courses.{Split, split, all_calls, runs_hold, then_lawful, notes_lawful}
-use Rattle.line_laws.proofs.Fewer.{no_attempts}
 use Rattle.line_laws.proofs.Others.{coordinator_holds}
 use Rattle.line_laws.proofs.Lines.{caller_of, told_of, Left, Spares, line_keeps, coordinator_gone, coordinator_comes, worker_gone, worker_stays}
 use Rattle.line_laws.proofs.Steps.{none_comes}
-use Rattle.line_laws.proofs.StartFits.{start_fits}
 use Rattle.line_laws.proofs.SameLines.{no_party_keeps}
 
 -- ---- notes
@@ -107,7 +107,7 @@ pub start_worker_keeps : (merge : Operator) (number n : ℕ) (release : Option �
 start_worker_keeps merge number n release s k lawful room =
     notes_keep merge number s (Worker n) (killed_first (is_some (worker_with n s.parties)) (Worker n) ++ Start (Worker n) ∷ []) (with_worker (record { number = n; release = release_of release; attempts = [] }) s.parties) k lawful refl tt
     (all_append _ (killed_first (is_some (worker_with n s.parties)) (Worker n)) (Start (Worker n) ∷ []) (killed_own (is_some (worker_with n s.parties)) (Worker n)) (own_start (Worker n), tt))
-    (λ new left none. worker_stays merge number (told_of merge s k) new s.parties (record { number = n; release = release_of release; attempts = [] }) k.fleet left none (no_attempts merge new n (release_of release))) room
+    (λ new left none. worker_stays merge number (told_of merge s k) new s.parties (record { number = n; release = release_of release; attempts = [] }) k.fleet left none (idle_workers_fit merge new n (release_of release))) room
 
 pub end_coordinator_keeps : (merge : Operator) (number n : ℕ) (s : State) (k : StateKeeps merge s) → IsLawful merge → HadRoom (run_line number s (end_coordinator n s)).1.store → StateKeeps merge (run_line number s (end_coordinator n s)).1
 end_coordinator_keeps merge number n s k lawful room = by (coordinator_with n s.parties) room
@@ -181,7 +181,7 @@ start_coordinator_keeps merge number n s k lawful room =
         let keep = calls_keep merge lawful in
         let b = behind_notes who kills start told mid (Reports epoch) keep refl kills_own k.fleet.store first in
         runs_hold who (λ x. ⊤) (λ t. CoordinatorHolds t c None) (calls_each (start_notes n (Reports epoch)) (Ends (ends (Reports epoch)))) refl keep (coordinator_holds who c) (all_calls (λ x. ⊤) (λ x. tt) (calls_each (start_notes n (Reports epoch)) (Ends (ends (Reports epoch))))) mid new (Gives end)
-        (runs_keep who step keep told mid (Gives (Reports epoch)) k.fleet.store step_is first) (behind_lawful (Reports epoch) mid) second (start_fits who n epoch b.mid mid lawful refl refl b.kept b.run)
+        (runs_keep who step keep told mid (Gives (Reports epoch)) k.fleet.store step_is first) (behind_lawful (Reports epoch) mid) second (starts_fit who b.mid mid n epoch keep refl b.kept b.run)
 
     by : (answer : StepEnd ℕ) (mid new : Told) (end : LineEnd) → Left who s.parties new → NonePending new.store → Runs who step told mid (Gives answer) → Runs who (calls_each (start_notes n answer) (Ends (ends answer))) mid new (Gives end)
         → FleetKeeps merge new (ends answer).parties

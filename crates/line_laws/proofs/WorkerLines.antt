@@ -30,6 +30,7 @@ use Rattle.after_laws.specs.Behind.{FitsBehind, FitsAfter}
 use Rattle.after_laws.proofs.Beats.{beats_keep_fit}
 use Rattle.after_laws.proofs.Claims.{claims_keep_fit}
 use Rattle.after_laws.proofs.Outputs.{outputs_keep_fit}
+use Rattle.after_laws.proofs.Fewer.{fewer_attempts_fit}
 use Rattle.after_laws.proofs.Finishes.{finishes_keep_fit}
 use Rattle.script_model.specs.States.{Inputs, State}
 use Rattle.script_model.specs.Replies.{reply, jobs_text, claim_reply, beat_reply, output_reply, ranges_text}
@@ -41,7 +42,6 @@ use Rattle.line_laws.specs.Alone.{HadRoom}
 use Rattle.line_laws.specs.States.{FleetKeeps, StateKeeps}
 use Rattle.line_laws.proofs.Courses.{Split, split, then_lawful}
 use Rattle.line_laws.proofs.Parties.{found}
-use Rattle.line_laws.proofs.Fewer.{fewer_attempts}
 use Rattle.line_laws.proofs.Lines.{caller_of, told_of, Left, line_keeps, worker_gone, worker_stays}
 use Rattle.line_laws.proofs.Steps.{none_comes, StepEnded, step_ended, step_lawful}
 use Rattle.line_laws.proofs.SameLines.{no_party_keeps}
@@ -168,7 +168,7 @@ finish_keeps inputs number n job refusal s k lawful may room = by (job_at s n jo
         let is = is_attempt inputs.merge s k n job p e in
         let who : Caller = caller_of inputs.merge number (Worker w.number) in
         let step = finish inputs.merge s.store.tables (worker_options s.options) s.moment w a refusal in
-        work_keeps inputs.merge number s k w step (λ r. reply (codes "ok" ∷ ranges_text r.outputs ∷ [])) (λ r. r.attempts) (dropped w a) lawful is.holds (λ t h. fewer_attempts inputs.merge t w _ h)
+        work_keeps inputs.merge number s k w step (λ r. reply (codes "ok" ∷ ranges_text r.outputs ∷ [])) (λ r. r.attempts) (dropped w a) lawful is.holds (λ t h. fewer_attempts_fit inputs.merge t w _ h)
         (finishes_are_lawful who (told_of inputs.merge s k) (worker_options s.options) s.moment w a refusal (calls_keep inputs.merge lawful) lawful refl k.fleet.store is.holds is.runs (whole a refusal w may))
         (finishes_keep_fit who (told_of inputs.merge s k) (worker_options s.options) s.moment w a refusal (calls_keep inputs.merge lawful) lawful refl k.fleet.store is.holds is.runs (whole a refusal w may)).0 room
 
@@ -189,7 +189,7 @@ output_keeps inputs number n job place rows refusal s k lawful counted room = at
         let w = p.0 in
         let a = p.1 in
         let who : Caller = caller_of inputs.merge number (Worker w.number) in
-        work_keeps inputs.merge number s k w (output inputs.merge s.store.tables s.moment w a place range rows refusal) (λ r. output_reply r.table) (λ r. r.attempts) (dropped w a) lawful is.holds (λ t h. fewer_attempts inputs.merge t w _ h)
+        work_keeps inputs.merge number s k w (output inputs.merge s.store.tables s.moment w a place range rows refusal) (λ r. output_reply r.table) (λ r. r.attempts) (dropped w a) lawful is.holds (λ t h. fewer_attempts_fit inputs.merge t w _ h)
         (outputs_are_lawful who (told_of inputs.merge s k) s.moment w a place range rows refusal (calls_keep inputs.merge lawful) lawful refl k.fleet.store is.holds is.runs)
         (outputs_keep_fit who (told_of inputs.merge s k) s.moment w a place range rows refusal (calls_keep inputs.merge lawful) lawful refl k.fleet.store is.holds is.runs (record { counted = omega (arith, counted); there = e })) room
 
