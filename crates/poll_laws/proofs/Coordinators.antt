@@ -22,6 +22,7 @@ use Rattle.course_laws.proofs.Calls.{behind}
 use Rattle.course_laws.proofs.Later.{rivals_later, later_by}
 use Rattle.course_laws.proofs.Puts.{did_later}
 use Rattle.course_laws.proofs.Starts.{starts, put_stood}
+use Rattle.commit_laws.proofs.AllCalls.{calls_keep}
 use Rattle.poll_laws.specs.Coordinators.{StartsFit, PollsFit}
 use Rattle.poll_laws.proofs.Quiet.{HasEpoch, epoch_call, rivals_after}
 use Rattle.poll_laws.proofs.Course.{polls_are_lawful}
@@ -55,10 +56,10 @@ holds_none who told number e by counted own = record {
 }
 
 pub polls_fit : PollsFit
-polls_fit who old new number ask local end keep lawful by kept holds run =
+polls_fit who old new number ask local end lawful by kept holds run =
     holds_none who new number ask.epoch by holds.counted
-    (runs_epoch who ask.epoch _ keep old new end kept (record { put = subst (λ party. IsTrue (did_put_epoch party old.store.history ask.epoch)) (sym by) holds.put; recorded = holds.recorded })
-    (polls_are_lawful who old number ask local keep lawful by kept holds) run)
+    (runs_epoch who ask.epoch _ (calls_keep who.merge lawful) old new end kept (record { put = subst (λ party. IsTrue (did_put_epoch party old.store.history ask.epoch)) (sym by) holds.put; recorded = holds.recorded })
+    (polls_are_lawful who old number ask local lawful by kept holds) run)
 
 -- ---- starts
 
@@ -149,6 +150,6 @@ start_runs who number epoch new keep by (suc left) seen old kept (m, (before, in
 
 pub starts_fit : StartsFit
 unfolding start
-starts_fit who old new number epoch keep by kept run =
-    let started = start_runs who number epoch new keep by most_refused 0 old kept run in
+starts_fit who old new number epoch lawful by kept run =
+    let started = start_runs who number epoch new (calls_keep who.merge lawful) by most_refused 0 old kept run in
     holds_none who new number epoch by started.1 started.0

@@ -43,6 +43,7 @@ use Rattle.course_laws.proofs.NewIds.{AreFresh, rivals_fresh, drawn_fresh}
 use Rattle.commit_laws.proofs.Stretches.{name_same}
 use Rattle.commit_laws.proofs.CommitJobs.{entry_of, manifest_of}
 use Rattle.commit_laws.proofs.Commits.{start}
+use Rattle.commit_laws.proofs.AllCalls.{calls_keep}
 use Rattle.step_laws.proofs.Bodies.{whole_of}
 use Rattle.poll_laws.specs.Polls.{PollsAreLawful}
 use Rattle.poll_laws.proofs.Jobs.{Among}
@@ -469,5 +470,5 @@ polls who ask keep lawful counted (suc left) seen told kept own = λ m rivals ro
 
 pub polls_are_lawful : PollsAreLawful
 unfolding poll
-polls_are_lawful who told number ask local keep lawful by kept holds =
-    polls who ask keep lawful holds.counted most_refused 0 told kept (record { put = subst (λ party. IsTrue (did_put_epoch party told.store.history ask.epoch)) (sym by) holds.put; recorded = holds.recorded })
+polls_are_lawful who told number ask local lawful by kept holds =
+    polls who ask (calls_keep who.merge lawful) lawful holds.counted most_refused 0 told kept (record { put = subst (λ party. IsTrue (did_put_epoch party told.store.history ask.epoch)) (sym by) holds.put; recorded = holds.recorded })

@@ -11,16 +11,15 @@ use Rattle.step_model.specs.Fits.{CoordinatorHolds}
 use Rattle.step_model.specs.CourseRuns.{End, Gives, Runs}
 use Rattle.step_model.specs.StepEnds.{StepEnd, Reports}
 use Rattle.step_model.specs.PollSteps.{PollAsk, start, poll}
-use Rattle.step_laws.specs.Runs.{CallsKeep}
 
--- A coordinator that started fits with the epoch that its start reports, if every lawful call keeps
--- the invariant. It holds no local state yet.
+-- Under a lawful operator, a coordinator that started fits with the epoch that its start reports. It
+-- holds no local state yet.
 abbrev pub StartsFit : Type 0
-StartsFit = (who : Caller) (old new : Told) (number epoch : ℕ) → CallsKeep who.merge → who.party ≡ Coordinator number → Keeps who.merge old → Runs who start old new (Gives (Reports epoch))
+StartsFit = (who : Caller) (old new : Told) (number epoch : ℕ) → IsLawful who.merge → who.party ≡ Coordinator number → Keeps who.merge old → Runs who start old new (Gives (Reports epoch))
     → CoordinatorHolds new (record { number = number; epoch = epoch }) None
 
--- A coordinator that fits does so behind its poll, however the poll ends, if it holds no local state
--- from then on.
+-- Under a lawful operator, a coordinator that fits does so behind its poll, however the poll ends, if
+-- it holds no local state from then on.
 abbrev pub PollsFit : Type 0
-PollsFit = (who : Caller) (old new : Told) (number : ℕ) (ask : PollAsk) (local : Option Local) (end : End (StepEnd PollState)) → CallsKeep who.merge → IsLawful who.merge → who.party ≡ Coordinator number → Keeps who.merge old
+PollsFit = (who : Caller) (old new : Told) (number : ℕ) (ask : PollAsk) (local : Option Local) (end : End (StepEnd PollState)) → IsLawful who.merge → who.party ≡ Coordinator number → Keeps who.merge old
     → CoordinatorHolds old (record { number = number; epoch = ask.epoch }) local → Runs who (poll ask) old new end → CoordinatorHolds new (record { number = number; epoch = ask.epoch }) None

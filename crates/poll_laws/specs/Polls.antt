@@ -9,10 +9,8 @@ use Rattle.step_model.specs.Keeps.{Keeps}
 use Rattle.step_model.specs.Fits.{CoordinatorHolds}
 use Rattle.step_model.specs.CourseRuns.{IsLawfulCourse}
 use Rattle.step_model.specs.PollSteps.{PollAsk, poll}
-use Rattle.step_laws.specs.Runs.{CallsKeep}
 
--- A poll of a coordinator that fits is a lawful course under a lawful operator, if every lawful call
--- keeps the invariant.
+-- A poll of a coordinator that fits is a lawful course under a lawful operator.
 abbrev pub PollsAreLawful : Type 0
-PollsAreLawful = (who : Caller) (told : Told) (number : ℕ) (ask : PollAsk) (local : Option Local) → CallsKeep who.merge → IsLawful who.merge → who.party ≡ Coordinator number → Keeps who.merge told
+PollsAreLawful = (who : Caller) (told : Told) (number : ℕ) (ask : PollAsk) (local : Option Local) → IsLawful who.merge → who.party ≡ Coordinator number → Keeps who.merge told
     → CoordinatorHolds told (record { number = number; epoch = ask.epoch }) local → IsLawfulCourse who told (poll ask)

@@ -5,21 +5,21 @@
 ghost use Rattle.poll_laws.specs.Coordinators.{PollsFit, StartsFit};
 ghost use Rattle.poll_laws.specs.Polls.{PollsAreLawful};
 
-/// A poll of a coordinator that fits is a lawful course under a lawful operator, if every lawful call
-/// keeps the invariant. Each of its calls is lawful, whatever calls of others come before it: its put
-/// of the manifest, and its puts of the records, also after it merged newer records.
+/// A poll of a coordinator that fits is a lawful course under a lawful operator. Each of its calls is
+/// lawful, whatever calls of others come before it: its put of the manifest, and its puts of the
+/// records, also after it merged newer records.
 pub fn polls_are_lawful()
     ensures { PollsAreLawful }
 {}
 
-/// A coordinator that started fits with the epoch that its start reports, if every lawful call keeps
-/// the invariant. It holds no local state yet.
+/// Under a lawful operator, a coordinator that started fits with the epoch that its start reports. It
+/// holds no local state yet.
 pub fn starts_fit()
     ensures { StartsFit }
 {}
 
-/// A coordinator that fits does so behind its poll, whether the poll reports, gives up, is struck by
-/// a fault or lacks memory, if the coordinator holds no local state from then on.
+/// Under a lawful operator, a coordinator that fits does so behind its poll, whether the poll reports,
+/// gives up, is struck by a fault or lacks memory, if it holds no local state from then on.
 pub fn polls_fit()
     ensures { PollsFit }
 {}
