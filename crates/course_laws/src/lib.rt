@@ -1,6 +1,6 @@
 //! Laws on the steps of a fleet's parties. Each function has an empty body, and its clause states a
 //! law about a step: it is a lawful course, so each of its calls is lawful whatever calls of others
-//! come before it. A draw may be made only while the history has room for it, and no law says more.
+//! come before it. Of a draw this is said as long as the history has room for it.
 #![tactic(auto)]
 
 ghost use Rattle.course_laws.specs.Beats.{BeatsAreLawful};
