@@ -50,15 +50,15 @@ module _ {V : Type 0} (of : V → List Row) (bytes : List ℕ) (header place : �
         absurd (omega (arith, one.0, short))
 
     module _ (len next_header : ℕ) (lens : Finds (λ n. n) (to_be_bytes w64) (λ n. n < 2 ^ 64) bytes middle (Some (len, next_header))) where
-      pub rows_stopped : (left : ℕ) → 0 < left → (found : Option (Rows × ℕ)) → found ≡ None → Finds view rows_bytes (AreRows count) bytes place found → FindsBlocks of left before bytes header place None
+      pub rows_stopped : (left : ℕ) → 0 < left → (found : Option (Rows × ℕ)) → found ≡ None → Finds view rows_bytes (AreRows 0 count) bytes place found → FindsBlocks of left before bytes header place None
       rows_stopped left some found is finds [] behind others fits h e = let counted = fits.counted in absurd (omega arith)
       rows_stopped left some found is finds (b ∷ cut) behind others fits h e =
           let one = counts (length b) (to_be_bytes w64 (length (rows_bytes b)) ++ (flat_map header_bytes cut ++ behind)) (count_short b fits.blocks.0.short) h in
           subst (IsFound view b (flat_map rows_bytes cut ++ others) bytes) is
-          (finds b (flat_map rows_bytes cut ++ others) (record { writable = fits.blocks.0.writable; counted = sym one.0 }) (e ∙ append_assoc (rows_bytes b) (flat_map rows_bytes cut) others))
+          (finds b (flat_map rows_bytes cut ++ others) (record { writable = fits.blocks.0.writable; begun = fits.blocks.0.begun; counted = sym one.0 }) (e ∙ append_assoc (rows_bytes b) (flat_map rows_bytes cut) others))
 
       -- The next block was read, so the others may be read behind it.
-      pub blocks_onward : (left less : ℕ) → left ≡ less + 1 → length bytes < 2 ^ 64 → (found : Option (Rows × ℕ)) (block : Rows) (next : ℕ) → found ≡ Some (block, next) → Finds view rows_bytes (AreRows count) bytes place found
+      pub blocks_onward : (left less : ℕ) → left ≡ less + 1 → length bytes < 2 ^ 64 → (found : Option (Rows × ℕ)) (block : Rows) (next : ℕ) → found ≡ Some (block, next) → Finds view rows_bytes (AreRows 0 count) bytes place found
           → (more : List Row) → more ≡ before ++ view block → (all : Option (V × ℕ)) → FindsBlocks of less more bytes next_header next all → FindsBlocks of left before bytes header place all
       blocks_onward left less is_one small found block next is finds more pushed all rest [] behind others fits h e = let counted = fits.counted in absurd (omega arith)
       blocks_onward left less is_one small found block next is finds more pushed all rest (b ∷ cut) behind others fits h e =
@@ -66,7 +66,7 @@ module _ {V : Type 0} (of : V → List Row) (bytes : List ℕ) (header place : �
           let one = counts (length b) (to_be_bytes w64 (length (rows_bytes b)) ++ (flat_map header_bytes cut ++ behind)) (count_short b fits.blocks.0.short) h in
           let two = lens (length (rows_bytes b)) (flat_map header_bytes cut ++ behind) (len_fits b cut others small e) one.1 in
           let here = subst (IsFound view b (flat_map rows_bytes cut ++ others) bytes) is
-          (finds b (flat_map rows_bytes cut ++ others) (record { writable = fits.blocks.0.writable; counted = sym one.0 }) (e ∙ append_assoc (rows_bytes b) (flat_map rows_bytes cut) others)) in
+          (finds b (flat_map rows_bytes cut ++ others) (record { writable = fits.blocks.0.writable; begun = fits.blocks.0.begun; counted = sym one.0 }) (e ∙ append_assoc (rows_bytes b) (flat_map rows_bytes cut) others)) in
           let there = rest cut behind others (record { blocks = fits.blocks.1; counted = omega arith }) two.1 here.1 in
           subst (λ (rs : List Row). IsFound of rs others bytes all)
           (ap (λ xs. xs ++ joined cut) (pushed ∙ ap (λ x. before ++ x) here.0) ∙ append_assoc before b (joined cut))

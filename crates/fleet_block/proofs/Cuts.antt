@@ -11,7 +11,7 @@ use Rattle.row_model.specs.TableBytes.{blocks_of_rows, IsWritable}
 use Rattle.fleet_rows.specs.declared.row.RowEntry.{RowEntry}
 use Rattle.fleet_rows.specs.Row.{row_of, rows_of}
 use Rattle.fleet_block.specs.Cuts.{first_block_len}
-use Rattle.fleet_block.specs.Finds.{IsBlock, joined}
+use Rattle.fleet_block.specs.Finds.{BeginOpen, IsBlock, joined}
 
 pub all_take : {A : Type 0} (P : A → Type 0) (n : ℕ) (xs : List A) → AllByRecursion P xs → AllByRecursion P (take n xs)
 all_take P zero xs h = tt
@@ -141,23 +141,23 @@ joined_blocks filled (r ∷ rows) =
 -- The first block and the others are short, if the first block already has some bytes.
 AreShort : ℕ → List (List Row) → Type 0
 AreShort filled [] = ⊤
-AreShort filled (rows ∷ cut) = AllByRecursion IsWritable rows × (8 * length rows + filled < 4104) × AllByRecursion IsBlock cut
+AreShort filled (rows ∷ cut) = AllByRecursion IsWritable rows × (8 * length rows + filled < 4104) × AllByRecursion IsBlock cut × BeginOpen filled rows
 
 short_blocks : (cut : List (List Row)) → AreShort 0 cut → AllByRecursion IsBlock cut
 unfolding AreShort
 short_blocks [] h = tt
-short_blocks (rows ∷ cut) h = let bound = h.1 in (record { writable = h.0; short = omega (arith, bound) }, h.2)
+short_blocks (rows ∷ cut) h = let bound = h.1 in (record { writable = h.0; begun = h.3; short = omega (arith, bound) }, h.2)
 
 short_with : (filled : ℕ) (r : Row) (rows : List Row) → filled < 4096 → IsWritable r → ((more : ℕ) → more < 4096 → AreShort more (blocks_of_rows more rows)) → AreShort filled (blocks_of_rows filled (r ∷ rows))
 unfolding AreShort
 short_with filled r rows below fits rest = by (nat_le block_bytes (filled + estimated_size r)) refl
   where
     onto : (cut : List (List Row)) → AreShort (filled + estimated_size r) cut → AreShort filled (with_row false r cut)
-    onto [] h = ((fits, tt), omega arith, tt)
-    onto (b ∷ cut) h = let bound = h.1 in ((fits, h.0), omega (arith, bound), h.2)
+    onto [] h = ((fits, tt), omega arith, tt, (below, tt))
+    onto (b ∷ cut) h = let bound = h.1 in ((fits, h.0), omega (arith, bound), h.2, (below, h.3))
 
     by : (full : Bool) → nat_le block_bytes (filled + estimated_size r) ≡ full → AreShort filled (with_row full r (blocks_of_rows (cond full 0 (filled + estimated_size r)) rows))
-    by true e = ((fits, tt), omega arith, short_blocks (blocks_of_rows 0 rows) (rest 0 (omega arith)))
+    by true e = ((fits, tt), omega arith, short_blocks (blocks_of_rows 0 rows) (rest 0 (omega arith)), (below, tt))
     by false e = onto (blocks_of_rows (filled + estimated_size r) rows) (rest (filled + estimated_size r) (not_full (filled + estimated_size r) e))
 
 all_short : (rows : List Row) → AllByRecursion IsWritable rows → (filled : ℕ) → filled < 4096 → AreShort filled (blocks_of_rows filled rows)

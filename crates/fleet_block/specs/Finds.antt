@@ -1,7 +1,8 @@
 -- What a reader finds at a place in some bytes.
-use Rattle.std.specs.Prelude.{◌≡◌, ◌≢◌, ℕ, ◌≤◌, List, ◌++◌, length, drop, Option, Some, None, IfSome, option_map}
+use Rattle.std.specs.Prelude.{◌≡◌, ◌≢◌, ℕ, ◌+◌, ◌<◌, ◌≤◌, List, [], ◌∷◌, ◌++◌, length, drop, Option, Some, None, IfSome, option_map, ⊤}
 use Rattle.std.specs.List.{AllByRecursion, flat_map}
 use Rattle.row_model.specs.Rows.{Row}
+use Rattle.row_model.specs.Sizes.{block_bytes, estimated_size}
 use Rattle.row_model.specs.TableBytes.{bytes_of_blocks, header_bytes, row_bytes, rows_bytes, IsWritable}
 
 -- The reader found this value, and behind it are the other bytes.
@@ -13,18 +14,28 @@ IsFound view x others bytes (Some found) = (view found.0 ≡ x) × (drop found.1
 abbrev pub Finds : {A V : Type 0} → (V → A) → (A → List ℕ) → (A → Type 0) → List ℕ → ℕ → Option (V × ℕ) → Type 0
 Finds {A} view spelt Fits bytes place found = (x : A) (others : List ℕ) → Fits x → drop place bytes ≡ spelt x ++ others → IsFound view x others bytes found
 
--- So many rows, which fit their places in bytes.
-pub record AreRows (count : ℕ) (rows : List Row) : Type 0 where
+-- Each row begins in an open block, which already has `filled` bytes.
+abbrev pub BeginOpen : ℕ → List Row → Type 0
+BeginOpen filled [] = ⊤
+BeginOpen filled (r ∷ rows) = (filled < block_bytes) × BeginOpen (filled + estimated_size r) rows
+
+-- So many rows, which fit their places in bytes. Each begins in an open block, which already has `filled`
+-- bytes.
+pub record AreRows (filled count : ℕ) (rows : List Row) : Type 0 where
   pub writable : AllByRecursion IsWritable rows
+  pub begun : BeginOpen filled rows
   pub counted : length rows ≡ count
 
--- The reader finds so many rows of a block with this first key, and puts them behind other rows.
-abbrev pub FindsLater : {V : Type 0} → (V → List Row) → List ℕ → ℕ → List Row → List ℕ → ℕ → Option (V × ℕ) → Type 0
-FindsLater view first count before bytes place found = (rows : List Row) (others : List ℕ) → AreRows count rows → drop place bytes ≡ flat_map (row_bytes first) rows ++ others → IsFound view (before ++ rows) others bytes found
+-- The reader finds so many rows of a block with this first key, and puts them behind other rows, which have
+-- `filled` bytes.
+abbrev pub FindsLater : {V : Type 0} → (V → List Row) → List ℕ → ℕ → ℕ → List Row → List ℕ → ℕ → Option (V × ℕ) → Type 0
+FindsLater view first filled count before bytes place found = (rows : List Row) (others : List ℕ) → AreRows filled count rows → drop place bytes ≡ flat_map (row_bytes first) rows ++ others → IsFound view (before ++ rows) others bytes found
 
--- A block whose rows fit their places. It has at most 512 rows, since each has a size of at least 8 bytes.
+-- A block whose rows fit their places. It ends with the row with which it reaches block_bytes. It has at most
+-- 512 rows, since each has a size of at least 8 bytes.
 pub record IsBlock (rows : List Row) : Type 0 where
   pub writable : AllByRecursion IsWritable rows
+  pub begun : BeginOpen 0 rows
   pub short : length rows ≤ 512
 
 pub record AreBlocks (count : ℕ) (cut : List (List Row)) : Type 0 where

@@ -9,7 +9,7 @@ ghost use Rattle.fleet_block.specs.Cuts.{first_block_len};
 use fleet_rows::RowEntry;
 
 // A block ends with the row with which its sum of `estimated_size` reaches this many bytes.
-const BLOCK_BYTES: usize = 4096;
+pub(crate) const BLOCK_BYTES: usize = 4096;
 
 /// How many of the rows are in the first block.
 pub(crate) fn first_block_len(rows: &[RowEntry]) -> usize

@@ -8,7 +8,7 @@ use Rattle.fleet_block.proofs.block.later_at.Given as goal
 abbrev pub invariant-left : goal.invariant-left
 invariant-left l = record {
   within : l.place ≤ length l.bytes;
-  onward : (found : Option (Rows × ℕ)) → FindsLater view l.first l.left (rows_of l.rows.items) l.bytes l.place found → FindsLater view l.first l.count (rows_of l.initial.rows.items) l.bytes l.initial.place found;
+  onward : (found : Option (Rows × ℕ)) → FindsLater view l.first l.filled l.left (rows_of l.rows.items) l.bytes l.place found → FindsLater view l.first l.initial.filled l.count (rows_of l.initial.rows.items) l.bytes l.initial.place found;
 }
 
 abbrev pub decreases-left : goal.decreases-left
