@@ -181,7 +181,7 @@ start_coordinator_keeps merge number n s k lawful room =
         let keep = calls_keep merge lawful in
         let b = behind_notes who kills start told mid (Reports epoch) keep refl kills_own k.fleet.store first in
         runs_hold who (λ x. ⊤) (λ t. CoordinatorHolds t c None) (calls_each (start_notes n (Reports epoch)) (Ends (ends (Reports epoch)))) refl keep (coordinator_holds who c) (all_calls (λ x. ⊤) (λ x. tt) (calls_each (start_notes n (Reports epoch)) (Ends (ends (Reports epoch))))) mid new (Gives end)
-        (runs_keep who step keep told mid (Gives (Reports epoch)) k.fleet.store step_is first) (behind_lawful (Reports epoch) mid) second (starts_fit who b.mid mid n epoch keep refl b.kept b.run)
+        (runs_keep who step keep told mid (Gives (Reports epoch)) k.fleet.store step_is first) (behind_lawful (Reports epoch) mid) second (starts_fit who b.mid mid n epoch lawful refl b.kept b.run)
 
     by : (answer : StepEnd ℕ) (mid new : Told) (end : LineEnd) → Left who s.parties new → NonePending new.store → Runs who step told mid (Gives answer) → Runs who (calls_each (start_notes n answer) (Ends (ends answer))) mid new (Gives end)
         → FleetKeeps merge new (ends answer).parties

@@ -112,7 +112,7 @@ ran inputs number commits_only n old k answer new lawful r =
     let told = told_of inputs.merge old k in
     let ask = poll_ask inputs old r.coordinator commits_only in
     let f = found (λ (c : LiveCoordinator). n == c.number) old.parties.coordinators r.coordinator r.live in
-    let is : IsLawfulCourse who told (poll ask) = polls_are_lawful who told r.coordinator.number ask None (calls_keep inputs.merge lawful) lawful (ap Coordinator ((Decides-eqb n r.coordinator.number).0 f.passes)) k.fleet.store
+    let is : IsLawfulCourse who told (poll ask) = polls_are_lawful who told r.coordinator.number ask None lawful (ap Coordinator ((Decides-eqb n r.coordinator.number).0 f.passes)) k.fleet.store
     (all_at (λ (c : LiveCoordinator). CoordinatorHolds told c None) old.parties.coordinators r.coordinator k.fleet.coordinators f.there) in
     let d = poll_did who ask told r.step.left r.step.report (calls_keep inputs.merge lawful) refl (record { kept = k.fleet.store; lawful = is; run = r.step.run }) in
     let says = subst (PollSays ask old.store d.did.drawn) (sym d.did.is) (poll_says ask old.store d.did.drawn k.fleet.store.stored.sound.job_ids) in

@@ -183,7 +183,7 @@ polls_keep inputs number commits_only told n s k lawful room = by (coordinator_w
         let step = poll (poll_ask inputs s c commits_only) in
         let gone = without_coordinator n s.parties in
         let is : IsLawfulCourse who (told_of inputs.merge s k) (line (Some c)).course = step_lawful who step (line_end told (λ reached. s.parties) gone) (told_of inputs.merge s k)
-        (polls_are_lawful who (told_of inputs.merge s k) c.number (poll_ask inputs s c commits_only) None (calls_keep inputs.merge lawful) lawful (ap Coordinator same) k.fleet.store
+        (polls_are_lawful who (told_of inputs.merge s k) c.number (poll_ask inputs s c commits_only) None lawful (ap Coordinator same) k.fleet.store
         (all_at (λ (c : LiveCoordinator). CoordinatorHolds (told_of inputs.merge s k) c None) s.parties.coordinators c k.fleet.coordinators f.there)) in
         line_keeps inputs.merge number s (line (Some c)) k lawful is tt (record {
           struck = λ new run left. coordinator_gone inputs.merge number n (told_of inputs.merge s k) new s.parties k.fleet left (none_comes who (line (Some c)).course (told_of inputs.merge s k) new MeetsFault lawful refl refl k.fleet.store is k.fleet.none_pending run);
