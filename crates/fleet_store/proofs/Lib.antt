@@ -6,3 +6,4 @@ pub mod Kept
 pub mod Ends
 pub mod Listed
 pub mod Removed
+pub mod Alike

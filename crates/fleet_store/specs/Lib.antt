@@ -9,3 +9,4 @@ pub mod Calls
 pub mod Strikes
 pub mod Log
 pub mod Memory
+pub mod Laws

@@ -2,11 +2,15 @@
 #![tactic(auto)]
 
 mod call;
+mod laws;
 mod log;
 mod memory;
 mod store;
+#[cfg(test)]
+mod tests;
 mod under;
 
+pub use laws::refused_puts_are_alike;
 pub use memory::MemStore;
 pub use store::{Store, SweepStore};
 pub use under::Under;
