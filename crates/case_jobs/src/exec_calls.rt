@@ -14,14 +14,16 @@ use fleet_exec::{RangeGate, RangeJob, SourceSet, are_sources, finish_ranges, nex
 use fleet_fold::{AppendOperator, MergeOperator};
 use fleet_rows::{RowEntry, Settings};
 use fleet_table::RunData;
-use std::alloc::Global;
+use std::alloc::{AllocError, Global};
 use std::sync::atomic::{AtomicUsize, Ordering};
+use std::thread::Threads;
 
 // The greatest number of ranges that one call finishes.
 const MOST_RANGES: usize = 64;
 
 /// Answers the call of this name. Returns false if no call in this file has it.
-pub fn answers(
+pub fn answers<R: Threads + Sync>(
+    rt: &R,
     alloc: Global,
     name: &str,
     words: &[&str],
@@ -32,8 +34,8 @@ pub fn answers(
         "next" => next(alloc, &AppendOperator, words, answer)?,
         "nextno" => next(alloc, &REFUSING, words, answer)?,
         "walk" => walk(alloc, words, answer)?,
-        "finish" => finish(alloc, &AppendOperator, words, answer)?,
-        "finishno" => finish(alloc, &REFUSING, words, answer)?,
+        "finish" => finish(rt, alloc, &AppendOperator, words, answer)?,
+        "finishno" => finish(rt, alloc, &REFUSING, words, answer)?,
         _ => return Ok(false),
     }
     Ok(true)
@@ -172,25 +174,54 @@ fn walk(alloc: Global, words: &[&str], answer: &mut String) -> Result<(), Flaw> 
     Ok(())
 }
 
-// A gate that notes the reports it gets. Of each report it keeps the range and the table, one digit
-// each.
+// A gate that notes the reports it gets, those of each range apart, since ranges are made at once.
+// Of each report it keeps the range and the table, one digit each.
 #[derive(Drop)]
 struct Calls {
-    told: AtomicUsize,
+    told: Vec<AtomicUsize>,
+}
+
+impl Calls {
+    fn new(alloc: Global, ranges: usize) -> Result<Calls, AllocError> {
+        let mut told = Vec::new(alloc);
+        'ranges: for _range in 0..ranges {
+            told.push(AtomicUsize::new(0))?;
+        }
+        Ok(Calls { told })
+    }
+
+    // Appends the reports, range by range, or 0 if there were none.
+    fn tell(&self, answer: &mut String) -> Result<(), AllocError> {
+        let mut none = true;
+        'ranges: for noted in self.told.as_slice() {
+            let told = noted.load(Ordering::SeqCst);
+            if told != 0 {
+                none = false;
+                write!(answer, "{told}")?;
+            }
+        }
+        if none {
+            answer.push('0')?;
+        }
+        Ok(())
+    }
 }
 
 impl RangeGate for Calls {
     fn given(&self, range: u32, table: u32) {
-        let told = self.told.load(Ordering::SeqCst).wrapping_mul(100);
-        let call = (range as usize)
-            .wrapping_mul(10)
-            .wrapping_add(table as usize);
-        self.told.store(told.wrapping_add(call), Ordering::SeqCst);
+        if let Some(noted) = self.told.get((range as usize).wrapping_sub(1)) {
+            let call = (range as usize)
+                .wrapping_mul(10)
+                .wrapping_add(table as usize);
+            let told = noted.load(Ordering::SeqCst).wrapping_mul(100);
+            noted.store(told.wrapping_add(call), Ordering::SeqCst);
+        }
     }
 }
 
 // Finishes ranges, and answers their tables and the reports that the gate got.
-fn tell_ranges<O: MergeOperator>(
+fn tell_ranges<R: Threads + Sync, O: MergeOperator>(
+    rt: &R,
     alloc: Global,
     operator: &O,
     jobs: &[RangeJob],
@@ -203,13 +234,11 @@ fn tell_ranges<O: MergeOperator>(
     if jobs.len() > MOST_RANGES {
         return Err(Flaw::Words);
     }
-    let gate = Calls {
-        told: AtomicUsize::new(0),
-    };
-    let finished = finish_ranges(alloc, jobs, sources, operator, size, &gate);
+    let gate = Calls::new(alloc, jobs.len())?;
+    let finished = finish_ranges(rt, alloc, jobs, sources, operator, size, &gate);
     tell_result(alloc, finished, answer)?;
-    let told = gate.told.load(Ordering::SeqCst);
-    Ok(write!(answer, " {told}")?)
+    answer.push(' ')?;
+    Ok(gate.tell(answer)?)
 }
 
 fn range_jobs(alloc: Global, settings: Settings, words: &[&str]) -> Result<Vec<RangeJob>, Flaw> {
@@ -222,7 +251,8 @@ fn range_jobs(alloc: Global, settings: Settings, words: &[&str]) -> Result<Vec<R
 
 // `finish` and `finishno` take settings, sources, the size of a table in bytes, and ranges. They
 // answer the tables of the ranges, and the reports to the gate.
-fn finish<O: MergeOperator>(
+fn finish<R: Threads + Sync, O: MergeOperator>(
+    rt: &R,
     alloc: Global,
     operator: &O,
     words: &[&str],
@@ -235,5 +265,5 @@ fn finish<O: MergeOperator>(
     let size = number(size)?;
     let jobs = range_jobs(alloc, settings, ranges)?;
     let sources = ordered_sources(alloc, sources)?;
-    tell_ranges(alloc, operator, jobs.as_slice(), &sources, size, answer)
+    tell_ranges(rt, alloc, operator, jobs.as_slice(), &sources, size, answer)
 }

@@ -11,9 +11,11 @@ mod watching;
 
 use case_words::flaw::Flaw;
 use std::alloc::Global;
+use std::thread::Threads;
 
 /// Answers the call of this name. Returns false if no call in this crate has it.
-pub fn answers(
+pub fn answers<R: Threads + Sync>(
+    rt: &R,
     alloc: Global,
     name: &str,
     words: &[&str],
@@ -23,6 +25,6 @@ pub fn answers(
         iter_calls::answers(alloc, name, words, answer)?
             || fold_calls::answers(alloc, name, words, answer)?
             || filter_calls::answers(alloc, name, words, answer)?
-            || exec_calls::answers(alloc, name, words, answer)?,
+            || exec_calls::answers(rt, alloc, name, words, answer)?,
     )
 }

@@ -33,7 +33,7 @@ fn main(rt: HostRuntime) -> ExitCode {
     let Some((load, step)) = told(&rt) else {
         return ExitCode::from(USAGE);
     };
-    let Ok((rows, given)) = count(rt.alloc(), load, step) else {
+    let Ok((rows, given)) = count(&rt, rt.alloc(), load, step) else {
         return ExitCode::FAILURE;
     };
     let name = step.name();

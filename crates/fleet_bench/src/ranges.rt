@@ -12,6 +12,7 @@ use fleet_rows::{RowEntry, Settings, SlateDBError};
 use fleet_table::{RunData, TableData, are_in_bounds, are_strictly_ordered};
 use std::alloc::Global;
 use std::ops::Bound;
+use std::thread::Threads;
 
 // A table ends with the row with which it exceeds this many bytes.
 const TABLE_SIZE: u64 = 16 << 20;
@@ -96,8 +97,9 @@ fn count_given(ranges: &[RangeTables]) -> u64 {
     given
 }
 
-/// Finishes this many ranges, and counts the rows given. More than 64 ranges are an error.
-pub fn count_finished(
+/// Finishes this many ranges at once, and counts the rows given. More than 64 ranges are an error.
+pub fn count_finished<R: Threads + Sync>(
+    rt: &R,
     alloc: Global,
     load: Load,
     sources: &SourceSet,
@@ -111,6 +113,7 @@ pub fn count_finished(
     if jobs.len() > 64 {
         return Err(SlateDBError::InvalidDBState);
     }
-    let finished = finish_ranges(alloc, jobs, sources, &AppendOperator, TABLE_SIZE, &OpenGate)?;
+    let operator = AppendOperator;
+    let finished = finish_ranges(rt, alloc, jobs, sources, &operator, TABLE_SIZE, &OpenGate)?;
     Ok(count_given(finished.as_slice()))
 }

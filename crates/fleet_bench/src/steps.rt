@@ -12,6 +12,7 @@ use fleet_fold::{AppendOperator, MergeOperatorIterator, RetentionIterator};
 use fleet_iter::{ListIterator, MergeIterator, RowEntryIterator, merges_rise};
 use fleet_rows::{Settings, SlateDBError};
 use std::alloc::Global;
+use std::thread::Threads;
 
 /// The last step that the rows go through.
 #[derive(Clone, Copy, Debug, PartialEq, Eq)]
@@ -119,9 +120,14 @@ fn count_listed(alloc: Global, load: Load, step: Step) -> Result<(u64, u64), Sla
     Ok((rows, count_given(alloc, kept)?))
 }
 
-// Puts the rows into tables, and finishes this many ranges. Returns how many rows were made, and
-// how many were given.
-fn count_ranged(alloc: Global, load: Load, ranges: u64) -> Result<(u64, u64), SlateDBError> {
+// Puts the rows into tables, and finishes this many ranges at once. Returns how many rows were
+// made, and how many were given.
+fn count_ranged<R: Threads + Sync>(
+    rt: &R,
+    alloc: Global,
+    load: Load,
+    ranges: u64,
+) -> Result<(u64, u64), SlateDBError> {
     let runs = make_runs(alloc, load)?;
     let rows = count_rows(&runs);
     if ranges == 0 {
@@ -129,17 +135,22 @@ fn count_ranged(alloc: Global, load: Load, ranges: u64) -> Result<(u64, u64), Sl
     }
     Ok((
         rows,
-        count_finished(alloc, load, &runs, ranges, settings_of(load))?,
+        count_finished(rt, alloc, load, &runs, ranges, settings_of(load))?,
     ))
 }
 
 /// Takes the rows through the steps up to this one. Returns how many were made, and how many the
 /// last step gave.
-pub fn count(alloc: Global, load: Load, step: Step) -> Result<(u64, u64), SlateDBError> {
+pub fn count<R: Threads + Sync>(
+    rt: &R,
+    alloc: Global,
+    load: Load,
+    step: Step,
+) -> Result<(u64, u64), SlateDBError> {
     match step {
-        Step::Tables => count_ranged(alloc, load, 0),
-        Step::Range => count_ranged(alloc, load, 1),
-        Step::Ranges => count_ranged(alloc, load, 4),
+        Step::Tables => count_ranged(rt, alloc, load, 0),
+        Step::Range => count_ranged(rt, alloc, load, 1),
+        Step::Ranges => count_ranged(rt, alloc, load, 4),
         _ => count_listed(alloc, load, step),
     }
 }

@@ -3,6 +3,7 @@
 use case_words::flaw::Flaw;
 use case_words::words::parts;
 use std::alloc::{AllocError, Global};
+use std::thread::Threads;
 
 // A case: a name, a question, and the expected answer, if there is one. The answer comes after
 // ` => `.
@@ -56,14 +57,15 @@ impl Tally {
     }
 
     /// Runs the case of a line, and appends what is to be printed about it.
-    pub fn take(
+    pub fn take<R: Threads + Sync>(
         &mut self,
+        rt: &R,
         alloc: Global,
         line: &[u8],
         said: &mut String,
     ) -> Result<(), AllocError> {
         match str::from_utf8(line) {
-            Ok(text) => self.take_text(alloc, text, said),
+            Ok(text) => self.take_text(rt, alloc, text, said),
             Err(_) => {
                 let case = Case {
                     name: "?",
@@ -76,8 +78,9 @@ impl Tally {
         }
     }
 
-    fn take_text(
+    fn take_text<R: Threads + Sync>(
         &mut self,
+        rt: &R,
         alloc: Global,
         text: &str,
         said: &mut String,
@@ -87,7 +90,7 @@ impl Tally {
         };
         self.cases = self.cases.saturating_add(1);
         let mut answer = String::new(alloc);
-        match answer_to(alloc, case.question, &mut answer) {
+        match answer_to(rt, alloc, case.question, &mut answer) {
             Ok(()) => self.take_answer(case, answer.as_str(), said),
             Err(flaw) => self.take_flaw(case, flaw, said),
         }
@@ -133,17 +136,28 @@ impl Tally {
 }
 
 // Answers a question, which is the name of a call with its words.
-fn answer_to(alloc: Global, question: &str, answer: &mut String) -> Result<(), Flaw> {
+fn answer_to<R: Threads + Sync>(
+    rt: &R,
+    alloc: Global,
+    question: &str,
+    answer: &mut String,
+) -> Result<(), Flaw> {
     let words = parts(alloc, question, ' ')?;
     match words.as_slice() {
-        [name, rest @ ..] => answer_of(alloc, name, rest, answer),
+        [name, rest @ ..] => answer_of(rt, alloc, name, rest, answer),
         [] => Err(Flaw::Words),
     }
 }
 
-fn answer_of(alloc: Global, name: &str, words: &[&str], answer: &mut String) -> Result<(), Flaw> {
+fn answer_of<R: Threads + Sync>(
+    rt: &R,
+    alloc: Global,
+    name: &str,
+    words: &[&str],
+    answer: &mut String,
+) -> Result<(), Flaw> {
     if case_tables::answers(alloc, name, words, answer)?
-        || case_jobs::answers(alloc, name, words, answer)?
+        || case_jobs::answers(rt, alloc, name, words, answer)?
         || case_book::answers(alloc, name, words, answer)?
         || case_sched::answers(alloc, name, words, answer)?
     {

@@ -8,8 +8,9 @@ mod case;
 use case::Tally;
 use std::io::{self, BufRead, BufReader, BufWriter, Write};
 use std::process::ExitCode;
+use std::thread::Threads;
 
-fn run(rt: &(impl Input + Print + AllocGlobal)) -> io::Result<Tally> {
+fn run(rt: &(impl Input + Print + AllocGlobal + Threads + Sync)) -> io::Result<Tally> {
     let alloc = rt.alloc();
     let mut out = BufWriter::new(alloc, io::writer(rt))?;
     let mut said = String::new(alloc);
@@ -17,7 +18,7 @@ fn run(rt: &(impl Input + Print + AllocGlobal)) -> io::Result<Tally> {
     'lines: for line in BufReader::new(alloc, rt.reader())?.split(alloc, b'\n') {
         let line = line?;
         said.clear();
-        tally.take(alloc, line.as_slice(), &mut said)?;
+        tally.take(rt, alloc, line.as_slice(), &mut said)?;
         out.write_all(said.as_bytes())?;
     }
     said.clear();

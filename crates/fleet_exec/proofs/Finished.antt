@@ -1,48 +1,57 @@
--- Ranges are finished one after the other.
-use Rattle.std.proofs.Common.{◌≡◌, ◌∙◌, sym, ap, subst, ℕ, ◌+◌, ◌<◌, zero, suc, List, [], ◌∷◌, ◌++◌, map, take, drop, length, get_or, true, arith}
-use Rattle.std.specs.List.{AllByRecursion}
-use Rattle.std.proofs.lemmas.List.{map-append, take_more}
+-- All ranges are finished, or the first refusal among them is answered.
+use Rattle.std.proofs.Common.{◌≡◌, ◌≢◌, ◌∙◌, refl, sym, ap, subst, ℕ, ◌<◌, zero, suc, List, [], ◌∷◌, ◌++◌, map, length, get_or, Some, Result, Ok, Err, arith}
+use Rattle.std.specs.Result.{IfOk, IfErr}
 use Rattle.row_model.specs.Fold.{Operator}
 use Rattle.row_model.specs.Rows.{Row}
 use Rattle.row_model.specs.Tables.{cut_tables}
-use Rattle.fleet_range.specs.Keys.{range_of}
+use Rattle.fleet_rows.specs.Row.{rows_of}
+use Rattle.fleet_rows.specs.declared.row.RowEntry.{RowEntry}
 use Rattle.fleet_rows.specs.declared.errors.SlateDBError.{SlateDBError}
-use Rattle.fleet_exec.specs.Cut.{IsFinished, RefusesRangeUnless, AreFinished, RefusesFirstUnless}
-use Rattle.fleet_exec.specs.Ranges.{made_of, rows_from}
+use Rattle.fleet_rows.specs.declared.errors.SlateDBError.TheVariants.{Memory}
+use Rattle.fleet_exec.specs.Cut.{IsFinished, FinishesRange, AreFinished, RefusesRange, RefusesJobRange, RefusesFirst, first_refusal}
+use Rattle.fleet_exec.specs.Ranges.{made_of, rows_read}
 use Rattle.fleet_exec.specs.declared.range_job.RangeJob.{RangeJob}
 
-all_snoc : {A : Type 0} (P : A → Type 0) (xs : List A) (x : A) → AllByRecursion P xs → P x → AllByRecursion P (xs ++ x ∷ [])
-all_snoc P [] x all h = (h, tt)
-all_snoc P (y ∷ xs) x all h = (all.0, all_snoc P xs x all.1 h)
+module _ (merge : Operator) (sources : List (List (List Row))) (size : ℕ) where
+  pub all_finished : (jobs : List RangeJob) (ranges : List (List (List RowEntry))) → length ranges ≡ length jobs
+      → ((i : ℕ) (job : RangeJob) (d : Result (List (List RowEntry)) SlateDBError) → i < length jobs → FinishesRange merge sources size (get_or jobs i job) (get_or (map (λ range. Ok range) ranges) i d)) → AreFinished merge sources size jobs (map (map rows_of) ranges)
+  all_finished [] [] same each = record { cut = refl; whole = tt }
+  all_finished [] (r ∷ ranges) same each = absurd (omega (arith, same))
+  all_finished (j ∷ jobs) [] same each = absurd (omega (arith, same))
+  all_finished (j ∷ jobs) (r ∷ ranges) same each =
+      let first : IsFinished size (made_of merge sources j) (map rows_of r) = each 0 j (Ok r) (omega arith) in
+      let rest = all_finished jobs ranges (omega (arith, same)) (λ i job d lt. each (suc i) job d (omega (arith, lt))) in
+      record { cut = ap (λ (t : List (List Row)). t ∷ map (map rows_of) ranges) first.cut ∙ ap (λ (w : List (List (List Row))). cut_tables size (made_of merge sources j).rows ∷ w) rest.cut; whole = (first.whole, rest.whole) }
 
-parted : {A : Type 0} (xs : List A) (n : ℕ) (x : A) → n < length xs → x ≡ get_or xs n x → xs ≡ take n xs ++ x ∷ drop (suc n) xs
-parted [] n x lt is = absurd (omega arith)
-parted (y ∷ xs) zero x lt is = ap (λ z. z ∷ xs) (sym is)
-parted (y ∷ xs) (suc n) x lt is = ap (λ zs. y ∷ zs) (parted xs n x (omega arith) is)
+  pub first_refuses : (jobs : List RangeJob) (made : List (Result (List (List RowEntry)) SlateDBError)) → length made ≡ length jobs
+      → ((i : ℕ) (job : RangeJob) (d : Result (List (List RowEntry)) SlateDBError) → i < length jobs → FinishesRange merge sources size (get_or jobs i job) (get_or made i d)) → (e : SlateDBError) → e ≢ Memory → first_refusal made ≡ Some e → RefusesFirst merge sources jobs e
+  first_refuses jobs [] same each e other is = absurd (cc is)
+  first_refuses [] (m ∷ made) same each e other is = absurd (omega (arith, same))
+  first_refuses (j ∷ jobs) (Ok r ∷ made) same each e other is =
+      let first : IsFinished size (made_of merge sources j) (map rows_of r) = each 0 j (Ok r) (omega arith) in
+      let rest = first_refuses jobs made (omega (arith, same)) (λ i job d lt. each (suc i) job d (omega (arith, lt))) e other is in
+      record { before = j ∷ rest.before; job = rest.job; later = rest.later; parts = ap (λ (w : List RangeJob). j ∷ w) rest.parts; whole = (first.whole, rest.whole); refuses = rest.refuses }
+  first_refuses (j ∷ jobs) (Err m ∷ made) same each e other is =
+      let same_error : m ≡ e = cc is in
+      let refuses = each 0 j (Err m) (omega arith) in
+      record { before = []; job = j; later = jobs; parts = refl; whole = tt; refuses = subst (λ w. RefusesRange merge (rows_read sources j) (made_of merge sources j) w) same_error (refuses (λ g. other (sym same_error ∙ g))) }
 
-module _ (merge : Operator) (sources : List (List (List Row))) (size : ℕ) (jobs : List RangeJob) (n : ℕ) (job : RangeJob) (lt : n < length jobs) (is : job ≡ get_or jobs n job) where
-  next_job : take (n + 1) jobs ≡ take n jobs ++ job ∷ []
-  next_job = take_more jobs n job lt ∙ ap (λ (j : RangeJob). take n jobs ++ j ∷ []) (sym is)
+-- Behind tables, a refusal is the first one.
+pub refuses_behind : {A : Type 0} (ranges : List A) (x : Result A SlateDBError) (rest left all : List (Result A SlateDBError)) (e : SlateDBError) → all ≡ map (λ range. Ok range) ranges ++ left → left ≡ x ∷ rest → x ≡ Err e → first_refusal all ≡ Some e
+refuses_behind {A} ranges x rest left all e is next refuses = ap first_refusal is ∙ (behind ranges ∙ (ap first_refusal next ∙ ap (λ (y : Result A SlateDBError). first_refusal (y ∷ rest)) refuses))
+  where
+    behind : (ranges : List A) → first_refusal (map (λ range. Ok range) ranges ++ left) ≡ first_refusal left
+    behind [] = refl
+    behind (r ∷ ranges) = behind ranges
 
-  pub one_more_range : (ranges all : List (List (List Row))) (tables : List (List Row)) → AreFinished merge sources size (take n jobs) ranges → IsFinished size (made_of merge sources job) tables → all ≡ ranges ++ tables ∷ []
-      → AreFinished merge sources size (take (n + 1) jobs) all
-  one_more_range ranges all tables h finished more = record {
-    cut = more
-        ∙ (ap (λ (w : List (List (List Row))). w ++ tables ∷ []) h.cut
-        ∙ (ap (λ (t : List (List Row)). map cuts (take n jobs) ++ t ∷ []) finished.cut
-        ∙ (sym (map-append cuts (take n jobs) (job ∷ [])) ∙ ap (map cuts) (sym next_job))));
-    whole = subst (AllByRecursion (λ j. (made_of merge sources j).whole ≡ true)) (sym next_job) (all_snoc (λ j. (made_of merge sources j).whole ≡ true) (take n jobs) job h.whole finished.whole);
-  }
-    where
-      cuts : RangeJob → List (List Row)
-      cuts j = cut_tables size (made_of merge sources j).rows
+-- A place within a list has the same element, whatever is taken beyond the list.
+pub same_within : {A : Type 0} (xs : List A) (i : ℕ) (x d : A) → i < length xs → x ≡ get_or xs i x → x ≡ get_or xs i d
+same_within [] i x d lt is = absurd (omega (arith, lt))
+same_within (y ∷ xs) zero x d lt is = is
+same_within (y ∷ xs) (suc i) x d lt is = same_within xs i x d (omega (arith, lt)) is
 
-  pub refuses_at : (ranges : List (List (List Row))) (e : SlateDBError) → AreFinished merge sources size (take n jobs) ranges → RefusesRangeUnless merge (rows_from (range_of job.range) job.cursor sources) (made_of merge sources job) e → RefusesFirstUnless merge sources jobs e
-  refuses_at ranges e h refuses other = record {
-    before = take n jobs;
-    job = job;
-    later = drop (suc n) jobs;
-    parts = parted jobs n job lt is;
-    whole = h.whole;
-    refuses = refuses other;
-  }
+-- What is said of tables and of a refusal is said of the answer.
+pub finishes_from : (merge : Operator) (sources : List (List (List Row))) (size : ℕ) (job : RangeJob) (answer : Result (List (List RowEntry)) SlateDBError) → IfOk answer (λ tables. IsFinished size (made_of merge sources job) (map rows_of tables)) → IfErr answer (RefusesJobRange merge sources job)
+    → FinishesRange merge sources size job answer
+finishes_from merge sources size job (Ok tables) finished refused = finished
+finishes_from merge sources size job (Err e) finished refused = refused

@@ -1,5 +1,5 @@
 -- The rows of a range, taken table by table.
-use Rattle.std.specs.Prelude.{◌≡◌, ◌≢◌, ℕ, true, false, map, List, [], ◌∷◌, ◌++◌, Option, Some}
+use Rattle.std.specs.Prelude.{◌≡◌, ◌≢◌, ℕ, true, false, map, List, [], ◌∷◌, ◌++◌, Option, Some, None, Result, Ok, Err}
 use Rattle.std.specs.List.{AllByRecursion}
 use Rattle.row_model.specs.Fold.{Operator}
 use Rattle.row_model.specs.JobRows.{JobRows}
@@ -58,7 +58,18 @@ RefusesRangeUnless merge rows made e = e ≢ Memory → RefusesRange merge rows 
 abbrev pub RefusesJobRange : Operator → Sources → RangeJob → SlateDBError → Type 0
 RefusesJobRange merge sources job e = RefusesRangeUnless merge (rows_read sources job) (made_of merge sources job) e
 
--- ---- one range after the other
+-- What is left of a range of a job is finished as `IsFinished` says, or refused as `RefusesJobRange` says.
+abbrev pub FinishesRange : Operator → Sources → ℕ → RangeJob → Result (List (List RowEntry)) SlateDBError → Type 0
+FinishesRange merge sources size job (Ok tables) = IsFinished size (made_of merge sources job) (map rows_of tables)
+FinishesRange merge sources size job (Err e) = RefusesJobRange merge sources job e
+
+-- ---- all ranges
+
+-- The first refusal among the answers of ranges, if there is one.
+abbrev pub first_refusal : {A : Type 0} → List (Result A SlateDBError) → Option SlateDBError
+first_refusal [] = None
+first_refusal (Ok x ∷ answers) = first_refusal answers
+first_refusal (Err e ∷ answers) = Some e
 
 -- No fold refuses in any of the ranges, and these are the tables of what is left of each range, cut at
 -- `size`.

@@ -1,14 +1,15 @@
 //! Finishing ranges: making all that is left of them.
 
-ghost use Rattle.std.specs.Prelude.{◌≡◌, ◌≢◌, ◌≤◌, ◌<◌, ◌+◌, ◌^◌, [], nat_lt, flat_map, length, map, true, IfOk, IfErr};
+ghost use Rattle.std.specs.Prelude.{◌≡◌, ◌≢◌, ◌≤◌, ◌<◌, ◌+◌, ◌^◌, [], ℕ, nat_lt, flat_map, length, map, slice_index_or, vec_len, true, Some, Ok, IfOk, IfErr};
 ghost use Rattle.std.specs.List.{AllByRecursion};
 ghost use Rattle.row_model.specs.Bounds.{IsInBounds};
 ghost use Rattle.row_model.specs.Fold.{IsLawful};
 ghost use Rattle.row_model.specs.Sizes.{estimated_size};
 ghost use Rattle.row_model.specs.Tables.{cut_tables};
 ghost use Rattle.fleet_rows.specs.Row.{row_of, rows_of};
+ghost use Rattle.fleet_rows.specs.declared.errors.SlateDBError.TheVariants as SlateDBError;
 ghost use Rattle.fleet_fold.specs.Retention.{IsReadable};
-ghost use Rattle.fleet_exec.specs.Cut.{TakesTable, RefusesAll, IsFinished, RefusesJobRange, AreFinished, RefusesFirstUnless};
+ghost use Rattle.fleet_exec.specs.Cut.{TakesTable, RefusesAll, IsFinished, RefusesJobRange, FinishesRange, first_refusal, AreFinished, RefusesFirstUnless};
 ghost use Rattle.fleet_exec.specs.Ranges.{AreSources, source_rows, made_of};
 ghost use Rattle.fleet_exec.specs.Taking.{left_behind};
 
@@ -20,7 +21,8 @@ use fleet_fold::{BatchMerger, MergeOperator};
 use fleet_iter::RowSource;
 use fleet_rows::{ListOf, RowEntry, SlateDBError};
 use fleet_table::{RunData, TableData};
-use std::alloc::Global;
+use std::alloc::{AllocError, Global};
+use std::thread::{Threads, map_indices};
 
 // Whether a row exceeds the size of a table that has `filled` bytes so far.
 fn is_full(size: u64, filled: u64, row: &RowEntry) -> bool
@@ -148,11 +150,56 @@ fn finish_range<O: MergeOperator, G: RangeGate>(
     Ok(take_tables(alloc, &mut left, &job.cursor, size, number, gate)?)
 }
 
+// All that is left of each range, or its refusal. Each range is made on a thread of its own, where
+// one can be had.
+fn finish_each<R: Threads + Sync, O: MergeOperator, G: RangeGate>(
+    rt: &R,
+    alloc: Global,
+    jobs: &[RangeJob],
+    sources: &[RunData],
+    operator: &O,
+    size: u64,
+    gate: &G,
+) -> Result<Vec<Result<RangeTables, SlateDBError>>, AllocError>
+    requires few { length jobs.now < 2 ^ 32 }
+    requires sources { AreSources sources.now }
+    ensures len { IfOk result (λ made. vec_len made ≡ length jobs.now) }
+    ensures each { IfOk result (λ made. (i : ℕ) (job : _) (d : _) → i < length jobs.now →
+        FinishesRange (O.merged (O.settings operator.now)) sources.now size
+        (slice_index_or jobs.now i job) (slice_index_or made.items i d)) }
+{
+    let one = |i: usize| -> Result<RangeTables, SlateDBError>
+        requires { (i < length jobs.now) × (length jobs.now < 2 ^ 32) × AreSources sources.now }
+        ensures { (job : _) → FinishesRange (O.merged (O.settings operator.entry.now))
+            sources.entry.now size (slice_index_or jobs.entry.now i job) result }
+    { finish_range(alloc, &jobs[i], sources, operator, size, i as u32 + 1, gate) };
+    let made = map_indices(rt, alloc, jobs.len(), &one)?;
+    Ok(made)
+}
+
+// The tables of all ranges, or the refusal of the first range that has one.
+fn all_made(
+    alloc: Global,
+    made: Vec<Result<RangeTables, SlateDBError>>,
+) -> Result<Vec<RangeTables>, SlateDBError>
+    ensures ok { IfOk result (λ ranges. made.items ≡ map (λ range. Ok range) ranges.items) }
+    ensures err { IfErr result (λ e.
+        e ≢ SlateDBError.Memory → first_refusal made.items ≡ Some e) }
+{
+    let mut ranges = Vec::new(alloc);
+    'answers: for answer in made {
+        ranges.push(answer?)?;
+    }
+    Ok(ranges)
+}
+
 /// Makes all that is left of each range after its cursor, and cuts it into tables. A table ends
 /// with the row with which its sum of `estimated_size` exceeds `max_sst_size` bytes, or at the
-/// range's end. Each table is reported to the gate when it is made. If the operator refuses in
-/// several ranges, the error is the refusal in the first of them.
-pub fn finish_ranges<O: MergeOperator, G: RangeGate>(
+/// range's end. The ranges are made at once, each on a thread of its own where one can be had. Each
+/// table is reported to the gate when it is made. If the operator refuses in several ranges, the
+/// error is the refusal in the first of them.
+pub fn finish_ranges<R: Threads + Sync, O: MergeOperator, G: RangeGate>(
+    rt: &R,
     alloc: Global,
     jobs: &[RangeJob],
     sources: &SourceSet,
@@ -167,12 +214,7 @@ pub fn finish_ranges<O: MergeOperator, G: RangeGate>(
     ensures refused { IfErr result
         (RefusesFirstUnless (O.merged (O.settings operator.now)) sources.now jobs.now) }
 {
-    let mut ranges = Vec::new(alloc);
-    let mut number = 0;
-    'jobs: for job in jobs {
-        number += 1;
-        let runs = sources.as_slice();
-        ranges.push(finish_range(alloc, job, runs, operator, max_sst_size, number, gate)?)?;
-    }
-    Ok(ranges)
+    let runs = sources.as_slice();
+    let made = finish_each(rt, alloc, jobs, runs, operator, max_sst_size, gate)?;
+    Ok(all_made(alloc, made)?)
 }

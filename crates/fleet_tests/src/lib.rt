@@ -1,8 +1,10 @@
 //! Tests of what the cases of `fleet_cases` cannot show: iterators that fail after some rows,
-//! iterators in boxes, and calls that come too early. There are also tests of copies, of printed
-//! texts and of hashes.
+//! iterators in boxes, calls that come too early, and ranges that are made at once. There are also
+//! tests of copies, of printed texts and of hashes.
 #![tactic(auto)]
 
+#[cfg(test)]
+mod at_once;
 #[cfg(test)]
 mod boxes;
 #[cfg(test)]

@@ -1,38 +1,34 @@
-use Rattle.std.proofs.Common.{rules, ◌≡◌, ◌∙◌, ◌+◌, ◌<◌, ap, subst, List, [], ◌∷◌, length, map, get_or}
-use Rattle.std.proofs.lemmas.List.{map-append}
+use Rattle.std.proofs.Common.{◌≡◌, ◌∙◌, ◌<◌, sym, ap, subst, ℕ, List, map, length, get_or, Ok, Result}
+use Rattle.std.proofs.lemmas.List.{length-map}
 use Rattle.std.proofs.lemmas.Result.{err_from_is_err_and}
 use Rattle.row_model.specs.Rows.{Row}
-use Rattle.fleet_rows.specs.Row.{rows_of}
 use Rattle.fleet_rows.specs.declared.row.RowEntry.{RowEntry}
-use Rattle.fleet_range.specs.Keys.{range_of}
-use Rattle.fleet_exec.specs.Cut.{IsFinished, RefusesRangeUnless}
-use Rattle.fleet_exec.specs.Ranges.{made_of, rows_from}
-use Rattle.fleet_exec.proofs.Finished.{one_more_range, refuses_at}
+use Rattle.fleet_rows.specs.declared.errors.SlateDBError.{SlateDBError}
+use Rattle.fleet_exec.specs.Cut.{FinishesRange}
+use Rattle.fleet_exec.specs.declared.range_job.RangeJob.{RangeJob}
+use Rattle.fleet_exec.proofs.Finished.{all_finished, first_refuses}
 use Rattle.fleet_exec.proofs.finish.finish_ranges.Goals as goal
 
-pub returns-in_err-finish_range-clause-refused : goal.returns-in_err-finish_range-clause-refused
-returns-in_err-finish_range-clause-refused g c =
+pub returns-in_err-all_made-clause-refused : goal.returns-in_err-all_made-clause-refused
+returns-in_err-all_made-clause-refused g c =
     let folds = g.O.MergeOperator.merged (g.O.MergeOperator.settings c.args.operator.now) in
-    let sources = c.args.sources.now in
-    let job = c.job-item.result in
-    let p = err_from_is_err_and c.from_residual.result c.from_residual.ensures.1 in
-    let e = c.in_err-finish_range.field-0.0 in
-    let lt : c.jobs.job-index < length c.args.jobs.now = search rules in
-    let is : job ≡ get_or c.args.jobs.now c.jobs.job-index job = search rules in
-    let refuses = subst (λ (all : List (List (List Row))). RefusesRangeUnless folds (rows_from (range_of job.range) job.cursor all) (made_of folds all job) e) c.as_slice-runs.ensures c.in_err-finish_range.ensures.err in
-    rw (p.1, p.2) (refuses_at folds sources c.args.max_sst_size c.args.jobs.now c.jobs.job-index job lt is (map (map rows_of) c.jobs.ranges.items) e c.jobs.invariant.finished refuses)
+    let jobs = c.args.jobs.now in
+    let made = c.in_ok-made.made.items in
+    let p = err_from_is_err_and c.from_residual-in_err-all_made.result c.from_residual-in_err-all_made.ensures.1 in
+    let e = c.in_err-all_made.field-0.0 in
+    let A : List (List (List Row)) → _ = λ all. (i : ℕ) (job : RangeJob) (d : Result (List (List RowEntry)) SlateDBError) → i < length jobs → FinishesRange folds all c.args.max_sst_size (get_or jobs i job) (get_or made i d) in
+    let each = subst A c.as_slice-runs.ensures c.in_ok-made.ensures.each in
+    rw (p.1, p.2) (λ other. first_refuses folds c.args.sources.now c.args.max_sst_size jobs made (sym c.in_ok-made.made.ok.0 ∙ c.in_ok-made.ensures.len) each e other (c.in_err-all_made.ensures.err other))
 
-pub jobs-preserved : goal.jobs-preserved
-jobs-preserved g c =
+pub returns-clause-tables : goal.returns-clause-tables
+returns-clause-tables g c =
     let folds = g.O.MergeOperator.merged (g.O.MergeOperator.settings c.args.operator.now) in
-    let sources = c.args.sources.now in
-    let job = c.job-item.result in
-    let lt : c.jobs.job-index < length c.args.jobs.now = search rules in
-    let is : job ≡ get_or c.args.jobs.now c.jobs.job-index job = search rules in
-    let tables_of : List (List RowEntry) → List (List Row) = map rows_of in
-    let finished = subst (λ (all : List (List (List Row))). IsFinished c.args.max_sst_size (made_of folds all job) (map rows_of c.in_ok-finish_range.field-0)) c.as_slice-runs.ensures c.in_ok-finish_range.ensures.ok in
-    record {
-      number = ap (λ n. n + 1) c.jobs.invariant.number;
-      finished = one_more_range folds sources c.args.max_sst_size c.args.jobs.now c.jobs.job-index job lt is (map tables_of c.jobs.ranges.items) (map tables_of c.push.new.self.items) (tables_of c.in_ok-finish_range.field-0) c.jobs.invariant.finished finished
-          (ap (map tables_of) c.in_ok-push.ensures.items ∙ map-append tables_of c.jobs.ranges.items (c.in_ok-finish_range.field-0 ∷ []));
-    }
+    let jobs = c.args.jobs.now in
+    let made = c.in_ok-made.made.items in
+    let ranges = c.in_ok-all_made.field-0.items in
+    let is : made ≡ map (λ range. Ok range) ranges = c.in_ok-all_made.ensures.ok in
+    let count : length (map (λ range. Ok range) ranges) ≡ length ranges = length-map _ _ in
+    let A : List (List (List Row)) → _ = λ all. (i : ℕ) (job : RangeJob) (d : Result (List (List RowEntry)) SlateDBError) → i < length jobs → FinishesRange folds all c.args.max_sst_size (get_or jobs i job) (get_or made i d) in
+    let B : List (Result (List (List RowEntry)) SlateDBError) → _ = λ w. (i : ℕ) (job : RangeJob) (d : Result (List (List RowEntry)) SlateDBError) → i < length jobs → FinishesRange folds c.args.sources.now c.args.max_sst_size (get_or jobs i job) (get_or w i d) in
+    let each = subst B is (subst A c.as_slice-runs.ensures c.in_ok-made.ensures.each) in
+    all_finished folds c.args.sources.now c.args.max_sst_size jobs ranges (sym count ∙ (ap length (sym is) ∙ (sym c.in_ok-made.made.ok.0 ∙ c.in_ok-made.ensures.len))) each
