@@ -86,7 +86,9 @@ impl Log {
 
     /// A fault strikes the get or put with this number, counted from 1 from now on.
     pub(crate) fn set_fault(&mut self, k: u32, stands: bool)
-        ensures { self.new ≡ record self.old { waits = Some (record { k = k; stands = stands }) } }
+        ensures { self.new ≡ record self.old {
+          waits = Some (record { k = k; stands = stands });
+        } }
     {
         self.waits = Some((k, stands));
     }

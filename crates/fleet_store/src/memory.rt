@@ -129,7 +129,9 @@ impl MemStore {
     /// A fault strikes the get or put with this number, counted from 1 from now on. If it is a put,
     /// it stands or is lost. A fault that waited before is dropped.
     pub fn set_fault(&mut self, k: u32, stands: bool)
-        ensures { self.new ≡ record self.old { waits = Some (record { k = k; stands = stands }) } }
+        ensures { self.new ≡ record self.old {
+          waits = Some (record { k = k; stands = stands });
+        } }
     {
         self.log.set_fault(k, stands);
     }

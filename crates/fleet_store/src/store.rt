@@ -40,7 +40,8 @@ pub trait Store {
     /// The manifest.
     fn get_manifest(&mut self) -> Result<VersionedManifest, SlateDBError>
         ensures gets { asks.GetsManifest (who self.old) (told self.old) (told self.new)
-            (faults self.old) (faults self.new) (waits self.old) (waits self.new) result }
+            (faults self.old) (faults self.new) (waits self.old) (waits self.new)
+            result }
         ensures same_who { who self.new ≡ who self.old }
         ensures same_lent { lent self.new ≡ lent self.old }
         ensures same_place { place self.new ≡ place self.old };
@@ -57,7 +58,8 @@ pub trait Store {
         requires { asks.ManifestPutFits (who self.old) (told self.old) version value why
             jobs.now.jobs }
         ensures puts { asks.PutsManifest (who self.old) (told self.old) (told self.new)
-            (faults self.old) (faults self.new) (waits self.old) (waits self.new) version value why jobs.now.jobs result }
+            (faults self.old) (faults self.new) (waits self.old) (waits self.new)
+            version value why jobs.now.jobs result }
         ensures same_who { who self.new ≡ who self.old }
         ensures same_lent { lent self.new ≡ lent self.old }
         ensures same_place { place self.new ≡ place self.old };
@@ -65,7 +67,8 @@ pub trait Store {
     /// The job records, or None if there are none.
     fn get_records(&mut self) -> Result<Option<VersionedCompactions>, SlateDBError>
         ensures gets { asks.GetsRecords (who self.old) (told self.old) (told self.new)
-            (faults self.old) (faults self.new) (waits self.old) (waits self.new) result }
+            (faults self.old) (faults self.new) (waits self.old) (waits self.new)
+            result }
         ensures same_who { who self.new ≡ who self.old }
         ensures same_lent { lent self.new ≡ lent self.old }
         ensures same_place { place self.new ≡ place self.old };
@@ -80,7 +83,8 @@ pub trait Store {
     ) -> Result<u64, SlateDBError>
         requires { asks.RecordsPutFit (who self.old) (told self.old) version value why }
         ensures puts { asks.PutsRecords (who self.old) (told self.old) (told self.new)
-            (faults self.old) (faults self.new) (waits self.old) (waits self.new) version value why result }
+            (faults self.old) (faults self.new) (waits self.old) (waits self.new)
+            version value why result }
         ensures same_who { who self.new ≡ who self.old }
         ensures same_lent { lent self.new ≡ lent self.old }
         ensures same_place { place self.new ≡ place self.old };
@@ -89,7 +93,8 @@ pub trait Store {
     fn put_table(&mut self, id: Ulid, table: TableData) -> Result<(), SlateDBError>
         requires { asks.MayCall (who self.old) (told self.old) (λ met. PutsTable id table) }
         ensures puts { asks.PutsTableRows (who self.old) (told self.old) (told self.new)
-            (faults self.old) (faults self.new) (waits self.old) (waits self.new) id table result }
+            (faults self.old) (faults self.new) (waits self.old) (waits self.new)
+            id table result }
         ensures same_who { who self.new ≡ who self.old }
         ensures same_lent { lent self.new ≡ lent self.old }
         ensures same_place { place self.new ≡ place self.old };
@@ -97,7 +102,8 @@ pub trait Store {
     /// The table with this id, or None if it is not held.
     fn get_table(&mut self, id: Ulid) -> Result<Option<TableData>, SlateDBError>
         ensures gets { asks.GetsTable (who self.old) (told self.old) (told self.new)
-            (faults self.old) (faults self.new) (waits self.old) (waits self.new) id result }
+            (faults self.old) (faults self.new) (waits self.old) (waits self.new)
+            id result }
         ensures same_who { who self.new ≡ who self.old }
         ensures same_lent { lent self.new ≡ lent self.old }
         ensures same_place { place self.new ≡ place self.old };
@@ -106,7 +112,8 @@ pub trait Store {
     /// draw, the error is `Memory`.
     fn draw_job(&mut self, moment: u64) -> Result<Ulid, SlateDBError>
         ensures draws { asks.DrawsJobId (who self.old) (told self.old) (told self.new)
-            (faults self.old) (faults self.new) (waits self.old) (waits self.new) moment result }
+            (faults self.old) (faults self.new) (waits self.old) (waits self.new)
+            moment result }
         ensures same_who { who self.new ≡ who self.old }
         ensures same_lent { lent self.new ≡ lent self.old }
         ensures same_place { place self.new ≡ place self.old };
@@ -115,7 +122,8 @@ pub trait Store {
     fn note(&mut self, note: Note) -> Result<(), SlateDBError>
         requires { asks.MayCall (who self.old) (told self.old) (λ met. noted note) }
         ensures notes { asks.Notes (who self.old) (told self.old) (told self.new)
-            (faults self.old) (faults self.new) (waits self.old) (waits self.new) note result }
+            (faults self.old) (faults self.new) (waits self.old) (waits self.new)
+            note result }
         ensures same_who { who self.new ≡ who self.old }
         ensures same_lent { lent self.new ≡ lent self.old }
         ensures same_place { place self.new ≡ place self.old };
@@ -124,7 +132,8 @@ pub trait Store {
     /// draw, the error is `Memory`.
     fn draw_table(&mut self, moment: u64) -> Result<Ulid, SlateDBError>
         ensures draws { asks.DrawsTableId (who self.old) (told self.old) (told self.new)
-            (faults self.old) (faults self.new) (waits self.old) (waits self.new) moment result }
+            (faults self.old) (faults self.new) (waits self.old) (waits self.new)
+            moment result }
         ensures same_who { who self.new ≡ who self.old }
         ensures same_lent { lent self.new ≡ lent self.old }
         ensures same_place { place self.new ≡ place self.old };
@@ -135,7 +144,8 @@ pub trait SweepStore: Store {
     /// The ids of the tables that are held, in rising order.
     fn list_tables(&mut self, alloc: Global) -> Result<JobList, SlateDBError>
         ensures lists { asks.ListsHeld (Self.who self.old) (Self.told self.old) (Self.told self.new)
-            (Self.faults self.old) (Self.faults self.new) (Self.waits self.old) (Self.waits self.new) result }
+            (Self.faults self.old) (Self.faults self.new)
+            (Self.waits self.old) (Self.waits self.new) result }
         ensures same_who { Self.who self.new ≡ Self.who self.old }
         ensures same_lent { Self.lent self.new ≡ Self.lent self.old }
         ensures same_place { Self.place self.new ≡ Self.place self.old };
@@ -144,7 +154,8 @@ pub trait SweepStore: Store {
     fn delete_table(&mut self, id: Ulid) -> Result<(), SlateDBError>
         requires { asks.MayCall (Self.who self.old) (Self.told self.old) (λ met. DeletesTable id) }
         ensures deletes { asks.Deletes (Self.who self.old) (Self.told self.old) (Self.told self.new)
-            (Self.faults self.old) (Self.faults self.new) (Self.waits self.old) (Self.waits self.new) id result }
+            (Self.faults self.old) (Self.faults self.new)
+            (Self.waits self.old) (Self.waits self.new) id result }
         ensures same_who { Self.who self.new ≡ Self.who self.old }
         ensures same_lent { Self.lent self.new ≡ Self.lent self.old }
         ensures same_place { Self.place self.new ≡ Self.place self.old };
