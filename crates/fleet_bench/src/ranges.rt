@@ -3,7 +3,7 @@
 ghost use Rattle.std.specs.Prelude.{IfOk};
 ghost use Rattle.fleet_exec.specs.Ranges.{AreSources};
 
-use crate::sources::{Load, SOURCES, key_of, rows_of};
+use crate::sources::{Load, key_of, rows_of};
 use bytes::Bytes;
 use fleet_exec::{OpenGate, RangeJob, RangeTables, SourceSet, are_sources, finish_ranges};
 use fleet_fold::AppendOperator;
@@ -33,7 +33,7 @@ pub fn make_runs(alloc: Global, load: Load) -> Result<SourceSet, SlateDBError>
     ensures { IfOk result (λ runs. AreSources runs) }
 {
     let mut runs = SourceSet::new(alloc);
-    'sources: for source in 0..SOURCES {
+    'sources: for source in 0..load.sources {
         runs.push(run_of(alloc, rows_of(alloc, load, source)?)?)?;
     }
     if are_sources(alloc, &runs)? {

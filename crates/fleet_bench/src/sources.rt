@@ -9,25 +9,30 @@ use fleet_iter::{ListIterator, are_rising};
 use fleet_rows::{RowEntry, SlateDBError, ValueDeletable};
 use std::alloc::Global;
 
-/// The number of sources.
+/// The number of sources, if the command line gives none.
 pub const SOURCES: u64 = 8;
 
 // The number of rows of a key. The last key may have fewer.
 const VERSIONS: u64 = 4;
 
-/// What is made: the number of rows, and how many of each 100 rows are operands.
+/// What is made: the number of rows, how many of each 100 rows are operands, and the number of
+/// sources.
 #[derive(Clone, Copy, Debug)]
 pub struct Load {
     pub rows: u64,
     pub operands: u64,
+    pub sources: u64,
 }
 
-// The source of a row. The rows of a key are spread over two sources, by turns.
-fn source_of(row: u64) -> u64 {
+// The source of a row, of two sources at least. The rows of a key are spread over two of them, by
+// turns.
+fn source_of(row: u64, sources: u64) -> u64
+    requires { 2 ≤ sources }
+{
     let key = row / VERSIONS;
     match row % 2 {
-        0 => key % SOURCES,
-        _ => (key + 1 + key / SOURCES % (SOURCES - 1)) % SOURCES,
+        0 => key % sources,
+        _ => (key + 1).wrapping_add(key / sources % (sources - 1)) % sources,
     }
 }
 
@@ -62,7 +67,7 @@ fn entry(alloc: Global, load: Load, row: u64) -> Result<RowEntry, SlateDBError>
 pub fn rows_of(alloc: Global, load: Load, source: u64) -> Result<Vec<RowEntry>, SlateDBError> {
     let mut rows = Vec::new(alloc);
     for row in 0..load.rows {
-        if source_of(row) == source {
+        if source_of(row, load.sources.max(2)) == source {
             rows.push(entry(alloc, load, row)?)?;
         }
     }
@@ -100,7 +105,7 @@ pub fn make_sources(alloc: Global, load: Load) -> Result<Sources, SlateDBError>
         lists: Vec::new(alloc),
         rows: 0,
     };
-    'sources: for source in 0..SOURCES {
+    'sources: for source in 0..load.sources {
         sources.add(rows_of(alloc, load, source)?)?;
     }
     Ok(sources)
