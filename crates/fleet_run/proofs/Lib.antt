@@ -28,6 +28,7 @@ pub mod ClaimLine
 pub mod PutTables
 pub mod FinishLine
 pub mod Steps
+pub mod MoreLines
 pub mod Accepted
 pub mod Texts
 pub mod Written

@@ -8,7 +8,7 @@ use Rattle.script_model.specs.Grammars.{job_grammar}
 use Rattle.script_model.specs.States.{fresh_state}
 use Rattle.script_model.specs.Defaults.{default_options, with_quiet_scheduler}
 use Rattle.script_model.specs.Follows.{LineStep, ScriptRun}
-use Rattle.script_model.proofs.Runs.{run-more}
+use Rattle.fleet_run.proofs.MoreLines.{run-more}
 use Rattle.fleet_run.specs.FleetView.{FleetView, fresh_fleet}
 use Rattle.fleet_run.specs.Holds.{held, Holds, state_of}
 use Rattle.fleet_run.specs.Serve.{IsServed, reply_to, fleet_after}
