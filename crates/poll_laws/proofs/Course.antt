@@ -1,23 +1,20 @@
 -- A poll of a coordinator that fits is a lawful course: its two gets, its draws, its put of the manifest and its puts of the records.
 use Rattle.std.proofs.Common.{◌≡◌, ◌≢◌, refl, sym, ◌∙◌, ap, subst, ℕ, zero, suc, ◌+◌, ◌<◌, ◌≤◌, List, [], ◌∷◌, ◌++◌, cond, Bool, true, false, inl, inr, Option, Some, None, arith}
-use Rattle.std.specs.Prelude.{IsTrue, ◌==◌, ◌&&◌, nat_lt, bytes_eq, map, not, ⊤}
+use Rattle.std.specs.Prelude.{IsTrue, ◌==◌, nat_lt, map}
 use Rattle.std.specs.List.{AllByRecursion}
 use Rattle.std.specs.Cmp.Lexicographic.{pointwise}
 use Rattle.std.proofs.lemmas.Bool.Decides.{Decides-eqb}
 use Rattle.std.proofs.lemmas.Bool.{ltb-false}
 use Rattle.std.proofs.lemmas.List.{append-nil, append_assoc}
-use Rattle.std.proofs.lemmas.Slice.Eq.{bytes_eq-Decides}
 use Rattle.row_model.specs.Lists.{Pairs}
 use Rattle.row_model.specs.Fold.{IsLawful}
-use Rattle.fleet_model.specs.Nodes.{name_eq, Node, Tree, Trees, Tables, names, tree_at, segment_at, tree_or_empty}
-use Rattle.fleet_model.specs.Jobs.{JobSpec, Job, Jobs, Scheduled, has_status, job_with, contains}
+use Rattle.fleet_model.specs.Jobs.{JobSpec, Job, Jobs, Scheduled, has_status, job_with}
 use Rattle.fleet_model.specs.History.{Party, ManifestChange, GetManifest, GetRecords, PutManifest, Commit, Step, Conflict, Done, Entry}
 use Rattle.fleet_model.specs.Store.{Manifest, Records, stored_jobs, jobs_in, records_epoch}
-use Rattle.fleet_model.specs.Sources.{run_ids, all_run_ids, is_whole_stretch}
-use Rattle.fleet_model.specs.Trees.{job_of, source_pieces, watermark_after, stepped, stepped_in, stepped_all, horizon_after_all}
+use Rattle.fleet_model.specs.Trees.{job_of, stepped_all, horizon_after_all}
 use Rattle.fleet_model.specs.Records.{firsts}
 use Rattle.fleet_model.specs.Replay.{outputs_in}
-use Rattle.fleet_model.specs.JobsFit.{SourcesStand, DestinationFits}
+use Rattle.fleet_model.specs.JobsFit.{SourcesStand}
 use Rattle.fleet_model.specs.TreesFit.{EpochFits}
 use Rattle.fleet_model.specs.PollStates.{PollInput, PollState}
 use Rattle.fleet_model.specs.Exchanges.{Exchange, Plain, DrawsJob, PutsManifest, next_job_id, logged}
@@ -25,11 +22,11 @@ use Rattle.step_model.specs.Past.{Told, told_after}
 use Rattle.step_model.specs.Entries.{did_put_epoch, is_mentioned, drew_job}
 use Rattle.step_model.specs.Lawful.{Lawful}
 use Rattle.step_model.specs.LawfulManifests.{cut_of, MayCommit, CommitFits, IsKnownTo, StepsFit}
-use Rattle.step_model.specs.Rivals.{Caller, told_by}
+use Rattle.step_model.specs.Rivals.{Caller, Rivals, told_by}
 use Rattle.step_model.specs.Keeps.{Keeps}
 use Rattle.step_model.specs.CourseRuns.{IsLawfulCourse}
 use Rattle.step_model.specs.Course.{Course, Ends, Calls, draws_jobs, puts_manifest}
-use Rattle.step_model.specs.PollSteps.{PollAsk, poll, polls_from, polls_over, puts_trees, puts_polled, input_of, first_steps, last_steps, proposed, is_unchanged, same_tree, node_eq, records_or_none, unless_fenced}
+use Rattle.step_model.specs.PollSteps.{PollAsk, poll, polls_from, polls_over, puts_trees, puts_polled, input_of, first_steps, last_steps, proposed, is_unchanged, same_tree, records_or_none, unless_fenced}
 use Rattle.step_model.specs.StepEnds.{StepEnd, Fenced, most_refused}
 use Rattle.step_laws.specs.Runs.{CallsKeep}
 use Rattle.step_laws.proofs.Elements.{IsIn, all_at, all_from, all_to}
@@ -40,7 +37,6 @@ use Rattle.fit_laws.proofs.Coordinators.{put_low, put_grows}
 use Rattle.course_laws.proofs.Calls.{behind}
 use Rattle.course_laws.proofs.Later.{Later, later_by, later_then}
 use Rattle.course_laws.proofs.NewIds.{AreFresh, rivals_fresh, drawn_fresh}
-use Rattle.commit_laws.proofs.Stretches.{name_same}
 use Rattle.commit_laws.proofs.CommitJobs.{entry_of, manifest_of}
 use Rattle.commit_laws.proofs.Commits.{start}
 use Rattle.commit_laws.proofs.AllCalls.{calls_keep}
@@ -52,98 +48,9 @@ use Rattle.poll_laws.proofs.Quiet.{Moves, HasEpoch, epoch_call, rivals_after}
 use Rattle.poll_laws.proofs.Transfer.{AreKept, rivals_kept}
 use Rattle.poll_laws.proofs.Names.{fresh_named, others_same, own_committed, IsNamed}
 use Rattle.poll_laws.proofs.Tries.{Puts, puts_lawful}
-use Rattle.poll_laws.proofs.Since.{Since, since_itself, since_met, since_noted, Noted, kept_noted, got_noted, drawn_noted, Got, Ready, ready_met, ready_noted, case_at, own_specs, spec_of}
+use Rattle.poll_laws.proofs.Since.{Since, since_itself, since_met, since_noted, kept_noted, got_noted, drawn_noted, Got, Ready, ready_met, ready_noted, case_at, own_specs, spec_of}
 use Rattle.course_laws.proofs.Calls.{both}
-
--- ---- trees with the same nodes
-
--- Segments of two lists have the same prefixes.
-abbrev SamePrefixes : Trees → Trees → Type 0
-SamePrefixes [] [] = ⊤
-SamePrefixes (a ∷ xs) (b ∷ ys) = (a.prefix ≡ b.prefix) × SamePrefixes xs ys
-SamePrefixes xs ys = ⊥
-
--- They have the same trees too.
-abbrev SameNodes : Trees → Trees → Type 0
-SameNodes [] [] = ⊤
-SameNodes (a ∷ xs) (b ∷ ys) = ((a.prefix ≡ b.prefix) × (a.tree ≡ b.tree)) × SameNodes xs ys
-SameNodes xs ys = ⊥
-
-prefixes_itself : (trees : Trees) → SamePrefixes trees trees
-prefixes_itself [] = tt
-prefixes_itself (s ∷ trees) = (refl, prefixes_itself trees)
-
-prefixes_step : (tables : Tables) (step : Step) (spec : JobSpec) (outputs : List ℕ) (base trees : Trees) → SamePrefixes base trees → SamePrefixes base (stepped_in tables step spec outputs trees)
-prefixes_step tables step spec outputs [] [] h = tt
-prefixes_step tables step spec outputs [] (s ∷ trees) h = h
-prefixes_step tables step spec outputs (a ∷ base) [] h = h
-prefixes_step tables step spec outputs (a ∷ base) (s ∷ trees) h = (h.0 ∙ by (bytes_eq spec.segment s.prefix), prefixes_step tables step spec outputs base trees h.1)
-  where
-    by : (b : Bool) → s.prefix ≡ (cond b (record s { tree = stepped tables step spec outputs s.tree; watermark = watermark_after spec.sources s.tree s.watermark }) s).prefix
-    by true = refl
-    by false = refl
-
-prefixes_all : (tables : Tables) (f : ℕ → JobSpec × List ℕ) (steps : List Step) (base trees : Trees) → SamePrefixes base trees → SamePrefixes base (stepped_all tables f steps trees)
-prefixes_all tables f [] base trees h = h
-prefixes_all tables f (step ∷ steps) base trees h =
-    prefixes_all tables f steps base (stepped_in tables step (f (job_of step)).0 (f (job_of step)).1 trees) (prefixes_step tables step (f (job_of step)).0 (f (job_of step)).1 base trees h)
-
-node_same : (a b : Node) → node_eq a b ≡ true → a ≡ b
-node_same a b e =
-    let first = both (name_eq a.name b.name && bytes_eq a.flushes b.flushes) (bytes_eq a.pieces b.pieces) e in
-    let second = both (name_eq a.name b.name) (bytes_eq a.flushes b.flushes) first.0 in
-    let name = name_same a.name b.name second.0 in
-    let flushes = (bytes_eq-Decides a.flushes b.flushes).0 second.1 in
-    let pieces = (bytes_eq-Decides a.pieces b.pieces).0 first.1 in
-    λ i. record { name = name i; flushes = flushes i; pieces = pieces i }
-
-nodes_same : (xs ys : Tree) → pointwise node_eq xs ys ≡ true → xs ≡ ys
-nodes_same [] [] e = refl
-nodes_same [] (y ∷ ys) e = absurd (cc e)
-nodes_same (x ∷ xs) [] e = absurd (cc e)
-nodes_same (x ∷ xs) (y ∷ ys) e =
-    let two = both (node_eq x y) (pointwise node_eq xs ys) e in
-    let first = node_same x y two.0 in
-    let rest = nodes_same xs ys two.1 in
-    λ i. first i ∷ rest i
-
-same_nodes : (xs ys : Trees) → SamePrefixes xs ys → pointwise same_tree xs ys ≡ true → SameNodes xs ys
-same_nodes [] [] h e = tt
-same_nodes [] (y ∷ ys) h e = absurd h
-same_nodes (x ∷ xs) [] h e = absurd h
-same_nodes (x ∷ xs) (y ∷ ys) h e = let two = both (same_tree x y) (pointwise same_tree xs ys) e in ((h.0, nodes_same x.tree y.tree two.0), same_nodes xs ys h.1 two.1)
-
-tree_same : (prefix : List ℕ) (xs ys : Trees) → SameNodes xs ys → tree_at prefix xs ≡ tree_at prefix ys
-tree_same prefix [] [] h = refl
-tree_same prefix [] (y ∷ ys) h = absurd h
-tree_same prefix (x ∷ xs) [] h = absurd h
-tree_same prefix (x ∷ xs) (y ∷ ys) h = ap (λ p. tree_or_empty (cond (bytes_eq prefix p) (Some x) (segment_at prefix xs))) h.0.0 ∙ by (bytes_eq prefix y.prefix) (tree_same prefix xs ys h.1)
-  where
-    by : (b : Bool) → tree_at prefix xs ≡ tree_at prefix ys → tree_or_empty (cond b (Some x) (segment_at prefix xs)) ≡ tree_or_empty (cond b (Some y) (segment_at prefix ys))
-    by true e = h.0.1
-    by false e = e
-
-runs_same : (xs ys : Trees) → SameNodes xs ys → all_run_ids xs ≡ all_run_ids ys
-runs_same [] [] h = refl
-runs_same [] (y ∷ ys) h = absurd h
-runs_same (x ∷ xs) [] h = absurd h
-runs_same (x ∷ xs) (y ∷ ys) h = let rest = runs_same xs ys h.1 in λ i. run_ids (names (h.0.1 i)) ++ rest i
-
--- Sources that stand in trees stand in trees with the same nodes.
-stands_same : (xs ys : Trees) (job : Job) → SameNodes xs ys → SourcesStand xs job → SourcesStand ys job
-stands_same xs ys job same h =
-    let tree = tree_same job.spec.segment xs ys same in
-    let runs = runs_same xs ys same in
-    record {
-      some = h.some;
-      stretch = subst (λ t. IsTrue (is_whole_stretch t job.spec.sources)) tree h.stretch;
-      source_tables = ap (source_pieces job.spec.sources) (sym tree) ∙ h.source_tables;
-      destination = subst (λ t. DestinationFits ys t job.spec.sources job.spec.destination) tree (destination job.spec.destination runs h.destination);
-    }
-  where
-    destination : (d : Option ℕ) → all_run_ids xs ≡ all_run_ids ys → DestinationFits xs (tree_at job.spec.segment xs) job.spec.sources d → DestinationFits ys (tree_at job.spec.segment xs) job.spec.sources d
-    destination None runs h = h
-    destination (Some id) runs h = (h.0, λ none. subst (λ ids. IsTrue (not (contains ids id))) runs (h.1 none))
+use Rattle.poll_laws.proofs.SameTrees.{unchanged_trees}
 
 -- ---- specs
 
@@ -179,8 +86,17 @@ reached_at who e m r h got ask drawn lawful g s fresh low =
 got_rise : (who : Caller) (e : ℕ) (m r : Told) (got : Records) → Got who e m r got → Pairs (λ a b. a.id < b.id) got.jobs
 got_rise who e m r got g = subst (λ o. Pairs (λ (a b : Job). a.id < b.id) (jobs_in o)) g.is_got g.kept_second.stored.sound.job_ids
 
+-- A poll that left all nodes and the horizon has the trees that it got: no watermark moved.
+pub same_trees : (who : Caller) (e : ℕ) (m r d : Told) (got : Records) (ask : PollAsk) (drawn : List (ℕ × JobSpec)) → IsLawful who.merge → Got who e m r got → Ready who e m r d → AreFresh who.party d drawn
+    → let input = input_of ask r.store.tables m.store.manifest got in
+    let p = last_steps ask input drawn (first_steps ask input) in
+    is_unchanged m.store.manifest p ≡ true → records_epoch d.store.records ≤ e → p.trees ≡ m.store.manifest.trees
+same_trees who e m r d got ask drawn lawful g s fresh same low =
+    let reached = reached_at who e m r d got ask drawn lawful g s fresh low in
+    unchanged_trees who.merge d who.party (own_specs got.jobs drawn) m.store.manifest.trees _ _ s.first.kept reached.trees.known reached.trees.fits reached.trees.are (both (pointwise same_tree m.store.manifest.trees _) _ same).0
+
 -- A poll that changed no tree puts the records at once.
-puts_unchanged : (who : Caller) (e : ℕ) (m r d : Told) (got : Records) (ask : PollAsk) (drawn : List (ℕ × JobSpec)) → IsLawful who.merge → Got who e m r got → Ready who e m r d → AreFresh who.party d drawn
+pub puts_unchanged : (who : Caller) (e : ℕ) (m r d : Told) (got : Records) (ask : PollAsk) (drawn : List (ℕ × JobSpec)) → IsLawful who.merge → Got who e m r got → Ready who e m r d → AreFresh who.party d drawn
     → let input = input_of ask r.store.tables m.store.manifest got in
     let p = last_steps ask input drawn (first_steps ask input) in
     is_unchanged m.store.manifest p ≡ true → Puts who e r got p d
@@ -197,7 +113,7 @@ puts_unchanged who e m r d got ask drawn lawful g s fresh same = record {
       record {
         reached = reached.jobs;
         moves = subst (λ o. Moves (jobs_in o) (stored_jobs d.store)) g.is_got (s.second.quiet low).jobs;
-        opened = all_to _ _ p.opened (λ id there found. (found.0, (found.1.0, (found.1.1.0, (found.1.1.1.0, (s.first.quiet low).stand found.0 (stands_same p.trees m.store.manifest.trees found.0 (back (λ id. (own_specs got.jobs drawn id, outputs_in d.store.records id)) d.store.tables reached.trees.are) found.1.1.1.1)))))) reached.trees.opened;
+        opened = all_to _ _ p.opened (λ id there found. (found.0, (found.1.0, (found.1.1.0, (found.1.1.1.0, (s.first.quiet low).stand found.0 (subst (λ trees. SourcesStand trees found.0) (unchanged low) found.1.1.1.1)))))) reached.trees.opened;
       };
 }
   where
@@ -207,15 +123,8 @@ puts_unchanged who e m r d got ask drawn lawful g s fresh same = record {
     p : PollState
     p = last_steps ask input drawn (first_steps ask input)
 
-    turned : (xs ys : Trees) → SameNodes xs ys → SameNodes ys xs
-    turned [] [] h = tt
-    turned [] (y ∷ ys) h = absurd h
-    turned (x ∷ xs) [] h = absurd h
-    turned (x ∷ xs) (y ∷ ys) h = ((sym h.0.0, sym h.0.1), turned xs ys h.1)
-
-    back : (f : ℕ → JobSpec × List ℕ) (tables : Tables) → p.trees ≡ stepped_all tables f p.steps m.store.manifest.trees → SameNodes p.trees m.store.manifest.trees
-    back f tables is = turned m.store.manifest.trees p.trees (same_nodes m.store.manifest.trees p.trees
-        (subst (SamePrefixes m.store.manifest.trees) (sym is) (prefixes_all tables f p.steps m.store.manifest.trees m.store.manifest.trees (prefixes_itself m.store.manifest.trees))) (both (pointwise same_tree m.store.manifest.trees p.trees) _ same).0)
+    unchanged : records_epoch d.store.records ≤ e → p.trees ≡ m.store.manifest.trees
+    unchanged low = same_trees who e m r d got ask drawn lawful g s fresh same low
 
 -- ---- the put of the manifest
 
@@ -278,8 +187,15 @@ commit_fits who e m r t got ask drawn lawful g s fresh version = record {
     may [] = tt
     may (step ∷ steps) = (subst (λ n. IsTrue (did_put_epoch who.party t.store.history n)) (sym epoch) s.first.own.put, let recorded = s.first.own.recorded in omega (arith, low, recorded, epoch))
 
+-- So the put of the manifest is lawful.
+pub commit_lawful : (who : Caller) (e : ℕ) (m r t : Told) (got : Records) (ask : PollAsk) (drawn : List (ℕ × JobSpec)) → IsLawful who.merge → Got who e m r got → Ready who e m r t → AreFresh who.party t drawn
+    → let input = input_of ask r.store.tables m.store.manifest got in
+    let p = last_steps ask input drawn (first_steps ask input) in
+    Lawful who.merge who.party t (PutsManifest m.store.manifest.version (Commit p.steps) (record m.store.manifest { trees = p.trees; horizon = p.horizon }))
+commit_lawful who e m r t got ask drawn lawful g s fresh = λ version. commit_of (commit_fits who e m r t got ask drawn lawful g s fresh version)
+
 -- Behind a put of the manifest that stood.
-stood_is : (line : ℕ) (party : Party) (told : Told) (version : ℕ) (change : ManifestChange) (value : Manifest) → (version == told.store.manifest.version) ≡ true
+pub stood_is : (line : ℕ) (party : Party) (told : Told) (version : ℕ) (change : ManifestChange) (value : Manifest) → (version == told.store.manifest.version) ≡ true
     → told_by line party (PutsManifest version change value) None told
     ≡ with_manifest told (record value { version = told.store.manifest.version + 1 }) (record { line = line; party = party; event = PutManifest change; answer = Done (told.store.manifest.version + 1) })
 stood_is line party told version change value e = by (version == told.store.manifest.version) e ((Decides-eqb version told.store.manifest.version).0 e)
@@ -293,7 +209,7 @@ stood_is line party told version change value e = by (version == told.store.mani
     by false e same = absurd (cc e)
 
 -- What is so behind the commit.
-puts_changed : (who : Caller) (e : ℕ) (m r t : Told) (got : Records) (ask : PollAsk) (drawn : List (ℕ × JobSpec)) → CallsKeep who.merge → IsLawful who.merge → Got who e m r got → Ready who e m r t → AreFresh who.party t drawn
+pub puts_changed : (who : Caller) (e : ℕ) (m r t : Told) (got : Records) (ask : PollAsk) (drawn : List (ℕ × JobSpec)) → CallsKeep who.merge → IsLawful who.merge → Got who e m r got → Ready who e m r t → AreFresh who.party t drawn
     → (m.store.manifest.version == t.store.manifest.version) ≡ true
     → let input = input_of ask r.store.tables m.store.manifest got in
     let p = last_steps ask input drawn (first_steps ask input) in
@@ -380,7 +296,7 @@ trees_lawful who e m r d got ask drawn left seen again keep lawful counted g tri
     by false same = λ t rivals room.
         let ready = ready_met who e m r d t keep s rivals in
         let new = rivals_fresh who drawn d t keep s.first.kept rivals fresh in
-        let fits : Lawful who.merge who.party t x = λ version. commit_of (commit_fits who e m r t got ask drawn lawful g ready new version) in
+        let fits : Lawful who.merge who.party t x = commit_lawful who e m r t got ask drawn lawful g ready new in
         (fits, after t ready new fits (m.store.manifest.version == t.store.manifest.version) refl)
 
 -- ---- the draws
@@ -408,6 +324,39 @@ over_lawful who ask m r got left seen again keep lawful counted g tries told s =
     draws_lawful who ask.epoch ask.moment m r (proposed ask input (first_steps ask input)) [] (λ drawn. puts_trees ask.epoch (last_steps ask input drawn (first_steps ask input)) m.store.manifest got left seen again) told keep s
     (record { drawn = tt; fresh = tt; once = tt }) (λ new drawn ready fresh. trees_lawful who ask.epoch m r new got ask drawn left seen again keep lawful counted g tries ready fresh)
 
+-- What is so as both objects were got.
+pub got_both : (who : Caller) (e : ℕ) (m r : Told) (got : Records) → Keeps who.merge m → m.store.manifest.epoch ≡ e → Since who e m r → r.store.records ≡ Some got → got.epoch ≤ e → Got who e m r got
+got_both who e m r got kept epoch s is low =
+    let stored : records_epoch r.store.records ≡ got.epoch = ap records_epoch is in
+    let recorded = s.own.recorded in
+    record {
+      kept_first = kept;
+      kept_second = s.kept;
+      is_got = is;
+      epoch = omega (arith, stored, recorded, low);
+      first_epoch = epoch;
+      between = s.quiet (omega (arith, stored, low));
+    }
+
+-- What is so behind both gets.
+pub ready_both : (who : Caller) (e : ℕ) (m r : Told) → CallsKeep who.merge → Since who e m r → AreKept who.merge m.store.manifest.trees m.store.manifest.horizon r → Ready who e m r (told_by who.line who.party (Plain GetRecords) None r)
+ready_both who e m r keep s trees =
+    let noted = got_noted who GetRecords r (inr refl) keep s.kept in
+    record {
+      first = since_noted who e m r _ s noted;
+      second = since_noted who e r r _ (since_itself who e r s.kept s.own) noted;
+      trees = kept_noted who m.store.manifest.trees m.store.manifest.horizon r _ noted trees;
+    }
+
+-- What is so since the manifest was got.
+pub since_first : (who : Caller) (e : ℕ) (m r : Told) → CallsKeep who.merge → Keeps who.merge m → HasEpoch who.party e m → Rivals who (told_by who.line who.party (Plain GetManifest) None m) r → Since who e m r
+since_first who e m r keep kept own rivals = since_met who e m _ r keep (since_noted who e m m _ (since_itself who e m kept own) (got_noted who GetManifest m (inl refl) keep kept)) rivals
+
+pub kept_first : (who : Caller) (m r : Told) → CallsKeep who.merge → Keeps who.merge m → Rivals who (told_by who.line who.party (Plain GetManifest) None m) r → AreKept who.merge m.store.manifest.trees m.store.manifest.horizon r
+kept_first who m r keep kept rivals =
+    rivals_kept who m.store.manifest.trees m.store.manifest.horizon _ r rivals
+    (kept_noted who m.store.manifest.trees m.store.manifest.horizon m _ (got_noted who GetManifest m (inl refl) keep kept) (start who.merge m kept.stored.replay.specs (whole_of who.merge m kept).body).kept)
+
 -- The records that were got, if none has a later epoch.
 records_lawful : (who : Caller) (ask : PollAsk) (m r : Told) (left seen : ℕ) (again : ℕ → Course (StepEnd PollState)) → CallsKeep who.merge → IsLawful who.merge → 0 < ask.epoch → Keeps who.merge m → m.store.manifest.epoch ≡ ask.epoch → Tries who ask.epoch again
     → Since who ask.epoch m r → AreKept who.merge m.store.manifest.trees m.store.manifest.horizon r → (records : Option Records) → r.store.records ≡ records
@@ -422,30 +371,13 @@ records_lawful who ask m r left seen again keep lawful counted kept epoch tries 
     by true e = tt
     by false e =
         let low = ltb-false ask.epoch got.epoch e in
-        let stored : records_epoch r.store.records ≡ got.epoch = ap records_epoch is in
-        let recorded = s.own.recorded in
-        let noted = got_noted who GetRecords r (inr refl) keep s.kept in
-        over_lawful who ask m r got left seen again keep lawful counted (record {
-          kept_first = kept;
-          kept_second = s.kept;
-          is_got = is;
-          epoch = omega (arith, stored, recorded, low);
-          first_epoch = epoch;
-          between = s.quiet (omega (arith, stored, low));
-        }) tries (told_by who.line who.party (Plain GetRecords) None r) (record {
-          first = since_noted who ask.epoch m r _ s noted;
-          second = since_noted who ask.epoch r r _ (since_itself who ask.epoch r s.kept s.own) noted;
-          trees = kept_noted who m.store.manifest.trees m.store.manifest.horizon r _ noted trees;
-        })
+        over_lawful who ask m r got left seen again keep lawful counted (got_both who ask.epoch m r got kept epoch s is low) tries (told_by who.line who.party (Plain GetRecords) None r) (ready_both who ask.epoch m r keep s trees)
 
 manifest_lawful : (who : Caller) (ask : PollAsk) (m : Told) (left seen : ℕ) (again : ℕ → Course (StepEnd PollState)) → CallsKeep who.merge → IsLawful who.merge → 0 < ask.epoch → Keeps who.merge m → HasEpoch who.party ask.epoch m → Tries who ask.epoch again
     → IsLawfulCourse who (told_by who.line who.party (Plain GetManifest) None m) (unless_fenced ask.epoch m.store.manifest.epoch (Calls (Plain GetRecords) (λ met.
     let got = records_or_none met.records in unless_fenced ask.epoch got.epoch (polls_over ask met.tables m.store.manifest got left seen again))))
 manifest_lawful who ask m left seen again keep lawful counted kept own tries = by (nat_lt ask.epoch m.store.manifest.epoch) refl
   where
-    noted : Noted who m (told_by who.line who.party (Plain GetManifest) None m)
-    noted = got_noted who GetManifest m (inl refl) keep kept
-
     high : ask.epoch ≤ m.store.manifest.epoch
     high = put_low m.store.manifest.epoch m.store.history ask.epoch who.party kept.facts.epochs own.put
 
@@ -457,8 +389,7 @@ manifest_lawful who ask m left seen again keep lawful counted kept own tries = b
         let up = high in (
           tt,
           records_lawful who ask m r left seen again keep lawful counted kept (omega (arith, low, up)) tries
-              (since_met who ask.epoch m _ r keep (since_noted who ask.epoch m m _ (since_itself who ask.epoch m kept own) noted) rivals)
-              (rivals_kept who m.store.manifest.trees m.store.manifest.horizon _ r rivals (kept_noted who m.store.manifest.trees m.store.manifest.horizon m _ noted (start who.merge m kept.stored.replay.specs (whole_of who.merge m kept).body).kept))
+              (since_first who ask.epoch m r keep kept own rivals) (kept_first who m r keep kept rivals)
               r.store.records refl,
         )
 

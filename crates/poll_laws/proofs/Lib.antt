@@ -12,5 +12,6 @@ pub mod Names
 pub mod Adoption
 pub mod Tries
 pub mod Since
+pub mod SameTrees
 pub mod Course
 pub mod Coordinators
