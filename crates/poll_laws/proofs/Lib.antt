@@ -14,4 +14,9 @@ pub mod Tries
 pub mod Since
 pub mod SameTrees
 pub mod Course
+pub mod OwnTrees
+pub mod HeldJobs
+pub mod Keeping
+pub mod Reports
 pub mod Coordinators
+pub mod PollRuns

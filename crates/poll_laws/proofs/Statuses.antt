@@ -1,7 +1,7 @@
 -- Which statuses exclude or include others.
 use Rattle.std.proofs.Common.{◌≡◌, refl, inl, inr, ◌⊎◌}
 use Rattle.std.specs.Prelude.{IsTrue, ◌||◌}
-use Rattle.fleet_model.specs.Jobs.{Status, Submitted, Scheduled, Running, Compacted, Completed, Failed, status_eq}
+use Rattle.fleet_model.specs.Jobs.{Status, Submitted, Scheduled, Running, Compacted, Completed, Failed, status_eq, is_finished}
 use Rattle.step_laws.proofs.OpenJobs.{is_open}
 
 pub status_of : (s t : Status) → IsTrue (status_eq s t) → s ≡ t
@@ -76,3 +76,27 @@ holds_cases Compacted h = inr refl
 holds_cases Submitted h = absurd (cc h)
 holds_cases Completed h = absurd (cc h)
 holds_cases Failed h = absurd (cc h)
+
+pub over_not_open : (s : Status) → IsTrue (is_finished s) → IsTrue (is_open s) → ⊥
+over_not_open Completed h k = absurd (cc k)
+over_not_open Failed h k = absurd (cc k)
+over_not_open Submitted h k = absurd (cc h)
+over_not_open Scheduled h k = absurd (cc h)
+over_not_open Running h k = absurd (cc h)
+over_not_open Compacted h k = absurd (cc h)
+
+pub over_not_running : (s : Status) → IsTrue (is_finished s) → IsTrue (status_eq Running s) → ⊥
+over_not_running Completed h k = absurd (cc k)
+over_not_running Failed h k = absurd (cc k)
+over_not_running Submitted h k = absurd (cc h)
+over_not_running Scheduled h k = absurd (cc h)
+over_not_running Running h k = absurd (cc h)
+over_not_running Compacted h k = absurd (cc h)
+
+pub over_not_ending : (s : Status) → IsTrue (is_finished s) → IsTrue (status_eq Submitted s || status_eq Compacted s) → ⊥
+over_not_ending Completed h k = absurd (cc k)
+over_not_ending Failed h k = absurd (cc k)
+over_not_ending Submitted h k = absurd (cc h)
+over_not_ending Scheduled h k = absurd (cc h)
+over_not_ending Running h k = absurd (cc h)
+over_not_ending Compacted h k = absurd (cc h)

@@ -62,7 +62,7 @@ stands_on old new p q h = all_to _ _ p.opened (λ id there found. (found.0, (fou
 good_on : (old new : Told) (got : Records) (p : PollState) → Quiet old new → Good old got p → Good new got p
 good_on old new got p q g = record { reached = g.reached; moves = moves_on got.jobs (stored_jobs old.store) (stored_jobs new.store) g.moves q.jobs; opened = stands_on old new p q g.opened }
 
-puts_met : (who : Caller) (e : ℕ) (base : Told) (got : Records) (p : PollState) (old new : Told) → CallsKeep who.merge → Puts who e base got p old → Rivals who old new → Puts who e base got p new
+pub puts_met : (who : Caller) (e : ℕ) (base : Told) (got : Records) (p : PollState) (old new : Told) → CallsKeep who.merge → Puts who e base got p old → Rivals who old new → Puts who e base got p new
 puts_met who e base got p old new keep s rivals =
     let a = rivals_after who e old new keep s.kept s.own rivals in
     let rises = a.rises in
@@ -79,7 +79,7 @@ puts_met who e base got p old new keep s rivals =
 
 -- ---- the put
 
-fits_put : (who : Caller) (e : ℕ) (base : Told) (got : Records) (p : PollState) (told : Told) → Puts who e base got p told → Lawful who.merge who.party told (PutsRecords got.version (Polled (change_of p)) got.epoch (trimmed p.jobs))
+pub fits_put : (who : Caller) (e : ℕ) (base : Told) (got : Records) (p : PollState) (told : Told) → Puts who e base got p told → Lawful who.merge who.party told (PutsRecords got.version (Polled (change_of p)) got.epoch (trimmed p.jobs))
 fits_put who e base got p told s = (
   fits_to_name who.party told p.added s.names,
   λ version.
@@ -91,7 +91,7 @@ fits_put who e base got p told s = (
 )
 
 -- A put of the records that is refused leaves its entry alone.
-refused_is : (line : ℕ) (party : Party) (told : Told) (version : ℕ) (change : RecordChange) (epoch : ℕ) (jobs : Jobs) → (version == records_version told.store.records) ≡ false
+pub refused_is : (line : ℕ) (party : Party) (told : Told) (version : ℕ) (change : RecordChange) (epoch : ℕ) (jobs : Jobs) → (version == records_version told.store.records) ≡ false
     → told_by line party (PutsRecords version change epoch jobs) None told
     ≡ entered told told.store.deleted told.store.jobs_drawn told.store.tables_drawn (record { line = line; party = party; event = PutRecords change; answer = Conflict (records_version told.store.records) })
 refused_is line party told version change epoch jobs other = by (version == records_version told.store.records) other
@@ -109,7 +109,7 @@ good_entered told entry got p g = record { reached = g.reached; moves = g.moves;
 pub epoch_entered : (party : Party) (e : ℕ) (told : Told) (entry : Entry) → HasEpoch party e told → HasEpoch party e (entered told told.store.deleted told.store.jobs_drawn told.store.tables_drawn entry)
 epoch_entered party e told entry own = record { put = put_grows party told.store.history entry e own.put; recorded = own.recorded }
 
-puts_refused : (who : Caller) (e : ℕ) (base : Told) (got : Records) (p : PollState) (told : Told) → CallsKeep who.merge → Puts who e base got p told → (got.version == records_version told.store.records) ≡ false
+pub puts_refused : (who : Caller) (e : ℕ) (base : Told) (got : Records) (p : PollState) (told : Told) → CallsKeep who.merge → Puts who e base got p told → (got.version == records_version told.store.records) ≡ false
     → Puts who e base got p (told_by who.line who.party (PutsRecords got.version (Polled (change_of p)) got.epoch (trimmed p.jobs)) None told)
 puts_refused who e base got p told keep s other =
     let x = PutsRecords got.version (Polled (change_of p)) got.epoch (trimmed p.jobs) in
@@ -131,7 +131,7 @@ puts_refused who e base got p told keep s other =
 -- ---- newer records
 
 -- The state behind the get of newer records and their merge.
-puts_merged : (who : Caller) (e : ℕ) (base : Told) (got newer : Records) (p : PollState) (told : Told) → CallsKeep who.merge → Puts who e base got p told → told.store.records ≡ Some newer → newer.epoch ≤ e
+pub puts_merged : (who : Caller) (e : ℕ) (base : Told) (got newer : Records) (p : PollState) (told : Told) → CallsKeep who.merge → Puts who e base got p told → told.store.records ≡ Some newer → newer.epoch ≤ e
     → Puts who e (told_by who.line who.party (Plain GetRecords) None told) newer (merged_into p newer.jobs) (told_by who.line who.party (Plain GetRecords) None told)
 puts_merged who e base got newer p told keep s is low =
     let entry : Entry = record { line = who.line; party = who.party; event = GetRecords; answer = answer_of (Plain GetRecords) told.store } in
