@@ -156,11 +156,11 @@ find_taken remote id local = by (job_with remote.id local) refl
         adopted false = here (Some old) e (id == remote.id) refl
 
 -- What is found after all stored jobs are merged in.
-abbrev combined : Option Job → Option Job → Option Job
+abbrev pub combined : Option Job → Option Job → Option Job
 combined local None = local
 combined local (Some remote) = taken local remote
 
-find_merged : (id : ℕ) (local jobs : Jobs) → Pairs (λ a b. a.id < b.id) jobs → job_with id (merged_jobs local jobs) ≡ combined (job_with id local) (job_with id jobs)
+pub find_merged : (id : ℕ) (local jobs : Jobs) → Pairs (λ a b. a.id < b.id) jobs → job_with id (merged_jobs local jobs) ≡ combined (job_with id local) (job_with id jobs)
 find_merged id local [] rise = refl
 find_merged id local (remote ∷ jobs) rise =
     find_merged id (take_in remote (job_with remote.id local) local) jobs rise.1 ∙ ap (λ o. combined o (job_with id jobs)) (find_taken remote id local) ∙ by (id == remote.id) refl (job_with id jobs) refl

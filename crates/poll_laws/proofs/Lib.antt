@@ -20,3 +20,4 @@ pub mod Keeping
 pub mod Reports
 pub mod Coordinators
 pub mod PollRuns
+pub mod GotObjects

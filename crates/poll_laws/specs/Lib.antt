@@ -1,3 +1,4 @@
 pub mod Polls
 pub mod Coordinators
 pub mod Locals
+pub mod Merges

@@ -4,6 +4,7 @@
 
 ghost use Rattle.poll_laws.specs.Coordinators.{PollsFit, StartsFit};
 ghost use Rattle.poll_laws.specs.Locals.{FinishedJobsMayDiffer, PollsFitLocally};
+ghost use Rattle.poll_laws.specs.Merges.{GotObjectsMerge, LooksKeepFit, MergedJobsAreStored};
 ghost use Rattle.poll_laws.specs.Polls.{PollsAreLawful};
 
 /// A poll of a coordinator that fits is a lawful course under a lawful operator. Each of its calls is
@@ -36,4 +37,23 @@ pub fn polls_fit_locally()
 /// finished jobs that the coordinator held before and that the records have dropped since.
 pub fn finished_jobs_may_differ()
     ensures { FinishedJobsMayDiffer }
+{}
+
+/// A coordinator that fits gets the manifest and then the records, as its poll does, and neither
+/// has a later epoch. Merging what it got into its local state gives what it got, but for finished
+/// local jobs.
+pub fn got_objects_merge()
+    ensures { GotObjectsMerge }
+{}
+
+/// Jobs that merge so have the stored job of each id or, if none is stored, the local one. So what a
+/// coordinator has behind a merge is told id by id.
+pub fn merged_jobs_are_stored()
+    ensures { MergedJobsAreStored }
+{}
+
+/// A call that leaves both objects keeps what a coordinator holds, whoever makes it and whether a
+/// fault strikes it or not. So the coordinator's own gets and draws and its refused puts keep it.
+pub fn looks_keep_fit()
+    ensures { LooksKeepFit }
 {}
