@@ -1,8 +1,7 @@
--- What a line of a claim does that is not refused.
+-- What a claim does that is not refused.
 use Rattle.std.proofs.Common.{◌≡◌, refl, sym, ◌∙◌, ap, ℕ, List, cond, Bool, Option, Some, None}
 use Rattle.std.specs.Prelude.{◌==◌, find}
 use Rattle.std.proofs.lemmas.Bool.Decides.{Decides-eqb}
-use Rattle.row_model.specs.Fold.{IsLawful}
 use Rattle.fleet_model.specs.History.{Worker}
 use Rattle.fleet_model.specs.Store.{stored_jobs}
 use Rattle.fleet_model.specs.Parties.{Attempt, LiveWorker, Parties, worker_with, with_worker, without_worker}
@@ -18,11 +17,9 @@ use Rattle.script_model.specs.LineCourses.{course_of}
 use Rattle.script_model.specs.LineSteps.{OneCourse}
 use Rattle.script_model.specs.WorkLines.{worker_options, running, worker_line, claim_line}
 use Rattle.script_model.specs.Settles.{is_ok}
-use Rattle.line_laws.specs.States.{StateKeeps}
 use Rattle.line_laws.specs.ClaimLines.{begun_in, ClaimRan, ClaimsTake}
 use Rattle.line_laws.proofs.Lines.{caller_of, told_of}
 use Rattle.line_laws.proofs.WorkerLines.{is_worker}
-use Rattle.line_laws.proofs.Scripts.{scripts_keep}
 use Rattle.line_laws.proofs.Reports.{step_reported}
 use Rattle.line_laws.proofs.ClaimRuns.{claim_took}
 
@@ -35,29 +32,23 @@ found_worker : (n : ℕ) (w : LiveWorker) (parties : Parties) → n ≡ w.number
 found_worker n w parties same = ap (λ (b : Bool). cond b (Some w) (find (λ (v : LiveWorker). n == v.number) (without_worker w.number parties).workers)) ((Decides-eqb n w.number).1 same)
 
 pub claims_take : ClaimsTake
-claims_take inputs lines old new n answer then_ran ok = by (worker_with n old.parties) refl (claim_is inputs then_ran.number old new n answer then_ran.step)
+claims_take inputs old new n answer c ok = by (worker_with n old.parties) refl (claim_is inputs c.number old new n answer c.course)
   where
-    merge_lawful : IsLawful inputs.merge
-    merge_lawful = then_ran.before.lawful
-
-    k : StateKeeps inputs.merge old
-    k = scripts_keep inputs lines old then_ran.before
-
     line : Option LiveWorker → LineCourse
     line o = if_some o (no_such_party old) (λ w. worker_line w old (claim (worker_options old.options) old.moment w) (λ r. claim_reply r.begun r.stopped) (λ r. r.attempts) w.attempts)
 
-    by : (o : Option LiveWorker) → worker_with n old.parties ≡ o → run_line then_ran.number old (line o) ≡ (answer, new) → ClaimRan n old answer new
+    by : (o : Option LiveWorker) → worker_with n old.parties ≡ o → run_line c.number old (line o) ≡ (answer, new) → ClaimRan n old answer new
     by None live is = let same = ap (λ (p : List ℕ × State). p.0) is in absurd (cc (ap is_ok same ∙ ok))
     by (Some w) live is =
-        let who : Caller = caller_of inputs.merge then_ran.number (Worker w.number) in
+        let who : Caller = caller_of inputs.merge c.number (Worker w.number) in
         let step = claim (worker_options old.options) old.moment w in
-        let r = step_reported inputs.merge then_ran.number old (Worker w.number) step (λ (r : Claimed). claim_reply r.begun r.stopped) (λ (r : Claimed). running w old r.attempts) (running w old w.attempts) (without_worker w.number old.parties) k answer new is then_ran.had_room ok in
-        let lawful = claims_are_lawful who (told_of inputs.merge old k) (worker_options old.options) old.moment w (calls_keep inputs.merge merge_lawful) k.fleet.store refl in
-        let t = claim_took who (worker_options old.options) old.moment w (told_of inputs.merge old k) r.left r.report (calls_keep inputs.merge merge_lawful) refl (record { kept = k.fleet.store; lawful = lawful; run = r.run }) in
+        let r = step_reported inputs.merge c.number old (Worker w.number) step (λ (r : Claimed). claim_reply r.begun r.stopped) (λ (r : Claimed). running w old r.attempts) (running w old w.attempts) (without_worker w.number old.parties) c.keeps answer new is c.had_room ok in
+        let lawful = claims_are_lawful who (told_of inputs.merge old c.keeps) (worker_options old.options) old.moment w (calls_keep inputs.merge c.lawful) c.keeps.fleet.store refl in
+        let t = claim_took who (worker_options old.options) old.moment w (told_of inputs.merge old c.keeps) r.left r.report (calls_keep inputs.merge c.lawful) refl (record { kept = c.keeps.fleet.store; lawful = lawful; run = r.run }) in
         record {
           worker = w;
           live = live;
           printed = r.printed ∙ ap (λ (begun : List Attempt). claim_reply begun r.report.stopped) t.begun ∙ ap (claim_reply (begun_in old w)) t.stopped;
           jobs = ap stored_jobs (sym r.stored) ∙ t.stored;
-          runs = ap (worker_with n) r.live ∙ ap (λ (attempts : List Attempt). worker_with n (running w old attempts)) t.attempts ∙ found_worker n (record w { attempts = _ }) old.parties (is_worker inputs.merge old k n w live).number;
+          runs = ap (worker_with n) r.live ∙ ap (λ (attempts : List Attempt). worker_with n (running w old attempts)) t.attempts ∙ found_worker n (record w { attempts = _ }) old.parties (is_worker inputs.merge old c.keeps n w live).number;
         }

@@ -10,6 +10,7 @@ pub mod PollRuns
 pub mod PartyLines
 pub mod WorkerLines
 pub mod Scripts
+pub mod Ran
 pub mod ReadLines
 pub mod Reports
 pub mod PollSays

@@ -13,7 +13,7 @@ use Rattle.commit_laws.proofs.Joins.{not_was}
 use Rattle.after_laws.proofs.Sources.{sources_held}
 use Rattle.line_laws.specs.Outputs.{OneMerge, OutputsAreWhole}
 use Rattle.line_laws.proofs.Parties.{found}
-use Rattle.line_laws.proofs.Scripts.{scripts_keep}
+use Rattle.line_laws.proofs.Lines.{told_of}
 
 one_merge : (merge : Operator) (told : Told) (job : Job) → Keeps merge told → IsIn job (stored_jobs told.store) → IsTrue (has_status Compacted job) → was_joined told.store.history job.id ≡ false → OneMerge merge told.store job
 one_merge merge told job k there compacted new =
@@ -28,6 +28,4 @@ one_merge merge told job k there compacted new =
     }
 
 pub outputs_are_whole : OutputsAreWhole
-outputs_are_whole inputs lines last job run stored compacted new =
-    let k = scripts_keep inputs lines last run in
-    one_merge inputs.merge (record { store = last.store; past = k.past }) job k.fleet.store (found (λ (other : Job). job.id == other.id) (stored_jobs last.store) job stored).there compacted new
+outputs_are_whole merge s job k stored compacted new = one_merge merge (told_of merge s k) job k.fleet.store (found (λ (other : Job). job.id == other.id) (stored_jobs s.store) job stored).there compacted new

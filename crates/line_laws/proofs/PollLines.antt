@@ -1,4 +1,4 @@
--- What a line of a poll does that is not refused.
+-- What a poll does that is not refused.
 use Rattle.std.proofs.Common.{◌≡◌, refl, sym, ◌∙◌, ap, subst, ℕ, List, [], ◌∷◌, ◌++◌, Bool, true, false, Option, Some, None, append_assoc}
 use Rattle.std.specs.Prelude.{◌==◌, map}
 use Rattle.std.specs.List.{AllByRecursion}
@@ -38,7 +38,6 @@ use Rattle.line_laws.specs.PollLines.{told_by_poll, PollSays, CommitsRight, Poll
 use Rattle.line_laws.proofs.Parties.{found}
 use Rattle.line_laws.proofs.Lines.{caller_of, told_of}
 use Rattle.line_laws.proofs.Reports.{StepReported, step_reported}
-use Rattle.line_laws.proofs.Scripts.{scripts_keep}
 use Rattle.line_laws.proofs.PollRuns.{poll_did}
 use Rattle.line_laws.proofs.PollSays.{poll_says}
 
@@ -143,11 +142,5 @@ unfolding course_of
 only_is inputs number old new n answer one = ap (run_line number old) (sym one.does.is) ∙ one.ends
 
 pub polls_commit : PollsCommit
-polls_commit inputs lines old new false n answer then_ran ok =
-    let k = scripts_keep inputs lines old then_ran.before in
-    ran inputs then_ran.number false n old k answer new then_ran.before.lawful
-    (reported inputs then_ran.number false poll_reply n old k answer new (whole_is inputs then_ran.number old new n answer then_ran.step) then_ran.had_room ok)
-polls_commit inputs lines old new true n answer then_ran ok =
-    let k = scripts_keep inputs lines old then_ran.before in
-    ran inputs then_ran.number true n old k answer new then_ran.before.lawful
-    (reported inputs then_ran.number true commit_reply n old k answer new (only_is inputs then_ran.number old new n answer then_ran.step) then_ran.had_room ok)
+polls_commit inputs old new false n answer c ok = ran inputs c.number false n old c.keeps answer new c.lawful (reported inputs c.number false poll_reply n old c.keeps answer new (whole_is inputs c.number old new n answer c.course) c.had_room ok)
+polls_commit inputs old new true n answer c ok = ran inputs c.number true n old c.keeps answer new c.lawful (reported inputs c.number true commit_reply n old c.keeps answer new (only_is inputs c.number old new n answer c.course) c.had_room ok)

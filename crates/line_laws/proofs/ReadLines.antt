@@ -14,7 +14,6 @@ use Rattle.script_model.specs.LineRuns.{run_line}
 use Rattle.script_model.specs.LineCourses.{course_of}
 use Rattle.script_model.specs.LineSteps.{OneCourse}
 use Rattle.line_laws.specs.ReadLines.{ReadsAnswer}
-use Rattle.line_laws.proofs.Scripts.{scripts_keep}
 
 -- What a read that is not refused asks of the horizon and the tick.
 pub record IsRetained (m : Manifest) (seq : ℕ) (now : ℤ) : Type 0 where
@@ -34,14 +33,14 @@ unfolding course_of
 read_is inputs number old new segment key seq now answer one = ap (run_line number old) (sym one.does.is) ∙ one.ends
 
 pub reads_answer : ReadsAnswer
-reads_answer inputs lines old new segment key seq now answer ran =
-    let is = read_is inputs ran.number old new segment key seq now answer ran.step in
+reads_answer inputs old new segment key seq now answer ran =
+    let is = read_is inputs ran.number old new segment key seq now answer ran.course in
     let m = old.store.manifest in
     let printed = λ (b : Bool). cond b (not_retained m.horizon m.tick) (read_reply (flushed_read inputs.merge old.store segment key seq now)) in
     let told : printed (is_not_retained m seq now) ≡ answer = ap (λ (p : List ℕ × State). p.0) is in
     record {
       refused = λ e. sym told ∙ ap printed e;
       printed = λ e. sym told ∙ ap printed e;
-      stored = λ e. let r = is_retained m seq now e in stores_answer_reads inputs.merge old.store (scripts_keep inputs lines old ran.before).fleet.store.stored segment key seq now r.horizon r.tick;
+      stored = λ e. let r = is_retained m seq now e in stores_answer_reads inputs.merge old.store ran.keeps.fleet.store.stored segment key seq now r.horizon r.tick;
       same = sym (ap (λ (p : List ℕ × State). p.1) is);
     }

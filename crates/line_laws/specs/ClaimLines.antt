@@ -1,4 +1,4 @@
--- The law on claims: what a line of a claim does that is not refused.
+-- The law on claims: what a claim does that is not refused, be it a line of its own or a step of a settle line.
 use Rattle.std.specs.Prelude.{◌≡◌, ℕ, ◌+◌, true, if◌then◌else◌, List, map, Some}
 use Rattle.fleet_model.specs.Jobs.{Jobs, ids}
 use Rattle.fleet_model.specs.History.{Claim}
@@ -8,11 +8,11 @@ use Rattle.fleet_model.specs.Gates.{is_nonempty}
 use Rattle.fleet_model.specs.Parties.{Attempt, LiveWorker, worker_with, with_attempts, without_attempts}
 use Rattle.fleet_model.specs.Claims.{stopped_jobs, claimed_jobs, claimed_attempt}
 use Rattle.step_model.specs.ClaimSteps.{at_moment}
-use Rattle.script_model.specs.Script.{Line, ClaimJobs}
+use Rattle.script_model.specs.Script.{ClaimJobs}
 use Rattle.script_model.specs.States.{Inputs, State}
 use Rattle.script_model.specs.Replies.{claim_reply}
 use Rattle.script_model.specs.Settles.{is_ok}
-use Rattle.line_laws.specs.Ran.{ThenRan}
+use Rattle.line_laws.specs.Ran.{CourseRan}
 
 -- The jobs that a claim of the worker takes in this state, and those that it stops.
 abbrev pub taken_in : State → LiveWorker → Jobs
@@ -36,7 +36,7 @@ begun_in s w = map (claimed_attempt (record {
 abbrev pub with_claimed : ℕ → LiveWorker → Jobs → Jobs → Jobs
 with_claimed moment w these jobs = if is_nonempty these then jobs_after (at_moment moment) (Claim w.number (map (λ job. (job.id, job.attempt + 1)) these)) jobs else jobs
 
--- A live worker claims and stops exactly the jobs of its rule, and the line prints them. Behind the line
+-- A live worker claims and stops exactly the jobs of its rule, and the reply has them. Behind the claim
 -- it runs what it ran and did not stop, and the attempts that it began.
 pub record ClaimRan (n : ℕ) (old : State) (answer : List ℕ) (new : State) : Type 0 where
   pub worker : LiveWorker
@@ -45,6 +45,6 @@ pub record ClaimRan (n : ℕ) (old : State) (answer : List ℕ) (new : State) : 
   pub jobs : stored_jobs new.store ≡ with_claimed old.moment worker (taken_in old worker) (stored_jobs old.store)
   pub runs : worker_with n new.parties ≡ Some (record worker { attempts = with_attempts (begun_in old worker) (without_attempts (stopped_in old worker) worker.attempts) })
 
--- Each claim of a script that is not refused does so.
+-- Each course of a claim that is not refused does so.
 abbrev pub ClaimsTake : Type 0
-ClaimsTake = (inputs : Inputs) (lines : List Line) (old new : State) (n : ℕ) (answer : List ℕ) → ThenRan inputs lines old (ClaimJobs n) answer new → is_ok answer ≡ true → ClaimRan n old answer new
+ClaimsTake = (inputs : Inputs) (old new : State) (n : ℕ) (answer : List ℕ) → CourseRan inputs old (ClaimJobs n) answer new → is_ok answer ≡ true → ClaimRan n old answer new

@@ -1,5 +1,5 @@
 -- The law on outputs: a job that finished has what one merge makes, whichever attempts wrote it.
-use Rattle.std.specs.Prelude.{◌≡◌, true, false, IsTrue, List, Some}
+use Rattle.std.specs.Prelude.{◌≡◌, true, false, IsTrue, Some}
 use Rattle.std.specs.List.{concat}
 use Rattle.row_model.specs.Fold.{Operator}
 use Rattle.row_model.specs.Settings.{Settings}
@@ -10,9 +10,8 @@ use Rattle.fleet_model.specs.Attempts.{noted_rows, source_rows}
 use Rattle.fleet_model.specs.Claimed.{settings_of, without_cut}
 use Rattle.fleet_model.specs.JobsFit.{cut_or, was_joined}
 use Rattle.fleet_model.specs.Replay.{IsReplayed}
-use Rattle.script_model.specs.Script.{Line}
-use Rattle.script_model.specs.States.{Inputs, State}
-use Rattle.line_laws.specs.Scripts.{HasRun}
+use Rattle.script_model.specs.States.{State}
+use Rattle.line_laws.specs.States.{StateKeeps}
 
 -- The outputs of the job hold all rows that one merge of its source tables makes under the settings of one
 -- claim, and the cut that the job kept.
@@ -23,8 +22,7 @@ pub record OneMerge (merge : Operator) (store : Store) (job : Job) : Type 0 wher
   pub cut : settings.cut ≡ cut_or settings.floor job.kept_cut
   pub rows : job_rows merge settings (source_rows store.tables job.source_tables) ≡ record { rows = noted_rows store.tables (concat job.outputs); whole = true }
 
--- In the state behind each line each job that finished and waits for its commit has such outputs, however
--- often it was taken over.
+-- In each state that keeps the invariant each job that finished and waits for its commit has such outputs,
+-- however often it was taken over.
 abbrev pub OutputsAreWhole : Type 0
-OutputsAreWhole = (inputs : Inputs) (lines : List Line) (last : State) (job : Job) → HasRun inputs lines last → job_with job.id (stored_jobs last.store) ≡ Some job → IsTrue (has_status Compacted job) → was_joined last.store.history job.id ≡ false
-    → OneMerge inputs.merge last.store job
+OutputsAreWhole = (merge : Operator) (s : State) (job : Job) → StateKeeps merge s → job_with job.id (stored_jobs s.store) ≡ Some job → IsTrue (has_status Compacted job) → was_joined s.store.history job.id ≡ false → OneMerge merge s.store job

@@ -1,4 +1,4 @@
--- The law on polls: what a line of a poll does that is not refused.
+-- The law on polls: what a poll does that is not refused, be it a line of its own or a step of a settle line.
 use Rattle.std.specs.Prelude.{◌≡◌, ℕ, ◌<◌, Bool, true, false, IsTrue, if◌then◌else◌, List, [], ◌∷◌, ◌++◌, map, filter, flat_map, Option, Some, None, ⊤}
 use Rattle.std.specs.List.{AllByRecursion, concat}
 use Rattle.row_model.specs.Lists.{Pairs}
@@ -22,7 +22,7 @@ use Rattle.script_model.specs.States.{Inputs, State}
 use Rattle.script_model.specs.Replies.{poll_reply, commit_reply}
 use Rattle.script_model.specs.PollLines.{poll_ask}
 use Rattle.script_model.specs.Settles.{is_ok}
-use Rattle.line_laws.specs.Ran.{ThenRan}
+use Rattle.line_laws.specs.Ran.{CourseRan}
 use Rattle.line_laws.specs.PollRuns.{input_at, PollDid, CommitPut, JobsPut}
 
 -- ---- what a poll reaches
@@ -153,7 +153,7 @@ abbrev pub told_by_poll : Bool → PollState → List ℕ
 told_by_poll true p = commit_reply p
 told_by_poll false p = poll_reply p
 
--- A live coordinator polled, the line prints the state that it reached, and the store has what it put.
+-- A live coordinator polled, the reply has the state that it reached, and the store has what it put.
 pub record PollRan (inputs : Inputs) (commits_only : Bool) (n : ℕ) (old : State) (answer : List ℕ) (new : State) : Type 0 where
   pub coordinator : LiveCoordinator
   pub live : coordinator_with n old.parties ≡ Some coordinator
@@ -164,7 +164,6 @@ pub record PollRan (inputs : Inputs) (commits_only : Bool) (n : ℕ) (old : Stat
   pub jobs : is_nothing (change_of p) ≡ false → JobsPut old.store p
   pub right : is_unchanged old.store.manifest p ≡ false → CommitsRight inputs.merge (Coordinator n) old.store p
 
--- Each poll of a script that is not refused does so.
+-- Each course of a poll that is not refused does so.
 abbrev pub PollsCommit : Type 0
-PollsCommit = (inputs : Inputs) (lines : List Line) (old new : State) (commits_only : Bool) (n : ℕ) (answer : List ℕ) → ThenRan inputs lines old (poll_of commits_only n) answer new → is_ok answer ≡ true
-    → PollRan inputs commits_only n old answer new
+PollsCommit = (inputs : Inputs) (old new : State) (commits_only : Bool) (n : ℕ) (answer : List ℕ) → CourseRan inputs old (poll_of commits_only n) answer new → is_ok answer ≡ true → PollRan inputs commits_only n old answer new

@@ -1,11 +1,13 @@
-//! Laws on the lines of scripts. Each function has an empty body, and its clause states a law about
-//! every run of lines from a fresh fleet, with any scheduler and a lawful operator.
+//! Laws on the lines of scripts, with any scheduler and a lawful operator. Each function has an empty
+//! body. Its clause states a law about every run of lines from a fresh fleet, or about every course
+//! that such a line runs.
 #![tactic(auto)]
 
 ghost use Rattle.line_laws.specs.Alone.{AloneRuns};
 ghost use Rattle.line_laws.specs.ClaimLines.{ClaimsTake};
 ghost use Rattle.line_laws.specs.Outputs.{OutputsAreWhole};
 ghost use Rattle.line_laws.specs.PollLines.{PollsCommit};
+ghost use Rattle.line_laws.specs.Ran.{LinesRunCourses};
 ghost use Rattle.line_laws.specs.ReadLines.{ReadsAnswer};
 ghost use Rattle.line_laws.specs.Scripts.{FirstLinesRun, ScriptsKeep};
 ghost use Rattle.line_laws.specs.Texts.{TextsRun};
@@ -29,6 +31,13 @@ pub fn first_lines_run()
     ensures { FirstLinesRun }
 {}
 
+/// Each line of a script runs one course, from a state that keeps the invariant. A settle line runs
+/// polls, claims and finishes, one after the other, and each of them is such a course. So the laws on
+/// polls and claims hold for each line of its own, and for each step of a settle line.
+pub fn lines_run_courses()
+    ensures { LinesRunCourses }
+{}
+
 /// A fleet that follows a script, as the contract of a whole script says, ran the script's lines. So
 /// these laws hold for it.
 pub fn texts_run()
@@ -41,24 +50,25 @@ pub fn reads_answer()
     ensures { ReadsAnswer }
 {}
 
-/// A poll that is not refused frees exactly the stale jobs. It commits, in the order of their ids,
-/// exactly the finished jobs that pass the gate. Each commit puts one run of the job's rows, under
-/// the settings of one claim, in place of its sources, and all other nodes stay. If a join of the
-/// job took effect before, the trees stay too. A whole poll then opens, moves or drains exactly the
-/// submitted jobs that pass their gate.
+/// A poll that is not refused, be it a line of its own or a step of a settle line, commits exactly
+/// the finished jobs that pass the gate, in the order of their ids. Each commit puts one run of the
+/// job's rows, under the settings of one claim, in place of its sources, and all other nodes stay.
+/// If a join of the job took effect before, the trees stay too. A whole poll frees exactly the stale
+/// jobs before, and then opens, moves or drains exactly the submitted jobs that pass their gate.
 pub fn polls_commit()
     ensures { PollsCommit }
 {}
 
-/// A claim that is not refused takes and stops exactly the jobs of its rule, and begins an attempt
-/// at each job that it takes, under the manifest that is stored. The line prints them.
+/// A claim that is not refused, be it a line of its own or a step of a settle line, takes and stops
+/// exactly the jobs of its rule. It begins an attempt at each job that it takes, under the manifest
+/// that is stored, and replies with them.
 pub fn claims_take()
     ensures { ClaimsTake }
 {}
 
-/// Behind each line, a job that finished and waits for its commit has outputs that hold all rows that
-/// one merge of its source tables makes under the settings of one claim, however often the job was
-/// taken over.
+/// In each state that keeps the invariant, and so behind each line and each step of a settle line, a
+/// job that finished and waits for its commit has outputs that hold all rows that one merge of its
+/// source tables makes under the settings of one claim, however often the job was taken over.
 pub fn outputs_are_whole()
     ensures { OutputsAreWhole }
 {}
