@@ -28,7 +28,7 @@ unfolding course_of
 claim_is inputs number old new n answer one = ap (run_line number old) (sym one.does.is) ∙ one.ends
 
 -- The worker that was put among the parties is found there.
-found_worker : (n : ℕ) (w : LiveWorker) (parties : Parties) → n ≡ w.number → worker_with n (with_worker w parties) ≡ Some w
+pub found_worker : (n : ℕ) (w : LiveWorker) (parties : Parties) → n ≡ w.number → worker_with n (with_worker w parties) ≡ Some w
 found_worker n w parties same = ap (λ (b : Bool). cond b (Some w) (find (λ (v : LiveWorker). n == v.number) (without_worker w.number parties).workers)) ((Decides-eqb n w.number).1 same)
 
 pub claims_take : ClaimsTake

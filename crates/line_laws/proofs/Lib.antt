@@ -17,6 +17,8 @@ pub mod PollSays
 pub mod PollLines
 pub mod ClaimRuns
 pub mod ClaimLines
+pub mod FinishRuns
+pub mod FinishLines
 pub mod Texts
 pub mod Outputs
 pub mod WorkedRun

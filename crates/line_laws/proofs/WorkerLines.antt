@@ -133,32 +133,34 @@ heartbeat_keeps merge number n s k lawful room = by (worker_with n s.parties) re
 -- ---- outputs and finishes
 
 -- The worker and its attempt at the job that a line names.
-pub record IsAttempt (merge : Operator) (s : State) (k : StateKeeps merge s) (w : LiveWorker) (a : Attempt) : Type 0 where
+pub record IsAttempt (merge : Operator) (s : State) (k : StateKeeps merge s) (n : ℕ) (w : LiveWorker) (a : Attempt) : Type 0 where
+  pub number : n ≡ w.number
   pub holds : WorkerHolds merge (told_of merge s k) w
   pub runs : DoesRun w a
 
-is_attempt : (merge : Operator) (s : State) (k : StateKeeps merge s) (n job : ℕ) (p : LiveWorker × Attempt) → job_at s n job ≡ Some p → IsAttempt merge s k p.0 p.1
+pub is_attempt : (merge : Operator) (s : State) (k : StateKeeps merge s) (n job : ℕ) (p : LiveWorker × Attempt) → job_at s n job ≡ Some p → IsAttempt merge s k n p.0 p.1
 is_attempt merge s k n job p e = by (worker_with n s.parties) refl e
   where
-    at : (w : LiveWorker) → IsWorker merge s k n w → (o : Option Attempt) → attempt_numbered job w.attempts ≡ o → if_some o None (λ (a : Attempt). Some (w, a)) ≡ Some p → IsAttempt merge s k p.0 p.1
+    at : (w : LiveWorker) → IsWorker merge s k n w → (o : Option Attempt) → attempt_numbered job w.attempts ≡ o → if_some o None (λ (a : Attempt). Some (w, a)) ≡ Some p → IsAttempt merge s k n p.0 p.1
     at w is None f e = absurd (cc e)
     at w is (Some a) f e =
         let there = found (λ (a : Attempt). job == number_of a.job) w.attempts a f in
         let same : (w, a) ≡ p = cc e in
-        subst (λ (q : LiveWorker × Attempt). IsAttempt merge s k q.0 q.1) same (record { holds = is.holds; runs = found_attempt w.attempts a is.holds.jobs_rise there.there })
+        subst (λ (q : LiveWorker × Attempt). IsAttempt merge s k n q.0 q.1) same (record { number = is.number; holds = is.holds; runs = found_attempt w.attempts a is.holds.jobs_rise there.there })
 
-    by : (o : Option LiveWorker) → worker_with n s.parties ≡ o → if_some o None (λ (w : LiveWorker). if_some (attempt_numbered job w.attempts) None (λ (a : Attempt). Some (w, a))) ≡ Some p → IsAttempt merge s k p.0 p.1
+    by : (o : Option LiveWorker) → worker_with n s.parties ≡ o → if_some o None (λ (w : LiveWorker). if_some (attempt_numbered job w.attempts) None (λ (a : Attempt). Some (w, a))) ≡ Some p → IsAttempt merge s k n p.0 p.1
     by None f e = absurd (cc e)
     by (Some w) f e = at w (is_worker merge s k n w f) (attempt_numbered job w.attempts) refl e
+
+-- A finish that the operator may let pass finds all its ranges whole.
+pub whole_unless : (inputs : Inputs) (s : State) (w : LiveWorker) (a : Attempt) (refusal : Option (List ℕ)) → FinishMay inputs s (Some (w, a)) refusal → WholeUnless inputs.merge s.store.tables a refusal
+whole_unless inputs s w a None may = all_true_front (λ (range : Range × List ℕ). (left_in inputs s a range).whole) a.context.ranges may
+whole_unless inputs s w a (Some message) may = tt
 
 pub finish_keeps : (inputs : Inputs) (number n job : ℕ) (refusal : Option (List ℕ)) (s : State) (k : StateKeeps inputs.merge s) → IsLawful inputs.merge → FinishMay inputs s (job_at s n job) refusal
     → let c = if_some (job_at s n job) (no_such_party s) (λ found. finish_line inputs s found.0 found.1 refusal) in HadRoom (run_line number s c).1.store → StateKeeps inputs.merge (run_line number s c).1
 finish_keeps inputs number n job refusal s k lawful may room = by (job_at s n job) refl may room
   where
-    whole : (a : Attempt) (refusal : Option (List ℕ)) (w : LiveWorker) → FinishMay inputs s (Some (w, a)) refusal → WholeUnless inputs.merge s.store.tables a refusal
-    whole a None w may = all_true_front (λ (range : Range × List ℕ). (left_in inputs s a range).whole) a.context.ranges may
-    whole a (Some message) w may = tt
-
     by : (o : Option (LiveWorker × Attempt)) → job_at s n job ≡ o → FinishMay inputs s o refusal
         → let c = if_some o (no_such_party s) (λ found. finish_line inputs s found.0 found.1 refusal) in HadRoom (run_line number s c).1.store → StateKeeps inputs.merge (run_line number s c).1
     by None e may room = no_party_keeps inputs.merge number s k
@@ -169,8 +171,8 @@ finish_keeps inputs number n job refusal s k lawful may room = by (job_at s n jo
         let who : Caller = caller_of inputs.merge number (Worker w.number) in
         let step = finish inputs.merge s.store.tables (worker_options s.options) s.moment w a refusal in
         work_keeps inputs.merge number s k w step (λ r. reply (codes "ok" ∷ ranges_text r.outputs ∷ [])) (λ r. r.attempts) (dropped w a) lawful is.holds (λ t h. fewer_attempts_fit inputs.merge t w _ h)
-        (finishes_are_lawful who (told_of inputs.merge s k) (worker_options s.options) s.moment w a refusal (calls_keep inputs.merge lawful) lawful refl k.fleet.store is.holds is.runs (whole a refusal w may))
-        (finishes_keep_fit who (told_of inputs.merge s k) (worker_options s.options) s.moment w a refusal (calls_keep inputs.merge lawful) lawful refl k.fleet.store is.holds is.runs (whole a refusal w may)).0 room
+        (finishes_are_lawful who (told_of inputs.merge s k) (worker_options s.options) s.moment w a refusal (calls_keep inputs.merge lawful) lawful refl k.fleet.store is.holds is.runs (whole_unless inputs s w a refusal may))
+        (finishes_keep_fit who (told_of inputs.merge s k) (worker_options s.options) s.moment w a refusal (calls_keep inputs.merge lawful) lawful refl k.fleet.store is.holds is.runs (whole_unless inputs s w a refusal may)).0 room
 
 pub output_keeps : (inputs : Inputs) (number n job place rows : ℕ) (refusal : Option (List ℕ)) (s : State) (k : StateKeeps inputs.merge s) → IsLawful inputs.merge → 1 ≤ place
     → let c = if_some (range_at s n job place) (no_such_party s) (λ found. output_line inputs s found.0 found.1 place found.2 rows refusal) in HadRoom (run_line number s c).1.store → StateKeeps inputs.merge (run_line number s c).1
@@ -182,7 +184,7 @@ output_keeps inputs number n job place rows refusal s k lawful counted room = at
     in_range : LiveWorker × Attempt → Option (Range × List ℕ) → Option (LiveWorker × Attempt × (Range × List ℕ))
     in_range p o = if_some {B = Option (LiveWorker × Attempt × (Range × List ℕ))} o None (λ range. Some (p.0, p.1, range))
 
-    by : (p : LiveWorker × Attempt) → IsAttempt inputs.merge s k p.0 p.1 → (o : Option (Range × List ℕ)) → slice_get p.1.context.ranges (place - 1) ≡ o
+    by : (p : LiveWorker × Attempt) → IsAttempt inputs.merge s k n p.0 p.1 → (o : Option (Range × List ℕ)) → slice_get p.1.context.ranges (place - 1) ≡ o
         → HadRoom (run_line number s (line (in_range p o))).1.store → StateKeeps inputs.merge (run_line number s (line (in_range p o))).1
     by p is None e room = no_party_keeps inputs.merge number s k
     by p is (Some range) e room =

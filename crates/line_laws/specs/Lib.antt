@@ -6,6 +6,7 @@ pub mod ReadLines
 pub mod PollRuns
 pub mod PollLines
 pub mod ClaimLines
+pub mod FinishLines
 pub mod Texts
 pub mod Outputs
 pub mod WorkedRun

@@ -5,6 +5,7 @@
 
 ghost use Rattle.line_laws.specs.Alone.{AloneRuns};
 ghost use Rattle.line_laws.specs.ClaimLines.{ClaimsTake};
+ghost use Rattle.line_laws.specs.FinishLines.{FinishesEnd};
 ghost use Rattle.line_laws.specs.Outputs.{OutputsAreWhole};
 ghost use Rattle.line_laws.specs.PollLines.{PollsCommit};
 ghost use Rattle.line_laws.specs.Ran.{LinesRunCourses};
@@ -64,6 +65,13 @@ pub fn polls_commit()
 /// that is stored, and replies with them.
 pub fn claims_take()
     ensures { ClaimsTake }
+{}
+
+/// A finish that is not refused, be it a line of its own or a step of a settle line, ends a live
+/// attempt of its worker. The job waits for its commit with the outputs that the reply has, and all
+/// other jobs and the trees stay.
+pub fn finishes_end()
+    ensures { FinishesEnd }
 {}
 
 /// In each state that keeps the invariant, and so behind each line and each step of a settle line, a

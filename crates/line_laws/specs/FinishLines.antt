@@ -1,0 +1,41 @@
+-- The law on finishes: what a finish does that is not refused, be it a line of its own or a step of a settle line.
+use Rattle.std.specs.Prelude.{◌≡◌, ℕ, true, List, [], ◌∷◌, Some, None, codes}
+use Rattle.fleet_model.specs.Jobs.{Job, Jobs, Compacted, changed, trimmed}
+use Rattle.fleet_model.specs.Store.{stored_jobs}
+use Rattle.fleet_model.specs.Attempts.{finish_cut}
+use Rattle.fleet_model.specs.Parties.{Attempt, LiveWorker, worker_with, without_attempts, is_live}
+use Rattle.step_model.specs.OutputSteps.{all_outputs}
+use Rattle.script_model.specs.Script.{FinishJob}
+use Rattle.script_model.specs.States.{Inputs, State}
+use Rattle.script_model.specs.LineCourses.{job_at}
+use Rattle.script_model.specs.Replies.{reply, ranges_text}
+use Rattle.script_model.specs.Settles.{is_ok}
+use Rattle.line_laws.specs.Ran.{CourseRan}
+
+-- The job behind the end of an attempt: it waits for its commit, with these outputs.
+abbrev pub ended : ℕ → LiveWorker → Attempt → List (List ℕ) → Job → Job
+ended moment w a outputs job = record job {
+  status = Compacted;
+  lease = Some (record { worker = w.number; heartbeat = moment });
+  context = None;
+  outputs = outputs;
+  kept_cut = finish_cut w.release a.context;
+}
+
+-- A live worker ended an attempt that is live, and the reply has its outputs: for each range the tables
+-- that the attempt had noted, and then those that the finish made. The job of the attempt waits for its
+-- commit, all other jobs and the trees stay, and the worker runs what it ran beside.
+pub record FinishRan (n job : ℕ) (old : State) (answer : List ℕ) (new : State) : Type 0 where
+  pub worker : LiveWorker
+  pub attempt : Attempt
+  pub ran : job_at old n job ≡ Some (worker, attempt)
+  pub live : is_live (stored_jobs old.store) worker.number attempt ≡ true
+  pub made : List (List ℕ)
+  pub printed : answer ≡ reply (codes "ok" ∷ ranges_text (all_outputs attempt.context.ranges made) ∷ [])
+  pub jobs : stored_jobs new.store ≡ trimmed (changed (ended old.moment worker attempt (all_outputs attempt.context.ranges made)) (attempt.job ∷ []) (stored_jobs old.store))
+  pub manifest : new.store.manifest ≡ old.store.manifest
+  pub runs : worker_with n new.parties ≡ Some (record worker { attempts = without_attempts (attempt.job ∷ []) worker.attempts })
+
+-- Each course of a finish that is not refused does so.
+abbrev pub FinishesEnd : Type 0
+FinishesEnd = (inputs : Inputs) (old new : State) (n job : ℕ) (answer : List ℕ) → CourseRan inputs old (FinishJob n job) answer new → is_ok answer ≡ true → FinishRan n job old answer new
