@@ -2,7 +2,7 @@
 use Rattle.std.proofs.Common.{◌≡◌, refl, sym, ◌∙◌, ap, ℕ, List, [], ◌∷◌, Option, Some, None}
 use Rattle.std.specs.Prelude.{codes}
 use Rattle.fleet_model.specs.History.{Worker}
-use Rattle.fleet_model.specs.Store.{Manifest, Store, stored_jobs}
+use Rattle.fleet_model.specs.Store.{Store, stored_jobs}
 use Rattle.fleet_model.specs.Parties.{Attempt, LiveWorker, worker_with, without_worker}
 use Rattle.step_model.specs.Rivals.{Caller}
 use Rattle.step_model.specs.OutputSteps.{FinishedJob, finish}

@@ -6,20 +6,20 @@ use Rattle.row_model.specs.Rows.{Row}
 use Rattle.row_model.specs.Ranges.{Range}
 use Rattle.row_model.specs.Tables.{cut_tables}
 use Rattle.fleet_model.specs.Nodes.{Tables}
-use Rattle.fleet_model.specs.Jobs.{Jobs, changed, trimmed}
+use Rattle.fleet_model.specs.Jobs.{changed, trimmed}
 use Rattle.fleet_model.specs.History.{Event, GetRecords, Finish, Release}
 use Rattle.fleet_model.specs.Attempts.{rows_left, finish_cut}
-use Rattle.fleet_model.specs.Store.{Manifest, Records, Store, stored_jobs, jobs_in}
+use Rattle.fleet_model.specs.Store.{Records, Store, stored_jobs, jobs_in}
 use Rattle.fleet_model.specs.Records.{Unrecorded, no_contexts, jobs_after}
 use Rattle.fleet_model.specs.Parties.{Attempt, LiveWorker, named, without_attempts, is_live}
-use Rattle.fleet_model.specs.Exchanges.{Exchange, Plain, DrawsTable, PutsTable, PutsRecords, records_version, next_table_id, performed}
+use Rattle.fleet_model.specs.Exchanges.{Plain, DrawsTable, PutsTable, PutsRecords, records_version, next_table_id, performed}
 use Rattle.step_model.specs.Past.{Told}
 use Rattle.step_model.specs.Rivals.{Caller, told_by}
 use Rattle.step_model.specs.Course.{Course, Ends, Calls, calls_each, puts_tables, puts_ranges}
 use Rattle.step_model.specs.StepEnds.{StepEnd, Reports, OperatorRefuses, most_refused}
 use Rattle.step_model.specs.ClaimSteps.{WorkerOptions, at_moment}
 use Rattle.step_model.specs.BeatSteps.{release_of, release_by, releases_from}
-use Rattle.step_model.specs.OutputSteps.{gives_back, gets_tables, FinishedJob, all_outputs, ends_job, ends_job_by, ends_from, end_job, finish_or_give_back, finish}
+use Rattle.step_model.specs.OutputSteps.{gets_tables, FinishedJob, all_outputs, ends_job, ends_job_by, ends_from, end_job, finish_or_give_back, finish}
 use Rattle.step_laws.specs.Runs.{CallsKeep}
 use Rattle.line_laws.specs.FinishLines.{ended}
 use Rattle.line_laws.proofs.PollRuns.{Going, alone_next, RecordsPut, records_put}

@@ -17,7 +17,7 @@ use Rattle.script_model.specs.Follows.{SettleStep, LineStep, ScriptRun}
 use Rattle.line_laws.specs.Alone.{HadRoom}
 use Rattle.line_laws.specs.States.{StateKeeps}
 use Rattle.line_laws.specs.Scripts.{FirstLinesRun, ScriptsKeep}
-use Rattle.line_laws.specs.Ran.{CoursesRan, IsStepOf}
+use Rattle.line_laws.specs.Ran.{StopsIfRefused, StepsRan, IsStepOf}
 use Rattle.line_laws.proofs.AloneRuns.{alone_grows}
 use Rattle.line_laws.proofs.SameLines.{flush_keeps, submit_keeps, full_keeps, sweep_keeps, polls_keep}
 use Rattle.line_laws.proofs.PartyLines.{start_worker_keeps, end_coordinator_keeps, kill_worker_keeps, start_coordinator_keeps}
@@ -111,52 +111,48 @@ course_leads inputs number old line answer new lawful well one =
 
 -- ---- settle lines
 
--- Each of these lines took the state that the one before it left on by one course, all in the line of this number.
-abbrev pub StepsRun : Inputs → ℕ → State → List Line → State → Type 0
-StepsRun inputs number old [] new = new ≡ old
-StepsRun inputs number old (line ∷ lines) new = (answer : List ℕ) × (mid : State) × OneCourse inputs number old line answer mid × StepsRun inputs number mid lines new
+-- Each of these steps took the state that the one before it left on by one course, all in the line of this number.
+abbrev pub StepsRun : Inputs → ℕ → State → List Line → List ℕ → State → Type 0
+StepsRun inputs number old [] answer new = new ≡ old
+StepsRun inputs number old (step ∷ others) answer new = (told : List ℕ) × (mid : State) × OneCourse inputs number old step told mid × StopsIfRefused told others answer × StepsRun inputs number mid others answer new
 
 -- The steps of a settle line, from this state on.
-pub record Steps (inputs : Inputs) (number coordinator worker : ℕ) (old new : State) : Type 0 where
+pub record Steps (inputs : Inputs) (number coordinator worker : ℕ) (old : State) (answer : List ℕ) (new : State) : Type 0 where
   pub steps : List Line
   pub each : AllByRecursion (IsStepOf coordinator worker) steps
-  pub taken : StepsRun inputs number old steps new
+  pub run : StepsRun inputs number old steps answer new
 
-no_steps : (inputs : Inputs) (number coordinator worker : ℕ) (old new : State) → new ≡ old → Steps inputs number coordinator worker old new
-no_steps inputs number coordinator worker old new same = record { steps = []; each = tt; taken = same }
+abbrev no_steps : (inputs : Inputs) (number coordinator worker : ℕ) (old : State) (answer : List ℕ) (new : State) → new ≡ old → Steps inputs number coordinator worker old answer new
+no_steps inputs number coordinator worker old answer new same = record { steps = []; each = tt; run = same }
 
-one_more : (inputs : Inputs) (number coordinator worker : ℕ) (line : Line) (old : State) (answer : List ℕ) (mid new : State) → IsStepOf coordinator worker line → OneCourse inputs number old line answer mid → Steps inputs number coordinator worker mid new
-    → Steps inputs number coordinator worker old new
-one_more inputs number coordinator worker line old answer mid new is one more = record { steps = line ∷ more.steps; each = (is, more.each); taken = (answer, mid, one, more.taken) }
+step_steps : (inputs : Inputs) (number coordinator worker : ℕ) (line : Line) (old : State) (answer : List ℕ) (new : State) (Rest : State → Type 0) → IsStepOf coordinator worker line
+    → ((behind : State) → Rest behind → Steps inputs number coordinator worker behind answer new) → Step inputs number line old answer new Rest → Steps inputs number coordinator worker old answer new
+step_steps inputs number coordinator worker line old answer new Rest is next step = by (is_ok step.told) refl step.rest
+  where
+    first : (more : Steps inputs number coordinator worker step.behind answer new) → StopsIfRefused step.told more.steps answer → Steps inputs number coordinator worker old answer new
+    first more stops = record { steps = line ∷ more.steps; each = (is, more.each); run = (step.told, step.behind, step.does, stops, more.run) }
 
-ends_steps : (inputs : Inputs) (number coordinator worker : ℕ) (ok : Bool) (told : List ℕ) (behind : State) (answer : List ℕ) (new : State) (Rest : Type 0) → (Rest → Steps inputs number coordinator worker behind new) → EndsOr ok told behind answer new Rest
-    → Steps inputs number coordinator worker behind new
-ends_steps inputs number coordinator worker true told behind answer new Rest next rest = next rest
-ends_steps inputs number coordinator worker false told behind answer new Rest next rest = no_steps inputs number coordinator worker behind new rest.1
+    by : (ok : Bool) → is_ok step.told ≡ ok → EndsOr ok step.told step.behind answer new (Rest step.behind) → Steps inputs number coordinator worker old answer new
+    by true e rest = first (next step.behind rest) (λ refused. absurd (cc (e, refused)))
+    by false e rest = first (no_steps inputs number coordinator worker step.behind answer new rest.1) (λ refused. (refl, rest.0))
 
-step_steps : (inputs : Inputs) (number coordinator worker : ℕ) (line : Line) (old : State) (answer : List ℕ) (new : State) (Rest : State → Type 0) → IsStepOf coordinator worker line → ((behind : State) → Rest behind → Steps inputs number coordinator worker behind new)
-    → Step inputs number line old answer new Rest → Steps inputs number coordinator worker old new
-step_steps inputs number coordinator worker line old answer new Rest is next step =
-    one_more inputs number coordinator worker line old step.told step.behind new is step.does
-    (ends_steps inputs number coordinator worker (is_ok step.told) step.told step.behind answer new (Rest step.behind) (next step.behind) step.rest)
-
-finishes_steps : (inputs : Inputs) (number coordinator worker : ℕ) (jobs : List ℕ) (s : State) (answer : List ℕ) (new : State) (Rest : State → Type 0) → ((behind : State) → Rest behind → Steps inputs number coordinator worker behind new)
-    → Finishes inputs number worker jobs s answer new Rest → Steps inputs number coordinator worker s new
+finishes_steps : (inputs : Inputs) (number coordinator worker : ℕ) (jobs : List ℕ) (s : State) (answer : List ℕ) (new : State) (Rest : State → Type 0) → ((behind : State) → Rest behind → Steps inputs number coordinator worker behind answer new)
+    → Finishes inputs number worker jobs s answer new Rest → Steps inputs number coordinator worker s answer new
 finishes_steps inputs number coordinator worker [] s answer new Rest next rest = next s rest
 finishes_steps inputs number coordinator worker (job ∷ jobs) s answer new Rest next step =
     step_steps inputs number coordinator worker (FinishJob worker job) s answer new (λ behind. Finishes inputs number worker jobs behind answer new Rest) refl
     (λ behind rest. finishes_steps inputs number coordinator worker jobs behind answer new Rest next rest) step
 
-behind_poll_steps : (active added : Bool) (inputs : Inputs) (number coordinator worker round : ℕ) (s : State) (answer : List ℕ) (new : State) (Next : State → Type 0) → ((behind : State) → Next behind → Steps inputs number coordinator worker behind new)
-    → BehindPoll active added inputs number worker round s answer new Next → Steps inputs number coordinator worker s new
+behind_poll_steps : (active added : Bool) (inputs : Inputs) (number coordinator worker round : ℕ) (s : State) (answer : List ℕ) (new : State) (Next : State → Type 0) → ((behind : State) → Next behind → Steps inputs number coordinator worker behind answer new)
+    → BehindPoll active added inputs number worker round s answer new Next → Steps inputs number coordinator worker s answer new
 behind_poll_steps true added inputs number coordinator worker round s answer new Next next step =
     step_steps inputs number coordinator worker (ClaimJobs worker) s answer new (λ claimed. Finishes inputs number worker (jobs_run worker claimed) claimed answer new Next) refl
     (λ claimed rest. finishes_steps inputs number coordinator worker (jobs_run worker claimed) claimed answer new Next next rest) step
 behind_poll_steps false true inputs number coordinator worker round s answer new Next next rest = next s rest
-behind_poll_steps false false inputs number coordinator worker round s answer new Next next rest = no_steps inputs number coordinator worker s new rest.1
+behind_poll_steps false false inputs number coordinator worker round s answer new Next next rest = no_steps inputs number coordinator worker s answer new rest.1
 
-rounds_steps : (inputs : Inputs) (number coordinator worker left taken : ℕ) (s : State) (answer : List ℕ) (new : State) → Rounds inputs number coordinator worker left taken s answer new → Steps inputs number coordinator worker s new
-rounds_steps inputs number coordinator worker zero taken s answer new rest = no_steps inputs number coordinator worker s new rest.1
+rounds_steps : (inputs : Inputs) (number coordinator worker left taken : ℕ) (s : State) (answer : List ℕ) (new : State) → Rounds inputs number coordinator worker left taken s answer new → Steps inputs number coordinator worker s answer new
+rounds_steps inputs number coordinator worker zero taken s answer new rest = no_steps inputs number coordinator worker s answer new rest.1
 rounds_steps inputs number coordinator worker (suc left) taken s answer new step =
     step_steps inputs number coordinator worker (Poll coordinator) s answer new
     (λ behind. BehindPoll (has_active behind) (has_added coordinator behind) inputs number worker (taken + 1) behind answer new (λ next. Rounds inputs number coordinator worker left (taken + 1) next answer new)) refl
@@ -170,9 +166,9 @@ unfolding course_of
 refused_same inputs number old coordinator worker rounds answer new one = sym (ap (λ (p : List ℕ × State). p.1) (ap (run_line number old) (sym one.does.is) ∙ one.ends))
 
 pub settle_steps : (live : Bool) (inputs : Inputs) (number : ℕ) (old : State) (coordinator worker rounds : ℕ) (answer : List ℕ) (new : State) → SettleStep live inputs number old coordinator worker rounds answer new
-    → Steps inputs number coordinator worker old new
+    → Steps inputs number coordinator worker old answer new
 settle_steps true inputs number old coordinator worker rounds answer new step = rounds_steps inputs number coordinator worker rounds 0 old answer new step
-settle_steps false inputs number old coordinator worker rounds answer new step = no_steps inputs number coordinator worker old new (refused_same inputs number old coordinator worker rounds answer new step)
+settle_steps false inputs number old coordinator worker rounds answer new step = no_steps inputs number coordinator worker old answer new (refused_same inputs number old coordinator worker rounds answer new step)
 
 step_asked_well : (coordinator worker : ℕ) (line : Line) → IsStepOf coordinator worker line → IsAskedWell line
 step_asked_well coordinator worker (Poll n) is = tt
@@ -181,31 +177,32 @@ step_asked_well coordinator worker (FinishJob n job) is = tt
 step_asked_well coordinator worker line is = absurd is
 
 -- The steps lead to the new state, and each is a course from a state that keeps the invariant.
-pub record StepsLead (inputs : Inputs) (old : State) (steps : List Line) (new : State) : Type 0 where
+pub record StepsLead (inputs : Inputs) (old : State) (steps : List Line) (answer : List ℕ) (new : State) : Type 0 where
   pub leads : Leads inputs.merge old new
-  pub ran : HadRoom new.store → StateKeeps inputs.merge old → CoursesRan inputs old steps new
+  pub ran : HadRoom new.store → StateKeeps inputs.merge old → StepsRan inputs old steps answer new
 
-pub steps_lead : (inputs : Inputs) (number coordinator worker : ℕ) (old : State) (steps : List Line) (new : State) → IsLawful inputs.merge → AllByRecursion (IsStepOf coordinator worker) steps → StepsRun inputs number old steps new → StepsLead inputs old steps new
-steps_lead inputs number coordinator worker old [] new lawful each same = record { leads = leads_nowhere inputs.merge old new same; ran = λ room k. same }
-steps_lead inputs number coordinator worker old (line ∷ lines) new lawful each (answer, mid, one, more) =
-    further (course_leads inputs number old line answer mid lawful (step_asked_well coordinator worker line each.0) one) (steps_lead inputs number coordinator worker mid lines new lawful each.1 more)
+pub steps_lead : (inputs : Inputs) (number coordinator worker : ℕ) (old : State) (steps : List Line) (answer : List ℕ) (new : State) → IsLawful inputs.merge → AllByRecursion (IsStepOf coordinator worker) steps → StepsRun inputs number old steps answer new
+    → StepsLead inputs old steps answer new
+steps_lead inputs number coordinator worker old [] answer new lawful each same = record { leads = leads_nowhere inputs.merge old new same; ran = λ room k. same }
+steps_lead inputs number coordinator worker old (step ∷ others) answer new lawful each (told, mid, one, stops, more) =
+    further (course_leads inputs number old step told mid lawful (step_asked_well coordinator worker step each.0) one) (steps_lead inputs number coordinator worker mid others answer new lawful each.1 more)
   where
-    further : Leads inputs.merge old mid → StepsLead inputs mid lines new → StepsLead inputs old (line ∷ lines) new
+    further : Leads inputs.merge old mid → StepsLead inputs mid others answer new → StepsLead inputs old (step ∷ others) answer new
     further first rest = record {
       leads = leads_on inputs.merge old mid new first rest.leads;
       ran = λ room k.
           let grows = rest.leads.grows in
           let mid_room : HadRoom mid.store = omega (arith, grows, room) in
-          (answer, mid, record { lawful = lawful; keeps = k; number = number; course = one; had_room = mid_room }, rest.ran room (first.keeps mid_room k));
+          (told, mid, record { lawful = lawful; keeps = k; number = number; course = one; had_room = mid_room }, stops, rest.ran room (first.keeps mid_room k));
     }
 
-settle_leads : (inputs : Inputs) (number coordinator worker : ℕ) (old new : State) → IsLawful inputs.merge → Steps inputs number coordinator worker old new → Leads inputs.merge old new
-settle_leads inputs number coordinator worker old new lawful s = (steps_lead inputs number coordinator worker old s.steps new lawful s.each s.taken).leads
+settle_leads : (inputs : Inputs) (number coordinator worker : ℕ) (old : State) (answer : List ℕ) (new : State) → IsLawful inputs.merge → Steps inputs number coordinator worker old answer new → Leads inputs.merge old new
+settle_leads inputs number coordinator worker old answer new lawful s = (steps_lead inputs number coordinator worker old s.steps answer new lawful s.each s.run).leads
 
 -- ---- lines
 
 pub line_leads : (inputs : Inputs) (number : ℕ) (old : State) (line : Line) (answer : List ℕ) (new : State) → IsLawful inputs.merge → IsInBounds line → LineStep inputs number old line answer new → Leads inputs.merge old new
-line_leads inputs number old (Settle coordinator worker rounds) answer new lawful is step = settle_leads inputs number coordinator worker old new lawful (settle_steps (are_live coordinator worker old) inputs number old coordinator worker rounds answer new step)
+line_leads inputs number old (Settle coordinator worker rounds) answer new lawful is step = settle_leads inputs number coordinator worker old answer new lawful (settle_steps (are_live coordinator worker old) inputs number old coordinator worker rounds answer new step)
 line_leads inputs number old line answer new lawful is step = course_leads inputs number old line answer new lawful (asked_well line is) step
 
 pub run_leads : (inputs : Inputs) (number : ℕ) (old : State) (lines : List Line) (answers : List (List ℕ)) (new : State) → IsLawful inputs.merge → AllByRecursion IsInBounds lines → ScriptRun inputs number old lines answers new → Leads inputs.merge old new

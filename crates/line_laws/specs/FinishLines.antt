@@ -1,6 +1,6 @@
 -- The law on finishes: what a finish does that is not refused, be it a line of its own or a step of a settle line.
 use Rattle.std.specs.Prelude.{◌≡◌, ℕ, true, List, [], ◌∷◌, Some, None, codes}
-use Rattle.fleet_model.specs.Jobs.{Job, Jobs, Compacted, changed, trimmed}
+use Rattle.fleet_model.specs.Jobs.{Job, Compacted, changed, trimmed}
 use Rattle.fleet_model.specs.Store.{stored_jobs}
 use Rattle.fleet_model.specs.Attempts.{finish_cut}
 use Rattle.fleet_model.specs.Parties.{Attempt, LiveWorker, worker_with, without_attempts, is_live}
@@ -24,7 +24,7 @@ ended moment w a outputs job = record job {
 
 -- A live worker ended an attempt that is live, and the reply has its outputs: for each range the tables
 -- that the attempt had noted, and then those that the finish made. The job of the attempt waits for its
--- commit, all other jobs and the trees stay, and the worker runs what it ran beside.
+-- commit, no other job changes, the trees stay, and the worker runs what it ran beside.
 pub record FinishRan (n job : ℕ) (old : State) (answer : List ℕ) (new : State) : Type 0 where
   pub worker : LiveWorker
   pub attempt : Attempt

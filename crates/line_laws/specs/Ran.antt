@@ -1,10 +1,11 @@
 -- The law on lines: which courses a line of a script runs.
-use Rattle.std.specs.Prelude.{◌≡◌, ℕ, List, [], ◌∷◌}
+use Rattle.std.specs.Prelude.{◌≡◌, ℕ, false, List, [], ◌∷◌}
 use Rattle.std.specs.List.{AllByRecursion}
 use Rattle.row_model.specs.Fold.{IsLawful}
 use Rattle.script_model.specs.Script.{Line, Poll, ClaimJobs, FinishJob, Settle}
 use Rattle.script_model.specs.States.{Inputs, State}
 use Rattle.script_model.specs.LineSteps.{OneCourse}
+use Rattle.script_model.specs.Settles.{is_ok}
 use Rattle.script_model.specs.Follows.{LineStep}
 use Rattle.line_laws.specs.Alone.{HadRoom}
 use Rattle.line_laws.specs.Scripts.{HasRun}
@@ -27,12 +28,17 @@ pub record CourseRan (inputs : Inputs) (old : State) (line : Line) (answer : Lis
   pub course : OneCourse inputs number old line answer new
   pub had_room : HadRoom new.store
 
--- One course of each of these lines, one after the other, took the old state to the new one.
-abbrev pub CoursesRan : Inputs → State → List Line → State → Type 0
-CoursesRan inputs old [] new = new ≡ old
-CoursesRan inputs old (line ∷ lines) new = (answer : List ℕ) × (mid : State) × CourseRan inputs old line answer mid × CoursesRan inputs mid lines new
+-- A step that is refused is the last one, and the line replies as the step does.
+abbrev pub StopsIfRefused : List ℕ → List Line → List ℕ → Type 0
+StopsIfRefused told others answer = is_ok told ≡ false → (others ≡ []) × (answer ≡ told)
 
--- The line is a poll of this coordinator, or a claim or a finish of this worker.
+-- One course of each of these steps, one after the other, took the old state to the new one. The line
+-- whose steps they are has this reply.
+abbrev pub StepsRan : Inputs → State → List Line → List ℕ → State → Type 0
+StepsRan inputs old [] answer new = new ≡ old
+StepsRan inputs old (step ∷ others) answer new = (told : List ℕ) × (mid : State) × CourseRan inputs old step told mid × StopsIfRefused told others answer × StepsRan inputs mid others answer new
+
+-- The step is a poll of this coordinator, or a claim or a finish of this worker.
 abbrev pub IsStepOf : (coordinator worker : ℕ) → Line → Type 0
 IsStepOf coordinator worker (Poll n) = n ≡ coordinator
 IsStepOf coordinator worker (ClaimJobs n) = n ≡ worker
@@ -40,14 +46,14 @@ IsStepOf coordinator worker (FinishJob n job) = n ≡ worker
 IsStepOf coordinator worker line = ⊥
 
 -- The steps of a settle line are polls, claims and finishes of its parties, and each is one course.
-pub record SettleRan (inputs : Inputs) (old : State) (coordinator worker : ℕ) (new : State) : Type 0 where
+pub record SettleRan (inputs : Inputs) (old : State) (coordinator worker : ℕ) (answer : List ℕ) (new : State) : Type 0 where
   pub steps : List Line
   pub each : AllByRecursion (IsStepOf coordinator worker) steps
-  pub ran : CoursesRan inputs old steps new
+  pub ran : StepsRan inputs old steps answer new
 
 -- A settle line runs its steps, and each other line runs one course.
 abbrev pub LineRan : Inputs → State → Line → List ℕ → State → Type 0
-LineRan inputs old (Settle coordinator worker rounds) answer new = SettleRan inputs old coordinator worker new
+LineRan inputs old (Settle coordinator worker rounds) answer new = SettleRan inputs old coordinator worker answer new
 LineRan inputs old line answer new = CourseRan inputs old line answer new
 
 -- Each line of a script runs so. So a law on one course speaks of each line of its own, and of each step

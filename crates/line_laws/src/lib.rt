@@ -33,8 +33,9 @@ pub fn first_lines_run()
 {}
 
 /// Each line of a script runs one course, from a state that keeps the invariant. A settle line runs
-/// polls, claims and finishes, one after the other, and each of them is such a course. So the laws on
-/// polls and claims hold for each line of its own, and for each step of a settle line.
+/// polls, claims and finishes, one after the other, and each of them is such a course. A step that is
+/// refused is the last one, and its reply is that of the line. So the laws on polls, claims and
+/// finishes hold for each line of its own, and for each step of a settle line.
 pub fn lines_run_courses()
     ensures { LinesRunCourses }
 {}
@@ -68,8 +69,8 @@ pub fn claims_take()
 {}
 
 /// A finish that is not refused, be it a line of its own or a step of a settle line, ends a live
-/// attempt of its worker. The job waits for its commit with the outputs that the reply has, and all
-/// other jobs and the trees stay.
+/// attempt of its worker. The job waits for its commit with the outputs that the reply has, no other
+/// job changes, and the trees stay.
 pub fn finishes_end()
     ensures { FinishesEnd }
 {}
