@@ -33,7 +33,7 @@ worked_replies =
     ∷ (codes "ok freed - done - lost - added - dropped - open 1 moved - drained - bad -" ++ 10 ∷ [])
     ∷ (codes "ok claimed 1.1:- stopped -" ++ 10 ∷ [])
     ∷ (codes "ok -" ++ 10 ∷ [])
-    ∷ (codes "ok freed - done 1 lost - added - dropped - open - moved - drained - bad -" ++ 10 ∷ [])
+    ∷ reply (codes "ok" ∷ codes "settled" ∷ codes "1" ∷ [])
     ∷ []
 
 pub worked_runs : WorkedRuns

@@ -3,7 +3,7 @@ use Rattle.std.specs.Prelude.{◌≡◌, List, [], ◌∷◌, pos, None}
 use Rattle.row_model.specs.Rows.{Row, Value, Tombstone}
 use Rattle.row_model.specs.Append.{append}
 use Rattle.fleet_model.specs.Nodes.{L0, Run, names, tree_at}
-use Rattle.script_model.specs.Script.{Line, StartCoordinator, StartWorker, FlushRows, SubmitJob, Poll, ClaimJobs, FinishJob}
+use Rattle.script_model.specs.Script.{Line, StartCoordinator, StartWorker, FlushRows, SubmitJob, Poll, ClaimJobs, FinishJob, Settle}
 use Rattle.script_model.specs.States.{State}
 use Rattle.script_model.specs.Defaults.{with_quiet_scheduler}
 use Rattle.line_laws.specs.Scripts.{HasRun}
@@ -15,7 +15,8 @@ worked_rows =
     ∷ record { key = 0x61 ∷ []; content = Value (0x76 ∷ []); seq = 1; created = None; expires = None }
     ∷ []
 
--- A flush, the start of both parties, and a job that is opened, claimed, finished and committed.
+-- A flush, the start of both parties, and a job that is opened, claimed and finished, and then committed by
+-- the poll of a settle line.
 abbrev pub worked_lines : List Line
 worked_lines =
     FlushRows 1 [] 2 (pos 0) worked_rows
@@ -25,10 +26,10 @@ worked_lines =
     ∷ Poll 1
     ∷ ClaimJobs 1
     ∷ FinishJob 1 1
-    ∷ Poll 1
+    ∷ Settle 1 1 1
     ∷ []
 
--- These lines run under the operator that joins bytes, and the last poll commits the job.
+-- These lines run under the operator that joins bytes, and the job is committed.
 pub record WorkedRuns : Type 0 where
   pub last : State
   pub run : HasRun (with_quiet_scheduler append) worked_lines last

@@ -82,7 +82,7 @@ pub fn outputs_are_whole()
     ensures { OutputsAreWhole }
 {}
 
-/// A worked run, in which a job is committed. So the premises of these laws can be met.
+/// A worked run, in which a settle line commits a job. So the premises of these laws can be met.
 pub fn a_worked_run()
     ensures { WorkedRuns }
 {}
