@@ -10,6 +10,7 @@ pub mod Tables
 pub mod Ordered
 pub mod Lengths
 pub mod Index
+pub mod Decoded
 pub mod Tells
 pub mod Stand
 pub mod Glances

@@ -4,11 +4,16 @@ use Rattle.std.specs.List.{AllByRecursion, flat_map}
 use Rattle.row_model.specs.Rows.{Row}
 use Rattle.row_model.specs.Sizes.{Block, blocks, encoded_size, estimated_size, saturated}
 use Rattle.row_model.specs.TableBytes.{blocks_of_rows, bytes_of_blocks, row_bytes, rows_bytes, shared_len, table_bytes, IsWritable}
+use Rattle.fleet_block.specs.Decoded.{decoded}
 use Rattle.fleet_block.specs.Finds.{joined}
 
 -- A row is written in as many bytes as its size says.
 abbrev pub RowsHaveEncodedSizes : Type 0
 RowsHaveEncodedSizes = (first : List ℕ) (r : Row) → length (row_bytes first r) ≡ encoded_size r (shared_len first r.key)
+
+-- The rows that stand in the bytes of a table are the rows that the table has.
+abbrev pub BytesAreDecoded : Type 0
+BytesAreDecoded = (rows : List Row) → AllByRecursion IsWritable rows → length rows < 2 ^ 64 → decoded (table_bytes rows) ≡ rows
 
 -- Lists of rows with the same bytes are equal.
 abbrev pub BytesTellRows : Type 0

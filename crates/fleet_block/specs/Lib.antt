@@ -1,4 +1,5 @@
 pub mod Cuts
+pub mod Decoded
 pub mod Finds
 pub mod Laws
 pub mod Glances

@@ -1,12 +1,18 @@
 //! Laws on the bytes of rows and tables. Each function has an empty body, and its clause states a
 //! law. The statements are in specs/Laws.antt.
 
-ghost use Rattle.fleet_block.specs.Laws.{BlocksStandInBytes, BytesTellRows, RowsAreCutIntoBlocks, RowsHaveEncodedSizes};
+ghost use Rattle.fleet_block.specs.Laws.{BlocksStandInBytes, BytesAreDecoded, BytesTellRows, RowsAreCutIntoBlocks, RowsHaveEncodedSizes};
 
 /// A row of a block is written in as many bytes as `encoded_size` says. The bytes of its key that
 /// it shares with the block's first key are not counted.
 pub fn rows_have_encoded_sizes()
     ensures { RowsHaveEncodedSizes }
+{}
+
+/// The rows of a table stand in its bytes, and `decoded` reads them back. Of bytes that are no
+/// table's nothing is stated.
+pub fn bytes_are_decoded()
+    ensures { BytesAreDecoded }
 {}
 
 /// The bytes of a table tell its rows: two lists of rows with the same bytes are equal.

@@ -19,7 +19,8 @@ mod write;
 pub use block::block_at;
 pub use glance::compared_at;
 pub use laws::{
-    blocks_stand_in_bytes, bytes_tell_rows, rows_are_cut_into_blocks, rows_have_encoded_sizes,
+    blocks_stand_in_bytes, bytes_are_decoded, bytes_tell_rows, rows_are_cut_into_blocks,
+    rows_have_encoded_sizes,
 };
 pub use place::BlockPlace;
 pub use read::rows_from_bytes;
