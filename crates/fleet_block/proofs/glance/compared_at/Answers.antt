@@ -1,4 +1,4 @@
-use Rattle.std.proofs.Common.{◌≡◌, sym, ◌∙◌, ap, ◌+◌, ◌-◌, ◌++◌, List, ℕ, take, drop, arith}
+use Rattle.std.proofs.Common.{◌≡◌, sym, ◌∙◌, ap, ◌+◌, ◌++◌, List, ℕ, take}
 use Rattle.std.specs.Prelude.{slice_range}
 use Rattle.row_model.specs.Rows.{key_cmp}
 use Rattle.fleet_block.proofs.Fields.{behind_key, behind_seq, row_parts}

@@ -1,4 +1,4 @@
-use Rattle.std.proofs.Common.{◌∙◌, ap, drop, take}
+use Rattle.std.proofs.Common.{◌∙◌, ap, drop}
 use Rattle.std.specs.Ordering.{ordering_then}
 use Rattle.std.proofs.lemmas.List.{take_rest}
 use Rattle.row_model.specs.Rows.{key_cmp}
