@@ -86,8 +86,10 @@ fn joined(
     if front.is_empty() {
         return Ok(bytes.slice(place..end)?);
     }
-    let mut key = Vec::from_slice(alloc, front)?;
-    key.extend_from_slice(&bytes.as_slice()[place..end])?;
+    let rest = &bytes.as_slice()[place..end];
+    let mut key = Vec::with_capacity(alloc, front.len() + rest.len())?;
+    key.extend_from_slice(front)?;
+    key.extend_from_slice(rest)?;
     Ok(Bytes::from_vec(key)?)
 }
 
