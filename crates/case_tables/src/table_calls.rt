@@ -41,6 +41,8 @@ fn answers_of_tables(
         "describe" => describe(alloc, words, answer)?,
         "last" => last(alloc, words, answer)?,
         "newest" => newest(alloc, words, answer)?,
+        "asbytes" => as_bytes(alloc, words, answer)?,
+        "frombytes" => from_bytes(alloc, words, answer)?,
         "keys" => keys(alloc, words, answer)?,
         "sizes" => sizes(alloc, words, answer)?,
         _ => return Ok(false),
@@ -142,8 +144,35 @@ fn newest(alloc: Global, words: &[&str], answer: &mut String) -> Result<(), Flaw
     let seq = number(seq)?;
     let key = bytes(alloc, key)?;
     let table = TableData::told(alloc, word)?;
-    let row = table.newest_at(key.as_slice(), seq);
-    tell_or_none(answer, row)
+    let row = table.newest_at(key.as_slice(), seq)?;
+    tell_or_none(answer, row.as_ref())
+}
+
+// `asbytes` takes the rows of a table, and answers the table's bytes.
+fn as_bytes(alloc: Global, words: &[&str], answer: &mut String) -> Result<(), Flaw> {
+    let [word] = words else {
+        return Err(Flaw::Words);
+    };
+    let table = TableData::told(alloc, word)?;
+    tell_ok(answer, table.as_bytes())
+}
+
+// `frombytes` takes bytes, and answers the rows of the table that has these bytes.
+fn from_bytes(alloc: Global, words: &[&str], answer: &mut String) -> Result<(), Flaw> {
+    let [word] = words else {
+        return Err(Flaw::Words);
+    };
+    let bytes = bytes(alloc, word)?;
+    match TableData::from_bytes(alloc, bytes.as_slice())? {
+        Some(table) => tell_rows(&table, answer),
+        None => Ok(answer.push_str("none")?),
+    }
+}
+
+fn tell_rows(table: &TableData, answer: &mut String) -> Result<(), Flaw> {
+    let rows = table.to_rows()?;
+    answer.push_str("ok ")?;
+    Ok(tell_list(answer, rows.as_slice(), ',')?)
 }
 
 // `keys` takes the rows of a table. It answers the range from the first key to the last.

@@ -105,7 +105,7 @@ fn take_tables<T: RowSource, G: RangeGate>(
 fn table_is_bounded(table: &TableData)
     ensures { AllByRecursion IsInBounds table.now }
 {
-    let _rows = table.as_slice();
+    table.know_table();
 }
 
 fn run_is_bounded(run: &RunData)

@@ -1,7 +1,7 @@
 -- The newest row of a key, flush after flush.
-use Rattle.std.proofs.Common.{◌≡◌, refl, sym, ap, ◌∙◌, ℕ, ◌+◌, ◌<◌, List, [], ◌∷◌, ◌++◌, length, drop, get_or, true, false, Option, Some, None, is_some, slice_get, Bor}
+use Rattle.std.proofs.Common.{◌≡◌, refl, sym, ap, ◌∙◌, ℕ, ◌+◌, ◌<◌, List, [], ◌∷◌, ◌++◌, length, drop, get_or, true, false, Option, Some, None, is_some, slice_get}
 use Rattle.std.specs.Prelude.{option_map, nat_le}
-use Rattle.std.specs.Option.{option_or, option_copied}
+use Rattle.std.specs.Option.{option_or}
 use Rattle.std.proofs.lemmas.List.{at_drop_more}
 use Rattle.std.proofs.lemmas.List.Elements.{filter-append}
 use Rattle.row_model.specs.Rows.{Row, rows_of_key}
@@ -39,21 +39,21 @@ newest_step flushes i flush key seq found lt at is =
     ∙ newest-cons flush (drop (i + 1) flushes) key seq
     ∙ ap (λ o. option_or o (newest_row (drop (i + 1) flushes) key seq)) (sym is)
 
-or_found : (r : Option (Bor RowEntry)) (later : Option Row) → is_some r ≡ true → option_or (option_map row_of (option_copied r)) later ≡ option_map row_of (option_copied r)
+or_found : (r : Option RowEntry) (later : Option Row) → is_some r ≡ true → option_or (option_map row_of r) later ≡ option_map row_of r
 or_found (Some row) later h = refl
 or_found None later h = absurd (cc h)
 
-or_later : (r : Option (Bor RowEntry)) (later : Option Row) → is_some r ≡ false → option_or (option_map row_of (option_copied r)) later ≡ later
+or_later : (r : Option RowEntry) (later : Option Row) → is_some r ≡ false → option_or (option_map row_of r) later ≡ later
 or_later (Some row) later h = absurd (cc h)
 or_later None later h = refl
 
-pub newest_found : (flushes : Tables) (i : ℕ) (flush : ℕ × List Row) (key : List ℕ) (seq : ℕ) (r : Option (Bor RowEntry)) → i < length flushes → flush ≡ get_or flushes i flush
-    → option_map row_of (option_copied r) ≡ newest_of flush.1 key seq → is_some r ≡ true → option_map row_of (option_copied r) ≡ newest_row (drop i flushes) key seq
-newest_found flushes i flush key seq r lt at is some = sym (newest_step flushes i flush key seq (option_map row_of (option_copied r)) lt at is ∙ or_found r (newest_row (drop (i + 1) flushes) key seq) some)
+pub newest_found : (flushes : Tables) (i : ℕ) (flush : ℕ × List Row) (key : List ℕ) (seq : ℕ) (r : Option RowEntry) → i < length flushes → flush ≡ get_or flushes i flush
+    → option_map row_of r ≡ newest_of flush.1 key seq → is_some r ≡ true → option_map row_of r ≡ newest_row (drop i flushes) key seq
+newest_found flushes i flush key seq r lt at is some = sym (newest_step flushes i flush key seq (option_map row_of r) lt at is ∙ or_found r (newest_row (drop (i + 1) flushes) key seq) some)
 
-pub newest_later : (flushes : Tables) (i : ℕ) (flush : ℕ × List Row) (key : List ℕ) (seq : ℕ) (r : Option (Bor RowEntry)) → i < length flushes → flush ≡ get_or flushes i flush
-    → option_map row_of (option_copied r) ≡ newest_of flush.1 key seq → is_some r ≡ false → newest_row (drop (i + 1) flushes) key seq ≡ newest_row (drop i flushes) key seq
-newest_later flushes i flush key seq r lt at is none = sym (newest_step flushes i flush key seq (option_map row_of (option_copied r)) lt at is ∙ or_later r (newest_row (drop (i + 1) flushes) key seq) none)
+pub newest_later : (flushes : Tables) (i : ℕ) (flush : ℕ × List Row) (key : List ℕ) (seq : ℕ) (r : Option RowEntry) → i < length flushes → flush ≡ get_or flushes i flush
+    → option_map row_of r ≡ newest_of flush.1 key seq → is_some r ≡ false → newest_row (drop (i + 1) flushes) key seq ≡ newest_row (drop i flushes) key seq
+newest_later flushes i flush key seq r lt at is none = sym (newest_step flushes i flush key seq (option_map row_of r) lt at is ∙ or_later r (newest_row (drop (i + 1) flushes) key seq) none)
 
 -- ---- runs
 
@@ -74,10 +74,10 @@ run_step runs i run key seq found lt at is =
     ∙ newest-append run.1 (run_tables (drop (i + 1) runs)) key seq
     ∙ ap (λ o. option_or o (newest_row (run_tables (drop (i + 1) runs)) key seq)) (sym is)
 
-pub run_found : (runs : List (ℕ × Tables)) (i : ℕ) (run : ℕ × Tables) (key : List ℕ) (seq : ℕ) (r : Option (Bor RowEntry)) → i < length runs → run ≡ get_or runs i run
-    → option_map row_of (option_copied r) ≡ newest_row run.1 key seq → is_some r ≡ true → option_map row_of (option_copied r) ≡ newest_row (run_tables (drop i runs)) key seq
-run_found runs i run key seq r lt at is some = sym (run_step runs i run key seq (option_map row_of (option_copied r)) lt at is ∙ or_found r (newest_row (run_tables (drop (i + 1) runs)) key seq) some)
+pub run_found : (runs : List (ℕ × Tables)) (i : ℕ) (run : ℕ × Tables) (key : List ℕ) (seq : ℕ) (r : Option RowEntry) → i < length runs → run ≡ get_or runs i run
+    → option_map row_of r ≡ newest_row run.1 key seq → is_some r ≡ true → option_map row_of r ≡ newest_row (run_tables (drop i runs)) key seq
+run_found runs i run key seq r lt at is some = sym (run_step runs i run key seq (option_map row_of r) lt at is ∙ or_found r (newest_row (run_tables (drop (i + 1) runs)) key seq) some)
 
-pub run_later : (runs : List (ℕ × Tables)) (i : ℕ) (run : ℕ × Tables) (key : List ℕ) (seq : ℕ) (r : Option (Bor RowEntry)) → i < length runs → run ≡ get_or runs i run
-    → option_map row_of (option_copied r) ≡ newest_row run.1 key seq → is_some r ≡ false → newest_row (run_tables (drop (i + 1) runs)) key seq ≡ newest_row (run_tables (drop i runs)) key seq
-run_later runs i run key seq r lt at is none = sym (run_step runs i run key seq (option_map row_of (option_copied r)) lt at is ∙ or_later r (newest_row (run_tables (drop (i + 1) runs)) key seq) none)
+pub run_later : (runs : List (ℕ × Tables)) (i : ℕ) (run : ℕ × Tables) (key : List ℕ) (seq : ℕ) (r : Option RowEntry) → i < length runs → run ≡ get_or runs i run
+    → option_map row_of r ≡ newest_row run.1 key seq → is_some r ≡ false → newest_row (run_tables (drop (i + 1) runs)) key seq ≡ newest_row (run_tables (drop i runs)) key seq
+run_later runs i run key seq r lt at is none = sym (run_step runs i run key seq (option_map row_of r) lt at is ∙ or_later r (newest_row (run_tables (drop (i + 1) runs)) key seq) none)

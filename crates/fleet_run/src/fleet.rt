@@ -1,7 +1,6 @@
 //! The fleet on which a script runs.
 
 ghost use Rattle.std.specs.Prelude.{◌≡◌, ◌<◌, IfOk, OnOk, OnErr, IsOkUnless, length, option_map, [], None, fold};
-ghost use Rattle.std.specs.Option.{option_copied};
 ghost use Rattle.std.specs.List.{list_all, AllByRecursion};
 ghost use Rattle.row_model.specs.Bounds.{AreRows};
 ghost use Rattle.fleet_rows.specs.declared.errors.SlateDBError.TheVariants as SlateDBError;
@@ -11,7 +10,7 @@ ghost use Rattle.step_model.specs.FlushSteps.{is_above};
 ghost use Rattle.script_model.specs.Replies.{ok};
 ghost use Rattle.fleet_model.specs.Trees.{greater_seq, greatest_seq};
 ghost use Rattle.fleet_run.specs.FleetView.{fresh_fleet};
-ghost use Rattle.fleet_run.specs.Serve.{flush_fault, flush_reply, after_flush, with_flush, key_reply, reply_to, fleet_after, IsServed};
+ghost use Rattle.fleet_run.specs.Serve.{flush_fault, flush_reply, after_flush, with_flush, key_reply, newest_stored, reply_to, fleet_after, IsServed};
 ghost use Rattle.fleet_run.specs.Kinds.{fault_of};
 
 use crate::answer::{self, FlushFault};
@@ -182,8 +181,20 @@ impl Fleet {
         if seq < self.horizon || now < self.tick {
             return answer::not_retained(alloc, self.horizon, self.tick);
         }
-        let row = newest_in(&self.flushes, key, seq).or(newest_in_runs(&self.runs, key, seq));
-        answer::value(alloc, row)
+        let row = self.newest_stored(key, seq)?;
+        answer::value(alloc, row.as_ref())
+    }
+
+    // The newest row of a key with sequence at most `seq`. The flushes are newer than the runs.
+    fn newest_stored(&self, key: &[u8], seq: u64) -> Result<Option<RowEntry>, SlateDBError>
+        ensures row { IfOk result
+            (λ row. option_map row_of row ≡ newest_stored self.now key.now seq) }
+        ensures memory { IsOkUnless result SlateDBError.Memory }
+    {
+        if let Some(row) = newest_in(&self.flushes, key, seq)? {
+            return Ok(Some(row));
+        }
+        newest_in_runs(&self.runs, key, seq)
     }
 
     /// Runs one line and returns its reply. All memory that the line needs is allocated before the

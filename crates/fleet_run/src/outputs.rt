@@ -61,7 +61,7 @@ fn kept_rows(
     ensures memory { IsOkUnless result SlateDBError.Memory }
 {
     ordered_rows_rise();
-    let _rows = table.as_slice();
+    table.know_table();
     let mut iterator = RetentionIterator::new(alloc, all_rows(table), settings);
     iterator.init(alloc)?;
     rows_left(alloc, &mut iterator)

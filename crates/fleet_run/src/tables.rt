@@ -52,31 +52,44 @@ pub fn id_of_number(number: u64) -> Ulid
     Ulid::from_parts(0, number as u128)
 }
 
-/// The newest row of a key with sequence at most `seq`. The tables are newest first.
-pub fn newest_in<'a>(tables: &'a VecDeque<Table>, key: &[u8], seq: u64) -> Option<&'a RowEntry>
-    ensures { option_map row_of (option_copied result) ≡ newest_row tables.now.items key.now seq }
+/// The newest row of a key with sequence at most `seq`. The tables are newest first. The error is
+/// out of memory.
+pub fn newest_in(
+    tables: &VecDeque<Table>,
+    key: &[u8],
+    seq: u64,
+) -> Result<Option<RowEntry>, SlateDBError>
+    ensures row { IfOk result
+        (λ row. option_map row_of row ≡ newest_row tables.now.items key.now seq) }
+    ensures memory { IsOkUnless result SlateDBError.Memory }
 {
     for i in 0..tables.len() {
-        let newest = tables[i].data.newest_at(key, seq);
+        let newest = tables[i].data.newest_at(key, seq)?;
         if newest.is_some() {
-            return newest;
+            return Ok(newest);
         }
     }
-    None
+    Ok(None)
 }
 
-/// The newest row of a key with sequence at most `seq`. The runs are newest first.
-pub fn newest_in_runs<'a>(runs: &'a VecDeque<Run>, key: &[u8], seq: u64) -> Option<&'a RowEntry>
-    ensures { option_map row_of (option_copied result)
-        ≡ newest_row (run_tables runs.now.items) key.now seq }
+/// The newest row of a key with sequence at most `seq`. The runs are newest first. The error is out
+/// of memory.
+pub fn newest_in_runs(
+    runs: &VecDeque<Run>,
+    key: &[u8],
+    seq: u64,
+) -> Result<Option<RowEntry>, SlateDBError>
+    ensures row { IfOk result
+        (λ row. option_map row_of row ≡ newest_row (run_tables runs.now.items) key.now seq) }
+    ensures memory { IsOkUnless result SlateDBError.Memory }
 {
     for i in 0..runs.len() {
-        let newest = newest_in(&runs[i].tables, key, seq);
+        let newest = newest_in(&runs[i].tables, key, seq)?;
         if newest.is_some() {
-            return newest;
+            return Ok(newest);
         }
     }
-    None
+    Ok(None)
 }
 
 /// The table of this id, if it is in the list.
@@ -127,7 +140,7 @@ pub fn run_ids_of(alloc: Global, runs: &VecDeque<Run>) -> Result<Vec<u32>, Alloc
     Ok(ids)
 }
 
-/// Copies the rows of the tables, one table after the other. The error is out of memory.
+/// Decodes the rows of the tables, one table after the other. The error is out of memory.
 pub fn rows_of_tables(
     alloc: Global,
     tables: &VecDeque<Table>,
@@ -138,17 +151,17 @@ pub fn rows_of_tables(
 {
     let mut rows = Vec::new(alloc);
     for i in 0..tables.len() {
-        append_copies(&mut rows, tables[i].data.as_slice())?;
+        append(&mut rows, tables[i].data.to_rows()?)?;
     }
     Ok(rows)
 }
 
-fn append_copies(rows: &mut Vec<RowEntry>, more: &[RowEntry]) -> Result<(), SlateDBError>
-    ensures ok { OnOk result (rows.new.items ≡ rows.old.items ++ more.now) }
+fn append(rows: &mut Vec<RowEntry>, more: Vec<RowEntry>) -> Result<(), SlateDBError>
+    ensures ok { OnOk result (rows.new.items ≡ rows.old.items ++ more.items) }
     ensures memory { IsOkUnless result SlateDBError.Memory }
 {
     'more: for row in more {
-        rows.push(row.clone()?)?;
+        rows.push(row)?;
     }
     Ok(())
 }

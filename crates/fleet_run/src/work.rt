@@ -223,7 +223,7 @@ fn dump_table(alloc: Global, table: Option<&TableData>) -> Result<Reply, SlateDB
     ensures memory { IsOkUnless result SlateDBError.Memory }
 {
     match table {
-        Some(table) => answer::rows(alloc, table.as_slice()),
+        Some(table) => answer::rows(alloc, table.to_rows()?.as_slice()),
         None => answer::absent(alloc),
     }
 }

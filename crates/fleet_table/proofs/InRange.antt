@@ -23,10 +23,10 @@ gt_reversed Less = refl
 gt_reversed Equal = refl
 gt_reversed Greater = refl
 
-before_included : (k : List ℕ) (r : Row) → not (is_after_start (Included k) r.key) ≡ is_lt (key_cmp r.key k)
+pub before_included : (k : List ℕ) (r : Row) → not (is_after_start (Included k) r.key) ≡ is_lt (key_cmp r.key k)
 before_included k r = ap (λ o. not (not (is_gt o))) (nat_list_cmp_total.antisymm k r.key) ∙ gt_reversed (key_cmp r.key k)
 
-before_excluded : (k : List ℕ) (r : Row) → not (is_after_start (Excluded k) r.key) ≡ up_to k r
+pub before_excluded : (k : List ℕ) (r : Row) → not (is_after_start (Excluded k) r.key) ≡ up_to k r
 before_excluded k r = ap (λ o. not (is_lt o)) (nat_list_cmp_total.antisymm k r.key) ∙ not_reversed (key_cmp r.key k)
 
 before_start_too : (start : Bound) (r q : Row) → row_cmp r q ≡ Less → not (is_after_start start q.key) ≡ true → not (is_after_start start r.key) ≡ true

@@ -1,5 +1,5 @@
 -- The first and the last of some rows.
-use Rattle.std.proofs.Common.{◌≡◌, ◌≢◌, refl, ◌∙◌, ap, ℕ, ◌-◌, List, [], ◌∷◌, length, true, arith}
+use Rattle.std.proofs.Common.{◌≡◌, ◌≢◌, refl, ◌∙◌, ap, ℕ, ◌<◌, ◌-◌, List, [], ◌∷◌, length, true, arith}
 use Rattle.std.specs.Prelude.{slice_index_or}
 use Rattle.std.specs.List.{AllByRecursion}
 use Rattle.std.specs.List.Sorted.{IsStrictlySortedBy}
@@ -10,6 +10,9 @@ use Rattle.row_model.specs.Rows.{Row, key_cmp, row_cmp, IsStrictlyOrdered}
 use Rattle.row_laws.proofs.KeyRows.{key_alike}
 use Rattle.fleet_model.specs.Handles.{seq_of_last}
 use Rattle.fleet_model.specs.Trees.{first_key, last_key}
+use Rattle.row_model.specs.Sizes.{blocks}
+use Rattle.fleet_table.specs.Handles.{blocks_of}
+use Rattle.fleet_table.specs.declared.block.BlockMeta.{BlockMeta}
 use Rattle.fleet_rows.specs.declared.row.RowEntry.{RowEntry}
 use Rattle.fleet_rows.specs.Row.{rows_of}
 
@@ -45,7 +48,7 @@ not_above r q = by (key_cmp r.key q.key)
     by Equal h = refl
     by Greater h = absurd (cc h)
 
-up_to_last : (r : Row) (key : List ℕ) (rows : List Row) → is_le (key_cmp r.key key) ≡ true → AllByRecursion (λ q. row_cmp r q ≡ Less) rows → is_le (key_cmp r.key (last_key key rows)) ≡ true
+pub up_to_last : (r : Row) (key : List ℕ) (rows : List Row) → is_le (key_cmp r.key key) ≡ true → AllByRecursion (λ q. row_cmp r q ≡ Less) rows → is_le (key_cmp r.key (last_key key rows)) ≡ true
 up_to_last r key [] h after = h
 up_to_last r key (q ∷ rows) h after = up_to_last r q.key rows (not_above r q after.0) after.1
 
@@ -54,3 +57,9 @@ pub first_up_to_last : (rows : List Row) → rows ≢ [] → IsStrictlyOrdered r
 unfolding IsStrictlySortedBy
 first_up_to_last [] some ordered = absurd (some refl)
 first_up_to_last (r ∷ rows) some ordered = up_to_last r r.key rows (ap is_le (key_alike r.key)) ordered.0
+
+-- A table with rows has a block.
+pub first_there : (rows : List Row) (listed : List BlockMeta) → rows ≢ [] → blocks_of listed ≡ blocks rows → 0 < length listed
+first_there rows (b ∷ listed) some index = omega arith
+first_there [] [] some index = absurd (some refl)
+first_there (r ∷ rows) [] some index = absurd (cc index)

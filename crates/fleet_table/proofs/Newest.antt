@@ -1,30 +1,31 @@
 -- The newest row of a key up to a sequence is the first row for which `is_before` is false, if it has the
 -- key.
-use Rattle.std.proofs.Common.{◌≡◌, refl, sym, ◌∙◌, ap, subst, ℕ, suc, ◌+◌, List, [], ◌∷◌, cond, Bool, true, false, Option, Some, None, arith, Bor}
-use Rattle.std.specs.Prelude.{bytes_eq, if◌then◌else◌, nat_le, option_map, slice_get}
+use Rattle.std.proofs.Common.{◌≡◌, ◌≢◌, refl, sym, ◌∙◌, ap, subst, ℕ, suc, ◌+◌, List, [], ◌∷◌, cond, Bool, true, false, Option, Some, None, arith}
+use Rattle.std.specs.Prelude.{bytes_eq, if◌then◌else◌, nat_le, slice_get}
 use Rattle.std.specs.List.{AllByRecursion, prefix_len}
 use Rattle.std.specs.List.Sorted.{IsStrictlySortedBy}
 use Rattle.std.specs.declared.cmp.Ordering.{Ordering}
 use Rattle.std.specs.declared.cmp.Ordering.TheVariants.{Less, Equal, Greater}
-use Rattle.std.specs.Ordering.{is_lt, ordering_then, nat_cmp}
+use Rattle.std.specs.Ordering.{is_gt, is_le, is_lt, ordering_reverse, ordering_then, nat_cmp}
 use Rattle.std.proofs.lemmas.Slice.Eq.{bytes_eq-Decides}
-use Rattle.std.proofs.lemmas.Option.{slice_get-map}
-use Rattle.fleet_rows.specs.declared.row.RowEntry.{RowEntry}
-use Rattle.fleet_rows.specs.Row.{row_of, rows_of}
 use Rattle.row_model.specs.Read.{seen_at}
 use Rattle.row_model.specs.Rows.{Row, key_cmp, row_cmp, rows_of_key, IsStrictlyOrdered}
-use Rattle.row_laws.proofs.ApartRows.{false_or}
+use Rattle.std.proofs.lemmas.Cmp.{nat_list_cmp_total}
+use Rattle.row_laws.proofs.ApartRows.{false_or, lt_is}
 use Rattle.row_laws.proofs.KeyRows.{exact, key_alike, of_key-others, IsOther, Keys}
+use Rattle.fleet_model.specs.Trees.{first_key, last_key}
+use Rattle.fleet_table.specs.Cursors.{is_before_spot}
 use Rattle.fleet_table.specs.Order.{is_before}
-use Rattle.fleet_table.specs.Table.{IsTable}
-use Rattle.std.specs.Option.{option_copied}
+use Rattle.fleet_table.specs.declared.cursor.Ties.TheVariants.{Newer}
+use Rattle.fleet_table.proofs.LastRow.{up_to_last}
+use Rattle.fleet_table.proofs.Spots.{newer_is, prefix_same}
 
 -- The row, if it has this key.
 abbrev pub if_of_key : List ℕ → Option Row → Option Row
 if_of_key key None = None
 if_of_key key (Some r) = if bytes_eq key r.key then Some r else None
 
-abbrev newest : List ℕ → ℕ → List Row → Option Row
+abbrev pub newest : List ℕ → ℕ → List Row → Option Row
 newest key seq rows = slice_get (seen_at seq (rows_of_key key rows)) 0
 
 other : (key : List ℕ) (r : Row) (o : Ordering) → key_cmp r.key key ≡ o → (o ≡ Equal → ⊥) → bytes_eq key r.key ≡ false
@@ -99,12 +100,36 @@ newest_is key seq (r ∷ rows) ordered =
     ∙ by_key key seq r rows (newest_is key seq rows ordered.1) (key_cmp r.key key) refl
     (λ high. of_key-others key rows (others_behind key r rows high ordered.0))
 
--- The row found at that place of a table, if it has the key, is the newest row of the key up to the sequence.
-pub newest_got : (key : List ℕ) (seq : ℕ) (rows searched : List RowEntry) (table : List Row) (i : ℕ) (got : Option (Bor RowEntry)) → IsTable (rows_of rows) → rows_of rows ≡ table
-    → searched ≡ rows → i ≡ prefix_len (is_before key seq) (rows_of searched) → option_copied got ≡ slice_get rows i
-    → if_of_key key (option_map row_of (option_copied got)) ≡ newest key seq table
-newest_got key seq rows searched table i got kept is all at found =
-    let place : i ≡ prefix_len (is_before key seq) (rows_of rows) = at ∙ ap (λ rs. prefix_len (is_before key seq) (rows_of rs)) all in
-    sym (ap (newest key seq) (sym is) ∙ newest_is key seq (rows_of rows) kept.ordered
-    ∙ ap (λ n. if_of_key key (slice_get (rows_of rows) n)) (sym place) ∙ ap (if_of_key key) (slice_get-map row_of rows i)
-    ∙ ap (λ o. if_of_key key (option_map row_of o)) (sym found))
+-- The row behind the newer rows, if it has the key, is the newest row of the key up to the sequence.
+pub newest_found : (key : List ℕ) (seq : ℕ) (rows : List Row) (i : ℕ) (got : Option Row) → IsStrictlyOrdered rows → i ≡ prefix_len (is_before_spot key (Newer seq)) rows → slice_get rows i ≡ got → if_of_key key got ≡ newest key seq rows
+newest_found key seq rows i got ordered at is =
+    sym (newest_is key seq rows ordered
+    ∙ ap (λ n. if_of_key key (slice_get rows n)) (sym (at ∙ prefix_same (is_before_spot key (Newer seq)) (is_before key seq) (newer_is key seq) rows))
+    ∙ ap (if_of_key key) is)
+
+-- ---- keys before the first row or behind the last one
+
+pub none_before : (key : List ℕ) (rows : List Row) → rows ≢ [] → IsStrictlyOrdered rows → is_lt (key_cmp key (first_key rows)) ≡ true → rows_of_key key rows ≡ []
+unfolding IsStrictlySortedBy
+none_before key [] some ordered low = refl
+none_before key (r ∷ rows) some ordered low =
+    let high : key_cmp r.key key ≡ Greater = nat_list_cmp_total.antisymm r.key key ∙ ap ordering_reverse (lt_is (key_cmp key r.key) low) in
+    of_key-others key (r ∷ rows) (other key r Greater high (λ h. cc h), others_behind key r rows high ordered.0)
+
+clash : (o : Ordering) → is_le o ≡ true → is_gt o ≡ true → ⊥
+clash Less h g = cc g
+clash Equal h g = cc g
+clash Greater h g = cc h
+
+above_all : (key start : List ℕ) (rows : List Row) → IsStrictlyOrdered rows → is_gt (key_cmp key (last_key start rows)) ≡ true → Keys (IsOther key) rows
+unfolding IsStrictlySortedBy
+above_all key start [] ordered high = tt
+above_all key start (r ∷ rows) ordered high = (
+  false_or (bytes_eq key r.key) (λ same.
+      let alike : key ≡ r.key = (bytes_eq-Decides key r.key).0 same in
+      clash (key_cmp key (last_key r.key rows)) (ap (λ k. is_le (key_cmp k (last_key r.key rows))) alike ∙ up_to_last r r.key rows (ap is_le (key_alike r.key)) ordered.0) high),
+  above_all key r.key rows ordered.1 high,
+)
+
+pub none_behind_last : (key : List ℕ) (rows : List Row) → IsStrictlyOrdered rows → is_gt (key_cmp key (last_key [] rows)) ≡ true → rows_of_key key rows ≡ []
+none_behind_last key rows ordered high = of_key-others key rows (above_all key [] rows ordered high)

@@ -1,5 +1,5 @@
 -- The state of an iterator over a table's rows.
-use Rattle.std.specs.Prelude.{List, Bool, Some, None, true, if◌then◌else◌}
+use Rattle.std.specs.Prelude.{List, [], Bool, Option, Some, None, true, if◌then◌else◌}
 use Rattle.fleet_rows.specs.declared.errors.SlateDBError.TheVariants.{Memory}
 use Rattle.row_model.specs.Rows.{Row}
 use Rattle.fleet_iter.specs.Iteration.{IteratorState}
@@ -13,3 +13,8 @@ pub record RowsLeft : Type 0 where
 -- it.
 abbrev pub state_of : RowsLeft → IteratorState
 state_of t = record { rows = t.left; initialised = true; failure = (if t.broken then Some Memory else None); whole = true; steady = true; refusal = None }
+
+-- The rows that are left to be read. None are left where there is no table.
+abbrev pub rows_left : Option (List Row) → List Row
+rows_left None = []
+rows_left (Some rows) = rows

@@ -1,4 +1,5 @@
 pub mod Order
+pub mod Cursors
 pub mod Table
 pub mod Iterator
 pub mod Lists

@@ -1,9 +1,14 @@
 -- The rows of a table, with their size and their blocks.
-use Rattle.std.specs.Prelude.{◌≡◌, ◌≢◌, ℕ, List, []}
+use Rattle.std.specs.Prelude.{◌≡◌, ◌≢◌, ℕ, List, [], length}
 use Rattle.std.specs.List.{AllByRecursion}
 use Rattle.row_model.specs.Bounds.{IsInBounds}
 use Rattle.row_model.specs.Rows.{Row, IsStrictlyOrdered}
 use Rattle.row_model.specs.Sizes.{blocks, table_size}
+use Rattle.row_model.specs.TableBytes.{blocks_of_rows, table_bytes, IsWritable}
+use Rattle.fleet_model.specs.Handles.{seq_of_last}
+use Rattle.fleet_model.specs.Trees as trees
+use Rattle.fleet_block.specs.Places.{places_from}
+use Rattle.fleet_block.specs.declared.place.BlockPlace.{BlockPlace}
 use Rattle.fleet_table.specs.Handles.{blocks_of}
 use Rattle.fleet_table.specs.declared.block.BlockMeta.{BlockMeta}
 
@@ -13,8 +18,15 @@ pub record IsTable (rows : List Row) : Type 0 where
   pub ordered : IsStrictlyOrdered rows
   pub in_bounds : AllByRecursion IsInBounds rows
 
--- A table of these rows has this size and these blocks.
-pub record IsKept (rows : List Row) (measured : ℕ) (listed : List BlockMeta) : Type 0 where
+-- A table of these rows has these bytes. It has this size, these blocks, which begin at these places, so many
+-- rows, and this key and sequence of its last row.
+pub record IsKept (rows : List Row) (bytes : List ℕ) (places : List BlockPlace) (listed : List BlockMeta) (measured count : ℕ) (key : List ℕ) (seq : ℕ) : Type 0 where
   pub table : IsTable rows
-  pub size : measured ≡ table_size rows
+  pub writable : AllByRecursion IsWritable rows
+  pub spelt : bytes ≡ table_bytes rows
+  pub placed : places ≡ places_from 0 0 (blocks_of_rows 0 rows)
   pub index : blocks_of listed ≡ blocks rows
+  pub size : measured ≡ table_size rows
+  pub counted : count ≡ length rows
+  pub ends : key ≡ trees.last_key [] rows
+  pub ends_at : seq ≡ seq_of_last 0 rows

@@ -8,6 +8,7 @@ ghost use Rattle.fleet_rows.specs.Row.{row_of, rows_of};
 ghost use Rattle.fleet_table.specs.Handles.{blocks_of};
 
 use crate::{BlockList, BlockMeta, SharedList};
+use bytes::Bytes;
 use fleet_rows::{RowEntry, SlateDBError};
 use std::alloc::Global;
 
@@ -38,15 +39,16 @@ pub(crate) fn cut_blocks(alloc: Global, rows: &[RowEntry]) -> Result<(u64, Block
     };
     let mut rest = rows;
     'rest: while let [row, later @ ..] = rest {
-        take_row(&mut builder, row)?;
+        take_row(alloc, &mut builder, row)?;
         rest = later;
     }
     let BlockBuilder { blocks, offset, .. } = builder;
     Ok((offset, blocks))
 }
 
-// Adds a row. If no block is open, the row opens one.
-fn take_row(builder: &mut BlockBuilder, row: &RowEntry) -> Result<(), SlateDBError>
+// Adds a row. If no block is open, the row opens one. Its key is copied, so that the blocks keep no
+// memory of the rows.
+fn take_row(alloc: Global, builder: &mut BlockBuilder, row: &RowEntry) -> Result<(), SlateDBError>
     requires in_bounds { IsInBounds (row_of row.now) }
     requires filled { builder.old.filled < block_bytes }
     ensures blocks { OnOk result (blocks_of builder.new.blocks ≡ blocks_of builder.old.blocks
@@ -58,7 +60,7 @@ fn take_row(builder: &mut BlockBuilder, row: &RowEntry) -> Result<(), SlateDBErr
     ensures memory { IsOkUnless result SlateDBError.Memory }
 {
     if builder.filled == 0 {
-        let first_key = row.key.clone()?;
+        let first_key = Bytes::copy_from_slice(alloc, row.key.as_slice())?;
         let offset = builder.offset;
         builder.blocks.push(BlockMeta { first_key, offset })?;
     }

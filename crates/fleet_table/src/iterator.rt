@@ -2,38 +2,46 @@
 
 ghost use Rattle.std.specs.Prelude.{◌≡◌, ◌↔◌, ⊤, false, [], IsTrue};
 ghost use Rattle.fleet_iter.specs.Iteration.{from_key};
-ghost use Rattle.fleet_rows.specs.Row.{rows_of};
 ghost use Rattle.fleet_table.specs.Iterator.{state_of};
 
+use crate::span::Span;
 use fleet_iter::RowEntryIterator;
 use fleet_rows::{RowEntry, SlateDBError};
 use std::alloc::Global;
-use std::cmp::Ordering;
 use std::marker::Model;
 
-/// An iterator over rows of a table. `next` copies each row. Contracts see the rows left and
-/// whether the iterator failed.
+/// An iterator over rows of a table. It decodes each row when `next` gives it. Contracts see the
+/// rows left and whether the iterator failed.
 #[derive(Debug, Drop)]
 pub struct TableIterator<'a> {
-    rows: &'a [RowEntry],
+    rows: Option<Span<'a>>,
     failed: bool,
 }
 
 impl<'a> Model for TableIterator<'a> {
-    ghost use Rattle.fleet_rows.specs.Row.{rows_of};
-    ghost use Rattle.fleet_table.specs.Iterator.{RowsLeft};
+    ghost use Rattle.fleet_table.specs.Iterator.{rows_left, RowsLeft};
 
     ghost Value = { RowsLeft };
 
-    ghost view = { λ t. record { left = rows_of t.rows.now; broken = t.failed } };
+    ghost view = { λ t. record { left = rows_left t.rows; broken = t.failed } };
 }
 
 impl<'a> TableIterator<'a> {
-    pub(crate) fn new(rows: &'a [RowEntry]) -> TableIterator<'a>
-        ensures { result ≡ record { left = rows_of rows.now; broken = false } }
+    pub(crate) fn new(rows: Span<'a>) -> TableIterator<'a>
+        ensures { result ≡ record { left = rows.entry; broken = false } }
     {
         TableIterator {
-            rows,
+            rows: Some(rows),
+            failed: false,
+        }
+    }
+
+    /// An iterator that has no row left.
+    pub(crate) fn ended() -> TableIterator<'a>
+        ensures { result ≡ record { left = []; broken = false } }
+    {
+        TableIterator {
+            rows: None,
             failed: false,
         }
     }
@@ -50,14 +58,20 @@ impl TableIterator<'_> {
     pub(crate) fn has_ended(&self) -> bool
         ensures { IsTrue result ↔ ((self.now.left ≡ []) × (self.now.broken ≡ false)) }
     {
-        self.rows.is_empty() && !self.failed
+        !self.failed
+            && match &self.rows {
+                Some(rows) => rows.is_empty(),
+                None => true,
+            }
     }
 
     /// Drops rows at the front while their keys are below this key.
     pub(crate) fn skip_to(&mut self, key: &[u8])
         ensures { self.new ≡ record self.old { left = from_key key.now self.old.left } }
     {
-        self.rows = rows_from(self.rows, key);
+        if let Some(rows) = &mut self.rows {
+            rows.skip_to(key);
+        }
     }
 }
 
@@ -73,18 +87,15 @@ impl RowEntryIterator for TableIterator<'_> {
         Ok(())
     }
 
-    fn next(&mut self, _alloc: Global) -> Result<Option<RowEntry>, SlateDBError> {
+    fn next(&mut self, alloc: Global) -> Result<Option<RowEntry>, SlateDBError> {
         if self.failed {
             return Err(SlateDBError::IteratorFailed);
         }
-        let [row, rest @ ..] = self.rows else {
+        let Some(rows) = &mut self.rows else {
             return Ok(None);
         };
-        match row.clone() {
-            Ok(copy) => {
-                self.rows = rest;
-                Ok(Some(copy))
-            }
+        match rows.next(alloc) {
+            Ok(row) => Ok(row),
             Err(error) => {
                 self.failed = true;
                 Err(error)
@@ -99,17 +110,4 @@ impl RowEntryIterator for TableIterator<'_> {
         self.skip_to(next_key);
         Ok(())
     }
-}
-
-// The rows from the first one whose key is not below this key.
-fn rows_from<'a>(rows: &'a [RowEntry], key: &[u8]) -> &'a [RowEntry]
-    ensures { rows_of result.now ≡ from_key key.now (rows_of rows.now) }
-{
-    let mut rest = rows;
-    'below: while let [row, later @ ..] = rest
-        && row.key.as_slice().cmp(key) == Ordering::Less
-    {
-        rest = later;
-    }
-    rest
 }

@@ -2,15 +2,18 @@
 #![tactic(auto)]
 
 mod block;
+mod cursor;
 mod cutting;
 mod handle;
 mod iterator;
+mod kept;
 mod laws;
 mod list;
 mod manifest;
 mod order;
 mod run;
 mod run_data;
+mod span;
 mod table;
 mod tracker;
 mod tree;
@@ -18,6 +21,7 @@ mod trees;
 mod view;
 
 pub use block::BlockMeta;
+pub use fleet_block::are_strictly_ordered;
 pub use handle::SsTableHandle;
 pub use iterator::TableIterator;
 pub use laws::flushes_are_the_models;
@@ -25,7 +29,7 @@ pub use list::{
     BlockList, OutputList, RunList, SegmentList, SharedList, TableList, TrackerList, ViewList,
 };
 pub use manifest::{Manifest, ManifestCore, VersionedManifest};
-pub use order::{are_in_bounds, are_strictly_ordered};
+pub use order::are_in_bounds;
 pub use run::SortedRun;
 pub use run_data::{RunData, RunIterator};
 pub use table::TableData;

@@ -86,7 +86,7 @@ impl<'a> RunIterator<'a> {
             ≡ record { left = rows_of_tables (range_of range.now) run.now; broken = false } }
     {
         RunIterator {
-            current: TableIterator::new(&[]),
+            current: TableIterator::ended(),
             later: run.tables(),
             range,
         }

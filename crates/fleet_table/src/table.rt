@@ -1,7 +1,6 @@
 //! Tables with their rows.
 
-ghost use Rattle.std.specs.Prelude.{◌≡◌, ◌≢◌, false, true, [], length, IfOk, IsOkUnless, option_map, slice_get};
-ghost use Rattle.std.specs.Option.{option_copied};
+ghost use Rattle.std.specs.Prelude.{◌≡◌, ◌≢◌, false, true, [], length, IfOk, IfSome, IsOkUnless, option_map, slice_get};
 ghost use Rattle.std.specs.Ordering.{is_le};
 ghost use Rattle.std.specs.List.{AllByRecursion};
 ghost use Rattle.row_model.specs.Bounds.{IsInBounds};
@@ -9,40 +8,40 @@ ghost use Rattle.row_model.specs.Ranges.{rows_in};
 ghost use Rattle.row_model.specs.Read.{seen_at};
 ghost use Rattle.row_model.specs.Rows.{key_cmp, rows_of_key, IsStrictlyOrdered};
 ghost use Rattle.row_model.specs.Sizes.{blocks};
+ghost use Rattle.row_model.specs.TableBytes.{table_bytes, IsTaken};
 ghost use Rattle.fleet_model.specs.Handles.{describe, seq_of_last};
-ghost use Rattle.fleet_model.specs.Trees.{first_key, last_key};
+ghost use Rattle.fleet_model.specs.Trees.{last_key};
+ghost use Rattle.fleet_block.specs.Finds.{Reads};
 ghost use Rattle.fleet_range.specs.Keys.{range_of};
 ghost use Rattle.fleet_rows.specs.Row.{row_of, rows_of};
 ghost use Rattle.fleet_table.specs.Handles.{blocks_of, handle_of};
 ghost use Rattle.fleet_table.specs.Table.{IsTable};
 
-use crate::cutting::cut_blocks;
-use crate::order::{rows_before, rows_in};
-use crate::{BlockList, BlockMeta, SharedList, SsTableHandle, TableIterator};
+use crate::kept::Kept;
+use crate::span::Span;
+use crate::{BlockMeta, SsTableHandle, TableIterator};
+use bytes::Bytes;
+use fleet_block::rows_from_bytes;
 use fleet_range::BytesRange;
 use fleet_rows::{Copies, RowEntry, SlateDBError, Ulid};
 use std::alloc::{AllocError, Global};
 use std::marker::Model;
+use std::sync::Arc;
 
 /// A table. It has at least one row. Contracts see its rows.
 #[derive(Debug, Drop)]
 pub struct TableData {
-    rows: SharedList<RowEntry>,
-    size: u64,
-    blocks: BlockList,
+    kept: Arc<Kept>,
 }
 
 impl Model for TableData {
     ghost use Rattle.std.specs.Prelude.{List};
+    ghost use Rattle.std.specs.Arc.{arc_value};
     ghost use Rattle.row_model.specs.Rows.{Row};
-    ghost use Rattle.fleet_rows.specs.Row.{rows_of};
-    ghost use Rattle.fleet_table.specs.Table.{IsKept};
 
     ghost Value = { List Row };
 
-    ghost view = { λ t. rows_of t.rows };
-
-    ghost invariant = { λ t. IsKept (rows_of t.rows) t.size t.blocks };
+    ghost view = { λ t. arc_value t.kept };
 }
 
 impl TableData {
@@ -54,41 +53,71 @@ impl TableData {
         ensures table { IfOk result (λ table. table ≡ rows_of rows.items) }
         ensures memory { IsOkUnless result SlateDBError.Memory }
     {
-        let (size, blocks) = cut_blocks(alloc, rows.as_slice())?;
+        let kept = Kept::from_rows(alloc, rows)?;
         Ok(TableData {
-            rows: SharedList::from_vec(alloc, rows)?,
-            size,
-            blocks,
+            kept: Arc::new(alloc, kept)?,
         })
+    }
+
+    /// The table that has these bytes, or None if no table has them. It keeps a copy of the bytes.
+    pub fn from_bytes(alloc: Global, bytes: &[u8]) -> Result<Option<TableData>, SlateDBError>
+        ensures table { IfOk result (Reads (λ table. table) table_bytes IsTaken bytes.now) }
+        ensures memory { IsOkUnless result SlateDBError.Memory }
+    {
+        let copy = Bytes::copy_from_slice(alloc, bytes)?;
+        let Some(rows) = rows_from_bytes(alloc, &copy)? else {
+            return Ok(None);
+        };
+        Ok(Some(TableData::from_rows(alloc, rows)?))
+    }
+
+    /// The bytes of the table.
+    pub fn as_bytes(&self) -> &[u8]
+        ensures { result.now ≡ table_bytes self.now }
+    {
+        self.kept.bytes.as_slice()
+    }
+
+    /// A table has at least one row, and its rows are strictly ordered and in bounds.
+    pub fn know_table(&self)
+        ensures { IsTable self.now }
+    {
+        self.kept.know_table();
     }
 
     /// The number of rows.
     pub fn rows(&self) -> u64
         ensures { result ≡ length self.now }
     {
-        self.rows.len()
+        self.kept.count() as u64
     }
 
-    /// The rows, by rising key and, within a key, by falling sequence.
-    pub fn as_slice(&self) -> &[RowEntry]
-        ensures rows { rows_of result.now ≡ self.now }
-        ensures table { IsTable self.now }
+    /// The rows, by rising key and, within a key, by falling sequence. They are decoded.
+    pub fn to_rows(&self) -> Result<Vec<RowEntry>, SlateDBError>
+        ensures rows { IfOk result (λ rows. rows_of rows.items ≡ self.now) }
+        ensures memory { IsOkUnless result SlateDBError.Memory }
     {
-        self.rows.as_slice()
+        let alloc = self.kept.alloc;
+        let mut rows = Vec::new(alloc);
+        let mut left = Span::all(&self.kept);
+        'left: while let Some(row) = left.next(alloc)? {
+            rows.push(row)?;
+        }
+        Ok(rows)
     }
 
     /// The rows whose keys lie in the range.
     pub fn iter(&self, range: &BytesRange) -> TableIterator<'_>
         ensures { result ≡ record { left = rows_in (range_of range.now) self.now; broken = false } }
     {
-        TableIterator::new(rows_in(self.rows.as_slice(), range))
+        TableIterator::new(Span::new(&self.kept, range))
     }
 
     /// The blocks, in order. The first block begins with the first row.
     pub fn index(&self) -> &[BlockMeta]
         ensures { blocks_of result.now ≡ blocks self.now }
     {
-        self.blocks.as_slice()
+        self.kept.blocks.as_slice()
     }
 
     /// The key and the sequence of the last row.
@@ -96,8 +125,7 @@ impl TableData {
         ensures key { result.0.now ≡ last_key [] self.now }
         ensures seq { result.1 ≡ seq_of_last 0 self.now }
     {
-        let last = last_of(self.rows.as_slice());
-        (last.key.as_slice(), last.seq)
+        (self.kept.last_key.as_slice(), self.kept.last_seq)
     }
 
     /// The description of the table, under this id.
@@ -108,35 +136,20 @@ impl TableData {
             (λ handle. is_le (key_cmp handle.first_key handle.last_key) ≡ true) }
         ensures memory { IsOkUnless result SlateDBError.Memory }
     {
-        let rows = self.rows.as_slice();
-        let first = first_of(rows);
-        let last = last_of(rows);
-        Ok(SsTableHandle {
-            id,
-            first_key: first.key.clone()?,
-            last_key: last.key.clone()?,
-            last_seq: last.seq,
-            rows: self.rows.len(),
-            size: self.size,
-            blocks: self.blocks.clone()?,
-        })
+        self.kept.describe(id)
     }
 
-    /// The newest row of a key with a sequence of at most `seq`. A binary search finds it.
-    pub fn newest_at(&self, key: &[u8], seq: u64) -> Option<&RowEntry>
-        ensures { option_map row_of (option_copied result)
-            ≡ slice_get (seen_at seq (rows_of_key key.now self.now)) 0 }
+    /// The newest row of a key with a sequence of at most `seq`. Only that row is decoded. A key
+    /// that is before the first or behind the last key of the table costs two comparisons.
+    pub fn newest_at(&self, key: &[u8], seq: u64) -> Result<Option<RowEntry>, SlateDBError>
+        ensures row { IfOk result (λ row. option_map row_of row
+            ≡ slice_get (seen_at seq (rows_of_key key.now self.now)) 0) }
+        ensures memory { IsOkUnless result SlateDBError.Memory }
     {
-        let place = rows_before(self.rows.as_slice(), key, seq);
-        let row = self.rows.get(place)?;
-        if key == row.key.as_slice() {
-            Some(row)
-        } else {
-            None
-        }
+        self.kept.newest_at(key, seq)
     }
 
-    /// A copy, which shares the rows.
+    /// A copy, which shares the bytes.
     pub fn clone(&self) -> Result<TableData, SlateDBError>
         ensures copy { IfOk result (λ copy. copy ≡ self.now) }
         ensures memory { IsOkUnless result SlateDBError.Memory }
@@ -150,9 +163,7 @@ impl Clone for TableData {
 
     fn clone(&self) -> Result<TableData, AllocError> {
         Ok(TableData {
-            rows: Clone::clone(&self.rows)?,
-            size: self.size,
-            blocks: Clone::clone(&self.blocks)?,
+            kept: Arc::try_clone(&self.kept)?,
         })
     }
 }
@@ -161,19 +172,4 @@ impl Copies for TableData {
     fn copied(&self) -> Result<TableData, AllocError> {
         Clone::clone(self)
     }
-}
-
-fn first_of(rows: &[RowEntry]) -> &RowEntry
-    requires { rows.now ≢ [] }
-    ensures { result.now.key ≡ first_key (rows_of rows.now) }
-{
-    &rows[0]
-}
-
-fn last_of(rows: &[RowEntry]) -> &RowEntry
-    requires { rows.now ≢ [] }
-    ensures key { result.now.key ≡ last_key [] (rows_of rows.now) }
-    ensures seq { result.now.seq ≡ seq_of_last 0 (rows_of rows.now) }
-{
-    &rows[rows.len() - 1]
 }

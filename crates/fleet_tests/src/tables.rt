@@ -81,7 +81,7 @@ fn copies_a_table_of_one_row(rt: HostRuntime) -> Result<(), Fail> {
     let table = table(alloc, &KEYS[4..])?;
     assert_eq!(rt; table.rows(), 1);
     let again = table.clone()?;
-    assert_eq!(rt; again.as_slice(), table.as_slice());
+    assert_eq!(rt; again.as_bytes(), table.as_bytes());
     Ok(())
 }
 

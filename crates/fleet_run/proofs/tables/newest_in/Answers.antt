@@ -3,14 +3,14 @@ use Rattle.row_model.specs.Rows.{Row}
 use Rattle.fleet_run.proofs.Newest.{newest_of, newest_found, newest_later}
 use Rattle.fleet_run.proofs.tables.newest_in.Goals as goal
 
-pub returns-then-is_some : goal.returns-then-is_some
-returns-then-is_some c =
+pub returns-then-is_some-clause-row : goal.returns-then-is_some-clause-row
+returns-then-is_some-clause-row c =
     let key = c.args.key.now in
-    let of_flush = c.newest_at-newest.ensures ∙ ap (λ (flush : ℕ × List Row). newest_of flush.1 key c.args.seq) c.behind-tables.view_is in
-    newest_found c.args.tables.now.items c.loop-i.i c.index.result.now key c.args.seq c.newest_at-newest.result (search rules) c.index.ensures of_flush (search rules) ∙ c.loop-i.invariant
+    let of_flush = c.in_ok-newest.ensures.row ∙ ap (λ (flush : ℕ × List Row). newest_of flush.1 key c.args.seq) c.behind-tables.view_is in
+    newest_found c.args.tables.now.items c.loop-i.i c.index.result.now key c.args.seq c.in_ok-newest.newest (search rules) c.index.ensures of_flush (search rules) ∙ c.loop-i.invariant
 
 pub loop-i-preserved : goal.loop-i-preserved
 loop-i-preserved c =
     let key = c.args.key.now in
-    let of_flush = c.newest_at-newest.ensures ∙ ap (λ (flush : ℕ × List Row). newest_of flush.1 key c.args.seq) c.behind-tables.view_is in
-    newest_later c.args.tables.now.items c.loop-i.i c.index.result.now key c.args.seq c.newest_at-newest.result (search rules) c.index.ensures of_flush (search rules) ∙ c.loop-i.invariant
+    let of_flush = c.in_ok-newest.ensures.row ∙ ap (λ (flush : ℕ × List Row). newest_of flush.1 key c.args.seq) c.behind-tables.view_is in
+    newest_later c.args.tables.now.items c.loop-i.i c.index.result.now key c.args.seq c.in_ok-newest.newest (search rules) c.index.ensures of_flush (search rules) ∙ c.loop-i.invariant

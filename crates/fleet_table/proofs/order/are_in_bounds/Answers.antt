@@ -2,7 +2,7 @@ use Rattle.std.proofs.Common.{rules}
 use Rattle.std.proofs.lemmas.Iterator.{cases_from_all, YieldsList-from_slice}
 use Rattle.row_model.specs.Bounds.{IsInBounds}
 use Rattle.fleet_rows.specs.Row.{row_of}
-use Rattle.fleet_table.proofs.Ordered.{all_decided}
+use Rattle.fleet_table.proofs.Tested.{all_decided}
 use Rattle.fleet_table.proofs.order.are_in_bounds.Goals as goal
 
 pub returns : goal.returns

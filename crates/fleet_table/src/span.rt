@@ -1,0 +1,123 @@
+//! Rows of a table that are read one after another.
+
+ghost use Rattle.std.specs.Prelude.{◌≡◌, ◌↔◌, ◌≤◌, [], length, IfOk, IsOkUnless, IsTrue, OnErr};
+ghost use Rattle.std.specs.List.{prefix_len};
+ghost use Rattle.row_model.specs.Ranges.{rows_in};
+ghost use Rattle.fleet_iter.specs.Iteration.{from_key};
+ghost use Rattle.fleet_range.specs.Keys.{range_of};
+ghost use Rattle.fleet_table.specs.Cursors.{IsCursor, Takes};
+ghost use Rattle.fleet_table.specs.Order.{is_before_range, is_not_behind_range};
+
+use crate::cursor::{Cursor, Ties};
+use crate::kept::Kept;
+use fleet_range::{ByteRangeBounds, BytesRange};
+use fleet_rows::{RowEntry, SlateDBError};
+use std::alloc::Global;
+use std::marker::Model;
+use std::ops::Bound;
+
+/// Rows of a table that stand one behind another. Each is decoded when it is taken. Contracts see
+/// the rows.
+#[derive(Debug, Drop)]
+pub(crate) struct Span<'a> {
+    table: &'a Kept,
+    cursor: Cursor,
+    // The number of rows of the table up to the last row.
+    end: usize,
+}
+
+impl<'a> Model for Span<'a> {
+    ghost use Rattle.std.specs.Prelude.{◌≤◌, List, length};
+    ghost use Rattle.row_model.specs.Rows.{Row};
+    ghost use Rattle.fleet_table.specs.Cursors.{rows_between, IsCursor};
+
+    ghost Value = { List Row };
+
+    ghost view = { λ s. rows_between s.cursor.row s.end s.table.now };
+
+    ghost invariant = { λ s. (s.end ≤ length s.table.now) × IsCursor s.table.now s.cursor };
+}
+
+impl<'a> Span<'a> {
+    /// The rows of a table whose keys lie in the range.
+    pub(crate) fn new(table: &'a Kept, range: &BytesRange) -> Span<'a>
+        ensures { result ≡ rows_in (range_of range.now) table.now }
+    {
+        table.know_table();
+        Span {
+            table,
+            cursor: start_of(table, range),
+            end: end_of(table, range),
+        }
+    }
+
+    /// All rows of a table.
+    pub(crate) fn all(table: &'a Kept) -> Span<'a>
+        ensures { result ≡ table.now }
+    {
+        table.know_table();
+        Span {
+            table,
+            cursor: table.block_start(0),
+            end: table.count(),
+        }
+    }
+}
+
+impl Span<'_> {
+    pub(crate) fn is_empty(&self) -> bool
+        ensures { IsTrue result ↔ (self.now ≡ []) }
+    {
+        self.end <= self.cursor.row
+    }
+
+    /// Takes the first row.
+    pub(crate) fn next(&mut self, alloc: Global) -> Result<Option<RowEntry>, SlateDBError>
+        ensures row { IfOk result (Takes self.old self.new) }
+        ensures err { OnErr result (self.new ≡ self.old) }
+        ensures memory { IsOkUnless result SlateDBError.Memory }
+    {
+        if self.end <= self.cursor.row {
+            return Ok(None);
+        }
+        let (row, cursor) = self.table.row(alloc, self.cursor)?;
+        self.cursor = cursor;
+        Ok(Some(row))
+    }
+
+    /// Drops rows at the front while their keys are below this key. The index tells where to go on.
+    pub(crate) fn skip_to(&mut self, key: &[u8])
+        ensures { self.new ≡ from_key key.now self.old }
+    {
+        self.table.know_table();
+        let cursor = self.table.find(key, Ties::Behind);
+        if self.cursor.row < cursor.row {
+            self.cursor = cursor;
+        }
+    }
+}
+
+// Where the first row stands that is not before the range.
+fn start_of(table: &Kept, range: &BytesRange) -> Cursor
+    ensures row { result.row ≡ prefix_len (is_before_range (range_of range.now)) table.now }
+    ensures stands { IsCursor table.now result }
+{
+    table.know_table();
+    match ByteRangeBounds::start_bound(range) {
+        Bound::Included(start) => table.find(start, Ties::Behind),
+        Bound::Excluded(start) => table.find(start, Ties::Before),
+        Bound::Unbounded => table.block_start(0),
+    }
+}
+
+// The number of rows that are not behind the range.
+fn end_of(table: &Kept, range: &BytesRange) -> usize
+    ensures value { result ≡ prefix_len (is_not_behind_range (range_of range.now)) table.now }
+    ensures within { result ≤ length table.now }
+{
+    match ByteRangeBounds::end_bound(range) {
+        Bound::Included(end) => table.find(end, Ties::Before).row,
+        Bound::Excluded(end) => table.find(end, Ties::Behind).row,
+        Bound::Unbounded => table.count(),
+    }
+}
