@@ -7,7 +7,7 @@ use Rattle.row_laws.proofs.Elements.{all_weaken}
 use Rattle.fleet_model.specs.Nodes.{NodeName, L0, Run, Node, Tree, Segment, name_eq, names_contain}
 use Rattle.fleet_model.specs.Trees.{by_first_key, l0_or, on_segment, source_nodes, source_pieces, stepped, stepped_in, to_run, watermark_after, with_run_for, without}
 use Rattle.fleet_model.specs.Trees as model
-use Rattle.fleet_table.specs.Trees.{flush_node, run_node, tree_of, trees_of, trees_with_prefix}
+use Rattle.fleet_table.specs.Trees.{RunFlushes, flush_node, run_node, tree_of, trees_of, trees_with_prefix}
 use Rattle.fleet_table.specs.Trees as table
 use Rattle.fleet_table.specs.Views.{View}
 use Rattle.fleet_table.specs.declared.run.SortedRun.{SortedRun}
@@ -114,9 +114,10 @@ module _ (before after : ℕ → List ℕ) where
   pub same : (t : LsmTreeState) → AllByRecursion IsKept t.compacted → tree_of after t ≡ tree_of before t
   same t kept = ap (λ rs. map (flush_node before) t.l0 ++ rs) (sym (runs_same t.compacted kept))
 
+module _ (before after : RunFlushes) where
   pub segment_is : (spec : CompactionSpec) (output : Option SortedRun) (change : Tree → Tree) (p : List ℕ) (t : LsmTreeState)
-      → (bytes_eq (segment_of spec) p ≡ true → tree_of after (finished_tree (sources_of spec) output t) ≡ change (tree_of before t))
-      → (bytes_eq (segment_of spec) p ≡ false → tree_of after t ≡ tree_of before t)
+      → (bytes_eq (segment_of spec) p ≡ true → tree_of (after p) (finished_tree (sources_of spec) output t) ≡ change (tree_of (before p) t))
+      → (bytes_eq (segment_of spec) p ≡ false → tree_of (after p) t ≡ tree_of (before p) t)
       → table.segment_of after (segment_after spec output (p, t)) ≡ on_segment (segment_of spec) (names_of spec) change (table.segment_of before (p, t))
   segment_is spec output change p t here there = by (bytes_eq (segment_of spec) p) refl
     where
@@ -125,10 +126,10 @@ module _ (before after : ℕ → List ℕ) where
 
       by : (b : Bool) → bytes_eq (segment_of spec) p ≡ b
           → table.segment_of after (p, cond b (finished_tree (sources_of spec) output t) t)
-          ≡ cond b (made (change (tree_of before t)) (watermark_after (names_of spec) (tree_of before t) t.last_compacted_l0_sst_view_id)) (table.segment_of before (p, t))
+          ≡ cond b (made (change (tree_of (before p) t)) (watermark_after (names_of spec) (tree_of (before p) t) t.last_compacted_l0_sst_view_id)) (table.segment_of before (p, t))
       by true e =
           ap (λ tree. made tree (mark_after (sources_of spec) t)) (here e)
-          ∙ ap (made (change (tree_of before t))) (sym (mark_is before (sources_of spec) t.last_compacted_l0_sst_view_id t.compacted t.l0))
+          ∙ ap (made (change (tree_of (before p) t))) (sym (mark_is (before p) (sources_of spec) t.last_compacted_l0_sst_view_id t.compacted t.l0))
       by false e = ap (λ tree. made tree t.last_compacted_l0_sst_view_id) (there e)
 
 maps : {A B C D : Type 0} (f : B → D) (g : A → B) (h : C → D) (k : A → C) (xs : List A) → AllByRecursion (λ x. f (g x) ≡ h (k x)) xs → map f (map g xs) ≡ map h (map k xs)
@@ -142,19 +143,19 @@ all_of (x ∷ xs) each = (each x, all_of xs each)
 pub drains_are_the_models : DrainsAreTheModels
 drains_are_the_models flushes tables outputs job core =
     maps (table.segment_of flushes) (segment_after job.spec None) (on_segment (segment_of job.spec) (names_of job.spec) (without (names_of job.spec))) (table.segment_of flushes) (trees_with_prefix core)
-    (all_of (trees_with_prefix core) (λ s. segment_is flushes flushes job.spec None (without (names_of job.spec)) s.0 s.1 (λ e. drained flushes (sources_of job.spec) s.1) (λ e. refl)))
+    (all_of (trees_with_prefix core) (λ s. segment_is flushes flushes job.spec None (without (names_of job.spec)) s.0 s.1 (λ e. drained (flushes s.0) (sources_of job.spec) s.1) (λ e. refl)))
 
-module _ (before after : ℕ → List ℕ) (spec : CompactionSpec) (output : SortedRun) where
+module _ (before after : RunFlushes) (spec : CompactionSpec) (output : SortedRun) where
   kept_in : (b : Bool) (s : List ℕ × LsmTreeState) → bytes_eq (segment_of spec) s.0 ≡ b → FlushesFollow before after spec output.id s
-      → AllByRecursion (λ run. after run.id ≡ before run.id) (cond b (finished_tree (sources_of spec) None s.1) s.1).compacted
-  kept_in b s e follows = subst (λ c. AllByRecursion (λ run. after run.id ≡ before run.id) (cond c (finished_tree (sources_of spec) None s.1) s.1).compacted) e follows.kept
+      → AllByRecursion (λ run. after s.0 run.id ≡ before s.0 run.id) (cond b (finished_tree (sources_of spec) None s.1) s.1).compacted
+  kept_in b s e follows = subst (λ c. AllByRecursion (λ run. after s.0 run.id ≡ before s.0 run.id) (cond c (finished_tree (sources_of spec) None s.1) s.1).compacted) e follows.kept
 
   joined_in : (s : List ℕ × LsmTreeState) → FlushesFollow before after spec output.id s → bytes_eq (segment_of spec) s.0 ≡ true
-      → tree_of after (finished_tree (sources_of spec) (Some output) s.1) ≡ with_run_for (names_of spec) output.id (view_tables output.views) (tree_of before s.1)
-  joined_in s follows e = joined before after (sources_of spec) output s.1 (follows.gathered e) (kept_in true s e follows)
+      → tree_of (after s.0) (finished_tree (sources_of spec) (Some output) s.1) ≡ with_run_for (names_of spec) output.id (view_tables output.views) (tree_of (before s.0) s.1)
+  joined_in s follows e = joined (before s.0) (after s.0) (sources_of spec) output s.1 (follows.gathered e) (kept_in true s e follows)
 
-  same_in : (s : List ℕ × LsmTreeState) → FlushesFollow before after spec output.id s → bytes_eq (segment_of spec) s.0 ≡ false → tree_of after s.1 ≡ tree_of before s.1
-  same_in s follows e = same before after s.1 (kept_in false s e follows)
+  same_in : (s : List ℕ × LsmTreeState) → FlushesFollow before after spec output.id s → bytes_eq (segment_of spec) s.0 ≡ false → tree_of (after s.0) s.1 ≡ tree_of (before s.0) s.1
+  same_in s follows e = same (before s.0) (after s.0) s.1 (kept_in false s e follows)
 
 both : {A : Type 0} (P Q : A → Type 0) (xs : List A) → AllByRecursion P xs → AllByRecursion Q xs → AllByRecursion (λ x. P x × Q x) xs
 both P Q [] ps qs = tt
@@ -182,6 +183,6 @@ moves_are_the_models before after tables outputs job output core makes follow mo
     (all_weaken (λ s. FlushesFollow before after spec output.id s × AreMoved before tables spec output.views s)
     (λ s. table.segment_of after (segment_after spec (Some output) s) ≡ on_segment (segment_of spec) names (change (Some output.id)) (table.segment_of before s))
     (λ s facts. segment_is before after spec (Some output) (change (Some output.id)) s.0 s.1
-    (λ e. joined_in before after spec output s facts.0 e ∙ ap (λ pieces. with_run_for names output.id pieces (tree_of before s.1)) (facts.1 e))
+    (λ e. joined_in before after spec output s facts.0 e ∙ ap (λ pieces. with_run_for names output.id pieces (tree_of (before s.0) s.1)) (facts.1 e))
     (same_in before after spec output s facts.0))
     (trees_with_prefix core) (both (FlushesFollow before after spec output.id) (AreMoved before tables spec output.views) (trees_with_prefix core) follow moved)))

@@ -1,11 +1,12 @@
 -- A coordinator takes a stored manifest as the model does.
 use Rattle.std.proofs.Common.{◌≡◌, refl, sym, ◌∙◌, ap, List, [], ◌∷◌, ◌++◌, map, Bool, true, false, cond, not}
-use Rattle.std.specs.Prelude.{ℕ, ◌==◌, find, option_map, bytes_eq, Option, Some, None}
+use Rattle.std.specs.Prelude.{ℕ, ◌==◌, IfSome, find, option_map, bytes_eq, Option, Some, None}
 use Rattle.std.proofs.lemmas.Cmp.{nat_eq_equiv}
+use Rattle.std.proofs.lemmas.Slice.Eq.{bytes_eq-Decides}
 use Rattle.std.proofs.lemmas.List.Sums.{take_while-cons}
 use Rattle.fleet_model.specs.Nodes.{Segment, Tree, Trees, segment_at}
 use Rattle.step_model.specs.Merging as model
-use Rattle.fleet_table.specs.Trees.{flush_node, run_node, newer_than, tree_of, trees_of, trees_with_prefix}
+use Rattle.fleet_table.specs.Trees.{RunFlushes, flush_node, run_node, newer_than, tree_of, trees_of, trees_with_prefix}
 use Rattle.fleet_table.specs.Trees as table
 use Rattle.fleet_table.specs.Views.{View}
 use Rattle.fleet_table.specs.declared.manifest.ManifestCore.{ManifestCore}
@@ -47,11 +48,15 @@ module _ (flushes : ℕ → List ℕ) where
   runs_left [] runs = runs_only runs
   runs_left (v ∷ views) runs = runs_left views runs
 
+module _ (flushes : RunFlushes) where
   -- One segment, given the coordinator's own segment of its prefix.
-  one : (own : Option (List ℕ × LsmTreeState)) (s : List ℕ × LsmTreeState)
+  one : (own : Option (List ℕ × LsmTreeState)) (s : List ℕ × LsmTreeState) → IfSome own (λ o. o.0 ≡ s.0)
       → table.segment_of flushes (s.0, merged_tree (option_map (λ o. o.1) own) s.1) ≡ model.merged_segment (option_map (table.segment_of flushes) own) (table.segment_of flushes s)
-  one None s = refl
-  one (Some own) s = ap made (sym (ap (λ (t : Tree). t ++ model.runs_of (tree_of flushes own.1)) (newer mark s.1.compacted s.1.l0) ∙ ap (λ (t : Tree). map (flush_node flushes) (newer_than mark s.1.l0) ++ t) (runs_left own.1.l0 own.1.compacted)))
+  one None s same = refl
+  one (Some own) s same =
+      ap made (ap (λ p. map (flush_node (flushes s.0)) (newer_than mark s.1.l0) ++ map (run_node (flushes p)) own.1.compacted) (sym same)
+      ∙ sym (ap (λ (t : Tree). t ++ model.runs_of (tree_of (flushes own.0) own.1)) (newer (flushes s.0) mark s.1.compacted s.1.l0)
+      ∙ ap (λ (t : Tree). map (flush_node (flushes s.0)) (newer_than mark s.1.l0) ++ t) (runs_left (flushes own.0) own.1.l0 own.1.compacted)))
     where
       mark : Option ℕ
       mark = own.1.last_compacted_l0_sst_view_id
@@ -68,13 +73,22 @@ module _ (flushes : ℕ → List ℕ) where
       by true rest = refl
       by false rest = rest
 
+  -- What is found has the prefix that was looked for.
+  found_at : (p : List ℕ) (ss : List (List ℕ × LsmTreeState)) → IfSome (find (λ s. bytes_eq p s.0) ss) (λ o. o.0 ≡ p)
+  found_at p [] = tt
+  found_at p (s ∷ ss) = by (bytes_eq p s.0) refl (found_at p ss)
+    where
+      by : (b : Bool) → bytes_eq p s.0 ≡ b → IfSome (find (λ s. bytes_eq p s.0) ss) (λ o. o.0 ≡ p) → IfSome (cond b (Some s) (find (λ s. bytes_eq p s.0) ss)) (λ o. o.0 ≡ p)
+      by true e rest = sym ((bytes_eq-Decides p s.0).0 e)
+      by false e rest = rest
+
   segments : (own : ManifestCore) (ss : List (List ℕ × LsmTreeState))
       → map (table.segment_of flushes) (map (merged_segment own) ss) ≡ model.merged_trees (trees_of flushes own) (map (table.segment_of flushes) ss)
   segments own [] = refl
   segments own (s ∷ ss) =
       ap (λ (ts : Trees). table.segment_of flushes (merged_segment own s) ∷ ts) (segments own ss)
       ∙ ap (λ (t : Segment). t ∷ model.merged_trees (trees_of flushes own) (map (table.segment_of flushes) ss))
-      (one (find (λ o. bytes_eq s.0 o.0) (trees_with_prefix own)) s ∙ ap (λ o. model.merged_segment o (table.segment_of flushes s)) (found s.0 (trees_with_prefix own)))
+      (one (find (λ o. bytes_eq s.0 o.0) (trees_with_prefix own)) s (found_at s.0 (trees_with_prefix own)) ∙ ap (λ o. model.merged_segment o (table.segment_of flushes s)) (found s.0 (trees_with_prefix own)))
 
   merged : (own stored : ManifestCore) → trees_of flushes (merged_core own stored) ≡ model.merged_trees (trees_of flushes own) (trees_of flushes stored)
   merged own stored = segments own (trees_with_prefix stored)

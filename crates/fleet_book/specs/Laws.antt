@@ -8,7 +8,7 @@ use Rattle.fleet_model.specs.Store.{Manifest}
 use Rattle.fleet_model.specs.Trees.{by_first_key, source_nodes, source_pieces, stepped_in}
 use Rattle.step_model.specs.Merging as model
 use Rattle.fleet_table.specs.Manifests.{manifest_of}
-use Rattle.fleet_table.specs.Trees.{tree_of, trees_of, trees_with_prefix}
+use Rattle.fleet_table.specs.Trees.{RunFlushes, tree_of, trees_of, trees_with_prefix}
 use Rattle.fleet_table.specs.Views.{View}
 use Rattle.fleet_table.specs.declared.manifest.ManifestCore.{ManifestCore}
 use Rattle.fleet_table.specs.declared.manifest.VersionedManifest.{VersionedManifest}
@@ -26,43 +26,43 @@ use Rattle.fleet_jobs.specs.Laws.{names_of, view_tables}
 
 -- A drain changes the trees as the model's drain does.
 abbrev pub DrainsAreTheModels : Type 0
-DrainsAreTheModels = (flushes : ℕ → List ℕ) (tables : Tables) (outputs : List ℕ) (job : JobParts) (core : ManifestCore)
+DrainsAreTheModels = (flushes : RunFlushes) (tables : Tables) (outputs : List ℕ) (job : JobParts) (core : ManifestCore)
     → trees_of flushes (core_after job None core) ≡ stepped_in tables (Drain job.id) (spec_of job.spec) outputs (trees_of flushes core)
 
--- In the job's segment, all flushes that went into the sources are in the run that was made. Each other run has the
--- flushes that it had.
-pub record FlushesFollow (before after : ℕ → List ℕ) (spec : CompactionSpec) (made : ℕ) (s : List ℕ × LsmTreeState) : Type 0 where
-  pub gathered : bytes_eq (segment_of spec) s.0 ≡ true → after made ≡ flat_map (λ node. node.flushes) (source_nodes (names_of spec) (tree_of before s.1))
-  pub kept : AllByRecursion (λ run. after run.id ≡ before run.id) (tree_after spec None s.0 s.1).compacted
+-- In the job's segment, all flushes that went into the sources are in the run that was made. Each other run of this
+-- segment has the flushes that it had.
+pub record FlushesFollow (before after : RunFlushes) (spec : CompactionSpec) (made : ℕ) (s : List ℕ × LsmTreeState) : Type 0 where
+  pub gathered : bytes_eq (segment_of spec) s.0 ≡ true → after s.0 made ≡ flat_map (λ node. node.flushes) (source_nodes (names_of spec) (tree_of (before s.0) s.1))
+  pub kept : AllByRecursion (λ run. after s.0 run.id ≡ before s.0 run.id) (tree_after spec None s.0 s.1).compacted
 
 -- The flushes that went into runs are as the job leaves them, in each segment.
-abbrev pub FlushesFollowIn : (ℕ → List ℕ) → (ℕ → List ℕ) → CompactionSpec → ℕ → ManifestCore → Type 0
+abbrev pub FlushesFollowIn : (before after : RunFlushes) → CompactionSpec → ℕ → ManifestCore → Type 0
 FlushesFollowIn before after spec made core = AllByRecursion (FlushesFollow before after spec made) (trees_with_prefix core)
 
 -- A job that makes a run of these tables changes the trees as the model's join of these tables does.
 abbrev pub JoinsAreTheModels : Type 0
-JoinsAreTheModels = (before after : ℕ → List ℕ) (tables : Tables) (job : JobParts) (output : SortedRun) (core : ManifestCore)
+JoinsAreTheModels = (before after : RunFlushes) (tables : Tables) (job : JobParts) (output : SortedRun) (core : ManifestCore)
     → destination_of job.spec ≡ Some output.id → FlushesFollowIn before after job.spec output.id core
     → trees_of after (core_after job (Some output) core) ≡ stepped_in tables (Join job.id) (spec_of job.spec) (view_tables output.views) (trees_of before core)
 
 -- In the job's segment, the tables are those of the sources by rising first key.
-abbrev pub AreMoved : (ℕ → List ℕ) → Tables → CompactionSpec → List View → List ℕ × LsmTreeState → Type 0
-AreMoved flushes tables spec views s = bytes_eq (segment_of spec) s.0 ≡ true → view_tables views ≡ by_first_key tables (source_pieces (names_of spec) (tree_of flushes s.1))
+abbrev pub AreMoved : RunFlushes → Tables → CompactionSpec → List View → List ℕ × LsmTreeState → Type 0
+AreMoved flushes tables spec views s = bytes_eq (segment_of spec) s.0 ≡ true → view_tables views ≡ by_first_key tables (source_pieces (names_of spec) (tree_of (flushes s.0) s.1))
 
 -- A job that makes a run of the tables of its sources changes the trees as the model's move does.
 abbrev pub MovesAreTheModels : Type 0
-MovesAreTheModels = (before after : ℕ → List ℕ) (tables : Tables) (outputs : List ℕ) (job : JobParts) (output : SortedRun) (core : ManifestCore)
+MovesAreTheModels = (before after : RunFlushes) (tables : Tables) (outputs : List ℕ) (job : JobParts) (output : SortedRun) (core : ManifestCore)
     → destination_of job.spec ≡ Some output.id → FlushesFollowIn before after job.spec output.id core
     → AllByRecursion (AreMoved before tables job.spec output.views) (trees_with_prefix core)
     → trees_of after (core_after job (Some output) core) ≡ stepped_in tables (Move job.id) (spec_of job.spec) outputs (trees_of before core)
 
 -- The model's manifest with the contents of a stored one.
-abbrev pub model_manifest : (ℕ → List ℕ) → VersionedManifest → Manifest
+abbrev pub model_manifest : RunFlushes → VersionedManifest → Manifest
 model_manifest flushes manifest = manifest_of flushes manifest.id manifest.manifest.compactor_epoch manifest.manifest.core
 
 -- A coordinator's manifest after it saw a stored one is the stored one with the trees that the model merges.
 abbrev pub MergedManifestsAreTheModels : Type 0
-MergedManifestsAreTheModels = (flushes : ℕ → List ℕ) (own stored : VersionedManifest)
+MergedManifestsAreTheModels = (flushes : RunFlushes) (own stored : VersionedManifest)
     → model_manifest flushes (merged_manifest own stored) ≡ record (model_manifest flushes stored) {
       trees = model.merged_trees (trees_of flushes own.manifest.core) (trees_of flushes stored.manifest.core);
     }

@@ -4,12 +4,13 @@ use Rattle.std.specs.Prelude.{ℕ, ◌==◌, filter, find, flat_map, option_map,
 use Rattle.std.specs.List.{cons_option}
 use Rattle.std.specs.Option.{option_to_list}
 use Rattle.std.proofs.lemmas.Cmp.{nat_eq_equiv}
+use Rattle.std.proofs.lemmas.Slice.Eq.{bytes_eq-Decides}
 use Rattle.std.proofs.lemmas.List.Concat.{flat_map-append}
 use Rattle.std.proofs.lemmas.List.{map-append}
 use Rattle.std.proofs.lemmas.List.Elements.{filter_map-append}
 use Rattle.fleet_model.specs.Nodes.{L0, Run, Node, Tree, is_l0, node_named, tree_at, tree_or_empty}
 use Rattle.fleet_model.specs.Trees.{source_nodes, source_pieces}
-use Rattle.fleet_table.specs.Trees.{flush_node, run_node, tree_of, trees_of, trees_with_prefix}
+use Rattle.fleet_table.specs.Trees.{RunFlushes, flush_node, run_node, tree_of, trees_of, trees_with_prefix}
 use Rattle.fleet_table.specs.Trees as table
 use Rattle.fleet_table.specs.Views.{View}
 use Rattle.fleet_table.specs.declared.run.SortedRun.{SortedRun}
@@ -25,17 +26,6 @@ module _ (flushes : ℕ → List ℕ) where
   -- The nodes of these flushes and runs.
   abbrev nodes : List View → List SortedRun → Tree
   nodes views runs = map (flush_node flushes) views ++ map (run_node flushes) runs
-
-  tree_is : (p : List ℕ) (ss : List (List ℕ × LsmTreeState))
-      → tree_at p (map (table.segment_of flushes) ss) ≡ nodes (l0_in (option_map (λ s. s.1) (find (λ s. bytes_eq p s.0) ss))) (runs_in (option_map (λ s. s.1) (find (λ s. bytes_eq p s.0) ss)))
-  tree_is p [] = refl
-  tree_is p (s ∷ ss) = by (bytes_eq p s.0) (tree_is p ss)
-    where
-      by : (b : Bool) → tree_at p (map (table.segment_of flushes) ss) ≡ nodes (l0_in (option_map (λ s. s.1) (find (λ s. bytes_eq p s.0) ss))) (runs_in (option_map (λ s. s.1) (find (λ s. bytes_eq p s.0) ss)))
-          → tree_or_empty (cond b (Some (table.segment_of flushes s)) (find (λ segment. bytes_eq p segment.prefix) (map (table.segment_of flushes) ss)))
-          ≡ nodes (l0_in (option_map (λ s. s.1) (cond b (Some s) (find (λ s. bytes_eq p s.0) ss)))) (runs_in (option_map (λ s. s.1) (cond b (Some s) (find (λ s. bytes_eq p s.0) ss))))
-      by true rest = refl
-      by false rest = rest
 
   no_flush : (n : ℕ) (runs : List SortedRun) → node_named (L0 n) (map (run_node flushes) runs) ≡ None
   no_flush n [] = refl
@@ -95,15 +85,29 @@ module _ (flushes : ℕ → List ℕ) where
   run_pieces [] = refl
   run_pieces (r ∷ runs) = map-append (λ view. view.sst.id) r.views (flat_map (λ run. run.views) runs) ∙ ap (λ ids. view_tables r.views ++ ids) (run_pieces runs)
 
+module _ (flushes : RunFlushes) (p : List ℕ) where
+  -- The nodes of the tree that a segment has.
+  abbrev nodes_in : Option (List ℕ × LsmTreeState) → Tree
+  nodes_in s = nodes (flushes p) (l0_in (option_map (λ s. s.1) s)) (runs_in (option_map (λ s. s.1) s))
+
+  tree_is : (ss : List (List ℕ × LsmTreeState)) → tree_at p (map (table.segment_of flushes) ss) ≡ nodes_in (find (λ s. bytes_eq p s.0) ss)
+  tree_is [] = refl
+  tree_is (s ∷ ss) = by (bytes_eq p s.0) refl (tree_is ss)
+    where
+      by : (b : Bool) → bytes_eq p s.0 ≡ b → tree_at p (map (table.segment_of flushes) ss) ≡ nodes_in (find (λ s. bytes_eq p s.0) ss)
+          → tree_or_empty (cond b (Some (table.segment_of flushes s)) (find (λ segment. bytes_eq p segment.prefix) (map (table.segment_of flushes) ss))) ≡ nodes_in (cond b (Some s) (find (λ s. bytes_eq p s.0) ss))
+      by true e rest = ap (λ q. tree_of (flushes q) s.1) (sym ((bytes_eq-Decides p s.0).0 e))
+      by false e rest = rest
+
 pub taken_views_are_the_models : TakenViewsAreTheModels
 taken_views_are_the_models flushes spec core =
     let tree = tree_in (segment_of spec) core in
-    views_are flushes (l0_in tree) (runs_in tree) (sources_of spec) ∙ ap (source_nodes (l0_names spec)) (sym (tree_is flushes (segment_of spec) (trees_with_prefix core)))
+    views_are (flushes (segment_of spec)) (l0_in tree) (runs_in tree) (sources_of spec) ∙ ap (source_nodes (l0_names spec)) (sym (tree_is flushes (segment_of spec) (trees_with_prefix core)))
 
 pub taken_runs_are_the_models : TakenRunsAreTheModels
 taken_runs_are_the_models flushes spec core =
     let tree = tree_in (segment_of spec) core in
-    runs_are flushes (l0_in tree) (runs_in tree) (sources_of spec) ∙ ap (source_nodes (run_names spec)) (sym (tree_is flushes (segment_of spec) (trees_with_prefix core)))
+    runs_are (flushes (segment_of spec)) (l0_in tree) (runs_in tree) (sources_of spec) ∙ ap (source_nodes (run_names spec)) (sym (tree_is flushes (segment_of spec) (trees_with_prefix core)))
 
 pub taken_tables_are_the_models : TakenTablesAreTheModels
 taken_tables_are_the_models flushes spec core in_order =
@@ -112,8 +116,8 @@ taken_tables_are_the_models flushes spec core in_order =
     let runs = taken_runs spec core in
     let pieces : List Node → List ℕ = flat_map (λ node. node.pieces) in
     map-append (λ view. view.sst.id) views (flat_map (λ run. run.views) runs)
-    ∙ ap (λ ids. ids ++ view_tables (flat_map (λ run. run.views) runs)) (view_pieces flushes views ∙ ap pieces (taken_views_are_the_models flushes spec core))
-    ∙ ap (λ ids. pieces (source_nodes (l0_names spec) tree) ++ ids) (run_pieces flushes runs ∙ ap pieces (taken_runs_are_the_models flushes spec core))
+    ∙ ap (λ ids. ids ++ view_tables (flat_map (λ run. run.views) runs)) (view_pieces (flushes (segment_of spec)) views ∙ ap pieces (taken_views_are_the_models flushes spec core))
+    ∙ ap (λ ids. pieces (source_nodes (l0_names spec) tree) ++ ids) (run_pieces (flushes (segment_of spec)) runs ∙ ap pieces (taken_runs_are_the_models flushes spec core))
     ∙ sym (flat_map-append (λ node. node.pieces) (source_nodes (l0_names spec) tree) (source_nodes (run_names spec) tree))
     ∙ ap pieces (sym (filter_map-append (λ name. node_named name tree) (l0_names spec) (run_names spec)))
     ∙ ap (λ names. source_pieces names tree) (sym in_order)

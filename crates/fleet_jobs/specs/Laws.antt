@@ -8,7 +8,7 @@ use Rattle.fleet_model.specs.Nodes.{NodeName, is_l0, Tables, table_rows, tree_at
 use Rattle.fleet_model.specs.Polls.{PollInput, can_move}
 use Rattle.fleet_model.specs.Records.{Unrecorded, beaten_by, claimed_by, finished_by, to_completed, to_failed, to_scheduled, to_waiting}
 use Rattle.fleet_model.specs.Trees.{by_first_key, first_key, last_key, source_nodes, source_pieces}
-use Rattle.fleet_table.specs.Trees.{flush_node, run_node, trees_of}
+use Rattle.fleet_table.specs.Trees.{RunFlushes, flush_node, run_node, trees_of}
 use Rattle.fleet_table.specs.Views.{View}
 use Rattle.fleet_table.specs.declared.handle.SsTableHandle.{SsTableHandle}
 use Rattle.fleet_table.specs.declared.manifest.ManifestCore.{ManifestCore}
@@ -43,17 +43,17 @@ run_names spec = filter (λ name. not (is_l0 name)) (names_of spec)
 
 -- The flushes that a job takes are the model's flush nodes among its source nodes.
 abbrev pub TakenViewsAreTheModels : Type 0
-TakenViewsAreTheModels = (flushes : ℕ → List ℕ) (spec : CompactionSpec) (core : ManifestCore)
-    → map (flush_node flushes) (taken_views spec core) ≡ source_nodes (l0_names spec) (tree_at (segment_of spec) (trees_of flushes core))
+TakenViewsAreTheModels = (flushes : RunFlushes) (spec : CompactionSpec) (core : ManifestCore)
+    → map (flush_node (flushes (segment_of spec))) (taken_views spec core) ≡ source_nodes (l0_names spec) (tree_at (segment_of spec) (trees_of flushes core))
 
 -- The runs that a job takes are the model's run nodes among its source nodes.
 abbrev pub TakenRunsAreTheModels : Type 0
-TakenRunsAreTheModels = (flushes : ℕ → List ℕ) (spec : CompactionSpec) (core : ManifestCore)
-    → map (run_node flushes) (taken_runs spec core) ≡ source_nodes (run_names spec) (tree_at (segment_of spec) (trees_of flushes core))
+TakenRunsAreTheModels = (flushes : RunFlushes) (spec : CompactionSpec) (core : ManifestCore)
+    → map (run_node (flushes (segment_of spec))) (taken_runs spec core) ≡ source_nodes (run_names spec) (tree_at (segment_of spec) (trees_of flushes core))
 
 -- If a job names its flushes before its runs, the tables that it takes are the tables of the model's source nodes.
 abbrev pub TakenTablesAreTheModels : Type 0
-TakenTablesAreTheModels = (flushes : ℕ → List ℕ) (spec : CompactionSpec) (core : ManifestCore)
+TakenTablesAreTheModels = (flushes : RunFlushes) (spec : CompactionSpec) (core : ManifestCore)
     → names_of spec ≡ l0_names spec ++ run_names spec
     → view_tables (taken_tables spec core) ≡ source_pieces (names_of spec) (tree_at (segment_of spec) (trees_of flushes core))
 
@@ -77,7 +77,7 @@ pub record EndsFit (tables : Tables) (view : View) : Type 0 where
 -- If moves are allowed, a run is made of the tables of a job exactly if the model can move the job. The job is no
 -- drain, and names its flushes before its runs.
 abbrev pub MovableJobsAreTheModels : Type 0
-MovableJobsAreTheModels = (flushes : ℕ → List ℕ) (input : PollInput) (spec : CompactionSpec) (core : ManifestCore)
+MovableJobsAreTheModels = (flushes : RunFlushes) (input : PollInput) (spec : CompactionSpec) (core : ManifestCore)
     → is_drain (spec_of spec) ≡ false → names_of spec ≡ l0_names spec ++ run_names spec
     → AllByRecursion (EndsFit input.tables) (taken_tables spec core)
     → (input.options.moves && is_some (moved_run (destination_of spec) (taken_tables spec core))) ≡ can_move input (trees_of flushes core) (spec_of spec)

@@ -4,7 +4,7 @@ use Rattle.std.specs.Prelude.{flat_map}
 use Rattle.std.proofs.lemmas.List.{append-nil, take_more, map-append}
 use Rattle.fleet_model.specs.Levels.{above_all, capped_id, destination_list, fresh_run_id}
 use Rattle.fleet_model.specs.Sources.{all_run_ids}
-use Rattle.fleet_table.specs.Trees.{segment_of}
+use Rattle.fleet_table.specs.Trees.{RunFlushes, segment_of}
 use Rattle.fleet_table.specs.declared.tree.LsmTreeState.{LsmTreeState}
 use Rattle.fleet_jobs.specs.JobParts.{JobParts}
 use Rattle.fleet_jobs.specs.Jobs.{jobs_of}
@@ -47,9 +47,9 @@ above_segment root above made xs i x lt is so step =
     ids_in-more (z ∷ ys) y = ap (λ l. map (λ run. run.id) z.1.compacted ++ l) (ids_in-more ys y) ∙ sym (append_assoc (map (λ run. run.id) z.1.compacted) (ids_in ys) (map (λ run. run.id) y.1.compacted))
 
 -- The ids of all runs of the model's trees.
-pub all_run_ids_are : (flushes : ℕ → List ℕ) (trees : List (List ℕ × LsmTreeState)) → all_run_ids (map (segment_of flushes) trees) ≡ ids_in trees
+pub all_run_ids_are : (flushes : RunFlushes) (trees : List (List ℕ × LsmTreeState)) → all_run_ids (map (segment_of flushes) trees) ≡ ids_in trees
 all_run_ids_are flushes [] = refl
-all_run_ids_are flushes (s ∷ trees) = cc (run_ids_of flushes s.1, all_run_ids_are flushes trees)
+all_run_ids_are flushes (s ∷ trees) = cc (run_ids_of (flushes s.0) s.1, all_run_ids_are flushes trees)
 
 -- The destinations of the model's jobs.
 pub destinations_are : (jobs : List JobParts) → flat_map (λ job. destination_list job.spec.destination) (jobs_of jobs) ≡ destinations_in jobs
@@ -57,7 +57,7 @@ destinations_are [] = refl
 destinations_are (job ∷ jobs) = ap (λ (l : List ℕ). destination_list (Rattle.fleet_jobs.specs.Specs.destination_of job.spec) ++ l) (destinations_are jobs)
 
 -- The fresh id is above the runs and the destinations that are shown.
-pub fresh_is : (flushes : ℕ → List ℕ) (state : CompactorStateView) (above made : ℕ) → above ≡ capped_id (above_all (ids_in (trees_in state)))
+pub fresh_is : (flushes : RunFlushes) (state : CompactorStateView) (above made : ℕ) → above ≡ capped_id (above_all (ids_in (trees_in state)))
     → made ≡ capped_id (max above (above_all (destinations_in (open_records state.compactions)))) → made ≡ fresh_run_id (view_of flushes state)
 fresh_is flushes state above made runs jobs =
     let all : above_all (all_run_ids (map (segment_of flushes) (trees_in state)) ++ flat_map (λ job. destination_list job.spec.destination) (shown_jobs state))

@@ -6,6 +6,7 @@ use Rattle.sched_model.specs.Picks.{Planned, passes}
 use Rattle.sched_model.specs.Series.{TieredOptions}
 use Rattle.sched_model.specs.Sizes.{SizedTree}
 use Rattle.sched_model.specs.SizeTiered.{by_flushes, free_slots, tiered_proposals, unplanned}
+use Rattle.fleet_table.specs.Trees.{RunFlushes}
 use Rattle.fleet_table.specs.declared.tree.LsmTreeState.{LsmTreeState}
 use Rattle.fleet_book.specs.declared.view.CompactorStateView.{CompactorStateView}
 use Rattle.fleet_sched.specs.Sizes.{planned_in, tree_in}
@@ -17,7 +18,7 @@ unplanned_all jobs [] = refl
 unplanned_all jobs (s ∷ trees) = ap (λ (l : List Planned). unplanned jobs (tree_in s) ∷ l) (unplanned_all jobs trees)
 
 -- Picks by the slots, the fresh id and the trees of a view are the proposals on it.
-pub proposed_is : (o : TieredOptions) (most : ℕ) (flushes : ℕ → List ℕ) (state : CompactorStateView) (slots fresh : ℕ) (trees : List Planned) (made : List JobSpec)
+pub proposed_is : (o : TieredOptions) (most : ℕ) (flushes : RunFlushes) (state : CompactorStateView) (slots fresh : ℕ) (trees : List Planned) (made : List JobSpec)
     → slots ≡ free_slots most (shown_jobs state) → fresh ≡ fresh_run_id (view_of flushes state) → trees ≡ by_flushes (planned_in (shown_jobs state) (trees_in state))
     → made ≡ passes o slots slots trees (record { fresh = fresh; picks = [] }) → made ≡ tiered_proposals o most (view_of flushes state)
 unfolding tiered_proposals

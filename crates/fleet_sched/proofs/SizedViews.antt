@@ -11,7 +11,7 @@ use Rattle.fleet_model.specs.Nodes.{NodeName, L0, Run, Node}
 use Rattle.sched_model.specs.Sizes.{Sized, SizedTree, sized_flush, sized_nodes, sized_run, sized_tree, sized_trees, tables_size}
 use Rattle.fleet_table.specs.Handles.{handle_of}
 use Rattle.fleet_table.specs.Sizes.{run_size}
-use Rattle.fleet_table.specs.Trees.{flush_node, run_node, tree_of, segment_of}
+use Rattle.fleet_table.specs.Trees.{RunFlushes, flush_node, run_node, tree_of, segment_of}
 use Rattle.fleet_table.specs.Views.{View}
 use Rattle.fleet_table.specs.declared.run.SortedRun.{SortedRun}
 use Rattle.fleet_table.specs.declared.tree.LsmTreeState.{LsmTreeState}
@@ -110,10 +110,11 @@ module _ (flushes : ℕ → List ℕ) where
   tables_in [] runs = tables_of_runs runs
   tables_in (view ∷ l0) runs = ap (λ n. suc n) (tables_in l0 runs)
 
+module _ (flushes : RunFlushes) where
   -- A tree names as many tables as there are handles of it.
   tables_of_tree : (s : List ℕ × LsmTreeState) → length (tree_tables (segment_of flushes s)) ≡ length (handles_of_tree s.1)
   tables_of_tree s =
-      tables_in s.1.l0 s.1.compacted
+      tables_in (flushes s.0) s.1.l0 s.1.compacted
       ∙ sym (ap length (map-append handle_of (map (λ (view : View). view.sst) s.1.l0) (flat_map (λ (r : SortedRun). map (λ (view : View). view.sst) r.views) s.1.compacted)))
 
   split_trees : (s : List ℕ × LsmTreeState) (trees : List (List ℕ × LsmTreeState)) (more : List Handle)
@@ -129,7 +130,7 @@ module _ (flushes : ℕ → List ℕ) where
       let rest : drop (length (tree_tables (segment_of flushes s))) (handles_of_tree s.1 ++ others) ≡ others =
       ap (λ n. drop n (handles_of_tree s.1 ++ others)) (tables_of_tree s) ∙ drop-append_seam (handles_of_tree s.1) others in
       ap (λ l. sized_trees l (map (segment_of flushes) (s ∷ trees))) (split_trees s trees more)
-      ∙ ap (λ (t : SizedTree). t ∷ sized_trees (drop (length (tree_tables (segment_of flushes s))) (handles_of_tree s.1 ++ others)) (map (segment_of flushes) trees)) (sized_tree_is s others)
+      ∙ ap (λ (t : SizedTree). t ∷ sized_trees (drop (length (tree_tables (segment_of flushes s))) (handles_of_tree s.1 ++ others)) (map (segment_of flushes) trees)) (sized_tree_is (flushes s.0) s others)
       ∙ ap (λ (l : List Handle). tree_in s ∷ sized_trees l (map (segment_of flushes) trees)) rest
       ∙ ap (λ (l : List SizedTree). tree_in s ∷ l) (sized_all trees more)
 

@@ -6,7 +6,7 @@ use Rattle.std.proofs.lemmas.Slice.Eq.{bytes_eq-Decides}
 use Rattle.fleet_model.specs.Nodes.{NodeName, L0, Run, is_l0, names, segment_at}
 use Rattle.fleet_model.specs.Scheduler.{full_spec, full_spec_at, into_lowest, last_of, one_or_invalid}
 use Rattle.fleet_model.specs.Sources.{run_ids}
-use Rattle.fleet_table.specs.Trees.{tree_of, segment_of, flush_node, run_node}
+use Rattle.fleet_table.specs.Trees.{RunFlushes, tree_of, segment_of, flush_node, run_node}
 use Rattle.fleet_table.specs.Views.{View}
 use Rattle.fleet_table.specs.declared.run.SortedRun.{SortedRun}
 use Rattle.fleet_table.specs.declared.tree.LsmTreeState.{LsmTreeState}
@@ -64,14 +64,23 @@ module _ (flushes : ℕ → List ℕ) where
   runs_in_tree [] runs = runs_alone runs
   runs_in_tree (view ∷ l0) runs = runs_in_tree l0 runs
 
+  names_alone : (runs : List SortedRun) → names (map (run_node flushes) runs) ≡ map (λ run. Run run.id) runs
+  names_alone [] = refl
+  names_alone (run ∷ runs) = ap (λ (rest : List NodeName). Run run.id ∷ rest) (names_alone runs)
+
+  names_in_tree : (l0 : List View) (runs : List SortedRun) → names (map (flush_node flushes) l0 ++ map (run_node flushes) runs) ≡ map (λ view. L0 view.id) l0 ++ map (λ run. Run run.id) runs
+  names_in_tree [] runs = names_alone runs
+  names_in_tree (view ∷ l0) runs = ap (λ (rest : List NodeName). L0 view.id ∷ rest) (names_in_tree l0 runs)
+
+module _ (flushes : RunFlushes) where
   full_into : (s : List ℕ × LsmTreeState) (lowest : Option ℕ) → into_lowest (segment_of flushes s) lowest ≡ into_run s.0 s.1.compacted lowest
   full_into s None = refl
-  full_into s (Some id) = ap (λ sources. Some (record { segment = s.0; sources = sources; destination = Some id })) (runs_in_tree s.1.l0 s.1.compacted)
+  full_into s (Some id) = ap (λ sources. Some (record { segment = s.0; sources = sources; destination = Some id })) (runs_in_tree (flushes s.0) s.1.l0 s.1.compacted)
 
   -- The merge of all runs of a tree is the model's.
   pub full_spec_is : (s : List ℕ × LsmTreeState) → full_spec (segment_of flushes s) ≡ full_spec_in s
   full_spec_is s =
-      ap (λ ids. into_lowest (segment_of flushes s) (last_of ids)) (run_ids_of s.1)
+      ap (λ ids. into_lowest (segment_of flushes s) (last_of ids)) (run_ids_of (flushes s.0) s.1)
       ∙ full_into s (last_of (map (λ run. run.id) s.1.compacted))
 
   -- The merges of all trees are the model's.
@@ -99,19 +108,11 @@ module _ (flushes : ℕ → List ℕ) where
       → one_or_invalid (full_spec_at (segment_at prefix (map (segment_of flushes) (trees_in state)))) ≡ segment_answer prefix state
   segment_answer_is prefix state = ap (λ found. one_or_invalid (full_spec_at found)) (found_in prefix (trees_in state)) ∙ ap one_or_invalid (full_at (find (λ s. bytes_eq prefix s.0) (trees_in state)))
 
-  names_alone : (runs : List SortedRun) → names (map (run_node flushes) runs) ≡ map (λ run. Run run.id) runs
-  names_alone [] = refl
-  names_alone (run ∷ runs) = ap (λ (rest : List NodeName). Run run.id ∷ rest) (names_alone runs)
-
-  names_in_tree : (l0 : List View) (runs : List SortedRun) → names (map (flush_node flushes) l0 ++ map (run_node flushes) runs) ≡ map (λ view. L0 view.id) l0 ++ map (λ run. Run run.id) runs
-  names_in_tree [] runs = names_alone runs
-  names_in_tree (view ∷ l0) runs = ap (λ (rest : List NodeName). L0 view.id ∷ rest) (names_in_tree l0 runs)
-
   accepted_at : (sources : List NodeName) (destination : ℕ) (found : Option (List ℕ × LsmTreeState))
       → (is_some (option_map (segment_of flushes) found) && is_stretch (tree_or_empty (option_map (segment_of flushes) found)) sources && agree (lowest_run sources) (Some destination))
       ≡ accepts (Some destination) sources (option_map (λ s. s.1) found)
   accepted_at sources destination None = refl
-  accepted_at sources destination (Some s) = ap (λ nodes. is_nonempty sources && is_some (older_nodes sources nodes) && agree (lowest_run sources) (Some destination)) (names_in_tree s.1.l0 s.1.compacted)
+  accepted_at sources destination (Some s) = ap (λ nodes. is_nonempty sources && is_some (older_nodes sources nodes) && agree (lowest_run sources) (Some destination)) (names_in_tree (flushes s.0) s.1.l0 s.1.compacted)
 
   -- A job is accepted where the model accepts it.
   pub accepts_is : (state : CompactorStateView) (spec : CompactionSpec)

@@ -4,7 +4,7 @@ use Rattle.fleet_model.specs.Jobs.{Jobs}
 use Rattle.fleet_model.specs.Scheduler as model
 use Rattle.fleet_table.specs.Handles.{handle_of}
 use Rattle.fleet_table.specs.Manifests.{manifest_of}
-use Rattle.fleet_table.specs.Trees.{trees_with_prefix}
+use Rattle.fleet_table.specs.Trees.{RunFlushes, trees_with_prefix}
 use Rattle.fleet_table.specs.declared.handle.SsTableHandle.{SsTableHandle}
 use Rattle.fleet_table.specs.declared.tree.LsmTreeState.{LsmTreeState}
 use Rattle.fleet_jobs.specs.Contexts.{ranges_in}
@@ -49,8 +49,8 @@ abbrev pub handles_in : CompactorStateView → List SsTableHandle
 handles_in state = flat_map (λ s. tree_handles s.1) (trees_in state) ++ flat_map job_handles (open_records state.compactions)
 
 -- The model's view of what is shown. A program does not keep which flushes went into a run, so they are given
--- by the run's id.
-abbrev pub view_of : (flushes : ℕ → List ℕ) → CompactorStateView → model.View
+-- too.
+abbrev pub view_of : (flushes : RunFlushes) → CompactorStateView → model.View
 view_of flushes state = record {
   manifest = manifest_of flushes state.manifest.id state.manifest.manifest.compactor_epoch state.manifest.manifest.core;
   records_version = version_of state.compactions;

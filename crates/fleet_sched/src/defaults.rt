@@ -8,6 +8,7 @@ ghost use Rattle.fleet_model.specs.Nodes.{Run};
 ghost use Rattle.fleet_jobs.specs.Sources.{name_of};
 ghost use Rattle.fleet_book.specs.Requests.{request_of};
 ghost use Rattle.fleet_jobs.specs.Specs.{spec_of};
+ghost use Rattle.fleet_table.specs.Trees.{RunFlushes};
 ghost use Rattle.fleet_sched.specs.Answers.{Generates};
 ghost use Rattle.fleet_sched.specs.Full.{full_spec_in, segment_answer};
 ghost use Rattle.fleet_sched.specs.Views.{trees_in, view_of};
@@ -37,7 +38,7 @@ pub fn default_generate(
     state: &CompactorStateView,
     request: &CompactionRequest,
 ) -> Result<Vec<CompactionSpec>, SlateDBError>
-    ensures { (flushes : ℕ → List ℕ) → Generates
+    ensures { (flushes : RunFlushes) → Generates
         (model.default_generate (view_of flushes state.now) (request_of request.now)) result }
 {
     match request {

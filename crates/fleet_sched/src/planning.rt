@@ -8,7 +8,7 @@ ghost use Rattle.fleet_jobs.specs.Specs.{segment_of};
 ghost use Rattle.sched_model.specs.SizeTiered.{by_flushes, free_slots, nodes_used, unplanned};
 ghost use Rattle.fleet_sched.specs.Sizes.{planned_in, tree_in};
 ghost use Rattle.fleet_sched.specs.Views.{open_records, shown_jobs, trees_in, view_of};
-ghost use Rattle.fleet_table.specs.Trees.{trees_with_prefix};
+ghost use Rattle.fleet_table.specs.Trees.{RunFlushes, trees_with_prefix};
 ghost use Rattle.fleet_sched.specs.Ids.{destinations_in, ids_in};
 
 use crate::node_set::NodeSet;
@@ -158,7 +158,7 @@ fn without_slot_of(left: u64, job: &Compaction) -> u64
 /// The id of the next fresh run. It is above each run of each tree and each destination of a job
 /// that is shown, but at most `u32::MAX`.
 pub fn fresh_run_id(state: &CompactorStateView) -> u32
-    ensures { (flushes : ℕ → List ℕ) → result ≡ fresh_run_id (view_of flushes state.now) }
+    ensures { (flushes : RunFlushes) → result ≡ fresh_run_id (view_of flushes state.now) }
 {
     let above = above_runs(state.manifest().core());
     match state.compactions() {

@@ -1,9 +1,9 @@
 //! What a scheduler is.
 
-ghost use Rattle.std.specs.Prelude.{ℕ, List};
 ghost use Rattle.fleet_model.specs.Scheduler.{Scheduler};
 ghost use Rattle.fleet_book.specs.Requests.{request_of};
 ghost use Rattle.fleet_jobs.specs.Specs.{spec_of};
+ghost use Rattle.fleet_table.specs.Trees.{RunFlushes};
 ghost use Rattle.fleet_sched.specs.Answers.{Generates, Proposes, Validates};
 ghost use Rattle.fleet_sched.specs.Views.{view_of};
 
@@ -25,7 +25,7 @@ pub trait CompactionScheduler: Send + Sync + Drop {
         alloc: Global,
         state: &CompactorStateView,
     ) -> Result<Vec<CompactionSpec>, SlateDBError>
-        ensures { (flushes : ℕ → List ℕ)
+        ensures { (flushes : RunFlushes)
             → Proposes ((answers self.now).propose (view_of flushes state.now)) result };
 
     /// Refuses the job with `InvalidCompaction` if it may not be opened or committed on a view.
@@ -35,7 +35,7 @@ pub trait CompactionScheduler: Send + Sync + Drop {
         state: &CompactorStateView,
         spec: &CompactionSpec,
     ) -> Result<(), SlateDBError>
-        ensures { (flushes : ℕ → List ℕ) → Validates
+        ensures { (flushes : RunFlushes) → Validates
             ((answers self.now).validate (view_of flushes state.now) (spec_of spec.now)) result };
 
     /// The jobs that a request of a user gives on a view. Refuses the request with
@@ -46,7 +46,7 @@ pub trait CompactionScheduler: Send + Sync + Drop {
         state: &CompactorStateView,
         request: &CompactionRequest,
     ) -> Result<Vec<CompactionSpec>, SlateDBError>
-        ensures { (flushes : ℕ → List ℕ) → Generates
+        ensures { (flushes : RunFlushes) → Generates
             ((answers self.now).generate (view_of flushes state.now) (request_of request.now))
             result };
 }

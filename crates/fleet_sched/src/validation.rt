@@ -8,6 +8,7 @@ ghost use Rattle.fleet_jobs.specs.Specs.{destination_of, segment_of, sources_of,
 ghost use Rattle.sched_model.specs.SizeTiered.{agree, lower, lowest_run, tiered_validate};
 ghost use Rattle.fleet_model.specs.Gates.{is_nonempty};
 ghost use Rattle.fleet_sched.specs.Stretches.{accepts, nodes_in, stands_in_tree, tree_found};
+ghost use Rattle.fleet_table.specs.Trees.{RunFlushes};
 ghost use Rattle.fleet_sched.specs.Answers.{Validates};
 ghost use Rattle.fleet_sched.specs.Views.{view_of};
 
@@ -24,7 +25,7 @@ pub fn check(
     state: &CompactorStateView,
     spec: &CompactionSpec,
 ) -> Result<(), SlateDBError>
-    ensures { (flushes : ℕ → List ℕ)
+    ensures { (flushes : RunFlushes)
         → Validates (tiered_validate (view_of flushes state.now) (spec_of spec.now)) result }
 {
     if accepts(alloc, state, spec)? {

@@ -34,7 +34,7 @@ bare manifest = record manifest { trees = map bare_segment manifest.trees }
 
 -- The model's manifest with the contents of a program's manifest, and with bare nodes.
 abbrev pub bare_of : ℕ → Manifest → model_store.Manifest
-bare_of version manifest = bare (manifest_of (λ run. []) version manifest.compactor_epoch manifest.core)
+bare_of version manifest = bare (manifest_of (λ prefix run. []) version manifest.compactor_epoch manifest.core)
 
 -- The tables that a tree names.
 abbrev pub tree_views : LsmTreeState → List View
@@ -70,10 +70,10 @@ changed_trees specs (model.Commit steps) store = stepped_all store.tables (λ id
 -- that the change makes of the stored ones, and all else it has itself.
 abbrev pub meant_by : List JobParts → model.ManifestChange → ℕ → Manifest → model_store.Store → model_store.Manifest
 meant_by jobs change version manifest store =
-    record (manifest_of (λ run. []) version manifest.compactor_epoch manifest.core) { trees = changed_trees (spec_in jobs) change store }
+    record (manifest_of (λ prefix run. []) version manifest.compactor_epoch manifest.core) { trees = changed_trees (spec_in jobs) change store }
 
 -- The program's manifest has the trees that the change makes of the stored ones, but for the flushes of their
 -- nodes, and describes its tables.
 pub record HasTrees (value : Manifest) (jobs : List JobParts) (change : model.ManifestChange) (store : model_store.Store) : Type 0 where
-  pub same : map bare_segment (trees_of (λ run. []) value.core) ≡ map bare_segment (changed_trees (spec_in jobs) change store)
+  pub same : map bare_segment (trees_of (λ prefix run. []) value.core) ≡ map bare_segment (changed_trees (spec_in jobs) change store)
   pub views : AllByRecursion (NamesTable store.tables) (views_in value.core)

@@ -10,19 +10,19 @@ use Rattle.fleet_model.specs.Trees.{greatest_seq, empty_segment}
 use Rattle.fleet_model.specs.Trees as model
 use Rattle.fleet_table.specs.Laws.{FlushesAreTheModels, met_tree}
 use Rattle.fleet_table.specs.Manifests.{tracker_of}
-use Rattle.fleet_table.specs.Trees.{empty_tree, flushed, flushed_on, segment_of, tree_of, trees_of, trees_with_prefix}
+use Rattle.fleet_table.specs.Trees.{RunFlushes, empty_tree, flushed, flushed_on, segment_of, tree_of, trees_of, trees_with_prefix}
 use Rattle.fleet_table.specs.Views.{View}
 use Rattle.fleet_table.specs.declared.tree.LsmTreeState.{LsmTreeState}
 
-module _ (flushes : ℕ → List ℕ) (prefix : List ℕ) (view : View) (seq : ℕ) (rows : List Row) (own : view.sst.id ≡ view.id) where
+module _ (flushes : RunFlushes) (prefix : List ℕ) (view : View) (seq : ℕ) (rows : List Row) (own : view.sst.id ≡ view.id) where
   abbrev seen : List ℕ × LsmTreeState → Segment
   seen = segment_of flushes
 
   -- The model's segment with a flush in front is what the model's flush makes of the segment.
   on_tree : (key : List ℕ) (t : LsmTreeState) → prefix ≡ key → greatest_seq t.last_seq rows ≡ Some seq → seen (prefix, flushed_on view seq t) ≡ model.flushed_on view.id rows (seen (key, t))
   on_tree key t same told =
-      ap (λ piece. record (seen (prefix, t)) { tree = record { name = L0 view.id; flushes = view.id ∷ []; pieces = piece ∷ [] } ∷ tree_of flushes t; last_seq = Some seq }) own
-      ∙ ap (λ last. record (seen (prefix, t)) { tree = record { name = L0 view.id; flushes = view.id ∷ []; pieces = view.id ∷ [] } ∷ tree_of flushes t; last_seq = last }) (sym told)
+      ap (λ piece. record (seen (prefix, t)) { tree = record { name = L0 view.id; flushes = view.id ∷ []; pieces = piece ∷ [] } ∷ tree_of (flushes prefix) t; last_seq = Some seq }) own
+      ∙ ap (λ last. record (seen (prefix, t)) { tree = record { name = L0 view.id; flushes = view.id ∷ []; pieces = view.id ∷ [] } ∷ tree_of (flushes prefix) t; last_seq = last }) (sym told)
       ∙ ap (λ k. model.flushed_on view.id rows (seen (k, t))) same
 
   step : (s : List ℕ × LsmTreeState) (trees : List (List ℕ × LsmTreeState)) (same lower : Bool) → bytes_eq prefix s.0 ≡ same → is_lt (key_cmp prefix s.0) ≡ lower

@@ -6,7 +6,7 @@ use Rattle.fleet_model.specs.Tracker.{least_seq_of, tracked_after}
 use Rattle.fleet_model.specs.Trees.{greatest_seq}
 use Rattle.fleet_model.specs.Trees as model
 use Rattle.fleet_table.specs.Manifests.{manifest_of, tracker_of}
-use Rattle.fleet_table.specs.Trees.{empty_tree, flushed, trees_of, trees_with_prefix}
+use Rattle.fleet_table.specs.Trees.{RunFlushes, empty_tree, flushed, trees_of, trees_with_prefix}
 use Rattle.fleet_table.specs.Views.{View}
 use Rattle.fleet_table.specs.declared.manifest.ManifestCore.{ManifestCore}
 use Rattle.fleet_table.specs.declared.tree.LsmTreeState.{LsmTreeState}
@@ -46,7 +46,7 @@ pub record IsFlushed (told : Told) (before after : ManifestCore) : Type 0 where
 -- manifest of `after` is the one of `before` after the model's flush. The floor and the tick are the given
 -- ones, and the tracker is the model's. The name of the model's flush is the view's id.
 abbrev pub FlushesAreTheModels : Type 0
-FlushesAreTheModels = (flushes : ℕ → List ℕ) (version epoch : ℕ) (rows : List Row) (told : Told) (before after : ManifestCore)
+FlushesAreTheModels = (flushes : RunFlushes) (version epoch : ℕ) (rows : List Row) (told : Told) (before after : ManifestCore)
     → IsToldOf rows told before → IsFlushed told before after
     → manifest_of flushes version epoch after ≡ record (manifest_of flushes version epoch before) {
       trees = model.flushed told.segment told.view.id rows (trees_of flushes before);

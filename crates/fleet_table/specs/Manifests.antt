@@ -2,7 +2,7 @@
 use Rattle.std.specs.Prelude.{ℕ, List, [], map}
 use Rattle.fleet_model.specs.Store.{Manifest, cut_at}
 use Rattle.fleet_model.specs.Tracker as model
-use Rattle.fleet_table.specs.Trees.{trees_of}
+use Rattle.fleet_table.specs.Trees.{RunFlushes, trees_of}
 use Rattle.fleet_table.specs.declared.manifest.ManifestCore.{ManifestCore}
 use Rattle.fleet_table.specs.declared.tracker.Tracked.{Tracked}
 
@@ -13,8 +13,8 @@ abbrev pub tracker_of : List Tracked → List model.Tracked
 tracker_of tracker = map tracked_of tracker
 
 -- The model's manifest with the contents of a program's manifest. The version and the epoch are given. A
--- program does not keep which flushes went into a run, so they are given by the run's id.
-abbrev pub manifest_of : (flushes : ℕ → List ℕ) → (version epoch : ℕ) → ManifestCore → Manifest
+-- program does not keep which flushes went into a run, so they are given too.
+abbrev pub manifest_of : (flushes : RunFlushes) → (version epoch : ℕ) → ManifestCore → Manifest
 manifest_of flushes version epoch core = record {
   version = version;
   epoch = epoch;
@@ -28,4 +28,4 @@ manifest_of flushes version epoch core = record {
 -- The cut that the model computes for this manifest. It depends on neither the version, nor the epoch, nor
 -- the flushes of runs. So it is stated for a version and an epoch of 0, and for runs without flushes.
 abbrev pub cut_of : ManifestCore → (moment retention : ℕ) → ℕ
-cut_of core moment retention = cut_at (manifest_of (λ run. []) 0 0 core) moment retention
+cut_of core moment retention = cut_at (manifest_of (λ prefix run. []) 0 0 core) moment retention

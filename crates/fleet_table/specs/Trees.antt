@@ -49,8 +49,13 @@ abbrev pub tree_or_empty : List ℕ → Option (List ℕ × LsmTreeState) → Bo
 tree_or_empty prefix None = (false, empty_tree)
 tree_or_empty prefix (Some s) = if bytes_eq prefix s.0 then (true, s.1) else (false, empty_tree)
 
--- The model's trees of a program's trees. A program does not keep which flushes went into a run, so they are
--- given by the run's id.
+-- Which flushes went into each run, given by the prefix of the run's segment and by the run's id. Runs of two
+-- segments may have the same id.
+abbrev pub RunFlushes : Type 0
+RunFlushes = (prefix : List ℕ) → (run : ℕ) → List ℕ
+
+-- The model's tree of a program's tree. A program does not keep which flushes went into a run, so they are given
+-- by the run's id.
 module _ (flushes : ℕ → List ℕ) where
   abbrev pub flush_node : View → Node
   flush_node view = record { name = L0 view.id; flushes = view.id ∷ []; pieces = view.sst.id ∷ [] }
@@ -61,8 +66,10 @@ module _ (flushes : ℕ → List ℕ) where
   abbrev pub tree_of : LsmTreeState → Tree
   tree_of t = map flush_node t.l0 ++ map run_node t.compacted
 
+-- The model's trees of a program's trees.
+module _ (flushes : RunFlushes) where
   abbrev pub segment_of : List ℕ × LsmTreeState → Segment
-  segment_of s = record { prefix = s.0; tree = tree_of s.1; last_seq = s.1.last_seq; watermark = s.1.last_compacted_l0_sst_view_id }
+  segment_of s = record { prefix = s.0; tree = tree_of (flushes s.0) s.1; last_seq = s.1.last_seq; watermark = s.1.last_compacted_l0_sst_view_id }
 
   abbrev pub trees_of : ManifestCore → Trees
   trees_of core = map segment_of (trees_with_prefix core)
