@@ -5,6 +5,8 @@ mod call;
 mod laws;
 mod log;
 mod memory;
+#[cfg(test)]
+mod rival;
 mod store;
 #[cfg(test)]
 mod tests;

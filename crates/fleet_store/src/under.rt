@@ -15,7 +15,7 @@ use std::alloc::Global;
 /// calls it.
 #[derive(Drop)]
 pub struct Under<'a, 'o, O: MergeOperator> {
-    store: &'a mut MemStore,
+    pub(crate) store: &'a mut MemStore,
     operator: &'o O,
 }
 
