@@ -2,6 +2,8 @@
 #![tactic(auto)]
 
 mod call;
+#[cfg(test)]
+mod faults;
 mod laws;
 mod log;
 mod memory;

@@ -1,0 +1,150 @@
+//! Which calls a fault strikes, and what they leave.
+
+ghost use Rattle.std.specs.Prelude.{◌≡◌};
+ghost use Rattle.step_model.specs.Past.{fresh_told};
+
+use crate::MemStore;
+use crate::memory::ended;
+use crate::tests::{ends_with, put_manifest, put_records};
+use bytes::Bytes;
+use fleet_history::{Answer, Note, Party};
+use fleet_rows::{RowEntry, SlateDBError, Ulid, ValueDeletable};
+use fleet_table::{TableData, are_in_bounds, are_strictly_ordered};
+use std::alloc::Global;
+use std::process::Abort;
+use std::test::*;
+
+// What a struck call leaves: its answer in the history, given whether puts stand.
+static FAULTS: [(bool, Answer); 2] = [(false, Answer::Lost), (true, Answer::Stands)];
+
+// A fresh store, whose get or put with this number is struck.
+fn store(rt: &impl Abort, alloc: Global, k: u32, stands: bool) -> MemStore
+    ensures { result.told ≡ fresh_told }
+{
+    let mut store = MemStore::new(alloc).expect(rt, "memory");
+    store.set_fault(k, stands);
+    store
+}
+
+// Whether the call met a fault, and its entry has this answer.
+fn is_struck<T: Drop>(called: Result<T, SlateDBError>, store: &MemStore, answer: Answer) -> bool {
+    matches!(called, Err(SlateDBError::StoreFault)) && ends_with(store, answer)
+}
+
+// A get of one of four kinds.
+fn get(store: &mut MemStore, alloc: Global, kind: u64) -> Result<(), SlateDBError> {
+    match kind {
+        0 => {
+            ended(store.make_get_manifest())?;
+        }
+        1 => {
+            ended(store.make_get_records())?;
+        }
+        2 => {
+            ended(store.make_get_table(Ulid::from_parts(0, 1)))?;
+        }
+        _ => {
+            ended(store.make_list_tables(alloc))?;
+        }
+    }
+    Ok(())
+}
+
+#[test]
+fn a_get_is_struck(rt: HostRuntime) {
+    for kind in 0..4 {
+        for (stands, answer) in FAULTS {
+            let mut store = store(&rt, rt.alloc(), 1, stands);
+            let got = get(&mut store, rt.alloc(), kind);
+            assert!(rt; is_struck(got, &store, answer), "{kind} {stands}");
+            assert!(rt;
+                get(&mut store, rt.alloc(), kind).is_ok(),
+                "{kind} {stands}"
+            );
+        }
+    }
+}
+
+#[test]
+fn a_put_of_the_manifest_is_struck(rt: HostRuntime) {
+    for (stands, answer) in FAULTS {
+        let mut store = store(&rt, rt.alloc(), 1, stands);
+        let put = put_manifest(&mut store, rt.alloc(), 1);
+        assert!(rt; is_struck(put, &store, answer), "{stands}");
+        assert_eq!(rt; store.manifest().id == 2, stands);
+    }
+}
+
+#[test]
+fn a_struck_put_of_an_old_version_is_lost(rt: HostRuntime) {
+    for (stands, _) in FAULTS {
+        let mut store = store(&rt, rt.alloc(), 1, stands);
+        let put = put_manifest(&mut store, rt.alloc(), 0);
+        assert!(rt; is_struck(put, &store, Answer::Lost), "{stands}");
+        assert_eq!(rt; store.manifest().id, 1);
+    }
+}
+
+#[test]
+fn a_put_of_the_records_is_struck(rt: HostRuntime) {
+    for (stands, answer) in FAULTS {
+        let mut store = store(&rt, rt.alloc(), 1, stands);
+        let put = put_records(&mut store, rt.alloc(), 0, 7);
+        assert!(rt; is_struck(put, &store, answer), "{stands}");
+        assert_eq!(rt; store.records().is_some(), stands);
+    }
+}
+
+#[test]
+fn the_last_fault_counts(rt: HostRuntime) {
+    let mut store = store(&rt, rt.alloc(), 1, false);
+    store.set_fault(2, true);
+    assert!(rt; put_records(&mut store, rt.alloc(), 0, 7).is_ok());
+    let put = put_records(&mut store, rt.alloc(), 1, 8);
+    assert!(rt; is_struck(put, &store, Answer::Stands));
+}
+
+#[test]
+fn draws_and_notes_are_not_struck(rt: HostRuntime) {
+    let mut store = store(&rt, rt.alloc(), 1, false);
+    assert!(rt; ended(store.make_draw_job(5)).is_ok());
+    assert!(rt; ended(store.make_draw_table(5)).is_ok());
+    assert!(rt; ended(store.make_note(Note::Start(Party::Writer))).is_ok());
+    let got = ended(store.make_get_records());
+    assert!(rt; is_struck(got, &store, Answer::Lost));
+}
+
+fn table(alloc: Global) -> Result<TableData, SlateDBError> {
+    let key = Bytes::copy_from_slice(alloc, b"a")?;
+    let mut rows = Vec::new(alloc);
+    rows.push(RowEntry::new(key, ValueDeletable::Tombstone, 1, None, None))?;
+    if rows.is_empty() || !are_strictly_ordered(&rows) || !are_in_bounds(&rows) {
+        return Err(SlateDBError::InvalidDBState);
+    }
+    TableData::from_rows(alloc, rows)
+}
+
+#[test]
+fn a_put_of_a_table_is_struck(rt: HostRuntime) {
+    for (stands, answer) in FAULTS {
+        let mut store = store(&rt, rt.alloc(), 1, stands);
+        let table = table(rt.alloc()).expect(&rt, "memory");
+        let put = ended(store.make_put_table(Ulid::from_parts(0, 1), table));
+        assert!(rt; is_struck(put, &store, answer), "{stands}");
+        assert_eq!(rt; store.table(Ulid::from_parts(0, 1)).is_some(), stands);
+    }
+}
+
+#[test]
+fn a_deletion_is_struck(rt: HostRuntime) {
+    for (stands, answer) in FAULTS {
+        let mut store = store(&rt, rt.alloc(), 2, stands);
+        let table = table(rt.alloc()).expect(&rt, "memory");
+        let id = Ulid::from_parts(0, 1);
+        let put = ended(store.make_put_table(id, table));
+        assert!(rt; put.is_ok(), "{stands}");
+        let deleted = ended(store.make_delete_table(id));
+        assert!(rt; is_struck(deleted, &store, answer), "{stands}");
+        assert_eq!(rt; store.table(id).is_none(), stands);
+    }
+}
