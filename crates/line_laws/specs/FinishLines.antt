@@ -24,7 +24,8 @@ ended moment w a outputs job = record job {
 
 -- A live worker ended an attempt that is live, and the reply has its outputs: for each range the tables
 -- that the attempt had noted, and then those that the finish made. The job of the attempt waits for its
--- commit, no other job changes, the trees stay, and the worker runs what it ran beside.
+-- commit, no other job changes, but jobs that ended may be dropped, the trees stay, and the worker runs what it
+-- ran beside.
 pub record FinishRan (n job : ℕ) (old : State) (answer : List ℕ) (new : State) : Type 0 where
   pub worker : LiveWorker
   pub attempt : Attempt
