@@ -64,7 +64,11 @@ pub fn newest_in(
     ensures memory { IsOkUnless result SlateDBError.Memory }
 {
     for i in 0..tables.len() {
-        let newest = tables[i].data.newest_at(key, seq)?;
+        let table = &tables[i].data;
+        if table.is_outside(key) {
+            continue;
+        }
+        let newest = table.newest_at(key, seq)?;
         if newest.is_some() {
             return Ok(newest);
         }

@@ -32,6 +32,10 @@ behind r rows last is =
     let place : length (r ∷ rows) - 1 ≡ length rows = omega arith in
     is ∙ ap (λ i. slice_index_or (r ∷ rows) i last) place
 
+pub first_at : (rows : List RowEntry) (first : RowEntry) → rows ≢ [] → first ≡ slice_index_or rows 0 first → first.key ≡ first_key (rows_of rows)
+first_at [] first some is = absurd (some refl)
+first_at (r ∷ rows) first some is = ap (λ x. x.key) is
+
 pub key_at : (rows : List RowEntry) (last : RowEntry) → rows ≢ [] → last ≡ slice_index_or rows (length rows - 1) last → last.key ≡ last_key [] (rows_of rows)
 key_at [] last some is = absurd (some refl)
 key_at (r ∷ rows) last some is = ap (λ x. x.key) (behind r rows last is) ∙ key_from [] r rows last

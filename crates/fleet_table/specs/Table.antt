@@ -19,8 +19,8 @@ pub record IsTable (rows : List Row) : Type 0 where
   pub in_bounds : AllByRecursion IsInBounds rows
 
 -- A table of these rows has these bytes. It has this size, these blocks, which begin at these places, so many
--- rows, and this key and sequence of its last row.
-pub record IsKept (rows : List Row) (bytes : List ℕ) (places : List BlockPlace) (listed : List BlockMeta) (measured count : ℕ) (key : List ℕ) (seq : ℕ) : Type 0 where
+-- rows, and this sequence of its last row.
+pub record IsKept (rows : List Row) (bytes : List ℕ) (places : List BlockPlace) (listed : List BlockMeta) (measured count seq : ℕ) : Type 0 where
   pub table : IsTable rows
   pub writable : AllByRecursion IsWritable rows
   pub spelt : bytes ≡ table_bytes rows
@@ -28,5 +28,9 @@ pub record IsKept (rows : List Row) (bytes : List ℕ) (places : List BlockPlace
   pub index : blocks_of listed ≡ blocks rows
   pub size : measured ≡ table_size rows
   pub counted : count ≡ length rows
-  pub ends : key ≡ trees.last_key [] rows
   pub ends_at : seq ≡ seq_of_last 0 rows
+
+-- The first and the last of these rows have these keys.
+pub record AreEndKeys (rows : List Row) (first last : List ℕ) : Type 0 where
+  pub begins : first ≡ trees.first_key rows
+  pub ends : last ≡ trees.last_key [] rows

@@ -8,11 +8,10 @@ ghost use Rattle.row_model.specs.Read.{seen_at};
 ghost use Rattle.row_model.specs.Rows.{key_cmp, rows_of_key, IsStrictlyOrdered};
 ghost use Rattle.row_model.specs.TableBytes.{blocks_of_rows, row_bytes, rows_bytes, table_bytes};
 ghost use Rattle.fleet_model.specs.Handles.{describe};
-ghost use Rattle.fleet_model.specs.Trees.{first_key};
 ghost use Rattle.fleet_rows.specs.Row.{row_of, rows_of};
 ghost use Rattle.fleet_table.specs.Cursors.{is_before_spot, key_after, rows_before, IsCursor, StandsAt};
 ghost use Rattle.fleet_table.specs.Handles.{handle_of};
-ghost use Rattle.fleet_table.specs.Table.{IsTable};
+ghost use Rattle.fleet_table.specs.Table.{AreEndKeys, IsTable};
 
 use crate::cursor::{Cursor, Ties, is_before_spot};
 use crate::cutting::cut_blocks;
@@ -41,7 +40,6 @@ pub(crate) struct Kept {
     pub(crate) blocks: BlockList,
     pub(crate) size: u64,
     pub(crate) count: usize,
-    pub(crate) last_key: Bytes,
     pub(crate) last_seq: u64,
 }
 
@@ -56,7 +54,7 @@ impl Model for Kept {
     ghost view = { λ t. decoded t.bytes };
 
     ghost invariant = { λ t. IsKept (decoded t.bytes) t.bytes t.places.items t.blocks t.size t.count
-        t.last_key t.last_seq };
+        t.last_seq };
 }
 
 impl Kept {
@@ -71,8 +69,7 @@ impl Kept {
         bytes_are_decoded();
         let (size, blocks) = cut_blocks(alloc, rows.as_slice())?;
         let (bytes, places) = written_rows(alloc, rows.as_slice())?;
-        let last = last_of(rows.as_slice());
-        let last_key = Bytes::copy_from_slice(alloc, last.key.as_slice())?;
+        let last_seq = last_of(rows.as_slice()).seq;
         Ok(Kept {
             alloc,
             bytes: Bytes::from_vec(bytes)?,
@@ -80,8 +77,7 @@ impl Kept {
             blocks,
             size,
             count: rows.len(),
-            last_key,
-            last_seq: last.seq,
+            last_seq,
         })
     }
 
@@ -99,15 +95,14 @@ impl Kept {
         self.count
     }
 
-    /// The key of the first row.
-    fn first_key(&self) -> &Bytes
-        ensures { result.now ≡ first_key self.now }
-    {
-        &self.blocks.as_slice()[0].first_key
-    }
-
-    /// The description of the table, under this id.
-    pub(crate) fn describe(&self, id: Ulid) -> Result<SsTableHandle, SlateDBError>
+    /// The description of the table, under this id and with its end keys.
+    pub(crate) fn describe(
+        &self,
+        id: Ulid,
+        first_key: Bytes,
+        last_key: Bytes,
+    ) -> Result<SsTableHandle, SlateDBError>
+        requires { AreEndKeys self.now first_key last_key }
         ensures handle { IfOk result (λ handle. handle_of handle ≡ describe id self.now) }
         ensures keys { IfOk result
             (λ handle. is_le (key_cmp handle.first_key handle.last_key) ≡ true) }
@@ -115,20 +110,13 @@ impl Kept {
     {
         Ok(SsTableHandle {
             id,
-            first_key: self.first_key().clone()?,
-            last_key: self.last_key.clone()?,
+            first_key,
+            last_key,
             last_seq: self.last_seq,
             rows: self.count as u64,
             size: self.size,
             blocks: self.blocks.clone()?,
         })
-    }
-
-    // Whether the key is before the first key or behind the last one.
-    fn is_outside(&self, key: &[u8]) -> bool
-        ensures { IsTrue result → rows_of_key key.now self.now ≡ [] }
-    {
-        key.cmp(self.first_key().as_slice()).is_lt() || key.cmp(self.last_key.as_slice()).is_gt()
     }
 
     /// The newest row of a key with a sequence of at most `seq`.
@@ -137,9 +125,6 @@ impl Kept {
             ≡ slice_get (seen_at seq (rows_of_key key.now self.now)) 0) }
         ensures memory { IsOkUnless result SlateDBError.Memory }
     {
-        if self.is_outside(key) {
-            return Ok(None);
-        }
         let cursor = self.find(key, Ties::Newer(seq));
         if cursor.row == self.count {
             return Ok(None);

@@ -4,7 +4,7 @@ ghost use Rattle.std.specs.Prelude.{◌≡◌, ◌≢◌, ◌↔◌, [], IsTrue}
 ghost use Rattle.std.specs.List.{AllByRecursion};
 ghost use Rattle.row_model.specs.Bounds.{IsInBounds};
 ghost use Rattle.fleet_model.specs.Handles.{seq_of_last};
-ghost use Rattle.fleet_model.specs.Trees.{last_key};
+ghost use Rattle.fleet_model.specs.Trees.{first_key, last_key};
 ghost use Rattle.fleet_rows.specs.Row.{rows_of};
 
 use fleet_rows::RowEntry;
@@ -14,6 +14,14 @@ pub fn are_in_bounds(rows: &[RowEntry]) -> bool
     ensures { IsTrue result ↔ AllByRecursion IsInBounds (rows_of rows.now) }
 {
     rows.iter().all(|row| row.is_in_bounds())
+}
+
+/// The first of some rows.
+pub(crate) fn first_of(rows: &[RowEntry]) -> &RowEntry
+    requires { rows.now ≢ [] }
+    ensures { result.now.key ≡ first_key (rows_of rows.now) }
+{
+    &rows[0]
 }
 
 /// The last of some rows.

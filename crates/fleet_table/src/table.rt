@@ -1,7 +1,7 @@
 //! Tables with their rows.
 
-ghost use Rattle.std.specs.Prelude.{◌≡◌, ◌≢◌, false, true, [], length, IfOk, IfSome, IsOkUnless, option_map, slice_get};
-ghost use Rattle.std.specs.Ordering.{is_le};
+ghost use Rattle.std.specs.Prelude.{◌≡◌, ◌≢◌, ◌||◌, false, true, [], length, IfOk, IfSome, IsOkUnless, IsTrue, option_map, slice_get};
+ghost use Rattle.std.specs.Ordering.{is_gt, is_le, is_lt};
 ghost use Rattle.std.specs.List.{AllByRecursion};
 ghost use Rattle.row_model.specs.Bounds.{IsInBounds};
 ghost use Rattle.row_model.specs.Ranges.{rows_in};
@@ -10,14 +10,15 @@ ghost use Rattle.row_model.specs.Rows.{key_cmp, rows_of_key, IsStrictlyOrdered};
 ghost use Rattle.row_model.specs.Sizes.{blocks};
 ghost use Rattle.row_model.specs.TableBytes.{table_bytes, IsTaken};
 ghost use Rattle.fleet_model.specs.Handles.{describe, seq_of_last};
-ghost use Rattle.fleet_model.specs.Trees.{last_key};
+ghost use Rattle.fleet_model.specs.Trees.{first_key, last_key};
 ghost use Rattle.fleet_block.specs.Finds.{Reads};
 ghost use Rattle.fleet_range.specs.Keys.{range_of};
 ghost use Rattle.fleet_rows.specs.Row.{row_of, rows_of};
 ghost use Rattle.fleet_table.specs.Handles.{blocks_of, handle_of};
-ghost use Rattle.fleet_table.specs.Table.{IsTable};
+ghost use Rattle.fleet_table.specs.Table.{AreEndKeys, IsTable};
 
 use crate::kept::Kept;
+use crate::order::{first_of, last_of};
 use crate::span::Span;
 use crate::{BlockMeta, SsTableHandle, TableIterator};
 use bytes::Bytes;
@@ -31,6 +32,10 @@ use std::sync::Arc;
 /// A table. It has at least one row. Contracts see its rows.
 #[derive(Debug, Drop)]
 pub struct TableData {
+    // The keys of the first and the last row stand here, so that a key outside the table is told
+    // without a look at what is kept.
+    first_key: Bytes,
+    last_key: Bytes,
     kept: Arc<Kept>,
 }
 
@@ -38,10 +43,13 @@ impl Model for TableData {
     ghost use Rattle.std.specs.Prelude.{List};
     ghost use Rattle.std.specs.Arc.{arc_value};
     ghost use Rattle.row_model.specs.Rows.{Row};
+    ghost use Rattle.fleet_table.specs.Table.{AreEndKeys};
 
     ghost Value = { List Row };
 
     ghost view = { λ t. arc_value t.kept };
+
+    ghost invariant = { λ t. AreEndKeys (arc_value t.kept) t.first_key t.last_key };
 }
 
 impl TableData {
@@ -53,8 +61,11 @@ impl TableData {
         ensures table { IfOk result (λ table. table ≡ rows_of rows.items) }
         ensures memory { IsOkUnless result SlateDBError.Memory }
     {
+        let (first_key, last_key) = end_keys(alloc, rows.as_slice())?;
         let kept = Kept::from_rows(alloc, rows)?;
         Ok(TableData {
+            first_key,
+            last_key,
             kept: Arc::new(alloc, kept)?,
         })
     }
@@ -125,7 +136,7 @@ impl TableData {
         ensures key { result.0.now ≡ last_key [] self.now }
         ensures seq { result.1 ≡ seq_of_last 0 self.now }
     {
-        (self.kept.last_key.as_slice(), self.kept.last_seq)
+        (self.last_key.as_slice(), self.kept.last_seq)
     }
 
     /// The description of the table, under this id.
@@ -136,7 +147,19 @@ impl TableData {
             (λ handle. is_le (key_cmp handle.first_key handle.last_key) ≡ true) }
         ensures memory { IsOkUnless result SlateDBError.Memory }
     {
-        self.kept.describe(id)
+        self.kept
+            .describe(id, self.first_key.clone()?, self.last_key.clone()?)
+    }
+
+    /// Whether the key is before the first key or behind the last one, so that the table has no row
+    /// of it.
+    pub fn is_outside(&self, key: &[u8]) -> bool
+        ensures value { result ≡ (is_lt (key_cmp key.now (first_key self.now))
+            || is_gt (key_cmp key.now (last_key [] self.now))) }
+        ensures none { IsTrue result → rows_of_key key.now self.now ≡ [] }
+    {
+        self.know_table();
+        key.cmp(self.first_key.as_slice()).is_lt() || key.cmp(self.last_key.as_slice()).is_gt()
     }
 
     /// The newest row of a key with a sequence of at most `seq`. Only that row is decoded. A key
@@ -146,6 +169,9 @@ impl TableData {
             ≡ slice_get (seen_at seq (rows_of_key key.now self.now)) 0) }
         ensures memory { IsOkUnless result SlateDBError.Memory }
     {
+        if self.is_outside(key) {
+            return Ok(None);
+        }
         self.kept.newest_at(key, seq)
     }
 
@@ -163,6 +189,8 @@ impl Clone for TableData {
 
     fn clone(&self) -> Result<TableData, AllocError> {
         Ok(TableData {
+            first_key: Clone::clone(&self.first_key)?,
+            last_key: Clone::clone(&self.last_key)?,
             kept: Arc::try_clone(&self.kept)?,
         })
     }
@@ -172,4 +200,29 @@ impl Copies for TableData {
     fn copied(&self) -> Result<TableData, AllocError> {
         Clone::clone(self)
     }
+}
+
+// The keys of the first and the last row, one behind the other in memory of their own.
+fn end_keys(alloc: Global, rows: &[RowEntry]) -> Result<(Bytes, Bytes), SlateDBError>
+    requires { rows.now ≢ [] }
+    ensures keys { IfOk result (λ keys. AreEndKeys (rows_of rows.now) keys.0 keys.1) }
+    ensures memory { IsOkUnless result SlateDBError.Memory }
+{
+    copied_keys(
+        alloc,
+        first_of(rows).key.as_slice(),
+        last_of(rows).key.as_slice(),
+    )
+}
+
+fn copied_keys(alloc: Global, first: &[u8], last: &[u8]) -> Result<(Bytes, Bytes), SlateDBError>
+    ensures first { IfOk result (λ keys. keys.0 ≡ first.now) }
+    ensures last { IfOk result (λ keys. keys.1 ≡ last.now) }
+    ensures memory { IsOkUnless result SlateDBError.Memory }
+{
+    let mut both = Vec::with_capacity(alloc, first.len() + last.len())?;
+    both.extend_from_slice(first)?;
+    both.extend_from_slice(last)?;
+    let both = Bytes::from_vec(both)?;
+    Ok((both.slice(..first.len())?, both.slice(first.len()..)?))
 }

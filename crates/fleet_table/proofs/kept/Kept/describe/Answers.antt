@@ -1,7 +1,7 @@
-use Rattle.std.proofs.Common.{◌∙◌, ap, subst, []}
+use Rattle.std.proofs.Common.{◌∙◌, ap, subst}
 use Rattle.std.specs.Ordering.{is_le}
 use Rattle.row_model.specs.Rows.{key_cmp}
-use Rattle.fleet_model.specs.Trees.{first_key, last_key}
+use Rattle.fleet_model.specs.Trees.{first_key}
 use Rattle.fleet_table.specs.Table.{IsTable}
 use Rattle.fleet_table.proofs.LastRow.{first_up_to_last}
 use Rattle.fleet_table.proofs.kept.Kept.describe.Goals as goal
@@ -10,7 +10,5 @@ pub returns-clause-keys : goal.returns-clause-keys
 returns-clause-keys c =
     let rows = c.args.self.now in
     let table = subst IsTable c.self.view_is c.self.invariant.table in
-    let first = c.in_ok-clone.ensures.cases ∙ c.first_key.ensures in
-    let last = c.in_ok-clone-2.ensures.cases ∙ c.self.invariant.ends ∙ ap (last_key []) c.self.view_is in
-    ap (λ key. is_le (key_cmp key c.in_ok-clone-2.field-0)) first ∙ ap (λ key. is_le (key_cmp (first_key rows) key)) last
+    ap (λ key. is_le (key_cmp key c.args.last_key)) c.requires.begins ∙ ap (λ key. is_le (key_cmp (first_key rows) key)) c.requires.ends
     ∙ first_up_to_last rows table.some table.ordered
