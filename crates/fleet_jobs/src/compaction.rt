@@ -1,9 +1,11 @@
 //! Jobs, as their records keep them.
 
-ghost use Rattle.std.specs.Prelude.{◌≡◌, IfOk, IsOkUnless, Some, count_by, flat_map, not};
+ghost use Rattle.std.specs.Prelude.{◌≡◌, ◌++◌, [], ◌∷◌, IfOk, IsOkUnless, OnOk, Some, count_by, flat_map, not, option_map};
+ghost use Rattle.std.specs.Arc.{arc_value};
 ghost use Rattle.std.specs.Fmt.{DisplaysOnOk};
 ghost use Rattle.std.specs.Option.{option_copied};
 ghost use Rattle.fleet_model.specs.Jobs.{is_finished};
+ghost use Rattle.fleet_table.specs.Lists.{items_of};
 ghost use Rattle.fleet_jobs.specs.Contexts.{FollowsContext, ranges_in};
 ghost use Rattle.fleet_jobs.specs.Jobs.{fresh_job, with_status};
 ghost use Rattle.fleet_jobs.specs.Status.{status_of};
@@ -18,6 +20,7 @@ use fleet_table::{OutputList, TableList};
 use std::alloc::{AllocError, Global};
 use std::fmt;
 use std::marker::Model;
+use std::sync::Arc;
 
 /// The record of a job. Contracts see its parts. The spec, the source tables, the context and the
 /// tables that the job wrote never change in place. After `shared` the copies of the record share
@@ -255,6 +258,33 @@ impl Compaction {
         })
     }
 
+    /// Adds a copy at the end of the jobs. The copies of this copy share its spec, its source
+    /// tables, its context and the tables that the job wrote. This costs less than `clone` and
+    /// `shared`, since the copy is made in its place.
+    pub fn copy_into(&self, alloc: Global, jobs: &mut Vec<Compaction>) -> Result<(), AllocError>
+        ensures { OnOk result (jobs.new.items ≡ jobs.old.items ++ self.now ∷ []) }
+    {
+        let spec = self.spec.handle(alloc)?;
+        let source_tables = list_handle(&self.source_tables, alloc)?;
+        let ctx = ctx_handle(&self.ctx, alloc)?;
+        let output_ssts = list_handle(&self.output_ssts, alloc)?;
+        let worker = Clone::clone(&self.worker)?;
+        jobs.reserve(1)?;
+        jobs.push_reserved(Compaction {
+            id: self.id,
+            spec: Shareable::from_handle(spec),
+            bytes_processed: self.bytes_processed,
+            status: self.status,
+            worker,
+            attempt: self.attempt,
+            source_tables: list_of(source_tables, alloc),
+            ctx: ctx_of(ctx),
+            output_ssts: list_of(output_ssts, alloc),
+            cut: self.cut,
+        });
+        Ok(())
+    }
+
     /// A copy. It shares what `shared` made shareable, and copies what a setter put in later.
     pub fn clone(&self) -> Result<Compaction, SlateDBError>
         ensures copy { IfOk result (λ copy. copy ≡ self.now) }
@@ -312,6 +342,50 @@ fn shared_ctx(
     match ctx {
         Some(ctx) => Ok(Some(ctx.shared(alloc)?)),
         None => Ok(None),
+    }
+}
+
+// A handle of the list, or None if the list is empty.
+fn list_handle<T: Copies + Drop>(
+    list: &Shareable<ListOf<T>>,
+    alloc: Global,
+) -> Result<Option<Arc<ListOf<T>>>, AllocError>
+    ensures { IfOk result (λ handle. items_of handle ≡ list.now) }
+{
+    if list.get().is_empty() {
+        Ok(None)
+    } else {
+        Ok(Some(list.handle(alloc)?))
+    }
+}
+
+fn list_of<T: Drop>(handle: Option<Arc<ListOf<T>>>, alloc: Global) -> Shareable<ListOf<T>>
+    ensures { result ≡ items_of handle }
+{
+    match handle {
+        Some(handle) => Shareable::from_handle(handle),
+        None => Shareable::new(ListOf::new(alloc)),
+    }
+}
+
+fn ctx_handle(
+    ctx: &Option<Shareable<CompactionContext>>,
+    alloc: Global,
+) -> Result<Option<Arc<CompactionContext>>, AllocError>
+    ensures { IfOk result (λ handle. option_map arc_value handle ≡ ctx.now) }
+{
+    match ctx {
+        Some(ctx) => Ok(Some(ctx.handle(alloc)?)),
+        None => Ok(None),
+    }
+}
+
+fn ctx_of(handle: Option<Arc<CompactionContext>>) -> Option<Shareable<CompactionContext>>
+    ensures { result ≡ option_map arc_value handle }
+{
+    match handle {
+        Some(handle) => Some(Shareable::from_handle(handle)),
+        None => None,
     }
 }
 

@@ -1,6 +1,7 @@
 //! Values whose copies can share them.
 
 ghost use Rattle.std.specs.Prelude.{◌≡◌, IfOk};
+ghost use Rattle.std.specs.Arc.{arc_value};
 
 use fleet_rows::Copies;
 use std::alloc::{AllocError, Global};
@@ -41,6 +42,15 @@ impl<T: Drop> Shareable<T> {
         }
     }
 
+    /// A value that its copies share.
+    pub(crate) fn from_handle(handle: Arc<T>) -> Self
+        ensures { result ≡ arc_value handle }
+    {
+        Shareable {
+            kept: Kept::Shared(handle),
+        }
+    }
+
     pub(crate) fn get(&self) -> &T
         ensures { result.now ≡ self.now }
     {
@@ -62,6 +72,19 @@ impl<T: Drop> Shareable<T> {
         Ok(Shareable {
             kept: Kept::Shared(value),
         })
+    }
+}
+
+impl<T: Copies + Drop> Shareable<T> {
+    /// A handle of the value, or of a copy if the value has one owner. It is small, so that passing
+    /// it on costs little.
+    pub(crate) fn handle(&self, alloc: Global) -> Result<Arc<T>, AllocError>
+        ensures { IfOk result (λ handle. arc_value handle ≡ self.now) }
+    {
+        match &self.kept {
+            Kept::Own(value) => Ok(Arc::new(alloc, value.copied()?)?),
+            Kept::Shared(value) => Arc::try_clone(value),
+        }
     }
 }
 
