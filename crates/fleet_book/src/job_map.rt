@@ -11,7 +11,7 @@ ghost use Rattle.fleet_book.specs.Records.{AreRising, kept_records, put_record, 
 
 use crate::RecentCompactions;
 use fleet_jobs::{Compaction, CompactionStatus};
-use fleet_rows::{Copies, ListOf, SlateDBError, Ulid};
+use fleet_rows::{ListOf, SlateDBError, Ulid};
 use std::alloc::{AllocError, Global};
 use std::marker::Model;
 
@@ -273,9 +273,9 @@ fn retain(jobs: &mut ListOf<Compaction>, last: Option<Ulid>)
 fn copies(alloc: Global, jobs: &[Compaction]) -> Result<Vec<Compaction>, AllocError>
     ensures { IfOk result (λ copies. copies.items ≡ jobs.now) }
 {
-    let mut copies = Vec::new(alloc);
+    let mut copies = Vec::with_capacity(alloc, jobs.len())?;
     'jobs: for job in jobs {
-        add_copy(alloc, &mut copies, job)?;
+        job.copy_into(alloc, &mut copies)?;
     }
     Ok(copies)
 }
@@ -296,16 +296,7 @@ fn add_open(alloc: Global, copies: &mut Vec<Compaction>, job: &Compaction) -> Re
     ensures { OnOk result (copies.new.items ≡ copies.old.items ++ filter is_open (job.now ∷ [])) }
 {
     if job.active() {
-        add_copy(alloc, copies, job)?;
+        job.copy_into(alloc, copies)?;
     }
-    Ok(())
-}
-
-// Adds a copy of the job, whose own copies share its parts.
-fn add_copy(alloc: Global, copies: &mut Vec<Compaction>, job: &Compaction) -> Result<(), AllocError>
-    ensures { OnOk result (copies.new.items ≡ copies.old.items ++ job.now ∷ []) }
-{
-    let copy = job.copied()?.shared(alloc)?;
-    copies.push(copy)?;
     Ok(())
 }
