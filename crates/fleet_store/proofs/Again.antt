@@ -8,7 +8,7 @@ use Rattle.row_model.specs.Fold.{Operator}
 use Rattle.fleet_model.specs.Handles.{describe}
 use Rattle.fleet_model.specs.Exchanges.{Exchange, Plain, DrawsJob, DrawsTable, PutsTable, ListsTables, DeletesTable, performed, records_version}
 use Rattle.fleet_model.specs.Exchanges as exchange
-use Rattle.fleet_model.specs.History.{Party, Submitter, Worker, GetManifest, GetRecords, Submit, Claim, Commit}
+use Rattle.fleet_model.specs.History.{Party, Submitter, Worker, GetManifest, GetRecords, Submit, Claim}
 use Rattle.fleet_model.specs.Nodes.{Tables, is_among, rows_or_none, table_rows}
 use Rattle.fleet_model.specs.Store.{Records, Store}
 use Rattle.fleet_model.specs.Store as model_store
@@ -272,7 +272,7 @@ submit_got_fits who caller met new found r version copy value specs are some mad
 
 -- ---- the put of another party over a store in memory
 
-module _ (merge : Operator) (old acting lent : LogParts) (line : ℕ) (other : own.Party) (acts : acting ≡ record old { line = line; party = other }) (is_lent : lent ≡ acting) where
+module _ (merge : Operator) (old acting : LogParts) (line : ℕ) (other : own.Party) (acts : acting ≡ record old { line = line; party = other }) where
   abbrev other_log : LogParts
   other_log = record old { line = line; party = other }
 
@@ -283,23 +283,23 @@ module _ (merge : Operator) (old acting lent : LogParts) (line : ℕ) (other : o
     fits : ManifestPutFits (caller_of merge other_log) old.told m.id value (change.Commit steps) jobs
     fits = put_of_fits (caller_of merge other_log) old.told m value steps jobs is copy none no_jobs
 
-    pub manifest_fits_lent : ManifestPutFits (caller_of merge lent) lent.told m.id value (change.Commit steps) jobs
-    manifest_fits_lent = subst (λ (l : LogParts). ManifestPutFits (caller_of merge l) l.told m.id value (change.Commit steps) jobs) (sym (is_lent ∙ acts)) fits
+    pub manifest_fits_told : ManifestPutFits (caller_of merge acting) acting.told m.id value (change.Commit steps) jobs
+    manifest_fits_told = subst (λ (l : LogParts). ManifestPutFits (caller_of merge l) l.told m.id value (change.Commit steps) jobs) (sym acts) fits
 
     pub manifest_came : (own : own.Party) (new : LogParts) (result : Result ℕ SlateDBError) → party_of other ≢ party_of own
-        → PutsManifest (caller_of merge lent) lent.told new.told lent.faults new.faults lent.waits new.waits m.id value (change.Commit steps) jobs result → Rivals (shared_caller merge line own) old.told new.told
+        → PutsManifest (caller_of merge acting) acting.told new.told acting.faults new.faults acting.waits new.waits m.id value (change.Commit steps) jobs result → Rivals (shared_caller merge line own) old.told new.told
     manifest_came own new result differs made =
         came (caller_of merge (own_log own)) (caller_of merge other_log) old.told new.told old.faults new.faults old.waits new.waits (manifest_put m.id value (change.Commit steps) jobs) _ _ result
         differs (fits.lawful old.told (none_came (caller_of merge other_log) old.told)) refl refl
-        (subst (λ (l : LogParts). PutsManifest (caller_of merge l) l.told new.told l.faults new.faults l.waits new.waits m.id value (change.Commit steps) jobs result) (is_lent ∙ acts) made)
+        (subst (λ (l : LogParts). PutsManifest (caller_of merge l) l.told new.told l.faults new.faults l.waits new.waits m.id value (change.Commit steps) jobs result) acts made)
 
   module _ (version : ℕ) (value : Compactions) (why : record_own.RecordChange) (fit : (who : Caller) → who.party ≡ party_of other → RecordsPutFit who old.told version value why) where
-    pub records_fit_lent : RecordsPutFit (caller_of merge lent) lent.told version value why
-    records_fit_lent = subst (λ (l : LogParts). RecordsPutFit (caller_of merge l) l.told version value why) (sym (is_lent ∙ acts)) (fit (caller_of merge other_log) refl)
+    pub records_fit_told : RecordsPutFit (caller_of merge acting) acting.told version value why
+    records_fit_told = subst (λ (l : LogParts). RecordsPutFit (caller_of merge l) l.told version value why) (sym acts) (fit (caller_of merge other_log) refl)
 
     pub records_came : (own : own.Party) (new : LogParts) (result : Result ℕ SlateDBError) → party_of other ≢ party_of own
-        → PutsRecords (caller_of merge lent) lent.told new.told lent.faults new.faults lent.waits new.waits version value why result → Rivals (shared_caller merge line own) old.told new.told
+        → PutsRecords (caller_of merge acting) acting.told new.told acting.faults new.faults acting.waits new.waits version value why result → Rivals (shared_caller merge line own) old.told new.told
     records_came own new result differs made =
         came (caller_of merge (own_log own)) (caller_of merge other_log) old.told new.told old.faults new.faults old.waits new.waits (λ met. records_put version value why) _ _ result
         differs ((fit (caller_of merge other_log) refl).lawful old.told (none_came (caller_of merge other_log) old.told)) refl refl
-        (subst (λ (l : LogParts). PutsRecords (caller_of merge l) l.told new.told l.faults new.faults l.waits new.waits version value why result) (is_lent ∙ acts) made)
+        (subst (λ (l : LogParts). PutsRecords (caller_of merge l) l.told new.told l.faults new.faults l.waits new.waits version value why result) acts made)

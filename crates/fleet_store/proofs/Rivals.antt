@@ -1,20 +1,20 @@
 -- A store that others call too, who put stored objects once more.
-use Rattle.std.proofs.Common.{◌≡◌, ◌≢◌, refl, ap, sym, ◌∙◌, subst, ℕ, ◌≤◌, Bool, true, false, cond, List, [], ◌∷◌, ◌++◌, map, Option, Some, None, Result, Ok, Err, IsTrue, arith}
-use Rattle.std.specs.Prelude.{IfSome, flat_map, is_some, option_map}
+use Rattle.std.proofs.Common.{◌≡◌, ◌≢◌, refl, ap, sym, ◌∙◌, subst, ℕ, ◌≤◌, Bool, true, false, cond, List, [], ◌∷◌, ◌++◌, Option, Some, None, Result, Ok, Err, IsTrue, arith}
+use Rattle.std.specs.Prelude.{flat_map, is_some}
 use Rattle.std.specs.List.{AllByRecursion}
 use Rattle.row_model.specs.Fold.{Operator}
-use Rattle.fleet_model.specs.History.{Party, Submitter, Worker, RecordChange, Submit, Claim, Commit, is_get_or_put}
-use Rattle.fleet_model.specs.Exchanges.{Exchange, Fault, event_of}
+use Rattle.fleet_model.specs.History.{Party, Submitter, Worker, Submit, Claim, Commit}
+use Rattle.fleet_model.specs.Exchanges.{Exchange, Fault}
 use Rattle.fleet_model.specs.Jobs.{Job, Jobs, changed, trimmed}
 use Rattle.fleet_model.specs.Records.{Unrecorded, claimed_by, jobs_after, no_contexts}
 use Rattle.fleet_model.specs.Replay.{epoch_after}
-use Rattle.fleet_model.specs.Store.{Store, Records}
+use Rattle.fleet_model.specs.Store.{Store}
 use Rattle.fleet_model.specs.Store as model_store
 use Rattle.step_model.specs.Past.{Told}
 use Rattle.step_model.specs.Lawful.{Lawful}
 use Rattle.step_model.specs.LawfulManifests.{ManifestFits}
 use Rattle.step_model.specs.LawfulRecords.{NamesFit, RecordsFit}
-use Rattle.step_model.specs.Rivals.{Caller, MayStrike, RivalCall, Rivals, RivalsFrom, Strike, is_deletion, told_by}
+use Rattle.step_model.specs.Rivals.{Caller, MayStrike, Rivals, RivalsFrom, Strike, is_deletion, told_by}
 use Rattle.fleet_rows.specs.declared.errors.SlateDBError.{SlateDBError}
 use Rattle.fleet_rows.specs.declared.errors.SlateDBError.TheVariants.{IteratorNotInitialized, IteratorFailed, MergeOperatorMissing, InvalidSequenceOrder, MergeOperator, CompactionFilter, InvalidCompaction, InvalidDBState, Fenced, StoreFault, NotOwner, Conflict, Generate, Memory}
 use Rattle.fleet_table.specs.declared.manifest.Manifest.{Manifest}
@@ -36,7 +36,7 @@ use Rattle.fleet_store.specs.Handles.{IsDescribed}
 use Rattle.fleet_store.specs.Log.{LogParts}
 use Rattle.fleet_store.specs.Memory.{caller_of}
 use Rattle.fleet_store.specs.Manifests.{HasTrees, IsManifest, meant_by, spec_or_none}
-use Rattle.fleet_store.specs.Records.{AreRecords, DescribeTables, job_handles}
+use Rattle.fleet_store.specs.Records.{DescribeTables, job_handles}
 
 -- Only what was told before can be met, if nobody else calls.
 pub only_met : (who : Caller) (old met : Told) → who.alone ≡ true → Rivals who old met → old ≡ met
@@ -88,33 +88,33 @@ behind who old middle new first before after waited waits left x Gives Refuses r
 abbrev pub shared_caller : Operator → ℕ → own.Party → Caller
 shared_caller merge line party = record { merge = merge; line = line; party = party_of party; alone = false }
 
--- A store in memory was told who calls, and lent.
-module _ (merge : Operator) (old acting lent : LogParts) (line : ℕ) (party : own.Party) (acts : acting ≡ record old { line = line; party = party }) (is_lent : lent ≡ acting) where
+-- A store in memory was told who calls.
+module _ (merge : Operator) (old acting : LogParts) (line : ℕ) (party : own.Party) (acts : acting ≡ record old { line = line; party = party }) where
   abbrev told_who : LogParts
   told_who = record old { line = line; party = party }
 
   -- What may be met, behind calls of others.
-  met_later : (first : Told) (met : Told) → Rivals (shared_caller merge line party) first old.told → Rivals (caller_of merge lent) lent.told met → Rivals (shared_caller merge line party) first met
+  met_later : (first : Told) (met : Told) → Rivals (shared_caller merge line party) first old.told → Rivals (caller_of merge acting) acting.told met → Rivals (shared_caller merge line party) first met
   met_later first met others alone =
       subst (Rivals (shared_caller merge line party) first)
-      (only_met (caller_of merge told_who) old.told met refl (subst (λ (l : LogParts). Rivals (caller_of merge l) l.told met) (is_lent ∙ acts) alone)) others
+      (only_met (caller_of merge told_who) old.told met refl (subst (λ (l : LogParts). Rivals (caller_of merge l) l.told met) acts alone)) others
 
-  same_party : party_of lent.party ≡ party_of party
-  same_party = ap (λ (l : LogParts). party_of l.party) (is_lent ∙ acts)
+  same_party : party_of acting.party ≡ party_of party
+  same_party = ap (λ (l : LogParts). party_of l.party) acts
 
   -- A call that may be made whatever others do may be made behind calls of others.
-  pub may_call : (first : Told) (x : Store → Exchange) → Rivals (shared_caller merge line party) first old.told → MayCall (shared_caller merge line party) first x → MayCall (caller_of merge lent) lent.told x
+  pub may_call : (first : Told) (x : Store → Exchange) → Rivals (shared_caller merge line party) first old.told → MayCall (shared_caller merge line party) first x → MayCall (caller_of merge acting) acting.told x
   may_call first x others may met alone = subst (λ by. Lawful merge by met (x met.store)) (sym same_party) (may met (met_later first met others alone))
 
   pub manifest_may : (first : Told) (version : ℕ) (value : Manifest) (why : ManifestChange) (jobs : List JobParts) → Rivals (shared_caller merge line party) first old.told
-      → ManifestPutFits (shared_caller merge line party) first version value why jobs → ManifestPutFits (caller_of merge lent) lent.told version value why jobs
+      → ManifestPutFits (shared_caller merge line party) first version value why jobs → ManifestPutFits (caller_of merge acting) acting.told version value why jobs
   manifest_may first version value why jobs others fits = record {
     lawful = may_call first (manifest_put version value why jobs) others fits.lawful;
     shown = λ met alone. fits.shown met (met_later first met others alone);
   }
 
   pub records_may : (first : Told) (version : ℕ) (value : Compactions) (why : own_change.RecordChange) → Rivals (shared_caller merge line party) first old.told
-      → RecordsPutFit (shared_caller merge line party) first version value why → RecordsPutFit (caller_of merge lent) lent.told version value why
+      → RecordsPutFit (shared_caller merge line party) first version value why → RecordsPutFit (caller_of merge acting) acting.told version value why
   records_may first version value why others fits = record {
     lawful = may_call first (λ met. records_put version value why) others fits.lawful;
     shown = λ met alone. fits.shown met (met_later first met others alone);
@@ -122,12 +122,12 @@ module _ (merge : Operator) (old acting lent : LogParts) (line : ℕ) (party : o
 
   -- A call by the caller, behind calls of others.
   module _ {A : Type 0} (new : LogParts) (x : Store → Exchange) (Gives : Store → A → Type 0) (Refuses : Store → ℕ → Type 0) (result : Result A SlateDBError)
-      (made : Called (caller_of merge lent) lent.told new.told lent.faults new.faults lent.waits new.waits x Gives Refuses result) where
+      (made : Called (caller_of merge acting) acting.told new.told acting.faults new.faults acting.waits new.waits x Gives Refuses result) where
     pub behind_others : (first : LogParts) → Rivals (shared_caller merge line party) first.told old.told → first.faults ≤ old.faults
         → Called (shared_caller merge line party) first.told new.told first.faults new.faults first.waits new.waits x Gives Refuses result
     behind_others first others low =
         behind (caller_of merge told_who) first.told old.told new.told first.faults old.faults new.faults first.waits old.waits new.waits x Gives Refuses result refl others low
-        (subst (λ (l : LogParts). Called (caller_of merge l) l.told new.told l.faults new.faults l.waits new.waits x Gives Refuses result) (is_lent ∙ acts) made)
+        (subst (λ (l : LogParts). Called (caller_of merge l) l.told new.told l.faults new.faults l.waits new.waits x Gives Refuses result) acts made)
 
     pub at_once : Called (shared_caller merge line party) old.told new.told old.faults new.faults old.waits new.waits x Gives Refuses result
     at_once = behind_others old (none_came (shared_caller merge line party) old.told) (omega arith)

@@ -9,4 +9,5 @@ pub mod Calls
 pub mod Strikes
 pub mod Log
 pub mod Memory
+pub mod Under
 pub mod Laws

@@ -6,6 +6,7 @@ ghost use Rattle.fleet_history.specs.Parties.{party_of};
 ghost use Rattle.fleet_history.specs.declared.party.Party.TheVariants as parties;
 ghost use Rattle.fleet_history.specs.declared.record_change.RecordChange.TheVariants as changes;
 ghost use Rattle.fleet_model.specs.History as model;
+ghost use Rattle.fleet_store.specs.Under.{lent_of, store_of};
 ghost use Rattle.step_model.specs.Rivals.{Rivals};
 
 use crate::tests::put_records;
@@ -57,7 +58,7 @@ fn idle(alloc: Global, party: Party) -> (Party, RecordChange)
 
 // Another party puts the stored manifest once more, unchanged.
 fn put_manifest_again(
-    store: &mut MemStore,
+    under: &mut Under<'_, '_, AppendOperator>,
     alloc: Global,
     line: u64,
     own: Party,
@@ -69,25 +70,24 @@ fn put_manifest_again(
           party = party_of own;
           alone = false;
         })
-        store.old.told store.new.told }
-    ensures faults { store.old.faults ≤ store.new.faults }
+        (store_of under.old).told (store_of under.new).told }
+    ensures faults { (store_of under.old).faults ≤ (store_of under.new).faults }
+    ensures same_reference { lent_of under.new ≡ lent_of under.old }
     ensures memory { IsOkUnless result SlateDBError.Memory }
 {
-    let stored = store.manifest();
+    let stored = under.store().manifest();
     let version = stored.id;
     let value = stored.manifest.clone()?;
     let jobs = Compactions::new(alloc, 0);
     let why = ManifestChange::Commit(StepList::new(alloc));
-    store.set_actor(line, other(own));
-    let _put = store
-        .under(&AppendOperator)
-        .put_manifest(version, value, why, &jobs);
+    under.set_actor(line, other(own));
+    let _put = under.put_manifest(version, value, why, &jobs);
     Ok(())
 }
 
 // Another party puts the stored records once more, unchanged, if there are any.
 fn put_records_again(
-    store: &mut MemStore,
+    under: &mut Under<'_, '_, AppendOperator>,
     alloc: Global,
     line: u64,
     own: Party,
@@ -99,11 +99,12 @@ fn put_records_again(
           party = party_of own;
           alone = false;
         })
-        store.old.told store.new.told }
-    ensures faults { store.old.faults ≤ store.new.faults }
+        (store_of under.old).told (store_of under.new).told }
+    ensures faults { (store_of under.old).faults ≤ (store_of under.new).faults }
+    ensures same_reference { lent_of under.new ≡ lent_of under.old }
     ensures memory { IsOkUnless result SlateDBError.Memory }
 {
-    let Some(records) = store.records() else {
+    let Some(records) = under.store().records() else {
         return Ok(());
     };
     let version = records.id();
@@ -111,10 +112,8 @@ fn put_records_again(
     // A put drops jobs that are over, except the last, so the stored ones lack them already.
     value.retain_active_and_last_finished();
     let (other, why) = idle(alloc, own);
-    store.set_actor(line, other);
-    let _put = store
-        .under(&AppendOperator)
-        .put_records(version, value, why);
+    under.set_actor(line, other);
+    let _put = under.put_records(version, value, why);
     Ok(())
 }
 
@@ -122,8 +121,9 @@ impl Store for Rival<'_> {
     ghost use Rattle.row_model.specs.Append.{append};
     ghost use Rattle.std.specs.Prelude.{false};
     ghost use Rattle.fleet_history.specs.Parties.{party_of};
+    ghost use Rattle.fleet_store.specs.Under.{lent_of, store_of};
 
-    ghost told = { λ r. r.under.store.now.told };
+    ghost told = { λ r. (store_of r.under).told };
 
     ghost who = { λ r. record {
       merge = append;
@@ -132,16 +132,16 @@ impl Store for Rival<'_> {
       alone = false;
     } };
 
-    ghost faults = { λ r. r.under.store.now.faults };
+    ghost faults = { λ r. (store_of r.under).faults };
 
-    ghost waits = { λ r. r.under.store.now.waits };
+    ghost waits = { λ r. (store_of r.under).waits };
 
-    ghost lent = { λ r. r.under.store.ghost_name };
+    ghost lent = { λ r. lent_of r.under };
 
     ghost place = { λ _. 0 };
 
     fn get_manifest(&mut self) -> Result<VersionedManifest, SlateDBError> {
-        self.under.store.set_actor(self.line, self.party);
+        self.under.set_actor(self.line, self.party);
         self.under.get_manifest()
     }
 
@@ -152,13 +152,13 @@ impl Store for Rival<'_> {
         why: ManifestChange,
         jobs: &Compactions,
     ) -> Result<u64, SlateDBError> {
-        put_manifest_again(self.under.store, self.alloc, self.line, self.party)?;
-        self.under.store.set_actor(self.line, self.party);
+        put_manifest_again(&mut self.under, self.alloc, self.line, self.party)?;
+        self.under.set_actor(self.line, self.party);
         self.under.put_manifest(version, value, why, jobs)
     }
 
     fn get_records(&mut self) -> Result<Option<VersionedCompactions>, SlateDBError> {
-        self.under.store.set_actor(self.line, self.party);
+        self.under.set_actor(self.line, self.party);
         self.under.get_records()
     }
 
@@ -168,33 +168,33 @@ impl Store for Rival<'_> {
         value: Compactions,
         why: RecordChange,
     ) -> Result<u64, SlateDBError> {
-        put_records_again(self.under.store, self.alloc, self.line, self.party)?;
-        self.under.store.set_actor(self.line, self.party);
+        put_records_again(&mut self.under, self.alloc, self.line, self.party)?;
+        self.under.set_actor(self.line, self.party);
         self.under.put_records(version, value, why)
     }
 
     fn put_table(&mut self, id: Ulid, table: TableData) -> Result<(), SlateDBError> {
-        self.under.store.set_actor(self.line, self.party);
+        self.under.set_actor(self.line, self.party);
         self.under.put_table(id, table)
     }
 
     fn get_table(&mut self, id: Ulid) -> Result<Option<TableData>, SlateDBError> {
-        self.under.store.set_actor(self.line, self.party);
+        self.under.set_actor(self.line, self.party);
         self.under.get_table(id)
     }
 
     fn draw_job(&mut self, moment: u64) -> Result<Ulid, SlateDBError> {
-        self.under.store.set_actor(self.line, self.party);
+        self.under.set_actor(self.line, self.party);
         self.under.draw_job(moment)
     }
 
     fn note(&mut self, note: Note) -> Result<(), SlateDBError> {
-        self.under.store.set_actor(self.line, self.party);
+        self.under.set_actor(self.line, self.party);
         self.under.note(note)
     }
 
     fn draw_table(&mut self, moment: u64) -> Result<Ulid, SlateDBError> {
-        self.under.store.set_actor(self.line, self.party);
+        self.under.set_actor(self.line, self.party);
         self.under.draw_table(moment)
     }
 }

@@ -6,7 +6,7 @@ use crate::memory::ended;
 use crate::{MemStore, Store, SweepStore};
 use fleet_book::{Compactions, VersionedCompactions};
 use fleet_fold::MergeOperator;
-use fleet_history::{ManifestChange, Note, RecordChange};
+use fleet_history::{ManifestChange, Note, Party, RecordChange};
 use fleet_rows::{JobList, SlateDBError, Ulid};
 use fleet_table::{Manifest, TableData, VersionedManifest};
 use std::alloc::Global;
@@ -15,16 +15,18 @@ use std::alloc::Global;
 /// calls it.
 #[derive(Drop)]
 pub struct Under<'a, 'o, O: MergeOperator> {
-    pub(crate) store: &'a mut MemStore,
+    store: &'a mut MemStore,
     operator: &'o O,
 }
 
 impl MemStore {
+    ghost use Rattle.fleet_store.specs.Under.{lent_of, operator_of, store_of};
+
     /// Lends the store together with an operator.
     pub fn under<'a, 'o, O: MergeOperator>(&'a mut self, operator: &'o O) -> Under<'a, 'o, O>
-        ensures same_reference { result.store.ghost_name ≡ self.entry.ghost_name }
-        ensures store { result.store.now ≡ self.old }
-        ensures operator { result.operator.now ≡ operator.now }
+        ensures same_reference { lent_of result ≡ self.entry.ghost_name }
+        ensures store { store_of result ≡ self.old }
+        ensures operator { operator_of result ≡ operator.now }
     {
         Under {
             store: self,
@@ -33,18 +35,40 @@ impl MemStore {
     }
 }
 
+impl<O: MergeOperator> Under<'_, '_, O> {
+    ghost use Rattle.fleet_store.specs.Under.{lent_of, operator_of, store_of};
+
+    /// Later entries carry this line and this party.
+    pub fn set_actor(&mut self, line: u64, party: Party)
+        ensures store { store_of self.new
+            ≡ record (store_of self.old) { line = line; party = party } }
+        ensures same_reference { lent_of self.new ≡ lent_of self.old }
+        ensures same_operator { operator_of self.new ≡ operator_of self.old }
+    {
+        self.store.set_actor(line, party);
+    }
+
+    /// The store, looked at without a call.
+    pub fn store(&self) -> &MemStore
+        ensures { result.now ≡ store_of self.now }
+    {
+        self.store
+    }
+}
+
 impl<O: MergeOperator> Store for Under<'_, '_, O> {
     ghost use Rattle.fleet_store.specs.Memory.{caller_of};
+    ghost use Rattle.fleet_store.specs.Under.{lent_of, operator_of, store_of};
 
-    ghost told = { λ u. u.store.now.told };
+    ghost told = { λ u. (store_of u).told };
 
-    ghost who = { λ u. caller_of (O.merged (O.settings u.operator.now)) u.store.now };
+    ghost who = { λ u. caller_of (O.merged (O.settings (operator_of u))) (store_of u) };
 
-    ghost faults = { λ u. u.store.now.faults };
+    ghost faults = { λ u. (store_of u).faults };
 
-    ghost waits = { λ u. u.store.now.waits };
+    ghost waits = { λ u. (store_of u).waits };
 
-    ghost lent = { λ u. u.store.ghost_name };
+    ghost lent = { λ u. lent_of u };
 
     ghost place = { λ _. 0 };
 

@@ -1,15 +1,15 @@
-use Rattle.std.proofs.Common.{refl}
 use Rattle.row_model.specs.Append.{append}
+use Rattle.fleet_store.specs.Under.{store_of}
 use Rattle.fleet_store.proofs.Rivals.{behind_others, manifest_may}
 use Rattle.fleet_store.proofs.rival.RivalStore.put_manifest.Goals as goal
 
 pub returns-clause-puts : goal.returns-clause-puts
 returns-clause-puts c =
-    behind_others append c.put_manifest_again.new.store c.set_actor.new.self c.set_actor.new.self c.args.self.now.line c.args.self.now.party c.set_actor.ensures refl
-    c.put_manifest.new.self.store.now _ _ _ c.put_manifest.result c.put_manifest.ensures.puts
-    c.args.self.now.under.store.now c.put_manifest_again.ensures.rivals c.put_manifest_again.ensures.faults
+    behind_others append (store_of c.put_manifest_again.new.under) (store_of c.set_actor.new.self) c.args.self.now.line c.args.self.now.party c.set_actor.ensures.store
+    (store_of c.put_manifest.new.self) _ _ _ c.put_manifest.result c.put_manifest.ensures.puts
+    (store_of c.args.self.now.under) c.put_manifest_again.ensures.rivals c.put_manifest_again.ensures.faults
 
 pub put_manifest-requires : goal.put_manifest-requires
 put_manifest-requires c =
-    manifest_may append c.put_manifest_again.new.store c.set_actor.new.self c.set_actor.new.self c.args.self.now.line c.args.self.now.party c.set_actor.ensures refl
-    c.args.self.now.under.store.now.told c.args.version c.args.value c.args.why c.args.jobs.now.jobs c.put_manifest_again.ensures.rivals c.requires
+    manifest_may append (store_of c.put_manifest_again.new.under) (store_of c.set_actor.new.self) c.args.self.now.line c.args.self.now.party c.set_actor.ensures.store
+    (store_of c.args.self.now.under).told c.args.version c.args.value c.args.why c.args.jobs.now.jobs c.put_manifest_again.ensures.rivals c.requires
