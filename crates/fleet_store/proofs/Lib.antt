@@ -9,3 +9,4 @@ pub mod Again
 pub mod Listed
 pub mod Removed
 pub mod Alike
+pub mod Threads

@@ -309,17 +309,3 @@ fn remember(
     }
     Ok(())
 }
-
-fn sends<T: Send>(_value: &T) {}
-
-impl Log {
-    /// Each part may go from thread to thread. This has no proof if one may not.
-    pub(crate) fn needs_send(&self) {
-        sends(&self.calls);
-        sends(&self.history);
-        sends(&self.line);
-        sends(&self.party);
-        sends(&self.faults);
-        sends(&self.waits);
-    }
-}

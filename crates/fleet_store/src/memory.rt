@@ -1,17 +1,15 @@
 //! A store in memory.
 
-ghost use Rattle.std.specs.Prelude.{◌≡◌, ◌+◌, ◌<◌, ◌≤◌, ◌^◌, ◌&&◌, ◌==◌, [], None, Some, false, if◌then◌else◌, OnErr, IfOk, IsOkUnless, option_map, IsTrue, ⊤};
+ghost use Rattle.std.specs.Prelude.{◌≡◌, ◌+◌, ◌<◌, ◌^◌, ◌&&◌, ◌==◌, [], None, Some, false, if◌then◌else◌, OnErr, IfOk, IsOkUnless, option_map, IsTrue, ⊤};
 ghost use Rattle.std.specs.BTreeMap.{insert_entry, is_at};
 ghost use Rattle.std.specs.Map.{keys_of, lookup, remove_entry};
 ghost use Rattle.std.specs.Option.{is_some, option_copied};
 ghost use Rattle.std.specs.Ordering.{nat_cmp};
-ghost use Rattle.row_model.specs.Fold.{Operator};
 ghost use Rattle.fleet_model.specs.Exchanges as exchange;
-ghost use Rattle.fleet_model.specs.Exchanges.{DeletesTable, DrawsJob, DrawsTable, Fault, ListsTables, Plain, PutsTable, next_job_id, next_table_id, records_version};
+ghost use Rattle.fleet_model.specs.Exchanges.{DeletesTable, DrawsJob, DrawsTable, ListsTables, Plain, PutsTable, next_job_id, next_table_id, records_version};
 ghost use Rattle.fleet_model.specs.History as event;
 ghost use Rattle.fleet_model.specs.Nodes.{is_among};
 ghost use Rattle.fleet_model.specs.Store.{fresh_store, is_held};
-ghost use Rattle.fleet_model.specs.Jobs.{id_of};
 ghost use Rattle.fleet_history.specs.Changes.{manifest_change_of};
 ghost use Rattle.fleet_history.specs.Entries.{answer_of, history_of};
 ghost use Rattle.fleet_history.specs.declared.party.Party.TheVariants.{Writer};
@@ -488,13 +486,7 @@ fn replace_manifest(manifest: &mut VersionedManifest, stands: bool, value: Manif
 
 fn sends<T: Send>(_value: &T) {}
 
-// A store in memory is to go from thread to thread, so each part of it may. This has no proof if
-// one may not.
+// A store in memory is to go from thread to thread. This has no proof if it may not.
 fn needs_send(store: &MemStore) {
-    sends(&store.manifest);
-    sends(&store.records);
-    sends(&store.tables);
-    sends(&store.jobs_drawn);
-    sends(&store.tables_drawn);
-    store.log.needs_send();
+    sends(store);
 }
