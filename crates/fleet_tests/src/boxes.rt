@@ -1,12 +1,11 @@
 // Iterators of several kinds in boxes.
 ghost use Rattle.fleet_iter.specs.Iteration.{IsAlive};
 
-use crate::told::{given, list, merge, rows};
+use crate::told::{are_told, given, list, merge};
 use fleet_fold::{AppendOperator, MergeOperatorIterator, RetentionIterator};
 use fleet_iter::{MergeIterator, PeekingIterator, RowEntryIterator, TrackedRowEntryIterator};
 use fleet_rows::{RowEntry, Settings, SlateDBError};
 use std::alloc::Global;
-use std::test::Fail;
 
 // The rows that a merge of three iterators gives. Before `init` the merge must say that it is not
 // initialised.
@@ -36,18 +35,16 @@ fn merged_three<T: RowEntryIterator>(
 }
 
 #[test]
-fn merges_boxed_kinds(rt: HostRuntime) -> Result<(), Fail> {
-    let alloc = rt.alloc();
-    let older: Box<dyn RowEntryIterator> = Box::new(alloc, list(alloc, "b:v:1:1,c:t:-:5")?)?;
-    let newer = PeekingIterator::new(list(alloc, "b:m:3:7")?);
-    let newer: Box<dyn RowEntryIterator> = Box::new(alloc, newer)?;
-    let merge: Box<dyn RowEntryIterator> = Box::new(alloc, merge(alloc, "a:t:-:3|b:m:2:4")?)?;
-    let merged = merged_three(alloc, older, newer, merge)?;
-    assert_eq!(rt;
-        merged,
-        rows(alloc, "a:t:-:3,b:m:3:7,b:m:2:4,b:v:1:1,c:t:-:5")?
-    );
-    Ok(())
+fn merges_boxed_kinds(rt: HostRuntime) {
+    let older = list(rt.alloc(), "b:v:1:1,c:t:-:5").expect(&rt, "rows");
+    let older: Box<dyn RowEntryIterator> = Box::new(rt.alloc(), older).expect(&rt, "memory");
+    let newer = PeekingIterator::new(list(rt.alloc(), "b:m:3:7").expect(&rt, "rows"));
+    let newer: Box<dyn RowEntryIterator> = Box::new(rt.alloc(), newer).expect(&rt, "memory");
+    let merge = merge(rt.alloc(), "a:t:-:3|b:m:2:4").expect(&rt, "rows");
+    let merge: Box<dyn RowEntryIterator> = Box::new(rt.alloc(), merge).expect(&rt, "memory");
+    let merged = merged_three(rt.alloc(), older, newer, merge);
+    let wanted = "a:t:-:3,b:m:3:7,b:m:2:4,b:v:1:1,c:t:-:5";
+    assert!(rt; are_told(rt.alloc(), merged, wanted));
 }
 
 // The rows that an iterator gives, and the bytes that it counted.
@@ -64,40 +61,34 @@ fn counted<T: TrackedRowEntryIterator>(
 }
 
 #[test]
-fn counts_in_a_box(rt: HostRuntime) -> Result<(), Fail> {
-    let alloc = rt.alloc();
-    let merge = merge(alloc, "a:v:12:3,a:v:1:2|b:m:2:4")?;
-    let merge: Box<dyn TrackedRowEntryIterator> = Box::new(alloc, merge)?;
-    assert_eq!(rt;
-        counted(alloc, merge)?,
-        (rows(alloc, "a:v:12:3,b:m:2:4")?, 7)
-    );
-    Ok(())
+fn counts_in_a_box(rt: HostRuntime) {
+    let merge = merge(rt.alloc(), "a:v:12:3,a:v:1:2|b:m:2:4").expect(&rt, "rows");
+    let merge: Box<dyn TrackedRowEntryIterator> = Box::new(rt.alloc(), merge).expect(&rt, "memory");
+    let (rows, bytes) = counted(rt.alloc(), merge).expect(&rt, "rows");
+    assert!(rt; bytes == 7);
+    assert!(rt; are_told(rt.alloc(), Ok(rows), "a:v:12:3,b:m:2:4"));
 }
 
 #[test]
-fn folds_rows_of_a_box(rt: HostRuntime) -> Result<(), Fail> {
-    let alloc = rt.alloc();
-    let boxed: Box<dyn RowEntryIterator> = Box::new(alloc, list(alloc, "k:m:2:2,k:v:1:1")?)?;
+fn folds_rows_of_a_box(rt: HostRuntime) {
+    let list = list(rt.alloc(), "k:m:2:2,k:v:1:1").expect(&rt, "rows");
+    let boxed: Box<dyn RowEntryIterator> = Box::new(rt.alloc(), list).expect(&rt, "memory");
     let mut folding = MergeOperatorIterator::new(&AppendOperator, boxed, true, None);
-    folding.init(alloc)?;
-    assert_eq!(rt; given(alloc, &mut folding)?, rows(alloc, "k:v:12:2")?);
-    Ok(())
+    folding.init(rt.alloc()).expect(&rt, "a start");
+    assert!(rt; are_told(rt.alloc(), given(rt.alloc(), &mut folding), "k:v:12:2"));
 }
 
 #[test]
-fn keeps_rows_of_a_box(rt: HostRuntime) -> Result<(), Fail> {
-    let alloc = rt.alloc();
-    let boxed = list(alloc, "a:t:-:4,a:v:v1:2,a:v:v0:1")?;
-    let boxed: Box<dyn RowEntryIterator> = Box::new(alloc, boxed)?;
+fn keeps_rows_of_a_box(rt: HostRuntime) {
+    let list = list(rt.alloc(), "a:t:-:4,a:v:v1:2,a:v:v0:1").expect(&rt, "rows");
+    let boxed: Box<dyn RowEntryIterator> = Box::new(rt.alloc(), list).expect(&rt, "memory");
     let settings = Settings {
         floor: 3,
         tick: 0,
         last_run: false,
         cut: 3,
     };
-    let mut kept = RetentionIterator::new(alloc, boxed, settings);
-    kept.init(alloc)?;
-    assert_eq!(rt; given(alloc, &mut kept)?, rows(alloc, "a:t:-:4,a:v:v1:2")?);
-    Ok(())
+    let mut kept = RetentionIterator::new(rt.alloc(), boxed, settings);
+    kept.init(rt.alloc()).expect(&rt, "a start");
+    assert!(rt; are_told(rt.alloc(), given(rt.alloc(), &mut kept), "a:t:-:4,a:v:v1:2"));
 }

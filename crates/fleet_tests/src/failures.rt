@@ -1,7 +1,7 @@
 // An iterator over other rows passes on their fault in the call in which it comes. After that it
 // says that it has failed.
 use crate::failing::{before_fault, failing};
-use crate::told::rows;
+use crate::told::are_told;
 use fleet_fold::{
     AppendOperator, CompactionFilter, CompactionFilterDecision, CompactionFilterIterator,
     MergeOperatorIterator, MergeOperatorRequiredIterator, RetentionIterator,
@@ -9,34 +9,36 @@ use fleet_fold::{
 use fleet_iter::{MergeIterator, PeekingIterator, ResumingIterator};
 use fleet_rows::{CompactionFilterError, RowEntry, Settings, SlateDBError};
 use std::alloc::Global;
-use std::test::Fail;
 
 const TOLD: &str = "a:m:-:3,a:v:-:2,b:v:-:1";
 
 #[test]
-fn peeking_and_resuming_fail_as_their_rows(rt: HostRuntime) -> Result<(), Fail> {
-    let alloc = rt.alloc();
-    let all = rows(alloc, TOLD)?;
-    assert_eq!(rt; before_fault(alloc, failing(alloc, TOLD)?)?, all);
-    let peeking = PeekingIterator::new(failing(alloc, TOLD)?);
-    assert_eq!(rt; before_fault(alloc, peeking)?, all);
-    let resuming = ResumingIterator::new(alloc, failing(alloc, TOLD)?, None)?;
-    assert_eq!(rt; before_fault(alloc, resuming)?, all);
-    Ok(())
+fn a_list_fails(rt: HostRuntime) {
+    let list = failing(rt.alloc(), TOLD).expect(&rt, "rows");
+    assert!(rt; are_told(rt.alloc(), before_fault(rt.alloc(), list), TOLD));
 }
 
 #[test]
-fn a_merge_fails_as_its_sources(rt: HostRuntime) -> Result<(), Fail> {
-    let alloc = rt.alloc();
-    let mut sources = Vec::new(alloc);
-    sources.push(failing(alloc, TOLD)?)?;
-    sources.push(failing(alloc, "b:v:-:7,c:v:-:8,d:v:-:9")?)?;
-    let merge = MergeIterator::new(alloc, sources);
-    assert_eq!(rt;
-        before_fault(alloc, merge)?,
-        rows(alloc, "a:m:-:3,a:v:-:2")?
-    );
-    Ok(())
+fn peeking_fails_as_its_rows(rt: HostRuntime) {
+    let peeking = PeekingIterator::new(failing(rt.alloc(), TOLD).expect(&rt, "rows"));
+    assert!(rt; are_told(rt.alloc(), before_fault(rt.alloc(), peeking), TOLD));
+}
+
+#[test]
+fn resuming_fails_as_its_rows(rt: HostRuntime) {
+    let list = failing(rt.alloc(), TOLD).expect(&rt, "rows");
+    let resuming = ResumingIterator::new(rt.alloc(), list, None).expect(&rt, "a start");
+    assert!(rt; are_told(rt.alloc(), before_fault(rt.alloc(), resuming), TOLD));
+}
+
+#[test]
+fn a_merge_fails_as_its_sources(rt: HostRuntime) {
+    let one = failing(rt.alloc(), TOLD).expect(&rt, "rows");
+    let other = failing(rt.alloc(), "b:v:-:7,c:v:-:8,d:v:-:9").expect(&rt, "rows");
+    let sources = vec![in rt.alloc(); one, other].expect(&rt, "memory");
+    let merge = MergeIterator::new(rt.alloc(), sources);
+    let given = before_fault(rt.alloc(), merge);
+    assert!(rt; are_told(rt.alloc(), given, "a:m:-:3,a:v:-:2"));
 }
 
 // The rows that folding gives before the fault.
@@ -49,8 +51,7 @@ fn folded(alloc: Global, told: &str) -> Result<Vec<RowEntry>, SlateDBError> {
 }
 
 #[test]
-fn folding_fails_as_its_rows(rt: HostRuntime) -> Result<(), Fail> {
-    let alloc = rt.alloc();
+fn folding_fails_as_its_rows(rt: HostRuntime) {
     let cases = [
         ("-", "-"),
         ("k:v:1:1", "k:v:1:1"),
@@ -60,35 +61,35 @@ fn folding_fails_as_its_rows(rt: HostRuntime) -> Result<(), Fail> {
         ("j:m:2:2,k:m:1:1", "j:m:2:2"),
     ];
     for (told, wanted) in cases {
-        assert_eq!(rt; folded(alloc, told)?, rows(alloc, wanted)?, "{told}");
+        let given = folded(rt.alloc(), told);
+        assert!(rt; are_told(rt.alloc(), given, wanted), "{told}");
     }
-    Ok(())
 }
 
 #[test]
-fn retention_fails_as_its_rows(rt: HostRuntime) -> Result<(), Fail> {
-    let alloc = rt.alloc();
+fn retention_fails_as_its_rows(rt: HostRuntime) {
     let settings = Settings {
         floor: 9,
         tick: 0,
         last_run: true,
         cut: 9,
     };
-    let rows_of_keys = failing(alloc, "a:v:1:3,b:v:2:2,b:v:3:1")?;
-    let kept = RetentionIterator::new(alloc, rows_of_keys, settings);
-    assert_eq!(rt; before_fault(alloc, kept)?, rows(alloc, "a:v:1:3")?);
-    Ok(())
+    let list = failing(rt.alloc(), "a:v:1:3,b:v:2:2,b:v:3:1").expect(&rt, "rows");
+    let kept = RetentionIterator::new(rt.alloc(), list, settings);
+    assert!(rt; are_told(rt.alloc(), before_fault(rt.alloc(), kept), "a:v:1:3"));
 }
 
 #[test]
-fn required_rows_fail_as_the_rows(rt: HostRuntime) -> Result<(), Fail> {
-    let alloc = rt.alloc();
-    let plain = MergeOperatorRequiredIterator::new(failing(alloc, "a:v:1:3,b:t:-:2")?);
-    assert_eq!(rt;
-        before_fault(alloc, plain)?,
-        rows(alloc, "a:v:1:3,b:t:-:2")?
+fn required_rows_fail_as_the_rows(rt: HostRuntime) {
+    let list = failing(rt.alloc(), "a:v:1:3,b:t:-:2").expect(&rt, "rows");
+    let plain = MergeOperatorRequiredIterator::new(list);
+    assert!(rt;
+        are_told(
+            rt.alloc(),
+            before_fault(rt.alloc(), plain),
+            "a:v:1:3,b:t:-:2"
+        )
     );
-    Ok(())
 }
 
 // A filter that drops tombstones.
@@ -127,10 +128,8 @@ impl CompactionFilter for WithoutDeleted {
 }
 
 #[test]
-fn a_filter_fails_as_its_rows(rt: HostRuntime) -> Result<(), Fail> {
-    let alloc = rt.alloc();
-    let filter = WithoutDeleted { closed: false };
-    let left = CompactionFilterIterator::new(failing(alloc, "a:t:-:3,b:v:2:2")?, filter);
-    assert_eq!(rt; before_fault(alloc, left)?, rows(alloc, "b:v:2:2")?);
-    Ok(())
+fn a_filter_fails_as_its_rows(rt: HostRuntime) {
+    let list = failing(rt.alloc(), "a:t:-:3,b:v:2:2").expect(&rt, "rows");
+    let left = CompactionFilterIterator::new(list, WithoutDeleted { closed: false });
+    assert!(rt; are_told(rt.alloc(), before_fault(rt.alloc(), left), "b:v:2:2"));
 }

@@ -1,23 +1,38 @@
 // Looking ahead, calls that come too early, and iterators without rows.
-use crate::told::{given, list, merge, rows};
+use crate::told::{are_told, given, list, merge};
 use fleet_fold::{AppendOperator, MERGE_OPERATOR_OPERANDS, MergeOperatorIterator};
-use fleet_iter::{EmptyIterator, PeekingIterator, ResumingIterator, RowEntryIterator};
+use fleet_iter::{
+    EmptyIterator, ListIterator, PeekingIterator, ResumingIterator, RowEntryIterator,
+};
 use fleet_rows::SlateDBError;
-use std::test::Fail;
+use std::alloc::Global;
+
+// The sequence of the row that a look shows.
+fn looked(alloc: Global, list: &mut PeekingIterator<ListIterator>) -> Option<u64> {
+    match list.peek(alloc) {
+        Ok(Some(row)) => Some(row.seq),
+        _ => None,
+    }
+}
+
+// The sequence of the row that is given next.
+fn taken(alloc: Global, list: &mut PeekingIterator<ListIterator>) -> Option<u64> {
+    match list.next(alloc) {
+        Ok(Some(row)) => Some(row.seq),
+        _ => None,
+    }
+}
 
 #[test]
-fn a_peek_keeps_the_rows_behind(rt: HostRuntime) -> Result<(), Fail> {
-    let alloc = rt.alloc();
-    let mut list = PeekingIterator::new(list(alloc, "a:v:-:4,a:v:-:3")?);
-    let first = list.peek(alloc)?.map(|row| row.seq);
-    let second = list.peek(alloc)?.map(|row| row.seq);
-    let next = list.next(alloc)?.map(|row| row.seq);
-    assert_eq!(rt; (first, second, next), (Some(4), Some(4), Some(4)));
-    let behind = list.peek(alloc)?.map(|row| row.seq);
-    let last = list.next(alloc)?.map(|row| row.seq);
-    assert_eq!(rt; (behind, last), (Some(3), Some(3)));
-    assert!(rt; list.next(alloc)?.is_none());
-    Ok(())
+fn a_peek_keeps_the_rows_behind(rt: HostRuntime) {
+    let list = list(rt.alloc(), "a:v:-:4,a:v:-:3").expect(&rt, "rows");
+    let mut list = PeekingIterator::new(list);
+    assert!(rt; looked(rt.alloc(), &mut list) == Some(4));
+    assert!(rt; looked(rt.alloc(), &mut list) == Some(4));
+    assert!(rt; taken(rt.alloc(), &mut list) == Some(4));
+    assert!(rt; looked(rt.alloc(), &mut list) == Some(3));
+    assert!(rt; taken(rt.alloc(), &mut list) == Some(3));
+    assert!(rt; list.next(rt.alloc()).expect(&rt, "an end").is_none());
 }
 
 fn is_unready<A: Drop>(answer: Result<A, SlateDBError>) -> bool {
@@ -25,26 +40,22 @@ fn is_unready<A: Drop>(answer: Result<A, SlateDBError>) -> bool {
 }
 
 #[test]
-fn folding_is_made_ready_first(rt: HostRuntime) -> Result<(), Fail> {
-    let alloc = rt.alloc();
-    let merge = merge(alloc, "k:m:2:2,k:v:1:1")?;
+fn folding_is_made_ready_first(rt: HostRuntime) {
+    let merge = merge(rt.alloc(), "k:m:2:2,k:v:1:1").expect(&rt, "rows");
     let mut folding = MergeOperatorIterator::new(&AppendOperator, merge, true, None);
-    assert!(rt; is_unready(folding.seek(alloc, b"l".as_slice())));
-    assert!(rt; is_unready(folding.next(alloc)));
-    folding.init(alloc)?;
-    assert_eq!(rt; given(alloc, &mut folding)?, rows(alloc, "k:v:12:2")?);
-    assert_eq!(rt; MERGE_OPERATOR_OPERANDS, "slatedb.merge_operator_operands");
-    Ok(())
+    assert!(rt; is_unready(folding.seek(rt.alloc(), b"l".as_slice())));
+    assert!(rt; is_unready(folding.next(rt.alloc())));
+    folding.init(rt.alloc()).expect(&rt, "a start");
+    assert!(rt; are_told(rt.alloc(), given(rt.alloc(), &mut folding), "k:v:12:2"));
+    assert!(rt; MERGE_OPERATOR_OPERANDS == "slatedb.merge_operator_operands");
 }
 
 #[test]
-fn none_are_given(rt: HostRuntime) -> Result<(), Fail> {
-    let alloc = rt.alloc();
+fn none_are_given(rt: HostRuntime) {
     let mut none = EmptyIterator::new();
-    none.init(alloc)?;
-    none.seek(alloc, b"a")?;
-    assert!(rt; none.next(alloc)?.is_none());
-    let all = ResumingIterator::new(alloc, none, None)?;
+    none.init(rt.alloc()).expect(&rt, "a start");
+    none.seek(rt.alloc(), b"a").expect(&rt, "a place");
+    assert!(rt; none.next(rt.alloc()).expect(&rt, "an end").is_none());
+    let all = ResumingIterator::new(rt.alloc(), none, None).expect(&rt, "a start");
     assert!(rt; all.start().is_none());
-    Ok(())
 }

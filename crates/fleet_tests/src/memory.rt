@@ -4,7 +4,7 @@ ghost use Rattle.std.specs.Prelude.{None};
 ghost use Rattle.fleet_run.specs.Outside.{SinkView};
 
 use fleet_run::{Failed, Fleet, SafeSource, Sink, fleet_main};
-use std::test::Fail;
+use std::alloc::Global;
 
 const FLUSH_AND_READ: &str =
     "flush 1 - 3 0 61:t:-:4:-:-,61:v:7631:2:-:-,61:v:7630:1:-:-\nread - 61 3 0\nread - 61 4 0\nread - 61 2 0\nread - 62 9 0\n";
@@ -61,29 +61,30 @@ impl Sink for ShortSink {
     }
 }
 
+// Whether only whole replies to a script were written, and the status is 0 if all were, and else 6.
+fn ends_between_replies(alloc: Global, script: &str, replies: &str) -> bool {
+    let Ok(mut fleet) = Fleet::new(alloc) else {
+        return true;
+    };
+    let mut source = SafeSource::new(script.as_bytes());
+    let mut sink = ShortSink {
+        bytes: [0; 512],
+        len: 0,
+        taken: 0,
+    };
+    let status = fleet_main(alloc, &["run"], &mut source, &mut fleet, &mut sink);
+    let written = &sink.bytes[..sink.len.min(sink.bytes.len())];
+    are_whole(written, replies) && status == if written == replies.as_bytes() { 0 } else { 6 }
+}
+
+fn are_whole(written: &[u8], replies: &str) -> bool {
+    replies.as_bytes().starts_with(written) && (written.is_empty() || written.ends_with(b"\n"))
+}
+
 // If any growth of memory is refused, the status is 6 and only whole replies were written. With
 // ample memory it is 0.
 #[test]
-fn memory_ends_between_replies(rt: HostRuntime) -> Result<(), Fail> {
-    let rows: [(&str, &str); 2] = [
-        (FLUSH_AND_READ, FLUSH_AND_READ_REPLIES),
-        (DELETED_KEY, DELETED_KEY_REPLIES),
-    ];
-    for (script, replies) in rows {
-        let Ok(mut fleet) = Fleet::new(rt.alloc()) else {
-            continue;
-        };
-        let mut source = SafeSource::new(script.as_bytes());
-        let mut sink = ShortSink {
-            bytes: [0; 512],
-            len: 0,
-            taken: 0,
-        };
-        let status = fleet_main(rt.alloc(), &["run"], &mut source, &mut fleet, &mut sink);
-        let written = &sink.bytes[..sink.len.min(sink.bytes.len())];
-        assert!(rt; replies.as_bytes().starts_with(written));
-        assert!(rt; written.is_empty() || written.ends_with(b"\n"));
-        assert_eq!(rt; status, if written == replies.as_bytes() { 0 } else { 6 });
-    }
-    Ok(())
+fn memory_ends_between_replies(rt: HostRuntime) {
+    assert!(rt; ends_between_replies(rt.alloc(), FLUSH_AND_READ, FLUSH_AND_READ_REPLIES));
+    assert!(rt; ends_between_replies(rt.alloc(), DELETED_KEY, DELETED_KEY_REPLIES));
 }

@@ -4,15 +4,24 @@ use fleet_run::{
     Failed, Fleet, FleetError, MemSink, MemSource, SafeSink, SafeSource, Sink, Source, fleet_main,
     run_script,
 };
-use std::test::Fail;
+use std::alloc::Global;
+use std::process::Abort;
 
 const FLUSH_AND_READ: &str =
     "flush 1 - 3 0 61:t:-:4:-:-,61:v:7631:2:-:-,61:v:7630:1:-:-\nread - 61 3 0\nread - 61 4 0\nread - 61 2 0\nread - 62 9 0\n";
 
 const REPLIES: &str = "ok\nvalue 7631\nnone\nvalue 7631\nnone\n";
 
+// Whether a script is refused at a line, with nothing written.
+fn is_bad_at(rt: &impl Abort, alloc: Global, script: &str, line: u64) -> bool {
+    let mut fleet = Fleet::new(alloc).expect(rt, "a fleet");
+    let mut sink = MemSink::new(alloc, &[]);
+    let result = run_script(alloc, script.as_bytes(), &mut fleet, &mut sink);
+    result == Err(FleetError::BadLine(line)) && sink.as_slice().is_empty()
+}
+
 #[test]
-fn bad_lines_are_named(rt: HostRuntime) -> Result<(), Fail> {
+fn bad_lines_are_named(rt: HostRuntime) {
     let rows: [(&str, u64); 7] = [
         ("read - 61 1 0\nread - 61 2 0\nread - 6 1 0\n", 3),
         ("read - 61 1 0", 1),
@@ -23,24 +32,18 @@ fn bad_lines_are_named(rt: HostRuntime) -> Result<(), Fail> {
         ("submit - 0 l1,l2\n", 1),
     ];
     for (script, line) in rows {
-        let mut fleet = Fleet::new(rt.alloc())?;
-        let mut sink = MemSink::new(rt.alloc(), &[]);
-        let result = run_script(rt.alloc(), script.as_bytes(), &mut fleet, &mut sink);
-        assert_eq!(rt; result, Err(FleetError::BadLine(line)));
-        assert_eq!(rt; sink.as_slice(), b"".as_slice());
+        assert!(rt; is_bad_at(&rt, rt.alloc(), script, line), "{script}");
     }
-    Ok(())
 }
 
 #[test]
-fn second_write_fails(rt: HostRuntime) -> Result<(), Fail> {
-    let mut fleet = Fleet::new(rt.alloc())?;
+fn second_write_fails(rt: HostRuntime) {
+    let mut fleet = Fleet::new(rt.alloc()).expect(&rt, "a fleet");
     let mut sink = MemSink::new(rt.alloc(), &[2]);
     let script = b"read - 61 1 0\nread - 61 2 0\n";
     let result = run_script(rt.alloc(), script, &mut fleet, &mut sink);
-    assert_eq!(rt; result, Err(FleetError::WriteFault));
-    assert_eq!(rt; sink.as_slice(), b"none\n".as_slice());
-    Ok(())
+    assert!(rt; result == Err(FleetError::WriteFault));
+    assert!(rt; sink.as_slice() == b"none\n".as_slice());
 }
 
 // A sink that takes one byte at a time.
@@ -59,51 +62,60 @@ impl Sink for SlowSink<'_> {
 }
 
 #[test]
-fn pieces_are_written_whole(rt: HostRuntime) -> Result<(), Fail> {
-    let mut fleet = Fleet::new(rt.alloc())?;
+fn pieces_are_written_whole(rt: HostRuntime) {
+    let mut fleet = Fleet::new(rt.alloc()).expect(&rt, "a fleet");
     let mut sink = SlowSink {
         inner: MemSink::new(rt.alloc(), &[]),
     };
     let result = run_script(rt.alloc(), FLUSH_AND_READ.as_bytes(), &mut fleet, &mut sink);
-    assert_eq!(rt; result, Ok(()));
-    assert_eq!(rt; sink.inner.as_slice(), REPLIES.as_bytes());
+    assert!(rt; result == Ok(()));
+    assert!(rt; sink.inner.as_slice() == REPLIES.as_bytes());
     let SlowSink { inner } = sink;
     drop(inner);
-    Ok(())
+}
+
+// The status with which the program ends, if the source and the sink fail at these calls. It must
+// have written the replies.
+fn status(
+    rt: &impl Abort,
+    alloc: Global,
+    no_reads: &[u64],
+    no_writes: &[u64],
+    replies: &str,
+) -> u8 {
+    let mut fleet = Fleet::new(alloc).expect(rt, "a fleet");
+    let mut source = MemSource::new(FLUSH_AND_READ.as_bytes(), no_reads);
+    let mut sink = MemSink::new(alloc, no_writes);
+    let status = fleet_main(alloc, &["run"], &mut source, &mut fleet, &mut sink);
+    assert!(rt; sink.as_slice() == replies.as_bytes());
+    status
 }
 
 #[test]
-fn statuses(rt: HostRuntime) -> Result<(), Fail> {
-    let rows: [(&[u64], &[u64], u8, &str); 3] = [
-        (&[1], &[], 4, ""),
-        (&[2], &[], 4, ""),
-        (&[], &[2], 5, "ok\n"),
-    ];
-    for (no_reads, no_writes, status, replies) in rows {
-        let mut fleet = Fleet::new(rt.alloc())?;
-        let mut source = MemSource::new(FLUSH_AND_READ.as_bytes(), no_reads);
-        let mut sink = MemSink::new(rt.alloc(), no_writes);
-        let answer = fleet_main(rt.alloc(), &["run"], &mut source, &mut fleet, &mut sink);
-        assert_eq!(rt; answer, status);
-        assert_eq!(rt; sink.as_slice(), replies.as_bytes());
-    }
-    Ok(())
+fn statuses(rt: HostRuntime) {
+    assert!(rt; status(&rt, rt.alloc(), &[1], &[], "") == 4);
+    assert!(rt; status(&rt, rt.alloc(), &[2], &[], "") == 4);
+    assert!(rt; status(&rt, rt.alloc(), &[], &[2], "ok\n") == 5);
 }
 
 #[test]
-fn sources_give_and_end(rt: HostRuntime) -> Result<(), Fail> {
+fn sources_give_and_end(rt: HostRuntime) {
     let mut buffer = [0u8; 4];
     let mut memory = MemSource::new(b"abcdef", &[2]);
-    assert_eq!(rt; memory.read(&mut buffer), Ok(4));
-    assert_eq!(rt; buffer.as_slice(), b"abcd".as_slice());
-    assert_eq!(rt; memory.read(&mut buffer), Err(Failed));
-    assert_eq!(rt; memory.read(&mut buffer), Ok(2));
-    assert_eq!(rt; memory.read(&mut buffer), Ok(0));
+    assert!(rt; memory.read(&mut buffer) == Ok(4));
+    assert!(rt; buffer.as_slice() == b"abcd".as_slice());
+    assert!(rt; memory.read(&mut buffer) == Err(Failed));
+    assert!(rt; memory.read(&mut buffer) == Ok(2));
+    assert!(rt; memory.read(&mut buffer) == Ok(0));
+}
+
+#[test]
+fn safe_sources_give_and_end(rt: HostRuntime) {
+    let mut buffer = [0u8; 4];
     let mut safe = SafeSource::new(b"abcdef");
-    assert_eq!(rt; safe.read(&mut buffer), Ok(4));
-    assert_eq!(rt; safe.read(&mut []), Ok(0));
-    assert_eq!(rt; safe.read(&mut buffer), Ok(2));
-    assert_eq!(rt; safe.read(&mut buffer), Ok(0));
-    assert_eq!(rt; SafeSink::new().taken(), 0);
-    Ok(())
+    assert!(rt; safe.read(&mut buffer) == Ok(4));
+    assert!(rt; safe.read(&mut []) == Ok(0));
+    assert!(rt; safe.read(&mut buffer) == Ok(2));
+    assert!(rt; safe.read(&mut buffer) == Ok(0));
+    assert!(rt; SafeSink::new().taken() == 0);
 }

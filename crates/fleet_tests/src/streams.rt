@@ -2,7 +2,6 @@
 
 use fleet_run::{Failed, Sink, Source, StreamSink, StreamSource};
 use std::io::{self, ErrorKind, Read, Write};
-use std::test::Fail;
 
 // A stream that first gives or takes two bytes, then fails once, and then gives and takes
 // nothing.
@@ -40,37 +39,31 @@ impl Write for Stream {
     }
 }
 
-#[test]
-fn source_counts(rt: HostRuntime) -> Result<(), Fail> {
-    let mut source = StreamSource::new(Stream { calls: 0 });
-    let mut buffer = [0; 4];
-    assert_eq!(rt; source.read(&mut buffer), Ok(2));
-    assert_eq!(rt; buffer.as_slice(), b"xx\0\0".as_slice());
-    assert_eq!(rt;
-        (source.given(), source.faults(), source.has_ended()),
-        (2, 0, false)
-    );
-    assert_eq!(rt; source.read(&mut buffer), Err(Failed));
-    assert_eq!(rt;
-        (source.given(), source.faults(), source.has_ended()),
-        (2, 1, false)
-    );
-    assert_eq!(rt; source.read(&mut buffer), Ok(0));
-    assert_eq!(rt;
-        (source.given(), source.faults(), source.has_ended()),
-        (2, 1, true)
-    );
-    Ok(())
+// The bytes and the faults that a source counted, and whether it has ended.
+fn counted(source: &StreamSource<Stream>) -> (u64, u64, bool) {
+    (source.given(), source.faults(), source.has_ended())
 }
 
 #[test]
-fn sink_counts(rt: HostRuntime) -> Result<(), Fail> {
+fn source_counts(rt: HostRuntime) {
+    let mut source = StreamSource::new(Stream { calls: 0 });
+    let mut buffer = [0; 4];
+    assert!(rt; source.read(&mut buffer) == Ok(2));
+    assert!(rt; buffer.as_slice() == b"xx\0\0".as_slice());
+    assert!(rt; counted(&source) == (2, 0, false));
+    assert!(rt; source.read(&mut buffer) == Err(Failed));
+    assert!(rt; counted(&source) == (2, 1, false));
+    assert!(rt; source.read(&mut buffer) == Ok(0));
+    assert!(rt; counted(&source) == (2, 1, true));
+}
+
+#[test]
+fn sink_counts(rt: HostRuntime) {
     let mut sink = StreamSink::new(Stream { calls: 0 });
-    assert_eq!(rt; sink.write(b"abc"), Ok(2));
-    assert_eq!(rt; (sink.taken(), sink.faults()), (2, 0));
-    assert_eq!(rt; sink.write(b"c"), Err(Failed));
-    assert_eq!(rt; sink.write(b"c"), Err(Failed));
-    assert_eq!(rt; (sink.taken(), sink.faults()), (2, 2));
-    assert_eq!(rt; sink.write(b""), Ok(0));
-    Ok(())
+    assert!(rt; sink.write(b"abc") == Ok(2));
+    assert!(rt; (sink.taken(), sink.faults()) == (2, 0));
+    assert!(rt; sink.write(b"c") == Err(Failed));
+    assert!(rt; sink.write(b"c") == Err(Failed));
+    assert!(rt; (sink.taken(), sink.faults()) == (2, 2));
+    assert!(rt; sink.write(b"") == Ok(0));
 }

@@ -1,39 +1,46 @@
 // Copies of tables, of their descriptions and of manifests, and the size of a run.
+ghost use Rattle.std.specs.Prelude.{◌≡◌, true, IfOk};
+ghost use Rattle.std.specs.Ordering.{is_le};
+ghost use Rattle.row_model.specs.Rows.{key_cmp};
+
 use bytes::Bytes;
-use fleet_rows::{RowEntry, Ulid, ValueDeletable};
+use fleet_rows::{RowEntry, SlateDBError, Ulid, ValueDeletable};
 use fleet_table::{
     BlockList, LsmTreeState, Manifest, ManifestCore, SegmentList, SortedRun, SsTableHandle,
     SsTableView, TableData, TrackerList, VersionedManifest, ViewList, are_in_bounds,
     are_strictly_ordered,
 };
 use std::alloc::Global;
-use std::test::Fail;
 
 // A row: its key, the length of its value, and its sequence.
 type Row = (&'static [u8], usize, u64);
 
-fn row(alloc: Global, told: Row) -> Result<RowEntry, Fail> {
+fn row(alloc: Global, told: Row) -> Result<RowEntry, SlateDBError> {
     let (key, len, seq) = told;
+    let value = Bytes::from_vec(vec![in alloc; b'v'; len]?)?;
     let key = Bytes::copy_from_slice(alloc, key)?;
-    let value = Bytes::copy_from_slice(alloc, vec![in alloc; b'v'; len]?.as_slice())?;
     Ok(RowEntry::new(key, ValueDeletable::Value(value), seq, None, None))
 }
 
-fn table(alloc: Global, told: &[Row]) -> Result<TableData, Fail> {
+fn table(alloc: Global, told: &[Row]) -> Result<TableData, SlateDBError> {
     let mut rows = Vec::new(alloc);
     'rows: for told in told {
         rows.push(row(alloc, *told)?)?;
     }
     if rows.is_empty() || !are_strictly_ordered(&rows) || !are_in_bounds(&rows) {
-        return Err(Fail::from("rows that a table takes"));
+        return Err(SlateDBError::InvalidDBState);
     }
     Ok(TableData::from_rows(alloc, rows)?)
 }
 
-fn view(alloc: Global, id: u64, told: &[Row]) -> Result<SsTableView, Fail> {
-    let table = table(alloc, told)?;
-    let handle = table.describe(Ulid::from_parts(0, id as u128))?;
-    Ok(SsTableView::identity(handle)?)
+fn described(alloc: Global, told: &[Row], id: u64) -> Result<SsTableHandle, SlateDBError>
+    ensures { IfOk result (λ handle. is_le (key_cmp handle.first_key handle.last_key) ≡ true) }
+{
+    Ok(table(alloc, told)?.describe(Ulid::from_parts(0, id as u128))?)
+}
+
+fn view(alloc: Global, id: u64, told: &[Row]) -> Result<SsTableView, SlateDBError> {
+    Ok(SsTableView::identity(described(alloc, told, id)?)?)
 }
 
 static VERSIONS: [Row; 5] = [
@@ -52,7 +59,7 @@ static KEYS: [Row; 5] = [
     (b"e", 0, 1),
 ];
 
-fn copied_blocks(alloc: Global, blocks: &BlockList) -> Result<BlockList, Fail> {
+fn copied_blocks(alloc: Global, blocks: &BlockList) -> Result<BlockList, SlateDBError> {
     let mut copies = BlockList::new(alloc);
     'blocks: for block in blocks.as_slice() {
         copies.push(block.clone()?)?;
@@ -60,34 +67,31 @@ fn copied_blocks(alloc: Global, blocks: &BlockList) -> Result<BlockList, Fail> {
     Ok(copies)
 }
 
-fn described(alloc: Global, told: &[Row], id: u64) -> Result<SsTableHandle, Fail> {
-    Ok(table(alloc, told)?.describe(Ulid::from_parts(0, id as u128))?)
+#[test]
+fn copies_descriptions(rt: HostRuntime) {
+    let handle = described(rt.alloc(), &VERSIONS, 2).expect(&rt, "a description");
+    let blocks = copied_blocks(rt.alloc(), &handle.blocks);
+    assert!(rt; blocks.expect(&rt, "memory") == handle.blocks);
+    assert!(rt; handle.clone().expect(&rt, "a copy") == handle);
 }
 
 #[test]
-fn copies_descriptions(rt: HostRuntime) -> Result<(), Fail> {
-    let alloc = rt.alloc();
-    let handle = described(alloc, &VERSIONS, 2)?;
-    assert!(rt; copied_blocks(alloc, &handle.blocks)? == handle.blocks);
-    assert_eq!(rt; handle.clone()?, handle);
-    let view = view(alloc, 1, &KEYS)?;
-    assert!(rt; view.clone()? == view);
-    Ok(())
+fn copies_views(rt: HostRuntime) {
+    let view = view(rt.alloc(), 1, &KEYS).expect(&rt, "a view");
+    assert!(rt; view.clone().expect(&rt, "a copy") == view);
 }
 
 #[test]
-fn copies_a_table_of_one_row(rt: HostRuntime) -> Result<(), Fail> {
-    let alloc = rt.alloc();
-    let table = table(alloc, &KEYS[4..])?;
-    assert_eq!(rt; table.rows(), 1);
-    let again = table.clone()?;
-    assert_eq!(rt; again.as_bytes(), table.as_bytes());
-    Ok(())
+fn copies_a_table_of_one_row(rt: HostRuntime) {
+    let table = table(rt.alloc(), &KEYS[4..]).expect(&rt, "a table");
+    assert!(rt; table.rows() == 1);
+    let again = table.clone().expect(&rt, "a copy");
+    assert!(rt; again.as_bytes() == table.as_bytes());
 }
 
 // A fresh manifest to which these flushes are added. A flush has a segment, a name, and the
 // sequence of its row. Its name is also the moment of its put. The retention is 3 milliseconds.
-fn flushed(alloc: Global, flushes: &[(&[u8], u64, u64)]) -> Result<ManifestCore, Fail> {
+fn flushed(alloc: Global, flushes: &[(&[u8], u64, u64)]) -> Result<ManifestCore, SlateDBError> {
     let mut core = ManifestCore {
         tree: LsmTreeState::new(alloc),
         segments: SegmentList::new(alloc),
@@ -108,9 +112,9 @@ fn flush(
     segment: &[u8],
     name: u64,
     seq: u64,
-) -> Result<(), Fail> {
-    let view = view(alloc, name, &KEYS)?;
+) -> Result<(), SlateDBError> {
     let segment = Bytes::copy_from_slice(alloc, segment)?;
+    let view = view(alloc, name, &KEYS)?;
     Ok(core.add_flush(alloc, &segment, view, seq, seq, seq, -1, name, 3)?)
 }
 
@@ -123,46 +127,53 @@ static FLUSHES: [(&[u8], u64, u64); 5] = [
 ];
 
 #[test]
-fn copies_manifests(rt: HostRuntime) -> Result<(), Fail> {
-    let alloc = rt.alloc();
-    let core = flushed(alloc, &FLUSHES)?;
-    assert_eq!(rt; core.trees().count(), 3);
-    assert!(rt; core.clone()? == core);
+fn copies_contents(rt: HostRuntime) {
+    let core = flushed(rt.alloc(), &FLUSHES).expect(&rt, "a manifest");
+    assert!(rt; core.trees().count() == 3);
+    assert!(rt; core.clone().expect(&rt, "a copy") == core);
+}
+
+#[test]
+fn copies_manifests(rt: HostRuntime) {
     let manifest = Manifest {
         compactor_epoch: 2,
-        core,
+        core: flushed(rt.alloc(), &FLUSHES).expect(&rt, "a manifest"),
     };
-    assert!(rt; manifest.clone()? == manifest);
+    assert!(rt; manifest.clone().expect(&rt, "a copy") == manifest);
     let manifest = VersionedManifest { id: 3, manifest };
-    assert_eq!(rt; (manifest.id(), manifest.compactor_epoch()), (3, 2));
-    let copy = manifest.clone()?;
+    assert!(rt; (manifest.id(), manifest.compactor_epoch()) == (3, 2));
+    let copy = manifest.clone().expect(&rt, "a copy");
     assert!(rt; copy == manifest);
     assert!(rt; *copy.core() == manifest.manifest.core);
-    Ok(())
+}
+
+// A view of a table of the size 45, or of the greatest size there is if `greatest` is true.
+fn sized(alloc: Global, id: u64, greatest: bool) -> Result<SsTableView, SlateDBError> {
+    let mut view = view(alloc, id, &KEYS)?;
+    if greatest {
+        view.sst.size = u64::MAX;
+    }
+    Ok(view)
 }
 
 // A run of two tables. The first one has the size 45. The second one has the greatest size there is
 // if `greatest` is true, and the size 45 otherwise.
-fn run_of_views(alloc: Global, greatest: bool) -> Result<SortedRun, Fail> {
+fn run_of_views(alloc: Global, greatest: bool) -> Result<SortedRun, SlateDBError> {
     let mut views = ViewList::new(alloc);
-    views.push(view(alloc, 1, &KEYS)?)?;
-    let mut other = view(alloc, 2, &KEYS)?;
-    if greatest {
-        other.sst.size = u64::MAX;
-    }
-    views.push(other)?;
+    views.push(sized(alloc, 1, false)?)?;
+    views.push(sized(alloc, 2, greatest)?)?;
     Ok(SortedRun::new(3, views))
 }
 
 #[test]
-fn measures_runs(rt: HostRuntime) -> Result<(), Fail> {
-    let alloc = rt.alloc();
-    let run = run_of_views(alloc, false)?;
-    assert_eq!(rt;
-        (run.id, run.estimate_size(), run.sst_views().len()),
-        (3, 90, 2)
-    );
-    assert_eq!(rt; run_of_views(alloc, true)?.estimate_size(), u64::MAX);
-    assert!(rt; run.clone()? == run);
-    Ok(())
+fn measures_runs(rt: HostRuntime) {
+    let run = run_of_views(rt.alloc(), false).expect(&rt, "a run");
+    assert!(rt; (run.id, run.estimate_size(), run.sst_views().len()) == (3, 90, 2));
+    assert!(rt; run.clone().expect(&rt, "a copy") == run);
+}
+
+#[test]
+fn measures_great_runs(rt: HostRuntime) {
+    let run = run_of_views(rt.alloc(), true).expect(&rt, "a run");
+    assert!(rt; run.estimate_size() == u64::MAX);
 }

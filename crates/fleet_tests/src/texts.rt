@@ -1,10 +1,12 @@
 //! Tests of the lines of scripts and of the texts of replies.
 
 use bytes::Bytes;
-use fleet_rows::{DRAWN_BASE, JobList, PlaceList, RowEntry, RuleList, Ulid, ValueDeletable};
+use fleet_rows::{
+    DRAWN_BASE, JobList, PlaceList, RowEntry, RuleList, SlateDBError, Ulid, ValueDeletable,
+};
 use fleet_text::{Line, Reply, TextError, read_script};
 use std::alloc::Global;
-use std::test::*;
+use std::process::Abort;
 
 const BAD: [(&str, u64); 44] = [
     ("\n", 1),
@@ -117,10 +119,10 @@ fn bad_line(alloc: Global, text: &str) -> u64 {
 #[test]
 fn bad_lines(rt: HostRuntime) {
     for (text, line) in BAD {
-        assert_eq!(rt; bad_line(rt.alloc(), text), line, "{text}");
+        assert!(rt; bad_line(rt.alloc(), text) == line, "{text}");
     }
     for (text, line) in BAD_JOBS {
-        assert_eq!(rt; bad_line(rt.alloc(), text), line, "{text}");
+        assert!(rt; bad_line(rt.alloc(), text) == line, "{text}");
     }
 }
 
@@ -138,113 +140,145 @@ fn is_of_root_or_first(line: &Line) -> bool {
     }
 }
 
+const LINES: &str = "flush 7 - 3 -5 61:v:7a:2:-:-,61:t:-:1:-:-\n\
+     read - 6100 4 9\n\
+     start coordinator 1\n\
+     start worker 1\n\
+     submit - 4 l7\n\
+     poll 1\n\
+     claim 1\n\
+     finish 1 8\n\
+     dump - l9\n\
+     dump - r3\n";
+
 #[test]
-fn copies(rt: HostRuntime) -> Result<(), Fail> {
-    let text = "flush 7 - 3 -5 61:v:7a:2:-:-,61:t:-:1:-:-\n\
-         read - 6100 4 9\n\
-         start coordinator 1\n\
-         start worker 1\n\
-         submit - 4 l7\n\
-         poll 1\n\
-         claim 1\n\
-         finish 1 8\n\
-         dump - l9\n\
-         dump - r3\n";
-    let lines = read_script(rt.alloc(), text.as_bytes())?;
-    let again = read_script(rt.alloc(), text.as_bytes())?;
-    assert_eq!(rt; lines.len(), 10);
-    assert_eq!(rt; again.as_slice(), lines.as_slice());
+fn copies(rt: HostRuntime) {
+    let lines = read_script(rt.alloc(), LINES.as_bytes()).expect(&rt, "a script");
+    assert!(rt; lines.len() == 10);
     for line in lines.as_slice() {
         assert!(rt; is_of_root_or_first(line));
-        assert_eq!(rt; line.clone()?, *line);
+        assert!(rt; line.clone().expect(&rt, "a copy") == *line);
     }
-    Ok(())
 }
 
 #[test]
-fn jobs_and_tables(rt: HostRuntime) -> Result<(), Fail> {
+fn reads_the_same_again(rt: HostRuntime) {
+    let lines = read_script(rt.alloc(), LINES.as_bytes()).expect(&rt, "a script");
+    let again = read_script(rt.alloc(), LINES.as_bytes()).expect(&rt, "a script");
+    assert!(rt; again.as_slice() == lines.as_slice());
+}
+
+// Appends the jobs, the names of the tables with their numbers, and a space behind each.
+fn print_jobs(reply: &mut Reply, jobs: &JobList) -> Result<(), SlateDBError> {
+    reply.jobs(jobs)?;
+    reply.word(" ")?;
+    reply.table_names(jobs)?;
+    reply.word(" ")
+}
+
+#[test]
+fn jobs_and_tables(rt: HostRuntime) {
     let mut jobs = JobList::new(rt.alloc());
     let mut reply = Reply::new(rt.alloc());
-    reply.jobs(&jobs)?;
-    reply.table_names(&jobs)?;
-    jobs.push(Ulid::from_parts(0, 7))?;
-    reply.word(" ")?;
-    reply.jobs(&jobs)?;
-    reply.word(" ")?;
-    reply.table_names(&jobs)?;
-    jobs.push(Ulid::from_parts(1_700, DRAWN_BASE + 3))?;
-    reply.word(" ")?;
-    reply.jobs(&jobs)?;
-    reply.word(" ")?;
-    reply.table_names(&jobs)?;
-    let printed = b"-- 7 l7 7,604462909807314587353091 l7,t3";
-    assert_eq!(rt; reply.as_slice(), printed.as_slice());
+    print_jobs(&mut reply, &jobs).expect(&rt, "memory");
+    jobs.push(Ulid::from_parts(0, 7)).expect(&rt, "memory");
+    print_jobs(&mut reply, &jobs).expect(&rt, "memory");
+    let drawn = Ulid::from_parts(1_700, DRAWN_BASE + 3);
+    jobs.push(drawn).expect(&rt, "memory");
+    print_jobs(&mut reply, &jobs).expect(&rt, "memory");
+    let printed = b"- - 7 l7 7,604462909807314587353091 l7,t3 ";
+    assert!(rt; reply.as_slice() == printed.as_slice());
     assert!(rt; reply == reply);
-    Ok(())
+}
+
+// Appends the rules, the places, and a space behind each.
+fn print_rules(
+    reply: &mut Reply,
+    rules: &RuleList,
+    places: &PlaceList,
+) -> Result<(), SlateDBError> {
+    reply.rules(rules)?;
+    reply.word(" ")?;
+    reply.places(places)?;
+    reply.word(" ")
 }
 
 #[test]
-fn rules_and_places(rt: HostRuntime) -> Result<(), Fail> {
+fn rules_and_places(rt: HostRuntime) {
     let mut rules = RuleList::new(rt.alloc());
     let mut places = PlaceList::new(rt.alloc());
     let mut reply = Reply::new(rt.alloc());
-    reply.rules(&rules)?;
-    reply.places(&places)?;
-    rules.push((Ulid::from_parts(1_700, 3), 6))?;
-    places.push((1, 9))?;
-    reply.word(" ")?;
-    reply.rules(&rules)?;
-    reply.word(" ")?;
-    reply.places(&places)?;
-    rules.push((Ulid::from_parts(0, 4), 12))?;
-    places.push((u64::MAX, 255))?;
-    reply.word(" ")?;
-    reply.rules(&rules)?;
-    reply.word(" ")?;
-    reply.places(&places)?;
-    let printed = b"-- 3:6 1:9 3:6,4:12 1:9,18446744073709551615:255";
-    assert_eq!(rt; reply.as_slice(), printed.as_slice());
-    Ok(())
+    print_rules(&mut reply, &rules, &places).expect(&rt, "memory");
+    let rule = (Ulid::from_parts(1_700, 3), 6);
+    rules.push(rule).expect(&rt, "memory");
+    places.push((1, 9)).expect(&rt, "memory");
+    print_rules(&mut reply, &rules, &places).expect(&rt, "memory");
+    let rule = (Ulid::from_parts(0, 4), 12);
+    rules.push(rule).expect(&rt, "memory");
+    places.push((u64::MAX, 255)).expect(&rt, "memory");
+    print_rules(&mut reply, &rules, &places).expect(&rt, "memory");
+    let printed = b"- - 3:6 1:9 3:6,4:12 1:9,18446744073709551615:255 ";
+    assert!(rt; reply.as_slice() == printed.as_slice());
 }
 
-fn row(alloc: Global, value: ValueDeletable, seq: u64) -> Result<RowEntry, Fail> {
-    let key = Bytes::copy_from_slice(alloc, b"a")?;
-    Ok(RowEntry::new(key, value, seq, None, None))
+// A row of the key `a`, with its sequence and its stamps.
+fn row(
+    rt: &impl Abort,
+    alloc: Global,
+    value: ValueDeletable,
+    seq: u64,
+    stamps: (Option<i64>, Option<i64>),
+) -> RowEntry {
+    let key = Bytes::copy_from_slice(alloc, b"a").expect(rt, "a key");
+    let (created, expires) = stamps;
+    RowEntry::new(key, value, seq, created, expires)
+}
+
+fn value(rt: &impl Abort, alloc: Global) -> ValueDeletable {
+    ValueDeletable::Value(Bytes::copy_from_slice(alloc, b"z").expect(rt, "a value"))
+}
+
+// Appends rows, and a space behind them.
+fn print_rows(reply: &mut Reply, rows: &[RowEntry]) -> Result<(), SlateDBError> {
+    reply.rows(rows)?;
+    reply.word(" ")
 }
 
 #[test]
-fn rows(rt: HostRuntime) -> Result<(), Fail> {
+fn rows(rt: HostRuntime) {
     let alloc = rt.alloc();
     let mut reply = Reply::new(alloc);
-    reply.rows(&[])?;
-    let mut set = row(
-        alloc,
-        ValueDeletable::Value(Bytes::copy_from_slice(alloc, b"z")?),
-        2,
-    )?;
-    let mut deleted = row(alloc, ValueDeletable::Tombstone, 1)?;
-    reply.word(" ")?;
-    reply.rows(&[set.clone()?])?;
-    reply.word(" ")?;
-    reply.rows(&[set.clone()?, deleted.clone()?])?;
-    set.create_ts = Some(5);
-    set.expire_ts = Some(i64::MIN);
-    deleted.create_ts = Some(-1);
-    let mut operand = row(alloc, ValueDeletable::Merge(Bytes::new()), 0)?;
-    operand.expire_ts = Some(0);
-    reply.word(" ")?;
-    reply.rows(&[set, operand, deleted])?;
-    let printed =
-        b"- 61:v:7a:2:-:- 61:v:7a:2:-:-,61:t:-:1:-:- 61:v:7a:2:5:-9223372036854775808,61:m:-:0:-:0,61:t:-:1:-1:-";
-    assert_eq!(rt; reply.as_slice(), printed.as_slice());
-    Ok(())
+    print_rows(&mut reply, &[]).expect(&rt, "memory");
+    let set = row(&rt, alloc, value(&rt, alloc), 2, (None, None));
+    let deleted = row(&rt, alloc, ValueDeletable::Tombstone, 1, (None, None));
+    let rows = [set, deleted];
+    print_rows(&mut reply, &rows[..1]).expect(&rt, "memory");
+    print_rows(&mut reply, &rows).expect(&rt, "memory");
+    let printed = b"- 61:v:7a:2:-:- 61:v:7a:2:-:-,61:t:-:1:-:- ";
+    assert!(rt; reply.as_slice() == printed.as_slice());
 }
 
 #[test]
-fn errors(rt: HostRuntime) -> Result<(), Fail> {
+fn rows_with_stamps(rt: HostRuntime) {
     let alloc = rt.alloc();
-    let bad = TextError::BadLine(3).to_string(alloc)?;
-    assert_eq!(rt; bad.as_str(), "line 3 is no line of a script");
-    assert_eq!(rt; TextError::Memory.to_string(alloc)?.as_str(), "Memory");
-    Ok(())
+    let set = row(&rt, alloc, value(&rt, alloc), 2, (Some(5), Some(i64::MIN)));
+    let none = ValueDeletable::Merge(Bytes::new());
+    let operand = row(&rt, alloc, none, 0, (None, Some(0)));
+    let deleted = row(&rt, alloc, ValueDeletable::Tombstone, 1, (Some(-1), None));
+    let mut reply = Reply::new(alloc);
+    print_rows(&mut reply, &[set, operand, deleted]).expect(&rt, "memory");
+    let printed = b"61:v:7a:2:5:-9223372036854775808,61:m:-:0:-:0,61:t:-:1:-1:- ";
+    assert!(rt; reply.as_slice() == printed.as_slice());
+}
+
+#[test]
+fn errors(rt: HostRuntime) {
+    let bad = TextError::BadLine(3)
+        .to_string(rt.alloc())
+        .expect(&rt, "a text");
+    assert!(rt; bad.as_str() == "line 3 is no line of a script");
+    let memory = TextError::Memory
+        .to_string(rt.alloc())
+        .expect(&rt, "a text");
+    assert!(rt; memory.as_str() == "Memory");
 }

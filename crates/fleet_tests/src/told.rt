@@ -18,21 +18,24 @@ fn bytes(alloc: Global, field: Option<&str>) -> Result<Bytes, SlateDBError> {
     }
 }
 
+fn content(kind: Option<&str>, bytes: Bytes) -> ValueDeletable {
+    match kind {
+        Some("v") => ValueDeletable::Value(bytes),
+        Some("m") => ValueDeletable::Merge(bytes),
+        _ => ValueDeletable::Tombstone,
+    }
+}
+
 // A row in text: its key, its kind, its bytes or `-` for none, and its sequence. The kind is `v`
 // for a value, `m` for an operand, and `t` for a tombstone.
 fn row(alloc: Global, text: &str) -> Result<RowEntry, SlateDBError> {
     let mut fields = text.split(':');
-    let key = bytes(alloc, fields.next())?;
-    let kind = fields.next();
-    let value = bytes(alloc, fields.next())?;
-    let value = match kind {
-        Some("v") => ValueDeletable::Value(value),
-        Some("m") => ValueDeletable::Merge(value),
-        _ => ValueDeletable::Tombstone,
-    };
+    let (key, kind, value) = (fields.next(), fields.next(), fields.next());
     let Some(Ok(seq)) = fields.next().map(|field| field.parse::<u64>()) else {
         return Err(SlateDBError::InvalidDBState);
     };
+    let value = content(kind, bytes(alloc, value)?);
+    let key = bytes(alloc, key)?;
     Ok(RowEntry::new(key, value, seq, None, None))
 }
 
@@ -45,6 +48,18 @@ pub(crate) fn rows(alloc: Global, text: &str) -> Result<Vec<RowEntry>, SlateDBEr
         }
     }
     Ok(rows)
+}
+
+/// Whether rows were given, and they are the rows of a text.
+pub(crate) fn are_told(
+    alloc: Global,
+    given: Result<Vec<RowEntry>, SlateDBError>,
+    text: &str,
+) -> bool {
+    match (given, rows(alloc, text)) {
+        (Ok(given), Ok(told)) => given == told,
+        _ => false,
+    }
 }
 
 /// A list of the rows of a text. It is an error if their keys do not rise.
