@@ -50,48 +50,66 @@ fn get(store: &mut MemStore, alloc: Global, kind: u64) -> Result<(), SlateDBErro
     Ok(())
 }
 
+// Whether a get of this kind is struck, and the next one is not.
+fn strikes_get(rt: &impl Abort, alloc: Global, kind: u64, stands: bool, answer: Answer) -> bool {
+    let mut store = store(rt, alloc, 1, stands);
+    let got = get(&mut store, alloc, kind);
+    is_struck(got, &store, answer) && get(&mut store, alloc, kind).is_ok()
+}
+
 #[test]
 fn a_get_is_struck(rt: HostRuntime) {
     for kind in 0..4 {
         for (stands, answer) in FAULTS {
-            let mut store = store(&rt, rt.alloc(), 1, stands);
-            let got = get(&mut store, rt.alloc(), kind);
-            assert!(rt; is_struck(got, &store, answer), "{kind} {stands}");
-            assert!(rt;
-                get(&mut store, rt.alloc(), kind).is_ok(),
-                "{kind} {stands}"
-            );
+            let struck = strikes_get(&rt, rt.alloc(), kind, stands, answer);
+            assert!(rt; struck, "{kind} {stands}");
         }
     }
+}
+
+// Whether a put of the manifest over this version is struck and leaves the manifest `id`.
+fn strikes_manifest(
+    rt: &impl Abort,
+    alloc: Global,
+    stands: bool,
+    version: u64,
+    answer: Answer,
+    id: u64,
+) -> bool {
+    let mut store = store(rt, alloc, 1, stands);
+    let put = put_manifest(&mut store, alloc, version);
+    is_struck(put, &store, answer) && store.manifest().id == id
 }
 
 #[test]
 fn a_put_of_the_manifest_is_struck(rt: HostRuntime) {
     for (stands, answer) in FAULTS {
-        let mut store = store(&rt, rt.alloc(), 1, stands);
-        let put = put_manifest(&mut store, rt.alloc(), 1);
-        assert!(rt; is_struck(put, &store, answer), "{stands}");
-        assert_eq!(rt; store.manifest().id == 2, stands);
+        let id = if stands { 2 } else { 1 };
+        let struck = strikes_manifest(&rt, rt.alloc(), stands, 1, answer, id);
+        assert!(rt; struck, "{stands}");
     }
 }
 
 #[test]
 fn a_struck_put_of_an_old_version_is_lost(rt: HostRuntime) {
     for (stands, _) in FAULTS {
-        let mut store = store(&rt, rt.alloc(), 1, stands);
-        let put = put_manifest(&mut store, rt.alloc(), 0);
-        assert!(rt; is_struck(put, &store, Answer::Lost), "{stands}");
-        assert_eq!(rt; store.manifest().id, 1);
+        let struck = strikes_manifest(&rt, rt.alloc(), stands, 0, Answer::Lost, 1);
+        assert!(rt; struck, "{stands}");
     }
+}
+
+// Whether a put of the first records is struck and leaves records only if it stands.
+fn strikes_records(rt: &impl Abort, alloc: Global, stands: bool, answer: Answer) -> bool {
+    let mut store = store(rt, alloc, 1, stands);
+    let put = put_records(&mut store, alloc, 0, 7);
+    is_struck(put, &store, answer) && store.records().is_some() == stands
 }
 
 #[test]
 fn a_put_of_the_records_is_struck(rt: HostRuntime) {
     for (stands, answer) in FAULTS {
-        let mut store = store(&rt, rt.alloc(), 1, stands);
-        let put = put_records(&mut store, rt.alloc(), 0, 7);
-        assert!(rt; is_struck(put, &store, answer), "{stands}");
-        assert_eq!(rt; store.records().is_some(), stands);
+        let struck = strikes_records(&rt, rt.alloc(), stands, answer);
+        assert!(rt; struck, "{stands}");
     }
 }
 
@@ -124,27 +142,37 @@ fn table(alloc: Global) -> Result<TableData, SlateDBError> {
     TableData::from_rows(alloc, rows)
 }
 
+// Whether a put of a table is struck and leaves the table only if it stands.
+fn strikes_table(rt: &impl Abort, alloc: Global, stands: bool, answer: Answer) -> bool {
+    let mut store = store(rt, alloc, 1, stands);
+    let table = table(alloc).expect(rt, "memory");
+    let put = ended(store.make_put_table(Ulid::from_parts(0, 1), table));
+    is_struck(put, &store, answer) && store.table(Ulid::from_parts(0, 1)).is_some() == stands
+}
+
 #[test]
 fn a_put_of_a_table_is_struck(rt: HostRuntime) {
     for (stands, answer) in FAULTS {
-        let mut store = store(&rt, rt.alloc(), 1, stands);
-        let table = table(rt.alloc()).expect(&rt, "memory");
-        let put = ended(store.make_put_table(Ulid::from_parts(0, 1), table));
-        assert!(rt; is_struck(put, &store, answer), "{stands}");
-        assert_eq!(rt; store.table(Ulid::from_parts(0, 1)).is_some(), stands);
+        let struck = strikes_table(&rt, rt.alloc(), stands, answer);
+        assert!(rt; struck, "{stands}");
     }
+}
+
+// Whether the deletion of a table is struck and drops the table only if it stands.
+fn strikes_deletion(rt: &impl Abort, alloc: Global, stands: bool, answer: Answer) -> bool {
+    let mut store = store(rt, alloc, 2, stands);
+    let table = table(alloc).expect(rt, "memory");
+    let id = Ulid::from_parts(0, 1);
+    let put = ended(store.make_put_table(id, table));
+    assert!(rt; put.is_ok());
+    let deleted = ended(store.make_delete_table(id));
+    is_struck(deleted, &store, answer) && store.table(id).is_none() == stands
 }
 
 #[test]
 fn a_deletion_is_struck(rt: HostRuntime) {
     for (stands, answer) in FAULTS {
-        let mut store = store(&rt, rt.alloc(), 2, stands);
-        let table = table(rt.alloc()).expect(&rt, "memory");
-        let id = Ulid::from_parts(0, 1);
-        let put = ended(store.make_put_table(id, table));
-        assert!(rt; put.is_ok(), "{stands}");
-        let deleted = ended(store.make_delete_table(id));
-        assert!(rt; is_struck(deleted, &store, answer), "{stands}");
-        assert_eq!(rt; store.table(id).is_none(), stands);
+        let struck = strikes_deletion(&rt, rt.alloc(), stands, answer);
+        assert!(rt; struck, "{stands}");
     }
 }
