@@ -12,7 +12,7 @@ use fleet_jobs::{Compaction, CompactionContext, Release};
 use fleet_plan::Subcompaction;
 use fleet_range::BytesRange;
 use fleet_rows::{Settings, Ulid};
-use fleet_table::{ManifestCore, TableList};
+use fleet_tree::{ManifestCore, TableList};
 use std::alloc::Global;
 
 /// Answers the call of this name. Returns false if no call in this file has it.

@@ -10,7 +10,7 @@ use case_words::words::{number, told_if_any};
 use fleet_book::{Compactions, CompactorState, CompactorStateView, VersionedCompactions};
 use fleet_jobs::{Compaction, CompactionStatus};
 use fleet_rows::{SlateDBError, Ulid};
-use fleet_table::{SortedRun, VersionedManifest, ViewList};
+use fleet_tree::{SortedRun, VersionedManifest, ViewList};
 use std::alloc::Global;
 
 // The version and the epoch of all records here.

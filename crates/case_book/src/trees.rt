@@ -12,7 +12,7 @@ use case_words::tables::{named_view, view_of};
 use case_words::tell::Tell;
 use case_words::words::{Told, bytes, number};
 use fleet_rows::Ulid;
-use fleet_table::{
+use fleet_tree::{
     BlockList, LsmTreeState, Manifest, ManifestCore, SegmentList, SortedRun, SsTableView,
     TrackerList, VersionedManifest, ViewList,
 };

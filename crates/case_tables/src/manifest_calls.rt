@@ -5,7 +5,7 @@ use case_words::tables::named_view;
 use case_words::tell::{Tell, tell_list, tell_ok, tell_or_none};
 use case_words::words::{bytes, number, parts, stamp, told_if_any, told_list};
 use fleet_rows::Ulid;
-use fleet_table::{
+use fleet_tree::{
     LsmTreeState, ManifestCore, SegmentList, SortedRun, TrackerList, ViewList, merge_from_writer,
 };
 use std::alloc::{AllocError, Global};

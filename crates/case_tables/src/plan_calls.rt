@@ -6,7 +6,7 @@ use case_words::told::range;
 use case_words::words::{number, told_list};
 use fleet_plan::{plan_subcompaction_ranges, sample_anchors, select_boundaries};
 use fleet_range::{ByteRangeBounds, BytesRange};
-use fleet_table::{BlockMeta, SortedRun, SsTableView};
+use fleet_tree::{BlockMeta, SortedRun, SsTableView};
 use std::alloc::{AllocError, Global};
 use std::ops::Bound;
 

@@ -6,10 +6,8 @@ use case_words::tell::{tell_flag, tell_list, tell_ok, tell_or_none};
 use case_words::told::{range, rows};
 use case_words::words::{Told, bytes, number};
 use fleet_rows::Ulid;
-use fleet_table::{
-    RunData, RunIterator, SortedRun, SsTableView, TableData, ViewList, are_in_bounds,
-    are_strictly_ordered, least_seq,
-};
+use fleet_table::{RunData, RunIterator, TableData, are_in_bounds, are_strictly_ordered};
+use fleet_tree::{SortedRun, SsTableView, ViewList, least_seq};
 use std::alloc::{AllocError, Global};
 
 /// Answers the call of this name. Returns false if no call in this file has it.

@@ -5,7 +5,7 @@ use bytes::Bytes;
 use fleet_plan::Anchor;
 use fleet_range::{ByteRangeBounds, BytesRange, ComparableRange};
 use fleet_rows::{KeyValue, ListOf, RowEntry};
-use fleet_table::{BlockMeta, LsmTreeState, SortedRun, SsTableHandle, SsTableView, Tracked};
+use fleet_tree::{BlockMeta, LsmTreeState, SortedRun, SsTableHandle, SsTableView, Tracked};
 use std::alloc::AllocError;
 use std::ops::RangeBounds;
 

@@ -6,10 +6,8 @@ use crate::words::{Told, number, told_list, told_pair};
 use bytes::Bytes;
 use fleet_plan::Anchor;
 use fleet_rows::Ulid;
-use fleet_table::{
-    BlockList, BlockMeta, RunData, SortedRun, SsTableHandle, SsTableView, TableData, Tracked,
-    ViewList, are_in_bounds, are_strictly_ordered,
-};
+use fleet_table::{RunData, TableData, are_in_bounds, are_strictly_ordered};
+use fleet_tree::{BlockList, BlockMeta, SortedRun, SsTableHandle, SsTableView, Tracked, ViewList};
 use std::alloc::Global;
 
 impl Told for TableData {

@@ -2,7 +2,7 @@
 use Rattle.std.proofs.Common.{◌≡◌, refl, ◌∙◌, ap, suc, ◌+◌, List, [], ◌∷◌, ◌++◌, take, drop, Bool, true, false, cond, not, arith}
 use Rattle.std.specs.Prelude.{ℕ, nat_lt}
 use Rattle.std.specs.List.{prefix_len}
-use Rattle.fleet_table.specs.declared.run.SortedRun.{SortedRun}
+use Rattle.fleet_tree.specs.declared.run.SortedRun.{SortedRun}
 use Rattle.fleet_book.specs.Finishes.{put_run}
 
 -- How many runs at the front have ids that are not below this one.

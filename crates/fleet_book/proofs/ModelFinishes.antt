@@ -7,11 +7,11 @@ use Rattle.row_laws.proofs.Elements.{all_weaken}
 use Rattle.fleet_model.specs.Nodes.{NodeName, L0, Run, Node, Tree, Segment, name_eq, names_contain}
 use Rattle.fleet_model.specs.Trees.{by_first_key, l0_or, on_segment, source_nodes, source_pieces, stepped, stepped_in, to_run, watermark_after, with_run_for, without}
 use Rattle.fleet_model.specs.Trees as model
-use Rattle.fleet_table.specs.Trees.{RunFlushes, flush_node, run_node, tree_of, trees_of, trees_with_prefix}
-use Rattle.fleet_table.specs.Trees as table
-use Rattle.fleet_table.specs.Views.{View}
-use Rattle.fleet_table.specs.declared.run.SortedRun.{SortedRun}
-use Rattle.fleet_table.specs.declared.tree.LsmTreeState.{LsmTreeState}
+use Rattle.fleet_tree.specs.Trees.{RunFlushes, flush_node, run_node, tree_of, trees_of, trees_with_prefix}
+use Rattle.fleet_tree.specs.Trees as table
+use Rattle.fleet_tree.specs.Views.{View}
+use Rattle.fleet_tree.specs.declared.run.SortedRun.{SortedRun}
+use Rattle.fleet_tree.specs.declared.tree.LsmTreeState.{LsmTreeState}
 use Rattle.fleet_book.specs.Finishes.{core_after, finished_tree, id_or, is_named, kept_runs, kept_views, mark_after, put_run, segment_after}
 use Rattle.fleet_book.specs.Laws.{AreMoved, DrainsAreTheModels, FlushesFollow, JoinsAreTheModels, MovesAreTheModels}
 use Rattle.fleet_jobs.specs.Laws.{names_of, view_tables}

@@ -6,12 +6,12 @@ use Rattle.std.proofs.lemmas.Slice.Eq.{bytes_eq-Decides}
 use Rattle.std.proofs.lemmas.List.Sums.{take_while-cons}
 use Rattle.fleet_model.specs.Nodes.{Segment, Tree, Trees, segment_at}
 use Rattle.step_model.specs.Merging as model
-use Rattle.fleet_table.specs.Trees.{RunFlushes, flush_node, run_node, newer_than, tree_of, trees_of, trees_with_prefix}
-use Rattle.fleet_table.specs.Trees as table
-use Rattle.fleet_table.specs.Views.{View}
-use Rattle.fleet_table.specs.declared.manifest.ManifestCore.{ManifestCore}
-use Rattle.fleet_table.specs.declared.run.SortedRun.{SortedRun}
-use Rattle.fleet_table.specs.declared.tree.LsmTreeState.{LsmTreeState}
+use Rattle.fleet_tree.specs.Trees.{RunFlushes, flush_node, run_node, newer_than, tree_of, trees_of, trees_with_prefix}
+use Rattle.fleet_tree.specs.Trees as table
+use Rattle.fleet_tree.specs.Views.{View}
+use Rattle.fleet_tree.specs.declared.manifest.ManifestCore.{ManifestCore}
+use Rattle.fleet_tree.specs.declared.run.SortedRun.{SortedRun}
+use Rattle.fleet_tree.specs.declared.tree.LsmTreeState.{LsmTreeState}
 use Rattle.fleet_book.specs.Finishes.{merged_core, merged_segment, merged_tree}
 use Rattle.fleet_book.specs.Laws.{MergedManifestsAreTheModels, model_manifest}
 

@@ -5,12 +5,12 @@ use Rattle.fleet_model.specs.History.{Step, Join, Move, Drain}
 use Rattle.fleet_model.specs.Jobs.{Compacted, is_drain, status_eq}
 use Rattle.fleet_model.specs.Nodes.{NodeName, L0, Run, name_eq}
 use Rattle.fleet_model.specs.Trees.{horizon_after}
-use Rattle.fleet_table.specs.Trees.{from_writer}
-use Rattle.fleet_table.specs.Views.{View}
-use Rattle.fleet_table.specs.declared.manifest.ManifestCore.{ManifestCore}
-use Rattle.fleet_table.specs.declared.manifest.VersionedManifest.{VersionedManifest}
-use Rattle.fleet_table.specs.declared.run.SortedRun.{SortedRun}
-use Rattle.fleet_table.specs.declared.tree.LsmTreeState.{LsmTreeState}
+use Rattle.fleet_tree.specs.Trees.{from_writer}
+use Rattle.fleet_tree.specs.Views.{View}
+use Rattle.fleet_tree.specs.declared.manifest.ManifestCore.{ManifestCore}
+use Rattle.fleet_tree.specs.declared.manifest.VersionedManifest.{VersionedManifest}
+use Rattle.fleet_tree.specs.declared.run.SortedRun.{SortedRun}
+use Rattle.fleet_tree.specs.declared.tree.LsmTreeState.{LsmTreeState}
 use Rattle.fleet_jobs.specs.JobParts.{JobParts}
 use Rattle.fleet_jobs.specs.Jobs.{with_status}
 use Rattle.fleet_book.specs.Records.{put_record}

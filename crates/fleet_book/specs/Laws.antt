@@ -7,13 +7,13 @@ use Rattle.fleet_model.specs.Nodes.{Tables}
 use Rattle.fleet_model.specs.Store.{Manifest}
 use Rattle.fleet_model.specs.Trees.{by_first_key, source_nodes, source_pieces, stepped_in}
 use Rattle.step_model.specs.Merging as model
-use Rattle.fleet_table.specs.Manifests.{manifest_of}
-use Rattle.fleet_table.specs.Trees.{RunFlushes, tree_of, trees_of, trees_with_prefix}
-use Rattle.fleet_table.specs.Views.{View}
-use Rattle.fleet_table.specs.declared.manifest.ManifestCore.{ManifestCore}
-use Rattle.fleet_table.specs.declared.manifest.VersionedManifest.{VersionedManifest}
-use Rattle.fleet_table.specs.declared.run.SortedRun.{SortedRun}
-use Rattle.fleet_table.specs.declared.tree.LsmTreeState.{LsmTreeState}
+use Rattle.fleet_tree.specs.Manifests.{manifest_of}
+use Rattle.fleet_tree.specs.Trees.{RunFlushes, tree_of, trees_of, trees_with_prefix}
+use Rattle.fleet_tree.specs.Views.{View}
+use Rattle.fleet_tree.specs.declared.manifest.ManifestCore.{ManifestCore}
+use Rattle.fleet_tree.specs.declared.manifest.VersionedManifest.{VersionedManifest}
+use Rattle.fleet_tree.specs.declared.run.SortedRun.{SortedRun}
+use Rattle.fleet_tree.specs.declared.tree.LsmTreeState.{LsmTreeState}
 use Rattle.fleet_book.specs.Finishes.{core_after, merged_manifest, tree_after}
 use Rattle.fleet_jobs.specs.JobParts.{JobParts}
 use Rattle.fleet_jobs.specs.Jobs.{is_open, jobs_of}

@@ -9,7 +9,7 @@ ghost use Rattle.fleet_jobs.specs.Sources.{name_of};
 use bytes::Bytes;
 use fleet_jobs::{Compaction, CompactionSpec, CompactionStatus, SourceId};
 use fleet_rows::{SlateDBError, Ulid};
-use fleet_table::{
+use fleet_tree::{
     LsmTreeState, ManifestCore, RunList, SegmentList, SortedRun, SsTableView, ViewList,
 };
 use std::alloc::{AllocError, Global};

@@ -6,7 +6,7 @@ ghost use Rattle.fleet_book.specs.Finishes.{merged_core, merged_manifest, merged
 
 use bytes::Bytes;
 use fleet_rows::SlateDBError;
-use fleet_table::{LsmTreeState, ManifestCore, SegmentList, VersionedManifest, merge_from_writer};
+use fleet_tree::{LsmTreeState, ManifestCore, SegmentList, VersionedManifest, merge_from_writer};
 use std::alloc::Global;
 
 pub(crate) fn merged_manifest(

@@ -19,7 +19,7 @@ use crate::merging::merged_manifest;
 use crate::{Compactions, CompactorStateView, JobMap, VersionedCompactions};
 use fleet_jobs::{Compaction, CompactionSpec, CompactionStatus};
 use fleet_rows::{SlateDBError, Ulid};
-use fleet_table::{SortedRun, VersionedManifest};
+use fleet_tree::{SortedRun, VersionedManifest};
 use std::alloc::Global;
 use std::marker::Model;
 

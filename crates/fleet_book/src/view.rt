@@ -4,7 +4,7 @@ ghost use Rattle.std.specs.Prelude.{◌≡◌};
 ghost use Rattle.std.specs.Option.{option_copied};
 
 use crate::VersionedCompactions;
-use fleet_table::VersionedManifest;
+use fleet_tree::VersionedManifest;
 
 /// What a scheduler is shown: the manifest, and the jobs that are not over, if there are records.
 #[derive(Debug, Drop)]

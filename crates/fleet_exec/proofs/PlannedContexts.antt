@@ -5,7 +5,7 @@ use Rattle.std.specs.List.{AllByRecursion}
 use Rattle.fleet_range.specs.Keys.{range_of}
 use Rattle.fleet_range.specs.Ranges.{Ends}
 use Rattle.fleet_rows.specs.declared.settings.Settings.{Settings}
-use Rattle.fleet_table.specs.Views.{View}
+use Rattle.fleet_tree.specs.Views.{View}
 use Rattle.fleet_plan.specs.Boundaries.{ranges_of}
 use Rattle.fleet_plan.specs.Parts.{Part}
 use Rattle.fleet_plan.specs.Plans.{views_of}

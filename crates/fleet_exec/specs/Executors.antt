@@ -10,8 +10,8 @@ use Rattle.row_laws.specs.Turns.{AreCut}
 use Rattle.fleet_range.specs.Keys.{range_of}
 use Rattle.fleet_range.specs.Ranges.{Ends}
 use Rattle.fleet_rows.specs.declared.settings.Settings.{Settings}
-use Rattle.fleet_table.specs.Views.{View}
-use Rattle.fleet_table.specs.declared.handle.SsTableHandle.{SsTableHandle}
+use Rattle.fleet_tree.specs.Views.{View}
+use Rattle.fleet_tree.specs.declared.handle.SsTableHandle.{SsTableHandle}
 use Rattle.fleet_plan.specs.Boundaries.{HoldEveryKeyOnce}
 use Rattle.fleet_plan.specs.Parts.{Part}
 use Rattle.fleet_plan.specs.Plans.{AreOfRows, planned_of, views_of}

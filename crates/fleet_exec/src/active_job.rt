@@ -9,7 +9,7 @@ use fleet_jobs::CompactionContext;
 use fleet_plan::{Subcompaction, plan_subcompaction_ranges};
 use fleet_range::BytesRange;
 use fleet_rows::{Settings, SlateDBError, Ulid};
-use fleet_table::{SsTableHandle, TableList};
+use fleet_tree::{SsTableHandle, TableList};
 use std::alloc::Global;
 use std::marker::Model;
 

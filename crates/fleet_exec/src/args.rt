@@ -4,7 +4,7 @@ ghost use Rattle.std.specs.Prelude.{◌≡◌, IfOk, IsOkUnless};
 
 use fleet_jobs::{CompactionContext, Release};
 use fleet_rows::{SlateDBError, Ulid};
-use fleet_table::{RunList, ViewList};
+use fleet_tree::{RunList, ViewList};
 
 /// The arguments with which a job is started.
 #[derive(Clone, Debug, Drop, PartialEq, Eq)]

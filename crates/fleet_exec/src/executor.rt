@@ -10,7 +10,7 @@ use crate::StartCompactionJobArgs;
 use crate::active_job::ActiveJob;
 use fleet_jobs::CompactionContext;
 use fleet_rows::{ListOf, SlateDBError, Ulid};
-use fleet_table::SsTableHandle;
+use fleet_tree::SsTableHandle;
 use std::alloc::Global;
 use std::marker::Model;
 

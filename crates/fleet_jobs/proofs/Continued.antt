@@ -8,7 +8,7 @@ use Rattle.std.specs.List.{AllZip}
 use Rattle.std.specs.Option.{ForSome}
 use Rattle.row_model.specs.Lists.{IsPrefixOf}
 use Rattle.fleet_plan.specs.Parts.{Part}
-use Rattle.fleet_table.specs.declared.handle.SsTableHandle.{SsTableHandle}
+use Rattle.fleet_tree.specs.declared.handle.SsTableHandle.{SsTableHandle}
 use Rattle.fleet_jobs.specs.Contexts.{IsExtended}
 
 all_same : (parts : List Part) → AllZip IsExtended parts parts

@@ -16,8 +16,8 @@ use Rattle.fleet_model.specs.Nodes.{Tables, table_rows}
 use Rattle.fleet_model.specs.Trees.{are_apart, by_first_key, first_key, last_key}
 use Rattle.fleet_range.specs.Ranges.{Ends, if_non_empty, intersection}
 use Rattle.fleet_range.specs.Sides.{end_cmp}
-use Rattle.fleet_table.specs.Views.{View}
-use Rattle.fleet_table.specs.declared.run.SortedRun.{SortedRun}
+use Rattle.fleet_tree.specs.Views.{View}
+use Rattle.fleet_tree.specs.declared.run.SortedRun.{SortedRun}
 use Rattle.fleet_jobs.specs.Laws.{EndsFit, KeysFit, MovableJobsAreTheModels, view_tables}
 use Rattle.fleet_jobs.specs.Moves.{are_disjoint, by_start, moved_run, put_view}
 use Rattle.fleet_jobs.specs.Taken.{taken_tables}

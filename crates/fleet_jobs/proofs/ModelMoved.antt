@@ -7,8 +7,8 @@ use Rattle.row_model.specs.Rows.{key_cmp}
 use Rattle.fleet_model.specs.Gates.{is_nonempty}
 use Rattle.fleet_model.specs.Nodes.{Tables, table_rows}
 use Rattle.fleet_model.specs.Trees.{by_first_key, first_key, put_by_first_key}
-use Rattle.fleet_table.specs.Views.{View}
-use Rattle.fleet_table.specs.declared.run.SortedRun.{SortedRun}
+use Rattle.fleet_tree.specs.Views.{View}
+use Rattle.fleet_tree.specs.declared.run.SortedRun.{SortedRun}
 use Rattle.fleet_jobs.specs.Laws.{MovedRunsAreTheModels, view_tables}
 use Rattle.fleet_jobs.specs.Moves.{are_disjoint, by_start, put_view}
 use Rattle.fleet_jobs.proofs.Moved.{put_all}

@@ -10,11 +10,11 @@ use Rattle.std.proofs.lemmas.List.{map-append}
 use Rattle.std.proofs.lemmas.List.Elements.{filter_map-append}
 use Rattle.fleet_model.specs.Nodes.{L0, Run, Node, Tree, is_l0, node_named, tree_at, tree_or_empty}
 use Rattle.fleet_model.specs.Trees.{source_nodes, source_pieces}
-use Rattle.fleet_table.specs.Trees.{RunFlushes, flush_node, run_node, tree_of, trees_of, trees_with_prefix}
-use Rattle.fleet_table.specs.Trees as table
-use Rattle.fleet_table.specs.Views.{View}
-use Rattle.fleet_table.specs.declared.run.SortedRun.{SortedRun}
-use Rattle.fleet_table.specs.declared.tree.LsmTreeState.{LsmTreeState}
+use Rattle.fleet_tree.specs.Trees.{RunFlushes, flush_node, run_node, tree_of, trees_of, trees_with_prefix}
+use Rattle.fleet_tree.specs.Trees as table
+use Rattle.fleet_tree.specs.Views.{View}
+use Rattle.fleet_tree.specs.declared.run.SortedRun.{SortedRun}
+use Rattle.fleet_tree.specs.declared.tree.LsmTreeState.{LsmTreeState}
 use Rattle.fleet_jobs.specs.Laws.{TakenRunsAreTheModels, TakenTablesAreTheModels, TakenViewsAreTheModels, l0_names, run_names, view_tables}
 use Rattle.fleet_jobs.specs.Sources.{name_of}
 use Rattle.fleet_jobs.specs.Specs.{segment_of, sources_of}

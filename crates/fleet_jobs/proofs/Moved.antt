@@ -7,7 +7,7 @@ use Rattle.std.specs.Ordering.{is_lt}
 use Rattle.std.proofs.lemmas.Cmp.{nat_list_cmp_total}
 use Rattle.std.proofs.lemmas.List.MinMax.{ranks_by}
 use Rattle.row_model.specs.Rows.{key_cmp}
-use Rattle.fleet_table.specs.Views.{View}
+use Rattle.fleet_tree.specs.Views.{View}
 use Rattle.fleet_plan.proofs.Sorting.{put, put_all as every_put, sorted, sorting_is}
 use Rattle.fleet_jobs.specs.Moves.{put_view, by_start, are_disjoint}
 

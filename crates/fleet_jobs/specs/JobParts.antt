@@ -1,6 +1,6 @@
 -- What the record of a job shows.
 use Rattle.std.specs.Prelude.{ℕ, List, Option}
-use Rattle.fleet_table.specs.declared.handle.SsTableHandle.{SsTableHandle}
+use Rattle.fleet_tree.specs.declared.handle.SsTableHandle.{SsTableHandle}
 use Rattle.fleet_jobs.specs.ContextParts.{ContextParts}
 use Rattle.fleet_jobs.specs.declared.spec.CompactionSpec.{CompactionSpec}
 use Rattle.fleet_jobs.specs.declared.status.CompactionStatus.{CompactionStatus}

@@ -8,11 +8,11 @@ use Rattle.fleet_model.specs.Nodes.{NodeName, is_l0, Tables, table_rows, tree_at
 use Rattle.fleet_model.specs.Polls.{PollInput, can_move}
 use Rattle.fleet_model.specs.Records.{Unrecorded, beaten_by, claimed_by, finished_by, to_completed, to_failed, to_scheduled, to_waiting}
 use Rattle.fleet_model.specs.Trees.{by_first_key, first_key, last_key, source_nodes, source_pieces}
-use Rattle.fleet_table.specs.Trees.{RunFlushes, flush_node, run_node, trees_of}
-use Rattle.fleet_table.specs.Views.{View}
-use Rattle.fleet_table.specs.declared.handle.SsTableHandle.{SsTableHandle}
-use Rattle.fleet_table.specs.declared.manifest.ManifestCore.{ManifestCore}
-use Rattle.fleet_table.specs.declared.run.SortedRun.{SortedRun}
+use Rattle.fleet_tree.specs.Trees.{RunFlushes, flush_node, run_node, trees_of}
+use Rattle.fleet_tree.specs.Views.{View}
+use Rattle.fleet_tree.specs.declared.handle.SsTableHandle.{SsTableHandle}
+use Rattle.fleet_tree.specs.declared.manifest.ManifestCore.{ManifestCore}
+use Rattle.fleet_tree.specs.declared.run.SortedRun.{SortedRun}
 use Rattle.fleet_jobs.specs.ContextParts.{ContextParts}
 use Rattle.fleet_jobs.specs.Contexts.{context_of, table_ids}
 use Rattle.fleet_jobs.specs.JobParts.{JobParts}

@@ -4,8 +4,8 @@ use Rattle.std.specs.Ordering.{is_lt}
 use Rattle.row_model.specs.Rows.{key_cmp}
 use Rattle.fleet_model.specs.Gates.{is_nonempty}
 use Rattle.fleet_range.specs.Ranges.{intersection}
-use Rattle.fleet_table.specs.Views.{View, key_range}
-use Rattle.fleet_table.specs.declared.run.SortedRun.{SortedRun}
+use Rattle.fleet_tree.specs.Views.{View, key_range}
+use Rattle.fleet_tree.specs.declared.run.SortedRun.{SortedRun}
 
 -- Inserts a table in front of the first table whose first key is not below its own.
 abbrev pub put_view : View → List View → List View

@@ -1,11 +1,11 @@
 -- The flushes and the runs that a job takes from the tree of its segment.
 use Rattle.std.specs.Prelude.{ℕ, List, [], find, option_map, bytes_eq, ◌==◌, ◌++◌, flat_map, Option, Some, None}
 use Rattle.std.specs.Option.{option_to_list}
-use Rattle.fleet_table.specs.Trees.{trees_with_prefix}
-use Rattle.fleet_table.specs.Views.{View}
-use Rattle.fleet_table.specs.declared.manifest.ManifestCore.{ManifestCore}
-use Rattle.fleet_table.specs.declared.run.SortedRun.{SortedRun}
-use Rattle.fleet_table.specs.declared.tree.LsmTreeState.{LsmTreeState}
+use Rattle.fleet_tree.specs.Trees.{trees_with_prefix}
+use Rattle.fleet_tree.specs.Views.{View}
+use Rattle.fleet_tree.specs.declared.manifest.ManifestCore.{ManifestCore}
+use Rattle.fleet_tree.specs.declared.run.SortedRun.{SortedRun}
+use Rattle.fleet_tree.specs.declared.tree.LsmTreeState.{LsmTreeState}
 use Rattle.fleet_jobs.specs.Sources.{run_id_of, view_id_of}
 use Rattle.fleet_jobs.specs.Specs.{segment_of, sources_of}
 use Rattle.fleet_jobs.specs.declared.source_id.SourceId.{SourceId}

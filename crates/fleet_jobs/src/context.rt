@@ -8,7 +8,7 @@ ghost use Rattle.fleet_jobs.specs.Contexts.{IsContinued, context_with, release_i
 use crate::Release;
 use fleet_plan::{Subcompaction, SubcompactionList};
 use fleet_rows::{Copies, Settings, SlateDBError};
-use fleet_table::TableList;
+use fleet_tree::TableList;
 use std::alloc::AllocError;
 use std::marker::Model;
 

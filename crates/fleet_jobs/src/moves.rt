@@ -9,7 +9,7 @@ use crate::copying::add_all;
 use crate::sources::{runs_of, views_of};
 use crate::{Compaction, CompactionSpec};
 use fleet_rows::SlateDBError;
-use fleet_table::{ManifestCore, SortedRun, SsTableView, ViewList};
+use fleet_tree::{ManifestCore, SortedRun, SsTableView, ViewList};
 use std::alloc::{AllocError, Global};
 
 impl Compaction {

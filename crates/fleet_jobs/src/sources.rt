@@ -8,7 +8,7 @@ ghost use Rattle.fleet_jobs.specs.Specs.{segment_of};
 
 use crate::{Compaction, CompactionSpec, SourceId};
 use fleet_rows::{Copies, SlateDBError, Ulid};
-use fleet_table::{LsmTreeState, ManifestCore, RunList, SortedRun, SsTableView, ViewList};
+use fleet_tree::{LsmTreeState, ManifestCore, RunList, SortedRun, SsTableView, ViewList};
 use std::alloc::{AllocError, Global};
 
 impl Compaction {

@@ -17,7 +17,7 @@ use Rattle.row_model.specs.Plan.{Anchor, anchors_by_key, cut_anchors, every, gre
 use Rattle.row_laws.proofs.ApartRows.{gt_of_reverse}
 use Rattle.row_laws.proofs.Elements.{all_weaken}
 use Rattle.fleet_model.specs.Trees.{first_key, last_key}
-use Rattle.fleet_table.specs.Views.{View}
+use Rattle.fleet_tree.specs.Views.{View}
 use Rattle.fleet_plan.specs.Plans.{AreOfRows, IsOfRows, greatest_view_size, planned_of, view_anchors}
 
 -- ---- a property of each row's key is a property of each anchor's key

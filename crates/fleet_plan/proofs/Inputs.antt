@@ -4,8 +4,8 @@ use Rattle.std.specs.Prelude.{flat_map}
 use Rattle.std.proofs.lemmas.Grind.{flat_map-append}
 use Rattle.std.proofs.lemmas.List.{append_assoc, append-nil}
 use Rattle.row_model.specs.Plan as model
-use Rattle.fleet_table.specs.Views.{View}
-use Rattle.fleet_table.specs.declared.run.SortedRun.{SortedRun}
+use Rattle.fleet_tree.specs.Views.{View}
+use Rattle.fleet_tree.specs.declared.run.SortedRun.{SortedRun}
 use Rattle.fleet_plan.specs.Plans.{greatest_view_size, view_anchors, views_of}
 
 greatest-append : (xs ys : List View) → greatest_view_size (xs ++ ys) ≡ max (greatest_view_size xs) (greatest_view_size ys)

@@ -9,8 +9,8 @@ use Rattle.std.proofs.Math.Nat.{zero-mod, add-mod_right, mod-eq_of_lt, mod-add-d
 use Rattle.row_model.specs.Sizes.{Block}
 use Rattle.row_model.specs.Plan.{every, spans}
 use Rattle.row_model.specs.Plan as model
-use Rattle.fleet_table.specs.declared.block.BlockMeta.{BlockMeta}
-use Rattle.fleet_table.specs.Handles.{block_of, blocks_of}
+use Rattle.fleet_tree.specs.declared.block.BlockMeta.{BlockMeta}
+use Rattle.fleet_tree.specs.Handles.{block_of, blocks_of}
 use Rattle.fleet_plan.specs.Anchors.{end_of}
 
 -- Two ways to round a quotient up give equal results.

@@ -7,9 +7,9 @@ use Rattle.row_model.specs.Plan.{max_anchors, sample_anchors, select_boundaries}
 use Rattle.row_model.specs.Plan as model
 use Rattle.fleet_model.specs.Handles.{describe}
 use Rattle.fleet_range.specs.Keys.{range_of}
-use Rattle.fleet_table.specs.Handles.{blocks_of, handle_of}
-use Rattle.fleet_table.specs.Views.{View, key_range}
-use Rattle.fleet_table.specs.declared.run.SortedRun.{SortedRun}
+use Rattle.fleet_tree.specs.Handles.{blocks_of, handle_of}
+use Rattle.fleet_tree.specs.Views.{View, key_range}
+use Rattle.fleet_tree.specs.declared.run.SortedRun.{SortedRun}
 
 -- The tables of a job: the flushes first, and then the runs, table by table.
 abbrev pub views_of : List View → List SortedRun → List View

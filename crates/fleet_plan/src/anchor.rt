@@ -3,13 +3,13 @@
 ghost use Rattle.std.specs.Prelude.{◌≡◌, ◌-◌, ◌+◌, ◌/◌, drop, length, max, IfOk, IsOkUnless};
 ghost use Rattle.row_model.specs.Plan.{sample_anchors};
 ghost use Rattle.fleet_range.specs.Keys.{range_of};
-ghost use Rattle.fleet_table.specs.Handles.{blocks_of};
+ghost use Rattle.fleet_tree.specs.Handles.{blocks_of};
 ghost use Rattle.fleet_plan.specs.Anchors.{anchors_of, end_of};
 
 use bytes::Bytes;
 use fleet_range::BytesRange;
 use fleet_rows::SlateDBError;
-use fleet_table::BlockMeta;
+use fleet_tree::BlockMeta;
 use std::alloc::Global;
 
 /// The greatest number of anchors that a plan takes from one table.

@@ -4,7 +4,7 @@ ghost use Rattle.std.specs.Prelude.{◌≡◌, ◌≤◌, ◌++◌, [], List, fl
 ghost use Rattle.row_model.specs.Plan.{planned};
 ghost use Rattle.row_model.specs.Rows.{Row};
 ghost use Rattle.row_laws.specs.Turns.{AreCut};
-ghost use Rattle.fleet_table.specs.Views.{View};
+ghost use Rattle.fleet_tree.specs.Views.{View};
 ghost use Rattle.fleet_plan.specs.Anchors.{anchors_of};
 ghost use Rattle.fleet_plan.specs.Boundaries.{HoldEveryKeyOnce, ranges_of};
 ghost use Rattle.fleet_plan.specs.Plans.{AreOfRows, greatest_view_size, planned_of, view_anchors, views_of};
@@ -12,7 +12,7 @@ ghost use Rattle.fleet_plan.specs.Plans.{AreOfRows, greatest_view_size, planned_
 use crate::{Anchor, MAX_ANCHORS_PER_SST, sample_anchors, select_boundaries};
 use fleet_range::BytesRange;
 use fleet_rows::SlateDBError;
-use fleet_table::{SortedRun, SsTableView};
+use fleet_tree::{SortedRun, SsTableView};
 use std::alloc::Global;
 
 /// The ranges of keys for the subcompactions of a job over these flushes and runs. They are the

@@ -5,7 +5,7 @@ ghost use Rattle.row_model.specs.Lists.{IsPrefixOf};
 
 use fleet_range::BytesRange;
 use fleet_rows::{Copies, ListOf, SlateDBError};
-use fleet_table::{SsTableHandle, TableList};
+use fleet_tree::{SsTableHandle, TableList};
 use std::alloc::{AllocError, Global};
 use std::marker::Model;
 

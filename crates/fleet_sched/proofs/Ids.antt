@@ -4,8 +4,8 @@ use Rattle.std.specs.Prelude.{flat_map}
 use Rattle.std.proofs.lemmas.List.{append-nil, take_more, map-append}
 use Rattle.fleet_model.specs.Levels.{above_all, capped_id, destination_list, fresh_run_id}
 use Rattle.fleet_model.specs.Sources.{all_run_ids}
-use Rattle.fleet_table.specs.Trees.{RunFlushes, segment_of}
-use Rattle.fleet_table.specs.declared.tree.LsmTreeState.{LsmTreeState}
+use Rattle.fleet_tree.specs.Trees.{RunFlushes, segment_of}
+use Rattle.fleet_tree.specs.declared.tree.LsmTreeState.{LsmTreeState}
 use Rattle.fleet_jobs.specs.JobParts.{JobParts}
 use Rattle.fleet_jobs.specs.Jobs.{jobs_of}
 use Rattle.fleet_book.specs.declared.view.CompactorStateView.{CompactorStateView}

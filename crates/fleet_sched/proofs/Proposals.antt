@@ -6,8 +6,8 @@ use Rattle.sched_model.specs.Picks.{Planned, passes}
 use Rattle.sched_model.specs.Series.{TieredOptions}
 use Rattle.sched_model.specs.Sizes.{SizedTree}
 use Rattle.sched_model.specs.SizeTiered.{by_flushes, free_slots, tiered_proposals, unplanned}
-use Rattle.fleet_table.specs.Trees.{RunFlushes}
-use Rattle.fleet_table.specs.declared.tree.LsmTreeState.{LsmTreeState}
+use Rattle.fleet_tree.specs.Trees.{RunFlushes}
+use Rattle.fleet_tree.specs.declared.tree.LsmTreeState.{LsmTreeState}
 use Rattle.fleet_book.specs.declared.view.CompactorStateView.{CompactorStateView}
 use Rattle.fleet_sched.specs.Sizes.{planned_in, tree_in}
 use Rattle.fleet_sched.specs.Views.{shown_jobs, trees_in, view_of}

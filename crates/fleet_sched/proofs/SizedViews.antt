@@ -9,12 +9,12 @@ use Rattle.row_model.specs.Sizes.{saturated}
 use Rattle.fleet_model.specs.Handles.{Handle, tree_tables}
 use Rattle.fleet_model.specs.Nodes.{NodeName, L0, Run, Node}
 use Rattle.sched_model.specs.Sizes.{Sized, SizedTree, sized_flush, sized_nodes, sized_run, sized_tree, sized_trees, tables_size}
-use Rattle.fleet_table.specs.Handles.{handle_of}
-use Rattle.fleet_table.specs.Sizes.{run_size}
-use Rattle.fleet_table.specs.Trees.{RunFlushes, flush_node, run_node, tree_of, segment_of}
-use Rattle.fleet_table.specs.Views.{View}
-use Rattle.fleet_table.specs.declared.run.SortedRun.{SortedRun}
-use Rattle.fleet_table.specs.declared.tree.LsmTreeState.{LsmTreeState}
+use Rattle.fleet_tree.specs.Handles.{handle_of}
+use Rattle.fleet_tree.specs.Sizes.{run_size}
+use Rattle.fleet_tree.specs.Trees.{RunFlushes, flush_node, run_node, tree_of, segment_of}
+use Rattle.fleet_tree.specs.Views.{View}
+use Rattle.fleet_tree.specs.declared.run.SortedRun.{SortedRun}
+use Rattle.fleet_tree.specs.declared.tree.LsmTreeState.{LsmTreeState}
 use Rattle.fleet_book.specs.declared.view.CompactorStateView.{CompactorStateView}
 use Rattle.fleet_sched.specs.Sizes.{flush_in, run_in, tree_in}
 use Rattle.fleet_sched.specs.Views.{handles_in, job_handles, open_records, tree_handles, trees_in}

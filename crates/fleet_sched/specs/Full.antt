@@ -3,8 +3,8 @@ use Rattle.std.specs.Prelude.{ℕ, List, find, map, option_and_then, bytes_eq, O
 use Rattle.fleet_model.specs.Jobs.{JobSpec}
 use Rattle.fleet_model.specs.Nodes.{Run}
 use Rattle.fleet_model.specs.Scheduler.{Generated, last_of, one_or_invalid}
-use Rattle.fleet_table.specs.declared.run.SortedRun.{SortedRun}
-use Rattle.fleet_table.specs.declared.tree.LsmTreeState.{LsmTreeState}
+use Rattle.fleet_tree.specs.declared.run.SortedRun.{SortedRun}
+use Rattle.fleet_tree.specs.declared.tree.LsmTreeState.{LsmTreeState}
 use Rattle.fleet_book.specs.declared.view.CompactorStateView.{CompactorStateView}
 use Rattle.fleet_sched.specs.Views.{trees_in}
 

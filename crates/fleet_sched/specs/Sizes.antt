@@ -4,10 +4,10 @@ use Rattle.fleet_model.specs.Jobs.{Jobs}
 use Rattle.sched_model.specs.Picks.{Planned}
 use Rattle.sched_model.specs.Sizes.{Sized, SizedTree}
 use Rattle.sched_model.specs.SizeTiered.{unplanned}
-use Rattle.fleet_table.specs.Sizes.{run_size}
-use Rattle.fleet_table.specs.Views.{View}
-use Rattle.fleet_table.specs.declared.run.SortedRun.{SortedRun}
-use Rattle.fleet_table.specs.declared.tree.LsmTreeState.{LsmTreeState}
+use Rattle.fleet_tree.specs.Sizes.{run_size}
+use Rattle.fleet_tree.specs.Views.{View}
+use Rattle.fleet_tree.specs.declared.run.SortedRun.{SortedRun}
+use Rattle.fleet_tree.specs.declared.tree.LsmTreeState.{LsmTreeState}
 
 -- A flush with the size of its table.
 abbrev pub flush_in : View → Sized

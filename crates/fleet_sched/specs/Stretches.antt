@@ -4,7 +4,7 @@ use Rattle.fleet_model.specs.Gates.{is_nonempty}
 use Rattle.fleet_model.specs.Nodes.{NodeName, L0, Run}
 use Rattle.fleet_model.specs.Sources.{older_nodes}
 use Rattle.sched_model.specs.SizeTiered.{agree, lowest_run}
-use Rattle.fleet_table.specs.declared.tree.LsmTreeState.{LsmTreeState}
+use Rattle.fleet_tree.specs.declared.tree.LsmTreeState.{LsmTreeState}
 use Rattle.fleet_book.specs.declared.view.CompactorStateView.{CompactorStateView}
 use Rattle.fleet_sched.specs.Views.{trees_in}
 

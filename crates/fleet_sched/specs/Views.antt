@@ -2,11 +2,11 @@
 use Rattle.std.specs.Prelude.{ℕ, List, [], ◌++◌, filter, flat_map, map, Option, Some, None}
 use Rattle.fleet_model.specs.Jobs.{Jobs}
 use Rattle.fleet_model.specs.Scheduler as model
-use Rattle.fleet_table.specs.Handles.{handle_of}
-use Rattle.fleet_table.specs.Manifests.{manifest_of}
-use Rattle.fleet_table.specs.Trees.{RunFlushes, trees_with_prefix}
-use Rattle.fleet_table.specs.declared.handle.SsTableHandle.{SsTableHandle}
-use Rattle.fleet_table.specs.declared.tree.LsmTreeState.{LsmTreeState}
+use Rattle.fleet_tree.specs.Handles.{handle_of}
+use Rattle.fleet_tree.specs.Manifests.{manifest_of}
+use Rattle.fleet_tree.specs.Trees.{RunFlushes, trees_with_prefix}
+use Rattle.fleet_tree.specs.declared.handle.SsTableHandle.{SsTableHandle}
+use Rattle.fleet_tree.specs.declared.tree.LsmTreeState.{LsmTreeState}
 use Rattle.fleet_jobs.specs.Contexts.{ranges_in}
 use Rattle.fleet_jobs.specs.JobParts.{JobParts}
 use Rattle.fleet_jobs.specs.Jobs.{is_open, jobs_of}

@@ -8,7 +8,7 @@ ghost use Rattle.fleet_model.specs.Nodes.{Run};
 ghost use Rattle.fleet_jobs.specs.Sources.{name_of};
 ghost use Rattle.fleet_book.specs.Requests.{request_of};
 ghost use Rattle.fleet_jobs.specs.Specs.{spec_of};
-ghost use Rattle.fleet_table.specs.Trees.{RunFlushes};
+ghost use Rattle.fleet_tree.specs.Trees.{RunFlushes};
 ghost use Rattle.fleet_sched.specs.Answers.{Generates};
 ghost use Rattle.fleet_sched.specs.Full.{full_spec_in, segment_answer};
 ghost use Rattle.fleet_sched.specs.Views.{trees_in, view_of};
@@ -17,7 +17,7 @@ use bytes::Bytes;
 use fleet_book::{CompactionRequest, CompactorStateView};
 use fleet_jobs::{CompactionSpec, SourceId};
 use fleet_rows::SlateDBError;
-use fleet_table::{LsmTreeState, SortedRun};
+use fleet_tree::{LsmTreeState, SortedRun};
 use std::alloc::{AllocError, Global};
 
 /// Accepts each job.

@@ -8,7 +8,7 @@ ghost use Rattle.fleet_jobs.specs.Specs.{segment_of};
 ghost use Rattle.sched_model.specs.SizeTiered.{by_flushes, free_slots, nodes_used, unplanned};
 ghost use Rattle.fleet_sched.specs.Sizes.{planned_in, tree_in};
 ghost use Rattle.fleet_sched.specs.Views.{open_records, shown_jobs, trees_in, view_of};
-ghost use Rattle.fleet_table.specs.Trees.{RunFlushes, trees_with_prefix};
+ghost use Rattle.fleet_tree.specs.Trees.{RunFlushes, trees_with_prefix};
 ghost use Rattle.fleet_sched.specs.Ids.{destinations_in, ids_in};
 
 use crate::node_set::NodeSet;
@@ -17,7 +17,7 @@ use crate::sized::{sized_flushes, sized_runs};
 use bytes::Bytes;
 use fleet_book::{CompactorStateView, VersionedCompactions};
 use fleet_jobs::{Compaction, CompactionSpec, CompactionStatus};
-use fleet_table::{LsmTreeState, ManifestCore};
+use fleet_tree::{LsmTreeState, ManifestCore};
 use std::alloc::{AllocError, Global};
 
 /// The trees before the first pick, by falling number of flushes.

@@ -3,7 +3,7 @@
 ghost use Rattle.fleet_model.specs.Scheduler.{Scheduler};
 ghost use Rattle.fleet_book.specs.Requests.{request_of};
 ghost use Rattle.fleet_jobs.specs.Specs.{spec_of};
-ghost use Rattle.fleet_table.specs.Trees.{RunFlushes};
+ghost use Rattle.fleet_tree.specs.Trees.{RunFlushes};
 ghost use Rattle.fleet_sched.specs.Answers.{Generates, Proposes, Validates};
 ghost use Rattle.fleet_sched.specs.Views.{view_of};
 

@@ -9,7 +9,7 @@ ghost use Rattle.fleet_sched.specs.Sizes.{flush_in, run_in};
 
 use fleet_jobs::SourceId;
 use fleet_rows::Ulid;
-use fleet_table::{SortedRun, SsTableView};
+use fleet_tree::{SortedRun, SsTableView};
 use std::alloc::{AllocError, Global};
 use std::marker::Model;
 

@@ -8,7 +8,7 @@ ghost use Rattle.fleet_jobs.specs.Specs.{destination_of, segment_of, sources_of,
 ghost use Rattle.sched_model.specs.SizeTiered.{agree, lower, lowest_run, tiered_validate};
 ghost use Rattle.fleet_model.specs.Gates.{is_nonempty};
 ghost use Rattle.fleet_sched.specs.Stretches.{accepts, nodes_in, stands_in_tree, tree_found};
-ghost use Rattle.fleet_table.specs.Trees.{RunFlushes};
+ghost use Rattle.fleet_tree.specs.Trees.{RunFlushes};
 ghost use Rattle.fleet_sched.specs.Answers.{Validates};
 ghost use Rattle.fleet_sched.specs.Views.{view_of};
 
@@ -16,7 +16,7 @@ use crate::node_set::is_same;
 use fleet_book::CompactorStateView;
 use fleet_jobs::{CompactionSpec, SourceId};
 use fleet_rows::SlateDBError;
-use fleet_table::{LsmTreeState, SortedRun, SsTableView};
+use fleet_tree::{LsmTreeState, SortedRun, SsTableView};
 use std::alloc::{AllocError, Global};
 
 /// Refuses the job with `InvalidCompaction` unless the size-tiered scheduler accepts it.

@@ -11,8 +11,8 @@ use Rattle.fleet_model.specs.Exchanges.{DeletesTable, Exchange, Plain, DrawsJob,
 use Rattle.fleet_model.specs.Nodes.{Tables, is_among}
 use Rattle.fleet_model.specs.Store.{Store, held_tables, is_held}
 use Rattle.step_model.specs.Rivals.{Strike, called}
-use Rattle.fleet_table.specs.declared.manifest.Manifest.{Manifest}
-use Rattle.fleet_table.specs.declared.manifest.VersionedManifest.{VersionedManifest}
+use Rattle.fleet_tree.specs.declared.manifest.Manifest.{Manifest}
+use Rattle.fleet_tree.specs.declared.manifest.VersionedManifest.{VersionedManifest}
 use Rattle.fleet_jobs.specs.JobParts.{JobParts}
 use Rattle.fleet_jobs.specs.Jobs.{jobs_of}
 use Rattle.fleet_book.specs.VersionedRecords.{VersionedRecords}

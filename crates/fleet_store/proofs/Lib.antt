@@ -4,8 +4,6 @@ pub mod ByIds
 pub mod Memories
 pub mod Kept
 pub mod Ends
-pub mod Rivals
-pub mod Again
 pub mod Listed
 pub mod Removed
 pub mod Alike

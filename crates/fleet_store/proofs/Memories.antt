@@ -15,9 +15,9 @@ use Rattle.row_model.specs.Rows.{Row}
 use Rattle.fleet_model.specs.Jobs.{contains}
 use Rattle.fleet_model.specs.Nodes.{Tables, is_among, table_rows, rows_or_none}
 use Rattle.fleet_model.specs.Store.{Store, held_tables, is_held}
-use Rattle.fleet_table.specs.Views.{View}
-use Rattle.fleet_table.specs.declared.handle.SsTableHandle.{SsTableHandle}
-use Rattle.fleet_table.specs.declared.manifest.VersionedManifest.{VersionedManifest}
+use Rattle.fleet_tree.specs.Views.{View}
+use Rattle.fleet_tree.specs.declared.handle.SsTableHandle.{SsTableHandle}
+use Rattle.fleet_tree.specs.declared.manifest.VersionedManifest.{VersionedManifest}
 use Rattle.fleet_book.specs.VersionedRecords.{VersionedRecords}
 use Rattle.fleet_store.specs.Handles.{IsDescribed, NamesTable}
 use Rattle.fleet_store.specs.Memory.{IsMemory, is_done}

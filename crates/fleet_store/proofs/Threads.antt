@@ -3,7 +3,7 @@ use Rattle.std.proofs.Crossing.{crosses}
 use Rattle.std.proofs.MapsCrossing.{BTreeMap-send}
 use denote.Param.Send.{IsSend, sendable}
 use Rattle.fleet_rows.proofs.ulid.Ulid.TheSendSync as id
-use Rattle.fleet_table.proofs.manifest.VersionedManifest.TheSendSync as manifest
+use Rattle.fleet_tree.proofs.manifest.VersionedManifest.TheSendSync as manifest
 use Rattle.fleet_table.proofs.table.TableData.TheSendSync as table
 use Rattle.fleet_book.proofs.compactions.VersionedCompactions.TheSendSync as records
 use Rattle.fleet_history.proofs.entry.HistoryEntry.TheSendSync as entry

@@ -8,8 +8,8 @@ use Rattle.step_model.specs.Past.{Told}
 use Rattle.step_model.specs.Lawful.{Lawful}
 use Rattle.step_model.specs.Rivals.{Caller, Rivals}
 use Rattle.fleet_rows.specs.declared.errors.SlateDBError.{SlateDBError}
-use Rattle.fleet_table.specs.declared.manifest.Manifest.{Manifest}
-use Rattle.fleet_table.specs.declared.manifest.VersionedManifest.{VersionedManifest}
+use Rattle.fleet_tree.specs.declared.manifest.Manifest.{Manifest}
+use Rattle.fleet_tree.specs.declared.manifest.VersionedManifest.{VersionedManifest}
 use Rattle.fleet_jobs.specs.JobParts.{JobParts}
 use Rattle.fleet_book.specs.VersionedRecords.{VersionedRecords}
 use Rattle.fleet_book.specs.declared.compactions.Compactions.{Compactions}

@@ -2,7 +2,7 @@
 use Rattle.std.specs.Prelude.{ℕ, List}
 use Rattle.fleet_model.specs.Exchanges as model
 use Rattle.fleet_model.specs.Store as model_store
-use Rattle.fleet_table.specs.declared.manifest.Manifest.{Manifest}
+use Rattle.fleet_tree.specs.declared.manifest.Manifest.{Manifest}
 use Rattle.fleet_jobs.specs.JobParts.{JobParts}
 use Rattle.fleet_jobs.specs.Jobs.{jobs_of}
 use Rattle.fleet_book.specs.declared.compactions.Compactions.{Compactions}

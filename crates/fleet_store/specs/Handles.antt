@@ -2,9 +2,9 @@
 use Rattle.std.specs.Prelude.{◌≡◌, IsTrue}
 use Rattle.fleet_model.specs.Handles.{describe}
 use Rattle.fleet_model.specs.Nodes.{Tables, table_rows, is_among}
-use Rattle.fleet_table.specs.Handles.{handle_of}
-use Rattle.fleet_table.specs.Views.{View}
-use Rattle.fleet_table.specs.declared.handle.SsTableHandle.{SsTableHandle}
+use Rattle.fleet_tree.specs.Handles.{handle_of}
+use Rattle.fleet_tree.specs.Views.{View}
+use Rattle.fleet_tree.specs.declared.handle.SsTableHandle.{SsTableHandle}
 
 -- A table was put under this id, and the handle describes its rows.
 pub record IsDescribed (tables : Tables) (handle : SsTableHandle) : Type 0 where

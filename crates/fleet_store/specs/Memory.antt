@@ -13,7 +13,7 @@ use Rattle.step_model.specs.Rivals.{Caller, Strike, told_by}
 use Rattle.step_model.specs.CourseRuns.{HasRoom}
 use Rattle.fleet_rows.specs.declared.errors.SlateDBError.{SlateDBError}
 use Rattle.fleet_rows.specs.declared.errors.SlateDBError.TheVariants.{StoreFault, Conflict, Memory}
-use Rattle.fleet_table.specs.declared.manifest.VersionedManifest.{VersionedManifest}
+use Rattle.fleet_tree.specs.declared.manifest.VersionedManifest.{VersionedManifest}
 use Rattle.fleet_book.specs.VersionedRecords.{VersionedRecords}
 use Rattle.fleet_history.specs.Parties.{party_of}
 use Rattle.fleet_store.specs.Log.{LogParts}

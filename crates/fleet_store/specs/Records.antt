@@ -2,7 +2,7 @@
 use Rattle.std.specs.Prelude.{◌≡◌, List, [], ◌++◌, flat_map, Option, Some, None, option_map}
 use Rattle.std.specs.List.{AllByRecursion}
 use Rattle.fleet_model.specs.Store.{Store}
-use Rattle.fleet_table.specs.declared.handle.SsTableHandle.{SsTableHandle}
+use Rattle.fleet_tree.specs.declared.handle.SsTableHandle.{SsTableHandle}
 use Rattle.fleet_jobs.specs.Contexts.{ranges_in}
 use Rattle.fleet_jobs.specs.JobParts.{JobParts}
 use Rattle.fleet_book.specs.VersionedRecords.{VersionedRecords}

@@ -3,7 +3,8 @@
 use fleet_book::Compactions;
 use fleet_history::{Event, ManifestChange, Party, RecordChange};
 use fleet_rows::Ulid;
-use fleet_table::{Manifest, TableData};
+use fleet_table::TableData;
+use fleet_tree::Manifest;
 use std::snapshot::Snapshot;
 
 /// What a call was. Values that are no longer needed are remembered for contracts alone.

@@ -2,16 +2,10 @@
 #![tactic(auto)]
 
 mod call;
-#[cfg(test)]
-mod faults;
 mod laws;
 mod log;
 mod memory;
-#[cfg(test)]
-mod rival;
 mod store;
-#[cfg(test)]
-mod tests;
 mod under;
 
 pub use laws::refused_puts_are_alike;

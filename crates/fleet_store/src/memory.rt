@@ -29,8 +29,9 @@ use crate::log::{Log, takes_effect};
 use fleet_book::{Compactions, VersionedCompactions};
 use fleet_history::{Answer, Event, HistoryEntry, ManifestChange, Note, Party, RecordChange};
 use fleet_rows::{DRAWN_BASE, JobList, SlateDBError, Ulid};
-use fleet_table::{
-    LsmTreeState, Manifest, ManifestCore, SegmentList, TableData, TrackerList, VersionedManifest,
+use fleet_table::TableData;
+use fleet_tree::{
+    LsmTreeState, Manifest, ManifestCore, SegmentList, TrackerList, VersionedManifest,
 };
 use std::alloc::{AllocError, Global};
 use std::collections::BTreeMap;

@@ -10,7 +10,8 @@ ghost use Rattle.fleet_store.specs.Exchanges.{noted};
 use fleet_book::{Compactions, VersionedCompactions};
 use fleet_history::{ManifestChange, Note, RecordChange};
 use fleet_rows::{JobList, SlateDBError, Ulid};
-use fleet_table::{Manifest, TableData, VersionedManifest};
+use fleet_table::TableData;
+use fleet_tree::{Manifest, VersionedManifest};
 use std::alloc::Global;
 
 /// A store that parties share. Each call that is not refused for want of memory is one entry of

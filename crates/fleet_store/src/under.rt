@@ -8,7 +8,8 @@ use fleet_book::{Compactions, VersionedCompactions};
 use fleet_fold::MergeOperator;
 use fleet_history::{ManifestChange, Note, Party, RecordChange};
 use fleet_rows::{JobList, SlateDBError, Ulid};
-use fleet_table::{Manifest, TableData, VersionedManifest};
+use fleet_table::TableData;
+use fleet_tree::{Manifest, VersionedManifest};
 use std::alloc::Global;
 
 /// A store in memory, lent together with the operator under which its rows are merged. Nobody else

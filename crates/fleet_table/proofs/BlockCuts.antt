@@ -7,7 +7,7 @@ use Rattle.std.proofs.lemmas.List.{append_assoc, append-nil}
 use Rattle.row_model.specs.Bounds.{IsInBounds}
 use Rattle.row_model.specs.Rows.{Row}
 use Rattle.row_model.specs.Sizes.{Block, block_at, block_bytes, blocks, blocks_from, estimated_size, or_full, saturated, table_size}
-use Rattle.fleet_table.proofs.Sizes.{stops_once}
+use Rattle.fleet_tree.proofs.Sizes.{stops_once}
 
 -- The state after some rows were cut. The blocks so far, followed by the blocks of the rest, are the blocks
 -- of all rows. The size so far and the sizes of the rest add up to the size of all rows.

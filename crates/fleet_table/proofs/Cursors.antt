@@ -17,8 +17,8 @@ use Rattle.fleet_block.proofs.Index.{rows_are_cut_into_blocks}
 use Rattle.fleet_block.proofs.Places.{block_at_place, places_count}
 use Rattle.fleet_block.proofs.Stand.{blocks_stand_in_bytes}
 use Rattle.fleet_table.specs.Cursors.{key_after, rows_before, IsCursor, StandsAt}
-use Rattle.fleet_table.specs.Handles.{block_of, blocks_of}
-use Rattle.fleet_table.specs.declared.block.BlockMeta.{BlockMeta}
+use Rattle.fleet_tree.specs.Handles.{block_of, blocks_of}
+use Rattle.fleet_tree.specs.declared.block.BlockMeta.{BlockMeta}
 use Rattle.fleet_table.specs.declared.cursor.Cursor.{Cursor}
 
 -- ---- lists

@@ -1,13 +1,9 @@
 pub mod Tested
 pub mod Cursors
 pub mod Spots
-pub mod Sizes
 pub mod InRange
 pub mod BlockCuts
 pub mod LastRow
 pub mod Newest
 pub mod Spans
-pub mod Flushes
 pub mod SoughtRows
-pub mod ModelFlushes
-pub mod Tracking

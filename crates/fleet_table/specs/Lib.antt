@@ -2,11 +2,4 @@ pub mod Order
 pub mod Cursors
 pub mod Table
 pub mod Iterator
-pub mod Lists
-pub mod Handles
-pub mod Views
-pub mod Sizes
 pub mod Run
-pub mod Trees
-pub mod Manifests
-pub mod Laws

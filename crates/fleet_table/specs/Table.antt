@@ -9,8 +9,8 @@ use Rattle.fleet_model.specs.Handles.{seq_of_last}
 use Rattle.fleet_model.specs.Trees as trees
 use Rattle.fleet_block.specs.Places.{places_from}
 use Rattle.fleet_block.specs.declared.place.BlockPlace.{BlockPlace}
-use Rattle.fleet_table.specs.Handles.{blocks_of}
-use Rattle.fleet_table.specs.declared.block.BlockMeta.{BlockMeta}
+use Rattle.fleet_tree.specs.Handles.{blocks_of}
+use Rattle.fleet_tree.specs.declared.block.BlockMeta.{BlockMeta}
 
 -- The rows of a table: at least one row, strictly ordered, each row in bounds.
 pub record IsTable (rows : List Row) : Type 0 where

@@ -5,11 +5,11 @@ ghost use Rattle.std.specs.List.{AllByRecursion};
 ghost use Rattle.row_model.specs.Bounds.{IsInBounds};
 ghost use Rattle.row_model.specs.Sizes.{block_at, block_bytes, blocks, estimated_size, or_full, saturated, table_size};
 ghost use Rattle.fleet_rows.specs.Row.{row_of, rows_of};
-ghost use Rattle.fleet_table.specs.Handles.{blocks_of};
+ghost use Rattle.fleet_tree.specs.Handles.{blocks_of};
 
-use crate::{BlockList, BlockMeta, SharedList};
 use bytes::Bytes;
 use fleet_rows::{RowEntry, SlateDBError};
+use fleet_tree::{BlockList, BlockMeta, SharedList};
 use std::alloc::Global;
 
 // A block ends after the row with which its sum of `estimated_size` reaches this many bytes.

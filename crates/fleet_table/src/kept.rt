@@ -10,16 +10,16 @@ ghost use Rattle.row_model.specs.TableBytes.{blocks_of_rows, row_bytes, rows_byt
 ghost use Rattle.fleet_model.specs.Handles.{describe};
 ghost use Rattle.fleet_rows.specs.Row.{row_of, rows_of};
 ghost use Rattle.fleet_table.specs.Cursors.{is_before_spot, key_after, rows_before, IsCursor, StandsAt};
-ghost use Rattle.fleet_table.specs.Handles.{handle_of};
+ghost use Rattle.fleet_tree.specs.Handles.{handle_of};
 ghost use Rattle.fleet_table.specs.Table.{AreEndKeys, IsTable};
 
 use crate::cursor::{Cursor, Ties, is_before_spot};
 use crate::cutting::cut_blocks;
 use crate::order::last_of;
-use crate::{BlockList, SsTableHandle};
 use bytes::Bytes;
 use fleet_block::{BlockPlace, bytes_are_decoded, compared_at, row_at, written_rows};
 use fleet_rows::{RowEntry, SlateDBError, Ulid};
+use fleet_tree::{BlockList, SsTableHandle};
 use std::alloc::Global;
 use std::fmt;
 use std::marker::Model;

@@ -6,10 +6,11 @@ ghost use Rattle.fleet_iter.specs.Iteration.{from_key};
 ghost use Rattle.fleet_range.specs.Keys.{range_of};
 ghost use Rattle.fleet_table.specs.Iterator.{state_of};
 
-use crate::{SharedList, TableData, TableIterator};
+use crate::{TableData, TableIterator};
 use fleet_iter::RowEntryIterator;
 use fleet_range::BytesRange;
 use fleet_rows::{RowEntry, SlateDBError};
+use fleet_tree::SharedList;
 use std::alloc::Global;
 use std::marker::Model;
 

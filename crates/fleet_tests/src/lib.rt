@@ -1,6 +1,7 @@
 //! Tests of what the cases of `fleet_cases` cannot show: iterators that fail after some rows,
 //! iterators in boxes, calls that come too early, and ranges that are made at once. There are also
-//! tests of copies, of printed texts and of hashes.
+//! tests of copies, of printed texts and of hashes, and of a store in memory: what a fault strikes,
+//! and what another party's calls refuse.
 #![tactic(auto)]
 
 #[cfg(test)]
@@ -12,6 +13,8 @@ mod failing;
 #[cfg(test)]
 mod failures;
 #[cfg(test)]
+mod faults;
+#[cfg(test)]
 mod looks;
 #[cfg(test)]
 mod memory;
@@ -20,7 +23,11 @@ mod parts;
 #[cfg(test)]
 mod ranges;
 #[cfg(test)]
+mod rivals;
+#[cfg(test)]
 mod scripts;
+#[cfg(test)]
+mod stores;
 #[cfg(test)]
 mod streams;
 #[cfg(test)]

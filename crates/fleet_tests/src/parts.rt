@@ -3,7 +3,7 @@ use bytes::Bytes;
 use fleet_plan::Subcompaction;
 use fleet_range::BytesRange;
 use fleet_rows::{SlateDBError, Ulid};
-use fleet_table::{BlockList, BlockMeta, SsTableHandle, TableList};
+use fleet_tree::{BlockList, BlockMeta, SsTableHandle, TableList};
 use std::alloc::{AllocError, Global};
 use std::ops::Bound::{Excluded, Included};
 use std::process::Abort;

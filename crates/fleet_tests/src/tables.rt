@@ -5,10 +5,10 @@ ghost use Rattle.row_model.specs.Rows.{key_cmp};
 
 use bytes::Bytes;
 use fleet_rows::{RowEntry, SlateDBError, Ulid, ValueDeletable};
-use fleet_table::{
+use fleet_table::{TableData, are_in_bounds, are_strictly_ordered};
+use fleet_tree::{
     BlockList, LsmTreeState, Manifest, ManifestCore, SegmentList, SortedRun, SsTableHandle,
-    SsTableView, TableData, TrackerList, VersionedManifest, ViewList, are_in_bounds,
-    are_strictly_ordered,
+    SsTableView, TrackerList, VersionedManifest, ViewList,
 };
 use std::alloc::Global;
 

@@ -5,8 +5,8 @@ use Rattle.std.proofs.lemmas.List.{map-append}
 use Rattle.row_model.specs.Ranges.{is_in_range}
 use Rattle.row_model.specs.Plan.{sample_anchors}
 use Rattle.fleet_range.specs.Keys.{range_of}
-use Rattle.fleet_table.specs.declared.block.BlockMeta.{BlockMeta}
-use Rattle.fleet_table.specs.Handles.{block_of, blocks_of}
+use Rattle.fleet_tree.specs.declared.block.BlockMeta.{BlockMeta}
+use Rattle.fleet_tree.specs.Handles.{block_of, blocks_of}
 use Rattle.fleet_plan.specs.Anchors.{anchor_of, anchors_of}
 use Rattle.fleet_plan.proofs.Strides.{anchor_at, with_group, without_group}
 use Rattle.fleet_plan.proofs.anchor.sample_anchors.Goals as goal

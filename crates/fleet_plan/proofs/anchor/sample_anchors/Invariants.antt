@@ -2,7 +2,7 @@ use Rattle.std.proofs.Common.{length}
 use Rattle.row_model.specs.Plan.{sample_anchors}
 use Rattle.row_model.specs.Ranges.{is_in_range}
 use Rattle.fleet_range.specs.Keys.{range_of}
-use Rattle.fleet_table.specs.Handles.{blocks_of}
+use Rattle.fleet_tree.specs.Handles.{blocks_of}
 use Rattle.fleet_plan.specs.Anchors.{anchors_of}
 use Rattle.fleet_plan.proofs.Strides.{SoFar}
 use Rattle.fleet_plan.proofs.anchor.sample_anchors.Given as goal

@@ -4,8 +4,8 @@ use Rattle.std.proofs.lemmas.Grind.{common_steps}
 use Rattle.std.proofs.lemmas.Result.{IfOk-weaker}
 use Rattle.row_model.specs.Plan.{planned, select_boundaries}
 use Rattle.row_model.specs.Rows.{Row}
-use Rattle.fleet_table.specs.Views.{View}
-use Rattle.fleet_table.specs.declared.run.SortedRun.{SortedRun}
+use Rattle.fleet_tree.specs.Views.{View}
+use Rattle.fleet_tree.specs.declared.run.SortedRun.{SortedRun}
 use Rattle.fleet_plan.specs.Anchors.{anchors_of}
 use Rattle.fleet_plan.specs.Boundaries.{ranges_of}
 use Rattle.fleet_plan.specs.Plans.{AreOfRows, greatest_view_size, planned_of, view_anchors, views_of}

@@ -1,6 +1,6 @@
 use Rattle.std.proofs.Common.{◌∙◌, sym, ap}
 use Rattle.std.specs.Prelude.{option_map}
-use Rattle.fleet_table.specs.declared.run.SortedRun.{SortedRun}
+use Rattle.fleet_tree.specs.declared.run.SortedRun.{SortedRun}
 use Rattle.fleet_sched.proofs.Lists.{last_of-map}
 use Rattle.fleet_sched.proofs.defaults.last_id.Goals as goal
 

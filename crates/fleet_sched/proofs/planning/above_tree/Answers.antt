@@ -1,5 +1,5 @@
 use Rattle.std.proofs.Common.{◌∙◌, ap, max}
-use Rattle.fleet_table.specs.declared.run.SortedRun.{SortedRun}
+use Rattle.fleet_tree.specs.declared.run.SortedRun.{SortedRun}
 use Rattle.fleet_sched.proofs.Ids.{above_run}
 use Rattle.fleet_sched.proofs.planning.above_tree.Goals as goal
 

@@ -1,5 +1,5 @@
 use Rattle.std.proofs.Common.{◌∙◌}
-use Rattle.fleet_table.proofs.Sizes.{fold-is}
+use Rattle.fleet_tree.proofs.Sizes.{fold-is}
 use Rattle.fleet_sched.proofs.sized.total_size.Goals as goal
 
 pub returns : goal.returns

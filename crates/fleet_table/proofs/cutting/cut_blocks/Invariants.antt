@@ -1,6 +1,6 @@
 use Rattle.std.proofs.Common.{length}
 use Rattle.fleet_rows.specs.Row.{rows_of}
-use Rattle.fleet_table.specs.Handles.{blocks_of}
+use Rattle.fleet_tree.specs.Handles.{blocks_of}
 use Rattle.fleet_table.proofs.BlockCuts.{IsCutSoFar}
 use Rattle.fleet_table.proofs.cutting.cut_blocks.Given as goal
 

@@ -1,0 +1,4 @@
+pub mod Rivals
+pub mod Again
+pub mod Alone
+pub mod Firsts

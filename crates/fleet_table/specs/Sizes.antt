@@ -1,7 +1,0 @@
--- The size of a run in bytes: the sum of its tables' sizes, which stops at 2^64 - 1.
-use Rattle.std.specs.Prelude.{ℕ, List, sum_by}
-use Rattle.row_model.specs.Sizes.{saturated}
-use Rattle.fleet_table.specs.Views.{View}
-
-abbrev pub run_size : List View → ℕ
-run_size views = saturated (sum_by (λ view. view.sst.size) views)

@@ -1,0 +1,4 @@
+pub mod Sizes
+pub mod Flushes
+pub mod ModelFlushes
+pub mod Tracking

@@ -1,0 +1,7 @@
+pub mod Lists
+pub mod Handles
+pub mod Views
+pub mod Sizes
+pub mod Trees
+pub mod Manifests
+pub mod Laws

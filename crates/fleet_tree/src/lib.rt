@@ -1,0 +1,26 @@
+//! Trees and manifests, and the descriptions of the tables that they name.
+#![tactic(auto)]
+
+mod block;
+mod handle;
+mod laws;
+mod list;
+mod manifest;
+mod run;
+mod tracker;
+mod tree;
+mod trees;
+mod view;
+
+pub use block::BlockMeta;
+pub use handle::SsTableHandle;
+pub use laws::flushes_are_the_models;
+pub use list::{
+    BlockList, OutputList, RunList, SegmentList, SharedList, TableList, TrackerList, ViewList,
+};
+pub use manifest::{Manifest, ManifestCore, VersionedManifest};
+pub use run::SortedRun;
+pub use tracker::{Tracked, least_seq};
+pub use tree::{LsmTreeState, merge_from_writer};
+pub use trees::{Trees, TreesWithPrefix};
+pub use view::SsTableView;

@@ -1,0 +1,98 @@
+//! The tree of a segment.
+
+ghost use Rattle.std.specs.Prelude.{◌≡◌, ◌==◌, [], length, None, not, take_while, IfOk, IsOkUnless, OnErr, OnOk};
+ghost use Rattle.fleet_tree.specs.Trees.{empty_tree, flushed_on, from_writer, newer_than};
+
+use crate::{RunList, SsTableView, ViewList};
+use fleet_rows::{Copies, SlateDBError, Ulid};
+use std::alloc::{AllocError, Global};
+
+/// The tree of a segment. Contracts see its lists, and `specs/Trees` says how these are nodes of a
+/// tree of the model.
+#[derive(Clone, Debug, Drop, PartialEq, Eq)]
+pub struct LsmTreeState {
+    /// The flushes that no job has taken yet, newest first.
+    pub l0: ViewList,
+    /// The runs, by falling id.
+    pub compacted: RunList,
+    /// The newest flush that a job took or dropped, if there is one. This flush and older ones must
+    /// not come to the tree again.
+    pub last_compacted_l0_sst_view_id: Option<Ulid>,
+    /// The greatest sequence of the segment's flushes.
+    pub last_seq: Option<u64>,
+}
+
+impl LsmTreeState {
+    /// The tree of a segment without flushes.
+    pub fn new(alloc: Global) -> LsmTreeState
+        ensures { result ≡ empty_tree }
+    {
+        LsmTreeState {
+            l0: ViewList::new(alloc),
+            compacted: RunList::new(alloc),
+            last_compacted_l0_sst_view_id: None,
+            last_seq: None,
+        }
+    }
+
+    /// Puts a flush in front. `last_seq` is the greatest sequence of the segment's flushes, this
+    /// one included.
+    pub(crate) fn add_l0(&mut self, view: SsTableView, last_seq: u64) -> Result<(), SlateDBError>
+        ensures ok { OnOk result (self.new ≡ flushed_on view last_seq self.old) }
+        ensures err { OnErr result (self.new ≡ self.old) }
+        ensures memory { IsOkUnless result SlateDBError.Memory }
+    {
+        self.l0.insert(0, view)?;
+        self.last_seq = Some(last_seq);
+        Ok(())
+    }
+
+    /// A copy.
+    pub fn clone(&self) -> Result<LsmTreeState, SlateDBError>
+        ensures copy { IfOk result (λ copy. copy ≡ self.now) }
+        ensures memory { IsOkUnless result SlateDBError.Memory }
+    {
+        Ok(Clone::clone(self)?)
+    }
+}
+
+impl Copies for LsmTreeState {
+    fn copied(&self) -> Result<LsmTreeState, AllocError> {
+        Clone::clone(self)
+    }
+}
+
+/// A compactor's tree with the flushes of its writer. It has the remote flushes that are newer than
+/// the local watermark, and the remote last sequence. The runs and the watermark are the local
+/// ones.
+pub fn merge_from_writer(
+    local: &LsmTreeState,
+    remote: &LsmTreeState,
+) -> Result<LsmTreeState, SlateDBError>
+    ensures tree { IfOk result (λ tree. tree ≡ from_writer local.now remote.now) }
+    ensures memory { IsOkUnless result SlateDBError.Memory }
+{
+    Ok(LsmTreeState {
+        l0: newer_than(local.last_compacted_l0_sst_view_id, &remote.l0)?,
+        compacted: local.compacted.clone()?,
+        last_compacted_l0_sst_view_id: local.last_compacted_l0_sst_view_id,
+        last_seq: remote.last_seq,
+    })
+}
+
+// The views before the one with the watermark's id, or all views if none has it.
+fn newer_than(watermark: Option<Ulid>, views: &ViewList) -> Result<ViewList, SlateDBError>
+    ensures views { IfOk result (λ newer. newer ≡ newer_than watermark views.now) }
+    ensures memory { IsOkUnless result SlateDBError.Memory }
+{
+    let Some(mark) = watermark else {
+        return views.clone();
+    };
+    views.first(newer_count(views.as_slice(), mark) as u64)
+}
+
+fn newer_count(views: &[SsTableView], mark: Ulid) -> usize
+    ensures { result ≡ length (take_while (λ view. not (view.id == mark)) views.now) }
+{
+    views.iter().take_while(|view| view.id != mark).count()
+}
