@@ -5,7 +5,7 @@
 
 use case_words::flaw::Flaw;
 use case_words::tell::Tell;
-use case_words::words::{Told, bytes, number, parts};
+use case_words::words::{Parse, bytes, number, parts};
 use fleet_book::Compactions;
 use fleet_jobs::{Compaction, CompactionSpec, CompactionStatus, SourceId};
 use fleet_rows::Ulid;
@@ -16,7 +16,7 @@ fn source(alloc: Global, word: &str) -> Result<SourceId, Flaw> {
         return Ok(SourceId::SstView(Ulid::from_parts(0, number(id)? as u128)));
     }
     match word.strip_prefix('r') {
-        Some(id) => Ok(SourceId::SortedRun(u32::told(alloc, id)?)),
+        Some(id) => Ok(SourceId::SortedRun(u32::parse(alloc, id)?)),
         None => Err(Flaw::Choice),
     }
 }
@@ -42,7 +42,7 @@ pub fn spec(alloc: Global, word: &str) -> Result<CompactionSpec, Flaw> {
     if *destination == "-" {
         return Ok(CompactionSpec::drain_segment(segment, sources));
     }
-    let destination = u32::told(alloc, destination)?;
+    let destination = u32::parse(alloc, destination)?;
     Ok(CompactionSpec::for_segment(segment, sources, destination))
 }
 

@@ -6,7 +6,7 @@ use crate::jobs::{jobs, spec, tell_jobs};
 use crate::trees::{core, manifest, tell_trees};
 use case_words::flaw::Flaw;
 use case_words::given::tell_refusal;
-use case_words::words::{number, told_if_any};
+use case_words::words::{number, parse_if_any};
 use fleet_book::{Compactions, CompactorState, CompactorStateView, VersionedCompactions};
 use fleet_jobs::{Compaction, CompactionStatus};
 use fleet_rows::{SlateDBError, Ulid};
@@ -159,7 +159,7 @@ fn finish_job(alloc: Global, state: &mut CompactorState, id: Ulid) -> Result<(),
 fn compacted(alloc: Global, cut: &str, word: &str) -> Result<Compaction, Flaw> {
     let mut job = Compaction::new(alloc, Ulid::from_parts(0, 1), spec(alloc, word)?);
     job.set_status(CompactionStatus::Compacted);
-    job.set_cut(told_if_any(alloc, cut, "-")?);
+    job.set_cut(parse_if_any(alloc, cut, "-")?);
     Ok(job)
 }
 

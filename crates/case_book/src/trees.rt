@@ -10,7 +10,7 @@ use bytes::Bytes;
 use case_words::flaw::Flaw;
 use case_words::tables::{named_view, view_of};
 use case_words::tell::Tell;
-use case_words::words::{Told, bytes, number};
+use case_words::words::{Parse, bytes, number};
 use fleet_rows::Ulid;
 use fleet_tree::{
     BlockList, LsmTreeState, Manifest, ManifestCore, SegmentList, SortedRun, SsTableView,
@@ -57,7 +57,7 @@ fn add_node(alloc: Global, tree: &mut LsmTreeState, word: &str) -> Result<(), Fl
     };
     Ok(
         tree.compacted
-            .push(run(alloc, u32::told(alloc, id)?, content)?)?,
+            .push(run(alloc, u32::parse(alloc, id)?, content)?)?,
     )
 }
 

@@ -25,14 +25,14 @@ abbrev pub is_accepted : List ℕ → List ℕ → Bool
 is_accepted [] bytes = is_short bytes
 is_accepted (unwanted ∷ s) bytes = is_short bytes && lacks unwanted bytes
 
-abbrev pub accepted : List ℕ → List ℕ → Outcome
-accepted s bytes = if is_accepted s bytes then Merged bytes else Refused (codes "no")
+abbrev pub accepted_outcome : List ℕ → List ℕ → Outcome
+accepted_outcome s bytes = if is_accepted s bytes then Merged bytes else Refused (codes "no")
 
 -- The operator joins the operand's bytes to the existing ones, if there are any. It refuses if the joined
 -- bytes are not accepted.
-abbrev pub sifted : List ℕ → Operator
-sifted s key None operand = accepted s operand
-sifted s key (Some bytes) operand = accepted s (bytes ++ operand)
+abbrev pub sifting_operator : List ℕ → Operator
+sifting_operator s key None operand = accepted_outcome s operand
+sifting_operator s key (Some bytes) operand = accepted_outcome s (bytes ++ operand)
 
 -- The next lemmas show that both parts of accepted bytes are accepted.
 length_app : (xs ys : List ℕ) → length (xs ++ ys) ≡ length xs + length ys
@@ -69,97 +69,97 @@ bytes_of (Merged bytes) = bytes
 bytes_of (Refused message) = []
 
 module _ (s : List ℕ) where
-  refused : (a : List ℕ) → is_accepted s a ≡ false → accepted s a ≡ Refused (codes "no")
+  refused : (a : List ℕ) → is_accepted s a ≡ false → accepted_outcome s a ≡ Refused (codes "no")
   refused a h = ap (λ b. cond b (Merged a) (Refused (codes "no"))) h
 
-  merged : (a : List ℕ) → is_accepted s a ≡ true → accepted s a ≡ Merged a
+  merged : (a : List ℕ) → is_accepted s a ≡ true → accepted_outcome s a ≡ Merged a
   merged a h = ap (λ b. cond b (Merged a) (Refused (codes "no"))) h
 
-  not_more : (a x : List ℕ) → is_accepted s a ≡ false → accepted s (a ++ x) ≡ Refused (codes "no")
+  not_more : (a x : List ℕ) → is_accepted s a ≡ false → accepted_outcome s (a ++ x) ≡ Refused (codes "no")
   not_more a x h = by (is_accepted s (a ++ x)) refl
     where
-      by : (b : Bool) → is_accepted s (a ++ x) ≡ b → accepted s (a ++ x) ≡ Refused (codes "no")
+      by : (b : Bool) → is_accepted s (a ++ x) ≡ b → accepted_outcome s (a ++ x) ≡ Refused (codes "no")
       by true is = let clash = sym (parts s a x is).0 ∙ h in absurd (cc clash)
       by false is = refused (a ++ x) is
 
-  not_before : (a x : List ℕ) → is_accepted s x ≡ false → accepted s (a ++ x) ≡ Refused (codes "no")
+  not_before : (a x : List ℕ) → is_accepted s x ≡ false → accepted_outcome s (a ++ x) ≡ Refused (codes "no")
   not_before a x h = by (is_accepted s (a ++ x)) refl
     where
-      by : (b : Bool) → is_accepted s (a ++ x) ≡ b → accepted s (a ++ x) ≡ Refused (codes "no")
+      by : (b : Bool) → is_accepted s (a ++ x) ≡ b → accepted_outcome s (a ++ x) ≡ Refused (codes "no")
       by true is = let clash = sym (parts s a x is).1 ∙ h in absurd (cc clash)
       by false is = refused (a ++ x) is
 
   -- Merging an answer onto bytes answers for the joined bytes. Merging it onto nothing leaves it as it is.
-  onto_bytes : (key a c : List ℕ) → merge_one (sifted s) key (Some (Merged a)) (accepted s c) ≡ accepted s (a ++ c)
+  onto_bytes : (key a c : List ℕ) → merge_one (sifting_operator s) key (Some (Merged a)) (accepted_outcome s c) ≡ accepted_outcome s (a ++ c)
   onto_bytes key a c = by (is_accepted s c) refl
     where
-      by : (b : Bool) → is_accepted s c ≡ b → merge_one (sifted s) key (Some (Merged a)) (accepted s c) ≡ accepted s (a ++ c)
-      by true h = ap (merge_one (sifted s) key (Some (Merged a))) (merged c h)
-      by false h = ap (merge_one (sifted s) key (Some (Merged a))) (refused c h) ∙ sym (not_before a c h)
+      by : (b : Bool) → is_accepted s c ≡ b → merge_one (sifting_operator s) key (Some (Merged a)) (accepted_outcome s c) ≡ accepted_outcome s (a ++ c)
+      by true h = ap (merge_one (sifting_operator s) key (Some (Merged a))) (merged c h)
+      by false h = ap (merge_one (sifting_operator s) key (Some (Merged a))) (refused c h) ∙ sym (not_before a c h)
 
-  onto_none : (key c : List ℕ) → merge_one (sifted s) key None (accepted s c) ≡ accepted s c
+  onto_none : (key c : List ℕ) → merge_one (sifting_operator s) key None (accepted_outcome s c) ≡ accepted_outcome s c
   onto_none key c = by (is_accepted s c) refl
     where
-      by : (b : Bool) → is_accepted s c ≡ b → merge_one (sifted s) key None (accepted s c) ≡ accepted s c
-      by true h = ap (merge_one (sifted s) key None) (merged c h)
-      by false h = ap (merge_one (sifted s) key None) (refused c h) ∙ sym (refused c h)
+      by : (b : Bool) → is_accepted s c ≡ b → merge_one (sifting_operator s) key None (accepted_outcome s c) ≡ accepted_outcome s c
+      by true h = ap (merge_one (sifting_operator s) key None) (merged c h)
+      by false h = ap (merge_one (sifting_operator s) key None) (refused c h) ∙ sym (refused c h)
 
-  onto_answer : (key a : List ℕ) (x : Outcome) (c : List ℕ) → merge_one (sifted s) key (Some (Merged a)) x ≡ accepted s (a ++ c) → merge_one (sifted s) key (Some (accepted s a)) x ≡ accepted s (a ++ c)
+  onto_answer : (key a : List ℕ) (x : Outcome) (c : List ℕ) → merge_one (sifting_operator s) key (Some (Merged a)) x ≡ accepted_outcome s (a ++ c) → merge_one (sifting_operator s) key (Some (accepted_outcome s a)) x ≡ accepted_outcome s (a ++ c)
   onto_answer key a x c same = by (is_accepted s a) refl
     where
-      refusal : (x : Outcome) → merge_one (sifted s) key (Some (Refused (codes "no"))) x ≡ Refused (codes "no")
+      refusal : (x : Outcome) → merge_one (sifting_operator s) key (Some (Refused (codes "no"))) x ≡ Refused (codes "no")
       refusal x = refl
 
-      by : (b : Bool) → is_accepted s a ≡ b → merge_one (sifted s) key (Some (accepted s a)) x ≡ accepted s (a ++ c)
-      by true h = ap (λ o. merge_one (sifted s) key (Some o) x) (merged a h) ∙ same
-      by false h = ap (λ o. merge_one (sifted s) key (Some o) x) (refused a h) ∙ sym (not_more a c h)
+      by : (b : Bool) → is_accepted s a ≡ b → merge_one (sifting_operator s) key (Some (accepted_outcome s a)) x ≡ accepted_outcome s (a ++ c)
+      by true h = ap (λ o. merge_one (sifting_operator s) key (Some o) x) (merged a h) ∙ same
+      by false h = ap (λ o. merge_one (sifting_operator s) key (Some o) x) (refused a h) ∙ sym (not_more a c h)
 
-  fold_answer : (key a : List ℕ) (xs : List (List ℕ)) → fold (sifted s) key (Some (accepted s a)) (map Merged xs) ≡ Some (accepted s (a ++ concat xs))
-  fold_answer key a [] = ap (λ b. Some (accepted s b)) (sym (append-nil a))
+  fold_answer : (key a : List ℕ) (xs : List (List ℕ)) → fold (sifting_operator s) key (Some (accepted_outcome s a)) (map Merged xs) ≡ Some (accepted_outcome s (a ++ concat xs))
+  fold_answer key a [] = ap (λ b. Some (accepted_outcome s b)) (sym (append-nil a))
   fold_answer key a (x ∷ xs) =
-      ap (λ o. fold (sifted s) key (Some o) (map Merged xs)) (onto_answer key a (Merged x) x refl)
-      ∙ fold_answer key (a ++ x) xs ∙ ap (λ b. Some (accepted s b)) (append_assoc a x (concat xs))
+      ap (λ o. fold (sifting_operator s) key (Some o) (map Merged xs)) (onto_answer key a (Merged x) x refl)
+      ∙ fold_answer key (a ++ x) xs ∙ ap (λ b. Some (accepted_outcome s b)) (append_assoc a x (concat xs))
 
-  fold_all : (key : List ℕ) (e : Option (List ℕ)) (x : List ℕ) (xs : List (List ℕ)) → fold_bytes (sifted s) key e (x ∷ xs) ≡ Some (accepted s (bytes_or_none e ++ (x ++ concat xs)))
+  fold_all : (key : List ℕ) (e : Option (List ℕ)) (x : List ℕ) (xs : List (List ℕ)) → fold_bytes (sifting_operator s) key e (x ∷ xs) ≡ Some (accepted_outcome s (bytes_or_none e ++ (x ++ concat xs)))
   fold_all key None x xs = fold_answer key x xs
-  fold_all key (Some a) x xs = fold_answer key (a ++ x) xs ∙ ap (λ b. Some (accepted s b)) (append_assoc a x (concat xs))
+  fold_all key (Some a) x xs = fold_answer key (a ++ x) xs ∙ ap (λ b. Some (accepted_outcome s b)) (append_assoc a x (concat xs))
 
-  joins_one : (key : List ℕ) (e : Option (List ℕ)) (c : List ℕ) → Some (accepted s (bytes_or_none e ++ c)) ≡ fold (sifted s) key (option_map Merged e) (accepted s c ∷ [])
+  joins_one : (key : List ℕ) (e : Option (List ℕ)) (c : List ℕ) → Some (accepted_outcome s (bytes_or_none e ++ c)) ≡ fold (sifting_operator s) key (option_map Merged e) (accepted_outcome s c ∷ [])
   joins_one key None c = ap Some (sym (onto_none key c))
   joins_one key (Some a) c = ap Some (sym (onto_bytes key a c))
 
   joins_all : (key : List ℕ) (e : Option (List ℕ)) (xs : List (List ℕ)) (y : List ℕ) (ys : List (List ℕ))
-      → fold_bytes (sifted s) key e (xs ++ y ∷ ys) ≡ fold (sifted s) key (option_map Merged e) (map Merged xs ++ accepted s (y ++ concat ys) ∷ [])
+      → fold_bytes (sifting_operator s) key e (xs ++ y ∷ ys) ≡ fold (sifting_operator s) key (option_map Merged e) (map Merged xs ++ accepted_outcome s (y ++ concat ys) ∷ [])
   joins_all key e [] y ys = fold_all key e y ys ∙ joins_one key e (y ++ concat ys)
   joins_all key e (x ∷ xs) y ys =
       let c : List ℕ = y ++ concat ys in
       let a : List ℕ = bytes_or_none e ++ (x ++ concat xs) in
       fold_all key e x (xs ++ y ∷ ys)
-      ∙ ap (λ b. Some (accepted s (bytes_or_none e ++ (x ++ b)))) (concat-append xs (y ∷ ys))
-      ∙ ap (λ b. Some (accepted s (bytes_or_none e ++ b))) (sym (append_assoc x (concat xs) c))
-      ∙ ap (λ b. Some (accepted s b)) (sym (append_assoc (bytes_or_none e) (x ++ concat xs) c))
-      ∙ ap Some (sym (onto_answer key a (accepted s c) c (onto_bytes key a c)))
-      ∙ ap (λ o. Some (merge_one (sifted s) key o (accepted s c))) (sym (fold_all key e x xs))
-      ∙ sym (fold-snoc (sifted s) key (option_map Merged e) (map Merged (x ∷ xs)) (accepted s c))
+      ∙ ap (λ b. Some (accepted_outcome s (bytes_or_none e ++ (x ++ b)))) (concat-append xs (y ∷ ys))
+      ∙ ap (λ b. Some (accepted_outcome s (bytes_or_none e ++ b))) (sym (append_assoc x (concat xs) c))
+      ∙ ap (λ b. Some (accepted_outcome s b)) (sym (append_assoc (bytes_or_none e) (x ++ concat xs) c))
+      ∙ ap Some (sym (onto_answer key a (accepted_outcome s c) c (onto_bytes key a c)))
+      ∙ ap (λ o. Some (merge_one (sifting_operator s) key o (accepted_outcome s c))) (sym (fold_all key e x xs))
+      ∙ sym (fold-snoc (sifting_operator s) key (option_map Merged e) (map Merged (x ∷ xs)) (accepted_outcome s c))
 
-  joins : (key : List ℕ) (e : Option (List ℕ)) (xs ys : List (List ℕ)) (one : Outcome) → fold_bytes (sifted s) key None ys ≡ Some one
-      → fold_bytes (sifted s) key e (xs ++ ys) ≡ fold (sifted s) key (option_map Merged e) (map Merged xs ++ one ∷ [])
+  joins : (key : List ℕ) (e : Option (List ℕ)) (xs ys : List (List ℕ)) (one : Outcome) → fold_bytes (sifting_operator s) key None ys ≡ Some one
+      → fold_bytes (sifting_operator s) key e (xs ++ ys) ≡ fold (sifting_operator s) key (option_map Merged e) (map Merged xs ++ one ∷ [])
   joins key e xs [] one h = absurd (cc h)
   joins key e xs (y ∷ ys) one h =
-      joins_all key e xs y ys ∙ ap (λ o. fold (sifted s) key (option_map Merged e) (map Merged xs ++ o ∷ [])) (same_Some _ _ (sym (fold_all key None y ys) ∙ h))
+      joins_all key e xs y ys ∙ ap (λ o. fold (sifting_operator s) key (option_map Merged e) (map Merged xs ++ o ∷ [])) (same_Some _ _ (sym (fold_all key None y ys) ∙ h))
 
-  short_answer : (a bytes : List ℕ) → accepted s a ≡ Merged bytes → length bytes < 2 ^ 32
+  short_answer : (a bytes : List ℕ) → accepted_outcome s a ≡ Merged bytes → length bytes < 2 ^ 32
   short_answer a bytes is = by (is_accepted s a) refl
     where
       by : (b : Bool) → is_accepted s a ≡ b → length bytes < 2 ^ 32
       by true h = subst (λ (xs : List ℕ). length xs < 2 ^ 32) (ap bytes_of (sym (merged a h) ∙ is)) (ltb-true (length a) (2 ^ 32) (accepted_short s a h))
       by false h = let clash = sym (refused a h) ∙ is in absurd (cc clash)
 
-  short : (key : List ℕ) (e : Option (List ℕ)) (x bytes : List ℕ) → sifted s key e x ≡ Merged bytes → length bytes < 2 ^ 32
+  short : (key : List ℕ) (e : Option (List ℕ)) (x bytes : List ℕ) → sifting_operator s key e x ≡ Merged bytes → length bytes < 2 ^ 32
   short key None x bytes is = short_answer x bytes is
   short key (Some a) x bytes is = short_answer (a ++ x) bytes is
 
-  pub sifted_is_lawful : IsLawful (sifted s)
+  pub sifted_is_lawful : IsLawful (sifting_operator s)
   sifted_is_lawful = record { joins = joins; short = short }
 
 -- ---- the newest operand, unless it is too long or has the byte 254 or 255

@@ -7,9 +7,9 @@ use crate::fold_calls::{REFUSING, settings};
 use bytes::Bytes;
 use case_words::flaw::Flaw;
 use case_words::given::tell_result;
+use case_words::parse::{range, source_words};
 use case_words::tell::{Tell, tell_flag};
-use case_words::told::{range, source_words};
-use case_words::words::{Told, bytes, number, parts, told_list};
+use case_words::words::{Parse, bytes, number, parse_list, parts};
 use fleet_exec::{RangeGate, RangeJob, SourceSet, are_sources, finish_ranges, next_table};
 use fleet_fold::{AppendOperator, MergeOperator};
 use fleet_rows::{RowEntry, Settings};
@@ -42,11 +42,11 @@ pub fn answers<R: Threads + Sync>(
 }
 
 // The sources of a word. They need not be in order.
-fn told_sources(alloc: Global, word: &str) -> Result<SourceSet, Flaw> {
+fn parse_sources(alloc: Global, word: &str) -> Result<SourceSet, Flaw> {
     let words = source_words(alloc, word)?;
     let mut sources = SourceSet::new(alloc);
     'sources: for word in words.as_slice() {
-        sources.push(RunData::told(alloc, word)?)?;
+        sources.push(RunData::parse(alloc, word)?)?;
     }
     Ok(sources)
 }
@@ -55,7 +55,7 @@ fn told_sources(alloc: Global, word: &str) -> Result<SourceSet, Flaw> {
 fn ordered_sources(alloc: Global, word: &str) -> Result<SourceSet, Flaw>
     ensures { IfOk result (λ sources. AreSources sources) }
 {
-    let sources = told_sources(alloc, word)?;
+    let sources = parse_sources(alloc, word)?;
     if are_sources(alloc, &sources)? {
         Ok(sources)
     } else {
@@ -68,7 +68,7 @@ fn sources(alloc: Global, words: &[&str], answer: &mut String) -> Result<(), Fla
     let [word] = words else {
         return Err(Flaw::Words);
     };
-    let sources = told_sources(alloc, word)?;
+    let sources = parse_sources(alloc, word)?;
     Ok(tell_flag(answer, are_sources(alloc, &sources)?)?)
 }
 
@@ -166,7 +166,7 @@ fn walk(alloc: Global, words: &[&str], answer: &mut String) -> Result<(), Flaw> 
     let settings = settings(floor, tick, last_run)?;
     let mut job = range_job(alloc, settings, range)?;
     let sources = ordered_sources(alloc, sources)?;
-    let counts: Vec<u64> = told_list(alloc, counts, ',')?;
+    let counts: Vec<u64> = parse_list(alloc, counts, ',')?;
     answer.push_str("ok")?;
     'tables: for most in counts.as_slice() {
         take_on(alloc, &mut job, &sources, *most, answer)?;
@@ -178,26 +178,26 @@ fn walk(alloc: Global, words: &[&str], answer: &mut String) -> Result<(), Flaw> 
 // Of each report it keeps the range and the table, one digit each.
 #[derive(Drop)]
 struct Calls {
-    told: Vec<AtomicUsize>,
+    calls: Vec<AtomicUsize>,
 }
 
 impl Calls {
     fn new(alloc: Global, ranges: usize) -> Result<Calls, AllocError> {
-        let mut told = Vec::new(alloc);
+        let mut calls = Vec::new(alloc);
         'ranges: for _range in 0..ranges {
-            told.push(AtomicUsize::new(0))?;
+            calls.push(AtomicUsize::new(0))?;
         }
-        Ok(Calls { told })
+        Ok(Calls { calls })
     }
 
     // Appends the reports, range by range, or 0 if there were none.
     fn tell(&self, answer: &mut String) -> Result<(), AllocError> {
         let mut none = true;
-        'ranges: for noted in self.told.as_slice() {
-            let told = noted.load(Ordering::SeqCst);
-            if told != 0 {
+        'ranges: for noted in self.calls.as_slice() {
+            let calls = noted.load(Ordering::SeqCst);
+            if calls != 0 {
                 none = false;
-                write!(answer, "{told}")?;
+                write!(answer, "{calls}")?;
             }
         }
         if none {
@@ -209,12 +209,12 @@ impl Calls {
 
 impl RangeGate for Calls {
     fn given(&self, range: u32, table: u32) {
-        if let Some(noted) = self.told.get((range as usize).wrapping_sub(1)) {
+        if let Some(noted) = self.calls.get((range as usize).wrapping_sub(1)) {
             let call = (range as usize)
                 .wrapping_mul(10)
                 .wrapping_add(table as usize);
-            let told = noted.load(Ordering::SeqCst).wrapping_mul(100);
-            noted.store(told.wrapping_add(call), Ordering::SeqCst);
+            let calls = noted.load(Ordering::SeqCst).wrapping_mul(100);
+            noted.store(calls.wrapping_add(call), Ordering::SeqCst);
         }
     }
 }

@@ -7,7 +7,7 @@ use crate::filters::{ForTheLastRun, Replacing, WithoutPrefix};
 use crate::iter_calls::rising_list;
 use case_words::flaw::Flaw;
 use case_words::given::tell_given;
-use case_words::told::content;
+use case_words::parse::content;
 use case_words::words::{bytes, flag};
 use fleet_fold::{
     CompactionFilter, CompactionFilterIterator, CompactionFilterSupplier, CompactionJobContext,
@@ -46,10 +46,10 @@ fn tell_left<F: CompactionFilter>(
 
 // `without` takes a prefix and rows. Its filter drops the rows whose keys have the prefix.
 fn without(alloc: Global, words: &[&str], answer: &mut String) -> Result<(), Flaw> {
-    let [prefix, told] = words else {
+    let [prefix, word] = words else {
         return Err(Flaw::Words);
     };
-    let list = rising_list(alloc, told)?;
+    let list = rising_list(alloc, word)?;
     let filter = WithoutPrefix {
         prefix: bytes(alloc, prefix)?,
         closed: false,
@@ -60,10 +60,10 @@ fn without(alloc: Global, words: &[&str], answer: &mut String) -> Result<(), Fla
 // `revalued` takes a kind, bytes and rows. Its filter gives each row the value of this kind with
 // these bytes.
 fn revalued(alloc: Global, words: &[&str], answer: &mut String) -> Result<(), Flaw> {
-    let [kind, value, told] = words else {
+    let [kind, value, word] = words else {
         return Err(Flaw::Words);
     };
-    let list = rising_list(alloc, told)?;
+    let list = rising_list(alloc, word)?;
     let filter = Replacing {
         value: content(kind, bytes(alloc, value)?)?,
         closed: false,
@@ -74,7 +74,7 @@ fn revalued(alloc: Global, words: &[&str], answer: &mut String) -> Result<(), Fl
 // `supplied` takes a flag, whether the last run is written, and rows. Only for the last run there
 // is a filter, and it refuses each row.
 fn supplied(alloc: Global, words: &[&str], answer: &mut String) -> Result<(), Flaw> {
-    let [last_run, told] = words else {
+    let [last_run, word] = words else {
         return Err(Flaw::Words);
     };
     let context = CompactionJobContext {
@@ -83,7 +83,7 @@ fn supplied(alloc: Global, words: &[&str], answer: &mut String) -> Result<(), Fl
         compaction_clock_tick: 0,
         retention_min_seq: None,
     };
-    let list = rising_list(alloc, told)?;
+    let list = rising_list(alloc, word)?;
     match ForTheLastRun.create_compaction_filter(alloc, &context) {
         Ok(filter) => tell_left(alloc, filter, list, answer),
         Err(error) => Ok(write!(answer, "err {error}")?),

@@ -9,7 +9,7 @@ use crate::watching::Watching;
 use bytes::Bytes;
 use case_words::flaw::Flaw;
 use case_words::given::{tell_given, tell_ready, tell_result};
-use case_words::words::{bytes, flag, number, stamp, told_if_any, told_list};
+use case_words::words::{bytes, flag, number, parse_if_any, parse_list, stamp};
 use fleet_fold::{
     AppendOperator, MergeOperator, MergeOperatorIterator, MergeOperatorRequiredIterator,
     RetentionIterator,
@@ -91,7 +91,7 @@ fn job_from_first<O: MergeOperator>(
 }
 
 // Answers the rows that a job makes of its sources after a cursor.
-fn job_from_behind<O: MergeOperator>(
+fn job_from_after<O: MergeOperator>(
     alloc: Global,
     operator: &O,
     settings: Settings,
@@ -123,7 +123,7 @@ fn job<O: MergeOperator>(
         [floor, tick, last_run, sources, key, seq] => {
             let settings = settings(floor, tick, last_run)?;
             let cursor = (bytes(alloc, key)?, number(seq)?);
-            job_from_behind(alloc, operator, settings, sources, cursor, answer)
+            job_from_after(alloc, operator, settings, sources, cursor, answer)
         }
         _ => Err(Flaw::Words),
     }
@@ -141,7 +141,7 @@ fn fold<O: MergeOperator>(
         return Err(Flaw::Words);
     };
     let all_stamps = flag(all_stamps)?;
-    let barrier = told_if_any(alloc, barrier, "-")?;
+    let barrier = parse_if_any(alloc, barrier, "-")?;
     let rows = rising_list(alloc, rows)?;
     let folded = MergeOperatorIterator::new(operator, rows, all_stamps, barrier);
     tell_given(alloc, folded, answer)
@@ -197,7 +197,7 @@ fn join(alloc: Global, words: &[&str], answer: &mut String) -> Result<(), Flaw> 
     let [existing, operand] = words else {
         return Err(Flaw::Words);
     };
-    let existing = told_if_any(alloc, existing, "none")?;
+    let existing = parse_if_any(alloc, existing, "none")?;
     let operand = bytes(alloc, operand)?;
     let joined = AppendOperator.merge(alloc, &Bytes::new(), existing, operand);
     tell_result(alloc, joined.map_err(SlateDBError::from), answer)
@@ -209,8 +209,8 @@ fn join_all(alloc: Global, words: &[&str], answer: &mut String) -> Result<(), Fl
     let [existing, operands] = words else {
         return Err(Flaw::Words);
     };
-    let operands: Vec<Bytes> = told_list(alloc, operands, ',')?;
-    let existing = told_if_any(alloc, existing, "none")?;
+    let operands: Vec<Bytes> = parse_list(alloc, operands, ',')?;
+    let existing = parse_if_any(alloc, existing, "none")?;
     let joined = AppendOperator.merge_batch(alloc, &Bytes::new(), existing, operands.as_slice());
     tell_result(alloc, joined.map_err(SlateDBError::from), answer)
 }

@@ -4,14 +4,14 @@ ghost use Rattle.std.specs.Prelude.{⊤, Bool, IfOk};
 ghost use Rattle.std.specs.List.{AllByRecursion};
 ghost use Rattle.fleet_iter.specs.Iteration.{AreRising, IsAlive};
 ghost use Rattle.fleet_iter.specs.List.{giving};
-ghost use Rattle.fleet_iter.specs.Merge.{given};
+ghost use Rattle.fleet_iter.specs.Merge.{given_rows};
 ghost use Rattle.fleet_iter.specs.MergeState.{state_of, merge_of, IsSound};
 
 use case_words::flaw::Flaw;
 use case_words::given::{tell_ready, tell_refusal};
+use case_words::parse::{rows, source_words};
 use case_words::tell::{Tell, tell_flag, tell_order};
-use case_words::told::{rows, source_words};
-use case_words::words::{Told, bytes, flag, number};
+use case_words::words::{Parse, bytes, flag, number};
 use fleet_iter::{
     IterationOrder, ListIterator, MergeIterator, MergeIteratorHeapEntry, PeekingIterator,
     ResumingIterator, RowEntryIterator, TrackedRowEntryIterator, are_rising, merges_rise,
@@ -51,9 +51,9 @@ fn entry(alloc: Global, words: &[&str]) -> Result<MergeIteratorHeapEntry, Flaw> 
     let [order, row, index] = words else {
         return Err(Flaw::Words);
     };
-    let order = IterationOrder::told(alloc, order)?;
+    let order = IterationOrder::parse(alloc, order)?;
     let index = number(index)? as usize;
-    let row = RowEntry::told(alloc, row)?;
+    let row = RowEntry::parse(alloc, row)?;
     Ok(MergeIteratorHeapEntry { order, row, index })
 }
 
@@ -96,7 +96,7 @@ pub fn rising_merge(alloc: Global, sources: &str) -> Result<MergeIterator<ListIt
     ensures sound { IfOk result (λ merge. IsSound (λ _. ⊤) giving merge) }
     ensures alive { IfOk result (λ merge. IsAlive (state_of giving merge)) }
     ensures rising { IfOk result
-        (λ merge. (dedup : Bool) → AreRising (given dedup (merge_of giving merge))) }
+        (λ merge. (dedup : Bool) → AreRising (given_rows dedup (merge_of giving merge))) }
 {
     merges_rise();
     Ok(MergeIterator::new(alloc, rising_lists(alloc, sources)?))
@@ -145,7 +145,7 @@ fn from_first(
     sources: &str,
     answer: &mut String,
 ) -> Result<(), Flaw> {
-    let order = IterationOrder::told(alloc, order)?;
+    let order = IterationOrder::parse(alloc, order)?;
     let dedup = flag(dedup)?;
     let mut merge = any_merge(alloc, sources, order)?.with_dedup(dedup);
     merge.init(alloc)?;

@@ -32,11 +32,11 @@ pub struct Sifting {
 }
 
 impl MergeOperator for Sifting {
-    ghost use Rattle.case_jobs.specs.Operators.{sifted, sifted_is_lawful};
+    ghost use Rattle.case_jobs.specs.Operators.{sifting_operator, sifted_is_lawful};
 
     ghost settings = { λ s. s.unwanted ∷ [] };
 
-    ghost merged = { sifted };
+    ghost merged = { sifting_operator };
 
     ghost lawful = { sifted_is_lawful };
 

@@ -3,7 +3,7 @@
 use case_words::flaw::Flaw;
 use case_words::tables::named_view;
 use case_words::tell::{Tell, tell_list, tell_ok, tell_or_none};
-use case_words::words::{bytes, number, parts, stamp, told_if_any, told_list};
+use case_words::words::{bytes, number, parse_if_any, parse_list, parts, stamp};
 use fleet_rows::Ulid;
 use fleet_tree::{
     LsmTreeState, ManifestCore, SegmentList, SortedRun, TrackerList, ViewList, merge_from_writer,
@@ -123,7 +123,7 @@ fn cut(alloc: Global, words: &[&str], answer: &mut String) -> Result<(), Flaw> {
     let floor = number(floor)?;
     let mut core = fresh(alloc);
     core.recent_snapshot_min_seq = floor;
-    core.tracker = TrackerList::from_vec(alloc, told_list(alloc, tracked, ',')?)?;
+    core.tracker = TrackerList::from_vec(alloc, parse_list(alloc, tracked, ',')?)?;
     let cut = core.cut(moment, retention);
     Ok(write!(answer, "ok {cut}")?)
 }
@@ -131,11 +131,11 @@ fn cut(alloc: Global, words: &[&str], answer: &mut String) -> Result<(), Flaw> {
 // A tree of flushes and runs with these ids.
 fn tree(alloc: Global, flushes: &str, runs: &str) -> Result<LsmTreeState, Flaw> {
     let mut tree = LsmTreeState::new(alloc);
-    let flushes: Vec<u64> = told_list(alloc, flushes, ',')?;
+    let flushes: Vec<u64> = parse_list(alloc, flushes, ',')?;
     'flushes: for id in flushes.iter() {
         tree.l0.push(named_view(alloc, *id)?)?;
     }
-    let runs: Vec<u32> = told_list(alloc, runs, ',')?;
+    let runs: Vec<u32> = parse_list(alloc, runs, ',')?;
     'runs: for id in runs.iter() {
         tree.compacted
             .push(SortedRun::new(*id, ViewList::new(alloc)))?;
@@ -149,8 +149,8 @@ fn writer(alloc: Global, words: &[&str], answer: &mut String) -> Result<(), Flaw
     let [watermark, flushes, runs, remote_flushes, last_seq] = words else {
         return Err(Flaw::Words);
     };
-    let watermark: Option<u64> = told_if_any(alloc, watermark, "-")?;
-    let last_seq = told_if_any(alloc, last_seq, "-")?;
+    let watermark: Option<u64> = parse_if_any(alloc, watermark, "-")?;
+    let last_seq = parse_if_any(alloc, last_seq, "-")?;
     let mut local = tree(alloc, flushes, runs)?;
     local.last_compacted_l0_sst_view_id = watermark.map(|id| Ulid::from_parts(0, id as u128));
     let mut remote = tree(alloc, remote_flushes, "-")?;

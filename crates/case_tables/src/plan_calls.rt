@@ -1,9 +1,9 @@
 //! Calls of `fleet_plan`.
 
 use case_words::flaw::Flaw;
+use case_words::parse::range;
 use case_words::tell::tell_list;
-use case_words::told::range;
-use case_words::words::{number, told_list};
+use case_words::words::{number, parse_list};
 use fleet_plan::{plan_subcompaction_ranges, sample_anchors, select_boundaries};
 use fleet_range::{ByteRangeBounds, BytesRange};
 use fleet_tree::{BlockMeta, SortedRun, SsTableView};
@@ -51,7 +51,7 @@ fn bounds(alloc: Global, words: &[&str], answer: &mut String) -> Result<(), Flaw
     };
     let most = number(most)?;
     let least_bytes = number(least_bytes)?;
-    let anchors = told_list(alloc, anchors, ',')?;
+    let anchors = parse_list(alloc, anchors, ',')?;
     let ranges = select_boundaries(alloc, anchors, most, least_bytes)?;
     Ok(tell_cuts(alloc, ranges.as_slice(), answer)?)
 }
@@ -65,7 +65,7 @@ fn anchors(alloc: Global, words: &[&str], answer: &mut String) -> Result<(), Fla
     let end = number(end)?;
     let most = number(most)?;
     let range = range(alloc, low, high)?;
-    let blocks: Vec<BlockMeta> = told_list(alloc, blocks, ',')?;
+    let blocks: Vec<BlockMeta> = parse_list(alloc, blocks, ',')?;
     let anchors = sample_anchors(alloc, blocks.as_slice(), end, most, &range)?;
     answer.push_str("ok ")?;
     Ok(tell_list(answer, anchors.as_slice(), ',')?)
@@ -79,8 +79,8 @@ fn plan(alloc: Global, words: &[&str], answer: &mut String) -> Result<(), Flaw> 
     };
     let most = number(most)?;
     let (flushed, runs) = tables.split_once('/').unwrap_or((tables, "-"));
-    let flushed: Vec<SsTableView> = told_list(alloc, flushed, '|')?;
-    let runs: Vec<SortedRun> = told_list(alloc, runs, '|')?;
+    let flushed: Vec<SsTableView> = parse_list(alloc, flushed, '|')?;
+    let runs: Vec<SortedRun> = parse_list(alloc, runs, '|')?;
     let ranges = plan_subcompaction_ranges(alloc, &flushed, &runs, most)?;
     Ok(tell_cuts(alloc, ranges.as_slice(), answer)?)
 }

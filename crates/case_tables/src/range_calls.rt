@@ -2,8 +2,8 @@
 
 use bytes::Bytes;
 use case_words::flaw::Flaw;
+use case_words::parse::{bound, range};
 use case_words::tell::{tell_bound, tell_flag, tell_ok, tell_or_none, tell_order};
-use case_words::told::{bound, range};
 use case_words::words::bytes;
 use fleet_range::{ByteRangeBounds, BytesRange, ComparableRange, EndBound, StartBound};
 use std::alloc::Global;
@@ -27,7 +27,7 @@ pub fn answers(
         "sides" => sides(alloc, words, answer)?,
         "copy" => copy(alloc, words, answer)?,
         "slices" => slices(alloc, words, answer)?,
-        "behind" => behind(alloc, words, answer)?,
+        "after" => after(alloc, words, answer)?,
         "order" => order(alloc, words, answer)?,
         _ => return answers_of_numbers(alloc, name, words, answer),
     }
@@ -67,8 +67,8 @@ fn subrange(alloc: Global, words: &[&str], answer: &mut String) -> Result<(), Fl
         return Err(Flaw::Words);
     };
     let prefix = bytes(alloc, prefix)?;
-    let behind = (bound::<Bytes>(alloc, low)?, bound::<Bytes>(alloc, high)?);
-    let range = BytesRange::from_prefix_and_subrange(alloc, prefix.as_slice(), behind)?;
+    let after = (bound::<Bytes>(alloc, low)?, bound::<Bytes>(alloc, high)?);
+    let range = BytesRange::from_prefix_and_subrange(alloc, prefix.as_slice(), after)?;
     tell_or_none(answer, range)
 }
 
@@ -171,7 +171,7 @@ fn tell_slices(alloc: Global, low: &[u8], high: &[u8], answer: &mut String) -> R
 
 // The keys that begin with a prefix and go on with bytes in a range. The range is of any kind that
 // the language has.
-fn range_behind(
+fn range_after(
     alloc: Global,
     prefix: &[u8],
     kind: &str,
@@ -190,16 +190,16 @@ fn range_behind(
     Ok(range)
 }
 
-// `behind` takes a prefix, a kind of range, and two keys. The range is for the bytes after the
+// `after` takes a prefix, a kind of range, and two keys. The range is for the bytes after the
 // prefix, and uses the keys that its kind names.
-fn behind(alloc: Global, words: &[&str], answer: &mut String) -> Result<(), Flaw> {
+fn after(alloc: Global, words: &[&str], answer: &mut String) -> Result<(), Flaw> {
     let [prefix, kind, low, high] = words else {
         return Err(Flaw::Words);
     };
     let prefix = bytes(alloc, prefix)?;
     let low = bytes(alloc, low)?;
     let high = bytes(alloc, high)?;
-    let range = range_behind(
+    let range = range_after(
         alloc,
         prefix.as_slice(),
         kind,

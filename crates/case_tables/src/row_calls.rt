@@ -6,7 +6,7 @@ ghost use Rattle.fleet_rows.specs.Row.{row_of};
 
 use case_words::flaw::Flaw;
 use case_words::tell::{Tell, tell_ok, tell_or_none};
-use case_words::words::{Told, number, told_list};
+use case_words::words::{Parse, number, parse_list};
 use fleet_rows::{KeyValue, ListOf, RowEntry, Ulid, ValueDeletable};
 use std::alloc::Global;
 
@@ -34,7 +34,7 @@ pub fn answers(
 fn short_row(alloc: Global, word: &str) -> Result<RowEntry, Flaw>
     ensures { IfOk result (λ row. IsInBounds (row_of row)) }
 {
-    let row = RowEntry::told(alloc, word)?;
+    let row = RowEntry::parse(alloc, word)?;
     if row.is_in_bounds() {
         Ok(row)
     } else {
@@ -80,7 +80,7 @@ fn content(alloc: Global, words: &[&str], answer: &mut String) -> Result<(), Fla
     let [word] = words else {
         return Err(Flaw::Words);
     };
-    let row = RowEntry::told(alloc, word)?;
+    let row = RowEntry::parse(alloc, word)?;
     tell_content(answer, &row.value)
 }
 
@@ -89,7 +89,7 @@ fn key_value(alloc: Global, words: &[&str], answer: &mut String) -> Result<(), F
     let [word] = words else {
         return Err(Flaw::Words);
     };
-    tell_or_none(answer, KeyValue::from_row(RowEntry::told(alloc, word)?))
+    tell_or_none(answer, KeyValue::from_row(RowEntry::parse(alloc, word)?))
 }
 
 // `ulid` takes a moment and a number, and answers them as the id gives them.
@@ -111,7 +111,7 @@ fn ulid(words: &[&str], answer: &mut String) -> Result<(), Flaw> {
 }
 
 fn numbers(alloc: Global, word: &str) -> Result<ListOf<u64>, Flaw> {
-    Ok(ListOf::from_vec(told_list(alloc, word, ',')?))
+    Ok(ListOf::from_vec(parse_list(alloc, word, ',')?))
 }
 
 // `insert` takes a place, a number, and a list of numbers. It answers the list with the number

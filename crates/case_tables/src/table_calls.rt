@@ -2,9 +2,9 @@
 
 use case_words::flaw::Flaw;
 use case_words::given::tell_given;
+use case_words::parse::{range, rows};
 use case_words::tell::{tell_flag, tell_list, tell_ok, tell_or_none};
-use case_words::told::{range, rows};
-use case_words::words::{Told, bytes, number};
+use case_words::words::{Parse, bytes, number};
 use fleet_rows::Ulid;
 use fleet_table::{RunData, RunIterator, TableData, are_in_bounds, are_strictly_ordered};
 use fleet_tree::{SortedRun, SsTableView, ViewList, least_seq};
@@ -82,7 +82,7 @@ fn table(alloc: Global, words: &[&str], answer: &mut String) -> Result<(), Flaw>
         return Err(Flaw::Words);
     };
     let range = range(alloc, low, high)?;
-    let table = TableData::told(alloc, word)?;
+    let table = TableData::parse(alloc, word)?;
     tell_given(alloc, table.iter(&range), answer)
 }
 
@@ -92,7 +92,7 @@ fn run(alloc: Global, words: &[&str], answer: &mut String) -> Result<(), Flaw> {
         return Err(Flaw::Words);
     };
     let range = range(alloc, low, high)?;
-    let run = RunData::told(alloc, word)?;
+    let run = RunData::parse(alloc, word)?;
     tell_given(alloc, RunIterator::new(&run, &range), answer)
 }
 
@@ -101,14 +101,14 @@ fn blocks(alloc: Global, words: &[&str], answer: &mut String) -> Result<(), Flaw
     let [word] = words else {
         return Err(Flaw::Words);
     };
-    let table = TableData::told(alloc, word)?;
+    let table = TableData::parse(alloc, word)?;
     answer.push_str("ok ")?;
     Ok(tell_list(answer, table.index(), ',')?)
 }
 
 // The view of a table under the table's own id.
 fn view_of(alloc: Global, word: &str) -> Result<SsTableView, Flaw> {
-    let table = TableData::told(alloc, word)?;
+    let table = TableData::parse(alloc, word)?;
     let handle = table.describe(Ulid::from_parts(0, 1))?;
     Ok(SsTableView::identity(handle)?)
 }
@@ -118,7 +118,7 @@ fn describe(alloc: Global, words: &[&str], answer: &mut String) -> Result<(), Fl
     let [word] = words else {
         return Err(Flaw::Words);
     };
-    let table = TableData::told(alloc, word)?;
+    let table = TableData::parse(alloc, word)?;
     tell_ok(answer, table.describe(Ulid::from_parts(0, 1))?)
 }
 
@@ -127,7 +127,7 @@ fn last(alloc: Global, words: &[&str], answer: &mut String) -> Result<(), Flaw> 
     let [word] = words else {
         return Err(Flaw::Words);
     };
-    let table = TableData::told(alloc, word)?;
+    let table = TableData::parse(alloc, word)?;
     let (key, seq) = table.last_row();
     tell_ok(answer, key)?;
     Ok(write!(answer, " {seq}")?)
@@ -141,7 +141,7 @@ fn newest(alloc: Global, words: &[&str], answer: &mut String) -> Result<(), Flaw
     };
     let seq = number(seq)?;
     let key = bytes(alloc, key)?;
-    let table = TableData::told(alloc, word)?;
+    let table = TableData::parse(alloc, word)?;
     let row = table.newest_at(key.as_slice(), seq)?;
     tell_or_none(answer, row.as_ref())
 }
@@ -151,7 +151,7 @@ fn as_bytes(alloc: Global, words: &[&str], answer: &mut String) -> Result<(), Fl
     let [word] = words else {
         return Err(Flaw::Words);
     };
-    let table = TableData::told(alloc, word)?;
+    let table = TableData::parse(alloc, word)?;
     tell_ok(answer, table.as_bytes())
 }
 

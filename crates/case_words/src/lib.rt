@@ -3,8 +3,8 @@
 
 pub mod flaw;
 pub mod given;
+pub mod parse;
 mod shown;
 pub mod tables;
 pub mod tell;
-pub mod told;
 pub mod words;

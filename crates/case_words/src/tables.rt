@@ -1,8 +1,8 @@
 //! Tables, runs and descriptions of tables that are read from words.
 
 use crate::flaw::Flaw;
-use crate::told::rows;
-use crate::words::{Told, number, told_list, told_pair};
+use crate::parse::rows;
+use crate::words::{Parse, number, parse_list, parse_pair};
 use bytes::Bytes;
 use fleet_plan::Anchor;
 use fleet_rows::Ulid;
@@ -10,8 +10,8 @@ use fleet_table::{RunData, TableData, are_in_bounds, are_strictly_ordered};
 use fleet_tree::{BlockList, BlockMeta, SortedRun, SsTableHandle, SsTableView, Tracked, ViewList};
 use std::alloc::Global;
 
-impl Told for TableData {
-    fn told(alloc: Global, word: &str) -> Result<TableData, Flaw> {
+impl Parse for TableData {
+    fn parse(alloc: Global, word: &str) -> Result<TableData, Flaw> {
         let rows = rows(alloc, word)?;
         if rows.is_empty() || !are_strictly_ordered(&rows) {
             return Err(Flaw::Order);
@@ -24,21 +24,21 @@ impl Told for TableData {
 }
 
 // The word of a run has `;` between its tables. `-` is a run without tables.
-impl Told for RunData {
-    fn told(alloc: Global, word: &str) -> Result<RunData, Flaw> {
+impl Parse for RunData {
+    fn parse(alloc: Global, word: &str) -> Result<RunData, Flaw> {
         let mut run = RunData::new(alloc);
         if word != "-" {
             'tables: for part in word.split(';') {
-                run.push(TableData::told(alloc, part)?)?;
+                run.push(TableData::parse(alloc, part)?)?;
             }
         }
         Ok(run)
     }
 }
 
-impl Told for BlockMeta {
-    fn told(alloc: Global, word: &str) -> Result<BlockMeta, Flaw> {
-        let (first_key, offset) = told_pair(alloc, word)?;
+impl Parse for BlockMeta {
+    fn parse(alloc: Global, word: &str) -> Result<BlockMeta, Flaw> {
+        let (first_key, offset) = parse_pair(alloc, word)?;
         Ok(BlockMeta { first_key, offset })
     }
 }
@@ -81,35 +81,35 @@ fn view_of_blocks(size: u64, blocks: BlockList) -> Result<SsTableView, Flaw> {
 }
 
 // The word of a table's description is its size and its blocks, with `=` between them.
-impl Told for SsTableView {
-    fn told(alloc: Global, word: &str) -> Result<SsTableView, Flaw> {
+impl Parse for SsTableView {
+    fn parse(alloc: Global, word: &str) -> Result<SsTableView, Flaw> {
         let Some((size, blocks)) = word.split_once('=') else {
             return Err(Flaw::Pair);
         };
         let size = number(size)?;
-        let blocks = BlockList::from_vec(alloc, told_list(alloc, blocks, ',')?)?;
+        let blocks = BlockList::from_vec(alloc, parse_list(alloc, blocks, ',')?)?;
         view_of_blocks(size, blocks)
     }
 }
 
 // The word of a run has `;` between the descriptions of its tables.
-impl Told for SortedRun {
-    fn told(alloc: Global, word: &str) -> Result<SortedRun, Flaw> {
-        let views = ViewList::from_vec(alloc, told_list(alloc, word, ';')?)?;
+impl Parse for SortedRun {
+    fn parse(alloc: Global, word: &str) -> Result<SortedRun, Flaw> {
+        let views = ViewList::from_vec(alloc, parse_list(alloc, word, ';')?)?;
         Ok(SortedRun::new(0, views))
     }
 }
 
-impl Told for Tracked {
-    fn told(alloc: Global, word: &str) -> Result<Tracked, Flaw> {
-        let (least_seq, moment) = told_pair(alloc, word)?;
+impl Parse for Tracked {
+    fn parse(alloc: Global, word: &str) -> Result<Tracked, Flaw> {
+        let (least_seq, moment) = parse_pair(alloc, word)?;
         Ok(Tracked { least_seq, moment })
     }
 }
 
-impl Told for Anchor {
-    fn told(alloc: Global, word: &str) -> Result<Anchor, Flaw> {
-        let (key, bytes) = told_pair(alloc, word)?;
+impl Parse for Anchor {
+    fn parse(alloc: Global, word: &str) -> Result<Anchor, Flaw> {
+        let (key, bytes) = parse_pair(alloc, word)?;
         Ok(Anchor { key, bytes })
     }
 }

@@ -9,8 +9,8 @@ use std::alloc::{AllocError, Global};
 const MOST_BYTES: usize = 1 << 20;
 
 /// What can be read from a word.
-pub trait Told: Sized {
-    fn told(alloc: Global, word: &str) -> Result<Self, Flaw>;
+pub trait Parse: Sized {
+    fn parse(alloc: Global, word: &str) -> Result<Self, Flaw>;
 }
 
 /// The parts of a word between marks.
@@ -19,53 +19,53 @@ pub fn parts<'a>(alloc: Global, word: &'a str, mark: char) -> Result<Vec<&'a str
 }
 
 /// The items that are read from the parts of a word between marks. `-` is no items.
-pub fn told_list<T: Told + Drop>(alloc: Global, word: &str, mark: char) -> Result<Vec<T>, Flaw> {
+pub fn parse_list<T: Parse + Drop>(alloc: Global, word: &str, mark: char) -> Result<Vec<T>, Flaw> {
     let mut items = Vec::new(alloc);
     if word != "-" {
         'parts: for part in word.split(mark) {
-            items.push(T::told(alloc, part)?)?;
+            items.push(T::parse(alloc, part)?)?;
         }
     }
     Ok(items)
 }
 
 /// The item that is read from a word. None if the word equals `none`, the word for a missing item.
-pub fn told_if_any<T: Told>(alloc: Global, word: &str, none: &str) -> Result<Option<T>, Flaw> {
+pub fn parse_if_any<T: Parse>(alloc: Global, word: &str, none: &str) -> Result<Option<T>, Flaw> {
     if word == none {
         return Ok(None);
     }
-    Ok(Some(T::told(alloc, word)?))
+    Ok(Some(T::parse(alloc, word)?))
 }
 
 /// The two items that are read from a word, before and after its first `:`.
-pub fn told_pair<A: Told + Drop, B: Told>(alloc: Global, word: &str) -> Result<(A, B), Flaw> {
+pub fn parse_pair<A: Parse + Drop, B: Parse>(alloc: Global, word: &str) -> Result<(A, B), Flaw> {
     let Some((first, second)) = word.split_once(':') else {
         return Err(Flaw::Pair);
     };
-    let first = A::told(alloc, first)?;
-    Ok((first, B::told(alloc, second)?))
+    let first = A::parse(alloc, first)?;
+    Ok((first, B::parse(alloc, second)?))
 }
 
-impl Told for u64 {
-    fn told(_alloc: Global, word: &str) -> Result<u64, Flaw> {
+impl Parse for u64 {
+    fn parse(_alloc: Global, word: &str) -> Result<u64, Flaw> {
         number(word)
     }
 }
 
-impl Told for u32 {
-    fn told(_alloc: Global, word: &str) -> Result<u32, Flaw> {
+impl Parse for u32 {
+    fn parse(_alloc: Global, word: &str) -> Result<u32, Flaw> {
         word.parse::<u32>().map_err(|_| Flaw::Number)
     }
 }
 
-impl Told for i64 {
-    fn told(_alloc: Global, word: &str) -> Result<i64, Flaw> {
+impl Parse for i64 {
+    fn parse(_alloc: Global, word: &str) -> Result<i64, Flaw> {
         stamp(word)
     }
 }
 
-impl Told for Bytes {
-    fn told(alloc: Global, word: &str) -> Result<Bytes, Flaw> {
+impl Parse for Bytes {
+    fn parse(alloc: Global, word: &str) -> Result<Bytes, Flaw> {
         bytes(alloc, word)
     }
 }

@@ -16,10 +16,10 @@ use Rattle.fleet_model.specs.Handles.{tree_tables}
 use Rattle.fleet_model.specs.History.{Move, Drain}
 use Rattle.fleet_model.specs.Sources.{run_ids, all_run_ids, is_whole_stretch, is_lowest_or_above, is_apart}
 use Rattle.fleet_model.specs.Store.{stored_jobs, is_held}
-use Rattle.fleet_model.specs.Trees.{stepped, stepped_in, to_run, with_run_for, source_pieces, without, first_key, by_first_key, put_by_first_key, are_apart}
+use Rattle.fleet_model.specs.Trees.{stepped_tree, stepped_in, to_run, with_run_for, source_pieces, without_nodes, first_key, by_first_key, put_by_first_key, are_apart}
 use Rattle.fleet_model.specs.TreesFit.{IsNewer}
 use Rattle.fleet_model.specs.JobsFit.{was_joined}
-use Rattle.step_model.specs.Past.{Told}
+use Rattle.step_model.specs.Past.{World}
 use Rattle.step_model.specs.LawfulManifests.{AtOnceFits, MoveFits, DrainFits, holding}
 use Rattle.step_model.specs.TablesKept.{IsKnownPiece}
 use Rattle.step_laws.proofs.Elements.{IsIn, all_at, all_from, all_to, all_flat, all_true_front, all_true_from}
@@ -80,15 +80,15 @@ job_found (x ∷ jobs) job h (inr there) = by (job.id == x.id) refl (job_found j
     by false e rest = rest
 
 -- A job that holds nodes is away from one that is done at once.
-away_at_once : {merge : Operator} {told : Told} {specs : ℕ → JobSpec} {trees : Trees} {joined : List ℕ} {spec : JobSpec} {id : ℕ} → Body merge told specs → AtOnceFits told trees joined spec id → (other : Job) → IsIn other (stored_jobs told.store)
-    → IsTrue (reserves_nodes other) → is_done told.store.history joined other ≡ false → IsAway spec other
-away_at_once {merge} {told} {specs} {trees} {joined} {spec} {id} b fits other there holds undone =
+away_at_once : {merge : Operator} {world : World} {specs : ℕ → JobSpec} {trees : Trees} {joined : List ℕ} {spec : JobSpec} {id : ℕ} → Body merge world specs → AtOnceFits world trees joined spec id → (other : Job) → IsIn other (stored_jobs world.store)
+    → IsTrue (reserves_nodes other) → is_done world.store.history joined other ≡ false → IsAway spec other
+away_at_once {merge} {world} {specs} {trees} {joined} {spec} {id} b fits other there holds undone =
     by (id == other.id) refl (reserves_nodes other) holds
-    (all_at _ (holding told.store.history joined (stored_jobs told.store)) other (all_true_front _ (holding told.store.history joined (stored_jobs told.store)) (gated trees (holding told.store.history joined (stored_jobs told.store)) spec id fits.gate).free)
-    (in_filter (λ (job : Job). not (contains joined job.id || was_joined told.store.history job.id)) (stored_jobs told.store) other there (ap not undone)))
+    (all_at _ (holding world.store.history joined (stored_jobs world.store)) other (all_true_front _ (holding world.store.history joined (stored_jobs world.store)) (gated trees (holding world.store.history joined (stored_jobs world.store)) spec id fits.gate).free)
+    (in_filter (λ (job : Job). not (contains joined job.id || was_joined world.store.history job.id)) (stored_jobs world.store) other there (ap not undone)))
   where
-    found : id ≡ other.id → job_with id (stored_jobs told.store) ≡ Some other
-    found same = ap (λ n. job_with n (stored_jobs told.store)) same ∙ job_found (stored_jobs told.store) other b.sound.job_ids there
+    found : id ≡ other.id → job_with id (stored_jobs world.store) ≡ Some other
+    found same = ap (λ n. job_with n (stored_jobs world.store)) same ∙ job_found (stored_jobs world.store) other b.sound.job_ids there
 
     by : (same : Bool) → (id == other.id) ≡ same → (r : Bool) → IsTrue r → IsTrue (same || not (r || false) || is_apart (nodes_of spec) (nodes_of other.spec)) → IsTrue (is_apart (nodes_of spec) (nodes_of other.spec))
     by true e r h k = absurd (submitted_free other.status (subst (λ o. IfSome o (λ (job : Job). IsTrue (has_status Submitted job))) (found ((Decides-eqb id other.id).0 e)) fits.open_yet) holds)
@@ -103,72 +103,72 @@ lowest_of trees id [] s there h = all_true_from (λ run. nat_lt run id) (run_ids
 lowest_of trees id (run ∷ ids) s there h = h
 
 -- A move that a commit may take, with its place and its run.
-pub record NewMove (merge : Operator) (told : Told) (specs : ℕ → JobSpec) (trees : Trees) (horizon : ℕ) (joined : List ℕ) (spec : JobSpec) (id run : ℕ) : Type 0 where
-  pub body : Body merge told specs
-  pub midway : Midway merge told trees horizon joined
-  pub fits : MoveFits told trees joined spec id
+pub record NewMove (merge : Operator) (world : World) (specs : ℕ → JobSpec) (trees : Trees) (horizon : ℕ) (joined : List ℕ) (spec : JobSpec) (id run : ℕ) : Type 0 where
+  pub body : Body merge world specs
+  pub midway : Midway merge world trees horizon joined
+  pub fits : MoveFits world trees joined spec id
   pub a : StretchAt trees spec
   pub own : Named a.s.tree
   pub may : RunMay trees spec run
 
-abbrev pub move_change : Told → JobSpec → ℕ → List ℕ → Tree → Tree
-move_change told spec id outputs = stepped told.store.tables (Move id) spec outputs
+abbrev pub move_change : World → JobSpec → ℕ → List ℕ → Tree → Tree
+move_change world spec id outputs = stepped_tree world.store.tables (Move id) spec outputs
 
-abbrev pub moved : {merge : Operator} {told : Told} {specs : ℕ → JobSpec} {trees : Trees} {horizon : ℕ} {joined : List ℕ} {spec : JobSpec} {id run : ℕ} → NewMove merge told specs trees horizon joined spec id run → List ℕ
-moved {merge} {told} n = by_first_key told.store.tables (flat_map (λ (node : Node). node.pieces) (n.a.t ∷ n.a.ts))
+abbrev pub moved : {merge : Operator} {world : World} {specs : ℕ → JobSpec} {trees : Trees} {horizon : ℕ} {joined : List ℕ} {spec : JobSpec} {id run : ℕ} → NewMove merge world specs trees horizon joined spec id run → List ℕ
+moved {merge} {world} n = by_first_key world.store.tables (flat_map (λ (node : Node). node.pieces) (n.a.t ∷ n.a.ts))
 
-pub move_place : {merge : Operator} {told : Told} {specs : ℕ → JobSpec} {trees : Trees} {horizon : ℕ} {joined : List ℕ} {spec : JobSpec} {id run : ℕ} (n : NewMove merge told specs trees horizon joined spec id run)
-    → SegmentFits merge (with_horizon told.store horizon) told.store.history n.a.s
+pub move_place : {merge : Operator} {world : World} {specs : ℕ → JobSpec} {trees : Trees} {horizon : ℕ} {joined : List ℕ} {spec : JobSpec} {id run : ℕ} (n : NewMove merge world specs trees horizon joined spec id run)
+    → SegmentFits merge (with_horizon world.store horizon) world.store.history n.a.s
 move_place n = all_at _ _ n.a.s n.midway.kept.each n.a.there
 
-pub move_pieces_same : {merge : Operator} {told : Told} {specs : ℕ → JobSpec} {trees : Trees} {horizon : ℕ} {joined : List ℕ} {spec : JobSpec} {id run : ℕ} (n : NewMove merge told specs trees horizon joined spec id run)
+pub move_pieces_same : {merge : Operator} {world : World} {specs : ℕ → JobSpec} {trees : Trees} {horizon : ℕ} {joined : List ℕ} {spec : JobSpec} {id run : ℕ} (n : NewMove merge world specs trees horizon joined spec id run)
     → source_pieces spec.sources n.a.s.tree ≡ flat_map (λ (node : Node). node.pieces) (n.a.t ∷ n.a.ts)
-move_pieces_same {merge} {told} {specs} {trees} {horizon} {joined} {spec} n = pieces_of_stretch spec.sources n.a.s.tree (as_stretch trees spec n.a) n.own
+move_pieces_same {merge} {world} {specs} {trees} {horizon} {joined} {spec} n = pieces_of_stretch spec.sources n.a.s.tree (as_stretch trees spec n.a) n.own
 
-pub makes_move : {merge : Operator} {told : Told} {specs : ℕ → JobSpec} {trees : Trees} {horizon : ℕ} {joined : List ℕ} {spec : JobSpec} {id run : ℕ} (n : NewMove merge told specs trees horizon joined spec id run) (outputs : List ℕ)
-    → move_change told spec id outputs n.a.s.tree ≡ with_run_for spec.sources run (moved n) n.a.s.tree
-makes_move {merge} {told} {specs} {trees} {horizon} {joined} {spec} {id} {run} n outputs =
-    ap (λ d. to_run (λ i. with_run_for spec.sources i (by_first_key told.store.tables (source_pieces spec.sources n.a.s.tree))) d n.a.s.tree) n.may.to
-    ∙ ap (λ ts. with_run_for spec.sources run (by_first_key told.store.tables ts) n.a.s.tree) (move_pieces_same n)
+pub makes_move : {merge : Operator} {world : World} {specs : ℕ → JobSpec} {trees : Trees} {horizon : ℕ} {joined : List ℕ} {spec : JobSpec} {id run : ℕ} (n : NewMove merge world specs trees horizon joined spec id run) (outputs : List ℕ)
+    → move_change world spec id outputs n.a.s.tree ≡ with_run_for spec.sources run (moved n) n.a.s.tree
+makes_move {merge} {world} {specs} {trees} {horizon} {joined} {spec} {id} {run} n outputs =
+    ap (λ d. to_run (λ i. with_run_for spec.sources i (by_first_key world.store.tables (source_pieces spec.sources n.a.s.tree))) d n.a.s.tree) n.may.to
+    ∙ ap (λ ts. with_run_for spec.sources run (by_first_key world.store.tables ts) n.a.s.tree) (move_pieces_same n)
 
-abbrev pub run_of_move : {merge : Operator} {told : Told} {specs : ℕ → JobSpec} {trees : Trees} {horizon : ℕ} {joined : List ℕ} {spec : JobSpec} {id run : ℕ} (n : NewMove merge told specs trees horizon joined spec id run) (outputs : List ℕ)
-    → RunAt trees spec run (moved n) (move_change told spec id outputs)
-run_of_move {merge} {told} {specs} {trees} {horizon} {joined} {spec} {id} {run} n outputs =
-    run_at trees spec run (moved n) (move_change told spec id outputs) n.a n.midway.kept.rise n.own (in_order told.store.tables n.a.s (move_place n).tree) n.may (makes_move n outputs)
+abbrev pub run_of_move : {merge : Operator} {world : World} {specs : ℕ → JobSpec} {trees : Trees} {horizon : ℕ} {joined : List ℕ} {spec : JobSpec} {id run : ℕ} (n : NewMove merge world specs trees horizon joined spec id run) (outputs : List ℕ)
+    → RunAt trees spec run (moved n) (move_change world spec id outputs)
+run_of_move {merge} {world} {specs} {trees} {horizon} {joined} {spec} {id} {run} n outputs =
+    run_at trees spec run (moved n) (move_change world spec id outputs) n.a n.midway.kept.rise n.own (in_order world.store.tables n.a.s (move_place n).tree) n.may (makes_move n outputs)
 
-pub move_taken : {merge : Operator} {told : Told} {specs : ℕ → JobSpec} {trees : Trees} {horizon : ℕ} {joined : List ℕ} {spec : JobSpec} {id run : ℕ} (n : NewMove merge told specs trees horizon joined spec id run) (P : Node → Type 0)
+pub move_taken : {merge : Operator} {world : World} {specs : ℕ → JobSpec} {trees : Trees} {horizon : ℕ} {joined : List ℕ} {spec : JobSpec} {id run : ℕ} (n : NewMove merge world specs trees horizon joined spec id run) (P : Node → Type 0)
     → AllByRecursion P n.a.s.tree → AllByRecursion P (n.a.t ∷ n.a.ts)
 move_taken n P h = all_taken P n.a.newer (n.a.t ∷ n.a.ts) n.a.older (subst (AllByRecursion P) n.a.whole h)
 
 -- What is so of each table of the sources is so of each table of the run.
-moved_all : {merge : Operator} {told : Told} {specs : ℕ → JobSpec} {trees : Trees} {horizon : ℕ} {joined : List ℕ} {spec : JobSpec} {id run : ℕ} (n : NewMove merge told specs trees horizon joined spec id run) (P : ℕ → Type 0)
+moved_all : {merge : Operator} {world : World} {specs : ℕ → JobSpec} {trees : Trees} {horizon : ℕ} {joined : List ℕ} {spec : JobSpec} {id run : ℕ} (n : NewMove merge world specs trees horizon joined spec id run) (P : ℕ → Type 0)
     → AllByRecursion (λ (node : Node). AllByRecursion P node.pieces) n.a.s.tree → AllByRecursion P (moved n)
-moved_all {merge} {told} n P h = all_by_first P told.store.tables (flat_map (λ (node : Node). node.pieces) (n.a.t ∷ n.a.ts)) (all_flat P (λ (node : Node). node.pieces) (n.a.t ∷ n.a.ts) (move_taken n (λ node. AllByRecursion P node.pieces) h))
+moved_all {merge} {world} n P h = all_by_first P world.store.tables (flat_map (λ (node : Node). node.pieces) (n.a.t ∷ n.a.ts)) (all_flat P (λ (node : Node). node.pieces) (n.a.t ∷ n.a.ts) (move_taken n (λ node. AllByRecursion P node.pieces) h))
 
-moved_old : {merge : Operator} {told : Told} {specs : ℕ → JobSpec} {trees : Trees} {horizon : ℕ} {joined : List ℕ} {spec : JobSpec} {id run : ℕ} (n : NewMove merge told specs trees horizon joined spec id run) (t : ℕ) → IsIn t (moved n) → IsIn t (tree_tables n.a.s)
+moved_old : {merge : Operator} {world : World} {specs : ℕ → JobSpec} {trees : Trees} {horizon : ℕ} {joined : List ℕ} {spec : JobSpec} {id run : ℕ} (n : NewMove merge world specs trees horizon joined spec id run) (t : ℕ) → IsIn t (moved n) → IsIn t (tree_tables n.a.s)
 moved_old n t there = all_at (λ u. IsIn u (tree_tables n.a.s)) (moved n) t
     (moved_all n (λ u. IsIn u (tree_tables n.a.s)) (all_from _ n.a.s.tree (λ node one. all_from _ node.pieces (λ u held. in_flat (λ (x : Node). x.pieces) n.a.s.tree node u one held)))) there
 
-pub move_tables : {merge : Operator} {told : Told} {specs : ℕ → JobSpec} {trees : Trees} {horizon : ℕ} {joined : List ℕ} {spec : JobSpec} {id run : ℕ} (n : NewMove merge told specs trees horizon joined spec id run)
-    → PiecesMay merge (with_horizon told.store horizon) told.store.history trees spec run (moved n) (move_change told spec id []) (run_of_move n [])
-move_tables {merge} {told} {specs} {trees} {horizon} {joined} {spec} {id} {run} n = record {
-  held = all_true_from (is_held told.store) (moved n) (moved_all n (λ t. IsTrue (is_held told.store t)) held);
-  known = moved_all n (IsKnownPiece told.store.history) (move_place n).known;
-  between = run_between trees spec run n.a n.midway.kept.rise (in_order told.store.tables n.a.s (move_place n).tree) n.may;
+pub move_tables : {merge : Operator} {world : World} {specs : ℕ → JobSpec} {trees : Trees} {horizon : ℕ} {joined : List ℕ} {spec : JobSpec} {id run : ℕ} (n : NewMove merge world specs trees horizon joined spec id run)
+    → PiecesMay merge (with_horizon world.store horizon) world.store.history trees spec run (moved n) (move_change world spec id []) (run_of_move n [])
+move_tables {merge} {world} {specs} {trees} {horizon} {joined} {spec} {id} {run} n = record {
+  held = all_true_from (is_held world.store) (moved n) (moved_all n (λ t. IsTrue (is_held world.store t)) held);
+  known = moved_all n (IsKnownPiece world.store.history) (move_place n).known;
+  between = run_between trees spec run n.a n.midway.kept.rise (in_order world.store.tables n.a.s (move_place n).tree) n.may;
   less = without_sources spec.sources n.a.s.tree (as_stretch trees spec n.a) n.own;
-  fits = move_fits merge (with_horizon told.store horizon) (before_these true n.a.older) run (n.a.t ∷ n.a.ts)
-      (pairs_first (IsNewer told.store.tables) (n.a.t ∷ n.a.ts) n.a.older (pairs_second (IsNewer told.store.tables) n.a.newer ((n.a.t ∷ n.a.ts) ++ n.a.older) (subst (Pairs (IsNewer told.store.tables)) n.a.whole (move_place n).tree.newest_first)))
+  fits = move_fits merge (with_horizon world.store horizon) (before_these true n.a.older) run (n.a.t ∷ n.a.ts)
+      (pairs_first (IsNewer world.store.tables) (n.a.t ∷ n.a.ts) n.a.older (pairs_second (IsNewer world.store.tables) n.a.newer ((n.a.t ∷ n.a.ts) ++ n.a.older) (subst (Pairs (IsNewer world.store.tables)) n.a.whole (move_place n).tree.newest_first)))
       (move_taken n _ (move_place n).tree.ordered)
-      (all_flat (λ t. (table_rows told.store.tables t ≢ []) × IsStrictlyOrdered (table_rows told.store.tables t)) (λ (node : Node). node.pieces) (n.a.t ∷ n.a.ts) (move_taken n _ tables))
-      (subst (λ ts. IsTrue (are_apart told.store.tables (by_first_key told.store.tables ts))) (ap (source_pieces spec.sources) (tree_before spec.segment trees n.a.s n.midway.kept.rise n.a.there n.a.same) ∙ move_pieces_same n) n.fits.apart);
+      (all_flat (λ t. (table_rows world.store.tables t ≢ []) × IsStrictlyOrdered (table_rows world.store.tables t)) (λ (node : Node). node.pieces) (n.a.t ∷ n.a.ts) (move_taken n _ tables))
+      (subst (λ ts. IsTrue (are_apart world.store.tables (by_first_key world.store.tables ts))) (ap (source_pieces spec.sources) (tree_before spec.segment trees n.a.s n.midway.kept.rise n.a.there n.a.same) ∙ move_pieces_same n) n.fits.apart);
   new_tables = λ t there. inl (moved_old n t there);
 }
   where
-    held : AllByRecursion (λ (node : Node). AllByRecursion (λ t. IsTrue (is_held told.store t)) node.pieces) n.a.s.tree
-    held = all_to _ _ n.a.s.tree (λ node there all. all_true_front (is_held told.store) node.pieces all) (move_place n).pieces
+    held : AllByRecursion (λ (node : Node). AllByRecursion (λ t. IsTrue (is_held world.store t)) node.pieces) n.a.s.tree
+    held = all_to _ _ n.a.s.tree (λ node there all. all_true_front (is_held world.store) node.pieces all) (move_place n).pieces
 
-    tables : AllByRecursion (λ (node : Node). AllByRecursion (λ t. (table_rows told.store.tables t ≢ []) × IsStrictlyOrdered (table_rows told.store.tables t)) node.pieces) n.a.s.tree
-    tables = all_to _ _ n.a.s.tree (λ node there all. all_to _ _ node.pieces (λ t one table. (table.some, table.ordered)) (all_held told.store node.pieces n.body.sound.tables all)) (move_place n).pieces
+    tables : AllByRecursion (λ (node : Node). AllByRecursion (λ t. (table_rows world.store.tables t ≢ []) × IsStrictlyOrdered (table_rows world.store.tables t)) node.pieces) n.a.s.tree
+    tables = all_to _ _ n.a.s.tree (λ node there all. all_to _ _ node.pieces (λ t one table. (table.some, table.ordered)) (all_held world.store node.pieces n.body.sound.tables all)) (move_place n).pieces
 
 put_some : (tables : Tables) (piece : ℕ) (pieces : List ℕ) → put_by_first_key tables piece pieces ≡ [] → ⊥
 put_some tables piece [] e = absurd (cc e)
@@ -178,21 +178,21 @@ put_some tables piece (q ∷ pieces) e = by (is_lt (key_cmp (first_key (table_ro
     by true e = absurd (cc e)
     by false e = absurd (cc e)
 
-moved_some : {merge : Operator} {told : Told} {specs : ℕ → JobSpec} {trees : Trees} {horizon : ℕ} {joined : List ℕ} {spec : JobSpec} {id run : ℕ} (n : NewMove merge told specs trees horizon joined spec id run) → moved n ≢ []
-moved_some {merge} {told} {specs} {trees} {horizon} {joined} {spec} n e =
+moved_some : {merge : Operator} {world : World} {specs : ℕ → JobSpec} {trees : Trees} {horizon : ℕ} {joined : List ℕ} {spec : JobSpec} {id run : ℕ} (n : NewMove merge world specs trees horizon joined spec id run) → moved n ≢ []
+moved_some {merge} {world} {specs} {trees} {horizon} {joined} {spec} n e =
     at (flat_map (λ (node : Node). node.pieces) (n.a.t ∷ n.a.ts)) (subst (λ ts. IsTrue (is_nonempty ts)) (ap (source_pieces spec.sources) (tree_before spec.segment trees n.a.s n.midway.kept.rise n.a.there n.a.same) ∙ move_pieces_same n) n.fits.pieces) e
   where
-    at : (ts : List ℕ) → IsTrue (is_nonempty ts) → by_first_key told.store.tables ts ≡ [] → ⊥
+    at : (ts : List ℕ) → IsTrue (is_nonempty ts) → by_first_key world.store.tables ts ≡ [] → ⊥
     at [] some e = absurd (cc some)
-    at (t ∷ ts) some e = put_some told.store.tables t (by_first_key told.store.tables ts) e
+    at (t ∷ ts) some e = put_some world.store.tables t (by_first_key world.store.tables ts) e
 
-new_move_keeps : {merge : Operator} {told : Told} {specs : ℕ → JobSpec} {trees : Trees} {horizon : ℕ} {joined : List ℕ} {spec : JobSpec} {id run : ℕ} → NewMove merge told specs trees horizon joined spec id run
-    → Midway merge told (stepped_in told.store.tables (Move id) spec [] trees) horizon joined
-new_move_keeps {merge} {told} {specs} {trees} {horizon} {joined} {spec} {id} {run} n = record {
-  kept = trees_on merge (with_horizon told.store horizon) told.store.history trees spec.segment spec.sources (move_change told spec id []) n.a.s
-      (run_changes merge (with_horizon told.store horizon) told.store.history trees spec run (moved n) (move_change told spec id []) (run_of_move n []) (move_tables n) n.midway.kept) n.midway.kept;
-  jobs = all_to (JobHolds told trees joined) (JobHolds told (stepped_in told.store.tables (Move id) spec [] trees) joined) (stored_jobs told.store) (λ other there h.
-      holds_on_run told trees joined other spec run (moved n) (move_change told spec id []) (run_of_move n []) n.midway.kept.rise (record {
+new_move_keeps : {merge : Operator} {world : World} {specs : ℕ → JobSpec} {trees : Trees} {horizon : ℕ} {joined : List ℕ} {spec : JobSpec} {id run : ℕ} → NewMove merge world specs trees horizon joined spec id run
+    → Midway merge world (stepped_in world.store.tables (Move id) spec [] trees) horizon joined
+new_move_keeps {merge} {world} {specs} {trees} {horizon} {joined} {spec} {id} {run} n = record {
+  kept = trees_on merge (with_horizon world.store horizon) world.store.history trees spec.segment spec.sources (move_change world spec id []) n.a.s
+      (run_changes merge (with_horizon world.store horizon) world.store.history trees spec run (moved n) (move_change world spec id []) (run_of_move n []) (move_tables n) n.midway.kept) n.midway.kept;
+  jobs = all_to (JobHolds world trees joined) (JobHolds world (stepped_in world.store.tables (Move id) spec [] trees) joined) (stored_jobs world.store) (λ other there h.
+      holds_on_run world trees joined other spec run (moved n) (move_change world spec id []) (run_of_move n []) n.midway.kept.rise (record {
         away = λ holds undone. away_at_once n.body n.fits.at_once other there holds undone;
         tables = λ t one. inl (moved_old n t one);
         mine = λ active t one. inl (moved_old n t one);
@@ -201,12 +201,12 @@ new_move_keeps {merge} {told} {specs} {trees} {horizon} {joined} {spec} {id} {ru
 }
 
 -- The run that a move makes, with its place.
-pub move_found : (merge : Operator) (told : Told) (specs : ℕ → JobSpec) (trees : Trees) (horizon : ℕ) (joined : List ℕ) (spec : JobSpec) (id : ℕ) → Body merge told specs → MoveFits told trees joined spec id → Midway merge told trees horizon joined
-    → (run : ℕ) × NewMove merge told specs trees horizon joined spec id run
-move_found merge told specs trees horizon joined spec id b fits m = by spec.destination refl fits.kind
+pub move_found : (merge : Operator) (world : World) (specs : ℕ → JobSpec) (trees : Trees) (horizon : ℕ) (joined : List ℕ) (spec : JobSpec) (id : ℕ) → Body merge world specs → MoveFits world trees joined spec id → Midway merge world trees horizon joined
+    → (run : ℕ) × NewMove merge world specs trees horizon joined spec id run
+move_found merge world specs trees horizon joined spec id b fits m = by spec.destination refl fits.kind
   where
-    g : Gated trees (holding told.store.history joined (stored_jobs told.store)) spec id
-    g = gated trees (holding told.store.history joined (stored_jobs told.store)) spec id fits.at_once.gate
+    g : Gated trees (holding world.store.history joined (stored_jobs world.store)) spec id
+    g = gated trees (holding world.store.history joined (stored_jobs world.store)) spec id fits.at_once.gate
 
     stretch : is_drain spec ≡ false → IsTrue (is_drain spec || is_whole_stretch (tree_at spec.segment trees) spec.sources) → IsTrue (is_whole_stretch (tree_at spec.segment trees) spec.sources)
     stretch e h = subst (λ c. IsTrue (c || is_whole_stretch (tree_at spec.segment trees) spec.sources)) e h
@@ -219,7 +219,7 @@ move_found merge told specs trees horizon joined spec id b fits m = by spec.dest
         let low = ltb-true run run (all_at (λ r. IsTrue (nat_lt r run)) (all_run_ids trees) run (all_true_front (λ r. nat_lt r run) (all_run_ids trees) (subst (λ ids. IsTrue (is_lowest_or_above run ids (all_run_ids trees))) none h)) there) in
         absurd (omega (arith, low))
 
-    by : (d : Option ℕ) → spec.destination ≡ d → is_drain_to d ≡ false → (run : ℕ) × NewMove merge told specs trees horizon joined spec id run
+    by : (d : Option ℕ) → spec.destination ≡ d → is_drain_to d ≡ false → (run : ℕ) × NewMove merge world specs trees horizon joined spec id run
     by None e k = absurd (cc k)
     by (Some run) e k =
         let a = stretch_at trees spec g.some (stretch fits.kind g.stretch) in (
@@ -229,7 +229,7 @@ move_found merge told specs trees horizon joined spec id b fits m = by spec.dest
             midway = m;
             fits = fits;
             a = a;
-            own = segment_named merge (with_horizon told.store horizon) told.store.history a.s b.sound.tables (all_at _ trees a.s m.kept.each a.there);
+            own = segment_named merge (with_horizon world.store horizon) world.store.history a.s b.sound.tables (all_at _ trees a.s m.kept.each a.there);
             may = record {
               to = e;
               lowest = subst (λ tree. IsTrue (is_lowest_or_above run (run_ids spec.sources) (run_ids (names tree)))) (sym (tree_before spec.segment trees a.s m.kept.rise a.there a.same)) (lowest_of trees run (run_ids spec.sources) a.s a.there (lowest run e));
@@ -238,38 +238,38 @@ move_found merge told specs trees horizon joined spec id b fits m = by spec.dest
           },
         )
 
-pub move_keeps : (merge : Operator) (told : Told) (specs : ℕ → JobSpec) (trees : Trees) (horizon : ℕ) (joined : List ℕ) (spec : JobSpec) (id : ℕ) (outputs : List ℕ) → Body merge told specs → MoveFits told trees joined spec id → Midway merge told trees horizon joined
-    → Midway merge told (stepped_in told.store.tables (Move id) spec outputs trees) horizon joined
-move_keeps merge told specs trees horizon joined spec id outputs b fits m = new_move_keeps (move_found merge told specs trees horizon joined spec id b fits m).1
+pub move_keeps : (merge : Operator) (world : World) (specs : ℕ → JobSpec) (trees : Trees) (horizon : ℕ) (joined : List ℕ) (spec : JobSpec) (id : ℕ) (outputs : List ℕ) → Body merge world specs → MoveFits world trees joined spec id → Midway merge world trees horizon joined
+    → Midway merge world (stepped_in world.store.tables (Move id) spec outputs trees) horizon joined
+move_keeps merge world specs trees horizon joined spec id outputs b fits m = new_move_keeps (move_found merge world specs trees horizon joined spec id b fits m).1
 
 -- ---- drains
 
-pub drain_keeps : (merge : Operator) (told : Told) (specs : ℕ → JobSpec) (trees : Trees) (horizon : ℕ) (joined : List ℕ) (spec : JobSpec) (id : ℕ) (outputs : List ℕ) → Body merge told specs → DrainFits told trees joined spec id → Midway merge told trees horizon joined
-    → Midway merge told (stepped_in told.store.tables (Drain id) spec outputs trees) horizon joined
-drain_keeps merge told specs trees horizon joined spec id outputs b fits m = by (segment_at spec.segment trees) refl (gated trees (holding told.store.history joined (stored_jobs told.store)) spec id fits.at_once.gate).segment
+pub drain_keeps : (merge : Operator) (world : World) (specs : ℕ → JobSpec) (trees : Trees) (horizon : ℕ) (joined : List ℕ) (spec : JobSpec) (id : ℕ) (outputs : List ℕ) → Body merge world specs → DrainFits world trees joined spec id → Midway merge world trees horizon joined
+    → Midway merge world (stepped_in world.store.tables (Drain id) spec outputs trees) horizon joined
+drain_keeps merge world specs trees horizon joined spec id outputs b fits m = by (segment_at spec.segment trees) refl (gated trees (holding world.store.history joined (stored_jobs world.store)) spec id fits.at_once.gate).segment
   where
-    at : (s : Segment) → IsIn s trees → spec.segment ≡ s.prefix → Midway merge told (stepped_in told.store.tables (Drain id) spec outputs trees) horizon joined
+    at : (s : Segment) → IsIn s trees → spec.segment ≡ s.prefix → Midway merge world (stepped_in world.store.tables (Drain id) spec outputs trees) horizon joined
     at s there same =
-        let place : SegmentFits merge (with_horizon told.store horizon) told.store.history s = all_at _ trees s m.kept.each there in
-        let c : OutAt trees spec = record { s = s; there = there; same = same; named = segment_named merge (with_horizon told.store horizon) told.store.history s b.sound.tables place; order = in_order told.store.tables s place.tree } in
+        let place : SegmentFits merge (with_horizon world.store horizon) world.store.history s = all_at _ trees s m.kept.each there in
+        let c : OutAt trees spec = record { s = s; there = there; same = same; named = segment_named merge (with_horizon world.store horizon) world.store.history s b.sound.tables place; order = in_order world.store.tables s place.tree } in
         record {
-          kept = trees_on merge (with_horizon told.store horizon) told.store.history trees spec.segment spec.sources (without spec.sources) s (record {
+          kept = trees_on merge (with_horizon world.store horizon) world.store.history trees spec.segment spec.sources (without_nodes spec.sources) s (record {
             there = there;
             same = same;
-            fits = segment_with_less merge (with_horizon told.store horizon) told.store.history s spec.sources place;
+            fits = segment_with_less merge (with_horizon world.store horizon) world.store.history s spec.sources place;
             new_names = λ n one. inl (old_name s n one);
             new_tables = λ t one. inl (old_table s t one);
           }) m.kept;
-          jobs = all_to (JobHolds told trees joined) (JobHolds told (stepped_in told.store.tables (Drain id) spec outputs trees) joined) (stored_jobs told.store)
-              (λ other one h. holds_on_out told trees joined other spec c m.kept.rise (λ holds undone. away_at_once b fits.at_once other one holds undone) h) m.jobs;
+          jobs = all_to (JobHolds world trees joined) (JobHolds world (stepped_in world.store.tables (Drain id) spec outputs trees) joined) (stored_jobs world.store)
+              (λ other one h. holds_on_out world trees joined other spec c m.kept.rise (λ holds undone. away_at_once b fits.at_once other one holds undone) h) m.jobs;
         }
       where
-        old_name : (x : Segment) → (n : NodeName) → IsIn n (names (without spec.sources x.tree)) → IsIn n (names x.tree)
-        old_name x n one = let found = node_of (without spec.sources x.tree) n one in subst (λ y. IsIn y (names x.tree)) found.same (node_in_names x.tree found.node (in_filtered _ x.tree found.node found.there))
+        old_name : (x : Segment) → (n : NodeName) → IsIn n (names (without_nodes spec.sources x.tree)) → IsIn n (names x.tree)
+        old_name x n one = let found = node_of (without_nodes spec.sources x.tree) n one in subst (λ y. IsIn y (names x.tree)) found.same (node_in_names x.tree found.node (in_filtered _ x.tree found.node found.there))
 
-        old_table : (x : Segment) → (t : ℕ) → IsIn t (flat_map (λ (node : Node). node.pieces) (without spec.sources x.tree)) → IsIn t (tree_tables x)
-        old_table x t one = let found = in_pieces (without spec.sources x.tree) t one in in_flat (λ (node : Node). node.pieces) x.tree found.0 t (in_filtered _ x.tree found.0 found.1.0) found.1.1
+        old_table : (x : Segment) → (t : ℕ) → IsIn t (flat_map (λ (node : Node). node.pieces) (without_nodes spec.sources x.tree)) → IsIn t (tree_tables x)
+        old_table x t one = let found = in_pieces (without_nodes spec.sources x.tree) t one in in_flat (λ (node : Node). node.pieces) x.tree found.0 t (in_filtered _ x.tree found.0 found.1.0) found.1.1
 
-    by : (o : Option Segment) → segment_at spec.segment trees ≡ o → IsTrue (is_some o) → Midway merge told (stepped_in told.store.tables (Drain id) spec outputs trees) horizon joined
+    by : (o : Option Segment) → segment_at spec.segment trees ≡ o → IsTrue (is_some o) → Midway merge world (stepped_in world.store.tables (Drain id) spec outputs trees) horizon joined
     by None e k = absurd (cc k)
     by (Some s) e k = let found = found_there spec.segment trees s e in at s found.0 found.1

@@ -8,9 +8,9 @@ use Rattle.fleet_model.specs.Jobs.{JobSpec, contains}
 use Rattle.fleet_model.specs.History.{Party, Event, Entry, PutManifest, PutRecords, ManifestEpoch, Flush, Commit, Step, stood}
 use Rattle.fleet_model.specs.Records.{firsts}
 use Rattle.fleet_model.specs.Store.{stored_jobs, fresh_store}
-use Rattle.fleet_model.specs.Replay.{Objects, outputs_in, named_specs, after_event, after_entry, replayed, plain_objects, plain_manifest}
+use Rattle.fleet_model.specs.Replay.{Objects, outputs_in, named_specs, after_event, after_entry, replayed_objects, plain_objects, plain_manifest}
 use Rattle.fleet_model.specs.Trees.{job_of}
-use Rattle.step_model.specs.Past.{Told, manifest_with}
+use Rattle.step_model.specs.Past.{World, manifest_with}
 use Rattle.step_model.specs.Entries.{steps_in, mentioned_in, is_mentioned}
 use Rattle.step_model.specs.Faithful.{Faithful, AgreesWith}
 use Rattle.step_model.specs.LawfulManifests.{IsKnownTo}
@@ -46,9 +46,9 @@ entry_same tables one other entry o h = by (stood entry.answer) (all_back _ (fir
     by true k = event_same tables one other entry.event o k
     by false k = refl
 
-pub replay_same : (tables : Tables) (one other : ℕ → JobSpec) (history : List Entry) (o : Objects) → AllByRecursion (λ entry. AllByRecursion (λ id. one id ≡ other id) (mentioned_in entry)) history → replayed tables one history o ≡ replayed tables other history o
+pub replay_same : (tables : Tables) (one other : ℕ → JobSpec) (history : List Entry) (o : Objects) → AllByRecursion (λ entry. AllByRecursion (λ id. one id ≡ other id) (mentioned_in entry)) history → replayed_objects tables one history o ≡ replayed_objects tables other history o
 replay_same tables one other [] o h = refl
-replay_same tables one other (entry ∷ history) o h = ap (replayed tables one history) (entry_same tables one other entry o h.0) ∙ replay_same tables one other history (after_entry tables other entry o) h.1
+replay_same tables one other (entry ∷ history) o h = ap (replayed_objects tables one history) (entry_same tables one other entry o h.0) ∙ replay_same tables one other history (after_entry tables other entry o) h.1
 
 -- ---- faithful with the commit's own
 
@@ -64,20 +64,20 @@ both_all : {A : Type 0} (P Q R : A → Type 0) (xs : List A) → ((x : A) → P 
 both_all P Q R [] f h k = tt
 both_all P Q R (x ∷ xs) f h k = (f x h.0 k.0, both_all P Q R xs f h.1 k.1)
 
-pub faithful_own : (told : Told) (specs own : ℕ → JobSpec) → Faithful told specs → Faithful told (with_own told.store.history specs own)
-faithful_own told specs own f = record {
-  agrees = both_all (λ (entry : Entry). AgreesWith specs entry.event) (λ (entry : Entry). AllByRecursion (λ id. specs id ≡ with_own told.store.history specs own id) (mentioned_in entry)) (λ (entry : Entry). AgreesWith (with_own told.store.history specs own) entry.event)
-      told.store.history (λ entry agrees same. both_all _ _ _ (named_specs entry.event) (λ p is e. sym e ∙ is) agrees (firsts_all (λ id. specs id ≡ with_own told.store.history specs own id) (named_specs entry.event) (all_front _ (firsts (named_specs entry.event)) (if stood entry.answer then steps_in entry.event else []) same)))
-      f.agrees (mentioned_same told.store.history specs own);
-  manifests = λ front back e. subst (λ (o : Objects). option_map plain_manifest (manifest_with o.manifest.version told.past) ≡ Some o.manifest)
-      (replay_same told.store.tables specs (with_own told.store.history specs own) front (plain_objects fresh_store) (all_front _ front back (subst (AllByRecursion (λ entry. AllByRecursion (λ id. specs id ≡ with_own told.store.history specs own id) (mentioned_in entry))) (sym e) (mentioned_same told.store.history specs own)))) (f.manifests front back e);
+pub faithful_own : (world : World) (specs own : ℕ → JobSpec) → Faithful world specs → Faithful world (with_own world.store.history specs own)
+faithful_own world specs own f = record {
+  agrees = both_all (λ (entry : Entry). AgreesWith specs entry.event) (λ (entry : Entry). AllByRecursion (λ id. specs id ≡ with_own world.store.history specs own id) (mentioned_in entry)) (λ (entry : Entry). AgreesWith (with_own world.store.history specs own) entry.event)
+      world.store.history (λ entry agrees same. both_all _ _ _ (named_specs entry.event) (λ p is e. sym e ∙ is) agrees (firsts_all (λ id. specs id ≡ with_own world.store.history specs own id) (named_specs entry.event) (all_front _ (firsts (named_specs entry.event)) (if stood entry.answer then steps_in entry.event else []) same)))
+      f.agrees (mentioned_same world.store.history specs own);
+  manifests = λ front back e. subst (λ (o : Objects). option_map plain_manifest (manifest_with o.manifest.version world.past) ≡ Some o.manifest)
+      (replay_same world.store.tables specs (with_own world.store.history specs own) front (plain_objects fresh_store) (all_front _ front back (subst (AllByRecursion (λ entry. AllByRecursion (λ id. specs id ≡ with_own world.store.history specs own id) (mentioned_in entry))) (sym e) (mentioned_same world.store.history specs own)))) (f.manifests front back e);
 }
 
 -- Each step's spec is that of the replay.
-pub own_spec : (merge : Operator) (told : Told) (party : Party) (specs own : ℕ → JobSpec) (id : ℕ) → Body merge told specs → Faithful told (with_own told.store.history specs own) → IsKnownTo party told own id → with_own told.store.history specs own id ≡ own id
-own_spec merge told party specs own id b f known = by (known_case party told own id known)
+pub own_spec : (merge : Operator) (world : World) (party : Party) (specs own : ℕ → JobSpec) (id : ℕ) → Body merge world specs → Faithful world (with_own world.store.history specs own) → IsKnownTo party world own id → with_own world.store.history specs own id ≡ own id
+own_spec merge world party specs own id b f known = by (known_case party world own id known)
   where
-    by : KnownCase party told own id → with_own told.store.history specs own id ≡ own id
+    by : KnownCase party world own id → with_own world.store.history specs own id ≡ own id
     by (Stored job there found same is) =
-        subst (λ n. with_own told.store.history specs own n ≡ own id) (sym same) ((all_at (JobKept merge told specs) (stored_jobs told.store) job b.jobs there).spec (with_own told.store.history specs own) f ∙ sym is)
+        subst (λ n. with_own world.store.history specs own n ≡ own id) (sym same) ((all_at (JobKept merge world specs) (stored_jobs world.store) job b.jobs there).spec (with_own world.store.history specs own) f ∙ sym is)
     by (New none drew unmentioned) = ap (λ b. cond b (specs id) (own id)) unmentioned

@@ -11,10 +11,10 @@ use Rattle.fleet_model.specs.Store.{Records, stored_jobs, jobs_in}
 use Rattle.fleet_model.specs.Replay.{outputs_in, outputs_of, plain_job, plain_records}
 use Rattle.fleet_model.specs.Trees.{stepped_in, stepped_all, horizon_after, horizon_after_all, job_of}
 use Rattle.fleet_model.specs.JobsFit.{is_join_of}
-use Rattle.step_model.specs.Past.{Told}
+use Rattle.step_model.specs.Past.{World}
 use Rattle.step_model.specs.LawfulManifests.{StepsFit, StepFits, joined_after, IsKnownTo, cut_of}
 use Rattle.step_model.specs.JoinsKept.{join_of}
-use Rattle.commit_laws.specs.Behind.{joined_by}
+use Rattle.commit_laws.specs.After.{joined_by}
 use Rattle.step_laws.proofs.Bodies.{Body}
 use Rattle.commit_laws.proofs.Stretches.{never_both}
 use Rattle.commit_laws.proofs.Midway.{Midway, KnownCase, Stored, New, known_case}
@@ -27,13 +27,13 @@ outputs_stored : (records : Option Records) (id : ℕ) (job : Job) → job_with 
 outputs_stored None id job e = absurd (cc e)
 outputs_stored (Some records) id job e = ap outputs_of e
 
-known_spec : (party : Party) (told : Told) (own : ℕ → JobSpec) (id : ℕ) (job : Job) → job_with id (stored_jobs told.store) ≡ Some job → IsKnownTo party told own id → own id ≡ job.spec
-known_spec party told own id job e known = by (known_case party told own id known)
+known_spec : (party : Party) (world : World) (own : ℕ → JobSpec) (id : ℕ) (job : Job) → job_with id (stored_jobs world.store) ≡ Some job → IsKnownTo party world own id → own id ≡ job.spec
+known_spec party world own id job e known = by (known_case party world own id known)
   where
     same_some : (x : Job) → Some x ≡ Some job → x ≡ job
     same_some x e = cc e
 
-    by : KnownCase party told own id → own id ≡ job.spec
+    by : KnownCase party world own id → own id ≡ job.spec
     by (Stored x there found same is) = is ∙ ap (λ (j : Job). j.spec) (same_some x (sym found ∙ e))
     by (New none drew unmentioned) = absurd (clash (sym none ∙ e))
       where
@@ -42,52 +42,52 @@ known_spec party told own id job e known = by (known_case party told own id know
 
 -- ---- one step, and all
 
-abbrev parts : Told → (ℕ → JobSpec) → ℕ → JobSpec × List ℕ
-parts told own id = (own id, outputs_in told.store.records id)
+abbrev parts : World → (ℕ → JobSpec) → ℕ → JobSpec × List ℕ
+parts world own id = (own id, outputs_in world.store.records id)
 
-abbrev cuts : Told → ℕ → Option ℕ
-cuts told id = cut_of (job_with id (stored_jobs told.store))
+abbrev cuts : World → ℕ → Option ℕ
+cuts world id = cut_of (job_with id (stored_jobs world.store))
 
-step_keeps : (merge : Operator) (told : Told) (party : Party) (specs own : ℕ → JobSpec) (trees : Trees) (horizon : ℕ) (joined : List ℕ) (step : Step) → IsLawful merge → Body merge told specs → IsKnownTo party told own (job_of step)
-    → StepFits told trees joined (own (job_of step)) step → Midway merge told trees horizon joined
-    → Midway merge told (stepped_in told.store.tables step (own (job_of step)) (outputs_in told.store.records (job_of step)) trees) (horizon_after told.store.manifest.floor step (cuts told (job_of step)) horizon) (joined_after step joined)
-step_keeps merge told party specs own trees horizon joined (Join id) lawful b known fits m =
-    subst (λ spec. Midway merge told (stepped_in told.store.tables (Join id) spec (outputs_in told.store.records id) trees) (horizon_after told.store.manifest.floor (Join id) (cuts told id) horizon) (id ∷ joined)) (sym (known_spec party told own id fits.job fits.stored known))
-    (subst (λ outputs. Midway merge told (stepped_in told.store.tables (Join id) fits.job.spec outputs trees) (horizon_after told.store.manifest.floor (Join id) (cuts told id) horizon) (id ∷ joined)) (sym (outputs_stored told.store.records id fits.job fits.stored))
-    (subst (λ cut. Midway merge told (stepped_in told.store.tables (Join id) fits.job.spec (concat fits.job.outputs) trees) (horizon_after told.store.manifest.floor (Join id) cut horizon) (id ∷ joined)) (sym (ap cut_of fits.stored))
-    (join_keeps merge told specs trees horizon joined id lawful b fits m)))
-step_keeps merge told party specs own trees horizon joined (Move id) lawful b known fits m = move_keeps merge told specs trees horizon joined (own id) id (outputs_in told.store.records id) b fits m
-step_keeps merge told party specs own trees horizon joined (Drain id) lawful b known fits m = drain_keeps merge told specs trees horizon joined (own id) id (outputs_in told.store.records id) b fits m
+step_keeps : (merge : Operator) (world : World) (party : Party) (specs own : ℕ → JobSpec) (trees : Trees) (horizon : ℕ) (joined : List ℕ) (step : Step) → IsLawful merge → Body merge world specs → IsKnownTo party world own (job_of step)
+    → StepFits world trees joined (own (job_of step)) step → Midway merge world trees horizon joined
+    → Midway merge world (stepped_in world.store.tables step (own (job_of step)) (outputs_in world.store.records (job_of step)) trees) (horizon_after world.store.manifest.floor step (cuts world (job_of step)) horizon) (joined_after step joined)
+step_keeps merge world party specs own trees horizon joined (Join id) lawful b known fits m =
+    subst (λ spec. Midway merge world (stepped_in world.store.tables (Join id) spec (outputs_in world.store.records id) trees) (horizon_after world.store.manifest.floor (Join id) (cuts world id) horizon) (id ∷ joined)) (sym (known_spec party world own id fits.job fits.stored known))
+    (subst (λ outputs. Midway merge world (stepped_in world.store.tables (Join id) fits.job.spec outputs trees) (horizon_after world.store.manifest.floor (Join id) (cuts world id) horizon) (id ∷ joined)) (sym (outputs_stored world.store.records id fits.job fits.stored))
+    (subst (λ cut. Midway merge world (stepped_in world.store.tables (Join id) fits.job.spec (concat fits.job.outputs) trees) (horizon_after world.store.manifest.floor (Join id) cut horizon) (id ∷ joined)) (sym (ap cut_of fits.stored))
+    (join_keeps merge world specs trees horizon joined id lawful b fits m)))
+step_keeps merge world party specs own trees horizon joined (Move id) lawful b known fits m = move_keeps merge world specs trees horizon joined (own id) id (outputs_in world.store.records id) b fits m
+step_keeps merge world party specs own trees horizon joined (Drain id) lawful b known fits m = drain_keeps merge world specs trees horizon joined (own id) id (outputs_in world.store.records id) b fits m
 
-pub steps_keep : (merge : Operator) (told : Told) (party : Party) (specs own : ℕ → JobSpec) (trees : Trees) (horizon : ℕ) (joined : List ℕ) (steps : List Step) → IsLawful merge → Body merge told specs → AllByRecursion (λ step. IsKnownTo party told own (job_of step)) steps
-    → StepsFit told own trees joined steps → Midway merge told trees horizon joined
-    → Midway merge told (stepped_all told.store.tables (λ id. (own id, outputs_in told.store.records id)) steps trees) (horizon_after_all told.store.manifest.floor (λ id. cut_of (job_with id (stored_jobs told.store))) steps horizon) (joined_by steps joined)
-steps_keep merge told party specs own trees horizon joined [] lawful b known fits m = m
-steps_keep merge told party specs own trees horizon joined (step ∷ steps) lawful b known fits m =
-    steps_keep merge told party specs own (stepped_in told.store.tables step (own (job_of step)) (outputs_in told.store.records (job_of step)) trees) (horizon_after told.store.manifest.floor step (cuts told (job_of step)) horizon) (joined_after step joined) steps lawful b known.1 fits.1
-    (step_keeps merge told party specs own trees horizon joined step lawful b known.0 fits.0 m)
+pub steps_keep : (merge : Operator) (world : World) (party : Party) (specs own : ℕ → JobSpec) (trees : Trees) (horizon : ℕ) (joined : List ℕ) (steps : List Step) → IsLawful merge → Body merge world specs → AllByRecursion (λ step. IsKnownTo party world own (job_of step)) steps
+    → StepsFit world own trees joined steps → Midway merge world trees horizon joined
+    → Midway merge world (stepped_all world.store.tables (λ id. (own id, outputs_in world.store.records id)) steps trees) (horizon_after_all world.store.manifest.floor (λ id. cut_of (job_with id (stored_jobs world.store))) steps horizon) (joined_by steps joined)
+steps_keep merge world party specs own trees horizon joined [] lawful b known fits m = m
+steps_keep merge world party specs own trees horizon joined (step ∷ steps) lawful b known fits m =
+    steps_keep merge world party specs own (stepped_in world.store.tables step (own (job_of step)) (outputs_in world.store.records (job_of step)) trees) (horizon_after world.store.manifest.floor step (cuts world (job_of step)) horizon) (joined_after step joined) steps lawful b known.1 fits.1
+    (step_keeps merge world party specs own trees horizon joined step lawful b known.0 fits.0 m)
 
 -- ---- the jobs that a commit joins
 
--- The trees behind a step.
-abbrev behind : Told → (ℕ → JobSpec) → Step → Trees → Trees
-behind told own step trees = stepped_in told.store.tables step (own (job_of step)) (outputs_in told.store.records (job_of step)) trees
+-- The trees after a step.
+abbrev after : World → (ℕ → JobSpec) → Step → Trees → Trees
+after world own step trees = stepped_in world.store.tables step (own (job_of step)) (outputs_in world.store.records (job_of step)) trees
 
 -- A joined job is stored and Compacted.
-abbrev pub IsCompacted : Told → ℕ → Type 0
-IsCompacted told id = (job : Job) × ((job_with id (stored_jobs told.store) ≡ Some job) × IsTrue (has_status Compacted job))
+abbrev pub IsCompacted : World → ℕ → Type 0
+IsCompacted world id = (job : Job) × ((job_with id (stored_jobs world.store) ≡ Some job) × IsTrue (has_status Compacted job))
 
-pub joined_compacted : (told : Told) (own : ℕ → JobSpec) (trees : Trees) (joined : List ℕ) (steps : List Step) → StepsFit told own trees joined steps → AllByRecursion (IsCompacted told) joined → AllByRecursion (IsCompacted told) (joined_by steps joined)
-joined_compacted told own trees joined [] fits h = h
-joined_compacted told own trees joined (Join id ∷ steps) fits h = joined_compacted told own (behind told own (Join id) trees) (id ∷ joined) steps fits.1 ((fits.0.job, (fits.0.stored, fits.0.finished)), h)
-joined_compacted told own trees joined (Move id ∷ steps) fits h = joined_compacted told own (behind told own (Move id) trees) joined steps fits.1 h
-joined_compacted told own trees joined (Drain id ∷ steps) fits h = joined_compacted told own (behind told own (Drain id) trees) joined steps fits.1 h
+pub joined_compacted : (world : World) (own : ℕ → JobSpec) (trees : Trees) (joined : List ℕ) (steps : List Step) → StepsFit world own trees joined steps → AllByRecursion (IsCompacted world) joined → AllByRecursion (IsCompacted world) (joined_by steps joined)
+joined_compacted world own trees joined [] fits h = h
+joined_compacted world own trees joined (Join id ∷ steps) fits h = joined_compacted world own (after world own (Join id) trees) (id ∷ joined) steps fits.1 ((fits.0.job, (fits.0.stored, fits.0.finished)), h)
+joined_compacted world own trees joined (Move id ∷ steps) fits h = joined_compacted world own (after world own (Move id) trees) joined steps fits.1 h
+joined_compacted world own trees joined (Drain id ∷ steps) fits h = joined_compacted world own (after world own (Drain id) trees) joined steps fits.1 h
 
-pub joins_compacted : (told : Told) (own : ℕ → JobSpec) (trees : Trees) (joined : List ℕ) (steps : List Step) → StepsFit told own trees joined steps → AllByRecursion (IsCompacted told) (flat_map join_of steps)
-joins_compacted told own trees joined [] fits = tt
-joins_compacted told own trees joined (Join id ∷ steps) fits = ((fits.0.job, (fits.0.stored, fits.0.finished)), joins_compacted told own (behind told own (Join id) trees) (id ∷ joined) steps fits.1)
-joins_compacted told own trees joined (Move id ∷ steps) fits = joins_compacted told own (behind told own (Move id) trees) joined steps fits.1
-joins_compacted told own trees joined (Drain id ∷ steps) fits = joins_compacted told own (behind told own (Drain id) trees) joined steps fits.1
+pub joins_compacted : (world : World) (own : ℕ → JobSpec) (trees : Trees) (joined : List ℕ) (steps : List Step) → StepsFit world own trees joined steps → AllByRecursion (IsCompacted world) (flat_map join_of steps)
+joins_compacted world own trees joined [] fits = tt
+joins_compacted world own trees joined (Join id ∷ steps) fits = ((fits.0.job, (fits.0.stored, fits.0.finished)), joins_compacted world own (after world own (Join id) trees) (id ∷ joined) steps fits.1)
+joins_compacted world own trees joined (Move id ∷ steps) fits = joins_compacted world own (after world own (Move id) trees) joined steps fits.1
+joins_compacted world own trees joined (Drain id ∷ steps) fits = joins_compacted world own (after world own (Drain id) trees) joined steps fits.1
 
 turned : (a b : ℕ) → (a == b) ≡ (b == a)
 turned a b = by (a == b) refl (b == a) refl
@@ -98,7 +98,7 @@ turned a b = by (a == b) refl (b == a) refl
     by false e true f = absurd (never_both (a == b) ((Decides-eqb a b).1 (sym ((Decides-eqb b a).0 f))) e)
     by false e false f = refl
 
--- The joined jobs behind the steps are those before, and those that a step joins.
+-- The joined jobs after the steps are those before, and those that a step joins.
 pub joined_are : (steps : List Step) (joined : List ℕ) (id : ℕ) → contains (joined_by steps joined) id ≡ (contains joined id || list_any (is_join_of id) steps)
 joined_are [] joined id = by (contains joined id)
   where

@@ -10,11 +10,11 @@ use Rattle.fleet_model.specs.Handles.{tree_tables}
 use Rattle.fleet_model.specs.History.{Party, Entry, Answer, Step, PutManifest, Commit, stood}
 use Rattle.fleet_model.specs.Records.{firsts}
 use Rattle.fleet_model.specs.Store.{Manifest, stored_jobs, fresh_store, AreHeld, WerePut}
-use Rattle.fleet_model.specs.Replay.{Objects, outputs_in, named_specs, after_event, after_entry, replayed, plain_objects, plain_manifest, plain_records}
+use Rattle.fleet_model.specs.Replay.{Objects, outputs_in, named_specs, after_event, after_entry, replayed_objects, plain_objects, plain_manifest, plain_records}
 use Rattle.fleet_model.specs.Trees.{job_of}
 use Rattle.fleet_model.specs.ReadsFit.{TreeKeepsReads}
-use Rattle.step_model.specs.Past.{Told, manifest_with}
-use Rattle.step_model.specs.Entries.{drawn_jobs, mentioned_in, planned_attempts, attempts_in, claims_in, epoch_in, was_named}
+use Rattle.step_model.specs.Past.{World, manifest_with}
+use Rattle.step_model.specs.Entries.{drawn_jobs, mentioned_in, planned_attempts, attempts_in, attempts_claimed_in, epoch_in, was_named}
 use Rattle.step_model.specs.Faithful.{Faithful}
 use Rattle.step_model.specs.LawfulManifests.{IsKnownTo, StepsFit}
 use Rattle.step_model.specs.TablesKept.{IsKnownPiece, IsFlush, IsPassed}
@@ -46,44 +46,44 @@ use Rattle.commit_laws.proofs.CommitJobs.{entry_of, trees_of, horizon_of, manife
 refused : (xs : List ℕ) (t : ℕ) → contains xs t ≡ false → IsIn t xs → ⊥
 refused xs t e there = never_both (contains xs t) (in_contains xs t there) e
 
-pub start : (merge : Operator) (told : Told) (specs : ℕ → JobSpec) → Body merge told specs → Midway merge told told.store.manifest.trees told.store.manifest.horizon []
-start merge told specs b = record {
+pub start : (merge : Operator) (world : World) (specs : ℕ → JobSpec) → Body merge world specs → Midway merge world world.store.manifest.trees world.store.manifest.horizon []
+start merge world specs b = record {
   kept = record {
     root = b.sound.root;
-    rise = rising_from told.store.manifest.trees b.sound.prefixes;
-    each = all_from _ told.store.manifest.trees (λ s there. record {
-      tree = all_at _ told.store.manifest.trees s b.trees.each there;
-      pieces = all_at (λ (x : Segment). AllByRecursion (λ (node : Node). AreHeld told.store node.pieces) x.tree) told.store.manifest.trees s b.pieces there;
-      flushes = all_at (λ (x : Segment). AllByRecursion (λ (node : Node). WerePut told.store node.flushes) x.tree) told.store.manifest.trees s b.flushes there;
-      reads = all_at (λ (x : Segment). TreeKeepsReads merge told.store x.tree) told.store.manifest.trees s b.reads there;
-      known = all_unflat (IsKnownPiece told.store.history) (λ (node : Node). node.pieces) s.tree (all_at (λ (x : Segment). AllByRecursion (IsKnownPiece told.store.history) (tree_tables x)) told.store.manifest.trees s known there);
-      flushed = all_at (λ (x : Segment). AllByRecursion (λ (node : Node). IsFlush told.store.history node node.name) x.tree) told.store.manifest.trees s b.nodes.flushes there;
-      passed = all_at (λ (x : Segment). IsPassed told.store.history (names x.tree) x.watermark) told.store.manifest.trees s b.nodes.watermarks there;
+    rise = rising_from world.store.manifest.trees b.sound.prefixes;
+    each = all_from _ world.store.manifest.trees (λ s there. record {
+      tree = all_at _ world.store.manifest.trees s b.trees.each there;
+      pieces = all_at (λ (x : Segment). AllByRecursion (λ (node : Node). AreHeld world.store node.pieces) x.tree) world.store.manifest.trees s b.pieces there;
+      flushes = all_at (λ (x : Segment). AllByRecursion (λ (node : Node). WerePut world.store node.flushes) x.tree) world.store.manifest.trees s b.flushes there;
+      reads = all_at (λ (x : Segment). TreeKeepsReads merge world.store x.tree) world.store.manifest.trees s b.reads there;
+      known = all_unflat (IsKnownPiece world.store.history) (λ (node : Node). node.pieces) s.tree (all_at (λ (x : Segment). AllByRecursion (IsKnownPiece world.store.history) (tree_tables x)) world.store.manifest.trees s known there);
+      flushed = all_at (λ (x : Segment). AllByRecursion (λ (node : Node). IsFlush world.store.history node node.name) x.tree) world.store.manifest.trees s b.nodes.flushes there;
+      passed = all_at (λ (x : Segment). IsPassed world.store.history (names x.tree) x.watermark) world.store.manifest.trees s b.nodes.watermarks there;
     });
     apart = b.trees.apart;
     tables = b.nodes.apart;
   };
-  jobs = all_to (JobKept merge told specs) (JobHolds told told.store.manifest.trees []) (stored_jobs told.store) (λ job there kept. record {
+  jobs = all_to (JobKept merge world specs) (JobHolds world world.store.manifest.trees []) (stored_jobs world.store) (λ job there kept. record {
     stand = λ holds undone stand. stand;
     oldest = λ holds undone stand last. last;
-    unused = λ t none active undone in_job held. refused (flat_map tree_tables told.store.manifest.trees) t (not_stored told.store.manifest told.past t b.past none) held;
+    unused = λ t none active undone in_job held. refused (flat_map tree_tables world.store.manifest.trees) t (not_stored world.store.manifest world.past t b.past none) held;
     again = λ compacted done. kept.facts.stand compacted done;
   }) b.jobs;
 }
   where
-    known : AllByRecursion (λ (x : Segment). AllByRecursion (IsKnownPiece told.store.history) (tree_tables x)) told.store.manifest.trees
-    known = all_unflat (IsKnownPiece told.store.history) tree_tables told.store.manifest.trees
-        (all_at (λ (m : Manifest). AllByRecursion (IsKnownPiece told.store.history) (flat_map tree_tables m.trees)) told.past told.store.manifest b.nodes.pieces (stored_in_past told.store.manifest told.past b.past))
+    known : AllByRecursion (λ (x : Segment). AllByRecursion (IsKnownPiece world.store.history) (tree_tables x)) world.store.manifest.trees
+    known = all_unflat (IsKnownPiece world.store.history) tree_tables world.store.manifest.trees
+        (all_at (λ (m : Manifest). AllByRecursion (IsKnownPiece world.store.history) (flat_map tree_tables m.trees)) world.past world.store.manifest b.nodes.pieces (stored_in_past world.store.manifest world.past b.past))
 
 -- ---- the replay
 
-objects_behind : (merge : Operator) (told : Told) (specs own : ℕ → JobSpec) (line : ℕ) (party : Party) (steps : List Step) (answer : Answer) → stood answer ≡ true → CommitCase merge told specs own party steps
-    → after_entry told.store.tables specs (entry_of line party steps answer) (plain_objects told.store) ≡ plain_objects (with_manifest told (manifest_of told own steps) (entry_of line party steps answer)).store
-objects_behind merge told specs own line party steps answer took c =
-    let trees = stepped_same told.store.tables (λ job. (specs job, outputs_in (option_map plain_records told.store.records) job)) (λ id. (own id, outputs_in told.store.records id)) steps told.store.manifest.trees
-    (all_to _ _ steps (λ step there same. both (specs (job_of step)) (own (job_of step)) (outputs_in (option_map plain_records told.store.records) (job_of step)) (outputs_in told.store.records (job_of step)) same (outputs_plain told.store.records (job_of step))) c.same) in
-    ap (λ b. cond b (after_event told.store.tables specs (PutManifest (Commit steps)) (plain_objects told.store)) (plain_objects told.store)) took
-    ∙ (λ i. record { manifest = record (plain_manifest told.store.manifest) { version = told.store.manifest.version + 1; trees = trees i }; records = option_map plain_records told.store.records })
+objects_after : (merge : Operator) (world : World) (specs own : ℕ → JobSpec) (line : ℕ) (party : Party) (steps : List Step) (answer : Answer) → stood answer ≡ true → CommitCase merge world specs own party steps
+    → after_entry world.store.tables specs (entry_of line party steps answer) (plain_objects world.store) ≡ plain_objects (with_manifest world (manifest_of world own steps) (entry_of line party steps answer)).store
+objects_after merge world specs own line party steps answer took c =
+    let trees = stepped_same world.store.tables (λ job. (specs job, outputs_in (option_map plain_records world.store.records) job)) (λ id. (own id, outputs_in world.store.records id)) steps world.store.manifest.trees
+    (all_to _ _ steps (λ step there same. both (specs (job_of step)) (own (job_of step)) (outputs_in (option_map plain_records world.store.records) (job_of step)) (outputs_in world.store.records (job_of step)) same (outputs_plain world.store.records (job_of step))) c.same) in
+    ap (λ b. cond b (after_event world.store.tables specs (PutManifest (Commit steps)) (plain_objects world.store)) (plain_objects world.store)) took
+    ∙ (λ i. record { manifest = record (plain_manifest world.store.manifest) { version = world.store.manifest.version + 1; trees = trees i }; records = option_map plain_records world.store.records })
   where
     both : (a b : JobSpec) → (xs ys : List ℕ) → a ≡ b → xs ≡ ys → ◌≡◌ {A = JobSpec × List ℕ} (a, xs) (b, ys)
     both a b xs ys e f = λ i. (e i, f i)
@@ -95,51 +95,51 @@ matches_stay past manifest o h = by (manifest_with o.manifest.version past) refl
     by None e h = absurd (cc h)
     by (Some m) e h = ap (option_map plain_manifest) (found_front (λ (other : Manifest). o.manifest.version == other.version) past (manifest ∷ []) m e) ∙ h
 
-pub faithful_behind : (merge : Operator) (told : Told) (specs own : ℕ → JobSpec) (line : ℕ) (party : Party) (steps : List Step) (answer : Answer) → stood answer ≡ true → CommitCase merge told specs own party steps
-    → Faithful (with_manifest told (manifest_of told own steps) (entry_of line party steps answer)) specs
-faithful_behind merge told specs own line party steps answer took c = record {
-  agrees = all_push _ told.store.history (entry_of line party steps answer) c.body.faithful.agrees tt;
-  manifests = λ front back e. by front (cut_where front back told.store.history (entry_of line party steps answer) e);
+pub faithful_after : (merge : Operator) (world : World) (specs own : ℕ → JobSpec) (line : ℕ) (party : Party) (steps : List Step) (answer : Answer) → stood answer ≡ true → CommitCase merge world specs own party steps
+    → Faithful (with_manifest world (manifest_of world own steps) (entry_of line party steps answer)) specs
+faithful_after merge world specs own line party steps answer took c = record {
+  agrees = all_push _ world.store.history (entry_of line party steps answer) c.body.faithful.agrees tt;
+  manifests = λ front back e. by front (cut_where front back world.store.history (entry_of line party steps answer) e);
 }
   where
-    behind : replayed told.store.tables specs (told.store.history ++ entry_of line party steps answer ∷ []) (plain_objects fresh_store) ≡ plain_objects (with_manifest told (manifest_of told own steps) (entry_of line party steps answer)).store
-    behind = replayed_push told.store.tables specs told.store.history (entry_of line party steps answer) (plain_objects fresh_store) ∙ ap (after_entry told.store.tables specs (entry_of line party steps answer)) (sym c.body.objects)
-        ∙ objects_behind merge told specs own line party steps answer took c
+    after : replayed_objects world.store.tables specs (world.store.history ++ entry_of line party steps answer ∷ []) (plain_objects fresh_store) ≡ plain_objects (with_manifest world (manifest_of world own steps) (entry_of line party steps answer)).store
+    after = replayed_push world.store.tables specs world.store.history (entry_of line party steps answer) (plain_objects fresh_store) ∙ ap (after_entry world.store.tables specs (entry_of line party steps answer)) (sym c.body.objects)
+        ∙ objects_after merge world specs own line party steps answer took c
 
-    by : (front : List Entry) → {back : List Entry} → Cut front back told.store.history (entry_of line party steps answer) → Matches (told.past ++ manifest_of told own steps ∷ []) (replayed told.store.tables specs front (plain_objects fresh_store))
+    by : (front : List Entry) → {back : List Entry} → Cut front back world.store.history (entry_of line party steps answer) → Matches (world.past ++ manifest_of world own steps ∷ []) (replayed_objects world.store.tables specs front (plain_objects fresh_store))
     by front (Whole all) =
-        subst (Matches (told.past ++ manifest_of told own steps ∷ [])) (sym (ap (λ h. replayed told.store.tables specs h (plain_objects fresh_store)) all ∙ behind))
-        (ap (option_map plain_manifest) (past_grows told.store.manifest (manifest_of told own steps) told.past refl c.body.past).last)
-    by front (Before rest part) = matches_stay told.past (manifest_of told own steps) (replayed told.store.tables specs front (plain_objects fresh_store)) (c.body.faithful.manifests front rest part)
+        subst (Matches (world.past ++ manifest_of world own steps ∷ [])) (sym (ap (λ h. replayed_objects world.store.tables specs h (plain_objects fresh_store)) all ∙ after))
+        (ap (option_map plain_manifest) (past_grows world.store.manifest (manifest_of world own steps) world.past refl c.body.past).last)
+    by front (Before rest part) = matches_stay world.past (manifest_of world own steps) (replayed_objects world.store.tables specs front (plain_objects fresh_store)) (c.body.faithful.manifests front rest part)
 
 -- ---- the jobs that the commit mentions
 
-was_mentioned : (merge : Operator) (told : Told) (specs : ℕ → JobSpec) → Body merge told specs → (id : ℕ) → IsTrue (was_named told.store.history id) → IsTrue (contains (drawn_jobs told.store.history) id)
-was_mentioned merge told specs b id named =
-    let found = any_element (λ (e : Entry). contains (firsts (named_specs e.event)) id && stood e.answer) told.store.history named in
-    all_at (λ n. IsTrue (contains (drawn_jobs told.store.history) n)) (mentioned_in found.element) id
-    (all_at (λ (e : Entry). AllByRecursion (λ n. IsTrue (contains (drawn_jobs told.store.history) n)) (mentioned_in e)) told.store.history found.element b.mentioned found.there)
+was_mentioned : (merge : Operator) (world : World) (specs : ℕ → JobSpec) → Body merge world specs → (id : ℕ) → IsTrue (was_named world.store.history id) → IsTrue (contains (drawn_jobs world.store.history) id)
+was_mentioned merge world specs b id named =
+    let found = any_element (λ (e : Entry). contains (firsts (named_specs e.event)) id && stood e.answer) world.store.history named in
+    all_at (λ n. IsTrue (contains (drawn_jobs world.store.history) n)) (mentioned_in found.element) id
+    (all_at (λ (e : Entry). AllByRecursion (λ n. IsTrue (contains (drawn_jobs world.store.history) n)) (mentioned_in e)) world.store.history found.element b.mentioned found.there)
     (in_front id (firsts (named_specs found.element.event)) _ (contains_in (firsts (named_specs found.element.event)) id (first (contains (firsts (named_specs found.element.event)) id) (stood found.element.answer) found.passes)))
   where
     first : (a b : Bool) → (a && b) ≡ true → IsTrue a
     first true b e = refl
     first false b e = absurd (cc e)
 
-known_drawn : (merge : Operator) (told : Told) (specs own : ℕ → JobSpec) (party : Party) (id : ℕ) → Body merge told specs → IsKnownTo party told own id → IsTrue (contains (drawn_jobs told.store.history) id)
-known_drawn merge told specs own party id b known = by (known_case party told own id known)
+known_drawn : (merge : Operator) (world : World) (specs own : ℕ → JobSpec) (party : Party) (id : ℕ) → Body merge world specs → IsKnownTo party world own id → IsTrue (contains (drawn_jobs world.store.history) id)
+known_drawn merge world specs own party id b known = by (known_case party world own id known)
   where
-    by : KnownCase party told own id → IsTrue (contains (drawn_jobs told.store.history) id)
-    by (Stored job there found same is) = subst (λ n. IsTrue (contains (drawn_jobs told.store.history) n)) (sym same) (was_mentioned merge told specs b job.id (all_at (JobKept merge told specs) (stored_jobs told.store) job b.jobs there).facts.named)
-    by (New none drew unmentioned) = drew_drawn party told.store.history id drew
+    by : KnownCase party world own id → IsTrue (contains (drawn_jobs world.store.history) id)
+    by (Stored job there found same is) = subst (λ n. IsTrue (contains (drawn_jobs world.store.history) n)) (sym same) (was_mentioned merge world specs b job.id (all_at (JobKept merge world specs) (stored_jobs world.store) job b.jobs there).facts.named)
+    by (New none drew unmentioned) = drew_drawn party world.store.history id drew
 
 all_mapped : (P : ℕ → Type 0) (steps : List Step) → AllByRecursion (λ step. P (job_of step)) steps → AllByRecursion P (map job_of steps)
 all_mapped P [] h = tt
 all_mapped P (step ∷ steps) h = (h.0, all_mapped P steps h.1)
 
-compacted_named : (merge : Operator) (told : Told) (specs : ℕ → JobSpec) (id : ℕ) → Body merge told specs → IsCompacted told id → IsTrue (was_named told.store.history id)
-compacted_named merge told specs id b f =
-    let found = found_job id (stored_jobs told.store) f.0 f.1.0 in
-    subst (λ n. IsTrue (was_named told.store.history n)) (sym found.1) (all_at (JobKept merge told specs) (stored_jobs told.store) f.0 b.jobs found.0).facts.named
+compacted_named : (merge : Operator) (world : World) (specs : ℕ → JobSpec) (id : ℕ) → Body merge world specs → IsCompacted world id → IsTrue (was_named world.store.history id)
+compacted_named merge world specs id b f =
+    let found = found_job id (stored_jobs world.store) f.0 f.1.0 in
+    subst (λ n. IsTrue (was_named world.store.history n)) (sym found.1) (all_at (JobKept merge world specs) (stored_jobs world.store) f.0 b.jobs found.0).facts.named
 
 -- ---- the whole
 
@@ -147,89 +147,89 @@ never_less : (t : ℤ) → int_le t t ≡ true
 never_less (pos n) = le-leb n n (omega arith)
 never_less (negsuc n) = le-leb n n (omega arith)
 
-commit_body : (merge : Operator) (told : Told) (specs own : ℕ → JobSpec) (line : ℕ) (party : Party) (steps : List Step) (answer : Answer) → stood answer ≡ true → CommitCase merge told specs own party steps
-    → Body merge (with_manifest told (manifest_of told own steps) (entry_of line party steps answer)) specs
-commit_body merge told specs own line party steps answer took c =
+commit_body : (merge : Operator) (world : World) (specs own : ℕ → JobSpec) (line : ℕ) (party : Party) (steps : List Step) (answer : Answer) → stood answer ≡ true → CommitCase merge world specs own party steps
+    → Body merge (with_manifest world (manifest_of world own steps) (entry_of line party steps answer)) specs
+commit_body merge world specs own line party steps answer took c =
     let b = c.body in
     let entry = entry_of line party steps answer in
-    let manifest = manifest_of told own steps in
-    let trees = trees_of told own steps in
+    let manifest = manifest_of world own steps in
+    let trees = trees_of world own steps in
     let kept = c.midway.kept in
-    let grown = pieces_grow told.store.history entry told.past told.store.manifest.trees b.nodes in
+    let grown = pieces_grow world.store.history entry world.past world.store.manifest.trees b.nodes in
     record {
       sound = record { tables = b.sound.tables; table_ids = b.sound.table_ids; deleted = b.sound.deleted; root = kept.root; prefixes = rising_to trees kept.rise; job_ids = b.sound.job_ids };
       trees = record {
         each = all_to _ _ trees (λ s there fits. fits.tree) kept.each;
         apart = kept.apart;
-        epochs = epoch_rises told.store.manifest told.store.records manifest (omega arith) b.trees.epochs;
+        epochs = epoch_rises world.store.manifest world.store.records manifest (omega arith) b.trees.epochs;
       };
       held_once = b.held_once;
       pieces = all_to _ _ trees (λ s there fits. fits.pieces) kept.each;
       flushes = all_to _ _ trees (λ s there fits. fits.flushes) kept.each;
-      reads = all_to _ _ trees (λ s there fits. reads_fewer merge (with_horizon told.store (horizon_of told steps)) manifest s.tree refl (never_less told.store.manifest.tick) fits.reads) kept.each;
-      objects = sym (replayed_push told.store.tables specs told.store.history entry (plain_objects fresh_store) ∙ ap (after_entry told.store.tables specs entry) (sym b.objects) ∙ objects_behind merge told specs own line party steps answer took c);
-      faithful = faithful_behind merge told specs own line party steps answer took c;
-      mentioned = all_push _ told.store.history entry
-          (all_to _ _ told.store.history (λ e there old. all_to _ _ (mentioned_in e) (λ id one drawn. drawn_job_grows told.store.history entry id drawn) old) b.mentioned)
-          (rw took (all_mapped _ steps (all_to _ _ steps (λ step there known. drawn_job_grows told.store.history entry (job_of step) (known_drawn merge told specs own party (job_of step) b known)) c.known)));
+      reads = all_to _ _ trees (λ s there fits. reads_fewer merge (with_horizon world.store (horizon_of world steps)) manifest s.tree refl (never_less world.store.manifest.tick) fits.reads) kept.each;
+      objects = sym (replayed_push world.store.tables specs world.store.history entry (plain_objects fresh_store) ∙ ap (after_entry world.store.tables specs entry) (sym b.objects) ∙ objects_after merge world specs own line party steps answer took c);
+      faithful = faithful_after merge world specs own line party steps answer took c;
+      mentioned = all_push _ world.store.history entry
+          (all_to _ _ world.store.history (λ e there old. all_to _ _ (mentioned_in e) (λ id one drawn. drawn_job_grows world.store.history entry id drawn) old) b.mentioned)
+          (rw took (all_mapped _ steps (all_to _ _ steps (λ step there known. drawn_job_grows world.store.history entry (job_of step) (known_drawn merge world specs own party (job_of step) b known)) c.known)));
       trimmed_already = b.trimmed_already;
-      up_to = all_push _ told.store.history entry
-          (all_to _ _ told.store.history (λ e there old stands. all_to _ _ (attempts_in e.event) (λ a one up. up_to_grows told.store.history entry (stored_jobs told.store) a up) (old stands)) b.up_to)
+      up_to = all_push _ world.store.history entry
+          (all_to _ _ world.store.history (λ e there old stands. all_to _ _ (attempts_in e.event) (λ a one up. up_to_grows world.store.history entry (stored_jobs world.store) a up) (old stands)) b.up_to)
           (λ stands. tt);
-      planned = all_push _ told.store.history entry
-          (all_to _ _ told.store.history (λ e there old. all_to _ _ (planned_attempts e.event) (λ a one up. up_to_grows told.store.history entry (stored_jobs told.store) a up) old) b.planned)
+      planned = all_push _ world.store.history entry
+          (all_to _ _ world.store.history (λ e there old. all_to _ _ (planned_attempts e.event) (λ a one up. up_to_grows world.store.history entry (stored_jobs world.store) a up) old) b.planned)
           tt;
-      once = rw (flat_push_none (λ (e : Entry). claims_in (stood e.answer) e.event) told.store.history entry (rw took refl)) b.once;
+      once = rw (flat_push_none (λ (e : Entry). attempts_claimed_in (stood e.answer) e.event) world.store.history entry (rw took refl)) b.once;
       nodes = record {
-        pieces = all_push _ told.past manifest grown.pieces (all_flat _ tree_tables trees (all_to _ _ trees (λ s there fits. all_flat _ (λ (node : Node). node.pieces) s.tree
-            (all_to _ _ s.tree (λ node one known. all_to _ _ node.pieces (λ t other is. piece_grows told.store.history entry t is) known) fits.known)) kept.each));
-        flushes = all_to _ _ trees (λ s there fits. all_to _ _ s.tree (λ node one flush. flush_grows told.store.history entry node node.name flush) fits.flushed) kept.each;
-        watermarks = all_to _ _ trees (λ s there fits. passed_grows told.store.history entry (names s.tree) s.watermark fits.passed) kept.each;
+        pieces = all_push _ world.past manifest grown.pieces (all_flat _ tree_tables trees (all_to _ _ trees (λ s there fits. all_flat _ (λ (node : Node). node.pieces) s.tree
+            (all_to _ _ s.tree (λ node one known. all_to _ _ node.pieces (λ t other is. piece_grows world.store.history entry t is) known) fits.known)) kept.each));
+        flushes = all_to _ _ trees (λ s there fits. all_to _ _ s.tree (λ node one flush. flush_grows world.store.history entry node node.name flush) fits.flushed) kept.each;
+        watermarks = all_to _ _ trees (λ s there fits. passed_grows world.store.history entry (names s.tree) s.watermark fits.passed) kept.each;
         apart = kept.tables;
       };
       name_apart = b.name_apart;
-      joined = all_push _ told.store.history entry
-          (all_to _ _ told.store.history (λ e there old stands. all_to _ _ _ (λ id one named. named_grows told.store.history entry id named) (old stands)) b.joined)
-          (λ stands. all_to _ _ (flat_map join_of steps) (λ id one is. named_grows told.store.history entry id (compacted_named merge told specs id b is)) (joins_compacted told own told.store.manifest.trees [] steps c.each));
-      epochs = let same = flat_push_none (λ (e : Entry). epoch_in (stood e.answer) e.event) told.store.history entry (rw took refl) in record { up_to = rw same b.epochs.up_to; rise = rw same b.epochs.rise };
-      past = past_grows told.store.manifest manifest told.past refl b.past;
-      jobs = all_to _ _ (stored_jobs told.store) (λ job there kept. job_kept merge told specs own line party steps answer took c job there kept) b.jobs;
+      joined = all_push _ world.store.history entry
+          (all_to _ _ world.store.history (λ e there old stands. all_to _ _ _ (λ id one named. named_grows world.store.history entry id named) (old stands)) b.joined)
+          (λ stands. all_to _ _ (flat_map join_of steps) (λ id one is. named_grows world.store.history entry id (compacted_named merge world specs id b is)) (joins_compacted world own world.store.manifest.trees [] steps c.each));
+      epochs = let same = flat_push_none (λ (e : Entry). epoch_in (stood e.answer) e.event) world.store.history entry (rw took refl) in record { up_to = rw same b.epochs.up_to; rise = rw same b.epochs.rise };
+      past = past_grows world.store.manifest manifest world.past refl b.past;
+      jobs = all_to _ _ (stored_jobs world.store) (λ job there kept. job_kept merge world specs own line party steps answer took c job there kept) b.jobs;
     }
 
 -- ---- the law
 
 -- What the steps of a commit keep, by specs that replay it too.
-pub case_of : (merge : Operator) (told : Told) (own : ℕ → JobSpec) (party : Party) (steps : List Step) → IsLawful merge → (k : Keeps merge told) → AllByRecursion (λ step. IsKnownTo party told own (job_of step)) steps
-    → StepsFit told own told.store.manifest.trees [] steps → CommitCase merge told (with_own told.store.history k.stored.replay.specs own) own party steps
-case_of merge told own party steps lawful k known fits =
-    let w = whole_of merge told k in
-    let specs = with_own told.store.history k.stored.replay.specs own in
-    let faithful = faithful_own told k.stored.replay.specs own w.body.faithful in
-    let b = body_by merge told k.stored.replay.specs specs w.body faithful in
+pub case_of : (merge : Operator) (world : World) (own : ℕ → JobSpec) (party : Party) (steps : List Step) → IsLawful merge → (k : Keeps merge world) → AllByRecursion (λ step. IsKnownTo party world own (job_of step)) steps
+    → StepsFit world own world.store.manifest.trees [] steps → CommitCase merge world (with_own world.store.history k.stored.replay.specs own) own party steps
+case_of merge world own party steps lawful k known fits =
+    let w = whole_of merge world k in
+    let specs = with_own world.store.history k.stored.replay.specs own in
+    let faithful = faithful_own world k.stored.replay.specs own w.body.faithful in
+    let b = body_by merge world k.stored.replay.specs specs w.body faithful in
     record {
       body = b;
       known = known;
-      same = all_to _ _ steps (λ step there is. own_spec merge told party k.stored.replay.specs own (job_of step) w.body faithful is) known;
+      same = all_to _ _ steps (λ step there is. own_spec merge world party k.stored.replay.specs own (job_of step) w.body faithful is) known;
       each = fits;
-      midway = steps_keep merge told party specs own told.store.manifest.trees told.store.manifest.horizon [] steps lawful b known fits (start merge told specs b);
+      midway = steps_keep merge world party specs own world.store.manifest.trees world.store.manifest.horizon [] steps lawful b known fits (start merge world specs b);
     }
 
-commit_by : (merge : Operator) (told : Told) (own : ℕ → JobSpec) (line : ℕ) (party : Party) (steps : List Step) (answer : Answer) → IsLawful merge → stood answer ≡ true → (k : Keeps merge told) → AllByRecursion (λ step. IsKnownTo party told own (job_of step)) steps
-    → StepsFit told own told.store.manifest.trees [] steps → Keeps merge (with_manifest told (manifest_of told own steps) (entry_of line party steps answer))
-commit_by merge told own line party steps answer lawful took k known fits =
-    let w = whole_of merge told k in
+commit_by : (merge : Operator) (world : World) (own : ℕ → JobSpec) (line : ℕ) (party : Party) (steps : List Step) (answer : Answer) → IsLawful merge → stood answer ≡ true → (k : Keeps merge world) → AllByRecursion (λ step. IsKnownTo party world own (job_of step)) steps
+    → StepsFit world own world.store.manifest.trees [] steps → Keeps merge (with_manifest world (manifest_of world own steps) (entry_of line party steps answer))
+commit_by merge world own line party steps answer lawful took k known fits =
+    let w = whole_of merge world k in
     let entry = entry_of line party steps answer in
-    let specs = with_own told.store.history k.stored.replay.specs own in
-    keeps_of merge (with_manifest told (manifest_of told own steps) entry) specs (record {
-      body = commit_body merge told specs own line party steps answer took (case_of merge told own party steps lawful k known fits);
-      draws = draws_mute told.store.jobs_drawn told.store.tables_drawn told.store.history entry refl refl w.draws;
-      puts = puts_kept told.store.history entry told.store.tables (table_none (stood answer) entry.event refl) (rw took tt) w.puts;
+    let specs = with_own world.store.history k.stored.replay.specs own in
+    keeps_of merge (with_manifest world (manifest_of world own steps) entry) specs (record {
+      body = commit_body merge world specs own line party steps answer took (case_of merge world own party steps lawful k known fits);
+      draws = draws_mute world.store.jobs_drawn world.store.tables_drawn world.store.history entry refl refl w.draws;
+      puts = puts_kept world.store.history entry world.store.tables (table_none (stood answer) entry.event refl) (rw took tt) w.puts;
     })
 
 standing : (merge : Operator) → IsLawful merge → (steps : List Step) → StandingPutKeeps merge (Commit steps)
-standing merge lawful steps line party answer told value took k fits =
-    subst (λ (v : Manifest). Keeps merge (with_manifest told (record v { version = told.store.manifest.version + 1 }) (entry_of line party steps answer))) (sym fits.makes)
-    (commit_by merge told fits.specs line party steps answer lawful took k fits.known fits.each)
+standing merge lawful steps line party answer world value took k fits =
+    subst (λ (v : Manifest). Keeps merge (with_manifest world (record v { version = world.store.manifest.version + 1 }) (entry_of line party steps answer))) (sym fits.makes)
+    (commit_by merge world fits.specs line party steps answer lawful took k fits.known fits.each)
 
 pub commits_keep : (merge : Operator) → IsLawful merge → CommitsKeep merge
 commits_keep merge lawful steps = manifest_put_keeps merge (Commit steps) (standing merge lawful steps)

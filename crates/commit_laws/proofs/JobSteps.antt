@@ -9,9 +9,9 @@ use Rattle.fleet_model.specs.Gates.{is_nonempty, reserves_nodes}
 use Rattle.fleet_model.specs.Handles.{tree_tables, job_tables}
 use Rattle.fleet_model.specs.History.{Entry}
 use Rattle.fleet_model.specs.Sources.{is_apart, all_run_ids, run_ids, begins_with_run, is_whole_stretch}
-use Rattle.fleet_model.specs.Trees.{on_segment, without, source_pieces}
+use Rattle.fleet_model.specs.Trees.{on_segment, without_nodes, source_pieces}
 use Rattle.fleet_model.specs.JobsFit.{SourcesStand, DestinationFits, AreOldest, was_joined}
-use Rattle.step_model.specs.Past.{Told}
+use Rattle.step_model.specs.Past.{World}
 use Rattle.step_model.specs.LawfulTables.{was_piece}
 use Rattle.step_model.specs.JoinsKept.{JoinStands}
 use Rattle.step_laws.proofs.Elements.{IsIn, all_from, in_front, in_back}
@@ -31,11 +31,11 @@ abbrev pub is_done : List Entry → List ℕ → Job → Bool
 is_done history joined job = contains joined job.id || was_joined history job.id
 
 -- What is kept of a job from the stored trees to these.
-pub record JobHolds (told : Told) (trees : Trees) (joined : List ℕ) (job : Job) : Type 0 where
-  pub stand : IsTrue (reserves_nodes job) → is_done told.store.history joined job ≡ false → SourcesStand told.store.manifest.trees job → SourcesStand trees job
-  pub oldest : IsTrue (reserves_nodes job) → is_done told.store.history joined job ≡ false → SourcesStand told.store.manifest.trees job → AreOldest (tree_at job.spec.segment told.store.manifest.trees) job.spec.sources → AreOldest (tree_at job.spec.segment trees) job.spec.sources
-  pub unused : (t : ℕ) → was_piece told.past t ≡ false → IsTrue (is_active job) → is_done told.store.history joined job ≡ false → IsIn t (job_tables job) → IsIn t (flat_map tree_tables trees) → ⊥
-  pub again : IsTrue (has_status Compacted job) → is_done told.store.history joined job ≡ true → JoinStands told.past trees job
+pub record JobHolds (world : World) (trees : Trees) (joined : List ℕ) (job : Job) : Type 0 where
+  pub stand : IsTrue (reserves_nodes job) → is_done world.store.history joined job ≡ false → SourcesStand world.store.manifest.trees job → SourcesStand trees job
+  pub oldest : IsTrue (reserves_nodes job) → is_done world.store.history joined job ≡ false → SourcesStand world.store.manifest.trees job → AreOldest (tree_at job.spec.segment world.store.manifest.trees) job.spec.sources → AreOldest (tree_at job.spec.segment trees) job.spec.sources
+  pub unused : (t : ℕ) → was_piece world.past t ≡ false → IsTrue (is_active job) → is_done world.store.history joined job ≡ false → IsIn t (job_tables job) → IsIn t (flat_map tree_tables trees) → ⊥
+  pub again : IsTrue (has_status Compacted job) → is_done world.store.history joined job ≡ true → JoinStands world.past trees job
 
 -- The job touches none of these nodes.
 abbrev pub IsAway : JobSpec → Job → Type 0
@@ -57,7 +57,7 @@ run_away : (spec : JobSpec) (job : Job) (id : ℕ) → spec.destination ≡ Some
 run_away spec job id to away = all_from _ job.spec.sources (λ x one. other_or (name_eq x (Run id)) (λ same.
     names_apart_at (nodes_of spec) (nodes_of job.spec) (Run id) away (destination_in spec.destination spec.sources id to) (in_nodes job.spec.destination job.spec.sources (Run id) (subst (λ n. IsIn n job.spec.sources) (name_same x (Run id) same) one))))
 
--- ---- the tree of the job behind a change
+-- ---- the tree of the job after a change
 
 -- Either the change is in the job's tree, or that tree is as it was.
 pub data Where (trees others : Trees) (p : List ℕ) (change : Tree → Tree) (s : Segment) : Type 0 where
@@ -125,7 +125,7 @@ pub record RunAt (trees : Trees) (spec : JobSpec) (id : ℕ) (pieces : List ℕ)
   pub fresh : IsIn (Run id) (names (t ∷ ts)) ⊎ ((run_ids (names (t ∷ ts)) ≡ []) × (IsIn id (all_run_ids trees) → ⊥))
   pub is : change s.tree ≡ newer ++ run_for id pieces (t ∷ ts) ∷ older
 
--- The ids of runs behind the step are those before it, or the new one.
+-- The ids of runs after the step are those before it, or the new one.
 runs_of_new : {trees : Trees} {spec : JobSpec} {id : ℕ} {pieces : List ℕ} {change : Tree → Tree} (c : RunAt trees spec id pieces change) (r : ℕ) → IsIn r (run_ids (names (change c.s.tree))) → IsIn r (run_ids (names c.s.tree)) ⊎ (r ≡ id)
 runs_of_new {trees} {spec} {id} {pieces} {change} c r there =
     let found = node_of (change c.s.tree) (Run r) (run_in (names (change c.s.tree)) r there) in
@@ -233,41 +233,41 @@ not_out : (spec : JobSpec) (job : Job) → IsAway spec job → AllByRecursion (�
 not_out spec job away = all_from _ job.spec.sources (λ x one. names_no spec.sources x (λ there.
     names_apart_at (nodes_of spec) (nodes_of job.spec) x away (in_nodes spec.destination spec.sources x there) (in_nodes job.spec.destination job.spec.sources x one)))
 
-runs_left : (out : List NodeName) (tree : Tree) (r : ℕ) → IsIn r (run_ids (names (without out tree))) → IsIn r (run_ids (names tree))
+runs_left : (out : List NodeName) (tree : Tree) (r : ℕ) → IsIn r (run_ids (names (without_nodes out tree))) → IsIn r (run_ids (names tree))
 runs_left out tree r there =
-    let found = node_of (without out tree) (Run r) (run_in (names (without out tree)) r there) in
+    let found = node_of (without_nodes out tree) (Run r) (run_in (names (without_nodes out tree)) r there) in
     in_runs (names tree) r (subst (λ n. IsIn n (names tree)) found.same (node_in_names tree found.node (in_filtered (λ (node : Node). not (names_contain out node.name)) tree found.node found.there)))
 
-destination_out : {trees : Trees} {spec : JobSpec} (c : OutAt trees spec) (job : Job) → Rising trees → SourcesStand trees job → Where trees (map (on_segment spec.segment spec.sources (without spec.sources)) trees) job.spec.segment (without spec.sources) c.s
-    → DestinationFits (map (on_segment spec.segment spec.sources (without spec.sources)) trees) (tree_at job.spec.segment (map (on_segment spec.segment spec.sources (without spec.sources)) trees)) job.spec.sources job.spec.destination
+destination_out : {trees : Trees} {spec : JobSpec} (c : OutAt trees spec) (job : Job) → Rising trees → SourcesStand trees job → Where trees (map (on_segment spec.segment spec.sources (without_nodes spec.sources)) trees) job.spec.segment (without_nodes spec.sources) c.s
+    → DestinationFits (map (on_segment spec.segment spec.sources (without_nodes spec.sources)) trees) (tree_at job.spec.segment (map (on_segment spec.segment spec.sources (without_nodes spec.sources)) trees)) job.spec.sources job.spec.destination
 destination_out {trees} {spec} c job rise h place =
     destination_stays trees others (tree_at job.spec.segment trees) (tree_at job.spec.segment others) job.spec.sources job.spec.destination runs all h.destination
   where
     others : Trees
-    others = map (on_segment spec.segment spec.sources (without spec.sources)) trees
+    others = map (on_segment spec.segment spec.sources (without_nodes spec.sources)) trees
 
     all : (r : ℕ) → job.spec.destination ≡ Some r → IsIn r (all_run_ids others) → IsIn r (all_run_ids trees)
-    all r to there = by (in_trees_on (λ (s : Segment). run_ids (names s.tree)) r trees spec.segment spec.sources (without spec.sources) c.s rise c.there c.same there)
+    all r to there = by (in_trees_on (λ (s : Segment). run_ids (names s.tree)) r trees spec.segment spec.sources (without_nodes spec.sources) c.s rise c.there c.same there)
       where
-        by : IsIn r (all_run_ids trees) ⊎ IsIn r (run_ids (names (without spec.sources c.s.tree))) → IsIn r (all_run_ids trees)
+        by : IsIn r (all_run_ids trees) ⊎ IsIn r (run_ids (names (without_nodes spec.sources c.s.tree))) → IsIn r (all_run_ids trees)
         by (inl one) = one
         by (inr one) = in_flat (λ (s : Segment). run_ids (names s.tree)) trees c.s r c.there (runs_left spec.sources c.s.tree r one)
 
     runs : run_ids job.spec.sources ≡ [] → (r : ℕ) → IsIn r (run_ids (names (tree_at job.spec.segment others))) → IsIn r (run_ids (names (tree_at job.spec.segment trees)))
     runs none r there = by place
       where
-        by : Where trees others job.spec.segment (without spec.sources) c.s → IsIn r (run_ids (names (tree_at job.spec.segment trees)))
+        by : Where trees others job.spec.segment (without_nodes spec.sources) c.s → IsIn r (run_ids (names (tree_at job.spec.segment trees)))
         by (Here here after) = subst (λ tree. IsIn r (run_ids (names tree))) (sym here) (runs_left spec.sources c.s.tree r (subst (λ tree. IsIn r (run_ids (names tree))) after there))
         by (Elsewhere e) = subst (λ tree. IsIn r (run_ids (names tree))) e there
 
-pub stand_on_out : {trees : Trees} {spec : JobSpec} (c : OutAt trees spec) (job : Job) → Rising trees → IsAway spec job → SourcesStand trees job → SourcesStand (map (on_segment spec.segment spec.sources (without spec.sources)) trees) job
-stand_on_out {trees} {spec} c job rise away h = by (where_on job.spec.segment spec.segment spec.sources (without spec.sources) trees c.s rise c.there c.same)
+pub stand_on_out : {trees : Trees} {spec : JobSpec} (c : OutAt trees spec) (job : Job) → Rising trees → IsAway spec job → SourcesStand trees job → SourcesStand (map (on_segment spec.segment spec.sources (without_nodes spec.sources)) trees) job
+stand_on_out {trees} {spec} c job rise away h = by (where_on job.spec.segment spec.segment spec.sources (without_nodes spec.sources) trees c.s rise c.there c.same)
   where
     others : Trees
-    others = map (on_segment spec.segment spec.sources (without spec.sources)) trees
+    others = map (on_segment spec.segment spec.sources (without_nodes spec.sources)) trees
 
-    by : Where trees others job.spec.segment (without spec.sources) c.s → SourcesStand others job
-    by (Here here after) = stand_beside_out trees others job spec.sources (after ∙ ap (without spec.sources) (sym here)) (subst Named (sym here) c.named) (subst InOrder (sym here) c.order) (not_out spec job away)
+    by : Where trees others job.spec.segment (without_nodes spec.sources) c.s → SourcesStand others job
+    by (Here here after) = stand_beside_out trees others job spec.sources (after ∙ ap (without_nodes spec.sources) (sym here)) (subst Named (sym here) c.named) (subst InOrder (sym here) c.order) (not_out spec job away)
         (destination_out c job rise h (Here here after)) h
     by (Elsewhere e) = record {
       some = h.some;
@@ -277,9 +277,9 @@ stand_on_out {trees} {spec} c job rise away h = by (where_on job.spec.segment sp
     }
 
 pub oldest_on_out : {trees : Trees} {spec : JobSpec} (c : OutAt trees spec) (job : Job) → Rising trees → IsAway spec job → IsTrue (is_nonempty job.spec.sources)
-    → AreOldest (tree_at job.spec.segment trees) job.spec.sources → AreOldest (tree_at job.spec.segment (map (on_segment spec.segment spec.sources (without spec.sources)) trees)) job.spec.sources
-oldest_on_out {trees} {spec} c job rise away some h = by (where_on job.spec.segment spec.segment spec.sources (without spec.sources) trees c.s rise c.there c.same)
+    → AreOldest (tree_at job.spec.segment trees) job.spec.sources → AreOldest (tree_at job.spec.segment (map (on_segment spec.segment spec.sources (without_nodes spec.sources)) trees)) job.spec.sources
+oldest_on_out {trees} {spec} c job rise away some h = by (where_on job.spec.segment spec.segment spec.sources (without_nodes spec.sources) trees c.s rise c.there c.same)
   where
-    by : Where trees (map (on_segment spec.segment spec.sources (without spec.sources)) trees) job.spec.segment (without spec.sources) c.s → AreOldest (tree_at job.spec.segment (map (on_segment spec.segment spec.sources (without spec.sources)) trees)) job.spec.sources
+    by : Where trees (map (on_segment spec.segment spec.sources (without_nodes spec.sources)) trees) job.spec.segment (without_nodes spec.sources) c.s → AreOldest (tree_at job.spec.segment (map (on_segment spec.segment spec.sources (without_nodes spec.sources)) trees)) job.spec.sources
     by (Here here after) = subst (λ tree. AreOldest tree job.spec.sources) (sym after) (oldest_beside_out spec.sources job.spec.sources c.s.tree c.named (not_out spec job away) some (subst (λ tree. AreOldest tree job.spec.sources) here h))
     by (Elsewhere e) = subst (λ tree. AreOldest tree job.spec.sources) (sym e) h

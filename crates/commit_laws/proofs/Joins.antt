@@ -14,10 +14,10 @@ use Rattle.fleet_model.specs.Handles.{tree_tables, job_tables, context_tables}
 use Rattle.fleet_model.specs.History.{Join}
 use Rattle.fleet_model.specs.Sources.{run_ids, all_run_ids, is_lowest_or_above}
 use Rattle.fleet_model.specs.Store.{Store, Manifest, stored_jobs, is_held, AreHeld}
-use Rattle.fleet_model.specs.Trees.{stepped, stepped_in, to_run, with_run_for, source_pieces, horizon_after}
+use Rattle.fleet_model.specs.Trees.{stepped_tree, stepped_in, to_run, with_run_for, source_pieces, horizon_after}
 use Rattle.fleet_model.specs.TreesFit.{IsTable, IsNewer}
 use Rattle.fleet_model.specs.JobsFit.{SourcesStand, DestinationFits, OutputsFit, SettingsFit, AreOldest, HoldApart, was_joined, cut_or}
-use Rattle.step_model.specs.Past.{Told}
+use Rattle.step_model.specs.Past.{World}
 use Rattle.step_model.specs.LawfulTables.{was_piece}
 use Rattle.step_model.specs.LawfulManifests.{JoinFits}
 use Rattle.step_model.specs.TablesKept.{NameApart}
@@ -72,84 +72,84 @@ cut_low floor id own at (Some cut) horizon e low = omega (arith, e)
 -- ---- what a join that is new has
 
 -- The job of a join that is new, with its place and its run.
-pub record NewJoin (merge : Operator) (told : Told) (specs : ℕ → JobSpec) (trees : Trees) (horizon : ℕ) (joined : List ℕ) (job : Job) (id : ℕ) : Type 0 where
-  pub body : Body merge told specs
-  pub midway : Midway merge told trees horizon joined
-  pub there : IsIn job (stored_jobs told.store)
-  pub kept : JobKept merge told specs job
+pub record NewJoin (merge : Operator) (world : World) (specs : ℕ → JobSpec) (trees : Trees) (horizon : ℕ) (joined : List ℕ) (job : Job) (id : ℕ) : Type 0 where
+  pub body : Body merge world specs
+  pub midway : Midway merge world trees horizon joined
+  pub there : IsIn job (stored_jobs world.store)
+  pub kept : JobKept merge world specs job
   pub compacted : IsTrue (has_status Compacted job)
   pub once : contains joined job.id ≡ false
-  pub unjoined : was_joined told.store.history job.id ≡ false
-  pub stood : SourcesStand told.store.manifest.trees job
+  pub unjoined : was_joined world.store.history job.id ≡ false
+  pub stood : SourcesStand world.store.manifest.trees job
   pub stands : SourcesStand trees job
   pub to : job.spec.destination ≡ Some id
   pub a : StretchAt trees job.spec
   pub own : Named a.s.tree
   pub may : RunMay trees job.spec id
 
--- The trees at the horizon behind the join.
-abbrev pub join_change : Told → Job → Tree → Tree
-join_change told job = stepped told.store.tables (Join job.id) job.spec (concat job.outputs)
+-- The trees at the horizon after the join.
+abbrev pub join_change : World → Job → Tree → Tree
+join_change world job = stepped_tree world.store.tables (Join job.id) job.spec (concat job.outputs)
 
-abbrev pub high : Told → Job → ℕ → ℕ
-high told job horizon = horizon_after told.store.manifest.floor (Join job.id) job.kept_cut horizon
+abbrev pub high : World → Job → ℕ → ℕ
+high world job horizon = horizon_after world.store.manifest.floor (Join job.id) job.kept_cut horizon
 
-pub raised : {merge : Operator} {told : Told} {specs : ℕ → JobSpec} {trees : Trees} {horizon : ℕ} {joined : List ℕ} {job : Job} {id : ℕ} → NewJoin merge told specs trees horizon joined job id
-    → TreesKept merge (with_horizon told.store (high told job horizon)) told.store.history trees
-raised {merge} {told} {specs} {trees} {horizon} {joined} {job} {id} n = later_trees merge told.store told.store.history horizon (high told job horizon) trees (horizon_rises told.store.manifest.floor job.id job.kept_cut horizon) n.midway.kept
+pub raised : {merge : Operator} {world : World} {specs : ℕ → JobSpec} {trees : Trees} {horizon : ℕ} {joined : List ℕ} {job : Job} {id : ℕ} → NewJoin merge world specs trees horizon joined job id
+    → TreesKept merge (with_horizon world.store (high world job horizon)) world.store.history trees
+raised {merge} {world} {specs} {trees} {horizon} {joined} {job} {id} n = later_trees merge world.store world.store.history horizon (high world job horizon) trees (horizon_rises world.store.manifest.floor job.id job.kept_cut horizon) n.midway.kept
 
-pub place_of : {merge : Operator} {told : Told} {specs : ℕ → JobSpec} {trees : Trees} {horizon : ℕ} {joined : List ℕ} {job : Job} {id : ℕ} (n : NewJoin merge told specs trees horizon joined job id)
-    → SegmentFits merge (with_horizon told.store (high told job horizon)) told.store.history n.a.s
+pub place_of : {merge : Operator} {world : World} {specs : ℕ → JobSpec} {trees : Trees} {horizon : ℕ} {joined : List ℕ} {job : Job} {id : ℕ} (n : NewJoin merge world specs trees horizon joined job id)
+    → SegmentFits merge (with_horizon world.store (high world job horizon)) world.store.history n.a.s
 place_of n = all_at _ _ n.a.s (raised n).each n.a.there
 
-pub makes_run : {merge : Operator} {told : Told} {specs : ℕ → JobSpec} {trees : Trees} {horizon : ℕ} {joined : List ℕ} {job : Job} {id : ℕ} (n : NewJoin merge told specs trees horizon joined job id)
-    → join_change told job n.a.s.tree ≡ with_run_for job.spec.sources id (concat job.outputs) n.a.s.tree
-makes_run {merge} {told} {specs} {trees} {horizon} {joined} {job} {id} n = ap (λ d. to_run (λ i. with_run_for job.spec.sources i (concat job.outputs)) d n.a.s.tree) n.to
+pub makes_run : {merge : Operator} {world : World} {specs : ℕ → JobSpec} {trees : Trees} {horizon : ℕ} {joined : List ℕ} {job : Job} {id : ℕ} (n : NewJoin merge world specs trees horizon joined job id)
+    → join_change world job n.a.s.tree ≡ with_run_for job.spec.sources id (concat job.outputs) n.a.s.tree
+makes_run {merge} {world} {specs} {trees} {horizon} {joined} {job} {id} n = ap (λ d. to_run (λ i. with_run_for job.spec.sources i (concat job.outputs)) d n.a.s.tree) n.to
 
-pub order_of : {merge : Operator} {told : Told} {specs : ℕ → JobSpec} {trees : Trees} {horizon : ℕ} {joined : List ℕ} {job : Job} {id : ℕ} (n : NewJoin merge told specs trees horizon joined job id) → InOrder n.a.s.tree
-order_of {merge} {told} {specs} {trees} {horizon} {joined} {job} {id} n = in_order told.store.tables n.a.s (place_of n).tree
+pub order_of : {merge : Operator} {world : World} {specs : ℕ → JobSpec} {trees : Trees} {horizon : ℕ} {joined : List ℕ} {job : Job} {id : ℕ} (n : NewJoin merge world specs trees horizon joined job id) → InOrder n.a.s.tree
+order_of {merge} {world} {specs} {trees} {horizon} {joined} {job} {id} n = in_order world.store.tables n.a.s (place_of n).tree
 
-abbrev pub run_of_join : {merge : Operator} {told : Told} {specs : ℕ → JobSpec} {trees : Trees} {horizon : ℕ} {joined : List ℕ} {job : Job} {id : ℕ} (n : NewJoin merge told specs trees horizon joined job id)
-    → RunAt trees job.spec id (concat job.outputs) (join_change told job)
-run_of_join {merge} {told} {specs} {trees} {horizon} {joined} {job} {id} n = run_at trees job.spec id (concat job.outputs) (join_change told job) n.a n.midway.kept.rise n.own (order_of n) n.may (makes_run n)
+abbrev pub run_of_join : {merge : Operator} {world : World} {specs : ℕ → JobSpec} {trees : Trees} {horizon : ℕ} {joined : List ℕ} {job : Job} {id : ℕ} (n : NewJoin merge world specs trees horizon joined job id)
+    → RunAt trees job.spec id (concat job.outputs) (join_change world job)
+run_of_join {merge} {world} {specs} {trees} {horizon} {joined} {job} {id} n = run_at trees job.spec id (concat job.outputs) (join_change world job) n.a n.midway.kept.rise n.own (order_of n) n.may (makes_run n)
 
 -- The tables of the sources are those of the stretch.
-pub sources_same : {merge : Operator} {told : Told} {specs : ℕ → JobSpec} {trees : Trees} {horizon : ℕ} {joined : List ℕ} {job : Job} {id : ℕ} (n : NewJoin merge told specs trees horizon joined job id)
+pub sources_same : {merge : Operator} {world : World} {specs : ℕ → JobSpec} {trees : Trees} {horizon : ℕ} {joined : List ℕ} {job : Job} {id : ℕ} (n : NewJoin merge world specs trees horizon joined job id)
     → flat_map (λ (node : Node). node.pieces) (n.a.t ∷ n.a.ts) ≡ job.source_tables
-sources_same {merge} {told} {specs} {trees} {horizon} {joined} {job} {id} n =
+sources_same {merge} {world} {specs} {trees} {horizon} {joined} {job} {id} n =
     sym (pieces_of_stretch job.spec.sources n.a.s.tree (as_stretch trees job.spec n.a) n.own)
     ∙ ap (source_pieces job.spec.sources) (sym (tree_before job.spec.segment trees n.a.s n.midway.kept.rise n.a.there n.a.same)) ∙ n.stands.source_tables
 
-taken_of : {merge : Operator} {told : Told} {specs : ℕ → JobSpec} {trees : Trees} {horizon : ℕ} {joined : List ℕ} {job : Job} {id : ℕ} (n : NewJoin merge told specs trees horizon joined job id) (P : Node → Type 0)
+taken_of : {merge : Operator} {world : World} {specs : ℕ → JobSpec} {trees : Trees} {horizon : ℕ} {joined : List ℕ} {job : Job} {id : ℕ} (n : NewJoin merge world specs trees horizon joined job id) (P : Node → Type 0)
     → AllByRecursion P n.a.s.tree → AllByRecursion P (n.a.t ∷ n.a.ts)
 taken_of n P h = all_taken P n.a.newer (n.a.t ∷ n.a.ts) n.a.older (subst (AllByRecursion P) n.a.whole h)
 
-pub sources_held : {merge : Operator} {told : Told} {specs : ℕ → JobSpec} {trees : Trees} {horizon : ℕ} {joined : List ℕ} {job : Job} {id : ℕ} (n : NewJoin merge told specs trees horizon joined job id) → AreHeld told.store job.source_tables
-sources_held {merge} {told} {specs} {trees} {horizon} {joined} {job} {id} n = subst (AreHeld told.store) (sources_same n)
-    (all_true_from (is_held told.store) (flat_map (λ (node : Node). node.pieces) (n.a.t ∷ n.a.ts)) (all_flat (λ t. IsTrue (is_held told.store t)) (λ (node : Node). node.pieces) (n.a.t ∷ n.a.ts)
-    (all_to _ _ (n.a.t ∷ n.a.ts) (λ node there held. all_true_front (is_held told.store) node.pieces held) (taken_of n (λ node. AreHeld told.store node.pieces) (place_of n).pieces))))
+pub sources_held : {merge : Operator} {world : World} {specs : ℕ → JobSpec} {trees : Trees} {horizon : ℕ} {joined : List ℕ} {job : Job} {id : ℕ} (n : NewJoin merge world specs trees horizon joined job id) → AreHeld world.store job.source_tables
+sources_held {merge} {world} {specs} {trees} {horizon} {joined} {job} {id} n = subst (AreHeld world.store) (sources_same n)
+    (all_true_from (is_held world.store) (flat_map (λ (node : Node). node.pieces) (n.a.t ∷ n.a.ts)) (all_flat (λ t. IsTrue (is_held world.store t)) (λ (node : Node). node.pieces) (n.a.t ∷ n.a.ts)
+    (all_to _ _ (n.a.t ∷ n.a.ts) (λ node there held. all_true_front (is_held world.store) node.pieces held) (taken_of n (λ node. AreHeld world.store node.pieces) (place_of n).pieces))))
 
 pub not_was : {A : Type 0} (b : Bool) → b ≡ false → IsTrue b ⊎ A → A
 not_was b e (inl was) = absurd (never_both b was e)
 not_was b e (inr h) = h
 
-pub undone_of : (told : Told) (joined : List ℕ) (job : Job) → contains joined job.id ≡ false → was_joined told.store.history job.id ≡ false → is_done told.store.history joined job ≡ false
-undone_of told joined job e f = ap (λ b. b || was_joined told.store.history job.id) e ∙ f
+pub undone_of : (world : World) (joined : List ℕ) (job : Job) → contains joined job.id ≡ false → was_joined world.store.history job.id ≡ false → is_done world.store.history joined job ≡ false
+undone_of world joined job e f = ap (λ b. b || was_joined world.store.history job.id) e ∙ f
 
-join_makes : {merge : Operator} {told : Told} {specs : ℕ → JobSpec} {trees : Trees} {horizon : ℕ} {joined : List ℕ} {job : Job} {id : ℕ} (n : NewJoin merge told specs trees horizon joined job id) (f : OutputsFit merge told.store specs job)
-    → JoinMakes merge (with_horizon told.store (high told job horizon)) (before_these true n.a.older) (n.a.t ∷ n.a.ts) (concat job.outputs) f.settings
-join_makes {merge} {told} {specs} {trees} {horizon} {joined} {job} {id} n f = record {
-  rows = subst (λ ts. job_rows merge f.settings (source_rows told.store.tables ts) ≡ record { rows = noted_rows told.store.tables (concat job.outputs); whole = true }) (sym (sources_same n)) (f.rows (sources_held n));
-  cut = cut_low told.store.manifest.floor job.id f.settings.floor f.settings.cut job.kept_cut horizon f.cut f.at_most_floor;
+join_makes : {merge : Operator} {world : World} {specs : ℕ → JobSpec} {trees : Trees} {horizon : ℕ} {joined : List ℕ} {job : Job} {id : ℕ} (n : NewJoin merge world specs trees horizon joined job id) (f : OutputsFit merge world.store specs job)
+    → JoinMakes merge (with_horizon world.store (high world job horizon)) (before_these true n.a.older) (n.a.t ∷ n.a.ts) (concat job.outputs) f.settings
+join_makes {merge} {world} {specs} {trees} {horizon} {joined} {job} {id} n f = record {
+  rows = subst (λ ts. job_rows merge f.settings (source_rows world.store.tables ts) ≡ record { rows = noted_rows world.store.tables (concat job.outputs); whole = true }) (sym (sources_same n)) (f.rows (sources_held n));
+  cut = cut_low world.store.manifest.floor job.id f.settings.floor f.settings.cut job.kept_cut horizon f.cut f.at_most_floor;
   tick = fit.tick;
-  last_run = λ is. oldest (old_holds.oldest (compacted_holds job.status n.compacted) (undone_of told joined job n.once n.unjoined) n.stood (fit.last_run is));
+  last_run = λ is. oldest (old_holds.oldest (compacted_holds job.status n.compacted) (undone_of world joined job n.once n.unjoined) n.stood (fit.last_run is));
 }
   where
-    fit : SettingsFit told.store.manifest job.spec f.settings
-    fit = not_was (was_joined told.store.history job.id) n.unjoined f.fit
+    fit : SettingsFit world.store.manifest job.spec f.settings
+    fit = not_was (was_joined world.store.history job.id) n.unjoined f.fit
 
-    old_holds : JobHolds told trees joined job
-    old_holds = all_at (JobHolds told trees joined) (stored_jobs told.store) job n.midway.jobs n.there
+    old_holds : JobHolds world trees joined job
+    old_holds = all_at (JobHolds world trees joined) (stored_jobs world.store) job n.midway.jobs n.there
 
     none : (older : Tree) → Some (names older) ≡ Some [] → before_these true older ≡ true
     none [] e = refl
@@ -158,29 +158,29 @@ join_makes {merge} {told} {specs} {trees} {horizon} {joined} {job} {id} n f = re
     oldest : AreOldest (tree_at job.spec.segment trees) job.spec.sources → before_these true n.a.older ≡ true
     oldest h = none n.a.older (sym n.a.rest ∙ subst (λ tree. AreOldest tree job.spec.sources) (tree_before job.spec.segment trees n.a.s n.midway.kept.rise n.a.there n.a.same) h)
 
-outputs_unused : {merge : Operator} {told : Told} {specs : ℕ → JobSpec} {trees : Trees} {horizon : ℕ} {joined : List ℕ} {job : Job} {id : ℕ} (n : NewJoin merge told specs trees horizon joined job id) (t : ℕ) → IsIn t (concat job.outputs) → was_piece told.past t ≡ false
-outputs_unused {merge} {told} {specs} {trees} {horizon} {joined} {job} {id} n t there =
-    all_at (λ u. was_piece told.past u ≡ false) (concat job.outputs) t (all_back _ (context_tables job.context) (concat job.outputs) (n.kept.facts.unused (both (is_active job) (was_joined told.store.history job.id) (compacted_active job.status n.compacted) n.unjoined))) there
+outputs_unused : {merge : Operator} {world : World} {specs : ℕ → JobSpec} {trees : Trees} {horizon : ℕ} {joined : List ℕ} {job : Job} {id : ℕ} (n : NewJoin merge world specs trees horizon joined job id) (t : ℕ) → IsIn t (concat job.outputs) → was_piece world.past t ≡ false
+outputs_unused {merge} {world} {specs} {trees} {horizon} {joined} {job} {id} n t there =
+    all_at (λ u. was_piece world.past u ≡ false) (concat job.outputs) t (all_back _ (context_tables job.context) (concat job.outputs) (n.kept.facts.unused (both (is_active job) (was_joined world.store.history job.id) (compacted_active job.status n.compacted) n.unjoined))) there
   where
     both : (a b : Bool) → IsTrue a → b ≡ false → IsTrue (a && not b)
     both true true h e = absurd (cc e)
     both true false h e = refl
     both false b h e = absurd (cc h)
 
-join_pieces : {merge : Operator} {told : Told} {specs : ℕ → JobSpec} {trees : Trees} {horizon : ℕ} {joined : List ℕ} {job : Job} {id : ℕ} (n : NewJoin merge told specs trees horizon joined job id) → IsLawful merge
-    → PiecesMay merge (with_horizon told.store (high told job horizon)) told.store.history trees job.spec id (concat job.outputs) (join_change told job) (run_of_join n)
-join_pieces {merge} {told} {specs} {trees} {horizon} {joined} {job} {id} n lawful =
+join_pieces : {merge : Operator} {world : World} {specs : ℕ → JobSpec} {trees : Trees} {horizon : ℕ} {joined : List ℕ} {job : Job} {id : ℕ} (n : NewJoin merge world specs trees horizon joined job id) → IsLawful merge
+    → PiecesMay merge (with_horizon world.store (high world job horizon)) world.store.history trees job.spec id (concat job.outputs) (join_change world job) (run_of_join n)
+join_pieces {merge} {world} {specs} {trees} {horizon} {joined} {job} {id} n lawful =
     let active = compacted_active job.status n.compacted in
     let f = n.kept.fits.outputs n.compacted in
     record {
-      held = all_true_from (is_held told.store) (concat job.outputs) (all_back _ (context_tables job.context) (concat job.outputs) (all_true_front (is_held told.store) (job_tables job) (n.kept.fits.tables active).named));
+      held = all_true_from (is_held world.store) (concat job.outputs) (all_back _ (context_tables job.context) (concat job.outputs) (all_true_front (is_held world.store) (job_tables job) (n.kept.fits.tables active).named));
       known = all_to _ _ (concat job.outputs) (λ t there drawn. inl drawn) (all_back _ (context_tables job.context) (concat job.outputs) (n.kept.facts.drawn active));
       between = run_between trees job.spec id n.a n.midway.kept.rise (order_of n) n.may;
       less = without_sources job.spec.sources n.a.s.tree (as_stretch trees job.spec n.a) n.own;
-      fits = join_fits merge (with_horizon told.store (high told job horizon)) (before_these true n.a.older) id (n.a.t ∷ n.a.ts) (concat job.outputs) f.settings lawful
-          (pairs_first (IsNewer told.store.tables) (n.a.t ∷ n.a.ts) n.a.older (pairs_second (IsNewer told.store.tables) n.a.newer ((n.a.t ∷ n.a.ts) ++ n.a.older) (subst (Pairs (IsNewer told.store.tables)) n.a.whole (place_of n).tree.newest_first)))
+      fits = join_fits merge (with_horizon world.store (high world job horizon)) (before_these true n.a.older) id (n.a.t ∷ n.a.ts) (concat job.outputs) f.settings lawful
+          (pairs_first (IsNewer world.store.tables) (n.a.t ∷ n.a.ts) n.a.older (pairs_second (IsNewer world.store.tables) n.a.newer ((n.a.t ∷ n.a.ts) ++ n.a.older) (subst (Pairs (IsNewer world.store.tables)) n.a.whole (place_of n).tree.newest_first)))
           (taken_of n _ (place_of n).tree.ordered) (join_makes n f);
-      new_tables = λ t there. inr (λ y one held. (all_at (JobHolds told trees joined) (stored_jobs told.store) job n.midway.jobs n.there).unused t (outputs_unused n t there) active (undone_of told joined job n.once n.unjoined)
+      new_tables = λ t there. inr (λ y one held. (all_at (JobHolds world trees joined) (stored_jobs world.store) job n.midway.jobs n.there).unused t (outputs_unused n t there) active (undone_of world joined job n.once n.unjoined)
           (in_back t (context_tables job.context) (concat job.outputs) there) (in_flat tree_tables trees y t one held));
     }
 
@@ -194,39 +194,39 @@ no_tables store (t ∷ ts) h e = absurd (at (table_rows store.tables t) h.0.some
     at [] some e = some refl
     at (r ∷ rows) some e = absurd (cc e)
 
-were_pieces : {merge : Operator} {told : Told} {specs : ℕ → JobSpec} {trees : Trees} {horizon : ℕ} {joined : List ℕ} {job : Job} {id : ℕ} (n : NewJoin merge told specs trees horizon joined job id) (t : ℕ) → IsIn t job.source_tables → IsTrue (was_piece told.past t)
-were_pieces {merge} {told} {specs} {trees} {horizon} {joined} {job} {id} n t there =
-    all_at (λ u. IsTrue (was_piece told.past u)) (source_pieces job.spec.sources (tree_at job.spec.segment told.store.manifest.trees)) t
-    (sources_all (λ u. IsTrue (was_piece told.past u)) job.spec.sources (tree_at job.spec.segment told.store.manifest.trees)
-    (tree_has (λ tree. AllByRecursion (λ (node : Node). AllByRecursion (λ u. IsTrue (was_piece told.past u)) node.pieces) tree) job.spec.segment told.store.manifest.trees tt
-    (all_from _ told.store.manifest.trees (λ s one. all_from _ s.tree (λ node other. all_from _ node.pieces (λ u held.
-    any_of (λ (m : Manifest). contains (flat_map tree_tables m.trees) u) told.past told.store.manifest (stored_in_past told.store.manifest told.past n.body.past)
-    (in_contains (flat_map tree_tables told.store.manifest.trees) u (in_flat tree_tables told.store.manifest.trees s u one (in_flat (λ (x : Node). x.pieces) s.tree node u other held)))))))))
+were_pieces : {merge : Operator} {world : World} {specs : ℕ → JobSpec} {trees : Trees} {horizon : ℕ} {joined : List ℕ} {job : Job} {id : ℕ} (n : NewJoin merge world specs trees horizon joined job id) (t : ℕ) → IsIn t job.source_tables → IsTrue (was_piece world.past t)
+were_pieces {merge} {world} {specs} {trees} {horizon} {joined} {job} {id} n t there =
+    all_at (λ u. IsTrue (was_piece world.past u)) (source_pieces job.spec.sources (tree_at job.spec.segment world.store.manifest.trees)) t
+    (sources_all (λ u. IsTrue (was_piece world.past u)) job.spec.sources (tree_at job.spec.segment world.store.manifest.trees)
+    (tree_has (λ tree. AllByRecursion (λ (node : Node). AllByRecursion (λ u. IsTrue (was_piece world.past u)) node.pieces) tree) job.spec.segment world.store.manifest.trees tt
+    (all_from _ world.store.manifest.trees (λ s one. all_from _ s.tree (λ node other. all_from _ node.pieces (λ u held.
+    any_of (λ (m : Manifest). contains (flat_map tree_tables m.trees) u) world.past world.store.manifest (stored_in_past world.store.manifest world.past n.body.past)
+    (in_contains (flat_map tree_tables world.store.manifest.trees) u (in_flat tree_tables world.store.manifest.trees s u one (in_flat (λ (x : Node). x.pieces) s.tree node u other held)))))))))
     (subst (IsIn t) (sym n.stood.source_tables) there)
 
-own_join : {merge : Operator} {told : Told} {specs : ℕ → JobSpec} {trees : Trees} {horizon : ℕ} {joined : List ℕ} {job : Job} {id : ℕ} (n : NewJoin merge told specs trees horizon joined job id)
-    → OwnJoin told.store.tables told.store.history told.past trees job id (join_change told job)
-own_join {merge} {told} {specs} {trees} {horizon} {joined} {job} {id} n = record {
+own_join : {merge : Operator} {world : World} {specs : ℕ → JobSpec} {trees : Trees} {horizon : ℕ} {joined : List ℕ} {job : Job} {id : ℕ} (n : NewJoin merge world specs trees horizon joined job id)
+    → OwnJoin world.store.tables world.store.history world.past trees job id (join_change world job)
+own_join {merge} {world} {specs} {trees} {horizon} {joined} {job} {id} n = record {
   c = run_of_join n;
   rise = n.midway.kept.rise;
   apart = n.midway.kept.tables;
   newest = (place_of n).tree.newest_first;
-  rows = have_rows merge (with_horizon told.store (high told job horizon)) told.store.history n.a.s n.body.sound.tables (place_of n);
+  rows = have_rows merge (with_horizon world.store (high world job horizon)) world.store.history n.a.s n.body.sound.tables (place_of n);
   flushed = (place_of n).flushed;
   source_tables = sources_same n;
   were = were_pieces n;
   unused = outputs_unused n;
-  empty = λ none. no_tables told.store (concat job.outputs) (all_held told.store (concat job.outputs) n.body.sound.tables
-      (all_true_from (is_held told.store) (concat job.outputs) (all_back _ (context_tables job.context) (concat job.outputs) (all_true_front (is_held told.store) (job_tables job) (n.kept.fits.tables (compacted_active job.status n.compacted)).named))))
+  empty = λ none. no_tables world.store (concat job.outputs) (all_held world.store (concat job.outputs) n.body.sound.tables
+      (all_true_from (is_held world.store) (concat job.outputs) (all_back _ (context_tables job.context) (concat job.outputs) (all_true_front (is_held world.store) (job_tables job) (n.kept.fits.tables (compacted_active job.status n.compacted)).named))))
       (empty_rows none);
   lowest = λ r is. only r (subst (λ ids. IsTrue (is_lowest_or_above id ids (run_ids (names (tree_at job.spec.segment trees))))) (ap run_ids (sym n.a.named ∙ is)) n.may.lowest);
 }
   where
-    f : OutputsFit merge told.store specs job
+    f : OutputsFit merge world.store specs job
     f = n.kept.fits.outputs n.compacted
 
-    empty_rows : job.source_tables ≡ [] → noted_rows told.store.tables (concat job.outputs) ≡ []
-    empty_rows none = sym (ap (λ j. j.rows) (f.rows (sources_held n))) ∙ ap (λ ts. (job_rows merge f.settings (source_rows told.store.tables ts)).rows) none
+    empty_rows : job.source_tables ≡ [] → noted_rows world.store.tables (concat job.outputs) ≡ []
+    empty_rows none = sym (ap (λ j. j.rows) (f.rows (sources_held n))) ∙ ap (λ ts. (job_rows merge f.settings (source_rows world.store.tables ts)).rows) none
 
     only : (r : ℕ) → IsTrue (is_lowest_or_above id (r ∷ []) (run_ids (names (tree_at job.spec.segment trees)))) → r ≡ id
     only r h = at (r == id) refl h
@@ -237,17 +237,17 @@ own_join {merge} {told} {specs} {trees} {horizon} {joined} {job} {id} n = record
 
 -- ---- the other jobs
 
-beside_join : {merge : Operator} {told : Told} {specs : ℕ → JobSpec} {trees : Trees} {horizon : ℕ} {joined : List ℕ} {job : Job} {id : ℕ} (n : NewJoin merge told specs trees horizon joined job id) (other : Job) → IsIn other (stored_jobs told.store) → (job.id ≡ other.id → ⊥)
-    → BesideRun told trees joined other job.spec id (concat job.outputs) (join_change told job) (run_of_join n)
-beside_join {merge} {told} {specs} {trees} {horizon} {joined} {job} {id} n other there differs = record {
+beside_join : {merge : Operator} {world : World} {specs : ℕ → JobSpec} {trees : Trees} {horizon : ℕ} {joined : List ℕ} {job : Job} {id : ℕ} (n : NewJoin merge world specs trees horizon joined job id) (other : Job) → IsIn other (stored_jobs world.store) → (job.id ≡ other.id → ⊥)
+    → BesideRun world trees joined other job.spec id (concat job.outputs) (join_change world job) (run_of_join n)
+beside_join {merge} {world} {specs} {trees} {horizon} {joined} {job} {id} n other there differs = record {
   away = λ holds undone. away holds;
   tables = λ t one. inr (outputs_unused n t one);
-  mine = λ active t one. inr (λ named. apart active t (in_back t (context_tables job.context) (concat job.outputs) one) named (two_jobs NameApart (stored_jobs told.store) job other n.body.name_apart n.there there differs));
+  mine = λ active t one. inr (λ named. apart active t (in_back t (context_tables job.context) (concat job.outputs) one) named (two_jobs NameApart (stored_jobs world.store) job other n.body.name_apart n.there there differs));
   full = λ compacted done. inr (away (compacted_holds other.status compacted));
 }
   where
     away : IsTrue (reserves_nodes other) → IsAway job.spec other
-    away holds = by (two_jobs HoldApart (stored_jobs told.store) job other n.body.held_once n.there there differs)
+    away holds = by (two_jobs HoldApart (stored_jobs world.store) job other n.body.held_once n.there there differs)
       where
         by : HoldApart job other ⊎ HoldApart other job → IsAway job.spec other
         by (inl h) = h (compacted_holds job.status n.compacted) holds
@@ -259,41 +259,41 @@ beside_join {merge} {told} {specs} {trees} {horizon} {joined} {job} {id} n other
 
 -- ---- the join
 
-new_join_keeps : {merge : Operator} {told : Told} {specs : ℕ → JobSpec} {trees : Trees} {horizon : ℕ} {joined : List ℕ} {job : Job} {id : ℕ} → NewJoin merge told specs trees horizon joined job id → IsLawful merge
-    → Midway merge told (stepped_in told.store.tables (Join job.id) job.spec (concat job.outputs) trees) (high told job horizon) (job.id ∷ joined)
-new_join_keeps {merge} {told} {specs} {trees} {horizon} {joined} {job} {id} n lawful = record {
-  kept = trees_on merge (with_horizon told.store (high told job horizon)) told.store.history trees job.spec.segment job.spec.sources (join_change told job) n.a.s
-      (run_changes merge (with_horizon told.store (high told job horizon)) told.store.history trees job.spec id (concat job.outputs) (join_change told job) (run_of_join n) (join_pieces n lawful) (raised n)) (raised n);
-  jobs = all_to (JobHolds told trees joined) (JobHolds told (stepped_in told.store.tables (Join job.id) job.spec (concat job.outputs) trees) (job.id ∷ joined)) (stored_jobs told.store) (λ other there h. by other there h (job.id == other.id) refl) n.midway.jobs;
+new_join_keeps : {merge : Operator} {world : World} {specs : ℕ → JobSpec} {trees : Trees} {horizon : ℕ} {joined : List ℕ} {job : Job} {id : ℕ} → NewJoin merge world specs trees horizon joined job id → IsLawful merge
+    → Midway merge world (stepped_in world.store.tables (Join job.id) job.spec (concat job.outputs) trees) (high world job horizon) (job.id ∷ joined)
+new_join_keeps {merge} {world} {specs} {trees} {horizon} {joined} {job} {id} n lawful = record {
+  kept = trees_on merge (with_horizon world.store (high world job horizon)) world.store.history trees job.spec.segment job.spec.sources (join_change world job) n.a.s
+      (run_changes merge (with_horizon world.store (high world job horizon)) world.store.history trees job.spec id (concat job.outputs) (join_change world job) (run_of_join n) (join_pieces n lawful) (raised n)) (raised n);
+  jobs = all_to (JobHolds world trees joined) (JobHolds world (stepped_in world.store.tables (Join job.id) job.spec (concat job.outputs) trees) (job.id ∷ joined)) (stored_jobs world.store) (λ other there h. by other there h (job.id == other.id) refl) n.midway.jobs;
 }
   where
-    by : (other : Job) → IsIn other (stored_jobs told.store) → JobHolds told trees joined other → (b : Bool) → (job.id == other.id) ≡ b
-        → JobHolds told (stepped_in told.store.tables (Join job.id) job.spec (concat job.outputs) trees) (job.id ∷ joined) other
+    by : (other : Job) → IsIn other (stored_jobs world.store) → JobHolds world trees joined other → (b : Bool) → (job.id == other.id) ≡ b
+        → JobHolds world (stepped_in world.store.tables (Join job.id) job.spec (concat job.outputs) trees) (job.id ∷ joined) other
     by other there h true e = own (same_job job other n.there there ((Decides-eqb job.id other.id).0 e))
       where
-        own : job ≡ other → JobHolds told (stepped_in told.store.tables (Join job.id) job.spec (concat job.outputs) trees) (job.id ∷ joined) other
-        own same = subst (λ (x : Job). JobHolds told (stepped_in told.store.tables (Join job.id) job.spec (concat job.outputs) trees) (job.id ∷ joined) x) same
-            (holds_joined told (stepped_in told.store.tables (Join job.id) job.spec (concat job.outputs) trees) joined job (join_stands told.store.tables told.store.history told.past trees job id (join_change told job) (own_join n)))
+        own : job ≡ other → JobHolds world (stepped_in world.store.tables (Join job.id) job.spec (concat job.outputs) trees) (job.id ∷ joined) other
+        own same = subst (λ (x : Job). JobHolds world (stepped_in world.store.tables (Join job.id) job.spec (concat job.outputs) trees) (job.id ∷ joined) x) same
+            (holds_joined world (stepped_in world.store.tables (Join job.id) job.spec (concat job.outputs) trees) joined job (join_stands world.store.tables world.store.history world.past trees job id (join_change world job) (own_join n)))
 
-        same_job : (x y : Job) → IsIn x (stored_jobs told.store) → IsIn y (stored_jobs told.store) → x.id ≡ y.id → x ≡ y
-        same_job x y one two same = only_job (stored_jobs told.store) x y n.body.sound.job_ids one two same
+        same_job : (x y : Job) → IsIn x (stored_jobs world.store) → IsIn y (stored_jobs world.store) → x.id ≡ y.id → x ≡ y
+        same_job x y one two same = only_job (stored_jobs world.store) x y n.body.sound.job_ids one two same
     by other there h false e =
         let differs = λ (same : job.id ≡ other.id). never_both (job.id == other.id) ((Decides-eqb job.id other.id).1 same) e in
-        holds_with told (stepped_in told.store.tables (Join job.id) job.spec (concat job.outputs) trees) joined job.id other differs
-        (holds_on_run told trees joined other job.spec id (concat job.outputs) (join_change told job) (run_of_join n) n.midway.kept.rise (beside_join n other there differs) h)
+        holds_with world (stepped_in world.store.tables (Join job.id) job.spec (concat job.outputs) trees) joined job.id other differs
+        (holds_on_run world trees joined other job.spec id (concat job.outputs) (join_change world job) (run_of_join n) n.midway.kept.rise (beside_join n other there differs) h)
 
 -- ---- a join that a commit may take
 
-pub new_join : {merge : Operator} {told : Told} {specs : ℕ → JobSpec} {trees : Trees} {horizon : ℕ} {joined : List ℕ} (job : Job) (id : ℕ) → Body merge told specs → Midway merge told trees horizon joined → IsIn job (stored_jobs told.store)
-    → IsTrue (has_status Compacted job) → contains joined job.id ≡ false → was_joined told.store.history job.id ≡ false → SourcesStand told.store.manifest.trees job → SourcesStand trees job → job.spec.destination ≡ Some id
-    → DestinationFits trees (tree_at job.spec.segment trees) job.spec.sources (Some id) → NewJoin merge told specs trees horizon joined job id
-new_join {merge} {told} {specs} {trees} {horizon} {joined} job id b m there compacted once unjoined stood stands to h =
+pub new_join : {merge : Operator} {world : World} {specs : ℕ → JobSpec} {trees : Trees} {horizon : ℕ} {joined : List ℕ} (job : Job) (id : ℕ) → Body merge world specs → Midway merge world trees horizon joined → IsIn job (stored_jobs world.store)
+    → IsTrue (has_status Compacted job) → contains joined job.id ≡ false → was_joined world.store.history job.id ≡ false → SourcesStand world.store.manifest.trees job → SourcesStand trees job → job.spec.destination ≡ Some id
+    → DestinationFits trees (tree_at job.spec.segment trees) job.spec.sources (Some id) → NewJoin merge world specs trees horizon joined job id
+new_join {merge} {world} {specs} {trees} {horizon} {joined} job id b m there compacted once unjoined stood stands to h =
     let a = stretch_at trees job.spec stands.some stands.stretch in
     record {
       body = b;
       midway = m;
       there = there;
-      kept = all_at (JobKept merge told specs) (stored_jobs told.store) job b.jobs there;
+      kept = all_at (JobKept merge world specs) (stored_jobs world.store) job b.jobs there;
       compacted = compacted;
       once = once;
       unjoined = unjoined;
@@ -301,7 +301,7 @@ new_join {merge} {told} {specs} {trees} {horizon} {joined} job id b m there comp
       stands = stands;
       to = to;
       a = a;
-      own = segment_named merge (with_horizon told.store horizon) told.store.history a.s b.sound.tables (all_at _ trees a.s m.kept.each a.there);
+      own = segment_named merge (with_horizon world.store horizon) world.store.history a.s b.sound.tables (all_at _ trees a.s m.kept.each a.there);
       may = record { to = to; lowest = h.0; fresh = λ none one. fresh (contains (all_run_ids trees) id) refl (h.1 none) one };
     }
   where
@@ -309,51 +309,51 @@ new_join {merge} {told} {specs} {trees} {horizon} {joined} job id b m there comp
     fresh true e k one = absurd (cc k)
     fresh false e k one = never_both (contains (all_run_ids trees) id) (in_contains (all_run_ids trees) id one) e
 
-at_destination : {merge : Operator} {told : Told} {specs : ℕ → JobSpec} {trees : Trees} {horizon : ℕ} {joined : List ℕ} (job : Job) → IsLawful merge → Body merge told specs → Midway merge told trees horizon joined → IsIn job (stored_jobs told.store)
-    → IsTrue (has_status Compacted job) → contains joined job.id ≡ false → was_joined told.store.history job.id ≡ false → SourcesStand told.store.manifest.trees job → SourcesStand trees job → (d : Option ℕ) → job.spec.destination ≡ d
-    → DestinationFits trees (tree_at job.spec.segment trees) job.spec.sources d → Midway merge told (stepped_in told.store.tables (Join job.id) job.spec (concat job.outputs) trees) (high told job horizon) (job.id ∷ joined)
+at_destination : {merge : Operator} {world : World} {specs : ℕ → JobSpec} {trees : Trees} {horizon : ℕ} {joined : List ℕ} (job : Job) → IsLawful merge → Body merge world specs → Midway merge world trees horizon joined → IsIn job (stored_jobs world.store)
+    → IsTrue (has_status Compacted job) → contains joined job.id ≡ false → was_joined world.store.history job.id ≡ false → SourcesStand world.store.manifest.trees job → SourcesStand trees job → (d : Option ℕ) → job.spec.destination ≡ d
+    → DestinationFits trees (tree_at job.spec.segment trees) job.spec.sources d → Midway merge world (stepped_in world.store.tables (Join job.id) job.spec (concat job.outputs) trees) (high world job horizon) (job.id ∷ joined)
 at_destination job lawful b m there compacted once unjoined stood stands None to h = absurd h
 at_destination job lawful b m there compacted once unjoined stood stands (Some id) to h = new_join_keeps (new_join job id b m there compacted once unjoined stood stands to h) lawful
 
 -- A second join of a job leaves the trees.
-again_keeps : {merge : Operator} {told : Told} {specs : ℕ → JobSpec} {trees : Trees} {horizon : ℕ} {joined : List ℕ} (job : Job) → Body merge told specs → Midway merge told trees horizon joined → IsIn job (stored_jobs told.store) → IsTrue (has_status Compacted job)
-    → was_joined told.store.history job.id ≡ true → Midway merge told trees (high told job horizon) (job.id ∷ joined)
-again_keeps {merge} {told} {specs} {trees} {horizon} {joined} job b m there compacted was = record {
-  kept = later_trees merge told.store told.store.history horizon (high told job horizon) trees (horizon_rises told.store.manifest.floor job.id job.kept_cut horizon) m.kept;
-  jobs = all_to (JobHolds told trees joined) (JobHolds told trees (job.id ∷ joined)) (stored_jobs told.store) (λ other one h. by other one h (job.id == other.id) refl) m.jobs;
+again_keeps : {merge : Operator} {world : World} {specs : ℕ → JobSpec} {trees : Trees} {horizon : ℕ} {joined : List ℕ} (job : Job) → Body merge world specs → Midway merge world trees horizon joined → IsIn job (stored_jobs world.store) → IsTrue (has_status Compacted job)
+    → was_joined world.store.history job.id ≡ true → Midway merge world trees (high world job horizon) (job.id ∷ joined)
+again_keeps {merge} {world} {specs} {trees} {horizon} {joined} job b m there compacted was = record {
+  kept = later_trees merge world.store world.store.history horizon (high world job horizon) trees (horizon_rises world.store.manifest.floor job.id job.kept_cut horizon) m.kept;
+  jobs = all_to (JobHolds world trees joined) (JobHolds world trees (job.id ∷ joined)) (stored_jobs world.store) (λ other one h. by other one h (job.id == other.id) refl) m.jobs;
 }
   where
-    done : is_done told.store.history joined job ≡ true
+    done : is_done world.store.history joined job ≡ true
     done = either (contains joined job.id) was
       where
-        either : (c : Bool) → was_joined told.store.history job.id ≡ true → (c || was_joined told.store.history job.id) ≡ true
+        either : (c : Bool) → was_joined world.store.history job.id ≡ true → (c || was_joined world.store.history job.id) ≡ true
         either true e = refl
         either false e = e
 
-    by : (other : Job) → IsIn other (stored_jobs told.store) → JobHolds told trees joined other → (c : Bool) → (job.id == other.id) ≡ c → JobHolds told trees (job.id ∷ joined) other
+    by : (other : Job) → IsIn other (stored_jobs world.store) → JobHolds world trees joined other → (c : Bool) → (job.id == other.id) ≡ c → JobHolds world trees (job.id ∷ joined) other
     by other one h true e =
-        let same = only_job (stored_jobs told.store) job other b.sound.job_ids there one ((Decides-eqb job.id other.id).0 e) in
-        subst (λ (x : Job). JobHolds told trees (job.id ∷ joined) x) same (holds_joined told trees joined job ((all_at (JobHolds told trees joined) (stored_jobs told.store) job m.jobs there).again compacted done))
-    by other one h false e = holds_with told trees joined job.id other (λ same. never_both (job.id == other.id) ((Decides-eqb job.id other.id).1 same) e) h
+        let same = only_job (stored_jobs world.store) job other b.sound.job_ids there one ((Decides-eqb job.id other.id).0 e) in
+        subst (λ (x : Job). JobHolds world trees (job.id ∷ joined) x) same (holds_joined world trees joined job ((all_at (JobHolds world trees joined) (stored_jobs world.store) job m.jobs there).again compacted done))
+    by other one h false e = holds_with world trees joined job.id other (λ same. never_both (job.id == other.id) ((Decides-eqb job.id other.id).1 same) e) h
 
-pub join_keeps : (merge : Operator) (told : Told) (specs : ℕ → JobSpec) (trees : Trees) (horizon : ℕ) (joined : List ℕ) (id : ℕ) → IsLawful merge → Body merge told specs → (fits : JoinFits told trees joined id) → Midway merge told trees horizon joined
-    → Midway merge told (stepped_in told.store.tables (Join id) fits.job.spec (concat fits.job.outputs) trees) (horizon_after told.store.manifest.floor (Join id) fits.job.kept_cut horizon) (id ∷ joined)
-join_keeps merge told specs trees horizon joined id lawful b fits m =
-    subst (λ (n : ℕ). Midway merge told (stepped_in told.store.tables (Join id) fits.job.spec (concat fits.job.outputs) trees) (horizon_after told.store.manifest.floor (Join n) fits.job.kept_cut horizon) (n ∷ joined)) (sym found.1)
-    (by (was_joined told.store.history fits.job.id) refl)
+pub join_keeps : (merge : Operator) (world : World) (specs : ℕ → JobSpec) (trees : Trees) (horizon : ℕ) (joined : List ℕ) (id : ℕ) → IsLawful merge → Body merge world specs → (fits : JoinFits world trees joined id) → Midway merge world trees horizon joined
+    → Midway merge world (stepped_in world.store.tables (Join id) fits.job.spec (concat fits.job.outputs) trees) (horizon_after world.store.manifest.floor (Join id) fits.job.kept_cut horizon) (id ∷ joined)
+join_keeps merge world specs trees horizon joined id lawful b fits m =
+    subst (λ (n : ℕ). Midway merge world (stepped_in world.store.tables (Join id) fits.job.spec (concat fits.job.outputs) trees) (horizon_after world.store.manifest.floor (Join n) fits.job.kept_cut horizon) (n ∷ joined)) (sym found.1)
+    (by (was_joined world.store.history fits.job.id) refl)
   where
-    found : IsIn fits.job (stored_jobs told.store) × (id ≡ fits.job.id)
-    found = found_job id (stored_jobs told.store) fits.job fits.stored
+    found : IsIn fits.job (stored_jobs world.store) × (id ≡ fits.job.id)
+    found = found_job id (stored_jobs world.store) fits.job fits.stored
 
     once : contains joined fits.job.id ≡ false
     once = subst (λ n. contains joined n ≡ false) found.1 fits.once
 
-    kept : JobKept merge told specs fits.job
-    kept = all_at (JobKept merge told specs) (stored_jobs told.store) fits.job b.jobs found.0
+    kept : JobKept merge world specs fits.job
+    kept = all_at (JobKept merge world specs) (stored_jobs world.store) fits.job b.jobs found.0
 
-    by : (c : Bool) → was_joined told.store.history fits.job.id ≡ c → Midway merge told (stepped_in told.store.tables (Join id) fits.job.spec (concat fits.job.outputs) trees) (high told fits.job horizon) (fits.job.id ∷ joined)
-    by true e = subst (λ (ts : Trees). Midway merge told ts (high told fits.job horizon) (fits.job.id ∷ joined)) (sym (fits.again (subst (λ n. IsTrue (was_joined told.store.history n)) (sym found.1) e))) (again_keeps fits.job b m found.0 fits.finished e)
+    by : (c : Bool) → was_joined world.store.history fits.job.id ≡ c → Midway merge world (stepped_in world.store.tables (Join id) fits.job.spec (concat fits.job.outputs) trees) (high world fits.job horizon) (fits.job.id ∷ joined)
+    by true e = subst (λ (ts : Trees). Midway merge world ts (high world fits.job horizon) (fits.job.id ∷ joined)) (sym (fits.again (subst (λ n. IsTrue (was_joined world.store.history n)) (sym found.1) e))) (again_keeps fits.job b m found.0 fits.finished e)
     by false e =
-        let stood = not_was (was_joined told.store.history fits.job.id) e (kept.fits.sources.1 fits.finished) in
-        let stands = (all_at (JobHolds told trees joined) (stored_jobs told.store) fits.job m.jobs found.0).stand (compacted_holds fits.job.status fits.finished) (undone_of told joined fits.job once e) stood in
+        let stood = not_was (was_joined world.store.history fits.job.id) e (kept.fits.sources.1 fits.finished) in
+        let stands = (all_at (JobHolds world trees joined) (stored_jobs world.store) fits.job m.jobs found.0).stand (compacted_holds fits.job.status fits.finished) (undone_of world joined fits.job once e) stood in
         at_destination fits.job lawful b m found.0 fits.finished once e stood stands fits.job.spec.destination refl stands.destination

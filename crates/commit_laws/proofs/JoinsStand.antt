@@ -1,4 +1,4 @@
--- A join that stood stands behind later steps, and the join of a job stands behind its own step.
+-- A join that stood stands after later steps, and the join of a job stands after its own step.
 use Rattle.std.proofs.Common.{◌≡◌, refl, sym, ◌∙◌, ap, subst, ℕ, List, [], ◌∷◌, ◌++◌, cond, Bool, true, false, inl, inr, ◌⊎◌, Option, Some, None}
 use Rattle.std.specs.Prelude.{◌≢◌, IsTrue, IfSome, ◌==◌, map, flat_map, bytes_eq, ⊤}
 use Rattle.std.proofs.lemmas.Slice.Eq.{bytes_eq-Decides}
@@ -38,7 +38,7 @@ found_node name (node ∷ tree) x e = by (name_eq name node.name) refl (found_no
 
 -- ---- later steps
 
--- A node behind a step was there before, or has tables, or is none of the job's sources.
+-- A node after a step was there before, or has tables, or is none of the job's sources.
 abbrev pub IsOld : Tree → Job → Node → Type 0
 IsOld tree job x = IsIn x tree ⊎ ((x.pieces ≢ []) ⊎ (IsIn x.name job.spec.sources → ⊥))
 
@@ -103,7 +103,7 @@ in_pieces (x ∷ tree) t there = by (in_append t x.pieces (flat_map (λ (node : 
     by (inl one) rest = (x, (inl refl, one))
     by (inr one) rest = further (rest one)
 
--- A table of the sources is in no tree behind the join.
+-- A table of the sources is in no tree after the join.
 source_gone : (tables : Tables) (history : List Entry) (past : List Manifest) (trees : Trees) (job : Job) (id : ℕ) (change : Tree → Tree) (o : OwnJoin tables history past trees job id change) (t : ℕ) → IsIn t job.source_tables
     → IsIn t (flat_map tree_tables (map (on_segment job.spec.segment job.spec.sources change) trees)) → ⊥
 source_gone tables history past trees job id change o t source there =
@@ -151,7 +151,7 @@ source_gone tables history past trees job id change o t source there =
         by (inl one) rest = all.0 one
         by (inr one) rest = rest one
 
--- A source that is not the destination is no node of its tree behind the join.
+-- A source that is not the destination is no node of its tree after the join.
 source_node_gone : (tables : Tables) (history : List Entry) (past : List Manifest) (trees : Trees) (job : Job) (id : ℕ) (change : Tree → Tree) (o : OwnJoin tables history past trees job id change) (node : Node) (run : ℕ) → IsIn node (o.c.t ∷ o.c.ts) → node.name ≡ Run run → (run ≡ id → ⊥)
     → IfSome (node_named (Run run) (tree_at job.spec.segment (map (on_segment job.spec.segment job.spec.sources change) trees))) (λ x. x.pieces ≢ [])
 source_node_gone tables history past trees job id change o node run source is differs =

@@ -10,7 +10,7 @@ use Rattle.fleet_model.specs.Jobs.{JobSpec, Job, Jobs, job_with}
 use Rattle.fleet_model.specs.Sources.{is_apart}
 use Rattle.fleet_model.specs.Store.{stored_jobs}
 use Rattle.fleet_model.specs.History.{Party}
-use Rattle.step_model.specs.Past.{Told}
+use Rattle.step_model.specs.Past.{World}
 use Rattle.step_model.specs.Entries.{drew_job, is_mentioned}
 use Rattle.step_model.specs.LawfulManifests.{IsKnownTo}
 use Rattle.step_laws.proofs.Elements.{IsIn, all_at}
@@ -19,9 +19,9 @@ use Rattle.commit_laws.proofs.StepTrees.{TreesKept, names_apart_from, names_apar
 use Rattle.commit_laws.proofs.JobSteps.{JobHolds}
 
 -- The trees and the horizon in the midst of a commit, with the jobs that its steps joined so far.
-pub record Midway (merge : Operator) (told : Told) (trees : Trees) (horizon : ℕ) (joined : List ℕ) : Type 0 where
-  pub kept : TreesKept merge (with_horizon told.store horizon) told.store.history trees
-  pub jobs : AllByRecursion (JobHolds told trees joined) (stored_jobs told.store)
+pub record Midway (merge : Operator) (world : World) (trees : Trees) (horizon : ℕ) (joined : List ℕ) : Type 0 where
+  pub kept : TreesKept merge (with_horizon world.store horizon) world.store.history trees
+  pub jobs : AllByRecursion (JobHolds world trees joined) (stored_jobs world.store)
 
 -- ---- stored jobs
 
@@ -58,17 +58,17 @@ only_job (z ∷ jobs) x y h (inr a) (inr b) same = only_job jobs x y h.1 a b sam
 -- ---- the jobs that a commit does
 
 -- A job that a commit does is stored with its spec, or the party drew its id and no entry mentions it.
-pub data KnownCase (party : Party) (told : Told) (own : ℕ → JobSpec) (id : ℕ) : Type 0 where
-  Stored : (job : Job) → IsIn job (stored_jobs told.store) → job_with id (stored_jobs told.store) ≡ Some job → id ≡ job.id → own id ≡ job.spec → KnownCase party told own id
-  New : job_with id (stored_jobs told.store) ≡ None → IsTrue (drew_job party told.store.history id) → is_mentioned told.store.history id ≡ false → KnownCase party told own id
+pub data KnownCase (party : Party) (world : World) (own : ℕ → JobSpec) (id : ℕ) : Type 0 where
+  Stored : (job : Job) → IsIn job (stored_jobs world.store) → job_with id (stored_jobs world.store) ≡ Some job → id ≡ job.id → own id ≡ job.spec → KnownCase party world own id
+  New : job_with id (stored_jobs world.store) ≡ None → IsTrue (drew_job party world.store.history id) → is_mentioned world.store.history id ≡ false → KnownCase party world own id
 
-pub known_case : (party : Party) (told : Told) (own : ℕ → JobSpec) (id : ℕ) → IsKnownTo party told own id → KnownCase party told own id
-known_case party told own id known = at (job_with id (stored_jobs told.store)) refl known
+pub known_case : (party : Party) (world : World) (own : ℕ → JobSpec) (id : ℕ) → IsKnownTo party world own id → KnownCase party world own id
+known_case party world own id known = at (job_with id (stored_jobs world.store)) refl known
   where
     Known : Option Job → Type 0
-    Known None = IsTrue (drew_job party told.store.history id) × (is_mentioned told.store.history id ≡ false)
+    Known None = IsTrue (drew_job party world.store.history id) × (is_mentioned world.store.history id ≡ false)
     Known (Some job) = own id ≡ job.spec
 
-    at : (o : Option Job) → job_with id (stored_jobs told.store) ≡ o → Known o → KnownCase party told own id
+    at : (o : Option Job) → job_with id (stored_jobs world.store) ≡ o → Known o → KnownCase party world own id
     at None e k = New e k.0 k.1
-    at (Some job) e k = let found = found_job id (stored_jobs told.store) job e in Stored job found.0 e found.1 k
+    at (Some job) e k = let found = found_job id (stored_jobs world.store) job e in Stored job found.0 e found.1 k

@@ -6,7 +6,7 @@ use Rattle.fleet_model.specs.Nodes.{NodeName, L0, Run, is_l0, names_contain, Nod
 use Rattle.fleet_model.specs.Jobs.{Job, contains}
 use Rattle.fleet_model.specs.Gates.{is_nonempty}
 use Rattle.fleet_model.specs.Sources.{run_ids, all_run_ids, or_later, older_nodes, begins_with_run, reaches_oldest, is_whole_stretch, is_lowest_or_above}
-use Rattle.fleet_model.specs.Trees.{source_pieces, without}
+use Rattle.fleet_model.specs.Trees.{source_pieces, without_nodes}
 use Rattle.fleet_model.specs.TreesFit.{StandsBefore}
 use Rattle.fleet_model.specs.JobsFit.{SourcesStand, DestinationFits, AreOldest}
 use Rattle.step_laws.proofs.Elements.{IsIn, all_at, all_from, in_front, in_back, in_append, all_true_front, all_true_from, in_contains, contains_no}
@@ -58,8 +58,8 @@ flushes_meet x xs newer t ts older order mine others runs none h =
     no_run b (L0 n) e k = k
     no_run b (Run n) e k = absurd (cc e)
 
-    behind : (rest : List NodeName) → older_nodes (x ∷ xs) (names newer) ≡ Some rest → (b : ℕ) → IsIn (Run b) rest → ⊥
-    behind rest e b there =
+    afterwards : (rest : List NodeName) → older_nodes (x ∷ xs) (names newer) ≡ Some rest → (b : ℕ) → IsIn (Run b) rest → ⊥
+    afterwards rest e b there =
         let s = stretch_of (x ∷ xs) newer rest e in
         let same : Some rest ≡ Some (names s.older) = sym e ∙ s.rest in
         let found = node_of s.older (Run b) (subst (IsIn (Run b)) (some_same rest (names s.older) same) there) in
@@ -80,7 +80,7 @@ flushes_meet x xs newer t ts older order mine others runs none h =
     by None e k = in_runs_only (older_nodes (x ∷ xs) (names older)) refl k
     by (Some []) e k = not_first t.name (names ts ++ names older) other (must (begins_with_run (names (t ∷ ts) ++ names older)) k)
     by (Some (L0 n ∷ rest)) e k = not_first (L0 n) (rest ++ (names (t ∷ ts) ++ names older)) refl (must (begins_with_run ((L0 n ∷ rest) ++ (names (t ∷ ts) ++ names older))) k)
-    by (Some (Run n ∷ rest)) e k = behind (Run n ∷ rest) e n (inl refl)
+    by (Some (Run n ∷ rest)) e k = afterwards (Run n ∷ rest) e n (inl refl)
 
 -- ---- the destination of the other job
 
@@ -130,7 +130,7 @@ oldest_beside (x ∷ xs) newer t ts older run id name none other some h = oldest
 
 -- ---- the other job beside nodes that are taken out
 
-runs_left : (out : List NodeName) (older : Tree) → AllByRecursion (λ (o : Node). is_l0 o.name ≡ false) older → IsTrue (begins_with_run (names (without out older)))
+runs_left : (out : List NodeName) (older : Tree) → AllByRecursion (λ (o : Node). is_l0 o.name ≡ false) older → IsTrue (begins_with_run (names (without_nodes out older)))
 runs_left out [] h = refl
 runs_left out (o ∷ older) h = by (not (names_contain out o.name)) (runs_left out older h.1)
   where
@@ -138,27 +138,27 @@ runs_left out (o ∷ older) h = by (not (names_contain out o.name)) (runs_left o
     first (L0 n) rest e = absurd (cc e)
     first (Run n) rest e = refl
 
-    by : (b : Bool) → IsTrue (begins_with_run (names (without out older))) → IsTrue (begins_with_run (names (cond b (o ∷ without out older) (without out older))))
-    by true rest = first o.name (names (without out older)) h.0
+    by : (b : Bool) → IsTrue (begins_with_run (names (without_nodes out older))) → IsTrue (begins_with_run (names (cond b (o ∷ without_nodes out older) (without_nodes out older))))
+    by true rest = first o.name (names (without_nodes out older)) h.0
     by false rest = rest
 
-pub stretch_beside_out : (out : List NodeName) (x : NodeName) (xs : List NodeName) (tree : Tree) → Named tree → InOrder tree → AllByRecursion (λ y. names_contain out y ≡ false) (x ∷ xs) → IsTrue (is_whole_stretch tree (x ∷ xs)) → IsTrue (is_whole_stretch (without out tree) (x ∷ xs))
+pub stretch_beside_out : (out : List NodeName) (x : NodeName) (xs : List NodeName) (tree : Tree) → Named tree → InOrder tree → AllByRecursion (λ y. names_contain out y ≡ false) (x ∷ xs) → IsTrue (is_whole_stretch tree (x ∷ xs)) → IsTrue (is_whole_stretch (without_nodes out tree) (x ∷ xs))
 stretch_beside_out out x xs tree named order none h = by (older_nodes (x ∷ xs) (names tree)) refl h
   where
-    reach : (s : Stretch (x ∷ xs) tree) → (b : Bool) → IsTrue (not b || begins_with_run (names s.older)) → IsTrue (not b || begins_with_run (names (without out s.older)))
+    reach : (s : Stretch (x ∷ xs) tree) → (b : Bool) → IsTrue (not b || begins_with_run (names s.older)) → IsTrue (not b || begins_with_run (names (without_nodes out s.older)))
     reach s false k = refl
     reach s true k =
         let last = pairs_second (λ (a b : Node). StandsBefore a.name b.name) s.taken s.older (pairs_second (λ (a b : Node). StandsBefore a.name b.name) s.newer (s.taken ++ s.older) (subst InOrder s.whole order)) in
         runs_left out s.older (begins_runs s.older k last)
 
-    at : (s : Stretch (x ∷ xs) tree) → IsTrue (is_whole_stretch (without out tree) (x ∷ xs))
+    at : (s : Stretch (x ∷ xs) tree) → IsTrue (is_whole_stretch (without_nodes out tree) (x ∷ xs))
     at s = subst (λ o. IsTrue (reaches_oldest (x ∷ xs) o)) (sym (older_left out x xs tree s named none)) (reach s (list_any is_l0 (x ∷ xs)) (subst (λ o. IsTrue (reaches_oldest (x ∷ xs) o)) s.rest h))
 
-    by : (o : Option (List NodeName)) → older_nodes (x ∷ xs) (names tree) ≡ o → IsTrue (reaches_oldest (x ∷ xs) o) → IsTrue (is_whole_stretch (without out tree) (x ∷ xs))
+    by : (o : Option (List NodeName)) → older_nodes (x ∷ xs) (names tree) ≡ o → IsTrue (reaches_oldest (x ∷ xs) o) → IsTrue (is_whole_stretch (without_nodes out tree) (x ∷ xs))
     by None e k = absurd (cc k)
     by (Some rest) e k = at (stretch_of (x ∷ xs) tree rest e)
 
-pub stand_beside_out : (trees others : Trees) (job : Job) (out : List NodeName) → tree_at job.spec.segment others ≡ without out (tree_at job.spec.segment trees) → Named (tree_at job.spec.segment trees) → InOrder (tree_at job.spec.segment trees)
+pub stand_beside_out : (trees others : Trees) (job : Job) (out : List NodeName) → tree_at job.spec.segment others ≡ without_nodes out (tree_at job.spec.segment trees) → Named (tree_at job.spec.segment trees) → InOrder (tree_at job.spec.segment trees)
     → AllByRecursion (λ y. names_contain out y ≡ false) job.spec.sources → DestinationFits others (tree_at job.spec.segment others) job.spec.sources job.spec.destination → SourcesStand trees job → SourcesStand others job
 stand_beside_out trees others job out after named order none destination h = record {
   some = h.some;
@@ -167,15 +167,15 @@ stand_beside_out trees others job out after named order none destination h = rec
   destination = destination;
 }
   where
-    stretch : (sources : List NodeName) → IsTrue (is_nonempty sources) → AllByRecursion (λ y. names_contain out y ≡ false) sources → IsTrue (is_whole_stretch (tree_at job.spec.segment trees) sources) → IsTrue (is_whole_stretch (without out (tree_at job.spec.segment trees)) sources)
+    stretch : (sources : List NodeName) → IsTrue (is_nonempty sources) → AllByRecursion (λ y. names_contain out y ≡ false) sources → IsTrue (is_whole_stretch (tree_at job.spec.segment trees) sources) → IsTrue (is_whole_stretch (without_nodes out (tree_at job.spec.segment trees)) sources)
     stretch [] some none k = absurd (cc some)
     stretch (x ∷ xs) some none k = stretch_beside_out out x xs (tree_at job.spec.segment trees) named order none k
 
-pub oldest_beside_out : (out sources : List NodeName) (tree : Tree) → Named tree → AllByRecursion (λ y. names_contain out y ≡ false) sources → IsTrue (is_nonempty sources) → AreOldest tree sources → AreOldest (without out tree) sources
+pub oldest_beside_out : (out sources : List NodeName) (tree : Tree) → Named tree → AllByRecursion (λ y. names_contain out y ≡ false) sources → IsTrue (is_nonempty sources) → AreOldest tree sources → AreOldest (without_nodes out tree) sources
 oldest_beside_out out [] tree named none some h = absurd (cc some)
 oldest_beside_out out (x ∷ xs) tree named none some h =
     let s = stretch_of (x ∷ xs) tree [] h in
-    older_left out x xs tree s named none ∙ ap (λ ns. Some (names (without out ns))) (empty s.older (sym s.rest ∙ h))
+    older_left out x xs tree s named none ∙ ap (λ ns. Some (names (without_nodes out ns))) (empty s.older (sym s.rest ∙ h))
   where
     empty : (older : Tree) → Some (names older) ≡ Some [] → older ≡ []
     empty [] e = refl

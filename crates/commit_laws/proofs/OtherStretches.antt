@@ -4,7 +4,7 @@ use Rattle.std.specs.Prelude.{IsTrue, ◌||◌, not, filter, find, option_map}
 use Rattle.std.specs.List.{AllByRecursion, list_any, cons_option}
 use Rattle.fleet_model.specs.Nodes.{NodeName, L0, Run, name_eq, is_l0, names_contain, Node, Tree, names, node_named}
 use Rattle.fleet_model.specs.Sources.{after_front, or_later, older_nodes, reaches_oldest, is_whole_stretch}
-use Rattle.fleet_model.specs.Trees.{source_nodes, without}
+use Rattle.fleet_model.specs.Trees.{source_nodes, without_nodes}
 use Rattle.step_laws.proofs.Elements.{IsIn, all_at, all_from, all_to}
 use Rattle.commit_laws.proofs.Stretches.{Named, Stretch, name_same, name_itself, name_turned, never_both, names_append, pairs_of, pairs_filter, filter_append, filter_all, all_names}
 
@@ -31,7 +31,7 @@ skipped : (x : NodeName) (xs ys more : List NodeName) → AllByRecursion (λ y. 
 skipped x xs [] more h = refl
 skipped x xs (y ∷ ys) more h = ap (λ b. or_later (cond b (after_front xs (ys ++ more)) None) (older_nodes (x ∷ xs) (ys ++ more))) h.0 ∙ skipped x xs ys more h.1
 
--- What is older than the sources is found before the others or behind them.
+-- What is older than the sources is found before the others or after them.
 abbrev pub Around : List NodeName → (p b o : List NodeName) → Option (List NodeName)
 Around xs p b o = or_later (option_map (λ rest. rest ++ (b ++ o)) (older_nodes xs p)) (older_nodes xs o)
 
@@ -128,11 +128,11 @@ find_filter p keep (x ∷ xs) h = by (keep x) refl (p x) refl (find_filter p kee
     by false k true e rest = absurd (never_both (keep x) (h x e) k)
     by false k false e rest = rest
 
-pub node_not_out : (x : NodeName) (out : List NodeName) (tree : Tree) → names_contain out x ≡ false → node_named x (without out tree) ≡ node_named x tree
+pub node_not_out : (x : NodeName) (out : List NodeName) (tree : Tree) → names_contain out x ≡ false → node_named x (without_nodes out tree) ≡ node_named x tree
 node_not_out x out tree none = find_filter (λ (node : Node). name_eq x node.name) (λ (node : Node). not (names_contain out node.name)) tree (λ node same. ap not (ap (names_contain out) (sym (name_same x node.name same)) ∙ none))
 
-pub sources_not_out : (xs out : List NodeName) (tree : Tree) → AllByRecursion (λ x. names_contain out x ≡ false) xs → source_nodes xs (without out tree) ≡ source_nodes xs tree
-sources_not_out xs out tree h = sources_alike xs (without out tree) tree (all_to _ _ xs (λ x there none. node_not_out x out tree none) h)
+pub sources_not_out : (xs out : List NodeName) (tree : Tree) → AllByRecursion (λ x. names_contain out x ≡ false) xs → source_nodes xs (without_nodes out tree) ≡ source_nodes xs tree
+sources_not_out xs out tree h = sources_alike xs (without_nodes out tree) tree (all_to _ _ xs (λ x there none. node_not_out x out tree none) h)
 
 after_itself : (xs o : List NodeName) → after_front xs (xs ++ o) ≡ Some o
 after_itself [] o = refl
@@ -154,22 +154,22 @@ none_out out [] h = tt
 none_out out (node ∷ taken) h = (ap not h.0, none_out out taken h.1)
 
 -- A stretch of which no node is taken out stays one.
-pub stretch_left : (out : List NodeName) (xs : List NodeName) (tree : Tree) (s : Stretch xs tree) → AllByRecursion (λ x. names_contain out x ≡ false) xs → without out tree ≡ without out s.newer ++ (s.taken ++ without out s.older)
+pub stretch_left : (out : List NodeName) (xs : List NodeName) (tree : Tree) (s : Stretch xs tree) → AllByRecursion (λ x. names_contain out x ≡ false) xs → without_nodes out tree ≡ without_nodes out s.newer ++ (s.taken ++ without_nodes out s.older)
 stretch_left out xs tree s h =
     let p : Node → Bool = λ node. not (names_contain out node.name) in
     let kept : filter p s.taken ≡ s.taken = filter_all p s.taken (none_out out s.taken (subst (AllByRecursion (λ x. names_contain out x ≡ false)) (sym s.named) h)) in
     ap (filter p) s.whole ∙ filter_append p s.newer (s.taken ++ s.older) ∙ ap (λ nodes. filter p s.newer ++ nodes) (filter_append p s.taken s.older ∙ ap (λ nodes. nodes ++ filter p s.older) kept)
 
 pub older_left : (out : List NodeName) (x : NodeName) (xs : List NodeName) (tree : Tree) (s : Stretch (x ∷ xs) tree) → Named tree → AllByRecursion (λ y. names_contain out y ≡ false) (x ∷ xs)
-    → older_nodes (x ∷ xs) (names (without out tree)) ≡ Some (names (without out s.older))
+    → older_nodes (x ∷ xs) (names (without_nodes out tree)) ≡ Some (names (without_nodes out s.older))
 older_left out x xs tree s named h = by s.taken refl s.named
   where
-    left : Named (without out s.newer ++ (s.taken ++ without out s.older))
+    left : Named (without_nodes out s.newer ++ (s.taken ++ without_nodes out s.older))
     left = subst Named (stretch_left out (x ∷ xs) tree s h) (pairs_filter (λ (a b : Node). name_eq a.name b.name ≡ false) (λ (node : Node). not (names_contain out node.name)) tree named)
 
-    by : (taken : Tree) → s.taken ≡ taken → names taken ≡ x ∷ xs → older_nodes (x ∷ xs) (names (without out tree)) ≡ Some (names (without out s.older))
+    by : (taken : Tree) → s.taken ≡ taken → names taken ≡ x ∷ xs → older_nodes (x ∷ xs) (names (without_nodes out tree)) ≡ Some (names (without_nodes out s.older))
     by [] e n = absurd (cc n)
     by (t ∷ ts) e n =
-        subst (λ ns. older_nodes ns (names (without out tree)) ≡ Some (names (without out s.older))) n
-        (ap (λ nodes. older_nodes (names (t ∷ ts)) (names nodes)) (stretch_left out (x ∷ xs) tree s h ∙ ap (λ nodes. without out s.newer ++ (nodes ++ without out s.older)) e)
-        ∙ older_here (without out s.newer) t ts (without out s.older) (subst (λ nodes. Named (without out s.newer ++ (nodes ++ without out s.older))) e left))
+        subst (λ ns. older_nodes ns (names (without_nodes out tree)) ≡ Some (names (without_nodes out s.older))) n
+        (ap (λ nodes. older_nodes (names (t ∷ ts)) (names nodes)) (stretch_left out (x ∷ xs) tree s h ∙ ap (λ nodes. without_nodes out s.newer ++ (nodes ++ without_nodes out s.older)) e)
+        ∙ older_here (without_nodes out s.newer) t ts (without_nodes out s.older) (subst (λ nodes. Named (without_nodes out s.newer ++ (nodes ++ without_nodes out s.older))) e left))

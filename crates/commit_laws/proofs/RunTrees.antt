@@ -5,7 +5,7 @@ use Rattle.std.specs.List.{AllByRecursion}
 use Rattle.row_model.specs.Lists.{Pairs}
 use Rattle.row_model.specs.Rows.{Row, IsStrictlyOrdered}
 use Rattle.fleet_model.specs.Nodes.{Tables, table_rows, NodeName, L0, Run, name_eq, Node, Tree, Segment, names, node_rows}
-use Rattle.fleet_model.specs.Trees.{source_nodes, source_pieces, without, put_run, with_run_for}
+use Rattle.fleet_model.specs.Trees.{source_nodes, source_pieces, without_nodes, put_run, with_run_for}
 use Rattle.fleet_model.specs.TreesFit.{StandsBefore, IsNewer, IsTree, IsAtMost, node_and_flushed_rows}
 use Rattle.fleet_model.specs.History.{Entry}
 use Rattle.step_model.specs.TablesKept.{IsFlush}
@@ -59,9 +59,9 @@ tree_named tables history (a ∷ tree) order newest flushes rows =
 pub nodes_of_stretch : (sources : List NodeName) (tree : Tree) (s : Stretch sources tree) → Named tree → source_nodes sources tree ≡ s.taken
 nodes_of_stretch sources tree s named = subst (λ ns. source_nodes ns tree ≡ s.taken) s.named (nodes_named tree s.taken named (λ node there. subst (IsIn node) (sym s.whole) (in_back node s.newer (s.taken ++ s.older) (in_front node s.taken s.older there))))
 
-pub without_sources : (sources : List NodeName) (tree : Tree) (s : Stretch sources tree) → Named tree → without sources tree ≡ s.newer ++ s.older
+pub without_sources : (sources : List NodeName) (tree : Tree) (s : Stretch sources tree) → Named tree → without_nodes sources tree ≡ s.newer ++ s.older
 without_sources sources tree s named =
-    subst (λ ns. without ns tree ≡ s.newer ++ s.older) s.named (subst (λ nodes. without (names s.taken) nodes ≡ s.newer ++ s.older) (sym s.whole) (without_stretch s.newer s.taken s.older (subst Named s.whole named)))
+    subst (λ ns. without_nodes ns tree ≡ s.newer ++ s.older) s.named (subst (λ nodes. without_nodes (names s.taken) nodes ≡ s.newer ++ s.older) (sym s.whole) (without_stretch s.newer s.taken s.older (subst Named s.whole named)))
 
 pub run_stands : (sources : List NodeName) (id : ℕ) (pieces : List ℕ) (tree : Tree) (s : Stretch sources tree) → Named tree → Between id s.newer s.older
     → with_run_for sources id pieces tree ≡ s.newer ++ run_for id pieces s.taken ∷ s.older
@@ -81,11 +81,11 @@ pub tree_with_run : (tables : Tables) (s : Segment) (mark : Option ℕ) (newer t
     → IsTree tables s → IsTree tables (record s { tree = newer ++ run ∷ older; watermark = mark })
 tree_with_run tables s mark newer taken older run id whole name between covered ordered h = record {
   names_in_order = names_pairs StandsBefore (newer ++ run ∷ older) (pairs_replaced (λ (a b : Node). StandsBefore a.name b.name) newer taken older run (subst InOrder whole (pairs_names StandsBefore s.tree h.names_in_order))
-      (subst (λ n. AllByRecursion (λ (x : Node). StandsBefore x.name n) newer) (sym name) between.behind)
+      (subst (λ n. AllByRecursion (λ (x : Node). StandsBefore x.name n) newer) (sym name) between.afterwards)
       (subst (λ n. AllByRecursion (λ (o : Node). StandsBefore n o.name) older) (sym name) between.before));
   newest_first = pairs_replaced (IsNewer tables) newer taken older run newest
       (all_from _ newer (λ n there. all_from _ (node_and_flushed_rows tables n) (λ r one. covered (λ seq. seq < r.seq) (all_from _ taken (λ t other. all_at (λ (x : Row). AllByRecursion (λ (q : Row). q.seq < x.seq) (node_and_flushed_rows tables t)) (node_and_flushed_rows tables n) r (before n t there other) one)))))
-      (all_from _ older (λ o there. covered (λ seq. AllByRecursion (λ (q : Row). q.seq < seq) (node_and_flushed_rows tables o)) (all_from _ taken (λ t other. behind t o other there))));
+      (all_from _ older (λ o there. covered (λ seq. AllByRecursion (λ (q : Row). q.seq < seq) (node_and_flushed_rows tables o)) (all_from _ taken (λ t other. after t o other there))));
   at_most_last = all_replaced (λ (node : Node). AllByRecursion (λ (r : Row). IsAtMost s.last_seq r.seq) (node_and_flushed_rows tables node)) newer taken older run at_most
       (covered (λ seq. IsAtMost s.last_seq seq) (all_taken (λ (node : Node). AllByRecursion (λ (r : Row). IsAtMost s.last_seq r.seq) (node_and_flushed_rows tables node)) newer taken older at_most));
   ordered = all_replaced (λ (node : Node). IsStrictlyOrdered (node_rows tables node)) newer taken older run (subst (AllByRecursion (λ (node : Node). IsStrictlyOrdered (node_rows tables node))) whole h.ordered) ordered;
@@ -100,5 +100,5 @@ tree_with_run tables s mark newer taken older run id whole name between covered 
     before : (n t : Node) → IsIn n newer → IsIn t taken → IsNewer tables n t
     before n t one other = pairs_of (IsNewer tables) newer (taken ++ older) n t newest one (in_front t taken older other)
 
-    behind : (t o : Node) → IsIn t taken → IsIn o older → IsNewer tables t o
-    behind t o one other = pairs_of (IsNewer tables) taken older t o (pairs_second (IsNewer tables) newer (taken ++ older) newest) one other
+    after : (t o : Node) → IsIn t taken → IsIn o older → IsNewer tables t o
+    after t o one other = pairs_of (IsNewer tables) taken older t o (pairs_second (IsNewer tables) newer (taken ++ older) newest) one other

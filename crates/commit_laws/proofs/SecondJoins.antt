@@ -11,10 +11,10 @@ use Rattle.fleet_model.specs.Gates.{first_failing, commit_gate}
 use Rattle.fleet_model.specs.Handles.{tree_tables}
 use Rattle.fleet_model.specs.History.{Join}
 use Rattle.fleet_model.specs.Store.{stored_jobs}
-use Rattle.fleet_model.specs.Trees.{on_segment, stepped, stepped_in, to_run, with_run_for, source_nodes, source_pieces, watermark_after, l0_or}
+use Rattle.fleet_model.specs.Trees.{on_segment, stepped_tree, stepped_in, to_run, with_run_for, source_nodes, source_pieces, watermark_after, l0_or}
 use Rattle.fleet_model.specs.TreesFit.{StandsBefore}
 use Rattle.fleet_model.specs.JobsFit.{was_joined}
-use Rattle.step_model.specs.Past.{Told}
+use Rattle.step_model.specs.Past.{World}
 use Rattle.step_model.specs.JoinsKept.{JoinStands, Gone, NotEmpty, Itself}
 use Rattle.fleet_model.specs.Sources.{older_nodes}
 use Rattle.step_laws.proofs.Elements.{IsIn, all_at, all_from, all_to, all_true_front, contains_in, in_contains}
@@ -32,7 +32,7 @@ use Rattle.commit_laws.proofs.Segments.{segment_named, in_order}
 use Rattle.commit_laws.proofs.StepTrees.{changed_segment}
 use Rattle.commit_laws.proofs.JobSteps.{JobHolds, tree_before}
 use Rattle.commit_laws.proofs.Midway.{found_job}
-use Rattle.commit_laws.specs.Behind.{joined_by, trees_behind}
+use Rattle.commit_laws.specs.After.{joined_by, trees_after}
 use Rattle.commit_laws.proofs.CommitSteps.{steps_keep}
 use Rattle.commit_laws.proofs.CommitJobs.{horizon_of}
 use Rattle.commit_laws.proofs.Commits.{start}
@@ -108,7 +108,7 @@ same_tree tree node run named order there name none = at (split_at tree node the
           rest = ap (λ ns. older_nodes ns (names tree)) (ap (λ n. n ∷ []) (sym name)) ∙ ap (λ nodes. older_nodes (names (node ∷ [])) (names nodes)) s.whole ∙ older_here s.newer node [] s.older own;
         } in
         let place : Between run s.newer s.older = record {
-          behind = all_from _ s.newer (λ n one. subst (StandsBefore n.name) name (pairs_of (λ (a b : Node). StandsBefore a.name b.name) s.newer (node ∷ s.older) n node (subst InOrder s.whole order) one (inl refl)));
+          afterwards = all_from _ s.newer (λ n one. subst (StandsBefore n.name) name (pairs_of (λ (a b : Node). StandsBefore a.name b.name) s.newer (node ∷ s.older) n node (subst InOrder s.whole order) one (inl refl)));
           before = subst (λ n. AllByRecursion (λ (o : Node). StandsBefore n o.name) s.older) name (pairs_second (λ (a b : Node). StandsBefore a.name b.name) s.newer (node ∷ s.older) (subst InOrder s.whole order)).0;
         } in
         run_stands (Run run ∷ []) run [] tree stretch named place ∙ ap (λ n. s.newer ++ n ∷ s.older) itself ∙ sym s.whole
@@ -134,16 +134,16 @@ map_same f (s ∷ trees) h = let first = h.0 in let rest = map_same f trees h.1 
 
 -- ---- the law
 
-pub rest_at : (merge : Operator) (told : Told) (trees : Trees) (horizon : ℕ) (joined : List ℕ) (job : Job) → AllByRecursion (λ s. Named s.tree × InOrder s.tree) trees → Rising trees → Passed trees job → JoinStands told.past trees job
-    → stepped_in told.store.tables (Join job.id) job.spec (concat job.outputs) trees ≡ trees
-rest_at merge told trees horizon joined job fits rise p (Gone t there gone) =
+pub rest_at : (merge : Operator) (world : World) (trees : Trees) (horizon : ℕ) (joined : List ℕ) (job : Job) → AllByRecursion (λ s. Named s.tree × InOrder s.tree) trees → Rising trees → Passed trees job → JoinStands world.past trees job
+    → stepped_in world.store.tables (Join job.id) job.spec (concat job.outputs) trees ≡ trees
+rest_at merge world trees horizon joined job fits rise p (Gone t there gone) =
     absurd (never_both (contains (flat_map tree_tables trees) t) (in_contains (flat_map tree_tables trees) t
     (all_at (λ u. IsIn u (flat_map tree_tables trees)) (source_pieces job.spec.sources (tree_at job.spec.segment trees)) t
     (sources_all (λ u. IsIn u (flat_map tree_tables trees)) job.spec.sources (tree_at job.spec.segment trees)
     (tree_has (λ tree. AllByRecursion (λ (node : Node). AllByRecursion (λ u. IsIn u (flat_map tree_tables trees)) node.pieces) tree) job.spec.segment trees tt
     (all_from _ trees (λ s one. all_from _ s.tree (λ node other. all_from _ node.pieces (λ u held. in_flat tree_tables trees s u one (in_flat (λ (x : Node). x.pieces) s.tree node u other held)))))))
     (subst (IsIn t) (sym p.tables) (contains_in job.source_tables t there)))) gone.1)
-rest_at merge told trees horizon joined job fits rise p (NotEmpty run there other none some) = by (node_named (Run run) (tree_at job.spec.segment trees)) refl some
+rest_at merge world trees horizon joined job fits rise p (NotEmpty run there other none some) = by (node_named (Run run) (tree_at job.spec.segment trees)) refl some
   where
     source : IsIn (Run run) job.spec.sources
     source = names_in job.spec.sources (Run run) there
@@ -154,7 +154,7 @@ rest_at merge told trees horizon joined job fits rise p (NotEmpty run there othe
     named : Named (tree_at job.spec.segment trees)
     named = tree_has Named job.spec.segment trees tt (all_to _ _ trees (λ s one f. f.0) fits)
 
-    by : (o : Option Node) → node_named (Run run) (tree_at job.spec.segment trees) ≡ o → IfSome o (λ node. node.pieces ≢ []) → stepped_in told.store.tables (Join job.id) job.spec (concat job.outputs) trees ≡ trees
+    by : (o : Option Node) → node_named (Run run) (tree_at job.spec.segment trees) ≡ o → IfSome o (λ node. node.pieces ≢ []) → stepped_in world.store.tables (Join job.id) job.spec (concat job.outputs) trees ≡ trees
     by None e k =
         let found = node_of (tree_at job.spec.segment trees) (Run run) in_tree in
         absurd (clash found.node (sym e ∙ ap (λ n. node_named n (tree_at job.spec.segment trees)) (sym found.same) ∙ named_in (tree_at job.spec.segment trees) found.node named found.there))
@@ -162,9 +162,9 @@ rest_at merge told trees horizon joined job fits rise p (NotEmpty run there othe
         clash : (x : Node) → None ≡ Some x → ⊥
         clash x e = absurd (cc e)
     by (Some node) e k = absurd (k (no_pieces job.spec.sources (tree_at job.spec.segment trees) (Run run) node (p.tables ∙ none) source e))
-rest_at merge told trees horizon joined job fits rise p (Itself run sources to none empty) = map_same (on_segment job.spec.segment job.spec.sources (stepped told.store.tables (Join job.id) job.spec (concat job.outputs))) trees (all_from _ trees (λ s there. by s there (bytes_eq job.spec.segment s.prefix) refl))
+rest_at merge world trees horizon joined job fits rise p (Itself run sources to none empty) = map_same (on_segment job.spec.segment job.spec.sources (stepped_tree world.store.tables (Join job.id) job.spec (concat job.outputs))) trees (all_from _ trees (λ s there. by s there (bytes_eq job.spec.segment s.prefix) refl))
   where
-    tree_same : (s : Segment) → IsIn s trees → job.spec.segment ≡ s.prefix → stepped told.store.tables (Join job.id) job.spec (concat job.outputs) s.tree ≡ s.tree
+    tree_same : (s : Segment) → IsIn s trees → job.spec.segment ≡ s.prefix → stepped_tree world.store.tables (Join job.id) job.spec (concat job.outputs) s.tree ≡ s.tree
     tree_same s there same =
         let tree = tree_before job.spec.segment trees s rise there same in
         let one = names_in (names s.tree) (Run run) (subst (λ t. names_contain (names t) (Run run) ≡ true) tree (subst (λ ns. AllByRecursion (λ x. names_contain (names (tree_at job.spec.segment trees)) x ≡ true) ns) sources p.there).0) in
@@ -174,7 +174,7 @@ rest_at merge told trees horizon joined job fits rise p (Itself run sources to n
         (ap (λ n. node_named n s.tree) (sym found.same) ∙ named_in s.tree found.node f.0 found.there) in
         (λ i. to_run (λ id. with_run_for (sources i) id (empty i)) (to i) s.tree) ∙ same_tree s.tree found.node run f.0 f.1 found.there found.same none_there
 
-    by : (s : Segment) → IsIn s trees → (b : Bool) → bytes_eq job.spec.segment s.prefix ≡ b → cond b (changed_segment job.spec.sources (stepped told.store.tables (Join job.id) job.spec (concat job.outputs)) s) s ≡ s
+    by : (s : Segment) → IsIn s trees → (b : Bool) → bytes_eq job.spec.segment s.prefix ≡ b → cond b (changed_segment job.spec.sources (stepped_tree world.store.tables (Join job.id) job.spec (concat job.outputs)) s) s ≡ s
     by s there true e =
         let tree = tree_same s there ((bytes_eq-Decides job.spec.segment s.prefix).0 e) in
         let mark = ap (λ ns. watermark_after ns s.tree s.watermark) sources ∙ same_mark run s.tree s.watermark in
@@ -182,15 +182,15 @@ rest_at merge told trees horizon joined job fits rise p (Itself run sources to n
     by s there false e = refl
 
 pub second_joins_rest : (merge : Operator) → IsLawful merge → SecondJoinsRest merge
-second_joins_rest merge lawful told party specs first job k known fits stored compacted was gate =
-    let w = whole_of merge told k in
-    let m = steps_keep merge told party k.stored.replay.specs specs told.store.manifest.trees told.store.manifest.horizon [] first lawful w.body known fits (start merge told k.stored.replay.specs w.body) in
-    let found = found_job job.id (stored_jobs told.store) job stored in
-    rest_at merge told (trees_behind told specs first) (horizon_of told first) (joined_by first []) job
-    (all_to _ _ (trees_behind told specs first) (λ s there f. (segment_named merge (with_horizon told.store (horizon_of told first)) told.store.history s w.body.sound.tables f, in_order told.store.tables s f.tree)) m.kept.each) m.kept.rise
-    (passed (trees_behind told specs first) job gate)
-    ((all_at (JobHolds told (trees_behind told specs first) (joined_by first [])) (stored_jobs told.store) job m.jobs found.0).again compacted (either (contains (joined_by first []) job.id) was))
+second_joins_rest merge lawful world party specs first job k known fits stored compacted was gate =
+    let w = whole_of merge world k in
+    let m = steps_keep merge world party k.stored.replay.specs specs world.store.manifest.trees world.store.manifest.horizon [] first lawful w.body known fits (start merge world k.stored.replay.specs w.body) in
+    let found = found_job job.id (stored_jobs world.store) job stored in
+    rest_at merge world (trees_after world specs first) (horizon_of world first) (joined_by first []) job
+    (all_to _ _ (trees_after world specs first) (λ s there f. (segment_named merge (with_horizon world.store (horizon_of world first)) world.store.history s w.body.sound.tables f, in_order world.store.tables s f.tree)) m.kept.each) m.kept.rise
+    (passed (trees_after world specs first) job gate)
+    ((all_at (JobHolds world (trees_after world specs first) (joined_by first [])) (stored_jobs world.store) job m.jobs found.0).again compacted (either (contains (joined_by first []) job.id) was))
   where
-    either : (c : Bool) → was_joined told.store.history job.id ≡ true → (c || was_joined told.store.history job.id) ≡ true
+    either : (c : Bool) → was_joined world.store.history job.id ≡ true → (c || was_joined world.store.history job.id) ≡ true
     either true e = refl
     either false e = e

@@ -8,7 +8,7 @@ use Rattle.row_model.specs.Fold.{Operator}
 use Rattle.fleet_model.specs.Nodes.{Tables, table_rows, rows_or_none, is_among, NodeName, L0, Run, is_l0, names_contain, Node, Tree, Segment, names, node_rows}
 use Rattle.fleet_model.specs.History.{Entry}
 use Rattle.fleet_model.specs.Store.{Store, AreHeld, WerePut, is_held}
-use Rattle.fleet_model.specs.Trees.{without, watermark_after, l0_or}
+use Rattle.fleet_model.specs.Trees.{without_nodes, watermark_after, l0_or}
 use Rattle.fleet_model.specs.TreesFit.{StandsBefore, IsTree, IsTable, IsNewer}
 use Rattle.fleet_model.specs.ReadsFit.{SameReads, NodeKeepsReads, TreeKeepsReads}
 use Rattle.fleet_model.proofs.Joins.{same_reads-chain}
@@ -81,7 +81,7 @@ passed_by history sources ns (node ∷ tree) mark gone h = by (names_contain sou
 
 -- The nodes of the new tree are new runs, or nodes that are left.
 abbrev pub Left : List NodeName → Tree → Tree → Type 0
-Left sources tree new = (node : Node) → IsIn node new → (is_l0 node.name ≡ false) ⊎ IsIn node (without sources tree)
+Left sources tree new = (node : Node) → IsIn node new → (is_l0 node.name ≡ false) ⊎ IsIn node (without_nodes sources tree)
 
 filter_passes : {A : Type 0} (p : A → Bool) (xs : List A) (y : A) → IsIn y (filter p xs) → p y ≡ true
 filter_passes p [] y there = absurd there
@@ -106,7 +106,7 @@ passed_after history sources tree new mark left flushed h = passed_by history so
     gone (Run id) node flush same among = tt
     gone (L0 n) node flush same among = ((subst (IsFlush history node) same flush).0, no_flush new n (λ other there is. at other is (left other there)))
       where
-        at : (other : Node) → other.name ≡ L0 n → (is_l0 other.name ≡ false) ⊎ IsIn other (without sources tree) → ⊥
+        at : (other : Node) → other.name ≡ L0 n → (is_l0 other.name ≡ false) ⊎ IsIn other (without_nodes sources tree) → ⊥
         at other is (inl run) = flush_not_run n other.name is run
         at other is (inr one) = never_both (names_contain sources other.name) (ap (names_contain sources) is ∙ among) (unnot (names_contain sources other.name) (filter_passes (λ (x : Node). not (names_contain sources x.name)) tree other one))
           where
@@ -118,7 +118,7 @@ passed_after history sources tree new mark left flushed h = passed_by history so
     old None h = tt
     old (Some flush) h = (h.0, no_flush new flush (λ other there is. at other is (left other there)))
       where
-        at : (other : Node) → other.name ≡ L0 flush → (is_l0 other.name ≡ false) ⊎ IsIn other (without sources tree) → ⊥
+        at : (other : Node) → other.name ≡ L0 flush → (is_l0 other.name ≡ false) ⊎ IsIn other (without_nodes sources tree) → ⊥
         at other is (inl run) = flush_not_run flush other.name is run
         at other is (inr one) = never_both (names_contain (names tree) (L0 flush)) (has (subst (λ n. IsIn n (names tree)) is (node_in_names tree other (in_filtered (λ (x : Node). not (names_contain sources x.name)) tree other one)))) h.1
           where
@@ -147,7 +147,7 @@ abbrev pub with_run : Segment → List NodeName → Tree → ℕ → List ℕ �
 with_run s sources newer id pieces taken older = record s { tree = newer ++ run_for id pieces taken ∷ older; watermark = watermark_after sources s.tree s.watermark }
 
 pub segment_with_run : (merge : Operator) (store : Store) (history : List Entry) (s : Segment) (sources : List NodeName) (newer : Tree) (t : Node) (ts older : Tree) (id : ℕ) (pieces : List ℕ) → s.tree ≡ newer ++ ((t ∷ ts) ++ older) → Between id newer older
-    → without sources s.tree ≡ newer ++ older → AreHeld store pieces → AllByRecursion (IsKnownPiece history) pieces → RunFits merge store (before_these true older) (t ∷ ts) (run_for id pieces (t ∷ ts))
+    → without_nodes sources s.tree ≡ newer ++ older → AreHeld store pieces → AllByRecursion (IsKnownPiece history) pieces → RunFits merge store (before_these true older) (t ∷ ts) (run_for id pieces (t ∷ ts))
     → SegmentFits merge store history s → SegmentFits merge store history (with_run s sources newer id pieces (t ∷ ts) older)
 segment_with_run merge store history s sources newer t ts older id pieces whole between less held known fits h = record {
   tree = tree_with_run store.tables s (watermark_after sources s.tree s.watermark) newer (t ∷ ts) older run id whole refl between fits.covered fits.ordered h.tree;
@@ -183,7 +183,7 @@ segment_with_run merge store history s sources newer t ts older id pieces whole 
     left : Left sources s.tree (newer ++ run ∷ older)
     left node there = by (in_replaced newer [] older run node there)
       where
-        by : (run ≡ node) ⊎ IsIn node (newer ++ ([] ++ older)) → (is_l0 node.name ≡ false) ⊎ IsIn node (without sources s.tree)
+        by : (run ≡ node) ⊎ IsIn node (newer ++ ([] ++ older)) → (is_l0 node.name ≡ false) ⊎ IsIn node (without_nodes sources s.tree)
         by (inl same) = inl (ap (λ (n : Node). is_l0 n.name) (sym same))
         by (inr one) = inr (subst (IsIn node) (sym less) one)
 
@@ -194,22 +194,22 @@ all_filter P p xs h = all_from P (filter p xs) (λ x there. all_at P xs x h (in_
 
 -- The segment without these nodes.
 abbrev pub with_less : Segment → List NodeName → Segment
-with_less s sources = record s { tree = without sources s.tree; watermark = watermark_after sources s.tree s.watermark }
+with_less s sources = record s { tree = without_nodes sources s.tree; watermark = watermark_after sources s.tree s.watermark }
 
 pub segment_with_less : (merge : Operator) (store : Store) (history : List Entry) (s : Segment) (sources : List NodeName) → SegmentFits merge store history s → SegmentFits merge store history (with_less s sources)
 segment_with_less merge store history s sources h =
     let keep : Node → Bool = λ node. not (names_contain sources node.name) in
     record {
       tree = record {
-        names_in_order = names_pairs StandsBefore (without sources s.tree) (pairs_filter (λ (a b : Node). StandsBefore a.name b.name) keep s.tree (in_order store.tables s h.tree));
+        names_in_order = names_pairs StandsBefore (without_nodes sources s.tree) (pairs_filter (λ (a b : Node). StandsBefore a.name b.name) keep s.tree (in_order store.tables s h.tree));
         newest_first = pairs_filter (IsNewer store.tables) keep s.tree h.tree.newest_first;
         at_most_last = all_filter _ keep s.tree h.tree.at_most_last;
         ordered = all_filter _ keep s.tree h.tree.ordered;
       };
       pieces = all_filter _ keep s.tree h.pieces;
       flushes = all_filter _ keep s.tree h.flushes;
-      reads = part_to_tree merge store (without sources s.tree) (fewer_reads merge store true keep s.tree (tree_to_part merge store s.tree h.reads));
+      reads = part_to_tree merge store (without_nodes sources s.tree) (fewer_reads merge store true keep s.tree (tree_to_part merge store s.tree h.reads));
       known = all_filter _ keep s.tree h.known;
       flushed = all_filter _ keep s.tree h.flushed;
-      passed = passed_after history sources s.tree (without sources s.tree) s.watermark (λ node there. inr there) h.flushed h.passed;
+      passed = passed_after history sources s.tree (without_nodes sources s.tree) s.watermark (λ node there. inr there) h.flushed h.passed;
     }

@@ -7,10 +7,10 @@ use Rattle.fleet_model.specs.Gates.{reserves_nodes}
 use Rattle.fleet_model.specs.History.{Party, Step}
 use Rattle.fleet_model.specs.Store.{Manifest, stored_jobs}
 use Rattle.fleet_model.specs.JobsFit.{SourcesStand}
-use Rattle.step_model.specs.Past.{Told}
+use Rattle.step_model.specs.Past.{World}
 use Rattle.step_laws.proofs.Elements.{IsIn, all_at}
 use Rattle.step_laws.proofs.Bodies.{JobKept}
-use Rattle.commit_laws.specs.Behind.{joined_by}
+use Rattle.commit_laws.specs.After.{joined_by}
 use Rattle.commit_laws.specs.SparedJobs.{IsSpared, CommitsSpareJobs}
 use Rattle.commit_laws.proofs.Stretches.{other_or}
 use Rattle.commit_laws.proofs.JobSteps.{is_done, JobHolds}
@@ -18,31 +18,31 @@ use Rattle.commit_laws.proofs.Midway.{found_job}
 use Rattle.commit_laws.proofs.CommitJobs.{trees_of, manifest_of, CommitCase, done_late, waits_not_late, or_left}
 use Rattle.commit_laws.proofs.Commits.{case_of}
 
-spared : (merge : Operator) (told : Told) (specs own : ℕ → JobSpec) (party : Party) (steps : List Step) (c : CommitCase merge told specs own party steps) (job : Job) → IsIn job (stored_jobs told.store) → IsTrue (has_status Scheduled job || has_status Running job)
-    → IsSpared told (manifest_of told own steps) job
-spared merge told specs own party steps c job there waits = record {
+spared : (merge : Operator) (world : World) (specs own : ℕ → JobSpec) (party : Party) (steps : List Step) (c : CommitCase merge world specs own party steps) (job : Job) → IsIn job (stored_jobs world.store) → IsTrue (has_status Scheduled job || has_status Running job)
+    → IsSpared world (manifest_of world own steps) job
+spared merge world specs own party steps c job there waits = record {
   stands = holds.stand reserves undone stand;
   settings = λ settings fit. record { floor = fit.floor; cut = fit.cut; tick = fit.tick; last_run = λ is. holds.oldest reserves undone stand (fit.last_run is) };
 }
   where
-    kept : JobKept merge told specs job
-    kept = all_at (JobKept merge told specs) (stored_jobs told.store) job c.body.jobs there
+    kept : JobKept merge world specs job
+    kept = all_at (JobKept merge world specs) (stored_jobs world.store) job c.body.jobs there
 
-    holds : JobHolds told (trees_of told own steps) (joined_by steps []) job
-    holds = all_at (JobHolds told (trees_of told own steps) (joined_by steps [])) (stored_jobs told.store) job c.midway.jobs there
+    holds : JobHolds world (trees_of world own steps) (joined_by steps []) job
+    holds = all_at (JobHolds world (trees_of world own steps) (joined_by steps [])) (stored_jobs world.store) job c.midway.jobs there
 
-    undone : is_done told.store.history (joined_by steps []) job ≡ false
-    undone = other_or (is_done told.store.history (joined_by steps []) job) (λ is. waits_not_late job.status waits (done_late merge told specs own party steps c job there kept is))
+    undone : is_done world.store.history (joined_by steps []) job ≡ false
+    undone = other_or (is_done world.store.history (joined_by steps []) job) (λ is. waits_not_late job.status waits (done_late merge world specs own party steps c job there kept is))
 
     reserves : IsTrue (reserves_nodes job)
     reserves = or_left (has_status Scheduled job || has_status Running job) (has_status Compacted job) waits
 
-    stand : SourcesStand told.store.manifest.trees job
+    stand : SourcesStand world.store.manifest.trees job
     stand = kept.fits.sources.0 waits
 
 pub commits_spare_jobs : (merge : Operator) → IsLawful merge → CommitsSpareJobs merge
-commits_spare_jobs merge lawful told party steps value job k fits stored waits =
-    subst (λ (v : Manifest). IsSpared told v job) (sym fits.makes) (record { stands = s.stands; settings = λ settings fit. let f = s.settings settings fit in record { floor = f.floor; cut = f.cut; tick = f.tick; last_run = f.last_run } })
+commits_spare_jobs merge lawful world party steps value job k fits stored waits =
+    subst (λ (v : Manifest). IsSpared world v job) (sym fits.makes) (record { stands = s.stands; settings = λ settings fit. let f = s.settings settings fit in record { floor = f.floor; cut = f.cut; tick = f.tick; last_run = f.last_run } })
   where
-    s : IsSpared told (manifest_of told fits.specs steps) job
-    s = spared merge told _ fits.specs party steps (case_of merge told fits.specs party steps lawful k fits.known fits.each) job (found_job job.id (stored_jobs told.store) job stored).0 waits
+    s : IsSpared world (manifest_of world fits.specs steps) job
+    s = spared merge world _ fits.specs party steps (case_of merge world fits.specs party steps lawful k fits.known fits.each) job (found_job job.id (stored_jobs world.store) job stored).0 waits

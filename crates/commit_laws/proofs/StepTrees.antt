@@ -107,7 +107,7 @@ pub record Changes (merge : Operator) (store : Store) (history : List Entry) (tr
   pub new_names : (n : NodeName) → IsIn n (names (change s.tree)) → IsIn n (names s.tree) ⊎ ((y : Segment) → IsIn y trees → IsIn n (names y.tree) → ⊥)
   pub new_tables : (t : ℕ) → IsIn t (tree_tables (changed_segment sources change s)) → IsIn t (tree_tables s) ⊎ ((y : Segment) → IsIn y trees → IsIn t (tree_tables y) → ⊥)
 
--- Each segment behind the change: the changed one, or another one as it was.
+-- Each segment after the change: the changed one, or another one as it was.
 pub each_on : (P Q : Segment → Type 0) (trees : Trees) (prefix : List ℕ) (sources : List NodeName) (change : Tree → Tree) (s : Segment) → Rising trees → IsIn s trees → prefix ≡ s.prefix
     → Q (changed_segment sources change s) → ((x : Segment) → IsIn x trees → bytes_eq prefix x.prefix ≡ false → P x → Q x) → AllByRecursion P trees → AllByRecursion Q (map (on_segment prefix sources change) trees)
 each_on P Q trees prefix sources change s rise there same new keep h = go trees (λ x one. one) h
@@ -177,7 +177,7 @@ trees_on merge store history trees prefix sources change s c h = record {
 
 -- ---- names and tables of all trees
 
--- What is in a tree behind the change was in a tree, or is new in the changed one.
+-- What is in a tree after the change was in a tree, or is new in the changed one.
 pub in_trees_on : {A : Type 0} (f : Segment → List A) (x : A) (trees : Trees) (prefix : List ℕ) (sources : List NodeName) (change : Tree → Tree) (s : Segment) → Rising trees → IsIn s trees → prefix ≡ s.prefix
     → IsIn x (flat_map f (map (on_segment prefix sources change) trees)) → IsIn x (flat_map f trees) ⊎ IsIn x (f (changed_segment sources change s))
 in_trees_on {A} f x trees prefix sources change s rise there same h = go trees (λ y one. one) h

@@ -11,7 +11,7 @@ use Rattle.fleet_model.specs.Handles.{tree_tables}
 use Rattle.fleet_model.specs.History.{Entry}
 use Rattle.fleet_model.specs.Sources.{run_ids, all_run_ids, older_nodes, begins_with_run, reaches_oldest, is_whole_stretch, is_lowest_or_above}
 use Rattle.fleet_model.specs.Store.{Store, AreHeld}
-use Rattle.fleet_model.specs.Trees.{without, with_run_for, watermark_after}
+use Rattle.fleet_model.specs.Trees.{without_nodes, with_run_for, watermark_after}
 use Rattle.step_model.specs.TablesKept.{IsKnownPiece}
 use Rattle.step_laws.proofs.Elements.{IsIn, all_at, in_front, in_back, contains_in}
 use Rattle.step_laws.proofs.Deletions.{in_flat}
@@ -136,14 +136,14 @@ run_at trees spec id pieces change a rise own order may makes = record {
     fresh (run ∷ runs) e = inl (run_in (names (a.t ∷ a.ts)) id (subst (IsIn id) (sym e)
         (contains_in (run ∷ runs) id (both_true (contains (run ∷ runs) id) (list_all (nat_le id) (run ∷ runs)) (subst (λ ids. IsTrue (is_lowest_or_above id ids (run_ids (names (tree_at spec.segment trees))))) (ap run_ids (sym a.named) ∙ e) may.lowest)).0)))
 
--- ---- the trees behind the run
+-- ---- the trees after the run
 
 -- What is asked of the run's tables and rows.
 pub record PiecesMay (merge : Operator) (store : Store) (history : List Entry) (trees : Trees) (spec : JobSpec) (id : ℕ) (pieces : List ℕ) (change : Tree → Tree) (c : RunAt trees spec id pieces change) : Type 1 where
   pub held : AreHeld store pieces
   pub known : AllByRecursion (IsKnownPiece history) pieces
   pub between : Between id c.newer c.older
-  pub less : without spec.sources c.s.tree ≡ c.newer ++ c.older
+  pub less : without_nodes spec.sources c.s.tree ≡ c.newer ++ c.older
   pub fits : RunFits merge store (before_these true c.older) (c.t ∷ c.ts) (run_for id pieces (c.t ∷ c.ts))
   pub new_tables : (t : ℕ) → IsIn t pieces → IsIn t (tree_tables c.s) ⊎ ((y : Segment) → IsIn y trees → IsIn t (tree_tables y) → ⊥)
 

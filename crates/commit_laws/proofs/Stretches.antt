@@ -8,7 +8,7 @@ use Rattle.row_model.specs.Lists.{Pairs}
 use Rattle.fleet_model.specs.Nodes.{NodeName, L0, Run, name_eq, is_l0, names_contain, Node, Tree, names, node_named}
 use Rattle.fleet_model.specs.Jobs.{contains}
 use Rattle.fleet_model.specs.Sources.{run_ids, after_front, or_later, older_nodes, begins_with_run, reaches_oldest, is_lowest_or_above}
-use Rattle.fleet_model.specs.Trees.{source_nodes, without, is_run_below, put_run}
+use Rattle.fleet_model.specs.Trees.{source_nodes, without_nodes, is_run_below, put_run}
 use Rattle.fleet_model.specs.TreesFit.{StandsBefore}
 use Rattle.step_laws.proofs.Elements.{IsIn, all_at, all_from, all_to, all_append, all_front, all_back, in_front, contains_in}
 
@@ -115,10 +115,10 @@ pairs_filter {A} R p (x ∷ xs) h = by (p x) (pairs_filter R p xs h.1)
 -- A relation between every two goes on if one element replaces some that lie together.
 pub pairs_replaced : {A : Type 0} (R : A → A → Type 0) (newer taken older : List A) (x : A) → Pairs R (newer ++ (taken ++ older)) → AllByRecursion (λ n. R n x) newer → AllByRecursion (R x) older
     → Pairs R (newer ++ x ∷ older)
-pairs_replaced R newer taken older x h before behind =
+pairs_replaced R newer taken older x h before afterwards =
     let rest = pairs_second R newer (taken ++ older) h in
     let across = pairs_across R newer (taken ++ older) h in
-    pairs_append R newer (x ∷ older) (pairs_first R newer (taken ++ older) h) (behind, pairs_second R taken older rest)
+    pairs_append R newer (x ∷ older) (pairs_first R newer (taken ++ older) h) (afterwards, pairs_second R taken older rest)
     (all_from (λ n. AllByRecursion (R n) (x ∷ older)) newer (λ n there. (all_at (λ m. R m x) newer n before there, all_back (R n) taken older (all_at (λ m. AllByRecursion (R m) (taken ++ older)) newer n across there))))
 
 pub all_replaced : {A : Type 0} (P : A → Type 0) (newer taken older : List A) (x : A) → AllByRecursion P (newer ++ (taken ++ older)) → P x → AllByRecursion P (newer ++ x ∷ older)
@@ -176,8 +176,8 @@ stretch_of sources [] rest e =
     record { newer = []; taken = f.taken; older = f.older; whole = f.whole; named = f.named; rest = e ∙ ap Some (sym f.left) }
 stretch_of sources (node ∷ tree) rest e = by (after_front sources (names (node ∷ tree))) refl (stretch_of sources tree rest) e
   where
-    behind : after_front sources (names (node ∷ tree)) ≡ None → Stretch sources tree → Stretch sources (node ∷ tree)
-    behind none s = record {
+    afterwards : after_front sources (names (node ∷ tree)) ≡ None → Stretch sources tree → Stretch sources (node ∷ tree)
+    afterwards none s = record {
       newer = node ∷ s.newer;
       taken = s.taken;
       older = s.older;
@@ -192,7 +192,7 @@ stretch_of sources (node ∷ tree) rest e = by (after_front sources (names (node
         record { newer = []; taken = front.taken; older = front.older; whole = front.whole; named = front.named; rest = ap (λ o. or_later o (older_nodes sources (names tree))) f ∙ ap Some (sym front.left) }
 
     by : (o : Option (List NodeName)) → after_front sources (names (node ∷ tree)) ≡ o → (older_nodes sources (names tree) ≡ Some rest → Stretch sources tree) → or_later o (older_nodes sources (names tree)) ≡ Some rest → Stretch sources (node ∷ tree)
-    by None none more e = behind none (more e)
+    by None none more e = afterwards none (more e)
     by (Some found) f more e = here found f
 
 -- ---- the stretch taken out
@@ -219,7 +219,7 @@ not_among xs ys differ = all_from _ xs (λ x there. ap not (names_no (names ys) 
     let found = node_of ys x.name one in
     never_both (name_eq found.node.name x.name) (ap (λ n. name_eq n x.name) found.same ∙ name_itself x.name) (differ x found.node there found.there))))
 
-pub without_stretch : (newer taken older : Tree) → Named (newer ++ (taken ++ older)) → without (names taken) (newer ++ (taken ++ older)) ≡ newer ++ older
+pub without_stretch : (newer taken older : Tree) → Named (newer ++ (taken ++ older)) → without_nodes (names taken) (newer ++ (taken ++ older)) ≡ newer ++ older
 without_stretch newer taken older h =
     let p : Node → Bool = λ node. not (names_contain (names taken) node.name) in
     let rest = pairs_second (λ (a b : Node). name_eq a.name b.name ≡ false) newer (taken ++ older) h in
@@ -245,9 +245,9 @@ nodes_named tree (x ∷ taken) h there =
 
 -- ---- where the run is put
 
--- The run stands behind the newer nodes and before the older ones.
+-- The run stands after the newer nodes and before the older ones.
 pub record Between (id : ℕ) (newer older : Tree) : Type 0 where
-  pub behind : AllByRecursion (λ (n : Node). StandsBefore n.name (Run id)) newer
+  pub afterwards : AllByRecursion (λ (n : Node). StandsBefore n.name (Run id)) newer
   pub before : AllByRecursion (λ (o : Node). StandsBefore (Run id) o.name) older
 
 not_below : (id : ℕ) (name : NodeName) → StandsBefore name (Run id) → is_run_below id name ≡ false
@@ -262,8 +262,8 @@ pub put_between : (id : ℕ) (run : Node) (newer older : Tree) → Between id ne
 put_between id run [] [] h = refl
 put_between id run [] (o ∷ older) h = ap (λ b. cond b (run ∷ o ∷ older) (o ∷ put_run id run older)) (below id o.name h.before.0)
 put_between id run (n ∷ newer) older h =
-    ap (λ b. cond b (run ∷ n ∷ (newer ++ older)) (n ∷ put_run id run (newer ++ older))) (not_below id n.name h.behind.0)
-    ∙ ap (λ nodes. n ∷ nodes) (put_between id run newer older (record { behind = h.behind.1; before = h.before }))
+    ap (λ b. cond b (run ∷ n ∷ (newer ++ older)) (n ∷ put_run id run (newer ++ older))) (not_below id n.name h.afterwards.0)
+    ∙ ap (λ nodes. n ∷ nodes) (put_between id run newer older (record { afterwards = h.afterwards.1; before = h.before }))
 
 -- ---- names of nodes in order
 
@@ -306,15 +306,15 @@ before_flush (L0 n) t id h e = tt
 before_flush (Run n) (L0 m) id h e = absurd h
 before_flush (Run n) (Run m) id h e = absurd (cc e)
 
-behind_run : (b : ℕ) (y : NodeName) → StandsBefore (Run b) y → is_l0 y ≡ false
-behind_run b (L0 n) h = absurd h
-behind_run b (Run n) h = refl
+after_run : (b : ℕ) (y : NodeName) → StandsBefore (Run b) y → is_l0 y ≡ false
+after_run b (L0 n) h = absurd h
+after_run b (Run n) h = refl
 
 pub both_true : (a b : Bool) → IsTrue (a && b) → IsTrue a × IsTrue b
 both_true true b h = (refl, h)
 both_true false b h = absurd (cc h)
 
--- Runs whose ids are all below this one stand behind it.
+-- Runs whose ids are all below this one stand after it.
 pub low_runs : (id : ℕ) (ns : List NodeName) → IsTrue (list_all (λ run. nat_lt run id) (run_ids ns)) → AllByRecursion (λ x. is_l0 x ≡ false → StandsBefore (Run id) x) ns
 low_runs id [] h = tt
 low_runs id (L0 n ∷ ns) h = ((λ e. absurd (cc e)), low_runs id ns h)
@@ -325,8 +325,8 @@ begins_runs [] h order = tt
 begins_runs (o ∷ older) h order = by o.name h order.0
   where
     by : (n : NodeName) → IsTrue (begins_with_run (n ∷ names older)) → AllByRecursion (λ (y : Node). StandsBefore n y.name) older → (is_l0 n ≡ false) × AllByRecursion (λ (y : Node). is_l0 y.name ≡ false) older
-    by (L0 n) h behind = absurd (cc h)
-    by (Run n) h behind = (refl, all_to _ _ older (λ y there after. behind_run n y.name after) behind)
+    by (L0 n) h afterwards = absurd (cc h)
+    by (Run n) h afterwards = (refl, all_to _ _ older (λ y there after. after_run n y.name after) afterwards)
 
 -- The names of a tree are in order.
 abbrev pub InOrder : Tree → Type 0
@@ -352,13 +352,13 @@ between_of id newer t ts older order reaches lowest = by (run_ids (names (t ∷ 
         let runs = begins_runs older (begins (begins_with_run (names older)) flush reaches) (pairs_second (λ (a b : Node). StandsBefore a.name b.name) (t ∷ ts) older (pairs_second (λ (a b : Node). StandsBefore a.name b.name) newer ((t ∷ ts) ++ older) order)) in
         let lows = all_names (λ x. is_l0 x ≡ false → StandsBefore (Run id) x) (newer ++ ((t ∷ ts) ++ older)) (low_runs id (names (newer ++ ((t ∷ ts) ++ older))) low) in
         record {
-          behind = all_from _ newer (λ x there. before_flush x.name t.name id (before x t there (inl refl)) flush);
+          afterwards = all_from _ newer (λ x there. before_flush x.name t.name id (before x t there (inl refl)) flush);
           before = all_from _ older (λ o there. all_at (λ (n : Node). is_l0 n.name ≡ false → StandsBefore (Run id) n.name) older o (all_back _ (t ∷ ts) older (all_back _ newer ((t ∷ ts) ++ older) lows)) there (all_at (λ (n : Node). is_l0 n.name ≡ false) older o runs there));
         }
 
     of_run : NodeOf (t ∷ ts) (Run id) → Between id newer older
     of_run found = record {
-      behind = all_from _ newer (λ x there. subst (StandsBefore x.name) found.same (before x found.node there found.there));
+      afterwards = all_from _ newer (λ x there. subst (StandsBefore x.name) found.same (before x found.node there found.there));
       before = all_from _ older (λ o there. subst (λ n. StandsBefore n o.name) found.same (after found.node o found.there there));
     }
 

@@ -1,4 +1,4 @@
-pub mod Behind
+pub mod After
 pub mod CommitLaws
 pub mod RunLaws
 pub mod SecondJoins

@@ -3,7 +3,7 @@
 use Rattle.std.specs.Prelude.{ℕ, List, ⊤}
 use Rattle.row_model.specs.Fold.{IsLawful}
 use Rattle.fleet_model.specs.PollStates.{PollState}
-use Rattle.step_model.specs.Past.{Told}
+use Rattle.step_model.specs.Past.{World}
 use Rattle.step_model.specs.Rivals.{Caller, Rivals}
 use Rattle.step_model.specs.Keeps.{Keeps}
 use Rattle.step_model.specs.Course.{Course}
@@ -21,7 +21,7 @@ LawfulCoursesKeep A = (who : Caller) (course : Course A) → IsLawful who.merge 
 -- Under a lawful operator, calls of others keep the invariant, and so do the runs of all steps that
 -- are lawful courses.
 pub record CoursesKeep : Type 0 where
-  pub rivals : (who : Caller) (old new : Told) → IsLawful who.merge → Keeps who.merge old → Rivals who old new → Keeps who.merge new
+  pub rivals : (who : Caller) (old new : World) → IsLawful who.merge → Keeps who.merge old → Rivals who old new → Keeps who.merge new
   pub starts : LawfulCoursesKeep (StepEnd ℕ)
   pub polls : LawfulCoursesKeep (StepEnd PollState)
   pub submits : LawfulCoursesKeep (StepEnd (List ℕ))

@@ -11,11 +11,11 @@ use Rattle.fleet_model.specs.Attempts.{noted_rows, source_rows}
 use Rattle.fleet_model.specs.Claimed.{settings_of, without_cut}
 use Rattle.fleet_model.specs.Trees.{stepped_in, job_of, by_first_key, tables_now}
 use Rattle.fleet_model.specs.JobsFit.{cut_or, was_joined}
-use Rattle.step_model.specs.Past.{Told}
+use Rattle.step_model.specs.Past.{World}
 use Rattle.step_model.specs.Faithful.{Faithful}
 use Rattle.step_model.specs.LawfulManifests.{IsKnownTo, StepsFit, JoinFits, MoveFits}
 use Rattle.step_model.specs.Keeps.{Keeps}
-use Rattle.commit_laws.specs.Behind.{trees_behind, joined_by}
+use Rattle.commit_laws.specs.After.{trees_after, joined_by}
 use Rattle.commit_laws.specs.RunReads.{run_for}
 
 -- One run of these tables stands where the sources stood, with the flushes of all of them. All other
@@ -33,34 +33,34 @@ pub record RunReplaces (trees others : Trees) (spec : JobSpec) (pieces : List �
 
 -- The run of a join has the job's rows: all rows that the settings of one claim make of the sources,
 -- by whichever faithful replay that claim is found.
-pub record JoinReplaces (merge : Operator) (told : Told) (trees : Trees) (job : Job) : Type 0 where
-  pub run : RunReplaces trees (stepped_in told.store.tables (Join job.id) job.spec (concat job.outputs) trees) job.spec (concat job.outputs)
+pub record JoinReplaces (merge : Operator) (world : World) (trees : Trees) (job : Job) : Type 0 where
+  pub run : RunReplaces trees (stepped_in world.store.tables (Join job.id) job.spec (concat job.outputs) trees) job.spec (concat job.outputs)
   pub settings : Settings
-  pub claimed : (specs : ℕ → JobSpec) → Faithful told specs → settings_of told.store.tables specs told.store.history job.id job.attempt ≡ Some (without_cut settings)
+  pub claimed : (specs : ℕ → JobSpec) → Faithful world specs → settings_of world.store.tables specs world.store.history job.id job.attempt ≡ Some (without_cut settings)
   pub cut : settings.cut ≡ cut_or settings.floor job.kept_cut
-  pub rows : job_rows merge settings (source_rows told.store.tables (flat_map (λ (node : Node). node.pieces) run.taken))
-      ≡ record { rows = noted_rows told.store.tables (concat job.outputs); whole = true }
+  pub rows : job_rows merge settings (source_rows world.store.tables (flat_map (λ (node : Node). node.pieces) run.taken))
+      ≡ record { rows = noted_rows world.store.tables (concat job.outputs); whole = true }
 
--- A join of a commit, be it behind other steps, replaces the sources by the run of the job's rows,
+-- A join of a commit, be it after other steps, replaces the sources by the run of the job's rows,
 -- unless the job was joined by an earlier commit.
 abbrev pub JoinsReplace : Operator → Type 0
-JoinsReplace merge = (told : Told) (party : Party) (specs : ℕ → JobSpec) (first : List Step) (id : ℕ) → Keeps merge told
-    → AllByRecursion (λ step. IsKnownTo party told specs (job_of step)) first → StepsFit told specs told.store.manifest.trees [] first
-    → (fits : JoinFits told (trees_behind told specs first) (joined_by first []) id) → was_joined told.store.history id ≡ false
-    → JoinReplaces merge told (trees_behind told specs first) fits.job
+JoinsReplace merge = (world : World) (party : Party) (specs : ℕ → JobSpec) (first : List Step) (id : ℕ) → Keeps merge world
+    → AllByRecursion (λ step. IsKnownTo party world specs (job_of step)) first → StepsFit world specs world.store.manifest.trees [] first
+    → (fits : JoinFits world (trees_after world specs first) (joined_by first []) id) → was_joined world.store.history id ≡ false
+    → JoinReplaces merge world (trees_after world specs first) fits.job
 
 -- The tables of the sources, in the order of their first keys.
-abbrev pub tables_in_order : Told → Trees → JobSpec → List ℕ
-tables_in_order told trees spec = by_first_key told.store.tables (tables_now trees spec)
+abbrev pub tables_in_order : World → Trees → JobSpec → List ℕ
+tables_in_order world trees spec = by_first_key world.store.tables (tables_now trees spec)
 
 -- The run of a move has the sources' own tables. One after the other, these hold the sources' rows in
 -- order.
-pub record MoveReplaces (told : Told) (trees : Trees) (spec : JobSpec) (id : ℕ) (outputs : List ℕ) : Type 0 where
-  pub run : RunReplaces trees (stepped_in told.store.tables (Move id) spec outputs trees) spec (tables_in_order told trees spec)
-  pub rows : noted_rows told.store.tables (tables_in_order told trees spec) ≡ source_rows told.store.tables (tables_now trees spec)
+pub record MoveReplaces (world : World) (trees : Trees) (spec : JobSpec) (id : ℕ) (outputs : List ℕ) : Type 0 where
+  pub run : RunReplaces trees (stepped_in world.store.tables (Move id) spec outputs trees) spec (tables_in_order world trees spec)
+  pub rows : noted_rows world.store.tables (tables_in_order world trees spec) ≡ source_rows world.store.tables (tables_now trees spec)
 
--- A move of a commit, be it behind other steps, replaces the sources by a run of their own tables.
+-- A move of a commit, be it after other steps, replaces the sources by a run of their own tables.
 abbrev pub MovesReplace : Operator → Type 0
-MovesReplace merge = (told : Told) (party : Party) (specs : ℕ → JobSpec) (first : List Step) (id : ℕ) (outputs : List ℕ) → Keeps merge told
-    → AllByRecursion (λ step. IsKnownTo party told specs (job_of step)) first → StepsFit told specs told.store.manifest.trees [] first
-    → MoveFits told (trees_behind told specs first) (joined_by first []) (specs id) id → MoveReplaces told (trees_behind told specs first) (specs id) id outputs
+MovesReplace merge = (world : World) (party : Party) (specs : ℕ → JobSpec) (first : List Step) (id : ℕ) (outputs : List ℕ) → Keeps merge world
+    → AllByRecursion (λ step. IsKnownTo party world specs (job_of step)) first → StepsFit world specs world.store.manifest.trees [] first
+    → MoveFits world (trees_after world specs first) (joined_by first []) (specs id) id → MoveReplaces world (trees_after world specs first) (specs id) id outputs

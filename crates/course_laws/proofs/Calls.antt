@@ -1,15 +1,15 @@
--- Calls behind which the invariant holds, gets and notes one after the other, and elements of lists.
+-- Calls after which the invariant holds, gets and notes one after the other, and elements of lists.
 use Rattle.std.proofs.Common.{◌≡◌, refl, sym, ap, subst, ℕ, zero, suc, List, [], ◌∷◌, cond, Bool, true, false, inl, inr, None, take}
 use Rattle.std.specs.Prelude.{IsTrue, ◌&&◌, filter, map, ◌||◌, ◌⊎◌}
 use Rattle.std.specs.List.{AllByRecursion}
 use Rattle.row_model.specs.Lists.{Pairs}
 use Rattle.fleet_model.specs.History.{Event, Entry, stood}
 use Rattle.fleet_model.specs.Exchanges.{Exchange, Plain}
-use Rattle.step_model.specs.Past.{Told}
+use Rattle.step_model.specs.Past.{World}
 use Rattle.step_model.specs.Entries.{was_done}
 use Rattle.step_model.specs.Lawful.{Lawful}
 use Rattle.step_model.specs.LawfulTables.{PlainFits}
-use Rattle.step_model.specs.Rivals.{Caller, RivalCall, IsRival, RivalsFrom, Rivals, told_by, told_by_rival}
+use Rattle.step_model.specs.Rivals.{Caller, RivalCall, IsRival, RivalsFrom, Rivals, after_call, after_rival}
 use Rattle.step_model.specs.Keeps.{Keeps}
 use Rattle.step_model.specs.CourseRuns.{IsLawfulCourse}
 use Rattle.step_model.specs.Course.{Course, calls_each}
@@ -19,22 +19,22 @@ use Rattle.step_laws.proofs.TableReplays.{all_filter}
 use Rattle.course_laws.proofs.Later.{Later, later_itself, later_by, later_then, rivals_later}
 
 -- A lawful call of one's own leaves a store that keeps the invariant.
-pub behind : (who : Caller) (x : Exchange) (met : Told) → CallsKeep who.merge → Keeps who.merge met → Lawful who.merge who.party met x → Keeps who.merge (told_by who.line who.party x None met)
-behind who x met keep kept lawful = keep x who.line who.party None met kept lawful tt
+pub keeps_after : (who : Caller) (x : Exchange) (met : World) → CallsKeep who.merge → Keeps who.merge met → Lawful who.merge who.party met x → Keeps who.merge (after_call who.line who.party x None met)
+keeps_after who x met keep kept lawful = keep x who.line who.party None met kept lawful tt
 
 -- Gets and notes in order are lawful, if each is lawful at all later times.
-pub calls_lawful : {A : Type 0} (who : Caller) (next : Course A) (events : List Event) (told : Told) → ((new : Told) → Later told new → AllByRecursion (PlainFits who.party new.store) events)
-    → ((new : Told) → Later told new → IsLawfulCourse who new next) → IsLawfulCourse who told (calls_each events next)
-calls_lawful who next [] told each rest = rest told (later_itself told)
-calls_lawful who next (event ∷ events) told each rest = λ met rivals room.
-    let later = rivals_later who told met rivals in
-    let on = later_then told met (told_by who.line who.party (Plain event) None met) later (later_by who.line who.party (Plain event) None met) in (
+pub calls_lawful : {A : Type 0} (who : Caller) (next : Course A) (events : List Event) (world : World) → ((new : World) → Later world new → AllByRecursion (PlainFits who.party new.store) events)
+    → ((new : World) → Later world new → IsLawfulCourse who new next) → IsLawfulCourse who world (calls_each events next)
+calls_lawful who next [] world each rest = rest world (later_itself world)
+calls_lawful who next (event ∷ events) world each rest = λ met rivals room.
+    let later = rivals_later who world met rivals in
+    let on = later_then world met (after_call who.line who.party (Plain event) None met) later (later_by who.line who.party (Plain event) None met) in (
       (each met later).0,
-      calls_lawful who next events (told_by who.line who.party (Plain event) None met) (λ new more. (each new (later_then told _ new on more)).1) (λ new more. rest new (later_then told _ new on more)),
+      calls_lawful who next events (after_call who.line who.party (Plain event) None met) (λ new more. (each new (later_then world _ new on more)).1) (λ new more. rest new (later_then world _ new on more)),
     )
 
 -- What was done, was done later too.
-pub done_later : (is : Event → Bool) (old new : Told) → Later old new → IsTrue (was_done is old.store.history) → IsTrue (was_done is new.store.history)
+pub done_later : (is : Event → Bool) (old new : World) → Later old new → IsTrue (was_done is old.store.history) → IsTrue (was_done is new.store.history)
 done_later is old new later h =
     subst (λ (history : List Entry). IsTrue (was_done is history)) (sym later.history) (any_front (λ (entry : Entry). is entry.event && stood entry.answer) old.store.history later.more h)
 
@@ -90,13 +90,13 @@ in_map f (y ∷ xs) x (inr there) = inr (in_map f xs x there)
 
 -- ---- what calls of others leave
 
-hold_from : (who : Caller) (P : Told → Type 0) → CallsKeep who.merge → ((told : Told) (call : RivalCall) → Keeps who.merge told → IsRival who told call → P told → P (told_by_rival call told))
-    → (calls : List RivalCall) (old new : Told) → Keeps who.merge old → RivalsFrom who calls old new → P old → P new
+hold_from : (who : Caller) (P : World → Type 0) → CallsKeep who.merge → ((world : World) (call : RivalCall) → Keeps who.merge world → IsRival who world call → P world → P (after_rival call world))
+    → (calls : List RivalCall) (old new : World) → Keeps who.merge old → RivalsFrom who calls old new → P old → P new
 hold_from who P keep each [] old new kept same p = subst P same p
 hold_from who P keep each (call ∷ calls) old new kept lead p =
-    hold_from who P keep each calls (told_by_rival call old) new (keep call.exchange call.line call.party call.strike old kept lead.0.lawful lead.0.strike) lead.1 (each old call kept lead.0 p)
+    hold_from who P keep each calls (after_rival call old) new (keep call.exchange call.line call.party call.strike old kept lead.0.lawful lead.0.strike) lead.1 (each old call kept lead.0 p)
 
 -- What each call of others leaves, all of them leave.
-pub rivals_hold : (who : Caller) (P : Told → Type 0) → CallsKeep who.merge → ((told : Told) (call : RivalCall) → Keeps who.merge told → IsRival who told call → P told → P (told_by_rival call told))
-    → (old new : Told) → Keeps who.merge old → Rivals who old new → P old → P new
+pub rivals_hold : (who : Caller) (P : World → Type 0) → CallsKeep who.merge → ((world : World) (call : RivalCall) → Keeps who.merge world → IsRival who world call → P world → P (after_rival call world))
+    → (old new : World) → Keeps who.merge old → Rivals who old new → P old → P new
 rivals_hold who P keep each old new kept rivals p = hold_from who P keep each rivals.calls old new kept rivals.lead p

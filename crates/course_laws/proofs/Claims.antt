@@ -11,12 +11,12 @@ use Rattle.fleet_model.specs.Attempts.{ClaimInput}
 use Rattle.fleet_model.specs.Claims.{is_waiting, may_take, claimed_jobs, stopped_jobs}
 use Rattle.fleet_model.specs.Parties.{LiveWorker, attempt_jobs}
 use Rattle.fleet_model.specs.Exchanges.{Plain, PutsRecords, records_version}
-use Rattle.step_model.specs.Past.{Told}
-use Rattle.step_model.specs.Entries.{was_claimed, claims, is_in}
+use Rattle.step_model.specs.Past.{World}
+use Rattle.step_model.specs.Entries.{was_claimed, is_claim_of, is_in}
 use Rattle.step_model.specs.Lawful.{Lawful}
 use Rattle.step_model.specs.LawfulTables.{PlainFits}
 use Rattle.step_model.specs.LawfulRecords.{OfSome, ClaimFits}
-use Rattle.step_model.specs.Rivals.{Caller, told_by}
+use Rattle.step_model.specs.Rivals.{Caller, after_call}
 use Rattle.step_model.specs.Keeps.{Keeps}
 use Rattle.step_model.specs.CourseRuns.{IsLawfulCourse}
 use Rattle.step_model.specs.ClaimSteps.{WorkerOptions, Claimed, at_moment, can_start, plan_of, starts_claimed, claim_of, claim_by, claims_from, claim}
@@ -30,7 +30,7 @@ use Rattle.step_laws.proofs.TableReplays.{all_filter}
 use Rattle.course_laws.specs.Claims.{ClaimsAreLawful}
 use Rattle.course_laws.proofs.Later.{Later, later_itself, later_met, later_then, later_by, rivals_later, call_history}
 use Rattle.course_laws.proofs.Puts.{got_records, no_names, over_got}
-use Rattle.course_laws.proofs.Calls.{behind, calls_lawful, done_later, and_first, pairs_filter, all_take, pairs_take, filtered, all_map, in_map}
+use Rattle.course_laws.proofs.Calls.{keeps_after, calls_lawful, done_later, and_first, pairs_filter, all_take, pairs_take, filtered, all_map, in_map}
 
 -- ---- the claimed jobs
 
@@ -58,7 +58,7 @@ chosen slots w jobs rise =
 abbrev pub next_attempt : Job → ℕ × ℕ
 next_attempt job = (job.id, job.attempt + 1)
 
-claim_fits : (who : Caller) (w : LiveWorker) (new : Told) (got : Records) (these : Jobs) → who.party ≡ Worker w.number → new.store.records ≡ Some got → Chosen got.jobs these
+claim_fits : (who : Caller) (w : LiveWorker) (new : World) (got : Records) (these : Jobs) → who.party ≡ Worker w.number → new.store.records ≡ Some got → Chosen got.jobs these
     → ClaimFits who.party new w.number (map next_attempt these)
 claim_fits who w new got these by same c = record {
   by = by;
@@ -68,7 +68,7 @@ claim_fits who w new got these by same c = record {
       (subst (OfSome (λ other. IsTrue (is_waiting other) × (job.attempt + 1 ≡ other.attempt + 1))) (sym h.0) (h.1, refl))) c.wait);
 }
 
-put_fits : (who : Caller) (moment : ℕ) (w : LiveWorker) (old new : Told) (got : Records) (these : Jobs) → who.party ≡ Worker w.number → old.store.records ≡ Some got → Later old new → Chosen got.jobs these
+put_fits : (who : Caller) (moment : ℕ) (w : LiveWorker) (old new : World) (got : Records) (these : Jobs) → who.party ≡ Worker w.number → old.store.records ≡ Some got → Later old new → Chosen got.jobs these
     → let change = Claim w.number (map next_attempt these) in Lawful who.merge who.party new (PutsRecords got.version change got.epoch (jobs_after (at_moment moment) change got.jobs))
 put_fits who moment w old new got these by is later c = (
   no_names who.party new,
@@ -80,44 +80,44 @@ put_fits who moment w old new got these by is later c = (
 -- ---- the notes of plans
 
 -- All these jobs were claimed, each at its next attempt.
-abbrev pub WereClaimed : Told → ℕ → Jobs → Type 0
-WereClaimed told worker these = AllByRecursion (λ job. IsTrue (was_claimed told.store.history worker job.id (job.attempt + 1))) these
+abbrev pub WereClaimed : World → ℕ → Jobs → Type 0
+WereClaimed world worker these = AllByRecursion (λ job. IsTrue (was_claimed world.store.history worker job.id (job.attempt + 1))) these
 
-pub claimed_later : (old new : Told) (worker : ℕ) (these : Jobs) → Later old new → WereClaimed old worker these → WereClaimed new worker these
-claimed_later old new worker these later h = all_to _ _ these (λ job there one. done_later (claims worker job.id (job.attempt + 1)) old new later one) h
+pub claimed_later : (old new : World) (worker : ℕ) (these : Jobs) → Later old new → WereClaimed old worker these → WereClaimed new worker these
+claimed_later old new worker these later h = all_to _ _ these (λ job there one. done_later (is_claim_of worker job.id (job.attempt + 1)) old new later one) h
 
-pub put_stood : (who : Caller) (met : Told) (version worker epoch : ℕ) (these jobs : Jobs) → (version == records_version met.store.records) ≡ true
-    → WereClaimed (told_by who.line who.party (PutsRecords version (Claim worker (map next_attempt these)) epoch jobs) None met) worker these
+pub put_stood : (who : Caller) (met : World) (version worker epoch : ℕ) (these jobs : Jobs) → (version == records_version met.store.records) ≡ true
+    → WereClaimed (after_call who.line who.party (PutsRecords version (Claim worker (map next_attempt these)) epoch jobs) None met) worker these
 put_stood who met version worker epoch these jobs e = all_from _ these (λ job there.
     let x = PutsRecords version (Claim worker (map next_attempt these)) epoch jobs in
     let named : is_in job.id (job.attempt + 1) (map next_attempt these) ≡ true =
     any_of (λ (a : ℕ × ℕ). (job.id == a.0) && (job.attempt + 1 == a.1)) (map next_attempt these) (next_attempt job) (in_map next_attempt these job there) (rw (is_itself job.id, is_itself (job.attempt + 1)) refl) in
     subst (λ (history : List Entry). IsTrue (was_claimed history worker job.id (job.attempt + 1))) (sym (call_history who.line who.party x None met.store))
-    (any_push_yes (λ (entry : Entry). claims worker job.id (job.attempt + 1) entry.event && stood entry.answer) met.store.history _ (rw (is_itself worker, named, e) refl)))
+    (any_push_yes (λ (entry : Entry). is_claim_of worker job.id (job.attempt + 1) entry.event && stood entry.answer) met.store.history _ (rw (is_itself worker, named, e) refl)))
 
-plan_fits : (who : Caller) (worker : ℕ) (told : Told) (input : ClaimInput) (job : Job) → who.party ≡ Worker worker → IsTrue (was_claimed told.store.history worker job.id (job.attempt + 1))
-    → AllByRecursion (PlainFits who.party told.store) (plan_of input job)
-plan_fits who worker told input job by claimed = at job.context refl
+plan_fits : (who : Caller) (worker : ℕ) (world : World) (input : ClaimInput) (job : Job) → who.party ≡ Worker worker → IsTrue (was_claimed world.store.history worker job.id (job.attempt + 1))
+    → AllByRecursion (PlainFits who.party world.store) (plan_of input job)
+plan_fits who worker world input job by claimed = at job.context refl
   where
-    at : (context : Option Context) → job.context ≡ context → AllByRecursion (PlainFits who.party told.store) (plan_of input job)
+    at : (context : Option Context) → job.context ≡ context → AllByRecursion (PlainFits who.party world.store) (plan_of input job)
     at None e = rw e (record { worker = worker; by = by; claimed = claimed }, tt)
     at (Some context) e = rw e tt
 
-started_lawful : (who : Caller) (w : LiveWorker) (told : Told) (input : ClaimInput) (these : Jobs) (stopped : List ℕ) → who.party ≡ Worker w.number → WereClaimed told w.number these
-    → IsLawfulCourse who told (starts_claimed input w these stopped)
-started_lawful who w told input these stopped by claimed =
-    calls_lawful who _ (flat_map (plan_of input) (filter (can_start input.manifest) these)) told
+started_lawful : (who : Caller) (w : LiveWorker) (world : World) (input : ClaimInput) (these : Jobs) (stopped : List ℕ) → who.party ≡ Worker w.number → WereClaimed world w.number these
+    → IsLawfulCourse who world (starts_claimed input w these stopped)
+started_lawful who w world input these stopped by claimed =
+    calls_lawful who _ (flat_map (plan_of input) (filter (can_start input.manifest) these)) world
     (λ new later. all_flat (PlainFits who.party new.store) (plan_of input) (filter (can_start input.manifest) these)
-    (all_filter _ (can_start input.manifest) these (all_to _ _ these (λ job there one. plan_fits who w.number new input job by one) (claimed_later told new w.number these later claimed))))
+    (all_filter _ (can_start input.manifest) these (all_to _ _ these (λ job there one. plan_fits who w.number new input job by one) (claimed_later world new w.number these later claimed))))
     (λ new later. tt)
 
 -- ---- tries
 
 -- Another try of the claim is a lawful course over each store that meets the invariant.
 abbrev Tries : Caller → (ℕ → Course (StepEnd Claimed)) → Type 0
-Tries who again = (version : ℕ) (told : Told) → Keeps who.merge told → IsLawfulCourse who told (again version)
+Tries who again = (version : ℕ) (world : World) → Keeps who.merge world → IsLawfulCourse who world (again version)
 
--- The end of a claim behind its put.
+-- The end of a claim after its put.
 abbrev ends : WorkerOptions → ℕ → LiveWorker → Jobs → List ℕ → Course (StepEnd Claimed)
 ends options moment w these stopped = Calls (Plain GetManifest) (λ met. starts_claimed (record {
   release = w.release;
@@ -128,42 +128,42 @@ ends options moment w these stopped = Calls (Plain GetManifest) (λ met. starts_
   tables = met.tables;
 }) w these stopped)
 
-after : (who : Caller) (options : WorkerOptions) (moment : ℕ) (w : LiveWorker) (these : Jobs) (stopped : List ℕ) (again : ℕ → Course (StepEnd Claimed)) (told : Told) (version : ℕ) (b : Bool)
-    → who.party ≡ Worker w.number → Tries who again → Keeps who.merge told → (b ≡ true → WereClaimed told w.number these) → IsLawfulCourse who told (cond b (ends options moment w these stopped) (again version))
-after who options moment w these stopped again told version true by tries kept claimed = λ met rivals room. (
+after : (who : Caller) (options : WorkerOptions) (moment : ℕ) (w : LiveWorker) (these : Jobs) (stopped : List ℕ) (again : ℕ → Course (StepEnd Claimed)) (world : World) (version : ℕ) (b : Bool)
+    → who.party ≡ Worker w.number → Tries who again → Keeps who.merge world → (b ≡ true → WereClaimed world w.number these) → IsLawfulCourse who world (cond b (ends options moment w these stopped) (again version))
+after who options moment w these stopped again world version true by tries kept claimed = λ met rivals room. (
   tt,
-  started_lawful who w _ _ these stopped by (claimed_later told _ w.number these
-      (later_then told met _ (rivals_later who told met rivals) (later_by who.line who.party (Plain GetManifest) None met)) (claimed refl)),
+  started_lawful who w _ _ these stopped by (claimed_later world _ w.number these
+      (later_then world met _ (rivals_later who world met rivals) (later_by who.line who.party (Plain GetManifest) None met)) (claimed refl)),
 )
-after who options moment w these stopped again told version false by tries kept claimed = tries version told kept
+after who options moment w these stopped again world version false by tries kept claimed = tries version world kept
 
 those : (who : Caller) (options : WorkerOptions) (moment : ℕ) (w : LiveWorker) (stopped : List ℕ) (again : ℕ → Course (StepEnd Claimed)) → CallsKeep who.merge → who.party ≡ Worker w.number → Tries who again
-    → (met : Told) (got : Records) (these : Jobs) → Keeps who.merge met → met.store.records ≡ Some got → Chosen got.jobs these
-    → IsLawfulCourse who (told_by who.line who.party (Plain GetRecords) None met) (claim_of options moment w got these stopped again)
+    → (met : World) (got : Records) (these : Jobs) → Keeps who.merge met → met.store.records ≡ Some got → Chosen got.jobs these
+    → IsLawfulCourse who (after_call who.line who.party (Plain GetRecords) None met) (claim_of options moment w got these stopped again)
 those who options moment w stopped again keep by tries met got [] kept is c = tt
 those who options moment w stopped again keep by tries met got (job ∷ these) kept is c = λ put rivals room.
     let change = Claim w.number (map next_attempt (job ∷ these)) in
     let lawful = put_fits who moment w met put got (job ∷ these) by is (later_met who (Plain GetRecords) met met put (later_itself met) rivals) c in
-    let there = rivals_keep who _ put keep (behind who (Plain GetRecords) met keep kept tt) rivals in (
+    let there = rivals_keep who _ put keep (keeps_after who (Plain GetRecords) met keep kept tt) rivals in (
       lawful,
       after who options moment w (job ∷ these) stopped again _ (records_version put.store.records) (got.version == records_version put.store.records) by tries
-          (behind who (PutsRecords got.version change got.epoch (jobs_after (at_moment moment) change got.jobs)) put keep there lawful)
+          (keeps_after who (PutsRecords got.version change got.epoch (jobs_after (at_moment moment) change got.jobs)) put keep there lawful)
           (λ e. put_stood who put got.version w.number got.epoch (job ∷ these) (jobs_after (at_moment moment) change got.jobs) e),
     )
 
 over : (who : Caller) (options : WorkerOptions) (moment : ℕ) (w : LiveWorker) (again : ℕ → Course (StepEnd Claimed)) → CallsKeep who.merge → who.party ≡ Worker w.number → Tries who again
-    → (met : Told) (records : Option Records) → Keeps who.merge met → met.store.records ≡ records → IsLawfulCourse who (told_by who.line who.party (Plain GetRecords) None met) (claim_by options moment w records again)
+    → (met : World) (records : Option Records) → Keeps who.merge met → met.store.records ≡ records → IsLawfulCourse who (after_call who.line who.party (Plain GetRecords) None met) (claim_by options moment w records again)
 over who options moment w again keep by tries met None kept is = tt
 over who options moment w again keep by tries met (Some got) kept is =
     those who options moment w (ids (stopped_jobs w got.jobs)) again keep by tries met got (claimed_jobs options.slots w got.jobs) kept is
     (chosen options.slots w got.jobs (subst (λ r. Pairs (λ a b. a.id < b.id) (jobs_in r)) is kept.stored.sound.job_ids))
 
-claim_tries : (who : Caller) (options : WorkerOptions) (moment : ℕ) (w : LiveWorker) → CallsKeep who.merge → who.party ≡ Worker w.number → (left seen : ℕ) (told : Told) → Keeps who.merge told
-    → IsLawfulCourse who told (claims_from options moment w left seen)
-claim_tries who options moment w keep by zero seen told kept = tt
-claim_tries who options moment w keep by (suc left) seen told kept = λ met rivals room.
-    (tt, over who options moment w (claims_from options moment w left) keep by (λ version next there. claim_tries who options moment w keep by left version next there) met met.store.records (rivals_keep who told met keep kept rivals) refl)
+claim_tries : (who : Caller) (options : WorkerOptions) (moment : ℕ) (w : LiveWorker) → CallsKeep who.merge → who.party ≡ Worker w.number → (left seen : ℕ) (world : World) → Keeps who.merge world
+    → IsLawfulCourse who world (claims_from options moment w left seen)
+claim_tries who options moment w keep by zero seen world kept = tt
+claim_tries who options moment w keep by (suc left) seen world kept = λ met rivals room.
+    (tt, over who options moment w (claims_from options moment w left) keep by (λ version next there. claim_tries who options moment w keep by left version next there) met met.store.records (rivals_keep who world met keep kept rivals) refl)
 
 pub claims_are_lawful : ClaimsAreLawful
 unfolding claim
-claims_are_lawful who told options moment w keep kept by = claim_tries who options moment w keep by most_refused 0 told kept
+claims_are_lawful who world options moment w keep kept by = claim_tries who options moment w keep by most_refused 0 world kept

@@ -27,13 +27,13 @@ use Rattle.fleet_model.specs.Sweeps.{attempt_tables}
 use Rattle.fleet_model.specs.Attempts.{source_rows, range_rows, rows_left, noted_rows, finish_cut}
 use Rattle.fleet_model.specs.Parties.{Attempt, LiveWorker, is_live, runs_attempt, live_attempts, without_attempts}
 use Rattle.fleet_model.specs.Exchanges.{Plain, PutsRecords, records_version}
-use Rattle.step_model.specs.Past.{Told}
+use Rattle.step_model.specs.Past.{World}
 use Rattle.step_model.specs.Faithful.{Faithful}
 use Rattle.step_model.specs.Lawful.{Lawful}
 use Rattle.step_model.specs.LawfulTables.{MayUse}
-use Rattle.step_model.specs.LawfulRecords.{OfSome, Finishes}
+use Rattle.step_model.specs.LawfulRecords.{OfSome, FinishIsWhole}
 use Rattle.step_model.specs.Fits.{AttemptHeld, noted_tables, WorkerHolds}
-use Rattle.step_model.specs.Rivals.{Caller, told_by}
+use Rattle.step_model.specs.Rivals.{Caller, after_call}
 use Rattle.step_model.specs.Keeps.{Keeps}
 use Rattle.step_model.specs.ClaimSteps.{WorkerOptions}
 use Rattle.step_model.specs.OutputSteps.{gets_tables, FinishedJob, all_outputs, ends_job, ends_job_by, ends_from, end_job, finish_or_give_back, finish}
@@ -45,9 +45,9 @@ use Rattle.step_laws.proofs.Deletions.{in_filter}
 use Rattle.course_laws.specs.Finishes.{WholeUnless, FinishesAreLawful}
 use Rattle.course_laws.proofs.Later.{Later, later_itself, later_met}
 use Rattle.course_laws.proofs.Puts.{got_records, no_names, over_got}
-use Rattle.course_laws.proofs.Calls.{behind, all_map}
+use Rattle.course_laws.proofs.Calls.{keeps_after, all_map}
 use Rattle.course_laws.proofs.JobBounds.{IsShort, AreGood, left_good}
-use Rattle.fit_laws.proofs.FreeTables.{free_own}
+use Rattle.rival_laws.proofs.FreeTables.{free_own}
 use Rattle.course_laws.proofs.Made.{Relies, State, state_met, state_got, state_table, state_refused, ids_of, tables_of, all_of, ranges_made}
 use Rattle.course_laws.proofs.Outputs.{found_in, back_lawful}
 
@@ -92,7 +92,7 @@ pub drop_front : {A : Type 0} (xs ys : List A) → drop (length xs) (xs ++ ys) �
 drop_front [] ys = refl
 drop_front (x ∷ xs) ys = drop_front xs ys
 
--- A prefix and what is behind it are the whole.
+-- A prefix and what is after it are the whole.
 pub prefix_whole : (xs all : List Row) → IsPrefixOf xs all → xs ++ drop (length xs) all ≡ all
 prefix_whole xs all prefix = ap (λ (ys : List Row). xs ++ ys) (ap (drop (length xs)) (sym prefix.1) ∙ drop_front xs prefix.0) ∙ prefix.1
 
@@ -133,7 +133,7 @@ outputs_all P (r ∷ ranges) (ps ∷ made) old new =
 -- ---- what the finish begins with
 
 -- At the start the worker fits, and all ranges of its attempt are whole.
-record Begins (who : Caller) (w : LiveWorker) (start : Told) (a : Attempt) : Type 0 where
+record Begins (who : Caller) (w : LiveWorker) (start : World) (a : Attempt) : Type 0 where
   by : who.party ≡ Worker w.number
   there : IsIn a w.attempts
   ordered : IsStrictlyOrdered (source_rows start.store.tables a.sources)
@@ -141,11 +141,11 @@ record Begins (who : Caller) (w : LiveWorker) (start : Told) (a : Attempt) : Typ
   whole : AllByRecursion (λ range. (range_rows who.merge start.store.tables a.context.settings a.sources range.0).whole ≡ true) a.context.ranges
 
 -- The rows that a range makes at the start.
-abbrev range_made : Caller → Told → Attempt → Range → List Row
+abbrev range_made : Caller → World → Attempt → Range → List Row
 range_made who start a range = (range_rows who.merge start.store.tables a.context.settings a.sources range).rows
 
 -- The tables that a finish puts.
-abbrev pieces_of : Caller → Told → WorkerOptions → Attempt → List (List (List Row))
+abbrev pieces_of : Caller → World → WorkerOptions → Attempt → List (List (List Row))
 pieces_of who start options a = map (λ range. cut_tables options.table_size (rows_left who.merge start.store.tables a.context.settings a.sources range).rows) a.context.ranges
 
 -- The change that ends the job depends on this.
@@ -158,7 +158,7 @@ cut_kept : (release : Release) (c : Context) → c.has_cut ≡ knows_cut release
 cut_kept One c has fits = fits has
 cut_kept Two c has fits = refl
 
-rows_at : (who : Caller) (w : LiveWorker) (start now : Told) (options : WorkerOptions) (a : Attempt) (made : List (List (ℕ × List Row))) (job : Job) (specs : ℕ → JobSpec) → Begins who w start a → map tables_of made ≡ pieces_of who start options a
+rows_at : (who : Caller) (w : LiveWorker) (start now : World) (options : WorkerOptions) (a : Attempt) (made : List (List (ℕ × List Row))) (job : Job) (specs : ℕ → JobSpec) → Begins who w start a → map tables_of made ≡ pieces_of who start options a
     → State who w start a (all_of made) now → AttemptFits who.merge now.store specs job a
     → job_rows who.merge a.context.settings (source_rows now.store.tables job.source_tables) ≡ record { rows = noted_rows now.store.tables (concat (all_outputs a.context.ranges (map ids_of made))); whole = true }
 rows_at who w start now options a made job specs b e s one =
@@ -176,10 +176,10 @@ rows_at who w start now options a made job specs b e s one =
     (subst (AllByRecursion (λ range. (range_rows who.merge start.store.tables a.context.settings a.sources range).whole ≡ true)) cut whole)
     ∙ ap (λ rows. record { rows = rows; whole = true }) (ap (flat_map (range_made who start a)) (sym cut) ∙ sym rows)
 
-finishes_at : (who : Caller) (w : LiveWorker) (start now : Told) (options : WorkerOptions) (moment : ℕ) (a : Attempt) (made : List (List (ℕ × List Row))) → Begins who w start a → map tables_of made ≡ pieces_of who start options a
+finishes_at : (who : Caller) (w : LiveWorker) (start now : World) (options : WorkerOptions) (moment : ℕ) (a : Attempt) (made : List (List (ℕ × List Row))) → Begins who w start a → map tables_of made ≡ pieces_of who start options a
     → State who w start a (all_of made) now → (stored : Option Job) → runs_attempt w.number a.number stored ≡ true
     → ((specs : ℕ → JobSpec) → Faithful now specs → IfSome stored (λ job. AttemptFits who.merge now.store specs job a)) → IfSome stored (λ job. AllByRecursion (MayUse (Worker w.number) now job) (noted_tables a))
-    → OfSome (Finishes who.merge who.party now (end_unrecorded moment w a) w.number a.number (all_outputs a.context.ranges (map ids_of made))) stored
+    → OfSome (FinishIsWhole who.merge who.party now (end_unrecorded moment w a) w.number a.number (all_outputs a.context.ranges (map ids_of made))) stored
 finishes_at who w start now options moment a made b e s None live fits own = absurd (cc live)
 finishes_at who w start now options moment a made b e s (Some job) live fits own = record {
   live = live;
@@ -204,7 +204,7 @@ finishes_at who w start now options moment a made b e s (Some job) live fits own
           rows = λ held. rows_at who w start now options a made job specs b e s one;
         }
 
-put_fits : (who : Caller) (w : LiveWorker) (start old new : Told) (options : WorkerOptions) (moment : ℕ) (a : Attempt) (made : List (List (ℕ × List Row))) (got : Records) → Begins who w start a
+put_fits : (who : Caller) (w : LiveWorker) (start old new : World) (options : WorkerOptions) (moment : ℕ) (a : Attempt) (made : List (List (ℕ × List Row))) (got : Records) → Begins who w start a
     → map tables_of made ≡ pieces_of who start options a → old.store.records ≡ Some got → Later old new → State who w start a (all_of made) new → is_live got.jobs w.number a ≡ true
     → let change = Finish w.number a.job a.number (all_outputs a.context.ranges (map ids_of made)) in
     Lawful who.merge who.party new (PutsRecords got.version change got.epoch (jobs_after (end_unrecorded moment w a) change got.jobs))
@@ -226,60 +226,60 @@ put_fits who w start old new options moment a made got b e is later s live = (
 -- ---- the end of the job
 
 -- Another try is a lawful course where what was made still stands.
-abbrev Tries : Caller → LiveWorker → Told → Attempt → List (ℕ × List Row) → (ℕ → Course (StepEnd FinishedJob)) → Type 0
-Tries who w start a pairs again = (version : ℕ) (told : Told) → State who w start a pairs told → IsLawfulCourse who told (again version)
+abbrev Tries : Caller → LiveWorker → World → Attempt → List (ℕ × List Row) → (ℕ → Course (StepEnd FinishedJob)) → Type 0
+Tries who w start a pairs again = (version : ℕ) (world : World) → State who w start a pairs world → IsLawfulCourse who world (again version)
 
-after : (who : Caller) (w : LiveWorker) (start : Told) (a : Attempt) (pairs : List (ℕ × List Row)) (report : FinishedJob) (again : ℕ → Course (StepEnd FinishedJob)) → Tries who w start a pairs again → (told : Told) (version : ℕ) (b : Bool)
-    → (b ≡ false → State who w start a pairs told) → IsLawfulCourse who told (cond b (Ends (Reports report)) (again version))
-after who w start a pairs report again tries told version true s = tt
-after who w start a pairs report again tries told version false s = tries version told (s refl)
+after : (who : Caller) (w : LiveWorker) (start : World) (a : Attempt) (pairs : List (ℕ × List Row)) (report : FinishedJob) (again : ℕ → Course (StepEnd FinishedJob)) → Tries who w start a pairs again → (world : World) (version : ℕ) (b : Bool)
+    → (b ≡ false → State who w start a pairs world) → IsLawfulCourse who world (cond b (Ends (Reports report)) (again version))
+after who w start a pairs report again tries world version true s = tt
+after who w start a pairs report again tries world version false s = tries version world (s refl)
 
-ended : (who : Caller) (w : LiveWorker) (start : Told) (options : WorkerOptions) (moment : ℕ) (a : Attempt) (made : List (List (ℕ × List Row))) (again : ℕ → Course (StepEnd FinishedJob)) → Relies who w → Begins who w start a
-    → map tables_of made ≡ pieces_of who start options a → Tries who w start a (all_of made) again → (met : Told) (got : Records) → State who w start a (all_of made) met → met.store.records ≡ Some got
+ended : (who : Caller) (w : LiveWorker) (start : World) (options : WorkerOptions) (moment : ℕ) (a : Attempt) (made : List (List (ℕ × List Row))) (again : ℕ → Course (StepEnd FinishedJob)) → Relies who w → Begins who w start a
+    → map tables_of made ≡ pieces_of who start options a → Tries who w start a (all_of made) again → (met : World) (got : Records) → State who w start a (all_of made) met → met.store.records ≡ Some got
     → (live : Bool) → is_live got.jobs w.number a ≡ live
-    → IsLawfulCourse who (told_by who.line who.party (Plain GetRecords) None met) (ends_job moment w a (all_outputs a.context.ranges (map ids_of made)) got live again)
+    → IsLawfulCourse who (after_call who.line who.party (Plain GetRecords) None met) (ends_job moment w a (all_outputs a.context.ranges (map ids_of made)) got live again)
 ended who w start options moment a made again r b e tries met got s is false live = tt
 ended who w start options moment a made again r b e tries met got s is true live = λ put rivals room.
     let outputs = all_outputs a.context.ranges (map ids_of made) in
     let change = Finish w.number a.job a.number outputs in
     let jobs = jobs_after (end_unrecorded moment w a) change got.jobs in
-    let there = state_met who w start a (all_of made) (told_by who.line who.party (Plain GetRecords) None met) put r (state_got who w start a (all_of made) met r s) rivals in
+    let there = state_met who w start a (all_of made) (after_call who.line who.party (Plain GetRecords) None met) put r (state_got who w start a (all_of made) met r s) rivals in
     let lawful = put_fits who w start met put options moment a made got b e is (later_met who (Plain GetRecords) met met put (later_itself met) rivals) there live in (
       lawful,
-      after who w start a (all_of made) (record { outputs = outputs; attempts = without_attempts (a.job ∷ []) w.attempts }) again tries (told_by who.line who.party (PutsRecords got.version change got.epoch jobs) None put)
+      after who w start a (all_of made) (record { outputs = outputs; attempts = without_attempts (a.job ∷ []) w.attempts }) again tries (after_call who.line who.party (PutsRecords got.version change got.epoch jobs) None put)
           (records_version put.store.records) (got.version == records_version put.store.records)
-          (λ other. state_refused who w start a (all_of made) put got.version change got.epoch jobs other (behind who (PutsRecords got.version change got.epoch jobs) put r.keep there.kept lawful) there),
+          (λ other. state_refused who w start a (all_of made) put got.version change got.epoch jobs other (keeps_after who (PutsRecords got.version change got.epoch jobs) put r.keep there.kept lawful) there),
     )
 
-ended_by : (who : Caller) (w : LiveWorker) (start : Told) (options : WorkerOptions) (moment : ℕ) (a : Attempt) (made : List (List (ℕ × List Row))) (again : ℕ → Course (StepEnd FinishedJob)) → Relies who w → Begins who w start a
-    → map tables_of made ≡ pieces_of who start options a → Tries who w start a (all_of made) again → (met : Told) (records : Option Records) → State who w start a (all_of made) met → met.store.records ≡ records
-    → IsLawfulCourse who (told_by who.line who.party (Plain GetRecords) None met) (ends_job_by moment w a (all_outputs a.context.ranges (map ids_of made)) records again)
+ended_by : (who : Caller) (w : LiveWorker) (start : World) (options : WorkerOptions) (moment : ℕ) (a : Attempt) (made : List (List (ℕ × List Row))) (again : ℕ → Course (StepEnd FinishedJob)) → Relies who w → Begins who w start a
+    → map tables_of made ≡ pieces_of who start options a → Tries who w start a (all_of made) again → (met : World) (records : Option Records) → State who w start a (all_of made) met → met.store.records ≡ records
+    → IsLawfulCourse who (after_call who.line who.party (Plain GetRecords) None met) (ends_job_by moment w a (all_outputs a.context.ranges (map ids_of made)) records again)
 ended_by who w start options moment a made again r b e tries met None s is = tt
 ended_by who w start options moment a made again r b e tries met (Some got) s is = ended who w start options moment a made again r b e tries met got s is (is_live got.jobs w.number a) refl
 
-ends : (who : Caller) (w : LiveWorker) (start : Told) (options : WorkerOptions) (moment : ℕ) (a : Attempt) (made : List (List (ℕ × List Row))) → Relies who w → Begins who w start a → map tables_of made ≡ pieces_of who start options a
-    → (left seen : ℕ) (told : Told) → State who w start a (all_of made) told → IsLawfulCourse who told (ends_from moment w a (all_outputs a.context.ranges (map ids_of made)) left seen)
-ends who w start options moment a made r b e zero seen told s = tt
-ends who w start options moment a made r b e (suc left) seen told s = λ met rivals room. (
+ends : (who : Caller) (w : LiveWorker) (start : World) (options : WorkerOptions) (moment : ℕ) (a : Attempt) (made : List (List (ℕ × List Row))) → Relies who w → Begins who w start a → map tables_of made ≡ pieces_of who start options a
+    → (left seen : ℕ) (world : World) → State who w start a (all_of made) world → IsLawfulCourse who world (ends_from moment w a (all_outputs a.context.ranges (map ids_of made)) left seen)
+ends who w start options moment a made r b e zero seen world s = tt
+ends who w start options moment a made r b e (suc left) seen world s = λ met rivals room. (
   tt,
   ended_by who w start options moment a made (ends_from moment w a (all_outputs a.context.ranges (map ids_of made)) left) r b e (λ version next there. ends who w start options moment a made r b e left version next there)
-      met met.store.records (state_met who w start a (all_of made) told met r s rivals) refl,
+      met met.store.records (state_met who w start a (all_of made) world met r s rivals) refl,
 )
 
-end_lawful : (who : Caller) (w : LiveWorker) (start : Told) (options : WorkerOptions) (moment : ℕ) (a : Attempt) (made : List (List (ℕ × List Row))) → Relies who w → Begins who w start a → map tables_of made ≡ pieces_of who start options a
-    → (told : Told) → State who w start a (all_of made) told → IsLawfulCourse who told (end_job moment w a (all_outputs a.context.ranges (map ids_of made)))
+end_lawful : (who : Caller) (w : LiveWorker) (start : World) (options : WorkerOptions) (moment : ℕ) (a : Attempt) (made : List (List (ℕ × List Row))) → Relies who w → Begins who w start a → map tables_of made ≡ pieces_of who start options a
+    → (world : World) → State who w start a (all_of made) world → IsLawfulCourse who world (end_job moment w a (all_outputs a.context.ranges (map ids_of made)))
 unfolding end_job
-end_lawful who w start options moment a made r b e told s = ends who w start options moment a made r b e most_refused 0 told s
+end_lawful who w start options moment a made r b e world s = ends who w start options moment a made r b e most_refused 0 world s
 
 -- ---- the finish
 
-gets_lawful : {A : Type 0} (who : Caller) (w : LiveWorker) (start : Told) (a : Attempt) (next : Course A) (tables : List ℕ) (told : Told) → Relies who w → State who w start a [] told
-    → ((new : Told) → State who w start a [] new → IsLawfulCourse who new next) → IsLawfulCourse who told (calls_each (gets_tables tables) next)
-gets_lawful who w start a next [] told r s rest = rest told s
-gets_lawful who w start a next (table ∷ tables) told r s rest = λ met rivals room.
-    (tt, gets_lawful who w start a next tables (told_by who.line who.party (Plain (GetTable table)) None met) r (state_table who w start a [] table met r (state_met who w start a [] told met r s rivals)) rest)
+gets_lawful : {A : Type 0} (who : Caller) (w : LiveWorker) (start : World) (a : Attempt) (next : Course A) (tables : List ℕ) (world : World) → Relies who w → State who w start a [] world
+    → ((new : World) → State who w start a [] new → IsLawfulCourse who new next) → IsLawfulCourse who world (calls_each (gets_tables tables) next)
+gets_lawful who w start a next [] world r s rest = rest world s
+gets_lawful who w start a next (table ∷ tables) world r s rest = λ met rivals room.
+    (tt, gets_lawful who w start a next tables (after_call who.line who.party (Plain (GetTable table)) None met) r (state_table who w start a [] table met r (state_met who w start a [] world met r s rivals)) rest)
 
-begins : (who : Caller) (w : LiveWorker) (start : Told) (a : Attempt) → who.party ≡ Worker w.number → IsIn a w.attempts → Keeps who.merge start → WorkerHolds who.merge start w → WholeUnless who.merge start.store.tables a None → Begins who w start a
+begins : (who : Caller) (w : LiveWorker) (start : World) (a : Attempt) → who.party ≡ Worker w.number → IsIn a w.attempts → Keeps who.merge start → WorkerHolds who.merge start w → WholeUnless who.merge start.store.tables a None → Begins who w start a
 begins who w start a by there kept holds whole = record {
   by = by;
   there = there;
@@ -288,7 +288,7 @@ begins who w start a by there kept holds whole = record {
   whole = whole;
 }
 
-made_lawful : (who : Caller) (w : LiveWorker) (start new : Told) (options : WorkerOptions) (moment : ℕ) (a : Attempt) (refusal : Option (List ℕ)) → Relies who w → IsShort who.merge → who.party ≡ Worker w.number → IsIn a w.attempts
+made_lawful : (who : Caller) (w : LiveWorker) (start new : World) (options : WorkerOptions) (moment : ℕ) (a : Attempt) (refusal : Option (List ℕ)) → Relies who w → IsShort who.merge → who.party ≡ Worker w.number → IsIn a w.attempts
     → Keeps who.merge start → WorkerHolds who.merge start w → WholeUnless who.merge start.store.tables a refusal → State who w start a [] new
     → IsLawfulCourse who new (finish_or_give_back who.merge options moment w a refusal start.store.tables)
 made_lawful who w start new options moment a (Some message) r short by there kept holds whole s = back_lawful FinishedJob who w a message new by
@@ -302,10 +302,10 @@ made_lawful who w start new options moment a None r short by there kept holds wh
 
 pub finishes_are_lawful : FinishesAreLawful
 unfolding finish
-finishes_are_lawful who told options moment w a refusal keep operator by kept holds runs whole =
+finishes_are_lawful who world options moment w a refusal keep operator by kept holds runs whole =
     let there = found_in w.attempts a.job a runs in
     let relies : Relies who w = record { keep = keep; own = by } in
     let held = (all_at _ w.attempts a (holds.fits kept.stored.replay.specs kept.faithful).each there).held in
-    gets_lawful who w told a (finish_or_give_back who.merge options moment w a refusal told.store.tables) a.sources told relies
-    (record { kept = kept; holds = holds; old = all_to _ _ (attempt_tables a) (λ id one is. record { held = is; same = refl }) (all_true_front (is_held told.store) (attempt_tables a) held); made = tt })
-    (λ new s. made_lawful who w told new options moment a refusal relies operator.short by there kept holds whole s)
+    gets_lawful who w world a (finish_or_give_back who.merge options moment w a refusal world.store.tables) a.sources world relies
+    (record { kept = kept; holds = holds; old = all_to _ _ (attempt_tables a) (λ id one is. record { held = is; same = refl }) (all_true_front (is_held world.store) (attempt_tables a) held); made = tt })
+    (λ new s. made_lawful who w world new options moment a refusal relies operator.short by there kept holds whole s)

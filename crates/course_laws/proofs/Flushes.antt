@@ -17,16 +17,16 @@ use Rattle.fleet_model.specs.Jobs.{drawn_base}
 use Rattle.fleet_model.specs.History.{Party, Writer, Event, GetManifest, PutTable, PutManifest, ManifestEpoch, Flush, Commit, Entry, Done, Conflict, stood}
 use Rattle.fleet_model.specs.Store.{Manifest}
 use Rattle.fleet_model.specs.Tracker.{tracked_after, least_seq_of}
-use Rattle.fleet_model.specs.Trees.{flushed}
+use Rattle.fleet_model.specs.Trees.{flushed_trees}
 use Rattle.fleet_model.specs.TreesFit.{IsTable}
 use Rattle.fleet_model.specs.Exchanges.{Exchange, Plain, DrawsJob, DrawsTable, PutsTable, PutsManifest, PutsRecords, ListsTables, DeletesTable, event_of}
-use Rattle.step_model.specs.Past.{Told}
-use Rattle.step_model.specs.Entries.{last_name, name_in, was_flushed, flushes, tables_brought_in}
+use Rattle.step_model.specs.Past.{World}
+use Rattle.step_model.specs.Entries.{last_name, name_in, was_flushed, is_flush_of, tables_brought_in}
 use Rattle.step_model.specs.TablesKept.{IsKnownTable}
 use Rattle.step_model.specs.Lawful.{Lawful}
 use Rattle.step_model.specs.LawfulTables.{TableFits, MayName}
 use Rattle.step_model.specs.LawfulManifests.{FlushFits, IsAbove}
-use Rattle.step_model.specs.Rivals.{Caller, Strike, Rivals, told_by, is_deletion}
+use Rattle.step_model.specs.Rivals.{Caller, Strike, Rivals, after_call, is_deletion}
 use Rattle.step_model.specs.Keeps.{Keeps}
 use Rattle.step_model.specs.CourseRuns.{IsLawfulCourse}
 use Rattle.step_model.specs.FlushSteps.{FlushAsk, fault_before_get, fault_after_get, is_above, unless_bad, with_flush, puts_unless_put, flushes_from, flush}
@@ -37,7 +37,7 @@ use Rattle.step_laws.proofs.Runs.{rivals_keep}
 use Rattle.step_laws.proofs.Elements.{all_at, all_to, all_true_front, any_push_no, any_element, Passes}
 use Rattle.course_laws.specs.Flushes.{MayAsk, FlushesAreLawful}
 use Rattle.course_laws.proofs.Later.{Later, later_itself, later_then, later_by, rivals_later, later_met, entry_by, answer_by, call_history}
-use Rattle.course_laws.proofs.Calls.{behind, rivals_hold, both}
+use Rattle.course_laws.proofs.Calls.{keeps_after, rivals_hold, both}
 use Rattle.course_laws.proofs.Stood.{unless_both, stood_version}
 use Rattle.course_laws.proofs.Held.{refused, HasRows, call_rows, put_has_rows, drawn_is_high, last_drawn}
 
@@ -97,42 +97,42 @@ is_above_all last rows h = all_to _ _ rows (λ r there one. at last r one) (all_
 -- ---- the put of the table
 
 -- No flush has used the name.
-abbrev IsUnused : FlushAsk → Told → Type 0
-IsUnused ask told = last_name told.store.history < ask.name
+abbrev IsUnused : FlushAsk → World → Type 0
+IsUnused ask world = last_name world.store.history < ask.name
 
-not_among : (merge : Operator) (ask : FlushAsk) (told : Told) → Keeps merge told → ask.name < drawn_base → IsUnused ask told → is_among told.store.tables ask.name ≡ false
-not_among merge ask told kept low unused = by (is_among told.store.tables ask.name) refl
+not_among : (merge : Operator) (ask : FlushAsk) (world : World) → Keeps merge world → ask.name < drawn_base → IsUnused ask world → is_among world.store.tables ask.name ≡ false
+not_among merge ask world kept low unused = by (is_among world.store.tables ask.name) refl
   where
-    never : (id : ℕ) → id ≡ ask.name → IsKnownTable told.store.history id → ⊥
-    never id same (inl drawn) = drawn_is_high merge told id kept drawn (omega (arith, same, low))
+    never : (id : ℕ) → id ≡ ask.name → IsKnownTable world.store.history id → ⊥
+    never id same (inl drawn) = drawn_is_high merge world id kept drawn (omega (arith, same, low))
     never id same (inr small) = omega (arith, same, small, unused)
 
-    at : Passes (λ (table : ℕ × List Row). table.0 == ask.name) told.store.tables → ⊥
-    at found = never found.element.0 ((Decides-eqb found.element.0 ask.name).0 found.passes) (all_at (λ (table : ℕ × List Row). IsKnownTable told.store.history table.0) told.store.tables found.element kept.facts.puts.known found.there)
+    at : Passes (λ (table : ℕ × List Row). table.0 == ask.name) world.store.tables → ⊥
+    at found = never found.element.0 ((Decides-eqb found.element.0 ask.name).0 found.passes) (all_at (λ (table : ℕ × List Row). IsKnownTable world.store.history table.0) world.store.tables found.element kept.facts.puts.known found.there)
 
-    by : (b : Bool) → is_among told.store.tables ask.name ≡ b → b ≡ false
-    by true e = absurd (at (any_element (λ (table : ℕ × List Row). table.0 == ask.name) told.store.tables e))
+    by : (b : Bool) → is_among world.store.tables ask.name ≡ b → b ≡ false
+    by true e = absurd (at (any_element (λ (table : ℕ × List Row). table.0 == ask.name) world.store.tables e))
     by false e = refl
 
-pub not_flushed : (merge : Operator) (name : ℕ) (told : Told) → Keeps merge told → is_among told.store.tables name ≡ false → was_flushed told.store.history name ≡ false
-not_flushed merge name told kept new = by (was_flushed told.store.history name) refl
+pub not_flushed : (merge : Operator) (name : ℕ) (world : World) → Keeps merge world → is_among world.store.tables name ≡ false → was_flushed world.store.history name ≡ false
+not_flushed merge name world kept new = by (was_flushed world.store.history name) refl
   where
-    brings : (event : Event) (took : Bool) → (flushes name event && took) ≡ true → AllByRecursion (λ id. IsTrue (is_among told.store.tables id)) (tables_brought_in took event) → ⊥
-    brings (PutManifest (Flush other segment floor tick)) true e all = refused (is_among told.store.tables name) new (subst (λ n. IsTrue (is_among told.store.tables n)) (sym ((Decides-eqb name other).0 (both _ true e).0)) all.0)
-    brings event false e all = absurd (cc ((both (flushes name event) false e).1))
+    brings : (event : Event) (took : Bool) → (is_flush_of name event && took) ≡ true → AllByRecursion (λ id. IsTrue (is_among world.store.tables id)) (tables_brought_in took event) → ⊥
+    brings (PutManifest (Flush other segment floor tick)) true e all = refused (is_among world.store.tables name) new (subst (λ n. IsTrue (is_among world.store.tables n)) (sym ((Decides-eqb name other).0 (both _ true e).0)) all.0)
+    brings event false e all = absurd (cc ((both (is_flush_of name event) false e).1))
     brings event true e all = absurd (cc e)
 
-    at : Passes (λ (entry : Entry). flushes name entry.event && stood entry.answer) told.store.history → ⊥
-    at found = brings found.element.event (stood found.element.answer) found.passes (all_at _ told.store.history found.element kept.facts.puts.brought found.there)
+    at : Passes (λ (entry : Entry). is_flush_of name entry.event && stood entry.answer) world.store.history → ⊥
+    at found = brings found.element.event (stood found.element.answer) found.passes (all_at _ world.store.history found.element kept.facts.puts.brought found.there)
 
-    by : (b : Bool) → was_flushed told.store.history name ≡ b → b ≡ false
-    by true e = absurd (at (any_element (λ (entry : Entry). flushes name entry.event && stood entry.answer) told.store.history e))
+    by : (b : Bool) → was_flushed world.store.history name ≡ b → b ≡ false
+    by true e = absurd (at (any_element (λ (entry : Entry). is_flush_of name entry.event && stood entry.answer) world.store.history e))
     by false e = refl
 
-table_fits : (merge : Operator) (party : Party) (last : ℕ) (ask : FlushAsk) (told : Told) → party ≡ Writer → Keeps merge told → IsSoundFlush last ask → IsUnused ask told → TableFits party told.store ask.name ask.rows
-table_fits merge party last ask told by kept sound unused = record {
+table_fits : (merge : Operator) (party : Party) (last : ℕ) (ask : FlushAsk) (world : World) → party ≡ Writer → Keeps merge world → IsSoundFlush last ask → IsUnused ask world → TableFits party world.store ask.name ask.rows
+table_fits merge party last ask world by kept sound unused = record {
   sound = sound.table;
-  new = not_among merge ask told kept sound.is_name unused;
+  new = not_among merge ask world kept sound.is_name unused;
   named = inr (by, unused, sound.is_name);
 }
 
@@ -142,85 +142,85 @@ last_name_push : (history : List Entry) (entry : Entry) → last_name (history +
 last_name_push [] entry = omega arith
 last_name_push (first ∷ history) entry = let rest = last_name_push history entry in omega (arith, rest)
 
-unused_on : (ask : FlushAsk) (line : ℕ) (party : Party) (x : Exchange) (strike : Strike) (told : Told) → name_in (event_of x told.store) ≡ 0 → IsUnused ask told → IsUnused ask (told_by line party x strike told)
-unused_on ask line party x strike told none unused =
-    subst (λ (history : List Entry). last_name history < ask.name) (sym (call_history line party x strike told.store))
-    (let push = last_name_push told.store.history (entry_by line party x strike told.store) in omega (arith, push, none, unused))
+unused_on : (ask : FlushAsk) (line : ℕ) (party : Party) (x : Exchange) (strike : Strike) (world : World) → name_in (event_of x world.store) ≡ 0 → IsUnused ask world → IsUnused ask (after_call line party x strike world)
+unused_on ask line party x strike world none unused =
+    subst (λ (history : List Entry). last_name history < ask.name) (sym (call_history line party x strike world.store))
+    (let push = last_name_push world.store.history (entry_by line party x strike world.store) in omega (arith, push, none, unused))
 
 -- Only the writer uses names of flushes.
-names_none : (merge : Operator) (party : Party) (told : Told) (x : Exchange) → party ≢ Writer → Keeps merge told → Lawful merge party told x → name_in (event_of x told.store) ≡ 0
-names_none merge party told (PutsTable table rows) other kept lawful = by lawful.named
+names_none : (merge : Operator) (party : Party) (world : World) (x : Exchange) → party ≢ Writer → Keeps merge world → Lawful merge party world x → name_in (event_of x world.store) ≡ 0
+names_none merge party world (PutsTable table rows) other kept lawful = by lawful.named
   where
-    by : MayName party told.store.history table → name_in (PutTable table 0) ≡ 0
+    by : MayName party world.store.history table → name_in (PutTable table 0) ≡ 0
     by (inr own) = absurd (other own.0)
     by (inl drew) = test (nat_lt table drawn_base) refl
       where
         test : (b : Bool) → nat_lt table drawn_base ≡ b → cond b table 0 ≡ 0
-        test true e = absurd (drawn_is_high merge told table kept (last_drawn party table told.store.history drew) (ltb-true table drawn_base e))
+        test true e = absurd (drawn_is_high merge world table kept (last_drawn party table world.store.history drew) (ltb-true table drawn_base e))
         test false e = refl
-names_none merge party told (Plain (PutTable table rows)) other kept lawful = absurd lawful
-names_none merge party told (Plain event) other kept lawful = refl
-names_none merge party told (DrawsJob moment) other kept lawful = refl
-names_none merge party told (DrawsTable moment) other kept lawful = refl
-names_none merge party told (PutsManifest version change value) other kept lawful = refl
-names_none merge party told (PutsRecords version change epoch jobs) other kept lawful = refl
-names_none merge party told ListsTables other kept lawful = refl
-names_none merge party told (DeletesTable table) other kept lawful = refl
+names_none merge party world (Plain (PutTable table rows)) other kept lawful = absurd lawful
+names_none merge party world (Plain event) other kept lawful = refl
+names_none merge party world (DrawsJob moment) other kept lawful = refl
+names_none merge party world (DrawsTable moment) other kept lawful = refl
+names_none merge party world (PutsManifest version change value) other kept lawful = refl
+names_none merge party world (PutsRecords version change epoch jobs) other kept lawful = refl
+names_none merge party world ListsTables other kept lawful = refl
+names_none merge party world (DeletesTable table) other kept lawful = refl
 
-rivals_unused : (who : Caller) (ask : FlushAsk) (old new : Told) → CallsKeep who.merge → who.party ≡ Writer → Keeps who.merge old → Rivals who old new → IsUnused ask old → IsUnused ask new
+rivals_unused : (who : Caller) (ask : FlushAsk) (old new : World) → CallsKeep who.merge → who.party ≡ Writer → Keeps who.merge old → Rivals who old new → IsUnused ask old → IsUnused ask new
 rivals_unused who ask old new keep by kept rivals unused =
-    rivals_hold who (IsUnused ask) keep (λ told call there rival one. unused_on ask call.line call.party call.exchange call.strike told (names_none who.merge call.party told call.exchange (λ same. rival.other (same ∙ sym by)) there rival.lawful) one)
+    rivals_hold who (IsUnused ask) keep (λ world call there rival one. unused_on ask call.line call.party call.exchange call.strike world (names_none who.merge call.party world call.exchange (λ same. rival.other (same ∙ sym by)) there rival.lawful) one)
     old new kept rivals unused
 
 -- ---- the table is put and waits for the put of the manifest
 
 -- The table of the flush is held, and no flush of the name took effect.
-record IsPut (ask : FlushAsk) (told : Told) : Type 0 where
-  there : HasRows ask.name ask.rows told.store
-  once : was_flushed told.store.history ask.name ≡ false
+record IsPut (ask : FlushAsk) (world : World) : Type 0 where
+  there : HasRows ask.name ask.rows world.store
+  once : was_flushed world.store.history ask.name ≡ false
 
 -- Only the writer flushes.
-flushes_none : (merge : Operator) (party : Party) (told : Told) (x : Exchange) (strike : Strike) (name : ℕ) → party ≢ Writer → Lawful merge party told x → (flushes name (event_of x told.store) && stood (answer_by x strike told.store)) ≡ false
-flushes_none merge party told (PutsManifest version (Flush other segment floor tick) value) strike name not_writer lawful =
-    unless_both _ _ (λ same took. not_writer (lawful (stood_version strike told.store version (Flush other segment floor tick) value took)).by)
-flushes_none merge party told (PutsManifest version (ManifestEpoch epoch) value) strike name not_writer lawful = refl
-flushes_none merge party told (PutsManifest version (Commit steps) value) strike name not_writer lawful = refl
-flushes_none merge party told (Plain (PutManifest change)) strike name not_writer lawful = absurd lawful
-flushes_none merge party told (Plain event) strike name not_writer lawful = refl
-flushes_none merge party told (DrawsJob moment) strike name not_writer lawful = refl
-flushes_none merge party told (DrawsTable moment) strike name not_writer lawful = refl
-flushes_none merge party told (PutsTable table rows) strike name not_writer lawful = refl
-flushes_none merge party told (PutsRecords version change epoch jobs) strike name not_writer lawful = refl
-flushes_none merge party told ListsTables strike name not_writer lawful = refl
-flushes_none merge party told (DeletesTable table) strike name not_writer lawful = refl
+flushes_none : (merge : Operator) (party : Party) (world : World) (x : Exchange) (strike : Strike) (name : ℕ) → party ≢ Writer → Lawful merge party world x → (is_flush_of name (event_of x world.store) && stood (answer_by x strike world.store)) ≡ false
+flushes_none merge party world (PutsManifest version (Flush other segment floor tick) value) strike name not_writer lawful =
+    unless_both _ _ (λ same took. not_writer (lawful (stood_version strike world.store version (Flush other segment floor tick) value took)).by)
+flushes_none merge party world (PutsManifest version (ManifestEpoch epoch) value) strike name not_writer lawful = refl
+flushes_none merge party world (PutsManifest version (Commit steps) value) strike name not_writer lawful = refl
+flushes_none merge party world (Plain (PutManifest change)) strike name not_writer lawful = absurd lawful
+flushes_none merge party world (Plain event) strike name not_writer lawful = refl
+flushes_none merge party world (DrawsJob moment) strike name not_writer lawful = refl
+flushes_none merge party world (DrawsTable moment) strike name not_writer lawful = refl
+flushes_none merge party world (PutsTable table rows) strike name not_writer lawful = refl
+flushes_none merge party world (PutsRecords version change epoch jobs) strike name not_writer lawful = refl
+flushes_none merge party world ListsTables strike name not_writer lawful = refl
+flushes_none merge party world (DeletesTable table) strike name not_writer lawful = refl
 
-put_on : (ask : FlushAsk) (line : ℕ) (party : Party) (x : Exchange) (strike : Strike) (told : Told) → is_deletion x ≡ false → (flushes ask.name (event_of x told.store) && stood (answer_by x strike told.store)) ≡ false
-    → IsPut ask told → IsPut ask (told_by line party x strike told)
-put_on ask line party x strike told none fails h = record {
-  there = call_rows line party x strike told.store ask.name ask.rows none h.there;
-  once = ap (λ (history : List Entry). was_flushed history ask.name) (call_history line party x strike told.store)
-      ∙ any_push_no (λ (entry : Entry). flushes ask.name entry.event && stood entry.answer) told.store.history (entry_by line party x strike told.store) fails ∙ h.once;
+put_on : (ask : FlushAsk) (line : ℕ) (party : Party) (x : Exchange) (strike : Strike) (world : World) → is_deletion x ≡ false → (is_flush_of ask.name (event_of x world.store) && stood (answer_by x strike world.store)) ≡ false
+    → IsPut ask world → IsPut ask (after_call line party x strike world)
+put_on ask line party x strike world none fails h = record {
+  there = call_rows line party x strike world.store ask.name ask.rows none h.there;
+  once = ap (λ (history : List Entry). was_flushed history ask.name) (call_history line party x strike world.store)
+      ∙ any_push_no (λ (entry : Entry). is_flush_of ask.name entry.event && stood entry.answer) world.store.history (entry_by line party x strike world.store) fails ∙ h.once;
 }
 
-rivals_put : (who : Caller) (ask : FlushAsk) (old new : Told) → CallsKeep who.merge → who.party ≡ Writer → Keeps who.merge old → Rivals who old new → IsPut ask old → IsPut ask new
+rivals_put : (who : Caller) (ask : FlushAsk) (old new : World) → CallsKeep who.merge → who.party ≡ Writer → Keeps who.merge old → Rivals who old new → IsPut ask old → IsPut ask new
 rivals_put who ask old new keep by kept rivals h =
-    rivals_hold who (IsPut ask) keep (λ told call there rival one. put_on ask call.line call.party call.exchange call.strike told rival.deletes_none
-    (flushes_none who.merge call.party told call.exchange call.strike ask.name (λ same. rival.other (same ∙ sym by)) rival.lawful) one) old new kept rivals h
+    rivals_hold who (IsPut ask) keep (λ world call there rival one. put_on ask call.line call.party call.exchange call.strike world rival.deletes_none
+    (flushes_none who.merge call.party world call.exchange call.strike ask.name (λ same. rival.other (same ∙ sym by)) rival.lawful) one) old new kept rivals h
 
--- Behind the put of its table a flush waits.
-is_put_behind : (merge : Operator) (line : ℕ) (party : Party) (last : ℕ) (ask : FlushAsk) (told : Told) → Keeps merge told → IsSoundFlush last ask → IsUnused ask told → IsPut ask (told_by line party (PutsTable ask.name ask.rows) None told)
-is_put_behind merge line party last ask told kept sound unused =
-    let new = not_among merge ask told kept sound.is_name unused in
+-- After the put of its table a flush waits.
+is_put_after : (merge : Operator) (line : ℕ) (party : Party) (last : ℕ) (ask : FlushAsk) (world : World) → Keeps merge world → IsSoundFlush last ask → IsUnused ask world → IsPut ask (after_call line party (PutsTable ask.name ask.rows) None world)
+is_put_after merge line party last ask world kept sound unused =
+    let new = not_among merge ask world kept sound.is_name unused in
     record {
-      there = put_has_rows line party told.store ask.name ask.rows kept.stored.sound.deleted new;
-      once = ap (λ (history : List Entry). was_flushed history ask.name) (call_history line party (PutsTable ask.name ask.rows) None told.store)
-          ∙ any_push_no (λ (entry : Entry). flushes ask.name entry.event && stood entry.answer) told.store.history (entry_by line party (PutsTable ask.name ask.rows) None told.store) refl
-          ∙ not_flushed merge ask.name told kept new;
+      there = put_has_rows line party world.store ask.name ask.rows kept.stored.sound.deleted new;
+      once = ap (λ (history : List Entry). was_flushed history ask.name) (call_history line party (PutsTable ask.name ask.rows) None world.store)
+          ∙ any_push_no (λ (entry : Entry). is_flush_of ask.name entry.event && stood entry.answer) world.store.history (entry_by line party (PutsTable ask.name ask.rows) None world.store) refl
+          ∙ not_flushed merge ask.name world kept new;
     }
 
 -- ---- the put of the manifest
 
-flush_fits : (party : Party) (moment retention : ℕ) (ask : FlushAsk) (m p : Told) → party ≡ Writer → ask.name < drawn_base → Later m p → IsPut ask p → fault_after_get m.store.manifest ask ≡ None
+flush_fits : (party : Party) (moment retention : ℕ) (ask : FlushAsk) (m p : World) → party ≡ Writer → ask.name < drawn_base → Later m p → IsPut ask p → fault_after_get m.store.manifest ask ≡ None
     → m.store.manifest.version ≡ p.store.manifest.version → FlushFits party p ask.name ask.segment ask.floor ask.tick (with_flush moment retention ask m.store.manifest)
 flush_fits party moment retention ask m p by low later put none version =
     let same = later.manifest.same version in
@@ -242,7 +242,7 @@ flush_fits party moment retention ask m p by low later put none version =
   where
     brought : Manifest → List Row → Manifest
     brought manifest rows = record manifest {
-      trees = flushed ask.segment ask.name rows manifest.trees;
+      trees = flushed_trees ask.segment ask.name rows manifest.trees;
       floor = ask.floor;
       tick = ask.tick;
       tracker = tracked_after moment retention (least_seq_of rows) manifest.tracker;
@@ -252,15 +252,15 @@ flush_fits party moment retention ask m p by low later put none version =
 
 -- Another try of the flush is a lawful course where its table is put.
 abbrev Tries : Caller → FlushAsk → (ℕ → Course (StepEnd ⊤)) → Type 0
-Tries who ask again = (version : ℕ) (told : Told) → Keeps who.merge told → IsPut ask told → IsLawfulCourse who told (again version)
+Tries who ask again = (version : ℕ) (world : World) → Keeps who.merge world → IsPut ask world → IsLawfulCourse who world (again version)
 
 -- The put of the manifest.
 abbrev put_of : ℕ → ℕ → FlushAsk → Manifest → Exchange
 put_of moment retention ask manifest = PutsManifest manifest.version (Flush ask.name ask.segment ask.floor ask.tick) (with_flush moment retention ask manifest)
 
-ends : (who : Caller) (moment retention : ℕ) (ask : FlushAsk) (again : ℕ → Course (StepEnd ⊤)) (m p : Told) → Tries who ask again → IsPut ask p
-    → Keeps who.merge (told_by who.line who.party (put_of moment retention ask m.store.manifest) None p) → (b : Bool) → (m.store.manifest.version == p.store.manifest.version) ≡ b
-    → IsLawfulCourse who (told_by who.line who.party (put_of moment retention ask m.store.manifest) None p) (cond b (Ends (Reports tt)) (again p.store.manifest.version))
+ends : (who : Caller) (moment retention : ℕ) (ask : FlushAsk) (again : ℕ → Course (StepEnd ⊤)) (m p : World) → Tries who ask again → IsPut ask p
+    → Keeps who.merge (after_call who.line who.party (put_of moment retention ask m.store.manifest) None p) → (b : Bool) → (m.store.manifest.version == p.store.manifest.version) ≡ b
+    → IsLawfulCourse who (after_call who.line who.party (put_of moment retention ask m.store.manifest) None p) (cond b (Ends (Reports tt)) (again p.store.manifest.version))
 ends who moment retention ask again m p tries put kept true e = tt
 ends who moment retention ask again m p tries put kept false e =
     tries p.store.manifest.version _ kept
@@ -270,60 +270,60 @@ ends who moment retention ask again m p tries put kept false e =
     by true e took = absurd (cc e)
     by false e took = absurd (cc took)
 
--- Once the table is put, the put of the manifest and what comes behind it are lawful.
+-- Once the table is put, the put of the manifest and what comes after it are lawful.
 manifest_put : (who : Caller) (moment retention : ℕ) (ask : FlushAsk) (again : ℕ → Course (StepEnd ⊤)) → CallsKeep who.merge → who.party ≡ Writer → ask.name < drawn_base → Tries who ask again
-    → (m told : Told) → Later m told → fault_after_get m.store.manifest ask ≡ None → Keeps who.merge told → IsPut ask told
-    → IsLawfulCourse who told (puts_manifest m.store.manifest.version (Flush ask.name ask.segment ask.floor ask.tick) (with_flush moment retention ask m.store.manifest) (Ends (Reports tt)) again)
-manifest_put who moment retention ask again keep by low tries m told later none kept put = λ p rivals room.
-    let there = rivals_keep who told p keep kept rivals in
-    let still = rivals_put who ask told p keep by kept rivals put in
-    let lawful : Lawful who.merge who.party p (put_of moment retention ask m.store.manifest) = λ version. flush_fits who.party moment retention ask m p by low (later_then m told p later (rivals_later who told p rivals)) still none version in
-    (lawful, ends who moment retention ask again m p tries still (behind who (put_of moment retention ask m.store.manifest) p keep there lawful) (m.store.manifest.version == p.store.manifest.version) refl)
+    → (m world : World) → Later m world → fault_after_get m.store.manifest ask ≡ None → Keeps who.merge world → IsPut ask world
+    → IsLawfulCourse who world (puts_manifest m.store.manifest.version (Flush ask.name ask.segment ask.floor ask.tick) (with_flush moment retention ask m.store.manifest) (Ends (Reports tt)) again)
+manifest_put who moment retention ask again keep by low tries m world later none kept put = λ p rivals room.
+    let there = rivals_keep who world p keep kept rivals in
+    let still = rivals_put who ask world p keep by kept rivals put in
+    let lawful : Lawful who.merge who.party p (put_of moment retention ask m.store.manifest) = λ version. flush_fits who.party moment retention ask m p by low (later_then m world p later (rivals_later who world p rivals)) still none version in
+    (lawful, ends who moment retention ask again m p tries still (keeps_after who (put_of moment retention ask m.store.manifest) p keep there lawful) (m.store.manifest.version == p.store.manifest.version) refl)
 
 -- The table is put, or it may be put, by the flag.
-abbrev State : Bool → FlushAsk → Told → Type 0
-State true ask told = IsPut ask told
-State false ask told = IsUnused ask told
+abbrev State : Bool → FlushAsk → World → Type 0
+State true ask world = IsPut ask world
+State false ask world = IsUnused ask world
 
 over : (who : Caller) (moment retention last : ℕ) (ask : FlushAsk) (again : ℕ → Course (StepEnd ⊤)) → CallsKeep who.merge → who.party ≡ Writer → IsSoundFlush last ask → Tries who ask again → (is_put : Bool)
-    → (m : Told) → Keeps who.merge m → State is_put ask m → (fault : Option FlushFault) → fault_after_get m.store.manifest ask ≡ fault
-    → IsLawfulCourse who (told_by who.line who.party (Plain GetManifest) None m) (unless_bad fault (puts_unless_put is_put ask (
+    → (m : World) → Keeps who.merge m → State is_put ask m → (fault : Option FlushFault) → fault_after_get m.store.manifest ask ≡ fault
+    → IsLawfulCourse who (after_call who.line who.party (Plain GetManifest) None m) (unless_bad fault (puts_unless_put is_put ask (
     puts_manifest m.store.manifest.version (Flush ask.name ask.segment ask.floor ask.tick) (with_flush moment retention ask m.store.manifest) (Ends (Reports tt)) again)))
 over who moment retention last ask again keep by sound tries is_put m kept state (Some fault) e = tt
 over who moment retention last ask again keep by sound tries true m kept state None e =
-    manifest_put who moment retention ask again keep by sound.is_name tries m _ (later_by who.line who.party (Plain GetManifest) None m) e (behind who (Plain GetManifest) m keep kept tt)
+    manifest_put who moment retention ask again keep by sound.is_name tries m _ (later_by who.line who.party (Plain GetManifest) None m) e (keeps_after who (Plain GetManifest) m keep kept tt)
     (put_on ask who.line who.party (Plain GetManifest) None m refl refl state)
 over who moment retention last ask again keep by sound tries false m kept state None e = λ t rivals room.
-    let there = behind who (Plain GetManifest) m keep kept tt in
-    let unused = rivals_unused who ask (told_by who.line who.party (Plain GetManifest) None m) t keep by there rivals (unused_on ask who.line who.party (Plain GetManifest) None m refl state) in
-    let kept_there = rivals_keep who (told_by who.line who.party (Plain GetManifest) None m) t keep there rivals in
+    let there = keeps_after who (Plain GetManifest) m keep kept tt in
+    let unused = rivals_unused who ask (after_call who.line who.party (Plain GetManifest) None m) t keep by there rivals (unused_on ask who.line who.party (Plain GetManifest) None m refl state) in
+    let kept_there = rivals_keep who (after_call who.line who.party (Plain GetManifest) None m) t keep there rivals in
     let lawful = table_fits who.merge who.party last ask t by kept_there sound unused in
     let later = later_met who (Plain GetManifest) m m t (later_itself m) rivals in (
       lawful,
       manifest_put who moment retention ask again keep by sound.is_name tries m _ (later_then m t _ later (later_by who.line who.party (PutsTable ask.name ask.rows) None t)) e
-          (behind who (PutsTable ask.name ask.rows) t keep kept_there lawful) (is_put_behind who.merge who.line who.party last ask t kept_there sound unused),
+          (keeps_after who (PutsTable ask.name ask.rows) t keep kept_there lawful) (is_put_after who.merge who.line who.party last ask t kept_there sound unused),
     )
 
-rivals_state : (who : Caller) (is_put : Bool) (ask : FlushAsk) (old new : Told) → CallsKeep who.merge → who.party ≡ Writer → Keeps who.merge old → Rivals who old new → State is_put ask old → State is_put ask new
+rivals_state : (who : Caller) (is_put : Bool) (ask : FlushAsk) (old new : World) → CallsKeep who.merge → who.party ≡ Writer → Keeps who.merge old → Rivals who old new → State is_put ask old → State is_put ask new
 rivals_state who true ask old new keep by kept rivals h = rivals_put who ask old new keep by kept rivals h
 rivals_state who false ask old new keep by kept rivals h = rivals_unused who ask old new keep by kept rivals h
 
-flush_tries : (who : Caller) (moment retention last : ℕ) (ask : FlushAsk) → CallsKeep who.merge → who.party ≡ Writer → IsSoundFlush last ask → (left : ℕ) (is_put : Bool) (seen : ℕ) (told : Told) → Keeps who.merge told
-    → State is_put ask told → IsLawfulCourse who told (flushes_from moment retention ask left is_put seen)
-flush_tries who moment retention last ask keep by sound zero is_put seen told kept state = tt
-flush_tries who moment retention last ask keep by sound (suc left) is_put seen told kept state = λ m rivals room. (
+flush_tries : (who : Caller) (moment retention last : ℕ) (ask : FlushAsk) → CallsKeep who.merge → who.party ≡ Writer → IsSoundFlush last ask → (left : ℕ) (is_put : Bool) (seen : ℕ) (world : World) → Keeps who.merge world
+    → State is_put ask world → IsLawfulCourse who world (flushes_from moment retention ask left is_put seen)
+flush_tries who moment retention last ask keep by sound zero is_put seen world kept state = tt
+flush_tries who moment retention last ask keep by sound (suc left) is_put seen world kept state = λ m rivals room. (
   tt,
   over who moment retention last ask (flushes_from moment retention ask left true) keep by sound (λ version next there put. flush_tries who moment retention last ask keep by sound left true version next there put) is_put
-      m (rivals_keep who told m keep kept rivals) (rivals_state who is_put ask told m keep by kept rivals state) (fault_after_get m.store.manifest ask) refl,
+      m (rivals_keep who world m keep kept rivals) (rivals_state who is_put ask world m keep by kept rivals state) (fault_after_get m.store.manifest ask) refl,
 )
 
 pub flushes_are_lawful : FlushesAreLawful
 unfolding flush
-flushes_are_lawful who told moment retention last ask keep kept by may names = at (fault_before_get last ask) refl
+flushes_are_lawful who world moment retention last ask keep kept by may names = at (fault_before_get last ask) refl
   where
-    at : (fault : Option FlushFault) → fault_before_get last ask ≡ fault → IsLawfulCourse who told (unless_bad fault (flushes_from moment retention ask most_refused false 0))
+    at : (fault : Option FlushFault) → fault_before_get last ask ≡ fault → IsLawfulCourse who world (unless_bad fault (flushes_from moment retention ask most_refused false 0))
     at (Some fault) e = tt
     at None e =
         let sound = sound_flush last ask may e in
         let newer = sound.newer in
-        flush_tries who moment retention last ask keep by sound most_refused false 0 told kept (omega (arith, newer, names))
+        flush_tries who moment retention last ask keep by sound most_refused false 0 world kept (omega (arith, newer, names))

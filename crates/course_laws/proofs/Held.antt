@@ -8,10 +8,10 @@ use Rattle.fleet_model.specs.Nodes.{Tables, is_among, table_rows, rows_or_none}
 use Rattle.fleet_model.specs.Jobs.{contains, number_of, drawn_base}
 use Rattle.fleet_model.specs.History.{Party, Event, DrawTable, Entry}
 use Rattle.fleet_model.specs.Store.{Store, is_held, WerePut}
-use Rattle.fleet_model.specs.Exchanges.{Exchange, Plain, DrawsJob, DrawsTable, PutsTable, PutsManifest, PutsRecords, ListsTables, DeletesTable, records_version, performed}
-use Rattle.step_model.specs.Past.{Told}
+use Rattle.fleet_model.specs.Exchanges.{Exchange, Plain, DrawsJob, DrawsTable, PutsTable, PutsManifest, PutsRecords, ListsTables, DeletesTable, records_version, after_exchange}
+use Rattle.step_model.specs.Past.{World}
 use Rattle.step_model.specs.Entries.{party_eq, last_from, last_event, drawn_tables, table_drawn_in}
-use Rattle.step_model.specs.Rivals.{Strike, called, is_deletion}
+use Rattle.step_model.specs.Rivals.{Strike, store_after_call, is_deletion}
 use Rattle.step_model.specs.Keeps.{Keeps}
 use Rattle.step_laws.proofs.Elements.{IsIn, all_at, all_true_front, any_push_yes, is_itself, contains_in, in_contains, in_front, in_back}
 use Rattle.step_laws.proofs.Held.{is_held_so, held_grows, held_put, rows_stay}
@@ -25,7 +25,7 @@ pub record HasRows (id : ℕ) (rows : List Row) (store : Store) : Type 0 where
   pub held : IsTrue (is_held store id)
   pub same : table_rows store.tables id ≡ rows
 
-performed_rows : (x : Exchange) (store : Store) (id : ℕ) (rows : List Row) → is_deletion x ≡ false → HasRows id rows store → HasRows id rows (performed x store)
+performed_rows : (x : Exchange) (store : Store) (id : ℕ) (rows : List Row) → is_deletion x ≡ false → HasRows id rows store → HasRows id rows (after_exchange x store)
 performed_rows (Plain event) store id rows none h = h
 performed_rows (DrawsJob moment) store id rows none h = record { held = h.held; same = h.same }
 performed_rows (DrawsTable moment) store id rows none h = record { held = h.held; same = h.same }
@@ -43,7 +43,7 @@ performed_rows (PutsRecords version change epoch jobs) store id rows none h = by
 performed_rows ListsTables store id rows none h = h
 performed_rows (DeletesTable table) store id rows none h = absurd (cc none)
 
-pub call_rows : (line : ℕ) (party : Party) (x : Exchange) (strike : Strike) (store : Store) (id : ℕ) (rows : List Row) → is_deletion x ≡ false → HasRows id rows store → HasRows id rows (called line party x strike store)
+pub call_rows : (line : ℕ) (party : Party) (x : Exchange) (strike : Strike) (store : Store) (id : ℕ) (rows : List Row) → is_deletion x ≡ false → HasRows id rows store → HasRows id rows (store_after_call line party x strike store)
 call_rows line party x None store id rows none h = let done = performed_rows x store id rows none h in record { held = done.held; same = done.same }
 call_rows line party x (Some true) store id rows none h = let done = performed_rows x store id rows none h in record { held = done.held; same = done.same }
 call_rows line party x (Some false) store id rows none h = record { held = h.held; same = h.same }
@@ -67,7 +67,7 @@ not_deleted store id put new = by (contains store.deleted id) refl
     by false e = refl
 
 -- A table that is put under a new id is held, with its rows.
-pub put_has_rows : (line : ℕ) (party : Party) (store : Store) (id : ℕ) (rows : List Row) → WerePut store store.deleted → is_among store.tables id ≡ false → HasRows id rows (called line party (PutsTable id rows) None store)
+pub put_has_rows : (line : ℕ) (party : Party) (store : Store) (id : ℕ) (rows : List Row) → WerePut store store.deleted → is_among store.tables id ≡ false → HasRows id rows (store_after_call line party (PutsTable id rows) None store)
 put_has_rows line party store id rows put new =
     let there : is_among (store.tables ++ (id, rows) ∷ []) id ≡ true = any_push_yes (λ (table : ℕ × List Row). table.0 == id) store.tables (id, rows) (is_itself id) in
     record {
@@ -84,9 +84,9 @@ small_number name low = ap (λ n. n % 2 ^ 80) (plain name) ∙ mod-mul-add 0 (2 
     plain n = omega arith
 
 -- A drawn table has no name of a flush.
-pub drawn_is_high : (merge : Operator) (told : Told) (id : ℕ) → Keeps merge told → IsTrue (contains (drawn_tables told.store.history) id) → id < drawn_base → ⊥
-drawn_is_high merge told id kept drawn low =
-    let high = (all_at _ (drawn_tables told.store.history) id kept.facts.draws.tables_counted (contains_in (drawn_tables told.store.history) id drawn)).0 in
+pub drawn_is_high : (merge : Operator) (world : World) (id : ℕ) → Keeps merge world → IsTrue (contains (drawn_tables world.store.history) id) → id < drawn_base → ⊥
+drawn_is_high merge world id kept drawn low =
+    let high = (all_at _ (drawn_tables world.store.history) id kept.facts.draws.tables_counted (contains_in (drawn_tables world.store.history) id drawn)).0 in
     let number = small_number id low in
     omega (arith, high, number, low)
 

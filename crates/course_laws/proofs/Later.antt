@@ -5,9 +5,9 @@ use Rattle.std.proofs.lemmas.Bool.Decides.{Decides-eqb}
 use Rattle.std.proofs.lemmas.List.{append-nil, append_assoc}
 use Rattle.fleet_model.specs.History.{Party, Answer, Lost, Entry}
 use Rattle.fleet_model.specs.Store.{Manifest, Records, Store}
-use Rattle.fleet_model.specs.Exchanges.{Exchange, Plain, DrawsJob, DrawsTable, PutsTable, PutsManifest, PutsRecords, ListsTables, DeletesTable, records_version, performed, event_of, answer_of, stands_or_lost}
-use Rattle.step_model.specs.Past.{Told}
-use Rattle.step_model.specs.Rivals.{Caller, Strike, RivalCall, RivalsFrom, Rivals, called, told_by, told_by_rival}
+use Rattle.fleet_model.specs.Exchanges.{Exchange, Plain, DrawsJob, DrawsTable, PutsTable, PutsManifest, PutsRecords, ListsTables, DeletesTable, records_version, after_exchange, event_of, answer_of, stands_or_lost}
+use Rattle.step_model.specs.Past.{World}
+use Rattle.step_model.specs.Rivals.{Caller, Strike, RivalCall, RivalsFrom, Rivals, store_after_call, after_call, after_rival}
 
 -- The new manifest has a later version, or it is the old one.
 pub record ManifestLater (old new : Manifest) : Type 0 where
@@ -45,7 +45,7 @@ records_then a b c first second =
 
 -- ---- one call
 
-performed_manifest : (x : Exchange) (store : Store) → ManifestLater store.manifest (performed x store).manifest
+performed_manifest : (x : Exchange) (store : Store) → ManifestLater store.manifest (after_exchange x store).manifest
 performed_manifest (Plain event) store = manifest_itself store.manifest
 performed_manifest (DrawsJob moment) store = manifest_itself store.manifest
 performed_manifest (DrawsTable moment) store = manifest_itself store.manifest
@@ -63,7 +63,7 @@ performed_manifest (PutsRecords version change epoch jobs) store = by (version =
 performed_manifest ListsTables store = manifest_itself store.manifest
 performed_manifest (DeletesTable table) store = manifest_itself store.manifest
 
-performed_records : (x : Exchange) (store : Store) → RecordsLater store.records (performed x store).records
+performed_records : (x : Exchange) (store : Store) → RecordsLater store.records (after_exchange x store).records
 performed_records (Plain event) store = records_itself store.records
 performed_records (DrawsJob moment) store = records_itself store.records
 performed_records (DrawsTable moment) store = records_itself store.records
@@ -81,7 +81,7 @@ performed_records (PutsRecords version change epoch jobs) store = by (version ==
 performed_records ListsTables store = records_itself store.records
 performed_records (DeletesTable table) store = records_itself store.records
 
-performed_history : (x : Exchange) (store : Store) → (performed x store).history ≡ store.history
+performed_history : (x : Exchange) (store : Store) → (after_exchange x store).history ≡ store.history
 performed_history (Plain event) store = refl
 performed_history (DrawsJob moment) store = refl
 performed_history (DrawsTable moment) store = refl
@@ -109,34 +109,34 @@ answer_by x (Some false) store = Lost
 abbrev pub entry_by : ℕ → Party → Exchange → Strike → Store → Entry
 entry_by line party x strike store = record { line = line; party = party; event = event_of x store; answer = answer_by x strike store }
 
-pub call_manifest : (line : ℕ) (party : Party) (x : Exchange) (strike : Strike) (store : Store) → ManifestLater store.manifest (called line party x strike store).manifest
+pub call_manifest : (line : ℕ) (party : Party) (x : Exchange) (strike : Strike) (store : Store) → ManifestLater store.manifest (store_after_call line party x strike store).manifest
 call_manifest line party x None store = performed_manifest x store
 call_manifest line party x (Some true) store = performed_manifest x store
 call_manifest line party x (Some false) store = manifest_itself store.manifest
 
-pub call_records : (line : ℕ) (party : Party) (x : Exchange) (strike : Strike) (store : Store) → RecordsLater store.records (called line party x strike store).records
+pub call_records : (line : ℕ) (party : Party) (x : Exchange) (strike : Strike) (store : Store) → RecordsLater store.records (store_after_call line party x strike store).records
 call_records line party x None store = performed_records x store
 call_records line party x (Some true) store = performed_records x store
 call_records line party x (Some false) store = records_itself store.records
 
-pub call_history : (line : ℕ) (party : Party) (x : Exchange) (strike : Strike) (store : Store) → (called line party x strike store).history ≡ store.history ++ entry_by line party x strike store ∷ []
+pub call_history : (line : ℕ) (party : Party) (x : Exchange) (strike : Strike) (store : Store) → (store_after_call line party x strike store).history ≡ store.history ++ entry_by line party x strike store ∷ []
 call_history line party x None store = ap (λ (h : List Entry). h ++ entry_by line party x None store ∷ []) (performed_history x store)
 call_history line party x (Some true) store = ap (λ (h : List Entry). h ++ entry_by line party x (Some true) store ∷ []) (performed_history x store)
 call_history line party x (Some false) store = refl
 
 -- ---- calls one after the other
 
--- What is told is later than what was told.
-pub record Later (old new : Told) : Type 0 where
+-- What is world is later than what was world.
+pub record Later (old new : World) : Type 0 where
   pub manifest : ManifestLater old.store.manifest new.store.manifest
   pub records : RecordsLater old.store.records new.store.records
   pub more : List Entry
   pub history : new.store.history ≡ old.store.history ++ more
 
-pub later_itself : (told : Told) → Later told told
-later_itself told = record { manifest = manifest_itself told.store.manifest; records = records_itself told.store.records; more = []; history = sym (append-nil told.store.history) }
+pub later_itself : (world : World) → Later world world
+later_itself world = record { manifest = manifest_itself world.store.manifest; records = records_itself world.store.records; more = []; history = sym (append-nil world.store.history) }
 
-pub later_then : (a b c : Told) → Later a b → Later b c → Later a c
+pub later_then : (a b c : World) → Later a b → Later b c → Later a c
 later_then a b c first second = record {
   manifest = manifest_then a.store.manifest b.store.manifest c.store.manifest first.manifest second.manifest;
   records = records_then a.store.records b.store.records c.store.records first.records second.records;
@@ -144,23 +144,23 @@ later_then a b c first second = record {
   history = second.history ∙ ap (λ (h : List Entry). h ++ second.more) first.history ∙ append_assoc a.store.history first.more second.more;
 }
 
-pub later_by : (line : ℕ) (party : Party) (x : Exchange) (strike : Strike) (told : Told) → Later told (told_by line party x strike told)
-later_by line party x strike told = record {
-  manifest = call_manifest line party x strike told.store;
-  records = call_records line party x strike told.store;
-  more = entry_by line party x strike told.store ∷ [];
-  history = call_history line party x strike told.store;
+pub later_by : (line : ℕ) (party : Party) (x : Exchange) (strike : Strike) (world : World) → Later world (after_call line party x strike world)
+later_by line party x strike world = record {
+  manifest = call_manifest line party x strike world.store;
+  records = call_records line party x strike world.store;
+  more = entry_by line party x strike world.store ∷ [];
+  history = call_history line party x strike world.store;
 }
 
-rivals_from_later : (who : Caller) (calls : List RivalCall) (old new : Told) → RivalsFrom who calls old new → Later old new
+rivals_from_later : (who : Caller) (calls : List RivalCall) (old new : World) → RivalsFrom who calls old new → Later old new
 rivals_from_later who [] old new same = subst (Later old) same (later_itself old)
 rivals_from_later who (call ∷ calls) old new lead =
-    later_then old (told_by_rival call old) new (later_by call.line call.party call.exchange call.strike old) (rivals_from_later who calls (told_by_rival call old) new lead.1)
+    later_then old (after_rival call old) new (later_by call.line call.party call.exchange call.strike old) (rivals_from_later who calls (after_rival call old) new lead.1)
 
-pub rivals_later : (who : Caller) (old new : Told) → Rivals who old new → Later old new
+pub rivals_later : (who : Caller) (old new : World) → Rivals who old new → Later old new
 rivals_later who old new rivals = rivals_from_later who rivals.calls old new rivals.lead
 
--- What is told behind a call of one's own and calls of others.
-pub later_met : (who : Caller) (x : Exchange) (old met next : Told) → Later old met → Rivals who (told_by who.line who.party x None met) next → Later old next
+-- What is world after a call of one's own and calls of others.
+pub later_met : (who : Caller) (x : Exchange) (old met next : World) → Later old met → Rivals who (after_call who.line who.party x None met) next → Later old next
 later_met who x old met next before rivals =
-    later_then old met next before (later_then met (told_by who.line who.party x None met) next (later_by who.line who.party x None met) (rivals_later who (told_by who.line who.party x None met) next rivals))
+    later_then old met next before (later_then met (after_call who.line who.party x None met) next (later_by who.line who.party x None met) (rivals_later who (after_call who.line who.party x None met) next rivals))

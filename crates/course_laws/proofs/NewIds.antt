@@ -12,16 +12,16 @@ use Rattle.fleet_model.specs.History.{Party, Writer, Submitter, Coordinator, Wor
 use Rattle.fleet_model.specs.Store.{Manifest, stored_jobs, fresh_store}
 use Rattle.fleet_model.specs.Trees.{job_of, stepped_in, stepped_all}
 use Rattle.fleet_model.specs.Records.{firsts}
-use Rattle.fleet_model.specs.Replay.{Objects, named_specs, outputs_in, after_event, after_entry, replayed, plain_objects, plain_manifest}
+use Rattle.fleet_model.specs.Replay.{Objects, named_specs, outputs_in, after_event, after_entry, replayed_objects, plain_objects, plain_manifest}
 use Rattle.fleet_model.specs.Exchanges.{Exchange, Plain, DrawsJob, DrawsTable, PutsTable, PutsManifest, PutsRecords, ListsTables, DeletesTable, event_of, next_job_id}
-use Rattle.step_model.specs.Past.{Told, manifest_with}
-use Rattle.step_model.specs.Entries.{party_eq, drew_job, draws_job, drawn_jobs, job_drawn_in, mentioned_in, is_mentioned, was_named, steps_in}
+use Rattle.step_model.specs.Past.{World, manifest_with}
+use Rattle.step_model.specs.Entries.{party_eq, drew_job, is_draw_of, drawn_jobs, job_drawn_in, mentioned_in, is_mentioned, was_named, steps_in}
 use Rattle.step_model.specs.Faithful.{Faithful, AgreesWith, with_specs, spec_or}
 use Rattle.step_model.specs.LawfulTables.{DrawFits}
 use Rattle.step_model.specs.LawfulManifests.{IsKnownTo}
 use Rattle.step_model.specs.LawfulRecords.{NamesFit, AreNew}
 use Rattle.step_model.specs.Lawful.{Lawful}
-use Rattle.step_model.specs.Rivals.{Caller, Strike, Rivals, told_by}
+use Rattle.step_model.specs.Rivals.{Caller, Strike, Rivals, after_call}
 use Rattle.step_model.specs.Keeps.{Keeps}
 use Rattle.step_laws.specs.Runs.{CallsKeep}
 use Rattle.step_laws.proofs.Elements.{IsIn, all_at, all_from, all_to, all_push, all_front, all_back, pairs_push, any_front, any_push_no, any_push_yes, any_of, any_element, Passes, is_itself, contains_in, in_contains, contains_no, contains_front, in_append, in_front}
@@ -46,19 +46,19 @@ party_same a b e = absurd (cc e)
 -- An id is drawn once, so one party drew it.
 one_drew : (a b : Party) (id : ℕ) (history : List Entry) → Pairs (λ x y. number_of x < number_of y) (drawn_jobs history) → IsTrue (drew_job a history id) → IsTrue (drew_job b history id) → a ≡ b
 one_drew a b id [] rise one other = absurd (cc one)
-one_drew a b id (entry ∷ history) rise one other = by entry.event refl (or_cases (party_eq a entry.party && draws_job id entry.event) _ one) (or_cases (party_eq b entry.party && draws_job id entry.event) _ other) rise (one_drew a b id history)
+one_drew a b id (entry ∷ history) rise one other = by entry.event refl (or_cases (party_eq a entry.party && is_draw_of id entry.event) _ one) (or_cases (party_eq b entry.party && is_draw_of id entry.event) _ other) rise (one_drew a b id history)
   where
-    Behind : Party → Event → Type 0
-    Behind party event = ((party_eq party entry.party && draws_job id event) ≡ true) ⊎ (drew_job party history id ≡ true)
+    After : Party → Event → Type 0
+    After party event = ((party_eq party entry.party && is_draw_of id event) ≡ true) ⊎ (drew_job party history id ≡ true)
 
-    clash : (party : Party) (drawn : ℕ) → (party_eq party entry.party && draws_job id (DrawJob drawn)) ≡ true → (p : Party) → drew_job p history id ≡ true → AllByRecursion (λ y. number_of drawn < number_of y) (drawn_jobs history) → ⊥
+    clash : (party : Party) (drawn : ℕ) → (party_eq party entry.party && is_draw_of id (DrawJob drawn)) ≡ true → (p : Party) → drew_job p history id ≡ true → AllByRecursion (λ y. number_of drawn < number_of y) (drawn_jobs history) → ⊥
     clash party drawn first p second low =
         let same = (Decides-eqb id drawn).0 (both (party_eq party entry.party) _ first).1 in
         let above = all_at (λ y. number_of drawn < number_of y) (drawn_jobs history) id low (contains_in (drawn_jobs history) id (drew_drawn p history id second)) in
         let equal = ap number_of same in
         omega (arith, above, equal)
 
-    by : (event : Event) → entry.event ≡ event → Behind a event → Behind b event → Pairs (λ x y. number_of x < number_of y) (job_drawn_in event ++ drawn_jobs history)
+    by : (event : Event) → entry.event ≡ event → After a event → After b event → Pairs (λ x y. number_of x < number_of y) (job_drawn_in event ++ drawn_jobs history)
         → (Pairs (λ x y. number_of x < number_of y) (drawn_jobs history) → IsTrue (drew_job a history id) → IsTrue (drew_job b history id) → a ≡ b) → a ≡ b
     by (DrawJob drawn) e (inl first) (inl second) rise rest = party_same a entry.party (both _ _ first).0 ∙ sym (party_same b entry.party (both _ _ second).0)
     by (DrawJob drawn) e (inl first) (inr second) rise rest = absurd (clash a drawn first b second rise.0)
@@ -79,12 +79,12 @@ named_mentioned history id h = at (any_element (λ (e : Entry). contains (firsts
         (contains_front (firsts (named_specs found.element.event)) _ id (both (contains (firsts (named_specs found.element.event)) id) _ found.passes).0)
 
 -- A job that an entry mentions was drawn.
-mentioned_drawn : (merge : Operator) (told : Told) (id : ℕ) → Keeps merge told → IsTrue (is_mentioned told.store.history id) → IsTrue (contains (drawn_jobs told.store.history) id)
-mentioned_drawn merge told id kept h = at (any_element (λ (e : Entry). contains (mentioned_in e) id) told.store.history h)
+mentioned_drawn : (merge : Operator) (world : World) (id : ℕ) → Keeps merge world → IsTrue (is_mentioned world.store.history id) → IsTrue (contains (drawn_jobs world.store.history) id)
+mentioned_drawn merge world id kept h = at (any_element (λ (e : Entry). contains (mentioned_in e) id) world.store.history h)
   where
-    at : Passes (λ (e : Entry). contains (mentioned_in e) id) told.store.history → IsTrue (contains (drawn_jobs told.store.history) id)
-    at found = all_at (λ n. IsTrue (contains (drawn_jobs told.store.history) n)) (mentioned_in found.element) id
-        (all_at (λ (e : Entry). AllByRecursion (λ n. IsTrue (contains (drawn_jobs told.store.history) n)) (mentioned_in e)) told.store.history found.element kept.facts.names.drawn found.there)
+    at : Passes (λ (e : Entry). contains (mentioned_in e) id) world.store.history → IsTrue (contains (drawn_jobs world.store.history) id)
+    at found = all_at (λ n. IsTrue (contains (drawn_jobs world.store.history) n)) (mentioned_in found.element) id
+        (all_at (λ (e : Entry). AllByRecursion (λ n. IsTrue (contains (drawn_jobs world.store.history) n)) (mentioned_in e)) world.store.history found.element kept.facts.names.drawn found.there)
         (contains_in (mentioned_in found.element) id found.passes)
 
 none_of : (id : ℕ) (took : Bool) → IsIn id (cond took [] []) → ⊥
@@ -94,36 +94,36 @@ none_of id false there = there
 -- ---- new ids
 
 -- The party drew the ids of these pairs, each id stands in one pair, and no entry mentions any.
-pub record AreFresh {B : Type 0} (party : Party) (told : Told) (pairs : List (ℕ × B)) : Type 0 where
-  pub drawn : AllByRecursion (λ p. IsTrue (drew_job party told.store.history p.0)) pairs
-  pub fresh : AllByRecursion (λ p. is_mentioned told.store.history p.0 ≡ false) pairs
+pub record AreFresh {B : Type 0} (party : Party) (world : World) (pairs : List (ℕ × B)) : Type 0 where
+  pub drawn : AllByRecursion (λ p. IsTrue (drew_job party world.store.history p.0)) pairs
+  pub fresh : AllByRecursion (λ p. is_mentioned world.store.history p.0 ≡ false) pairs
   pub once : Pairs (λ p q. p.0 ≢ q.0) pairs
 
 pub drew_grows : (party : Party) (history : List Entry) (entry : Entry) (id : ℕ) → IsTrue (drew_job party history id) → IsTrue (drew_job party (history ++ entry ∷ []) id)
-drew_grows party history entry id h = any_front (λ (e : Entry). party_eq party e.party && draws_job id e.event) history (entry ∷ []) h
+drew_grows party history entry id h = any_front (λ (e : Entry). party_eq party e.party && is_draw_of id e.event) history (entry ∷ []) h
 
 fresh_push : (history : List Entry) (entry : Entry) (id : ℕ) → contains (mentioned_in entry) id ≡ false → is_mentioned history id ≡ false → is_mentioned (history ++ entry ∷ []) id ≡ false
 fresh_push history entry id none fresh = any_push_no (λ (e : Entry). contains (mentioned_in e) id) history entry none ∙ fresh
 
--- Ids stay new behind a call whose entry mentions none of them.
-pub fresh_on : {B : Type 0} (party : Party) (line : ℕ) (caller : Party) (x : Exchange) (strike : Strike) (told : Told) (pairs : List (ℕ × B))
-    → ((id : ℕ) → IsTrue (drew_job party told.store.history id) → is_mentioned told.store.history id ≡ false → contains (mentioned_in (entry_by line caller x strike told.store)) id ≡ false)
-    → AreFresh party told pairs → AreFresh party (told_by line caller x strike told) pairs
-fresh_on {B} party line caller x strike told pairs none h =
-    let entry = entry_by line caller x strike told.store in
-    let grown = sym (call_history line caller x strike told.store) in
+-- Ids stay new after a call whose entry mentions none of them.
+pub fresh_on : {B : Type 0} (party : Party) (line : ℕ) (caller : Party) (x : Exchange) (strike : Strike) (world : World) (pairs : List (ℕ × B))
+    → ((id : ℕ) → IsTrue (drew_job party world.store.history id) → is_mentioned world.store.history id ≡ false → contains (mentioned_in (entry_by line caller x strike world.store)) id ≡ false)
+    → AreFresh party world pairs → AreFresh party (after_call line caller x strike world) pairs
+fresh_on {B} party line caller x strike world pairs none h =
+    let entry = entry_by line caller x strike world.store in
+    let grown = sym (call_history line caller x strike world.store) in
     record {
-      drawn = all_to _ _ pairs (λ p there drew. subst (λ (history : List Entry). IsTrue (drew_job party history p.0)) grown (drew_grows party told.store.history entry p.0 drew)) h.drawn;
+      drawn = all_to _ _ pairs (λ p there drew. subst (λ (history : List Entry). IsTrue (drew_job party history p.0)) grown (drew_grows party world.store.history entry p.0 drew)) h.drawn;
       fresh = all_to _ _ pairs (λ p there one. subst (λ (history : List Entry). is_mentioned history p.0 ≡ false) grown
-          (fresh_push told.store.history entry p.0 (none p.0 (all_at (λ (q : ℕ × B). IsTrue (drew_job party told.store.history q.0)) pairs p h.drawn there) one) one)) h.fresh;
+          (fresh_push world.store.history entry p.0 (none p.0 (all_at (λ (q : ℕ × B). IsTrue (drew_job party world.store.history q.0)) pairs p h.drawn there) one) one)) h.fresh;
       once = h.once;
     }
 
 -- A job that is stored was named.
-pub stored_named : (merge : Operator) (told : Told) (id : ℕ) (job : Job) → Keeps merge told → job_with id (stored_jobs told.store) ≡ Some job → IsTrue (was_named told.store.history id)
-stored_named merge told id job kept e =
-    let found = job_found id (stored_jobs told.store) job e in
-    subst (λ n. IsTrue (was_named told.store.history n)) found.same (all_at (λ (j : Job). IsTrue (was_named told.store.history j.id)) (stored_jobs told.store) job kept.facts.names.named found.there)
+pub stored_named : (merge : Operator) (world : World) (id : ℕ) (job : Job) → Keeps merge world → job_with id (stored_jobs world.store) ≡ Some job → IsTrue (was_named world.store.history id)
+stored_named merge world id job kept e =
+    let found = job_found id (stored_jobs world.store) job e in
+    subst (λ n. IsTrue (was_named world.store.history n)) found.same (all_at (λ (j : Job). IsTrue (was_named world.store.history j.id)) (stored_jobs world.store) job kept.facts.names.named found.there)
 
 -- A job that no entry mentions was not named.
 pub not_named : (history : List Entry) (id : ℕ) → is_mentioned history id ≡ false → (b : Bool) → was_named history id ≡ b → was_named history id ≡ false
@@ -131,61 +131,61 @@ not_named history id fresh true e = absurd (refused (is_mentioned history id) fr
 not_named history id fresh false e = e
 
 -- The entry of another party's lawful call mentions no id that the party drew and that no put has named.
-pub others_mention_none : (merge : Operator) (party caller : Party) (line : ℕ) (x : Exchange) (strike : Strike) (told : Told) → caller ≢ party → Keeps merge told → Lawful merge caller told x → (id : ℕ)
-    → IsTrue (drew_job party told.store.history id) → was_named told.store.history id ≡ false → contains (mentioned_in (entry_by line caller x strike told.store)) id ≡ false
-others_mention_none merge party caller line x strike told other kept lawful id drew unnamed =
-    contains_no (mentioned_in (entry_by line caller x strike told.store)) id (λ there. at x lawful (in_append id (firsts (named_specs (event_of x told.store))) _ there))
+pub others_mention_none : (merge : Operator) (party caller : Party) (line : ℕ) (x : Exchange) (strike : Strike) (world : World) → caller ≢ party → Keeps merge world → Lawful merge caller world x → (id : ℕ)
+    → IsTrue (drew_job party world.store.history id) → was_named world.store.history id ≡ false → contains (mentioned_in (entry_by line caller x strike world.store)) id ≡ false
+others_mention_none merge party caller line x strike world other kept lawful id drew unnamed =
+    contains_no (mentioned_in (entry_by line caller x strike world.store)) id (λ there. at x lawful (in_append id (firsts (named_specs (event_of x world.store))) _ there))
   where
-    not_theirs : IsTrue (drew_job caller told.store.history id) → ⊥
-    not_theirs theirs = other (one_drew caller party id told.store.history kept.facts.draws.jobs_rise theirs drew)
+    not_theirs : IsTrue (drew_job caller world.store.history id) → ⊥
+    not_theirs theirs = other (one_drew caller party id world.store.history kept.facts.draws.jobs_rise theirs drew)
 
-    in_named : (change : RecordChange) → NamesFit caller told (named_specs (PutRecords change)) → IsIn id (firsts (named_specs (PutRecords change))) → ⊥
-    in_named change fits there = not_theirs (all_at (λ n. IsTrue (drew_job caller told.store.history n)) (firsts (named_specs (PutRecords change))) id (all_firsts (λ n. IsTrue (drew_job caller told.store.history n)) (named_specs (PutRecords change)) fits.drawn) there)
+    in_named : (change : RecordChange) → NamesFit caller world (named_specs (PutRecords change)) → IsIn id (firsts (named_specs (PutRecords change))) → ⊥
+    in_named change fits there = not_theirs (all_at (λ n. IsTrue (drew_job caller world.store.history n)) (firsts (named_specs (PutRecords change))) id (all_firsts (λ n. IsTrue (drew_job caller world.store.history n)) (named_specs (PutRecords change)) fits.drawn) there)
 
-    unknown : (specs : ℕ → JobSpec) → IsKnownTo caller told specs id → ⊥
-    unknown specs known = look (job_with id (stored_jobs told.store)) refl
+    unknown : (specs : ℕ → JobSpec) → IsKnownTo caller world specs id → ⊥
+    unknown specs known = look (job_with id (stored_jobs world.store)) refl
       where
-        look : (stored : Option Job) → job_with id (stored_jobs told.store) ≡ stored → ⊥
+        look : (stored : Option Job) → job_with id (stored_jobs world.store) ≡ stored → ⊥
         look None e = not_theirs (known_none e known)
           where
-            known_none : job_with id (stored_jobs told.store) ≡ None → IsKnownTo caller told specs id → IsTrue (drew_job caller told.store.history id)
+            known_none : job_with id (stored_jobs world.store) ≡ None → IsKnownTo caller world specs id → IsTrue (drew_job caller world.store.history id)
             known_none e known = (rw e at known).0
-        look (Some job) e = refused (was_named told.store.history id) unnamed (stored_named merge told id job kept e)
+        look (Some job) e = refused (was_named world.store.history id) unnamed (stored_named merge world id job kept e)
 
-    in_steps : (version : ℕ) (change : ManifestChange) (value : Manifest) (took : Bool) → stood (answer_by (PutsManifest version change value) strike told.store) ≡ took → Lawful merge caller told (PutsManifest version change value)
+    in_steps : (version : ℕ) (change : ManifestChange) (value : Manifest) (took : Bool) → stood (answer_by (PutsManifest version change value) strike world.store) ≡ took → Lawful merge caller world (PutsManifest version change value)
         → IsIn id (cond took (steps_in (PutManifest change)) []) → ⊥
     in_steps version change value false e lawful there = there
     in_steps version (Commit steps) value true e lawful there =
-        let fits = lawful (stood_version strike told.store version (Commit steps) value e) in
-        unknown fits.specs (all_at (IsKnownTo caller told fits.specs) (map job_of steps) id (all_map (IsKnownTo caller told fits.specs) job_of steps fits.known) there)
+        let fits = lawful (stood_version strike world.store version (Commit steps) value e) in
+        unknown fits.specs (all_at (IsKnownTo caller world fits.specs) (map job_of steps) id (all_map (IsKnownTo caller world fits.specs) job_of steps fits.known) there)
     in_steps version (ManifestEpoch epoch) value true e lawful there = there
     in_steps version (Flush name segment floor tick) value true e lawful there = there
 
-    at : (x : Exchange) → Lawful merge caller told x → IsIn id (firsts (named_specs (event_of x told.store))) ⊎ IsIn id (cond (stood (answer_by x strike told.store)) (steps_in (event_of x told.store)) []) → ⊥
+    at : (x : Exchange) → Lawful merge caller world x → IsIn id (firsts (named_specs (event_of x world.store))) ⊎ IsIn id (cond (stood (answer_by x strike world.store)) (steps_in (event_of x world.store)) []) → ⊥
     at (PutsManifest version change value) lawful (inl there) = there
-    at (PutsManifest version change value) lawful (inr there) = in_steps version change value (stood (answer_by (PutsManifest version change value) strike told.store)) refl lawful there
+    at (PutsManifest version change value) lawful (inr there) = in_steps version change value (stood (answer_by (PutsManifest version change value) strike world.store)) refl lawful there
     at (PutsRecords version change epoch jobs) lawful (inl there) = in_named change lawful.0 there
-    at (PutsRecords version change epoch jobs) lawful (inr there) = none_of id (stood (answer_by (PutsRecords version change epoch jobs) strike told.store)) there
+    at (PutsRecords version change epoch jobs) lawful (inr there) = none_of id (stood (answer_by (PutsRecords version change epoch jobs) strike world.store)) there
     at (Plain (PutManifest change)) lawful there = absurd lawful
     at (Plain (PutRecords change)) lawful there = absurd lawful
     at (Plain event) lawful (inl there) = there
-    at (Plain event) lawful (inr there) = none_of id (stood (answer_by (Plain event) strike told.store)) there
+    at (Plain event) lawful (inr there) = none_of id (stood (answer_by (Plain event) strike world.store)) there
     at (DrawsJob moment) lawful (inl there) = there
-    at (DrawsJob moment) lawful (inr there) = none_of id (stood (answer_by (DrawsJob moment) strike told.store)) there
+    at (DrawsJob moment) lawful (inr there) = none_of id (stood (answer_by (DrawsJob moment) strike world.store)) there
     at (DrawsTable moment) lawful (inl there) = there
-    at (DrawsTable moment) lawful (inr there) = none_of id (stood (answer_by (DrawsTable moment) strike told.store)) there
+    at (DrawsTable moment) lawful (inr there) = none_of id (stood (answer_by (DrawsTable moment) strike world.store)) there
     at (PutsTable table rows) lawful (inl there) = there
-    at (PutsTable table rows) lawful (inr there) = none_of id (stood (answer_by (PutsTable table rows) strike told.store)) there
+    at (PutsTable table rows) lawful (inr there) = none_of id (stood (answer_by (PutsTable table rows) strike world.store)) there
     at ListsTables lawful (inl there) = there
-    at ListsTables lawful (inr there) = none_of id (stood (answer_by ListsTables strike told.store)) there
+    at ListsTables lawful (inr there) = none_of id (stood (answer_by ListsTables strike world.store)) there
     at (DeletesTable table) lawful (inl there) = there
-    at (DeletesTable table) lawful (inr there) = none_of id (stood (answer_by (DeletesTable table) strike told.store)) there
+    at (DeletesTable table) lawful (inr there) = none_of id (stood (answer_by (DeletesTable table) strike world.store)) there
 
 -- New ids stay new whatever others do.
-pub rivals_fresh : {B : Type 0} (who : Caller) (pairs : List (ℕ × B)) (old new : Told) → CallsKeep who.merge → Keeps who.merge old → Rivals who old new → AreFresh who.party old pairs → AreFresh who.party new pairs
+pub rivals_fresh : {B : Type 0} (who : Caller) (pairs : List (ℕ × B)) (old new : World) → CallsKeep who.merge → Keeps who.merge old → Rivals who old new → AreFresh who.party old pairs → AreFresh who.party new pairs
 rivals_fresh who pairs old new keep kept rivals h =
-    rivals_hold who (λ told. AreFresh who.party told pairs) keep (λ told call there rival one. fresh_on who.party call.line call.party call.exchange call.strike told pairs
-    (λ id drew fresh. others_mention_none who.merge who.party call.party call.line call.exchange call.strike told rival.other there rival.lawful id drew (not_named told.store.history id fresh (was_named told.store.history id) refl)) one) old new kept rivals h
+    rivals_hold who (λ world. AreFresh who.party world pairs) keep (λ world call there rival one. fresh_on who.party call.line call.party call.exchange call.strike world pairs
+    (λ id drew fresh. others_mention_none who.merge who.party call.party call.line call.exchange call.strike world rival.other there rival.lawful id drew (not_named world.store.history id fresh (was_named world.store.history id) refl)) one) old new kept rivals h
 
 -- ---- draws
 
@@ -193,31 +193,31 @@ pub number : (moment n : ℕ) → n < 2 ^ 80 → number_of (id_of moment n) ≡ 
 number moment n small = mod-mul-add (moment % 2 ^ 48) (2 ^ 80) n small
 
 -- The next id has a greater number than each drawn one.
-next_is_above : (merge : Operator) (told : Told) (moment id : ℕ) → Keeps merge told → DrawFits told.store → IsTrue (contains (drawn_jobs told.store.history) id) → id ≢ next_job_id moment told.store
-next_is_above merge told moment id kept short drawn same =
+next_is_above : (merge : Operator) (world : World) (moment id : ℕ) → Keeps merge world → DrawFits world.store → IsTrue (contains (drawn_jobs world.store.history) id) → id ≢ next_job_id moment world.store
+next_is_above merge world moment id kept short drawn same =
     let few = kept.facts.draws.few in
-    let low = all_at _ (drawn_jobs told.store.history) id kept.facts.draws.jobs_counted (contains_in (drawn_jobs told.store.history) id drawn) in
-    let next = number moment (told.store.jobs_drawn + 1) (omega (arith, few, short)) in
+    let low = all_at _ (drawn_jobs world.store.history) id kept.facts.draws.jobs_counted (contains_in (drawn_jobs world.store.history) id drawn) in
+    let next = number moment (world.store.jobs_drawn + 1) (omega (arith, few, short)) in
     let equal = ap number_of same in
     omega (arith, low, next, equal)
 
--- Behind a draw the drawn id is new too.
-pub drawn_fresh : {B : Type 0} (who : Caller) (told : Told) (moment : ℕ) (x : B) (pairs : List (ℕ × B)) → Keeps who.merge told → DrawFits told.store → AreFresh who.party told pairs
-    → AreFresh who.party (told_by who.line who.party (DrawsJob moment) None told) (pairs ++ (next_job_id moment told.store, x) ∷ [])
-drawn_fresh {B} who told moment x pairs kept short h =
-    let id = next_job_id moment told.store in
-    let entry = entry_by who.line who.party (DrawsJob moment) None told.store in
-    let before = fresh_on who.party who.line who.party (DrawsJob moment) None told pairs (λ other drew fresh. refl) h in
+-- After a draw the drawn id is new too.
+pub drawn_fresh : {B : Type 0} (who : Caller) (world : World) (moment : ℕ) (x : B) (pairs : List (ℕ × B)) → Keeps who.merge world → DrawFits world.store → AreFresh who.party world pairs
+    → AreFresh who.party (after_call who.line who.party (DrawsJob moment) None world) (pairs ++ (next_job_id moment world.store, x) ∷ [])
+drawn_fresh {B} who world moment x pairs kept short h =
+    let id = next_job_id moment world.store in
+    let entry = entry_by who.line who.party (DrawsJob moment) None world.store in
+    let before = fresh_on who.party who.line who.party (DrawsJob moment) None world pairs (λ other drew fresh. refl) h in
     record {
       drawn = all_push _ pairs (id, x) before.drawn
-          (any_push_yes (λ (e : Entry). party_eq who.party e.party && draws_job id e.event) told.store.history entry (rw (party_itself who.party, is_itself id) refl));
-      fresh = all_push _ pairs (id, x) before.fresh (fresh_push told.store.history entry id refl (unmentioned (is_mentioned told.store.history id) refl));
-      once = pairs_push _ pairs (id, x) h.once (all_to _ _ pairs (λ p there drew. next_is_above who.merge told moment p.0 kept short (drew_drawn who.party told.store.history p.0 drew)) h.drawn);
+          (any_push_yes (λ (e : Entry). party_eq who.party e.party && is_draw_of id e.event) world.store.history entry (rw (party_itself who.party, is_itself id) refl));
+      fresh = all_push _ pairs (id, x) before.fresh (fresh_push world.store.history entry id refl (unmentioned (is_mentioned world.store.history id) refl));
+      once = pairs_push _ pairs (id, x) h.once (all_to _ _ pairs (λ p there drew. next_is_above who.merge world moment p.0 kept short (drew_drawn who.party world.store.history p.0 drew)) h.drawn);
     }
   where
-    unmentioned : (b : Bool) → is_mentioned told.store.history (next_job_id moment told.store) ≡ b → is_mentioned told.store.history (next_job_id moment told.store) ≡ false
+    unmentioned : (b : Bool) → is_mentioned world.store.history (next_job_id moment world.store) ≡ b → is_mentioned world.store.history (next_job_id moment world.store) ≡ false
     unmentioned false e = e
-    unmentioned true e = absurd (next_is_above who.merge told moment (next_job_id moment told.store) kept short (mentioned_drawn who.merge told (next_job_id moment told.store) kept e) refl)
+    unmentioned true e = absurd (next_is_above who.merge world moment (next_job_id moment world.store) kept short (mentioned_drawn who.merge world (next_job_id moment world.store) kept e) refl)
 
 -- ---- specs of new ids
 
@@ -247,37 +247,37 @@ entry_same tables one other entry o same = by (stood entry.answer) (all_back (λ
     by true steps = event_same tables one other entry.event o steps
     by false steps = refl
 
-replayed_same : (tables : Tables) (one other : ℕ → JobSpec) (history : List Entry) (o : Objects) → AllByRecursion (SameFor one other) history → replayed tables one history o ≡ replayed tables other history o
+replayed_same : (tables : Tables) (one other : ℕ → JobSpec) (history : List Entry) (o : Objects) → AllByRecursion (SameFor one other) history → replayed_objects tables one history o ≡ replayed_objects tables other history o
 replayed_same tables one other [] o same = refl
 replayed_same tables one other (entry ∷ history) o same =
-    ap (replayed tables one history) (entry_same tables one other entry o same.0) ∙ replayed_same tables one other history (after_entry tables other entry o) same.1
+    ap (replayed_objects tables one history) (entry_same tables one other entry o same.0) ∙ replayed_same tables one other history (after_entry tables other entry o) same.1
 
 -- Specs that are faithful stay so with other specs for ids that no entry mentions.
-pub fresh_faithful : (told : Told) (named : List (ℕ × JobSpec)) (specs : ℕ → JobSpec) → AllByRecursion (λ p. is_mentioned told.store.history p.0 ≡ false) named → Faithful told specs → Faithful told (with_specs named specs)
-fresh_faithful told named specs fresh f = record {
-  agrees = all_from _ told.store.history (λ entry there. all_from _ (named_specs entry.event) (λ p one.
-      all_at (λ id. with_specs named specs id ≡ specs id) (mentioned_in entry) p.0 (all_at (SameFor (with_specs named specs) specs) told.store.history entry same there)
+pub fresh_faithful : (world : World) (named : List (ℕ × JobSpec)) (specs : ℕ → JobSpec) → AllByRecursion (λ p. is_mentioned world.store.history p.0 ≡ false) named → Faithful world specs → Faithful world (with_specs named specs)
+fresh_faithful world named specs fresh f = record {
+  agrees = all_from _ world.store.history (λ entry there. all_from _ (named_specs entry.event) (λ p one.
+      all_at (λ id. with_specs named specs id ≡ specs id) (mentioned_in entry) p.0 (all_at (SameFor (with_specs named specs) specs) world.store.history entry same there)
       (in_front p.0 (firsts (named_specs entry.event)) _ (in_map (λ (q : ℕ × JobSpec). q.0) (named_specs entry.event) p one))
-      ∙ all_at (λ (q : ℕ × JobSpec). specs q.0 ≡ q.1) (named_specs entry.event) p (all_at (λ (e : Entry). AgreesWith specs e.event) told.store.history entry f.agrees there) one));
-  manifests = λ front back e. subst (λ (o : Objects). option_map plain_manifest (manifest_with o.manifest.version told.past) ≡ Some o.manifest)
-      (sym (replayed_same told.store.tables (with_specs named specs) specs front (plain_objects fresh_store) (all_front _ front back (subst (AllByRecursion (SameFor (with_specs named specs) specs)) (sym e) same)))) (f.manifests front back e);
+      ∙ all_at (λ (q : ℕ × JobSpec). specs q.0 ≡ q.1) (named_specs entry.event) p (all_at (λ (e : Entry). AgreesWith specs e.event) world.store.history entry f.agrees there) one));
+  manifests = λ front back e. subst (λ (o : Objects). option_map plain_manifest (manifest_with o.manifest.version world.past) ≡ Some o.manifest)
+      (sym (replayed_same world.store.tables (with_specs named specs) specs front (plain_objects fresh_store) (all_front _ front back (subst (AllByRecursion (SameFor (with_specs named specs) specs)) (sym e) same)))) (f.manifests front back e);
 }
   where
-    not_found : (id : ℕ) → IsTrue (is_mentioned told.store.history id) → (pairs : List (ℕ × JobSpec)) → AllByRecursion (λ p. is_mentioned told.store.history p.0 ≡ false) pairs → find (λ p. id == p.0) pairs ≡ None
+    not_found : (id : ℕ) → IsTrue (is_mentioned world.store.history id) → (pairs : List (ℕ × JobSpec)) → AllByRecursion (λ p. is_mentioned world.store.history p.0 ≡ false) pairs → find (λ p. id == p.0) pairs ≡ None
     not_found id was [] all = refl
     not_found id was (p ∷ pairs) all = by (id == p.0) refl (not_found id was pairs all.1)
       where
         by : (b : Bool) → (id == p.0) ≡ b → find (λ q. id == q.0) pairs ≡ None → cond b (Some p) (find (λ q. id == q.0) pairs) ≡ None
-        by true e rest = absurd (refused (is_mentioned told.store.history p.0) all.0 (subst (λ n. IsTrue (is_mentioned told.store.history n)) ((Decides-eqb id p.0).0 e) was))
+        by true e rest = absurd (refused (is_mentioned world.store.history p.0) all.0 (subst (λ n. IsTrue (is_mentioned world.store.history n)) ((Decides-eqb id p.0).0 e) was))
         by false e rest = rest
 
-    same : AllByRecursion (SameFor (with_specs named specs) specs) told.store.history
-    same = all_from _ told.store.history (λ entry there. all_from _ (mentioned_in entry) (λ id one.
-        ap (spec_or (specs id)) (not_found id (any_of (λ (e : Entry). contains (mentioned_in e) id) told.store.history entry there (in_contains (mentioned_in entry) id one)) named fresh)))
+    same : AllByRecursion (SameFor (with_specs named specs) specs) world.store.history
+    same = all_from _ world.store.history (λ entry there. all_from _ (mentioned_in entry) (λ id one.
+        ap (spec_or (specs id)) (not_found id (any_of (λ (e : Entry). contains (mentioned_in e) id) world.store.history entry there (in_contains (mentioned_in entry) id one)) named fresh)))
 
 -- New ids may be named.
-pub names_fit : (party : Party) (told : Told) (named : List (ℕ × JobSpec)) → AreFresh party told named → NamesFit party told named
-names_fit party told named h = record { once = h.once; drawn = h.drawn; replays = λ specs faithful. fresh_faithful told named specs h.fresh faithful }
+pub names_fit : (party : Party) (world : World) (named : List (ℕ × JobSpec)) → AreFresh party world named → NamesFit party world named
+names_fit party world named h = record { once = h.once; drawn = h.drawn; replays = λ specs faithful. fresh_faithful world named specs h.fresh faithful }
 
-pub are_new : (party : Party) (told : Told) (named : List (ℕ × JobSpec)) → AreFresh party told named → AreNew told named
-are_new party told named h = all_to _ _ named (λ p there fresh. not_named told.store.history p.0 fresh (was_named told.store.history p.0) refl) h.fresh
+pub are_new : (party : Party) (world : World) (named : List (ℕ × JobSpec)) → AreFresh party world named → AreNew world named
+are_new party world named h = all_to _ _ named (λ p there fresh. not_named world.store.history p.0 fresh (was_named world.store.history p.0) refl) h.fresh

@@ -11,13 +11,13 @@ use Rattle.fleet_model.specs.Nodes.{is_among}
 use Rattle.fleet_model.specs.Jobs.{number_of, table_id_of, drawn_base}
 use Rattle.fleet_model.specs.History.{Party, Event, DrawTable, PutTable, Entry}
 use Rattle.fleet_model.specs.Store.{Store}
-use Rattle.fleet_model.specs.Exchanges.{Exchange, Plain, DrawsJob, DrawsTable, PutsTable, PutsManifest, PutsRecords, ListsTables, DeletesTable, records_version, performed, next_table_id}
-use Rattle.step_model.specs.Past.{Told}
+use Rattle.fleet_model.specs.Exchanges.{Exchange, Plain, DrawsJob, DrawsTable, PutsTable, PutsManifest, PutsRecords, ListsTables, DeletesTable, records_version, after_exchange, next_table_id}
+use Rattle.step_model.specs.Past.{World}
 use Rattle.step_model.specs.Entries.{party_eq, last_from, last_event, last_name, name_in, was_flushed, drawn_tables, table_drawn_in}
 use Rattle.step_model.specs.TablesKept.{IsKnownTable, IsKnownPiece}
 use Rattle.step_model.specs.LawfulTables.{DrawFits, MayName}
 use Rattle.step_model.specs.Lawful.{Lawful}
-use Rattle.step_model.specs.Rivals.{Caller, Strike, RivalCall, IsRival, Rivals, called, told_by, told_by_rival}
+use Rattle.step_model.specs.Rivals.{Caller, Strike, RivalCall, IsRival, Rivals, store_after_call, after_call, after_rival}
 use Rattle.step_model.specs.Keeps.{Keeps}
 use Rattle.step_laws.specs.Runs.{CallsKeep}
 use Rattle.step_laws.proofs.Elements.{IsIn, all_at, any_element, any_push_no, Passes, contains_in, in_front, in_back}
@@ -55,21 +55,21 @@ drew_in party id history h = at history (any_element (λ (e : Entry). party_eq p
     draw false event e = absurd (cc e)
     draw true event e = absurd (cc e)
 
-    behind : (es : List Entry) (x : Entry) → IsIn x es → IsIn id (table_drawn_in x.event) → IsIn id (drawn_tables es)
-    behind [] x there one = absurd there
-    behind (y ∷ es) x (inl same) one = in_front id (table_drawn_in y.event) (drawn_tables es) (rw same one)
-    behind (y ∷ es) x (inr there) one = in_back id (table_drawn_in y.event) (drawn_tables es) (behind es x there one)
+    after : (es : List Entry) (x : Entry) → IsIn x es → IsIn id (table_drawn_in x.event) → IsIn id (drawn_tables es)
+    after [] x there one = absurd there
+    after (y ∷ es) x (inl same) one = in_front id (table_drawn_in y.event) (drawn_tables es) (rw same one)
+    after (y ∷ es) x (inr there) one = in_back id (table_drawn_in y.event) (drawn_tables es) (after es x there one)
 
     at : (es : List Entry) → Passes (λ (e : Entry). party_eq party e.party && draws_table id e.event) es → IsIn id (drawn_tables es)
-    at es found = behind es found.element found.there (draw (party_eq party found.element.party) found.element.event found.passes)
+    at es found = after es found.element found.there (draw (party_eq party found.element.party) found.element.event found.passes)
 
 -- An id is drawn once, so one party drew it.
 one_table : (a b : Party) (id : ℕ) (history : List Entry) → Pairs (λ x y. number_of x < number_of y) (drawn_tables history) → drew_table a history id ≡ true → drew_table b history id ≡ true → a ≡ b
 one_table a b id [] rise one other = absurd (cc one)
 one_table a b id (entry ∷ history) rise one other = by entry.event refl (or_cases (party_eq a entry.party && draws_table id entry.event) _ one) (or_cases (party_eq b entry.party && draws_table id entry.event) _ other) rise (one_table a b id history)
   where
-    Behind : Party → Event → Type 0
-    Behind party event = ((party_eq party entry.party && draws_table id event) ≡ true) ⊎ (drew_table party history id ≡ true)
+    After : Party → Event → Type 0
+    After party event = ((party_eq party entry.party && draws_table id event) ≡ true) ⊎ (drew_table party history id ≡ true)
 
     clash : (party : Party) (drawn : ℕ) → (party_eq party entry.party && draws_table id (DrawTable drawn)) ≡ true → (p : Party) → drew_table p history id ≡ true → AllByRecursion (λ y. number_of drawn < number_of y) (drawn_tables history) → ⊥
     clash party drawn first p second low =
@@ -78,7 +78,7 @@ one_table a b id (entry ∷ history) rise one other = by entry.event refl (or_ca
         let equal = ap number_of same in
         omega (arith, above, equal)
 
-    by : (event : Event) → entry.event ≡ event → Behind a event → Behind b event → Pairs (λ x y. number_of x < number_of y) (table_drawn_in event ++ drawn_tables history)
+    by : (event : Event) → entry.event ≡ event → After a event → After b event → Pairs (λ x y. number_of x < number_of y) (table_drawn_in event ++ drawn_tables history)
         → (Pairs (λ x y. number_of x < number_of y) (drawn_tables history) → drew_table a history id ≡ true → drew_table b history id ≡ true → a ≡ b) → a ≡ b
     by (DrawTable drawn) e (inl first) (inl second) rise rest = party_same a entry.party (both _ _ first).0 ∙ sym (party_same b entry.party (both _ _ second).0)
     by (DrawTable drawn) e (inl first) (inr second) rise rest = absurd (clash a drawn first b second rise.0)
@@ -128,16 +128,16 @@ last_drew party id history e = by (last_mine party id history None e)
 -- ---- the last drawn id
 
 -- The party's last call drew the id, and no table has it yet.
-pub record IsLastDrawn (party : Party) (told : Told) (id : ℕ) : Type 0 where
-  pub last : last_event party told.store.history ≡ Some (DrawTable id)
-  pub new : is_among told.store.tables id ≡ false
+pub record IsLastDrawn (party : Party) (world : World) (id : ℕ) : Type 0 where
+  pub last : last_event party world.store.history ≡ Some (DrawTable id)
+  pub new : is_among world.store.tables id ≡ false
 
 -- The call puts no table under this id.
 abbrev PutsOther : Exchange → ℕ → Type 0
 PutsOther (PutsTable table rows) id = table ≢ id
 PutsOther x id = ⊤
 
-among_on : (x : Exchange) (store : Store) (id : ℕ) → PutsOther x id → is_among store.tables id ≡ false → is_among (performed x store).tables id ≡ false
+among_on : (x : Exchange) (store : Store) (id : ℕ) → PutsOther x id → is_among store.tables id ≡ false → is_among (after_exchange x store).tables id ≡ false
 among_on (Plain event) store id other new = new
 among_on (DrawsJob moment) store id other new = new
 among_on (DrawsTable moment) store id other new = new
@@ -159,25 +159,25 @@ among_on (PutsRecords version change epoch jobs) store id other new = by (versio
 among_on ListsTables store id other new = new
 among_on (DeletesTable table) store id other new = new
 
-among_called : (line : ℕ) (party : Party) (x : Exchange) (strike : Strike) (store : Store) (id : ℕ) → PutsOther x id → is_among store.tables id ≡ false → is_among (called line party x strike store).tables id ≡ false
+among_called : (line : ℕ) (party : Party) (x : Exchange) (strike : Strike) (store : Store) (id : ℕ) → PutsOther x id → is_among store.tables id ≡ false → is_among (store_after_call line party x strike store).tables id ≡ false
 among_called line party x None store id other new = among_on x store id other new
 among_called line party x (Some true) store id other new = among_on x store id other new
 among_called line party x (Some false) store id other new = new
 
 -- Another party puts no table under the id.
-others_put_other : (merge : Operator) (party caller : Party) (told : Told) (x : Exchange) (id : ℕ) → caller ≢ party → Keeps merge told → Lawful merge caller told x → IsLastDrawn party told id → PutsOther x id
-others_put_other merge party caller told (PutsTable table rows) id other kept lawful drawn = λ same. by same lawful.named
+others_put_other : (merge : Operator) (party caller : Party) (world : World) (x : Exchange) (id : ℕ) → caller ≢ party → Keeps merge world → Lawful merge caller world x → IsLastDrawn party world id → PutsOther x id
+others_put_other merge party caller world (PutsTable table rows) id other kept lawful drawn = λ same. by same lawful.named
   where
-    by : table ≡ id → MayName caller told.store.history table → ⊥
-    by same (inl drew) = other (one_table caller party id told.store.history kept.facts.draws.tables_rise (last_drew caller id told.store.history (drew ∙ ap (λ n. Some (DrawTable n)) same)) (last_drew party id told.store.history drawn.last))
-    by same (inr flush) = let low = flush.2 in drawn_is_high merge told id kept (last_drawn party id told.store.history drawn.last) (omega (arith, same, low))
-others_put_other merge party caller told (Plain event) id other kept lawful drawn = tt
-others_put_other merge party caller told (DrawsJob moment) id other kept lawful drawn = tt
-others_put_other merge party caller told (DrawsTable moment) id other kept lawful drawn = tt
-others_put_other merge party caller told (PutsManifest version change value) id other kept lawful drawn = tt
-others_put_other merge party caller told (PutsRecords version change epoch jobs) id other kept lawful drawn = tt
-others_put_other merge party caller told ListsTables id other kept lawful drawn = tt
-others_put_other merge party caller told (DeletesTable table) id other kept lawful drawn = tt
+    by : table ≡ id → MayName caller world.store.history table → ⊥
+    by same (inl drew) = other (one_table caller party id world.store.history kept.facts.draws.tables_rise (last_drew caller id world.store.history (drew ∙ ap (λ n. Some (DrawTable n)) same)) (last_drew party id world.store.history drawn.last))
+    by same (inr flush) = let low = flush.2 in drawn_is_high merge world id kept (last_drawn party id world.store.history drawn.last) (omega (arith, same, low))
+others_put_other merge party caller world (Plain event) id other kept lawful drawn = tt
+others_put_other merge party caller world (DrawsJob moment) id other kept lawful drawn = tt
+others_put_other merge party caller world (DrawsTable moment) id other kept lawful drawn = tt
+others_put_other merge party caller world (PutsManifest version change value) id other kept lawful drawn = tt
+others_put_other merge party caller world (PutsRecords version change epoch jobs) id other kept lawful drawn = tt
+others_put_other merge party caller world ListsTables id other kept lawful drawn = tt
+others_put_other merge party caller world (DeletesTable table) id other kept lawful drawn = tt
 
 differs : (a b : Party) → b ≢ a → party_eq a b ≡ false
 differs a b other = by (party_eq a b) refl
@@ -186,17 +186,17 @@ differs a b other = by (party_eq a b) refl
     by true e = absurd (other (sym (party_same a b e)))
     by false e = refl
 
--- The last drawn id stays new behind a call of another party.
-pub last_drawn_on : (who : Caller) (id : ℕ) (told : Told) (call : RivalCall) → Keeps who.merge told → IsRival who told call → IsLastDrawn who.party told id → IsLastDrawn who.party (told_by_rival call told) id
-last_drawn_on who id told call kept rival one = record {
-  last = ap (λ (history : List Entry). last_event who.party history) (call_history call.line call.party call.exchange call.strike told.store)
-      ∙ ap (option_map (λ (e : Entry). e.event)) (last_other who.party told.store.history (entry_by call.line call.party call.exchange call.strike told.store) None (differs who.party call.party rival.other)) ∙ one.last;
-  new = among_called call.line call.party call.exchange call.strike told.store id (others_put_other who.merge who.party call.party told call.exchange id rival.other kept rival.lawful one) one.new;
+-- The last drawn id stays new after a call of another party.
+pub last_drawn_on : (who : Caller) (id : ℕ) (world : World) (call : RivalCall) → Keeps who.merge world → IsRival who world call → IsLastDrawn who.party world id → IsLastDrawn who.party (after_rival call world) id
+last_drawn_on who id world call kept rival one = record {
+  last = ap (λ (history : List Entry). last_event who.party history) (call_history call.line call.party call.exchange call.strike world.store)
+      ∙ ap (option_map (λ (e : Entry). e.event)) (last_other who.party world.store.history (entry_by call.line call.party call.exchange call.strike world.store) None (differs who.party call.party rival.other)) ∙ one.last;
+  new = among_called call.line call.party call.exchange call.strike world.store id (others_put_other who.merge who.party call.party world call.exchange id rival.other kept rival.lawful one) one.new;
 }
 
 -- The last drawn id stays new whatever others do.
-pub rivals_last_drawn : (who : Caller) (id : ℕ) (old new : Told) → CallsKeep who.merge → Keeps who.merge old → Rivals who old new → IsLastDrawn who.party old id → IsLastDrawn who.party new id
-rivals_last_drawn who id old new keep kept rivals h = rivals_hold who (λ told. IsLastDrawn who.party told id) keep (last_drawn_on who id) old new kept rivals h
+pub rivals_last_drawn : (who : Caller) (id : ℕ) (old new : World) → CallsKeep who.merge → Keeps who.merge old → Rivals who old new → IsLastDrawn who.party old id → IsLastDrawn who.party new id
+rivals_last_drawn who id old new keep kept rivals h = rivals_hold who (λ world. IsLastDrawn who.party world id) keep (last_drawn_on who id) old new kept rivals h
 
 -- ---- a draw
 
@@ -220,38 +220,38 @@ last_own party [] entry last own = ap (λ b. cond b (Some entry) last) own
 last_own party (first ∷ history) entry last own = last_own party history entry (cond (party_eq party first.party) (Some first) last) own
 
 -- The next id is none of those that the history knows.
-next_unknown : (merge : Operator) (told : Told) (moment id : ℕ) → Keeps merge told → DrawFits told.store → id ≡ next_table_id moment told.store → IsKnownTable told.store.history id → ⊥
-next_unknown merge told moment id kept short same (inl drawn) =
+next_unknown : (merge : Operator) (world : World) (moment id : ℕ) → Keeps merge world → DrawFits world.store → id ≡ next_table_id moment world.store → IsKnownTable world.store.history id → ⊥
+next_unknown merge world moment id kept short same (inl drawn) =
     let few = kept.facts.draws.few in
-    let low = (all_at _ (drawn_tables told.store.history) id kept.facts.draws.tables_counted (contains_in (drawn_tables told.store.history) id drawn)).1 in
-    let next = number moment (drawn_base + (told.store.tables_drawn + 1)) (omega (arith, few, short)) in
+    let low = (all_at _ (drawn_tables world.store.history) id kept.facts.draws.tables_counted (contains_in (drawn_tables world.store.history) id drawn)).1 in
+    let next = number moment (drawn_base + (world.store.tables_drawn + 1)) (omega (arith, few, short)) in
     let equal = ap number_of same in
     omega (arith, low, next, equal)
-next_unknown merge told moment id kept short same (inr low) =
-    let small = last_name_small told.store.history in
-    let high = is_high moment (told.store.tables_drawn + 1) in
+next_unknown merge world moment id kept short same (inr low) =
+    let small = last_name_small world.store.history in
+    let high = is_high moment (world.store.tables_drawn + 1) in
     omega (arith, same, low, small, high)
 
 -- No table that was put has the next id.
-next_not_among : (merge : Operator) (told : Told) (moment : ℕ) → Keeps merge told → DrawFits told.store → is_among told.store.tables (next_table_id moment told.store) ≡ false
-next_not_among merge told moment kept short = by (is_among told.store.tables (next_table_id moment told.store)) refl
+next_not_among : (merge : Operator) (world : World) (moment : ℕ) → Keeps merge world → DrawFits world.store → is_among world.store.tables (next_table_id moment world.store) ≡ false
+next_not_among merge world moment kept short = by (is_among world.store.tables (next_table_id moment world.store)) refl
   where
-    at : Passes (λ (table : ℕ × List Row). table.0 == next_table_id moment told.store) told.store.tables → ⊥
-    at found = next_unknown merge told moment found.element.0 kept short ((Decides-eqb found.element.0 (next_table_id moment told.store)).0 found.passes)
-        (all_at (λ (table : ℕ × List Row). IsKnownTable told.store.history table.0) told.store.tables found.element kept.facts.puts.known found.there)
+    at : Passes (λ (table : ℕ × List Row). table.0 == next_table_id moment world.store) world.store.tables → ⊥
+    at found = next_unknown merge world moment found.element.0 kept short ((Decides-eqb found.element.0 (next_table_id moment world.store)).0 found.passes)
+        (all_at (λ (table : ℕ × List Row). IsKnownTable world.store.history table.0) world.store.tables found.element kept.facts.puts.known found.there)
 
-    by : (b : Bool) → is_among told.store.tables (next_table_id moment told.store) ≡ b → b ≡ false
-    by true e = absurd (at (any_element (λ (table : ℕ × List Row). table.0 == next_table_id moment told.store) told.store.tables e))
+    by : (b : Bool) → is_among world.store.tables (next_table_id moment world.store) ≡ b → b ≡ false
+    by true e = absurd (at (any_element (λ (table : ℕ × List Row). table.0 == next_table_id moment world.store) world.store.tables e))
     by false e = refl
 
 -- No node holds a table with the next id.
-pub next_is_new : (merge : Operator) (told : Told) (moment : ℕ) → Keeps merge told → DrawFits told.store → IsKnownPiece told.store.history (next_table_id moment told.store) → ⊥
-next_is_new merge told moment kept short (inl drawn) = next_unknown merge told moment (next_table_id moment told.store) kept short refl (inl drawn)
-next_is_new merge told moment kept short (inr flushed) = refused (was_flushed told.store.history (next_table_id moment told.store)) (not_flushed merge (next_table_id moment told.store) told kept (next_not_among merge told moment kept short)) flushed
+pub next_is_new : (merge : Operator) (world : World) (moment : ℕ) → Keeps merge world → DrawFits world.store → IsKnownPiece world.store.history (next_table_id moment world.store) → ⊥
+next_is_new merge world moment kept short (inl drawn) = next_unknown merge world moment (next_table_id moment world.store) kept short refl (inl drawn)
+next_is_new merge world moment kept short (inr flushed) = refused (was_flushed world.store.history (next_table_id moment world.store)) (not_flushed merge (next_table_id moment world.store) world kept (next_not_among merge world moment kept short)) flushed
 
--- Behind a draw the drawn id is new.
-pub drawn_last : (who : Caller) (told : Told) (moment : ℕ) → Keeps who.merge told → DrawFits told.store → IsLastDrawn who.party (told_by who.line who.party (DrawsTable moment) None told) (next_table_id moment told.store)
-drawn_last who told moment kept short = record {
-  last = ap (option_map (λ (e : Entry). e.event)) (last_own who.party told.store.history (entry_by who.line who.party (DrawsTable moment) None told.store) None (party_itself who.party));
-  new = next_not_among who.merge told moment kept short;
+-- After a draw the drawn id is new.
+pub drawn_last : (who : Caller) (world : World) (moment : ℕ) → Keeps who.merge world → DrawFits world.store → IsLastDrawn who.party (after_call who.line who.party (DrawsTable moment) None world) (next_table_id moment world.store)
+drawn_last who world moment kept short = record {
+  last = ap (option_map (λ (e : Entry). e.event)) (last_own who.party world.store.history (entry_by who.line who.party (DrawsTable moment) None world.store) None (party_itself who.party));
+  new = next_not_among who.merge world moment kept short;
 }

@@ -8,9 +8,9 @@ use Rattle.fleet_model.specs.History.{Worker, GetTable}
 use Rattle.fleet_model.specs.Attempts.{source_rows, rows_left}
 use Rattle.fleet_model.specs.Parties.{Attempt, LiveWorker, attempt_at}
 use Rattle.fleet_model.specs.Exchanges.{Plain, DrawsTable, PutsTable, next_table_id}
-use Rattle.step_model.specs.Past.{Told}
+use Rattle.step_model.specs.Past.{World}
 use Rattle.step_model.specs.LawfulTables.{TableFits}
-use Rattle.step_model.specs.Rivals.{Caller, told_by}
+use Rattle.step_model.specs.Rivals.{Caller, after_call}
 use Rattle.step_model.specs.Keeps.{Keeps}
 use Rattle.step_model.specs.Fits.{AttemptHeld}
 use Rattle.step_model.specs.CourseRuns.{IsLawfulCourse}
@@ -21,31 +21,31 @@ use Rattle.step_laws.specs.Runs.{CallsKeep}
 use Rattle.step_laws.proofs.Runs.{rivals_keep}
 use Rattle.step_laws.proofs.Elements.{IsIn, all_at}
 use Rattle.course_laws.specs.Outputs.{OutputsAreLawful}
-use Rattle.course_laws.proofs.Calls.{behind}
+use Rattle.course_laws.proofs.Calls.{keeps_after}
 use Rattle.course_laws.proofs.Releases.{releases}
 use Rattle.course_laws.proofs.JobBounds.{IsShort, AreGood, left_good, take_good}
 use Rattle.course_laws.proofs.NewTables.{rivals_last_drawn, drawn_last}
 
 -- Gets of tables are lawful.
-pub gets_lawful : {A : Type 0} (who : Caller) (next : Course A) (tables : List ℕ) (told : Told) → CallsKeep who.merge → Keeps who.merge told → ((new : Told) → Keeps who.merge new → IsLawfulCourse who new next)
-    → IsLawfulCourse who told (calls_each (gets_tables tables) next)
-gets_lawful who next [] told keep kept rest = rest told kept
-gets_lawful who next (table ∷ tables) told keep kept rest = λ met rivals room.
-    (tt, gets_lawful who next tables (told_by who.line who.party (Plain (GetTable table)) None met) keep (behind who (Plain (GetTable table)) met keep (rivals_keep who told met keep kept rivals) tt) rest)
+pub gets_lawful : {A : Type 0} (who : Caller) (next : Course A) (tables : List ℕ) (world : World) → CallsKeep who.merge → Keeps who.merge world → ((new : World) → Keeps who.merge new → IsLawfulCourse who new next)
+    → IsLawfulCourse who world (calls_each (gets_tables tables) next)
+gets_lawful who next [] world keep kept rest = rest world kept
+gets_lawful who next (table ∷ tables) world keep kept rest = λ met rivals room.
+    (tt, gets_lawful who next tables (after_call who.line who.party (Plain (GetTable table)) None met) keep (keeps_after who (Plain (GetTable table)) met keep (rivals_keep who world met keep kept rivals) tt) rest)
 
 -- The draw of an id and the put of a table under it are lawful.
-pub table_lawful : {A : Type 0} (who : Caller) (moment : ℕ) (rows : List Row) (next : ℕ → Course A) (told : Told) → CallsKeep who.merge → Keeps who.merge told → IsTable rows
-    → ((new : Told) (table : ℕ) → Keeps who.merge new → IsLawfulCourse who new (next table)) → IsLawfulCourse who told (puts_table moment rows next)
-table_lawful who moment rows next told keep kept sound rest = λ d before room.
+pub table_lawful : {A : Type 0} (who : Caller) (moment : ℕ) (rows : List Row) (next : ℕ → Course A) (world : World) → CallsKeep who.merge → Keeps who.merge world → IsTable rows
+    → ((new : World) (table : ℕ) → Keeps who.merge new → IsLawfulCourse who new (next table)) → IsLawfulCourse who world (puts_table moment rows next)
+table_lawful who moment rows next world keep kept sound rest = λ d before room.
     let table = next_table_id moment d.store in
-    let there = rivals_keep who told d keep kept before in
-    let drawn = told_by who.line who.party (DrawsTable moment) None d in
-    let kept_drawn = behind who (DrawsTable moment) d keep there room in (
+    let there = rivals_keep who world d keep kept before in
+    let drawn = after_call who.line who.party (DrawsTable moment) None d in
+    let kept_drawn = keeps_after who (DrawsTable moment) d keep there room in (
       room,
       λ t between room_there.
           let last = rivals_last_drawn who table drawn t keep kept_drawn between (drawn_last who d moment there room) in
           let fits : TableFits who.party t.store table rows = record { sound = sound; new = last.new; named = inl last.last } in
-          (fits, rest (told_by who.line who.party (PutsTable table rows) None t) table (behind who (PutsTable table rows) t keep (rivals_keep who drawn t keep kept_drawn between) fits)),
+          (fits, rest (after_call who.line who.party (PutsTable table rows) None t) table (keeps_after who (PutsTable table rows) t keep (rivals_keep who drawn t keep kept_drawn between) fits)),
     )
 
 -- ---- outputs
@@ -58,26 +58,26 @@ found_in (first ∷ attempts) job a e = by (job == first.job) (found_in attempts
     by true rest e = inl (cc e)
     by false rest e = inr (rest e)
 
-pub back_lawful : (A : Type 0) (who : Caller) (w : LiveWorker) (a : Attempt) (message : List ℕ) (told : Told) → who.party ≡ Worker w.number → IsLawfulCourse who told (gives_back {A = A} w a message)
-back_lawful A who w a message told by = releases {A = A} who w (a ∷ []) (λ released. Ends (OperatorRefuses message)) by (λ new released. tt) most_refused 0 told
+pub back_lawful : (A : Type 0) (who : Caller) (w : LiveWorker) (a : Attempt) (message : List ℕ) (world : World) → who.party ≡ Worker w.number → IsLawfulCourse who world (gives_back {A = A} w a message)
+back_lawful A who w a message world by = releases {A = A} who w (a ∷ []) (λ released. Ends (OperatorRefuses message)) by (λ new released. tt) most_refused 0 world
 
-written_lawful : (who : Caller) (moment : ℕ) (w : LiveWorker) (a : Attempt) (place : ℕ) (rows : List Row) (told : Told) → CallsKeep who.merge → Keeps who.merge told → AreGood rows → IsLawfulCourse who told (writes moment w a place rows)
-written_lawful who moment w a place [] told keep kept good = tt
-written_lawful who moment w a place (r ∷ rows) told keep kept good =
-    table_lawful {A = StepEnd Written} who moment (r ∷ rows) (λ table. Ends (Reports (record { table = Some (table, r ∷ rows); attempts = with_noted place table a w.attempts }))) told keep kept
+written_lawful : (who : Caller) (moment : ℕ) (w : LiveWorker) (a : Attempt) (place : ℕ) (rows : List Row) (world : World) → CallsKeep who.merge → Keeps who.merge world → AreGood rows → IsLawfulCourse who world (writes moment w a place rows)
+written_lawful who moment w a place [] world keep kept good = tt
+written_lawful who moment w a place (r ∷ rows) world keep kept good =
+    table_lawful {A = StepEnd Written} who moment (r ∷ rows) (λ table. Ends (Reports (record { table = Some (table, r ∷ rows); attempts = with_noted place table a w.attempts }))) world keep kept
     (record { some = λ e. cc e; ordered = good.ordered; bounds = good.bounds }) (λ new table there. tt)
 
-made_lawful : (who : Caller) (told new : Told) (moment : ℕ) (w : LiveWorker) (a : Attempt) (place : ℕ) (range : Range × List ℕ) (rows : ℕ) (refusal : Option (List ℕ)) → CallsKeep who.merge → IsShort who.merge
-    → who.party ≡ Worker w.number → Keeps who.merge told → IsStrictlyOrdered (source_rows told.store.tables a.sources) → Keeps who.merge new
-    → IsLawfulCourse who new (writes_or_gives_back who.merge moment w a place range rows refusal told.store.tables)
-made_lawful who told new moment w a place range rows None keep short by kept ordered there =
-    written_lawful who moment w a place (take rows (rows_left who.merge told.store.tables a.context.settings a.sources range).rows) new keep there
-    (take_good rows (rows_left who.merge told.store.tables a.context.settings a.sources range).rows (left_good who.merge told.store.tables a.context.settings a.sources range short kept.stored.sound.tables ordered))
-made_lawful who told new moment w a place range rows (Some message) keep short by kept ordered there = back_lawful Written who w a message new by
+made_lawful : (who : Caller) (world new : World) (moment : ℕ) (w : LiveWorker) (a : Attempt) (place : ℕ) (range : Range × List ℕ) (rows : ℕ) (refusal : Option (List ℕ)) → CallsKeep who.merge → IsShort who.merge
+    → who.party ≡ Worker w.number → Keeps who.merge world → IsStrictlyOrdered (source_rows world.store.tables a.sources) → Keeps who.merge new
+    → IsLawfulCourse who new (writes_or_gives_back who.merge moment w a place range rows refusal world.store.tables)
+made_lawful who world new moment w a place range rows None keep short by kept ordered there =
+    written_lawful who moment w a place (take rows (rows_left who.merge world.store.tables a.context.settings a.sources range).rows) new keep there
+    (take_good rows (rows_left who.merge world.store.tables a.context.settings a.sources range).rows (left_good who.merge world.store.tables a.context.settings a.sources range short kept.stored.sound.tables ordered))
+made_lawful who world new moment w a place range rows (Some message) keep short by kept ordered there = back_lawful Written who w a message new by
 
 pub outputs_are_lawful : OutputsAreLawful
 unfolding output
-outputs_are_lawful who told moment w a place range rows refusal keep operator by kept holds runs =
-    gets_lawful who (writes_or_gives_back who.merge moment w a place range rows refusal told.store.tables) (filter (meets told.store.tables range.0) a.sources) told keep kept
-    (λ new there. made_lawful who told new moment w a place range rows refusal keep operator.short by kept
-    (all_at (AttemptHeld told w.number) w.attempts a holds.each (found_in w.attempts a.job a runs)).ordered there)
+outputs_are_lawful who world moment w a place range rows refusal keep operator by kept holds runs =
+    gets_lawful who (writes_or_gives_back who.merge moment w a place range rows refusal world.store.tables) (filter (meets world.store.tables range.0) a.sources) world keep kept
+    (λ new there. made_lawful who world new moment w a place range rows refusal keep operator.short by kept
+    (all_at (AttemptHeld world w.number) w.attempts a holds.each (found_in w.attempts a.job a runs)).ordered there)

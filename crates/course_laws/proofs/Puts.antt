@@ -8,8 +8,8 @@ use Rattle.fleet_model.specs.Store.{Records, jobs_in}
 use Rattle.fleet_model.specs.Records.{Unrecorded, jobs_after}
 use Rattle.fleet_model.specs.Replay.{epoch_after}
 use Rattle.fleet_model.specs.Exchanges.{records_version}
-use Rattle.step_model.specs.Past.{Told}
-use Rattle.step_model.specs.Entries.{party_eq, did}
+use Rattle.step_model.specs.Past.{World}
+use Rattle.step_model.specs.Entries.{party_eq, did_event}
 use Rattle.step_model.specs.LawfulRecords.{NamesFit, RecordsFit, ChangeFits, may_make}
 use Rattle.step_laws.proofs.Elements.{any_front, is_itself}
 use Rattle.course_laws.proofs.Later.{Later}
@@ -22,24 +22,24 @@ party_itself (Coordinator n) = is_itself n
 party_itself (Worker n) = is_itself n
 
 -- What a party did, it did later too.
-pub did_later : (is : Event → Bool) (party : Party) (old new : Told) → Later old new → IsTrue (did is party old.store.history) → IsTrue (did is party new.store.history)
+pub did_later : (is : Event → Bool) (party : Party) (old new : World) → Later old new → IsTrue (did_event is party old.store.history) → IsTrue (did_event is party new.store.history)
 did_later is party old new later h =
-    subst (λ (history : List Entry). IsTrue (did is party history)) (sym later.history)
+    subst (λ (history : List Entry). IsTrue (did_event is party history)) (sym later.history)
     (any_front (λ (entry : Entry). party_eq party entry.party && is entry.event && stood entry.answer) old.store.history later.more h)
 
 -- Records that were got are stored, if their version is.
-pub got_records : (old new : Told) (got : Option Records) → old.store.records ≡ got → Later old new → records_version got ≡ records_version new.store.records → new.store.records ≡ got
+pub got_records : (old new : World) (got : Option Records) → old.store.records ≡ got → Later old new → records_version got ≡ records_version new.store.records → new.store.records ≡ got
 got_records old new got is later same = later.records.same (ap records_version is ∙ same) ∙ is
 
 -- No job is named.
-pub no_names : (party : Party) (told : Told) → NamesFit party told []
-no_names party told = record { once = tt; drawn = tt; replays = λ specs faithful. faithful }
+pub no_names : (party : Party) (world : World) → NamesFit party world []
+no_names party world = record { once = tt; drawn = tt; replays = λ specs faithful. faithful }
 
 -- A put fits over the records that were got, if its jobs are what the change makes of them.
-pub over_got : (merge : Operator) (party : Party) (told : Told) (got : Records) (change : RecordChange) (u : Unrecorded) (epoch : ℕ) → told.store.records ≡ Some got
-    → ((records : Option Records) → IsTrue (is_some records) → told.store.records ≡ records → IsTrue (may_make told change)) → epoch ≡ epoch_after change (Some got)
-    → ChangeFits merge party told u (jobs_after u change got.jobs) change → RecordsFit merge party told change epoch (jobs_after u change got.jobs)
-over_got merge party told got change u epoch same may is fits = record {
+pub over_got : (merge : Operator) (party : Party) (world : World) (got : Records) (change : RecordChange) (u : Unrecorded) (epoch : ℕ) → world.store.records ≡ Some got
+    → ((records : Option Records) → IsTrue (is_some records) → world.store.records ≡ records → IsTrue (may_make world change)) → epoch ≡ epoch_after change (Some got)
+    → ChangeFits merge party world u (jobs_after u change got.jobs) change → RecordsFit merge party world change epoch (jobs_after u change got.jobs)
+over_got merge party world got change u epoch same may is fits = record {
   there = may (Some got) refl same;
   unrecorded = u;
   makes_jobs = ap (λ r. jobs_after u change (jobs_in r)) (sym same);

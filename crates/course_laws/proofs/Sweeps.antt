@@ -11,11 +11,11 @@ use Rattle.fleet_model.specs.Handles.{named_tables}
 use Rattle.fleet_model.specs.Sweeps.{is_unneeded, swept_tables}
 use Rattle.fleet_model.specs.Exchanges.{Exchange, Plain, ListsTables, DeletesTable}
 use Rattle.fleet_laws.proofs.Sweeps.{sweep_is_exact}
-use Rattle.step_model.specs.Past.{Told}
+use Rattle.step_model.specs.Past.{World}
 use Rattle.step_model.specs.Entries.{party_eq, last_from, is_pending, is_pending_in}
 use Rattle.step_model.specs.Lawful.{Lawful}
 use Rattle.step_model.specs.LawfulTables.{DeletionFits}
-use Rattle.step_model.specs.Rivals.{Caller, RivalsFrom, Rivals, told_by}
+use Rattle.step_model.specs.Rivals.{Caller, RivalsFrom, Rivals, after_call}
 use Rattle.step_model.specs.CourseRuns.{IsLawfulCourse}
 use Rattle.step_model.specs.SweepSteps.{deletes_each, sweep}
 use Rattle.step_model.specs.Course.{Course, Ends, Calls}
@@ -26,14 +26,14 @@ use Rattle.course_laws.proofs.Calls.{pairs_filter}
 
 -- ---- a party that is alone
 
-pub alone_same : (who : Caller) (old new : Told) → who.alone ≡ true → Rivals who old new → old ≡ new
+pub alone_same : (who : Caller) (old new : World) → who.alone ≡ true → Rivals who old new → old ≡ new
 alone_same who old new alone rivals = subst (λ calls. RivalsFrom who calls old new) (rivals.none alone) rivals.lead
 
 -- A party that is alone meets what its last call left.
-alone_call : {A : Type 0} (who : Caller) (told : Told) (x : Exchange) (next : Store → Course A) → who.alone ≡ true → Lawful who.merge who.party told x
-    → IsLawfulCourse who (told_by who.line who.party x None told) (next told.store) → IsLawfulCourse who told (Calls x next)
-alone_call who told x next alone lawful rest = λ met rivals room.
-    subst (λ (t : Told). Lawful who.merge who.party t x × IsLawfulCourse who (told_by who.line who.party x None t) (next t.store)) (alone_same who told met alone rivals) (lawful, rest)
+alone_call : {A : Type 0} (who : Caller) (world : World) (x : Exchange) (next : Store → Course A) → who.alone ≡ true → Lawful who.merge who.party world x
+    → IsLawfulCourse who (after_call who.line who.party x None world) (next world.store) → IsLawfulCourse who world (Calls x next)
+alone_call who world x next alone lawful rest = λ met rivals room.
+    subst (λ (t : World). Lawful who.merge who.party t x × IsLawfulCourse who (after_call who.line who.party x None t) (next t.store)) (alone_same who world met alone rivals) (lawful, rest)
 
 -- ---- the order of ids
 
@@ -83,27 +83,27 @@ NonePending store = (table : ℕ) → is_pending store.history table ≡ false
 pending_on : (history : List Entry) (entry : Entry) (table : ℕ) → entry.party ≡ Sweeper → is_pending history table ≡ false → is_pending (history ++ entry ∷ []) table ≡ false
 pending_on history entry table by none = ap (is_pending_in table) (last_other Writer history entry None (ap (party_eq Writer) by)) ∙ none
 
-fits_on : (who : Caller) (told : Told) (gone table : ℕ) → who.party ≡ Sweeper → gone ≢ table → DeletionFits who.party told.store table → DeletionFits who.party (told_by who.line who.party (DeletesTable gone) None told).store table
-fits_on who told gone table by other fits =
-    let still = held_but told.store gone table other fits.held in
+fits_on : (who : Caller) (world : World) (gone table : ℕ) → who.party ≡ Sweeper → gone ≢ table → DeletionFits who.party world.store table → DeletionFits who.party (after_call who.line who.party (DeletesTable gone) None world).store table
+fits_on who world gone table by other fits =
+    let still = held_but world.store gone table other fits.held in
     record {
       by = by;
       held = still;
       unnamed = fits.unnamed;
-      not_pending = pending_on told.store.history _ table by fits.not_pending;
+      not_pending = pending_on world.store.history _ table by fits.not_pending;
     }
 
-deletes_lawful : {A : Type 0} (who : Caller) (next : Course A) (tables : List ℕ) (told : Told) → who.alone ≡ true → who.party ≡ Sweeper → AllByRecursion (DeletionFits who.party told.store) tables → Pairs (λ a b. a ≢ b) tables
-    → ((new : Told) → IsLawfulCourse who new next) → IsLawfulCourse who told (deletes_each tables next)
-deletes_lawful who next [] told alone by fits differ rest = rest told
-deletes_lawful who next (table ∷ tables) told alone by fits differ rest =
-    alone_call who told (DeletesTable table) (λ met. deletes_each tables next) alone fits.0
-    (deletes_lawful who next tables (told_by who.line who.party (DeletesTable table) None told) alone by
+deletes_lawful : {A : Type 0} (who : Caller) (next : Course A) (tables : List ℕ) (world : World) → who.alone ≡ true → who.party ≡ Sweeper → AllByRecursion (DeletionFits who.party world.store) tables → Pairs (λ a b. a ≢ b) tables
+    → ((new : World) → IsLawfulCourse who new next) → IsLawfulCourse who world (deletes_each tables next)
+deletes_lawful who next [] world alone by fits differ rest = rest world
+deletes_lawful who next (table ∷ tables) world alone by fits differ rest =
+    alone_call who world (DeletesTable table) (λ met. deletes_each tables next) alone fits.0
+    (deletes_lawful who next tables (after_call who.line who.party (DeletesTable table) None world) alone by
     (both tables fits.1 differ.0) differ.1 rest)
   where
-    both : (ts : List ℕ) → AllByRecursion (DeletionFits who.party told.store) ts → AllByRecursion (λ t. table ≢ t) ts → AllByRecursion (DeletionFits who.party (told_by who.line who.party (DeletesTable table) None told).store) ts
+    both : (ts : List ℕ) → AllByRecursion (DeletionFits who.party world.store) ts → AllByRecursion (λ t. table ≢ t) ts → AllByRecursion (DeletionFits who.party (after_call who.line who.party (DeletesTable table) None world).store) ts
     both [] all others = tt
-    both (t ∷ ts) all others = (fits_on who told table t by others.0 all.0, both ts all.1 others.1)
+    both (t ∷ ts) all others = (fits_on who world table t by others.0 all.0, both ts all.1 others.1)
 
 -- ---- the sweep
 
@@ -121,25 +121,25 @@ swept_fits party store pins by none = all_from _ (swept_tables pins store) (λ t
       not_pending = none table;
     })
 
--- The sweep behind its list, behind its second get and behind its first get.
-abbrev behind_list : List ℕ → Manifest → Option Records → Store → Course (List ℕ)
-behind_list pins manifest records met = let tables = swept_tables pins (record met { manifest = manifest; records = records }) in deletes_each tables (Ends tables)
+-- The sweep after its list, after its second get and after its first get.
+abbrev after_list : List ℕ → Manifest → Option Records → Store → Course (List ℕ)
+after_list pins manifest records met = let tables = swept_tables pins (record met { manifest = manifest; records = records }) in deletes_each tables (Ends tables)
 
-abbrev behind_records : List ℕ → Manifest → Store → Course (List ℕ)
-behind_records pins manifest met = Calls ListsTables (behind_list pins manifest met.records)
+abbrev after_records : List ℕ → Manifest → Store → Course (List ℕ)
+after_records pins manifest met = Calls ListsTables (after_list pins manifest met.records)
 
-abbrev behind_manifest : List ℕ → Store → Course (List ℕ)
-behind_manifest pins met = Calls (Plain GetRecords) (behind_records pins met.manifest)
+abbrev after_manifest : List ℕ → Store → Course (List ℕ)
+after_manifest pins met = Calls (Plain GetRecords) (after_records pins met.manifest)
 
 pub sweeps_are_lawful : SweepsAreLawful
 unfolding sweep
-sweeps_are_lawful who told pins alone by kept none =
-    let first = told_by who.line who.party (Plain GetManifest) None told in
-    let second = told_by who.line who.party (Plain GetRecords) None first in
-    let third = told_by who.line who.party ListsTables None second in
-    alone_call {A = List ℕ} who told (Plain GetManifest) (behind_manifest pins) alone tt
-    (alone_call {A = List ℕ} who first (Plain GetRecords) (behind_records pins told.store.manifest) alone tt
-    (alone_call {A = List ℕ} who second ListsTables (behind_list pins told.store.manifest told.store.records) alone tt
+sweeps_are_lawful who world pins alone by kept none =
+    let first = after_call who.line who.party (Plain GetManifest) None world in
+    let second = after_call who.line who.party (Plain GetRecords) None first in
+    let third = after_call who.line who.party ListsTables None second in
+    alone_call {A = List ℕ} who world (Plain GetManifest) (after_manifest pins) alone tt
+    (alone_call {A = List ℕ} who first (Plain GetRecords) (after_records pins world.store.manifest) alone tt
+    (alone_call {A = List ℕ} who second ListsTables (after_list pins world.store.manifest world.store.records) alone tt
     (deletes_lawful {A = List ℕ} who (Ends (swept_tables pins third.store)) (swept_tables pins third.store) third alone by
-    (swept_fits who.party third.store pins by (λ table. pending_on second.store.history _ table by (pending_on first.store.history _ table by (pending_on told.store.history _ table by (none table)))))
+    (swept_fits who.party third.store pins by (λ table. pending_on second.store.history _ table by (pending_on first.store.history _ table by (pending_on world.store.history _ table by (none table)))))
     (swept_differ pins third.store kept.stored.sound.table_ids) (λ new. tt))))

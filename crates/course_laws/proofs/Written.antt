@@ -5,7 +5,7 @@ use Rattle.std.specs.List.{AllByRecursion}
 use Rattle.row_model.specs.Rows.{Row, IsStrictlyOrdered, sorted_rows}
 use Rattle.row_model.specs.Ranges.{Range}
 use Rattle.row_model.specs.Fold.{Operator}
-use Rattle.row_model.specs.Plan.{planned}
+use Rattle.row_model.specs.Plan.{planned_ranges}
 use Rattle.fleet_model.specs.Nodes.{Tables, table_rows, is_among}
 use Rattle.fleet_model.specs.Jobs.{JobSpec, Job, Context, job_with}
 use Rattle.fleet_model.specs.History.{Party, Worker, DrawTable, PutTable, Done, Entry, stood}
@@ -16,27 +16,27 @@ use Rattle.fleet_model.specs.Parties.{Attempt, LiveWorker, is_live, live_attempt
 use Rattle.fleet_model.specs.Sweeps.{attempt_tables}
 use Rattle.fleet_model.specs.AttemptsFit.{AttemptFits, WorkerFits, TablesFit}
 use Rattle.fleet_model.specs.Exchanges.{DrawsTable, PutsTable, next_table_id}
-use Rattle.step_model.specs.Past.{Told}
+use Rattle.step_model.specs.Past.{World}
 use Rattle.step_model.specs.Faithful.{Faithful}
 use Rattle.step_model.specs.LawfulTables.{MayUse}
 use Rattle.step_model.specs.TablesKept.{PutsKept}
 use Rattle.step_model.specs.Fits.{noted_tables, WorkerHolds}
 use Rattle.step_model.specs.Keeps.{Keeps}
-use Rattle.step_model.specs.Rivals.{told_by}
+use Rattle.step_model.specs.Rivals.{after_call}
 use Rattle.step_laws.proofs.Elements.{IsIn, all_at, all_from, all_to, all_front, all_back, all_unflat, all_true_front, all_true_from}
 use Rattle.step_laws.proofs.Alike.{settings_same}
 use Rattle.step_laws.proofs.Held.{held_put, held_grows, rows_stay, flat_rows_stay}
 use Rattle.step_laws.proofs.Mute.{mute_event}
 use Rattle.step_laws.proofs.MuteBodies.{Matches, if_some_to}
-use Rattle.step_laws.proofs.Quiet.{told_entered}
+use Rattle.step_laws.proofs.Quiet.{world_entered}
 use Rattle.step_laws.proofs.TableBodies.{with_table, same_with_table}
 use Rattle.course_laws.proofs.Calls.{filtered}
 use Rattle.course_laws.proofs.OwnCalls.{holds_entered}
 
-faithful_without : (told : Told) (new : ℕ × List Row) (specs : ℕ → JobSpec) → PutsKept told.store.history told.store.tables → Faithful (with_table told new) specs → Faithful told specs
-faithful_without told new specs puts f = record {
+faithful_without : (world : World) (new : ℕ × List Row) (specs : ℕ → JobSpec) → PutsKept world.store.history world.store.tables → Faithful (with_table world new) specs → Faithful world specs
+faithful_without world new specs puts f = record {
   agrees = f.agrees;
-  manifests = λ front back e. subst (Matches told.past) (same_with_table told new specs puts front back e) (f.manifests front back e);
+  manifests = λ front back e. subst (Matches world.past) (same_with_table world new specs puts front back e) (f.manifests front back e);
 }
 
 -- All these tables were put.
@@ -73,73 +73,73 @@ put_for store a held =
     }
 
 -- What a worker holds stays as a table is put.
-holds_with_table : (merge : Operator) (told : Told) (new : ℕ × List Row) (w : LiveWorker) → Keeps merge told → WorkerHolds merge told w → WorkerHolds merge (with_table told new) w
-holds_with_table merge told new w kept h = record {
-  fits = λ specs f. fits specs (h.fits specs (faithful_without told new specs kept.facts.puts f));
+holds_with_table : (merge : Operator) (world : World) (new : ℕ × List Row) (w : LiveWorker) → Keeps merge world → WorkerHolds merge world w → WorkerHolds merge (with_table world new) w
+holds_with_table merge world new w kept h = record {
+  fits = λ specs f. fits specs (h.fits specs (faithful_without world new specs kept.facts.puts f));
   each = all_to _ _ w.attempts (λ a there held. record {
     counted = held.counted;
     claimed = held.claimed;
-    ordered = subst IsStrictlyOrdered (sym (sources_stay told.store.tables new a.sources (puts a there).sources)) held.ordered;
+    ordered = subst IsStrictlyOrdered (sym (sources_stay world.store.tables new a.sources (puts a there).sources)) held.ordered;
     sources = held.sources;
   }) h.each;
   jobs_rise = h.jobs_rise;
-  own = all_to _ _ (live_attempts (stored_jobs told.store) w) (λ a there own. if_some_to _ _ (job_with a.job (stored_jobs told.store)) (λ job all. all_to _ _ (noted_tables a) (λ table one may. may_stay job table may) all) own) h.own;
+  own = all_to _ _ (live_attempts (stored_jobs world.store) w) (λ a there own. if_some_to _ _ (job_with a.job (stored_jobs world.store)) (λ job all. all_to _ _ (noted_tables a) (λ table one may. may_stay job table may) all) own) h.own;
   apart = h.apart;
 }
   where
-    may_stay : (job : Job) (table : ℕ) → MayUse (Worker w.number) told job table → MayUse (Worker w.number) (with_table told new) job table
+    may_stay : (job : Job) (table : ℕ) → MayUse (Worker w.number) world job table → MayUse (Worker w.number) (with_table world new) job table
     may_stay job table (inl named) = inl named
     may_stay job table (inr own) = inr (record { drawn = own.drawn; put = own.put; unused = own.unused; unnamed = own.unnamed })
 
-    puts : (a : Attempt) → IsIn a w.attempts → PutFor told.store.tables a
-    puts a there = put_for told.store a (all_at _ w.attempts a (h.fits kept.stored.replay.specs kept.faithful).each there).held
+    puts : (a : Attempt) → IsIn a w.attempts → PutFor world.store.tables a
+    puts a there = put_for world.store a (all_at _ w.attempts a (h.fits kept.stored.replay.specs kept.faithful).each there).held
 
-    claims : (specs : ℕ → JobSpec) (job attempt : ℕ) (c : Context) → IsClaimed told.store specs job attempt c → IsClaimed (with_table told new).store specs job attempt c
+    claims : (specs : ℕ → JobSpec) (job attempt : ℕ) (c : Context) → IsClaimed world.store specs job attempt c → IsClaimed (with_table world new).store specs job attempt c
     claims specs job attempt c one = record {
-      settings = settings_same (told.store.tables ++ new ∷ []) told.store.tables specs specs told.store.history job attempt (same_with_table told new specs kept.facts.puts) refl ∙ one.settings;
+      settings = settings_same (world.store.tables ++ new ∷ []) world.store.tables specs specs world.store.history job attempt (same_with_table world new specs kept.facts.puts) refl ∙ one.settings;
       ranges = one.ranges;
     }
 
-    live_one : (specs : ℕ → JobSpec) (a : Attempt) → PutFor told.store.tables a → (o : Option Job) → IfSome o (λ job. AttemptFits merge told.store specs job a) → IfSome o (λ job. AttemptFits merge (with_table told new).store specs job a)
+    live_one : (specs : ℕ → JobSpec) (a : Attempt) → PutFor world.store.tables a → (o : Option Job) → IfSome o (λ job. AttemptFits merge world.store specs job a) → IfSome o (λ job. AttemptFits merge (with_table world new).store specs job a)
     live_one specs a put None one = tt
     live_one specs a put (Some job) one =
-        let sources = subst (ArePut told.store.tables) one.sources put.sources in
+        let sources = subst (ArePut world.store.tables) one.sources put.sources in
         record {
           sources = one.sources;
           context = record {
             claimed = claims specs job.id job.attempt a.context one.context.claimed;
             settings = one.context.settings;
             cut = one.context.cut;
-            ranges = (one.context.ranges.0, one.context.ranges.1 ∙ ap (planned one.context.ranges.0) (sym (maps_stay told.store.tables new job.source_tables sources)));
-            tables = tables_fit merge told.store.tables new job.source_tables a.context sources put.noted one.context.tables;
+            ranges = (one.context.ranges.0, one.context.ranges.1 ∙ ap (planned_ranges one.context.ranges.0) (sym (maps_stay world.store.tables new job.source_tables sources)));
+            tables = tables_fit merge world.store.tables new job.source_tables a.context sources put.noted one.context.tables;
           };
           published = one.published;
         }
 
-    fits : (specs : ℕ → JobSpec) → WorkerFits merge told.store specs w → WorkerFits merge (with_table told new).store specs w
+    fits : (specs : ℕ → JobSpec) → WorkerFits merge world.store specs w → WorkerFits merge (with_table world new).store specs w
     fits specs f = record {
       cuts = f.cuts;
       each = all_to _ _ w.attempts (λ a there stands. record {
         claimed = claims specs a.job a.number a.context stands.claimed;
-        held = all_true_from (is_held (with_table told new).store) (attempt_tables a) (all_to _ _ (attempt_tables a) (λ id one held. held_grows told.store new id held) (all_true_front (is_held told.store) (attempt_tables a) stands.held));
-        tables = tables_fit merge told.store.tables new a.sources a.context (puts a there).sources (puts a there).noted stands.tables;
+        held = all_true_from (is_held (with_table world new).store) (attempt_tables a) (all_to _ _ (attempt_tables a) (λ id one held. held_grows world.store new id held) (all_true_front (is_held world.store) (attempt_tables a) stands.held));
+        tables = tables_fit merge world.store.tables new a.sources a.context (puts a there).sources (puts a there).noted stands.tables;
       }) f.each;
-      live = all_from _ (live_attempts (stored_jobs told.store) w) (λ a there.
-          live_one specs a (puts a (all_at _ (live_attempts (stored_jobs told.store) w) a (filtered (is_live (stored_jobs told.store) w.number) w.attempts) there).0) (job_with a.job (stored_jobs told.store))
-          (all_at _ (live_attempts (stored_jobs told.store) w) a f.live there));
+      live = all_from _ (live_attempts (stored_jobs world.store) w) (λ a there.
+          live_one specs a (puts a (all_at _ (live_attempts (stored_jobs world.store) w) a (filtered (is_live (stored_jobs world.store) w.number) w.attempts) there).0) (job_with a.job (stored_jobs world.store))
+          (all_at _ (live_attempts (stored_jobs world.store) w) a f.live there));
     }
 
 -- A put of a table leaves what a worker holds.
-pub holds_put : (merge : Operator) (line : ℕ) (party : Party) (table : ℕ) (rows : List Row) (told : Told) (w : LiveWorker) → Keeps merge told → WorkerHolds merge told w → WorkerHolds merge (told_by line party (PutsTable table rows) None told) w
-holds_put merge line party table rows told w kept h =
+pub holds_put : (merge : Operator) (line : ℕ) (party : Party) (table : ℕ) (rows : List Row) (world : World) (w : LiveWorker) → Keeps merge world → WorkerHolds merge world w → WorkerHolds merge (after_call line party (PutsTable table rows) None world) w
+holds_put merge line party table rows world w kept h =
     let entry : Entry = record { line = line; party = party; event = PutTable table (length rows); answer = Done 0 } in
-    let grown = with_table told (table, rows) in
-    subst (λ (t : Told). WorkerHolds merge t w) (sym (told_entered grown told.store.deleted told.store.jobs_drawn told.store.tables_drawn entry))
-    (holds_entered merge grown w told.store.jobs_drawn told.store.tables_drawn entry (mute_event (stood entry.answer) (PutTable table (length rows)) refl).quiet (holds_with_table merge told (table, rows) w kept h))
+    let grown = with_table world (table, rows) in
+    subst (λ (t : World). WorkerHolds merge t w) (sym (world_entered grown world.store.deleted world.store.jobs_drawn world.store.tables_drawn entry))
+    (holds_entered merge grown w world.store.jobs_drawn world.store.tables_drawn entry (mute_event (stood entry.answer) (PutTable table (length rows)) refl).quiet (holds_with_table merge world (table, rows) w kept h))
 
 -- A draw leaves what a worker holds.
-pub holds_drawn : (merge : Operator) (line : ℕ) (party : Party) (moment : ℕ) (told : Told) (w : LiveWorker) → WorkerHolds merge told w → WorkerHolds merge (told_by line party (DrawsTable moment) None told) w
-holds_drawn merge line party moment told w h =
-    let entry : Entry = record { line = line; party = party; event = DrawTable (next_table_id moment told.store); answer = Done 0 } in
-    subst (λ (t : Told). WorkerHolds merge t w) (sym (told_entered told told.store.deleted told.store.jobs_drawn (told.store.tables_drawn + 1) entry))
-    (holds_entered merge told w told.store.jobs_drawn (told.store.tables_drawn + 1) entry (mute_event (stood entry.answer) (DrawTable (next_table_id moment told.store)) refl).quiet h)
+pub holds_drawn : (merge : Operator) (line : ℕ) (party : Party) (moment : ℕ) (world : World) (w : LiveWorker) → WorkerHolds merge world w → WorkerHolds merge (after_call line party (DrawsTable moment) None world) w
+holds_drawn merge line party moment world w h =
+    let entry : Entry = record { line = line; party = party; event = DrawTable (next_table_id moment world.store); answer = Done 0 } in
+    subst (λ (t : World). WorkerHolds merge t w) (sym (world_entered world world.store.deleted world.store.jobs_drawn (world.store.tables_drawn + 1) entry))
+    (holds_entered merge world w world.store.jobs_drawn (world.store.tables_drawn + 1) entry (mute_event (stood entry.answer) (DrawTable (next_table_id moment world.store)) refl).quiet h)

@@ -2,7 +2,7 @@
 use Rattle.std.specs.Prelude.{◌≡◌, ℕ}
 use Rattle.fleet_model.specs.History.{Worker}
 use Rattle.fleet_model.specs.Parties.{LiveWorker}
-use Rattle.step_model.specs.Past.{Told}
+use Rattle.step_model.specs.Past.{World}
 use Rattle.step_model.specs.Rivals.{Caller}
 use Rattle.step_model.specs.Keeps.{Keeps}
 use Rattle.step_model.specs.CourseRuns.{IsLawfulCourse}
@@ -12,5 +12,5 @@ use Rattle.step_laws.specs.Runs.{CallsKeep}
 -- A worker's claim is a lawful course over any store that meets the invariant, if every lawful call
 -- keeps the invariant.
 abbrev pub ClaimsAreLawful : Type 0
-ClaimsAreLawful = (who : Caller) (told : Told) (options : WorkerOptions) (moment : ℕ) (w : LiveWorker) → CallsKeep who.merge → Keeps who.merge told → who.party ≡ Worker w.number
-    → IsLawfulCourse who told (claim options moment w)
+ClaimsAreLawful = (who : Caller) (world : World) (options : WorkerOptions) (moment : ℕ) (w : LiveWorker) → CallsKeep who.merge → Keeps who.merge world → who.party ≡ Worker w.number
+    → IsLawfulCourse who world (claim options moment w)

@@ -6,7 +6,7 @@ use Rattle.fleet_model.specs.Nodes.{Tables}
 use Rattle.fleet_model.specs.History.{Worker}
 use Rattle.fleet_model.specs.Attempts.{rows_left}
 use Rattle.fleet_model.specs.Parties.{Attempt, LiveWorker}
-use Rattle.step_model.specs.Past.{Told}
+use Rattle.step_model.specs.Past.{World}
 use Rattle.step_model.specs.Rivals.{Caller}
 use Rattle.step_model.specs.Keeps.{Keeps}
 use Rattle.step_model.specs.Fits.{WorkerHolds}
@@ -24,6 +24,6 @@ WholeUnless merge tables a (Some message) = ⊤
 -- A finish of a worker that fits is a lawful course under a lawful operator, if every lawful call
 -- keeps the invariant.
 abbrev pub FinishesAreLawful : Type 0
-FinishesAreLawful = (who : Caller) (told : Told) (options : WorkerOptions) (moment : ℕ) (w : LiveWorker) (a : Attempt) (refusal : Option (List ℕ)) → CallsKeep who.merge
-    → IsLawful who.merge → who.party ≡ Worker w.number → Keeps who.merge told → WorkerHolds who.merge told w → DoesRun w a → WholeUnless who.merge told.store.tables a refusal
-    → IsLawfulCourse who told (finish who.merge told.store.tables options moment w a refusal)
+FinishesAreLawful = (who : Caller) (world : World) (options : WorkerOptions) (moment : ℕ) (w : LiveWorker) (a : Attempt) (refusal : Option (List ℕ)) → CallsKeep who.merge
+    → IsLawful who.merge → who.party ≡ Worker w.number → Keeps who.merge world → WorkerHolds who.merge world w → DoesRun w a → WholeUnless who.merge world.store.tables a refusal
+    → IsLawfulCourse who world (finish who.merge world.store.tables options moment w a refusal)

@@ -4,7 +4,7 @@ use Rattle.std.specs.List.{AllByRecursion}
 use Rattle.row_model.specs.Bounds.{IsInBounds}
 use Rattle.fleet_model.specs.Jobs.{drawn_base}
 use Rattle.fleet_model.specs.History.{Writer}
-use Rattle.step_model.specs.Past.{Told}
+use Rattle.step_model.specs.Past.{World}
 use Rattle.step_model.specs.Entries.{last_name}
 use Rattle.step_model.specs.Rivals.{Caller}
 use Rattle.step_model.specs.Keeps.{Keeps}
@@ -21,5 +21,5 @@ pub record MayAsk (ask : FlushAsk) : Type 0 where
 -- A flush is a lawful course over any store that meets the invariant, if every lawful call keeps the
 -- invariant. `last` is at least the greatest name that flushes have used.
 abbrev pub FlushesAreLawful : Type 0
-FlushesAreLawful = (who : Caller) (told : Told) (moment retention last : ℕ) (ask : FlushAsk) → CallsKeep who.merge → Keeps who.merge told → who.party ≡ Writer → MayAsk ask → last_name told.store.history ≤ last
-    → IsLawfulCourse who told (flush moment retention last ask)
+FlushesAreLawful = (who : Caller) (world : World) (moment retention last : ℕ) (ask : FlushAsk) → CallsKeep who.merge → Keeps who.merge world → who.party ≡ Writer → MayAsk ask → last_name world.store.history ≤ last
+    → IsLawfulCourse who world (flush moment retention last ask)

@@ -4,7 +4,7 @@ use Rattle.row_model.specs.Fold.{IsLawful}
 use Rattle.row_model.specs.Ranges.{Range}
 use Rattle.fleet_model.specs.History.{Worker}
 use Rattle.fleet_model.specs.Parties.{Attempt, LiveWorker, attempt_at}
-use Rattle.step_model.specs.Past.{Told}
+use Rattle.step_model.specs.Past.{World}
 use Rattle.step_model.specs.Rivals.{Caller}
 use Rattle.step_model.specs.Keeps.{Keeps}
 use Rattle.step_model.specs.Fits.{WorkerHolds}
@@ -19,5 +19,5 @@ DoesRun w a = attempt_at a.job w.attempts ≡ Some a
 -- An output of a worker that fits is a lawful course under a lawful operator, if every lawful call
 -- keeps the invariant.
 abbrev pub OutputsAreLawful : Type 0
-OutputsAreLawful = (who : Caller) (told : Told) (moment : ℕ) (w : LiveWorker) (a : Attempt) (place : ℕ) (range : Range × List ℕ) (rows : ℕ) (refusal : Option (List ℕ)) → CallsKeep who.merge → IsLawful who.merge
-    → who.party ≡ Worker w.number → Keeps who.merge told → WorkerHolds who.merge told w → DoesRun w a → IsLawfulCourse who told (output who.merge told.store.tables moment w a place range rows refusal)
+OutputsAreLawful = (who : Caller) (world : World) (moment : ℕ) (w : LiveWorker) (a : Attempt) (place : ℕ) (range : Range × List ℕ) (rows : ℕ) (refusal : Option (List ℕ)) → CallsKeep who.merge → IsLawful who.merge
+    → who.party ≡ Worker w.number → Keeps who.merge world → WorkerHolds who.merge world w → DoesRun w a → IsLawfulCourse who world (output who.merge world.store.tables moment w a place range rows refusal)

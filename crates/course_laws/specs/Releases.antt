@@ -2,11 +2,11 @@
 use Rattle.std.specs.Prelude.{◌≡◌}
 use Rattle.fleet_model.specs.History.{Worker}
 use Rattle.fleet_model.specs.Parties.{LiveWorker}
-use Rattle.step_model.specs.Past.{Told}
+use Rattle.step_model.specs.Past.{World}
 use Rattle.step_model.specs.Rivals.{Caller}
 use Rattle.step_model.specs.CourseRuns.{IsLawfulCourse}
 use Rattle.step_model.specs.BeatSteps.{release_all}
 
 -- The step by which a worker gives its live attempts back is a lawful course over any store.
 abbrev pub ReleasesAreLawful : Type 0
-ReleasesAreLawful = (who : Caller) (told : Told) (w : LiveWorker) → who.party ≡ Worker w.number → IsLawfulCourse who told (release_all w)
+ReleasesAreLawful = (who : Caller) (world : World) (w : LiveWorker) → who.party ≡ Worker w.number → IsLawfulCourse who world (release_all w)

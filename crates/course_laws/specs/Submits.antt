@@ -3,7 +3,7 @@ use Rattle.std.specs.Prelude.{◌≡◌, ℕ, List}
 use Rattle.fleet_model.specs.Jobs.{JobSpec}
 use Rattle.fleet_model.specs.History.{Submitter}
 use Rattle.fleet_model.specs.Scheduler.{Scheduler, Request}
-use Rattle.step_model.specs.Past.{Told}
+use Rattle.step_model.specs.Past.{World}
 use Rattle.step_model.specs.Rivals.{Caller}
 use Rattle.step_model.specs.Keeps.{Keeps}
 use Rattle.step_model.specs.SubmitSteps.{submit, submit_request}
@@ -12,6 +12,6 @@ use Rattle.step_laws.specs.Runs.{CallsKeep}
 
 -- Submissions of jobs and of requests are lawful courses over any store that meets the invariant, if
 -- every lawful call keeps the invariant.
-pub record SubmitsAreLawful (who : Caller) (told : Told) : Type 0 where
-  pub submits : (moment : ℕ) (specs : List JobSpec) → CallsKeep who.merge → Keeps who.merge told → who.party ≡ Submitter → IsLawfulCourse who told (submit moment specs)
-  pub requests : (moment : ℕ) (asked : Scheduler) (request : Request) → CallsKeep who.merge → Keeps who.merge told → who.party ≡ Submitter → IsLawfulCourse who told (submit_request moment asked request)
+pub record SubmitsAreLawful (who : Caller) (world : World) : Type 0 where
+  pub submits : (moment : ℕ) (specs : List JobSpec) → CallsKeep who.merge → Keeps who.merge world → who.party ≡ Submitter → IsLawfulCourse who world (submit moment specs)
+  pub requests : (moment : ℕ) (asked : Scheduler) (request : Request) → CallsKeep who.merge → Keeps who.merge world → who.party ≡ Submitter → IsLawfulCourse who world (submit_request moment asked request)

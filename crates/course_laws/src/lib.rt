@@ -12,7 +12,7 @@ ghost use Rattle.course_laws.specs.Releases.{ReleasesAreLawful};
 ghost use Rattle.course_laws.specs.Starts.{StartsAreLawful};
 ghost use Rattle.course_laws.specs.Submits.{SubmitsAreLawful};
 ghost use Rattle.course_laws.specs.Sweeps.{SweepsAreLawful};
-ghost use Rattle.step_model.specs.Past.{Told};
+ghost use Rattle.step_model.specs.Past.{World};
 ghost use Rattle.step_model.specs.Rivals.{Caller};
 
 /// The start of a coordinator is a lawful course over any store.
@@ -26,7 +26,7 @@ pub fn releases_are_lawful()
 {}
 
 /// A worker's claim is a lawful course over any store that meets the invariant, if every lawful
-/// call keeps the invariant. The notes of plans that come behind its put are lawful too.
+/// call keeps the invariant. The notes of plans that come after its put are lawful too.
 pub fn claims_are_lawful()
     ensures { ClaimsAreLawful }
 {}
@@ -41,7 +41,7 @@ pub fn flushes_are_lawful()
 /// keeps the invariant. Each drawn id is new when the jobs are put, whatever others did since the
 /// draw.
 pub fn submits_are_lawful()
-    ensures { (who : Caller) (told : Told) → SubmitsAreLawful who told }
+    ensures { (who : Caller) (world : World) → SubmitsAreLawful who world }
 {}
 
 /// A sweep is a lawful course over a store that meets the invariant, if nobody else calls the store

@@ -18,20 +18,20 @@ use steps::{Step, count};
 const USAGE: u8 = 2;
 
 // The number of sources that a word says. There are two at least.
-fn sources_told(word: &str) -> Option<u64> {
+fn sources_in(word: &str) -> Option<u64> {
     let sources = word.parse::<u64>().ok()?;
     if sources < 2 { None } else { Some(sources) }
 }
 
 // The load and the step that the command line asks for. None if its words are not `N P STEP` or
 // `N P STEP SOURCES`.
-fn told(rt: &(impl Env + Alloc)) -> Option<(Load, Step)> {
+fn asked(rt: &(impl Env + Alloc)) -> Option<(Load, Step)> {
     let mut words = env::args(rt).ok()?.skip(1);
     let rows = words.next()?.parse::<u64>().ok()?;
     let operands = words.next()?.parse::<u64>().ok()?;
     let step = Step::named(words.next()?.as_str())?;
     let sources = match words.next() {
-        Some(word) => sources_told(word.as_str())?,
+        Some(word) => sources_in(word.as_str())?,
         None => SOURCES,
     };
     let load = Load {
@@ -46,7 +46,7 @@ fn told(rt: &(impl Env + Alloc)) -> Option<(Load, Step)> {
 }
 
 fn main(rt: HostRuntime) -> ExitCode {
-    let Some((load, step)) = told(&rt) else {
+    let Some((load, step)) = asked(&rt) else {
         return ExitCode::from(USAGE);
     };
     let Ok((rows, given)) = count(&rt, rt.alloc(), load, step) else {

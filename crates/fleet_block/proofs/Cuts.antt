@@ -11,7 +11,7 @@ use Rattle.row_model.specs.TableBytes.{blocks_of_rows, IsWritable}
 use Rattle.fleet_rows.specs.declared.row.RowEntry.{RowEntry}
 use Rattle.fleet_rows.specs.Row.{row_of, rows_of}
 use Rattle.fleet_block.specs.Cuts.{first_block_len}
-use Rattle.fleet_block.specs.Finds.{BeginOpen, IsBlock, joined}
+use Rattle.fleet_block.specs.Finds.{BeginOpen, IsBlock, joined_rows}
 
 pub all_take : {A : Type 0} (P : A → Type 0) (n : ℕ) (xs : List A) → AllByRecursion P xs → AllByRecursion P (take n xs)
 all_take P zero xs h = tt
@@ -77,7 +77,7 @@ onto_next size r (q ∷ more) n m at here rest =
     ap (with_row false r) (rest (λ e. cc e))
     ∙ ap (λ k. take k (r ∷ q ∷ more) ∷ blocks_of_rows 0 (drop k (r ∷ q ∷ more))) one
 
--- The first block is cut off, and the rows behind it are cut from its end on.
+-- The first block is cut off, and the rows after it are cut from its end on.
 cut_at_first : (filled : ℕ) (rows : List Row) (n : ℕ) → rows ≢ [] → n ≡ first_block_len filled rows → blocks_of_rows filled rows ≡ take n rows ∷ blocks_of_rows 0 (drop n rows)
 cut_at_first filled [] n some is = absurd (some refl)
 cut_at_first filled (r ∷ rows) n some is = by (nat_le block_bytes (filled + estimated_size r)) is (λ more. cut_at_first (filled + estimated_size r) rows (first_block_len (filled + estimated_size r) rows) more refl)
@@ -126,13 +126,13 @@ onward spelt so_far more block left later all cut before wrote =
 
 -- ---- all blocks
 
-joined_with : (full : Bool) (r : Row) (cut : List (List Row)) → joined (with_row full r cut) ≡ r ∷ joined cut
+joined_with : (full : Bool) (r : Row) (cut : List (List Row)) → joined_rows (with_row full r cut) ≡ r ∷ joined_rows cut
 joined_with true r cut = refl
 joined_with false r [] = refl
 joined_with false r (rows ∷ cut) = refl
 
 -- The blocks have all the rows, in order.
-pub joined_blocks : (filled : ℕ) (rows : List Row) → joined (blocks_of_rows filled rows) ≡ rows
+pub joined_blocks : (filled : ℕ) (rows : List Row) → joined_rows (blocks_of_rows filled rows) ≡ rows
 joined_blocks filled [] = refl
 joined_blocks filled (r ∷ rows) =
     joined_with (nat_le block_bytes (filled + estimated_size r)) r (blocks_of_rows (or_full (filled + estimated_size r)) rows)

@@ -10,12 +10,12 @@ use Rattle.row_model.specs.Bounds.{IsStampOrNone}
 use Rattle.row_model.specs.Rows.{Row, Content, Value, Merge, Tombstone}
 use Rattle.row_model.specs.Sizes.{content_len}
 use Rattle.row_model.specs.TableBytes.{blocks_of_rows, content_bytes, content_flag, header_bytes, key_bytes, row_bytes, row_flags, rows_bytes, shared_len, stamp_bytes, IsWritable}
-use Rattle.fleet_block.specs.Decoded.{block_in, blocks_in, content_in, decoded, header_in, key_in, many_in, number_in, part_in, row_in, stamp_in, value_in}
-use Rattle.fleet_block.specs.Finds.{IsBlock, joined}
+use Rattle.fleet_block.specs.Decoded.{block_in, blocks_in, content_in, decoded_rows, header_in, key_in, many_in, number_in, part_in, row_in, stamp_in, value_in}
+use Rattle.fleet_block.specs.Finds.{IsBlock, joined_rows}
 use Rattle.fleet_block.specs.Laws.{BytesAreDecoded}
 use Rattle.fleet_block.proofs.Blocks.{count_short}
 use Rattle.fleet_block.proofs.Cuts.{all_blocks, blocks_within, joined_blocks}
-use Rattle.fleet_block.proofs.Fields.{behind_created, behind_expires, behind_flags, behind_key, behind_seq, created_there, expires_there, kind_told, row_parts}
+use Rattle.fleet_block.proofs.Fields.{after_created, after_expires, after_flags, after_key, after_seq, created_there, expires_there, kind_told, row_parts}
 use Rattle.fleet_block.proofs.SharedKeys.{key_joined, shared_within}
 
 -- ---- numbers and parts
@@ -73,16 +73,16 @@ key first k others fits =
 
 row : (first : List ℕ) (r : Row) (others : List ℕ) → IsWritable r → row_in first (row_bytes first r ++ others) ≡ (r, others)
 row first r others fits =
-    let key_is = ap (key_in first) (row_parts first r others) ∙ key first r.key (behind_key r others) fits.in_bounds.key in
-    let seq_is = ap (λ read. number_in w64 read.1) key_is ∙ number_64 r.seq (behind_seq r others) fits.seq in
+    let key_is = ap (key_in first) (row_parts first r others) ∙ key first r.key (after_key r others) fits.in_bounds.key in
+    let seq_is = ap (λ read. number_in w64 read.1) key_is ∙ number_64 r.seq (after_seq r others) fits.seq in
     let created_is = ap (λ read. stamp_in (slice_index read.1 0 / 4 % 2 == 1) (drop 1 read.1)) seq_is
-    ∙ ap (λ there. stamp_in there (behind_flags r others)) (sym (created_there r (row_flags r) refl))
-    ∙ stamp r.created (behind_created r others) fits.created in
+    ∙ ap (λ there. stamp_in there (after_flags r others)) (sym (created_there r (row_flags r) refl))
+    ∙ stamp r.created (after_created r others) fits.created in
     let expires_is = (λ i. stamp_in (slice_index (seq_is i).1 0 / 8 % 2 == 1) (created_is i).1)
-    ∙ ap (λ there. stamp_in there (behind_created r others)) (sym (expires_there r (row_flags r) refl))
-    ∙ stamp r.expires (behind_expires r others) fits.expires in
+    ∙ ap (λ there. stamp_in there (after_created r others)) (sym (expires_there r (row_flags r) refl))
+    ∙ stamp r.expires (after_expires r others) fits.expires in
     let content_is = (λ i. content_in (slice_index (seq_is i).1 0 % 4) (expires_is i).1)
-    ∙ ap (λ kind. content_in kind (behind_expires r others)) (kind_told r (row_flags r) refl)
+    ∙ ap (λ kind. content_in kind (after_expires r others)) (kind_told r (row_flags r) refl)
     ∙ content r.content others fits.in_bounds.content in
     λ i. (record { key = (key_is i).0; content = (content_is i).0; seq = (seq_is i).0; created = (created_is i).0; expires = (expires_is i).0 }, (content_is i).1)
 
@@ -111,14 +111,14 @@ block (r ∷ rows) others fits =
 header : (rows : List Row) (others : List ℕ) → IsBlock rows → header_in (header_bytes rows ++ others) ≡ (length rows, others)
 header rows others fits = ap (λ count. (count.0, drop 8 count.1)) (number_16 (length rows) (to_be_bytes w64 (length (rows_bytes rows)) ++ others) (count_short rows fits.short))
 
-rows_of_blocks : (cut : List (List Row)) → AllByRecursion IsBlock cut → blocks_in (map length cut) (flat_map rows_bytes cut) ≡ joined cut
+rows_of_blocks : (cut : List (List Row)) → AllByRecursion IsBlock cut → blocks_in (map length cut) (flat_map rows_bytes cut) ≡ joined_rows cut
 rows_of_blocks [] fits = refl
 rows_of_blocks (rows ∷ cut) fits =
     ap (λ read. read.0 ++ blocks_in (map length cut) read.1) (block rows (flat_map rows_bytes cut) fits.0.writable)
     ∙ ap (λ rest. rows ++ rest) (rows_of_blocks cut fits.1)
 
 pub bytes_are_decoded : BytesAreDecoded
-unfolding decoded
+unfolding decoded_rows
 bytes_are_decoded rows fits few =
     let cut : List (List Row) = blocks_of_rows 0 rows in
     let within = blocks_within 0 rows in

@@ -62,20 +62,20 @@ kind_told r flags is = ap (λ n. n % 4) is ∙ kind_flag r.content r.created r.e
 -- ---- parts
 
 -- What follows each part of a row.
-abbrev pub behind_expires : Row → List ℕ → List ℕ
-behind_expires r others = content_bytes r.content ++ others
+abbrev pub after_expires : Row → List ℕ → List ℕ
+after_expires r others = content_bytes r.content ++ others
 
-abbrev pub behind_created : Row → List ℕ → List ℕ
-behind_created r others = stamp_bytes r.expires ++ behind_expires r others
+abbrev pub after_created : Row → List ℕ → List ℕ
+after_created r others = stamp_bytes r.expires ++ after_expires r others
 
-abbrev pub behind_flags : Row → List ℕ → List ℕ
-behind_flags r others = stamp_bytes r.created ++ behind_created r others
+abbrev pub after_flags : Row → List ℕ → List ℕ
+after_flags r others = stamp_bytes r.created ++ after_created r others
 
-abbrev pub behind_seq : Row → List ℕ → List ℕ
-behind_seq r others = row_flags r ∷ behind_flags r others
+abbrev pub after_seq : Row → List ℕ → List ℕ
+after_seq r others = row_flags r ∷ after_flags r others
 
-abbrev pub behind_key : Row → List ℕ → List ℕ
-behind_key r others = to_be_bytes w64 r.seq ++ behind_seq r others
+abbrev pub after_key : Row → List ℕ → List ℕ
+after_key r others = to_be_bytes w64 r.seq ++ after_seq r others
 
 four_parts : (head created expires content others : List ℕ) → (head ++ created ++ expires ++ content) ++ others ≡ head ++ (created ++ (expires ++ (content ++ others)))
 four_parts head created expires content others =
@@ -83,7 +83,7 @@ four_parts head created expires content others =
     ∙ append_assoc (head ++ created) expires (content ++ others)
     ∙ append_assoc head created (expires ++ (content ++ others))
 
-pub row_parts : (first : List ℕ) (r : Row) (others : List ℕ) → row_bytes first r ++ others ≡ key_bytes (shared_len first r.key) r.key ++ behind_key r others
+pub row_parts : (first : List ℕ) (r : Row) (others : List ℕ) → row_bytes first r ++ others ≡ key_bytes (shared_len first r.key) r.key ++ after_key r others
 row_parts first r others =
     append_assoc (key_bytes (shared_len first r.key) r.key) (fields_bytes r) others
     ∙ ap (λ xs. key_bytes (shared_len first r.key) r.key ++ xs) (four_parts (to_be_bytes w64 r.seq ++ row_flags r ∷ []) (stamp_bytes r.created) (stamp_bytes r.expires) (content_bytes r.content) others)

@@ -30,7 +30,7 @@ value_passed : (v bytes others : List ℕ) (place next len : ℕ) → length v <
 value_passed v bytes others place next len fits found =
     sym (drop-drop len next bytes) ∙ ap (drop len) found.1 ∙ drop_at v others len (sym found.0)
 
--- The number in front of a value is its length, so the value ends that far behind it.
+-- The number in front of a value is its length, so the value ends that far after it.
 pub content_passed : (x : Content) (flags : ℕ) (bytes others : List ℕ) (place next len : ℕ) → content_len x < 2 ^ 32 → flags % 4 ≡ content_flag x → (flags % 4 ≡ 1 → ⊥) → drop place bytes ≡ content_bytes x ++ others
     → Finds (λ n. n) (to_be_bytes w32) (λ n. n < 2 ^ 32) bytes place (Some (len, next)) → drop (next + len) bytes ≡ others
 content_passed (Value v) flags bytes others place next len fits kind some e finds = value_passed v bytes others place next len fits (finds (length v) (v ++ others) fits e)

@@ -46,7 +46,7 @@ module _ {V : Type 0} (of : V → List Row) (first bytes : List ℕ) (place fill
       (finds r (flat_map (row_bytes first) rows ++ others) fits.writable.0 (e ∙ append_assoc (row_bytes first r) (flat_map (row_bytes first) rows) others)) in
       absurd (out (subst IsInBounds (sym here.0) fits.writable.0.in_bounds))
 
-  -- The next row was read, so the others may be read behind it.
+  -- The next row was read, so the others may be read after it.
   pub onward : (left less : ℕ) → left ≡ less + 1 → (found : Option (RowEntry × ℕ)) (row : RowEntry) (next : ℕ) → found ≡ Some (row, next) → Finds row_of (row_bytes first) IsWritable bytes place found
       → (more : List Row) → more ≡ before ++ row_of row ∷ [] → (size : ℕ) → size ≡ filled + estimated_size (row_of row) → (all : Option (V × ℕ)) → FindsLater of first size less more bytes next all → FindsLater of first filled left before bytes place all
   onward left less one found row next is finds more pushed size sized all rest [] others fits e = let counted = fits.counted in absurd (omega arith)
@@ -81,7 +81,7 @@ module _ {V : Type 0} (of : V → List Row) (bytes : List ℕ) (place count : �
       (finds r (flat_map (row_bytes r.key) rows ++ others) fits.writable.0 (e ∙ append_assoc (row_bytes [] r) (flat_map (row_bytes r.key) rows) others)) in
       absurd (out (subst IsInBounds (sym here.0) fits.writable.0.in_bounds))
 
-  -- The block's first row was read, so the others may be read behind it.
+  -- The block's first row was read, so the others may be read after it.
   pub block_begun : (less : ℕ) → count ≡ less + 1 → (found : Option (RowEntry × ℕ)) (row : RowEntry) (next : ℕ) → found ≡ Some (row, next) → Finds row_of (row_bytes []) IsWritable bytes place found
       → (first : List ℕ) → first ≡ row.key → (before : List Row) → before ≡ row_of row ∷ [] → (size : ℕ) → size ≡ estimated_size (row_of row) → (all : Option (V × ℕ)) → FindsLater of first size less before bytes next all → Finds of rows_bytes (AreRows 0 count) bytes place all
   block_begun less one found row next is finds first named before pushed size sized all rest [] others fits e = let counted = fits.counted in absurd (omega arith)

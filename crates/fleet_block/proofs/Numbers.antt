@@ -15,7 +15,7 @@ pub number_8 : (x : ℕ) (text bytes others part : List ℕ) (place n : ℕ) →
 number_8 x text bytes others part place n fits e same front is =
     (is ∙ ap (from_be_bytes w64) (front ∙ ap (take 8) (take_rest text place ∙ ap (drop place) same ∙ e)) ∙ from_be_bytes-to_be_bytes_8 x fits, sym (drop-drop 8 place bytes) ∙ ap (drop 8) e)
 
--- The bytes of a value that are read behind its length.
+-- The bytes of a value that are read after its length.
 pub part_found : (v bytes others part : List ℕ) (place len : ℕ) → len ≡ length v → drop place bytes ≡ v ++ others → part ≡ slice_range bytes place (place + len)
     → (part ≡ v) × (drop (place + len) bytes ≡ others)
 part_found v bytes others part place len measured e is =

@@ -5,7 +5,7 @@ use Rattle.std.specs.List.{flat_map}
 use Rattle.std.proofs.lemmas.List.{append_assoc, length-append}
 use Rattle.row_model.specs.Rows.{Row}
 use Rattle.row_model.specs.TableBytes.{rows_bytes}
-use Rattle.fleet_block.specs.Finds.{joined}
+use Rattle.fleet_block.specs.Finds.{joined_rows}
 use Rattle.fleet_block.specs.Places.{places_from}
 use Rattle.fleet_block.specs.declared.place.BlockPlace.{BlockPlace}
 
@@ -14,13 +14,13 @@ places_count row place [] = refl
 places_count row place (b ∷ cut) = let rest = places_count (row + length b) (place + length (rows_bytes b)) cut in omega (arith, rest)
 
 -- The places so far and those of the other blocks are all places, also once the next block was placed.
-pub placed : (so_far more : List BlockPlace) (row place next behind : ℕ) (block : List Row) (left later : List (List Row)) (all : List BlockPlace)
-    → left ≡ block ∷ later → so_far ++ places_from row place left ≡ all → more ≡ so_far ++ record { row = row; place = place } ∷ [] → next ≡ row + length block → behind ≡ place + length (rows_bytes block)
-    → more ++ places_from next behind later ≡ all
-placed so_far more row place next behind block left later all cut before pushed counted measured =
-    ap (λ ps. ps ++ places_from next behind later) pushed
-    ∙ append_assoc so_far (record { row = row; place = place } ∷ []) (places_from next behind later)
-    ∙ ap (λ n. so_far ++ record { row = row; place = place } ∷ places_from n behind later) counted
+pub placed : (so_far more : List BlockPlace) (row place next afterwards : ℕ) (block : List Row) (left later : List (List Row)) (all : List BlockPlace)
+    → left ≡ block ∷ later → so_far ++ places_from row place left ≡ all → more ≡ so_far ++ record { row = row; place = place } ∷ [] → next ≡ row + length block → afterwards ≡ place + length (rows_bytes block)
+    → more ++ places_from next afterwards later ≡ all
+placed so_far more row place next afterwards block left later all cut before pushed counted measured =
+    ap (λ ps. ps ++ places_from next afterwards later) pushed
+    ∙ append_assoc so_far (record { row = row; place = place } ∷ []) (places_from next afterwards later)
+    ∙ ap (λ n. so_far ++ record { row = row; place = place } ∷ places_from n afterwards later) counted
     ∙ ap (λ n. so_far ++ record { row = row; place = place } ∷ places_from (row + length block) n later) measured
     ∙ ap (λ bs. so_far ++ places_from row place bs) (sym cut)
     ∙ before
@@ -33,7 +33,7 @@ pub record IsBlockFrom (start offset : ℕ) (cut : List (List Row)) (block row p
   pub after : List (List Row)
   pub all : cut ≡ before ++ here ∷ after
   pub blocks : block ≡ length before
-  pub rows : row ≡ start + length (joined before)
+  pub rows : row ≡ start + length (joined_rows before)
   pub bytes : place ≡ offset + length (flat_map rows_bytes before)
 
 block_from : (start offset : ℕ) (cut : List (List Row)) (i : ℕ) (d p : BlockPlace) → i < length cut → p ≡ slice_index_or (places_from start offset cut) i d → IsBlockFrom start offset cut i p.row p.place
@@ -49,7 +49,7 @@ block_from start offset (b ∷ cut) zero d p within is = record {
 }
 block_from start offset (b ∷ cut) (suc i) d p within is =
     let rest = block_from (start + length b) (offset + length (rows_bytes b)) cut i d p (omega arith) is in
-    let counted = length-append b (joined rest.before) in
+    let counted = length-append b (joined_rows rest.before) in
     let measured = length-append (rows_bytes b) (flat_map rows_bytes rest.before) in
     let one = rest.rows in
     let two = rest.bytes in

@@ -27,8 +27,8 @@ enough_left cut bytes header e =
     let heads = headers_len cut in
     omega (arith, all, parts, heads, length-drop header bytes)
 
-pub rows_behind : (cut : List (List Row)) (bytes : List ℕ) (header count : ℕ) → count ≡ length cut → drop header bytes ≡ flat_map header_bytes cut ++ flat_map rows_bytes cut → drop (header + count * 10) bytes ≡ flat_map rows_bytes cut ++ []
-rows_behind cut bytes header count counted e =
+pub rows_after : (cut : List (List Row)) (bytes : List ℕ) (header count : ℕ) → count ≡ length cut → drop header bytes ≡ flat_map header_bytes cut ++ flat_map rows_bytes cut → drop (header + count * 10) bytes ≡ flat_map rows_bytes cut ++ []
+rows_after cut bytes header count counted e =
     let heads = headers_len cut in
     sym (drop-drop (count * 10) header bytes)
     ∙ ap (drop (count * 10)) e

@@ -1,5 +1,5 @@
 -- The rows that stand in the bytes of a table. All functions are total: of bytes that are no table's they say
--- nothing of use. A reader gives the value that stands at the front of some bytes, and the bytes behind it.
+-- nothing of use. A reader gives the value that stands at the front of some bytes, and the bytes after it.
 use Rattle.std.specs.Prelude.{ℕ, zero, suc, ◌%◌, ◌/◌, ◌==◌, Bool, true, false, if◌then◌else◌, ℤ, List, [], ◌∷◌, ◌++◌, take, drop, slice_index, Option, Some, None}
 use Rattle.std.specs.Int.{Width, w16, w32, w64, byte_len, from_be_bytes, cast_signed}
 use Rattle.row_model.specs.Rows.{Row, Content, Value, Merge, Tombstone}
@@ -71,8 +71,8 @@ blocks_in [] bytes = []
 blocks_in (count ∷ counts) bytes = let block = block_in count bytes in block.0 ++ blocks_in counts block.1
 
 -- The rows of a table with these bytes: the number of blocks, then the headers, then the rows of each block.
-unfoldable pub decoded : List ℕ → List Row
-decoded bytes =
+unfoldable pub decoded_rows : List ℕ → List Row
+decoded_rows bytes =
     let count = number_in w64 bytes in
     let counts = many_in header_in count.0 count.1 in
     blocks_in counts.0 counts.1

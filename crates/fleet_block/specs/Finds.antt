@@ -5,7 +5,7 @@ use Rattle.row_model.specs.Rows.{Row}
 use Rattle.row_model.specs.Sizes.{block_bytes, estimated_size}
 use Rattle.row_model.specs.TableBytes.{bytes_of_blocks, header_bytes, row_bytes, rows_bytes, IsWritable}
 
--- The reader found this value, and behind it are the other bytes.
+-- The reader found this value, and after it are the other bytes.
 abbrev pub IsFound : {A V : Type 0} → (V → A) → A → List ℕ → List ℕ → Option (V × ℕ) → Type 0
 IsFound view x others bytes None = ⊥
 IsFound view x others bytes (Some found) = (view found.0 ≡ x) × (drop found.1 bytes ≡ others)
@@ -26,7 +26,7 @@ pub record AreRows (filled count : ℕ) (rows : List Row) : Type 0 where
   pub begun : BeginOpen filled rows
   pub counted : length rows ≡ count
 
--- The reader finds so many rows of a block with this first key, and puts them behind other rows, which have
+-- The reader finds so many rows of a block with this first key, and puts them after other rows, which have
 -- `filled` bytes.
 abbrev pub FindsLater : {V : Type 0} → (V → List Row) → List ℕ → ℕ → ℕ → List Row → List ℕ → ℕ → Option (V × ℕ) → Type 0
 FindsLater view first filled count before bytes place found = (rows : List Row) (others : List ℕ) → AreRows filled count rows → drop place bytes ≡ flat_map (row_bytes first) rows ++ others → IsFound view (before ++ rows) others bytes found
@@ -42,19 +42,19 @@ pub record AreBlocks (count : ℕ) (cut : List (List Row)) : Type 0 where
   pub blocks : AllByRecursion IsBlock cut
   pub counted : length cut ≡ count
 
-abbrev pub joined : List (List Row) → List Row
-joined cut = flat_map (λ rows. rows) cut
+abbrev pub joined_rows : List (List Row) → List Row
+joined_rows cut = flat_map (λ rows. rows) cut
 
--- The reader finds so many blocks, whose headers and rows begin at two places, and puts their rows behind
+-- The reader finds so many blocks, whose headers and rows begin at two places, and puts their rows after
 -- other rows.
 abbrev pub FindsBlocks : {V : Type 0} → (V → List Row) → ℕ → List Row → List ℕ → ℕ → ℕ → Option (V × ℕ) → Type 0
-FindsBlocks view count before bytes header place found = (cut : List (List Row)) (behind others : List ℕ) → AreBlocks count cut
-    → drop header bytes ≡ flat_map header_bytes cut ++ behind → drop place bytes ≡ flat_map rows_bytes cut ++ others → IsFound view (before ++ joined cut) others bytes found
+FindsBlocks view count before bytes header place found = (cut : List (List Row)) (after others : List ℕ) → AreBlocks count cut
+    → drop header bytes ≡ flat_map header_bytes cut ++ after → drop place bytes ≡ flat_map rows_bytes cut ++ others → IsFound view (before ++ joined_rows cut) others bytes found
 
 -- The reader finds the rows of the blocks that are written in the bytes.
 abbrev pub FindsAll : {V : Type 0} → (V → List Row) → List ℕ → Option V → Type 0
 FindsAll view bytes None = (cut : List (List Row)) → AllByRecursion IsBlock cut → bytes ≢ bytes_of_blocks cut
-FindsAll view bytes (Some rows) = (cut : List (List Row)) → AllByRecursion IsBlock cut → bytes ≡ bytes_of_blocks cut → view rows ≡ joined cut
+FindsAll view bytes (Some rows) = (cut : List (List Row)) → AllByRecursion IsBlock cut → bytes ≡ bytes_of_blocks cut → view rows ≡ joined_rows cut
 
 -- What was read of all bytes: the value that is spelt so, or nothing where no value is.
 pub record Reads {A V : Type 0} (view : V → A) (spelt : A → List ℕ) (Fits : A → Type 0) (bytes : List ℕ) (found : Option V) : Type 0 where

@@ -11,7 +11,7 @@ use bytes::Bytes;
 use fleet_rows::{RowEntry, SlateDBError};
 use std::alloc::Global;
 
-/// The rows of the block that begins at this place and has so many rows, and the place behind it.
+/// The rows of the block that begins at this place and has so many rows, and the place after it.
 /// Where no such block is written, the answer is None or any rows. The only error is `Memory`.
 pub fn block_at(
     alloc: Global,
@@ -49,8 +49,8 @@ pub fn block_at(
     )
 }
 
-// Reads so many further rows of a block with this first key, and puts them behind the other rows,
-// which have `filled` bytes. It reads none behind the row with which the block is full, so it never
+// Reads so many further rows of a block with this first key, and puts them after the other rows,
+// which have `filled` bytes. It reads none after the row with which the block is full, so it never
 // copies a long first key more often than a block can hold it.
 fn later_at(
     alloc: Global,

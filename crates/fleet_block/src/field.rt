@@ -24,7 +24,7 @@ pub(crate) struct KeyParts {
 }
 
 /// Where the key at this place stands, which may share bytes with the block's first key, and the
-/// place behind it.
+/// place after it.
 pub(crate) fn key_parts_at(bytes: &Bytes, place: usize, first: &[u8]) -> Option<(KeyParts, usize)>
     requires { place ≤ length bytes.now }
     ensures found { Finds (key_of first.now bytes.now)
@@ -49,7 +49,7 @@ pub(crate) fn key_parts_at(bytes: &Bytes, place: usize, first: &[u8]) -> Option<
     Some((KeyParts { shared, start, len }, start + len))
 }
 
-/// The key at this place, which may share bytes with the block's first key, and the place behind
+/// The key at this place, which may share bytes with the block's first key, and the place after
 /// it.
 pub(crate) fn key_at(
     alloc: Global,
@@ -93,7 +93,7 @@ fn joined(
     Ok(Bytes::from_vec(key)?)
 }
 
-/// The stamp at this place, if it is there, and the place behind it.
+/// The stamp at this place, if it is there, and the place after it.
 pub(crate) fn stamp_at(bytes: &Bytes, place: usize, is_there: bool) -> Option<(Option<i64>, usize)>
     requires { place ≤ length bytes.now }
     ensures found { Finds (λ s. s) stamp_bytes (λ s. IsStampOrNone s × (is_some s ≡ is_there))
@@ -107,7 +107,7 @@ pub(crate) fn stamp_at(bytes: &Bytes, place: usize, is_there: bool) -> Option<(O
     Some((Some(number.cast_signed()), place))
 }
 
-/// The content at this place, of the kind that the flags tell, and the place behind it.
+/// The content at this place, of the kind that the flags tell, and the place after it.
 pub(crate) fn content_at(
     bytes: &Bytes,
     place: usize,

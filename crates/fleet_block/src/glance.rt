@@ -10,7 +10,7 @@ use bytes::Bytes;
 use std::cmp::Ordering;
 
 /// How the key of the row at this place compares with a key, the sequence of the row, and the place
-/// behind the row. The row stands in a block with this first key, and the block's first row is read
+/// after the row. The row stands in a block with this first key, and the block's first row is read
 /// after the empty key. Where no row is written so, the answer is None or anything.
 pub fn compared_at(
     bytes: &Bytes,
@@ -48,7 +48,7 @@ fn joined_cmp(front: &[u8], rest: &[u8], key: &[u8]) -> Ordering
     }
 }
 
-// The place behind the fields of a row that follow its sequence.
+// The place after the fields of a row that follow its sequence.
 fn fields_end(bytes: &Bytes, place: usize) -> Option<usize>
     requires { place ≤ length bytes.now }
     ensures passed { PassesFields bytes.now place result }
@@ -66,7 +66,7 @@ fn fields_end(bytes: &Bytes, place: usize) -> Option<usize>
     content_end(bytes, place, flags)
 }
 
-// The place behind the content of a row.
+// The place after the content of a row.
 fn content_end(bytes: &Bytes, place: usize, flags: u8) -> Option<usize>
     requires { place ≤ length bytes.now }
     ensures passed { PassesContent flags bytes.now place result }

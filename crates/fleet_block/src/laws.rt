@@ -26,7 +26,7 @@ pub fn rows_are_cut_into_blocks()
     ensures { RowsAreCutIntoBlocks }
 {}
 
-/// The rows of a block stand behind the number of blocks, the headers, and the rows of the blocks
+/// The rows of a block stand after the number of blocks, the headers, and the rows of the blocks
 /// before it.
 pub fn blocks_stand_in_bytes()
     ensures { BlocksStandInBytes }

@@ -1,4 +1,4 @@
-//! Writing numbers and rows behind other bytes.
+//! Writing numbers and rows after other bytes.
 
 ghost use Rattle.std.specs.Prelude.{◌≡◌, ◌++◌, ◌<◌, ◌≤◌, ◌^◌, length, IsOkUnless, OnOk};
 ghost use Rattle.std.specs.Int.{w16, w32, w64, to_be_bytes};

@@ -80,10 +80,10 @@ fn blocks_at(
     let mut place = place;
     let mut left = count;
     'left: while 0 < left {
-        let Some((len, behind)) = u16_at(bytes, header) else {
+        let Some((len, after)) = u16_at(bytes, header) else {
             return Ok(None);
         };
-        let Some((_, behind)) = u64_at(bytes, behind) else {
+        let Some((_, after)) = u64_at(bytes, after) else {
             return Ok(None);
         };
         if MAX_BLOCK_ROWS < len {
@@ -93,7 +93,7 @@ fn blocks_at(
             return Ok(None);
         };
         append(&mut rows, block)?;
-        header = behind;
+        header = after;
         place = next;
         left -= 1;
     }

@@ -11,7 +11,7 @@ use bytes::Bytes;
 use fleet_rows::{RowEntry, SlateDBError};
 use std::alloc::Global;
 
-/// The row at this place in a block with this first key, and the place behind it. The block's first
+/// The row at this place in a block with this first key, and the place after it. The block's first
 /// row is read after the empty key. Where no row is written so, the answer is None or any row. The
 /// only error is `Memory`.
 pub fn row_at(

@@ -5,7 +5,7 @@ use Rattle.std.specs.List.{AllByRecursion}
 use Rattle.std.proofs.lemmas.List.Elements.{filter-append}
 use Rattle.row_laws.proofs.Elements.{all_weaken}
 use Rattle.fleet_model.specs.Nodes.{NodeName, L0, Run, Node, Tree, Segment, name_eq, names_contain}
-use Rattle.fleet_model.specs.Trees.{by_first_key, l0_or, on_segment, source_nodes, source_pieces, stepped, stepped_in, to_run, watermark_after, with_run_for, without}
+use Rattle.fleet_model.specs.Trees.{by_first_key, l0_or, on_segment, source_nodes, source_pieces, stepped_tree, stepped_in, to_run, watermark_after, with_run_for, without_nodes}
 use Rattle.fleet_model.specs.Trees as model
 use Rattle.fleet_tree.specs.Trees.{RunFlushes, flush_node, run_node, tree_of, trees_of, trees_with_prefix}
 use Rattle.fleet_tree.specs.Trees as table
@@ -29,32 +29,32 @@ named_is name (s ∷ sources) = by (name_eq (name_of s) name) (named_is name sou
     by false rest = rest
 
 module _ (flushes : ℕ → List ℕ) (sources : List SourceId) where
-  without_views : (views : List View) → without (map name_of sources) (map (flush_node flushes) views) ≡ map (flush_node flushes) (kept_views sources views)
+  without_views : (views : List View) → without_nodes (map name_of sources) (map (flush_node flushes) views) ≡ map (flush_node flushes) (kept_views sources views)
   without_views [] = refl
   without_views (v ∷ views) =
-      ap (λ b. cond (not b) (flush_node flushes v ∷ without (map name_of sources) (map (flush_node flushes) views)) (without (map name_of sources) (map (flush_node flushes) views))) (named_is (L0 v.id) sources)
+      ap (λ b. cond (not b) (flush_node flushes v ∷ without_nodes (map name_of sources) (map (flush_node flushes) views)) (without_nodes (map name_of sources) (map (flush_node flushes) views))) (named_is (L0 v.id) sources)
       ∙ by (is_named sources (L0 v.id)) (without_views views)
     where
-      by : (b : Bool) → without (map name_of sources) (map (flush_node flushes) views) ≡ map (flush_node flushes) (kept_views sources views)
-          → cond (not b) (flush_node flushes v ∷ without (map name_of sources) (map (flush_node flushes) views)) (without (map name_of sources) (map (flush_node flushes) views)) ≡ map (flush_node flushes) (cond (not b) (v ∷ kept_views sources views) (kept_views sources views))
+      by : (b : Bool) → without_nodes (map name_of sources) (map (flush_node flushes) views) ≡ map (flush_node flushes) (kept_views sources views)
+          → cond (not b) (flush_node flushes v ∷ without_nodes (map name_of sources) (map (flush_node flushes) views)) (without_nodes (map name_of sources) (map (flush_node flushes) views)) ≡ map (flush_node flushes) (cond (not b) (v ∷ kept_views sources views) (kept_views sources views))
       by true rest = rest
       by false rest = ap (λ t. flush_node flushes v ∷ t) rest
 
-  without_runs : (runs : List SortedRun) → without (map name_of sources) (map (run_node flushes) runs) ≡ map (run_node flushes) (kept_runs sources runs)
+  without_runs : (runs : List SortedRun) → without_nodes (map name_of sources) (map (run_node flushes) runs) ≡ map (run_node flushes) (kept_runs sources runs)
   without_runs [] = refl
   without_runs (r ∷ runs) =
-      ap (λ b. cond (not b) (run_node flushes r ∷ without (map name_of sources) (map (run_node flushes) runs)) (without (map name_of sources) (map (run_node flushes) runs))) (named_is (Run r.id) sources)
+      ap (λ b. cond (not b) (run_node flushes r ∷ without_nodes (map name_of sources) (map (run_node flushes) runs)) (without_nodes (map name_of sources) (map (run_node flushes) runs))) (named_is (Run r.id) sources)
       ∙ by (is_named sources (Run r.id)) (without_runs runs)
     where
-      by : (b : Bool) → without (map name_of sources) (map (run_node flushes) runs) ≡ map (run_node flushes) (kept_runs sources runs)
-          → cond (not b) (run_node flushes r ∷ without (map name_of sources) (map (run_node flushes) runs)) (without (map name_of sources) (map (run_node flushes) runs)) ≡ map (run_node flushes) (cond (not b) (r ∷ kept_runs sources runs) (kept_runs sources runs))
+      by : (b : Bool) → without_nodes (map name_of sources) (map (run_node flushes) runs) ≡ map (run_node flushes) (kept_runs sources runs)
+          → cond (not b) (run_node flushes r ∷ without_nodes (map name_of sources) (map (run_node flushes) runs)) (without_nodes (map name_of sources) (map (run_node flushes) runs)) ≡ map (run_node flushes) (cond (not b) (r ∷ kept_runs sources runs) (kept_runs sources runs))
       by true rest = rest
       by false rest = ap (λ t. run_node flushes r ∷ t) rest
 
-  pub drained : (t : LsmTreeState) → tree_of flushes (finished_tree sources None t) ≡ without (map name_of sources) (tree_of flushes t)
+  pub drained : (t : LsmTreeState) → tree_of flushes (finished_tree sources None t) ≡ without_nodes (map name_of sources) (tree_of flushes t)
   drained t =
       sym (filter-append (λ node. not (names_contain (map name_of sources) node.name)) (map (flush_node flushes) t.l0) (map (run_node flushes) t.compacted)
-      ∙ ap (λ vs. vs ++ without (map name_of sources) (map (run_node flushes) t.compacted)) (without_views t.l0)
+      ∙ ap (λ vs. vs ++ without_nodes (map name_of sources) (map (run_node flushes) t.compacted)) (without_views t.l0)
       ∙ ap (λ rs. map (flush_node flushes) (kept_views sources t.l0) ++ rs) (without_runs t.compacted))
 
   no_mark : (mark : Option ℕ) (runs : List SortedRun) → watermark_after (map name_of sources) (map (run_node flushes) runs) mark ≡ mark
@@ -106,7 +106,7 @@ module _ (before after : ℕ → List ℕ) where
       → AllByRecursion IsKept (kept_runs sources t.compacted)
       → tree_of after (finished_tree sources (Some output) t) ≡ with_run_for (map name_of sources) output.id (view_tables output.views) (tree_of before t)
   joined sources output t gathered kept =
-      sym (ap (λ fl. model.put_run output.id (record { name = Run output.id; flushes = fl; pieces = view_tables output.views }) (without (map name_of sources) (tree_of before t))) (sym gathered)
+      sym (ap (λ fl. model.put_run output.id (record { name = Run output.id; flushes = fl; pieces = view_tables output.views }) (without_nodes (map name_of sources) (tree_of before t))) (sym gathered)
       ∙ ap (λ tr. model.put_run output.id (run_node after output) tr) (sym (drained before sources t))
       ∙ put_past output.id (run_node after output) (map (run_node before) (kept_runs sources t.compacted)) (kept_views sources t.l0)
       ∙ ap (λ rs. map (flush_node before) (kept_views sources t.l0) ++ rs) (put_runs output (kept_runs sources t.compacted) kept))
@@ -142,8 +142,8 @@ all_of (x ∷ xs) each = (each x, all_of xs each)
 
 pub drains_are_the_models : DrainsAreTheModels
 drains_are_the_models flushes tables outputs job core =
-    maps (table.segment_of flushes) (segment_after job.spec None) (on_segment (segment_of job.spec) (names_of job.spec) (without (names_of job.spec))) (table.segment_of flushes) (trees_with_prefix core)
-    (all_of (trees_with_prefix core) (λ s. segment_is flushes flushes job.spec None (without (names_of job.spec)) s.0 s.1 (λ e. drained (flushes s.0) (sources_of job.spec) s.1) (λ e. refl)))
+    maps (table.segment_of flushes) (segment_after job.spec None) (on_segment (segment_of job.spec) (names_of job.spec) (without_nodes (names_of job.spec))) (table.segment_of flushes) (trees_with_prefix core)
+    (all_of (trees_with_prefix core) (λ s. segment_is flushes flushes job.spec None (without_nodes (names_of job.spec)) s.0 s.1 (λ e. drained (flushes s.0) (sources_of job.spec) s.1) (λ e. refl)))
 
 module _ (before after : RunFlushes) (spec : CompactionSpec) (output : SortedRun) where
   kept_in : (b : Bool) (s : List ℕ × LsmTreeState) → bytes_eq (segment_of spec) s.0 ≡ b → FlushesFollow before after spec output.id s

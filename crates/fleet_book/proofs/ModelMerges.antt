@@ -25,29 +25,29 @@ looked id (job ∷ jobs) = ap (λ b. cond b (Some (job_of job)) (job_with id (jo
     by true rest = refl
     by false rest = rest
 
-unreplaced : (new : JobParts) (jobs : List JobParts) → AllByRecursion (Above new.id) jobs → model.replaced (job_of new) (jobs_of jobs) ≡ jobs_of jobs
+unreplaced : (new : JobParts) (jobs : List JobParts) → AllByRecursion (Above new.id) jobs → model.with_replaced (job_of new) (jobs_of jobs) ≡ jobs_of jobs
 unreplaced new [] all = refl
 unreplaced new (job ∷ jobs) all = by (new.id == job.id) refl (unreplaced new jobs all.1)
   where
-    by : (b : Bool) → (new.id == job.id) ≡ b → model.replaced (job_of new) (jobs_of jobs) ≡ jobs_of jobs → cond b (job_of new) (job_of job) ∷ model.replaced (job_of new) (jobs_of jobs) ≡ job_of job ∷ jobs_of jobs
+    by : (b : Bool) → (new.id == job.id) ≡ b → model.with_replaced (job_of new) (jobs_of jobs) ≡ jobs_of jobs → cond b (job_of new) (job_of job) ∷ model.with_replaced (job_of new) (jobs_of jobs) ≡ job_of job ∷ jobs_of jobs
     by true e rest = let same = eqb-true new.id job.id e in let high = all.0 in absurd (omega (arith, same, high))
     by false e rest = ap (λ (js : Jobs). job_of job ∷ js) rest
 
 -- A record that replaces another one replaces its job in the model.
-replaced_is : (new there : JobParts) (jobs : List JobParts) → AreRising jobs → record_with new.id jobs ≡ Some there → jobs_of (put_record new jobs) ≡ model.replaced (job_of new) (jobs_of jobs)
+replaced_is : (new there : JobParts) (jobs : List JobParts) → AreRising jobs → record_with new.id jobs ≡ Some there → jobs_of (put_record new jobs) ≡ model.with_replaced (job_of new) (jobs_of jobs)
 replaced_is new there [] up is = absurd (cc is)
 replaced_is new there (job ∷ jobs) up is = by (nat_lt job.id new.id) (job.id == new.id) refl refl is (λ later. replaced_is new there jobs up.1 later)
   where
     by : (b c : Bool) → nat_lt job.id new.id ≡ b → (job.id == new.id) ≡ c → cond c (Some job) (record_with new.id jobs) ≡ Some there
-        → (record_with new.id jobs ≡ Some there → jobs_of (put_record new jobs) ≡ model.replaced (job_of new) (jobs_of jobs))
-        → jobs_of (cond b (job ∷ put_record new jobs) (cond c (new ∷ jobs) (new ∷ job ∷ jobs))) ≡ cond (new.id == job.id) (job_of new) (job_of job) ∷ model.replaced (job_of new) (jobs_of jobs)
+        → (record_with new.id jobs ≡ Some there → jobs_of (put_record new jobs) ≡ model.with_replaced (job_of new) (jobs_of jobs))
+        → jobs_of (cond b (job ∷ put_record new jobs) (cond c (new ∷ jobs) (new ∷ job ∷ jobs))) ≡ cond (new.id == job.id) (job_of new) (job_of job) ∷ model.with_replaced (job_of new) (jobs_of jobs)
     by true true e f is rest = let low = ltb-true job.id new.id e in let same = eqb-true job.id new.id f in absurd (omega (arith, low, same))
     by true false e f is rest =
-        ap (λ (js : Jobs). job_of job ∷ js) (rest is) ∙ sym (ap (λ b. cond b (job_of new) (job_of job) ∷ model.replaced (job_of new) (jobs_of jobs)) (nat_eq_equiv.symm new.id job.id ∙ f))
+        ap (λ (js : Jobs). job_of job ∷ js) (rest is) ∙ sym (ap (λ b. cond b (job_of new) (job_of job) ∷ model.with_replaced (job_of new) (jobs_of jobs)) (nat_eq_equiv.symm new.id job.id ∙ f))
     by false true e f is rest =
         let high : AllByRecursion (Above new.id) jobs = subst (λ n. AllByRecursion (Above n) jobs) (eqb-true job.id new.id f) up.0 in
         ap (λ (js : Jobs). job_of new ∷ js) (sym (unreplaced new jobs high))
-        ∙ sym (ap (λ b. cond b (job_of new) (job_of job) ∷ model.replaced (job_of new) (jobs_of jobs)) (nat_eq_equiv.symm new.id job.id ∙ f))
+        ∙ sym (ap (λ b. cond b (job_of new) (job_of job) ∷ model.with_replaced (job_of new) (jobs_of jobs)) (nat_eq_equiv.symm new.id job.id ∙ f))
     by false false e f is rest =
         let low = ltb-false job.id new.id e in
         let apart = eqb-false job.id new.id f in
@@ -71,7 +71,7 @@ one_taken jobs s up = by (record_with s.id jobs) refl
         ∙ sym (ap (λ o. model.take_in (job_of s) o (jobs_of jobs)) (looked s.id jobs ∙ ap (option_map job_of) is)))
     by (Some own) is =
         ap (λ t. jobs_of (cond t (put_record s jobs) jobs)) (ap (λ o. takes o s) is)
-        ∙ (put (model.adopts (status_of own.status) (status_of s.status)) (model.replaced (job_of s) (jobs_of jobs)) (replaced_is s own jobs up is)
+        ∙ (put (model.adopts (status_of own.status) (status_of s.status)) (model.with_replaced (job_of s) (jobs_of jobs)) (replaced_is s own jobs up is)
         ∙ sym (ap (λ o. model.take_in (job_of s) o (jobs_of jobs)) (looked s.id jobs ∙ ap (option_map job_of) is)))
 
 pub rising_with : (jobs : List JobParts) (s : JobParts) → AreRising jobs → AreRising (with_stored jobs s)

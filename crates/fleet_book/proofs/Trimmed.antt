@@ -2,7 +2,7 @@
 use Rattle.std.proofs.Common.{◌≡◌, refl, sym, ◌∙◌, ap, List, [], ◌∷◌, Bool, true, false, cond, not, ◌||◌, arith}
 use Rattle.std.specs.Prelude.{◌==◌, nat_lt, Some, None}
 use Rattle.std.proofs.lemmas.Bool.{ltb-true, ltb-false, le-ltb, lt-ltb, eqb-false}
-use Rattle.fleet_model.specs.Jobs.{Jobs, is_finished, finished_later, trimmed, put_job}
+use Rattle.fleet_model.specs.Jobs.{Jobs, is_finished, finished_later, trimmed_jobs, put_job}
 use Rattle.fleet_jobs.specs.JobParts.{JobParts}
 use Rattle.fleet_jobs.specs.Jobs.{job_of, jobs_of}
 use Rattle.fleet_book.specs.Records.{kept_records, over_later, put_record, record_with}
@@ -17,17 +17,17 @@ later_same (job ∷ jobs) = by (is_finished (status_of job.status)) (later_same 
     by false e = e
 
 -- The records that are kept are the jobs that the model keeps.
-pub trimmed_is : (jobs : List JobParts) → jobs_of (kept_records jobs) ≡ trimmed (jobs_of jobs)
+pub trimmed_is : (jobs : List JobParts) → jobs_of (kept_records jobs) ≡ trimmed_jobs (jobs_of jobs)
 trimmed_is [] = refl
 trimmed_is (job ∷ jobs) = by (is_finished (status_of job.status)) (over_later jobs) (later_same jobs) (trimmed_is jobs)
   where
-    by : (b later : Bool) → finished_later (jobs_of jobs) ≡ later → jobs_of (kept_records jobs) ≡ trimmed (jobs_of jobs)
+    by : (b later : Bool) → finished_later (jobs_of jobs) ≡ later → jobs_of (kept_records jobs) ≡ trimmed_jobs (jobs_of jobs)
         → jobs_of (cond (not b) (job ∷ kept_records jobs) (cond later (kept_records jobs) (job ∷ kept_records jobs)))
-        ≡ cond (cond b false true) (job_of job ∷ trimmed (jobs_of jobs)) (cond (finished_later (jobs_of jobs)) (trimmed (jobs_of jobs)) (job_of job ∷ trimmed (jobs_of jobs)))
+        ≡ cond (cond b false true) (job_of job ∷ trimmed_jobs (jobs_of jobs)) (cond (finished_later (jobs_of jobs)) (trimmed_jobs (jobs_of jobs)) (job_of job ∷ trimmed_jobs (jobs_of jobs)))
     by false later e same = ap (λ (js : Jobs). job_of job ∷ js) same
-    by true true e same = same ∙ sym (ap (λ l. cond l (trimmed (jobs_of jobs)) (job_of job ∷ trimmed (jobs_of jobs))) e)
+    by true true e same = same ∙ sym (ap (λ l. cond l (trimmed_jobs (jobs_of jobs)) (job_of job ∷ trimmed_jobs (jobs_of jobs))) e)
     by true false e same =
-        ap (λ (js : Jobs). job_of job ∷ js) same ∙ sym (ap (λ l. cond l (trimmed (jobs_of jobs)) (job_of job ∷ trimmed (jobs_of jobs))) e)
+        ap (λ (js : Jobs). job_of job ∷ js) same ∙ sym (ap (λ l. cond l (trimmed_jobs (jobs_of jobs)) (job_of job ∷ trimmed_jobs (jobs_of jobs))) e)
 
 -- A record under a new id is put where the model puts its job.
 pub put_job_is : (new : JobParts) (jobs : List JobParts) → record_with new.id jobs ≡ None → jobs_of (put_record new jobs) ≡ put_job (job_of new) (jobs_of jobs)

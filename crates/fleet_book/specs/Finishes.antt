@@ -116,8 +116,8 @@ core_after job output core = record core {
 }
 
 -- The coordinator's state after the job is finished. The job is Completed.
-abbrev pub finished : JobParts → Option SortedRun → StateParts → StateParts
-finished job output state = record {
+abbrev pub finished_state : JobParts → Option SortedRun → StateParts → StateParts
+finished_state job output state = record {
   manifest = with_core (core_after job output state.manifest.manifest.core) state.manifest;
   compactions = with_jobs (put_record (with_status own.Completed job) (own_jobs state)) state.compactions;
 }

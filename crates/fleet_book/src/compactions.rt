@@ -2,7 +2,7 @@
 
 ghost use Rattle.std.specs.Prelude.{◌≡◌, [], IfOk, IfSome, IsOkUnless, IsSome, OnErr, OnOk};
 ghost use Rattle.std.specs.Option.{option_copied};
-ghost use Rattle.fleet_model.specs.Jobs.{trimmed};
+ghost use Rattle.fleet_model.specs.Jobs.{trimmed_jobs};
 ghost use Rattle.fleet_jobs.specs.Jobs.{jobs_of, with_status};
 ghost use Rattle.fleet_book.specs.Versions.{with_jobs};
 ghost use Rattle.fleet_book.specs.Records.{AreRising, kept_records, put_record, record_with};
@@ -61,7 +61,7 @@ impl Compactions {
     pub fn retain_active_and_last_finished(&mut self)
         ensures kept { self.new ≡ record self.old { jobs = kept_records self.old.jobs } }
         // These are the jobs that the model keeps.
-        ensures model { jobs_of self.new.jobs ≡ trimmed (jobs_of self.old.jobs) }
+        ensures model { jobs_of self.new.jobs ≡ trimmed_jobs (jobs_of self.old.jobs) }
     {
         self.jobs.retain_active_and_last_finished();
     }

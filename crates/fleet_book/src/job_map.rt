@@ -3,7 +3,7 @@
 ghost use Rattle.std.specs.Prelude.{◌≡◌, ◌==◌, ◌<◌, ◌++◌, [], ◌∷◌, ◌||◌, if◌then◌else◌, None, Some, false, filter, find, fold, length, nat_lt, slice_get, slice_set, take_while, IfOk, IfSome, IsSome, IsOkUnless, OnErr, OnOk};
 ghost use Rattle.std.specs.Cmp.Lexicographic.{pointwise, lists_per, lists_equiv};
 ghost use Rattle.std.specs.Option.{option_copied, option_map_or};
-ghost use Rattle.fleet_model.specs.Jobs.{trimmed};
+ghost use Rattle.fleet_model.specs.Jobs.{trimmed_jobs};
 ghost use Rattle.fleet_jobs.specs.Jobs.{is_open, jobs_of, with_status};
 ghost use Rattle.fleet_jobs.specs.contracts.compaction.CompactionEq.TheImpl.Laws as job_equiv;
 ghost use Rattle.fleet_jobs.specs.contracts.compaction.CompactionPartialEq.TheImpl.Laws as job_eq;
@@ -122,7 +122,7 @@ impl JobMap {
     /// Drops each job that is over, except the one with the greatest id.
     pub fn retain_active_and_last_finished(&mut self)
         ensures kept { self.new ≡ kept_records self.old }
-        ensures model { jobs_of self.new ≡ trimmed (jobs_of self.old) }
+        ensures model { jobs_of self.new ≡ trimmed_jobs (jobs_of self.old) }
     {
         let last = last_finished(self.jobs.as_slice());
         retain(&mut self.jobs, last);

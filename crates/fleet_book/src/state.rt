@@ -6,7 +6,7 @@ ghost use Rattle.fleet_model.specs.Jobs.{put_job};
 ghost use Rattle.fleet_model.specs.Polls.{clashes, same_target};
 ghost use Rattle.step_model.specs.Merging.{adopts};
 ghost use Rattle.fleet_jobs.specs.JobParts.{JobParts};
-ghost use Rattle.fleet_book.specs.Finishes.{finished, merged_manifest};
+ghost use Rattle.fleet_book.specs.Finishes.{finished_state, merged_manifest};
 ghost use Rattle.fleet_jobs.specs.Jobs.{is_open, job_of, jobs_of, with_status};
 ghost use Rattle.fleet_book.specs.Records.{put_record, record_with};
 ghost use Rattle.fleet_jobs.specs.Specs.{destination_of, segment_of, spec_of};
@@ -173,7 +173,7 @@ impl CompactorState {
         requires run { ForSome (record_with id (own_jobs self.old))
             (λ job. destination_of job.spec ≡ Some output.id) }
         ensures ok { OnOk result (IfSome (record_with id (own_jobs self.old))
-            (λ job. self.new ≡ finished job (Some output) self.old)) }
+            (λ job. self.new ≡ finished_state job (Some output) self.old)) }
         ensures err { OnErr result (self.new ≡ self.old) }
         ensures memory { IsOkUnless result SlateDBError.Memory }
     {
@@ -187,7 +187,7 @@ impl CompactorState {
         requires drain { ForSome (record_with id (own_jobs self.old))
             (λ job. destination_of job.spec ≡ None) }
         ensures ok { OnOk result (IfSome (record_with id (own_jobs self.old))
-            (λ job. self.new ≡ finished job None self.old)) }
+            (λ job. self.new ≡ finished_state job None self.old)) }
         ensures err { OnErr result (self.new ≡ self.old) }
         ensures memory { IsOkUnless result SlateDBError.Memory }
     {
@@ -203,7 +203,7 @@ impl CompactorState {
     ) -> Result<(), SlateDBError>
         requires { IsSome (record_with id (own_jobs self.old)) }
         ensures ok { OnOk result (IfSome (record_with id (own_jobs self.old))
-            (λ job. self.new ≡ finished job (option_copied output.entry) self.old)) }
+            (λ job. self.new ≡ finished_state job (option_copied output.entry) self.old)) }
         ensures err { OnErr result (self.new ≡ self.old) }
         ensures memory { IsOkUnless result SlateDBError.Memory }
     {

@@ -5,16 +5,16 @@ use Rattle.std.specs.List.{AllByRecursion, prefix_len}
 use Rattle.std.proofs.lemmas.Bool.{eqb-true, eqb-false, eq-eqb}
 use Rattle.row_model.specs.Lists.{Pairs}
 use Rattle.fleet_exec.specs.ExecutorParts.{ActiveParts}
-use Rattle.fleet_exec.specs.Executors.{AreDistinct, IsChanged, OthersStay, job_ids, job_with}
+use Rattle.fleet_exec.specs.Executors.{AreDistinct, IsChanged, OthersStay, job_ids, active_job_with}
 
 abbrev Avoids : ℕ → List ActiveParts → Type 0
 Avoids id jobs = AllByRecursion (λ other. id ≢ other) (job_ids jobs)
 
-avoids_from_none : (id : ℕ) (jobs : List ActiveParts) → job_with id jobs ≡ None → Avoids id jobs
+avoids_from_none : (id : ℕ) (jobs : List ActiveParts) → active_job_with id jobs ≡ None → Avoids id jobs
 avoids_from_none id [] none = tt
 avoids_from_none id (job ∷ jobs) none = by (job.args.id == id) refl none (λ later. avoids_from_none id jobs later)
   where
-    by : (b : Bool) → (job.args.id == id) ≡ b → cond b (Some job) (job_with id jobs) ≡ None → (job_with id jobs ≡ None → Avoids id jobs) → (id ≢ job.args.id) × Avoids id jobs
+    by : (b : Bool) → (job.args.id == id) ≡ b → cond b (Some job) (active_job_with id jobs) ≡ None → (active_job_with id jobs ≡ None → Avoids id jobs) → (id ≢ job.args.id) × Avoids id jobs
     by true e is rest = absurd (cc is)
     by false e is rest = (λ same. eqb-false job.args.id id e (sym same), rest is)
 
@@ -27,11 +27,11 @@ apart a b other = by (a == b) refl
 
 -- ---- a job that starts
 
-pub found_last : (id : ℕ) (jobs : List ActiveParts) (job : ActiveParts) → job_with id jobs ≡ None → job.args.id ≡ id → job_with id (jobs ++ job ∷ []) ≡ Some job
+pub found_last : (id : ℕ) (jobs : List ActiveParts) (job : ActiveParts) → active_job_with id jobs ≡ None → job.args.id ≡ id → active_job_with id (jobs ++ job ∷ []) ≡ Some job
 found_last id [] job none own = ap (λ b. cond b (Some job) None) (eq-eqb job.args.id id own)
 found_last id (first ∷ jobs) job none own = by (first.args.id == id) none (λ later. found_last id jobs job later own)
   where
-    by : (b : Bool) → cond b (Some first) (job_with id jobs) ≡ None → (job_with id jobs ≡ None → job_with id (jobs ++ job ∷ []) ≡ Some job) → cond b (Some first) (job_with id (jobs ++ job ∷ [])) ≡ Some job
+    by : (b : Bool) → cond b (Some first) (active_job_with id jobs) ≡ None → (active_job_with id jobs ≡ None → active_job_with id (jobs ++ job ∷ []) ≡ Some job) → cond b (Some first) (active_job_with id (jobs ++ job ∷ [])) ≡ Some job
     by true is rest = absurd (cc is)
     by false is rest = rest is
 
@@ -43,7 +43,7 @@ avoids_last : (id : ℕ) (jobs : List ActiveParts) (job : ActiveParts) → Avoid
 avoids_last id [] job all differs = (differs, tt)
 avoids_last id (first ∷ jobs) job all differs = (all.0, avoids_last id jobs job all.1 differs)
 
-pub distinct_last : (jobs : List ActiveParts) (job : ActiveParts) → AreDistinct jobs → job_with job.args.id jobs ≡ None → AreDistinct (jobs ++ job ∷ [])
+pub distinct_last : (jobs : List ActiveParts) (job : ActiveParts) → AreDistinct jobs → active_job_with job.args.id jobs ≡ None → AreDistinct (jobs ++ job ∷ [])
 distinct_last jobs job distinct none = put jobs distinct (avoids_from_none job.args.id jobs none)
   where
     put : (others : List ActiveParts) → AreDistinct others → Avoids job.args.id others → AreDistinct (others ++ job ∷ [])
@@ -52,19 +52,19 @@ distinct_last jobs job distinct none = put jobs distinct (avoids_from_none job.a
 
 -- The job is found under its id, the other jobs stay, and no two have one id.
 pub record IsAdded (id : ℕ) (job : ActiveParts) (old new : List ActiveParts) : Type 0 where
-  pub found : job_with id new ≡ Some job
+  pub found : active_job_with id new ≡ Some job
   pub others : OthersStay id old new
   pub distinct : AreDistinct new
 
-pub is_added : (id : ℕ) (old jobs new : List ActiveParts) (job : ActiveParts) → jobs ≡ old → AreDistinct jobs → IsNone (job_with id old) → job.args.id ≡ id → new ≡ jobs ++ job ∷ [] → IsAdded id job old new
+pub is_added : (id : ℕ) (old jobs new : List ActiveParts) (job : ActiveParts) → jobs ≡ old → AreDistinct jobs → IsNone (active_job_with id old) → job.args.id ≡ id → new ≡ jobs ++ job ∷ [] → IsAdded id job old new
 is_added id old jobs new job is distinct none own made =
-    let free = none_is (job_with id old) none in
-    let here = ap (job_with id) is ∙ free in
+    let free = none_is (active_job_with id old) none in
+    let here = ap (active_job_with id) is ∙ free in
     subst (IsAdded id job old) (sym made)
     record {
       found = found_last id jobs job here own;
       others = subst (λ js. OthersStay id js (jobs ++ job ∷ [])) is (others_before id jobs job own);
-      distinct = distinct_last jobs job distinct (ap (λ n. job_with n jobs) own ∙ here);
+      distinct = distinct_last jobs job distinct (ap (λ n. active_job_with n jobs) own ∙ here);
     }
   where
     none_is : (o : Option ActiveParts) → IsNone o → o ≡ None
@@ -85,23 +85,23 @@ is_some-map f (Some x) = refl
 abbrev pub without : ℕ → List ActiveParts → List ActiveParts
 without id jobs = filter (λ job. not (job.args.id == id)) jobs
 
-pub none_left : (id : ℕ) (jobs : List ActiveParts) → job_with id (without id jobs) ≡ None
+pub none_left : (id : ℕ) (jobs : List ActiveParts) → active_job_with id (without id jobs) ≡ None
 none_left id [] = refl
 none_left id (job ∷ jobs) = by (job.args.id == id) refl (none_left id jobs)
   where
-    by : (b : Bool) → (job.args.id == id) ≡ b → job_with id (without id jobs) ≡ None → job_with id (cond (not b) (job ∷ without id jobs) (without id jobs)) ≡ None
+    by : (b : Bool) → (job.args.id == id) ≡ b → active_job_with id (without id jobs) ≡ None → active_job_with id (cond (not b) (job ∷ without id jobs) (without id jobs)) ≡ None
     by true e rest = rest
-    by false e rest = ap (λ c. cond c (Some job) (job_with id (without id jobs))) e ∙ rest
+    by false e rest = ap (λ c. cond c (Some job) (active_job_with id (without id jobs))) e ∙ rest
 
 pub others_left : (id : ℕ) (jobs : List ActiveParts) → OthersStay id jobs (without id jobs)
 others_left id [] other differs = refl
 others_left id (job ∷ jobs) other differs = by (job.args.id == id) refl (others_left id jobs other differs)
   where
-    by : (b : Bool) → (job.args.id == id) ≡ b → job_with other (without id jobs) ≡ job_with other jobs
-        → job_with other (cond (not b) (job ∷ without id jobs) (without id jobs)) ≡ job_with other (job ∷ jobs)
+    by : (b : Bool) → (job.args.id == id) ≡ b → active_job_with other (without id jobs) ≡ active_job_with other jobs
+        → active_job_with other (cond (not b) (job ∷ without id jobs) (without id jobs)) ≡ active_job_with other (job ∷ jobs)
     by true e rest =
         let gone = apart job.args.id other (λ same. differs (sym same ∙ eqb-true job.args.id id e)) in
-        rest ∙ sym (ap (λ c. cond c (Some job) (job_with other jobs)) gone)
+        rest ∙ sym (ap (λ c. cond c (Some job) (active_job_with other jobs)) gone)
     by false e rest = ap (λ o. cond (job.args.id == other) (Some job) o) rest
 
 avoids_without : (x id : ℕ) (jobs : List ActiveParts) → Avoids x jobs → Avoids x (without id jobs)
@@ -125,12 +125,12 @@ all_left id [] all = refl
 all_left id (job ∷ jobs) all =
     ap (λ b. cond (not b) (job ∷ without id jobs) (without id jobs)) (apart job.args.id id (λ same. all.0 (sym same))) ∙ ap (λ js. job ∷ js) (all_left id jobs all.1)
 
-pub count_without : (id : ℕ) (jobs : List ActiveParts) → AreDistinct jobs → length jobs ≡ length (without id jobs) + cond (is_some (job_with id jobs)) 1 0
+pub count_without : (id : ℕ) (jobs : List ActiveParts) → AreDistinct jobs → length jobs ≡ length (without id jobs) + cond (is_some (active_job_with id jobs)) 1 0
 count_without id [] distinct = refl
 count_without id (job ∷ jobs) distinct = by (job.args.id == id) refl (count_without id jobs distinct.1)
   where
-    by : (b : Bool) → (job.args.id == id) ≡ b → length jobs ≡ length (without id jobs) + cond (is_some (job_with id jobs)) 1 0
-        → suc (length jobs) ≡ length (cond (not b) (job ∷ without id jobs) (without id jobs)) + cond (is_some (cond b (Some job) (job_with id jobs))) 1 0
+    by : (b : Bool) → (job.args.id == id) ≡ b → length jobs ≡ length (without id jobs) + cond (is_some (active_job_with id jobs)) 1 0
+        → suc (length jobs) ≡ length (cond (not b) (job ∷ without id jobs) (without id jobs)) + cond (is_some (cond b (Some job) (active_job_with id jobs))) 1 0
     by true e rest =
         let same = ap length (all_left id jobs (subst (λ k. Avoids k jobs) (eqb-true job.args.id id e) distinct.0)) in
         omega (arith, same)
@@ -142,20 +142,20 @@ abbrev pub place_in : ℕ → List ActiveParts → ℕ
 place_in id jobs = prefix_len (λ job. not (job.args.id == id)) jobs
 
 -- At the place that is looked up stands the job that is found.
-pub found_at : (id : ℕ) (jobs : List ActiveParts) → slice_get jobs (place_in id jobs) ≡ job_with id jobs
+pub found_at : (id : ℕ) (jobs : List ActiveParts) → slice_get jobs (place_in id jobs) ≡ active_job_with id jobs
 found_at id [] = refl
 found_at id (job ∷ jobs) = by (job.args.id == id) (found_at id jobs)
   where
-    by : (b : Bool) → slice_get jobs (place_in id jobs) ≡ job_with id jobs → slice_get (job ∷ jobs) (cond (not b) (1 + place_in id jobs) 0) ≡ cond b (Some job) (job_with id jobs)
+    by : (b : Bool) → slice_get jobs (place_in id jobs) ≡ active_job_with id jobs → slice_get (job ∷ jobs) (cond (not b) (1 + place_in id jobs) 0) ≡ cond b (Some job) (active_job_with id jobs)
     by true rest = refl
     by false rest = let e : 1 + place_in id jobs ≡ suc (place_in id jobs) = omega arith in ap (slice_get (job ∷ jobs)) e ∙ rest
 
 pub is_changed : (change : ActiveParts → ActiveParts) → ((job : ActiveParts) → (change job).args.id ≡ job.args.id) → (id : ℕ) (jobs : List ActiveParts) (job : ActiveParts)
-    → job_with id jobs ≡ Some job → IsChanged id change jobs (slice_set jobs (place_in id jobs) (change job))
+    → active_job_with id jobs ≡ Some job → IsChanged id change jobs (slice_set jobs (place_in id jobs) (change job))
 is_changed change keeps id [] job found = absurd (cc found)
 is_changed change keeps id (first ∷ jobs) job found = by (first.args.id == id) refl found (λ later. is_changed change keeps id jobs job later)
   where
-    by : (b : Bool) → (first.args.id == id) ≡ b → cond b (Some first) (job_with id jobs) ≡ Some job → (job_with id jobs ≡ Some job → IsChanged id change jobs (slice_set jobs (place_in id jobs) (change job)))
+    by : (b : Bool) → (first.args.id == id) ≡ b → cond b (Some first) (active_job_with id jobs) ≡ Some job → (active_job_with id jobs ≡ Some job → IsChanged id change jobs (slice_set jobs (place_in id jobs) (change job)))
         → IsChanged id change (first ∷ jobs) (slice_set (first ∷ jobs) (cond (not b) (1 + place_in id jobs) 0) (change job))
     by true e is rest =
         let same : first ≡ job = cc is in
@@ -163,13 +163,13 @@ is_changed change keeps id (first ∷ jobs) job found = by (first.args.id == id)
         let its = eqb-true first.args.id id e in
         record {
           found =
-              ap (λ c. cond c (Some (change job)) (job_with id jobs)) (eq-eqb (change job).args.id id (own ∙ its))
+              ap (λ c. cond c (Some (change job)) (active_job_with id jobs)) (eq-eqb (change job).args.id id (own ∙ its))
               ∙ ap (λ j. Some (change j)) (sym same)
-              ∙ ap (λ c. option_map change (cond c (Some first) (job_with id jobs))) (sym e);
+              ∙ ap (λ c. option_map change (cond c (Some first) (active_job_with id jobs))) (sym e);
           others =
               λ other differs.
-              ap (λ c. cond c (Some (change job)) (job_with other jobs)) (apart (change job).args.id other (λ k. differs (sym k ∙ own ∙ its)))
-              ∙ sym (ap (λ c. cond c (Some first) (job_with other jobs)) (apart first.args.id other (λ k. differs (sym k ∙ its))));
+              ap (λ c. cond c (Some (change job)) (active_job_with other jobs)) (apart (change job).args.id other (λ k. differs (sym k ∙ own ∙ its)))
+              ∙ sym (ap (λ c. cond c (Some first) (active_job_with other jobs)) (apart first.args.id other (λ k. differs (sym k ∙ its))));
           count = refl;
           same = ap (λ n. n ∷ job_ids jobs) own;
         }
@@ -180,24 +180,24 @@ is_changed change keeps id (first ∷ jobs) job found = by (first.args.id == id)
         subst (λ n. IsChanged id change (first ∷ jobs) (slice_set (first ∷ jobs) n (change job))) (sym at)
         record {
           found =
-              ap (λ c. cond c (Some first) (job_with id made)) e
+              ap (λ c. cond c (Some first) (active_job_with id made)) e
               ∙ later.found
-              ∙ ap (λ c. option_map change (cond c (Some first) (job_with id jobs))) (sym e);
+              ∙ ap (λ c. option_map change (cond c (Some first) (active_job_with id jobs))) (sym e);
           others = λ other differs. ap (λ o. cond (first.args.id == other) (Some first) o) (later.others other differs);
           count = ap suc later.count;
           same = ap (λ ns. first.args.id ∷ ns) later.same;
         }
 
-pub at_place : (id place : ℕ) (jobs : List ActiveParts) → place ≡ place_in id jobs → slice_get jobs place ≡ job_with id jobs
+pub at_place : (id place : ℕ) (jobs : List ActiveParts) → place ≡ place_in id jobs → slice_get jobs place ≡ active_job_with id jobs
 at_place id place jobs at = ap (slice_get jobs) at ∙ found_at id jobs
 
 -- The job at the place that is looked up is changed.
 pub is_changed_at : (change : ActiveParts → ActiveParts) → ((job : ActiveParts) → (change job).args.id ≡ job.args.id) → (P : ActiveParts → Type 0) (id place : ℕ) (jobs new : List ActiveParts)
-    → place ≡ place_in id jobs → IsSomeAnd (job_with id jobs) P → IfSome (slice_get jobs place) (λ job. new ≡ slice_set jobs place (change job)) → IsChanged id change jobs new
+    → place ≡ place_in id jobs → IsSomeAnd (active_job_with id jobs) P → IfSome (slice_get jobs place) (λ job. new ≡ slice_set jobs place (change job)) → IsChanged id change jobs new
 is_changed_at change keeps P id place jobs new at there set =
-    by (job_with id jobs) refl there (subst (λ o. IfSome o (λ job. new ≡ slice_set jobs place (change job))) (at_place id place jobs at) set)
+    by (active_job_with id jobs) refl there (subst (λ o. IfSome o (λ job. new ≡ slice_set jobs place (change job))) (at_place id place jobs at) set)
   where
-    by : (o : Option ActiveParts) → job_with id jobs ≡ o → IsSomeAnd o P → IfSome o (λ job. new ≡ slice_set jobs place (change job)) → IsChanged id change jobs new
+    by : (o : Option ActiveParts) → active_job_with id jobs ≡ o → IsSomeAnd o P → IfSome o (λ job. new ≡ slice_set jobs place (change job)) → IsChanged id change jobs new
     by None e some made = absurd some
     by (Some job) e some made = subst (IsChanged id change jobs) (sym (made ∙ ap (λ n. slice_set jobs n (change job)) at)) (is_changed change keeps id jobs job e)
 

@@ -22,7 +22,7 @@ use Rattle.row_laws.proofs.KeptReads.{both_there, mapped_there}
 use Rattle.row_laws.proofs.Sources.{all_put}
 use Rattle.fleet_iter.specs.Iteration.{from_key}
 use Rattle.fleet_fold.proofs.AllKept.{all-both, all_key_kept, AllChunks}
-use Rattle.fleet_exec.specs.Ranges.{source_rows, ranged, rows_from}
+use Rattle.fleet_exec.specs.Ranges.{source_rows, ranged_sources, rows_from}
 use Rattle.fleet_exec.proofs.Opened.{flat_in}
 
 abbrev AreInBounds : List Row → Type 0
@@ -160,12 +160,12 @@ from_bounds key (r ∷ rows) h = by (is_below key r) (from_bounds key rows h.1)
     by true rest = rest
     by false rest = h
 
-merged_bounds : (range : Range) (sources : List (List (List Row))) → AreInBounds (flat_map source_rows sources) → AreInBounds (merged_rows (ranged range sources))
+merged_bounds : (range : Range) (sources : List (List (List Row))) → AreInBounds (flat_map source_rows sources) → AreInBounds (merged_rows (ranged_sources range sources))
 merged_bounds range sources h =
-    sorted_bounds (flat_map (λ rows. rows) (ranged range sources))
+    sorted_bounds (flat_map (λ rows. rows) (ranged_sources range sources))
     (subst AreInBounds (sym (flat_in range sources)) (all_filter IsInBounds (λ r. is_in_range range r.key) (flat_map source_rows sources) h))
 
 -- If the sources' rows are in bounds, so are their rows in a range from a cursor's key on.
 pub range_bounds : (range : Range) (cursor : Option Cursor) (sources : List (List (List Row))) → AllByRecursion IsInBounds (flat_map source_rows sources) → AllByRecursion IsInBounds (rows_from range cursor sources)
 range_bounds range None sources h = merged_bounds range sources h
-range_bounds range (Some cursor) sources h = from_bounds cursor.0 (merged_rows (ranged range sources)) (merged_bounds range sources h)
+range_bounds range (Some cursor) sources h = from_bounds cursor.0 (merged_rows (ranged_sources range sources)) (merged_bounds range sources h)

@@ -14,12 +14,12 @@ use Rattle.row_model.specs.Tables.{with_row, cut_from, cut_tables}
 use Rattle.fleet_rows.specs.Row.{row_of, rows_of}
 use Rattle.fleet_rows.specs.declared.row.RowEntry.{RowEntry}
 use Rattle.fleet_exec.specs.Cut.{open_with, before_tables, TakesTable}
-use Rattle.fleet_exec.specs.Taking.{left_behind, ReadsOn, Takes}
+use Rattle.fleet_exec.specs.Taking.{left_after, ReadsOn, Takes}
 
 -- If one row is taken, it is the first of the rows left.
 pub first_left : (cursor : Option Cursor) (old new : IteratorState) (o : Option RowEntry) (row : RowEntry) → Takes 1 cursor old (option_to_list o) new → o ≡ Some row
-    → left_behind cursor old.rows ≡ row_of row ∷ left_behind cursor new.rows
-first_left cursor old new o row takes is = takes.rows ∙ ap (λ (o : Option RowEntry). rows_of (option_to_list o) ++ left_behind cursor new.rows) is
+    → left_after cursor old.rows ≡ row_of row ∷ left_after cursor new.rows
+first_left cursor old new o row takes is = takes.rows ∙ ap (λ (o : Option RowEntry). rows_of (option_to_list o) ++ left_after cursor new.rows) is
 
 -- Reading rows and then further rows is reading rows.
 pub reads_further : {a b c : IteratorState} → ReadsOn a b → ReadsOn b c → ReadsOn a c
@@ -99,20 +99,20 @@ rows_filled (row ∷ table) some = λ none. cc none
 
 module _ (size : ℕ) (cursor : Option Cursor) (s new : IteratorState) (table : List RowEntry) (takes : TakesTable size cursor s table new) (some : table ≢ []) where
   abbrev C : IteratorState → List (List Row)
-  C t = cut_tables size (left_behind cursor t.rows)
+  C t = cut_tables size (left_after cursor t.rows)
 
   pub one_more_table : C s ≡ rows_of table ∷ C new
   one_more_table = takes.tables ∙ before_filled (rows_of table) (C new) (rows_filled table some)
 
-  pub goes_on_behind : (done more all : List (List Row)) → all ≡ done ++ C s → more ≡ done ++ rows_of table ∷ [] → all ≡ more ++ C new
-  goes_on_behind done more all so_far is =
+  pub goes_on_after : (done more all : List (List Row)) → all ≡ done ++ C s → more ≡ done ++ rows_of table ∷ [] → all ≡ more ++ C new
+  goes_on_after done more all so_far is =
       so_far ∙ (ap (λ (w : List (List Row)). done ++ w) one_more_table ∙ (sym (append_assoc done (rows_of table ∷ []) (C new)) ∙ ap (λ (w : List (List Row)). w ++ C new) (sym is)))
 
-  pub stays_bounded : AllByRecursion IsInBounds (left_behind cursor s.rows) → AllByRecursion IsInBounds (left_behind cursor new.rows)
+  pub stays_bounded : AllByRecursion IsInBounds (left_after cursor s.rows) → AllByRecursion IsInBounds (left_after cursor new.rows)
   stays_bounded h =
-      let flat : left_behind cursor s.rows ≡ rows_of table ++ left_behind cursor new.rows =
-      sym (cut_flat size 0 (left_behind cursor s.rows)) ∙ (ap (flat_map (λ t. t)) one_more_table ∙ ap (λ (w : List Row). rows_of table ++ w) (cut_flat size 0 (left_behind cursor new.rows))) in
-      back (rows_of table) (left_behind cursor new.rows) (subst (AllByRecursion IsInBounds) flat h)
+      let flat : left_after cursor s.rows ≡ rows_of table ++ left_after cursor new.rows =
+      sym (cut_flat size 0 (left_after cursor s.rows)) ∙ (ap (flat_map (λ t. t)) one_more_table ∙ ap (λ (w : List Row). rows_of table ++ w) (cut_flat size 0 (left_after cursor new.rows))) in
+      back (rows_of table) (left_after cursor new.rows) (subst (AllByRecursion IsInBounds) flat h)
     where
       back : (xs ys : List Row) → AllByRecursion IsInBounds (xs ++ ys) → AllByRecursion IsInBounds ys
       back [] ys h = h
@@ -122,6 +122,6 @@ module _ (size : ℕ) (cursor : Option Cursor) (s new : IteratorState) (table : 
   fewer_tables = let same : length (C s) ≡ length (rows_of table ∷ C new) = ap length one_more_table in omega (arith, same)
 
 pub no_more_tables : (size : ℕ) (cursor : Option Cursor) (s new : IteratorState) (table : List RowEntry) (done all : List (List Row)) → TakesTable size cursor s table new → table ≡ []
-    → all ≡ done ++ cut_tables size (left_behind cursor s.rows) → done ≡ all
+    → all ≡ done ++ cut_tables size (left_after cursor s.rows) → done ≡ all
 no_more_tables size cursor s new table done all takes none so_far =
-    sym (so_far ∙ (ap (λ (w : List (List Row)). done ++ w) (takes.tables ∙ ap (λ (w : List RowEntry). before_tables (rows_of w) (cut_tables size (left_behind cursor new.rows))) none) ∙ append-nil done))
+    sym (so_far ∙ (ap (λ (w : List (List Row)). done ++ w) (takes.tables ∙ ap (λ (w : List RowEntry). before_tables (rows_of w) (cut_tables size (left_after cursor new.rows))) none) ∙ append-nil done))

@@ -36,13 +36,13 @@ module _ (merge : Operator) (sources : List (List (List Row))) (size : ℕ) wher
       let refuses = each 0 j (Err m) (omega arith) in
       record { before = []; job = j; later = jobs; parts = refl; whole = tt; refuses = subst (λ w. RefusesRange merge (rows_read sources j) (made_of merge sources j) w) same_error (refuses (λ g. other (sym same_error ∙ g))) }
 
--- Behind tables, a refusal is the first one.
-pub refuses_behind : {A : Type 0} (ranges : List A) (x : Result A SlateDBError) (rest left all : List (Result A SlateDBError)) (e : SlateDBError) → all ≡ map (λ range. Ok range) ranges ++ left → left ≡ x ∷ rest → x ≡ Err e → first_refusal all ≡ Some e
-refuses_behind {A} ranges x rest left all e is next refuses = ap first_refusal is ∙ (behind ranges ∙ (ap first_refusal next ∙ ap (λ (y : Result A SlateDBError). first_refusal (y ∷ rest)) refuses))
+-- After tables, a refusal is the first one.
+pub refuses_after : {A : Type 0} (ranges : List A) (x : Result A SlateDBError) (rest left all : List (Result A SlateDBError)) (e : SlateDBError) → all ≡ map (λ range. Ok range) ranges ++ left → left ≡ x ∷ rest → x ≡ Err e → first_refusal all ≡ Some e
+refuses_after {A} ranges x rest left all e is next refuses = ap first_refusal is ∙ (after ranges ∙ (ap first_refusal next ∙ ap (λ (y : Result A SlateDBError). first_refusal (y ∷ rest)) refuses))
   where
-    behind : (ranges : List A) → first_refusal (map (λ range. Ok range) ranges ++ left) ≡ first_refusal left
-    behind [] = refl
-    behind (r ∷ ranges) = behind ranges
+    after : (ranges : List A) → first_refusal (map (λ range. Ok range) ranges ++ left) ≡ first_refusal left
+    after [] = refl
+    after (r ∷ ranges) = after ranges
 
 -- A place within a list has the same element, whatever is taken beyond the list.
 pub same_within : {A : Type 0} (xs : List A) (i : ℕ) (x d : A) → i < length xs → x ≡ get_or xs i x → x ≡ get_or xs i d

@@ -25,7 +25,7 @@ module _ (merge : Operator) (settings : Settings) (sources : List (List (List Ro
   left_is : (b : BegunRange) → IsBegun merge settings sources b → made_of merge sources b.job ≡ L b
   left_is b h =
       ap (λ (s : Settings). left_of merge s (range_of b.job.range) b.job.cursor sources) h.same
-      ∙ ap (λ (c : Option Cursor). left_of merge settings (range_of b.job.range) c sources) h.behind
+      ∙ ap (λ (c : Option Cursor). left_of merge settings (range_of b.job.range) c sources) h.after
 
   one_made : (b : BegunRange) → IsBegun merge settings sources b → (made_of merge sources b.job).whole ≡ true → AreMade merge settings sources (T b)
   one_made b h whole = record {

@@ -22,10 +22,10 @@ use Rattle.fleet_rows.specs.Row.{rows_of}
 use Rattle.fleet_rows.specs.declared.row.RowEntry.{RowEntry}
 use Rattle.fleet_rows.specs.declared.errors.SlateDBError.{SlateDBError}
 use Rattle.fleet_fold.specs.Jobs.{GivesJob, IsOfOperator}
-use Rattle.fleet_exec.specs.Ranges.{source_rows, AreSources, left_of, ranged, rows_from}
+use Rattle.fleet_exec.specs.Ranges.{source_rows, AreSources, left_of, ranged_sources, rows_from}
 use Rattle.fleet_exec.specs.Cut.{RefusesAll, IsFinished, RefusesRange, RefusesRangeUnless}
 use Rattle.fleet_exec.specs.Tables.{IsNextTable, RefusesTable, RefusesTableUnless}
-use Rattle.fleet_exec.specs.Taking.{is_left, left_behind, Takes, RefusesTaking}
+use Rattle.fleet_exec.specs.Taking.{is_left, left_after, Takes, RefusesTaking}
 use Rattle.fleet_exec.proofs.Bounded.{job_bounds}
 use Rattle.fleet_exec.proofs.Opened.{ordered, from_is_filter}
 
@@ -33,17 +33,17 @@ use Rattle.fleet_exec.proofs.Opened.{ordered, from_is_filter}
 
 module _ (merge : Operator) (settings : Settings) (range : Range) (sources : List (List (List Row))) where
   abbrev left_from : Option Cursor → List Row → JobRows
-  left_from cursor rows = record { rows = left_behind cursor (job_rows merge settings rows).rows; whole = (job_rows merge settings rows).whole }
+  left_from cursor rows = record { rows = left_after cursor (job_rows merge settings rows).rows; whole = (job_rows merge settings rows).whole }
 
-  all_left : (rows : List Row) → left_behind None rows ≡ rows
+  all_left : (rows : List Row) → left_after None rows ≡ rows
   all_left [] = refl
   all_left (r ∷ rows) = ap (λ (w : List Row). r ∷ w) (all_left rows)
 
-  twice : (sources : List (List (List Row))) → map (rows_in range) (map source_rows sources) ≡ ranged range sources
+  twice : (sources : List (List (List Row))) → map (rows_in range) (map source_rows sources) ≡ ranged_sources range sources
   twice [] = refl
   twice (tables ∷ sources) = ap (λ (ws : List (List Row)). rows_in range (source_rows tables) ∷ ws) (twice sources)
 
-  from_each : (key : List ℕ) (sources : List (List (List Row))) → map (λ rows. filter (is_from key) (rows_in range rows)) (map source_rows sources) ≡ map (filter (is_from key)) (ranged range sources)
+  from_each : (key : List ℕ) (sources : List (List (List Row))) → map (λ rows. filter (is_from key) (rows_in range rows)) (map source_rows sources) ≡ map (filter (is_from key)) (ranged_sources range sources)
   from_each key [] = refl
   from_each key (tables ∷ sources) = ap (λ (ws : List (List Row)). filter (is_from key) (rows_in range (source_rows tables)) ∷ ws) (from_each key sources)
 
@@ -53,7 +53,7 @@ module _ (merge : Operator) (settings : Settings) (range : Range) (sources : Lis
       ∙ ap (λ (w : List Row). record (job_rows merge settings (rows_from range None sources)) { rows = w }) (sym (all_left (job_rows merge settings (rows_from range None sources)).rows))
   made_is_left (Some cursor) h =
       ap (λ (rows : List Row). left_from (Some cursor) rows)
-      (ap merged_rows (from_each cursor.0 sources) ∙ (sources_may_be_cut (is_from cursor.0) (ranged range sources) ∙ sym (from_is_filter cursor.0 (merged_rows (ranged range sources)) (ordered range sources h))))
+      (ap merged_rows (from_each cursor.0 sources) ∙ (sources_may_be_cut (is_from cursor.0) (ranged_sources range sources) ∙ sym (from_is_filter cursor.0 (merged_rows (ranged_sources range sources)) (ordered range sources h))))
 
 -- ---- first rows
 
@@ -71,31 +71,31 @@ length_front : {A : Type 0} (xs ys : List A) → length xs ≤ length (xs ++ ys)
 length_front [] ys = omega arith
 length_front (x ∷ xs) ys = let rest = length_front xs ys in omega arith
 
-none_left : (cursor : Option Cursor) (rows : List Row) → rows ≡ [] → left_behind cursor rows ≡ []
-none_left cursor rows h = ap (left_behind cursor) h
+none_left : (cursor : Option Cursor) (rows : List Row) → rows ≡ [] → left_after cursor rows ≡ []
+none_left cursor rows h = ap (left_after cursor) h
 
 module _ (merge : Operator) (settings : Settings) (cursor : Option Cursor) (rows : List Row) (most : ℕ) (s : IteratorState) (gives : GivesJob merge settings rows s) where
   abbrev J : JobRows
   J = job_rows merge settings rows
 
   abbrev L : List Row → List Row
-  L w = left_behind cursor w
+  L w = left_after cursor w
 
   -- What is left of the job's rows begins with the rows taken. The rows left after them follow.
-  behind : (taken : List RowEntry) (new : IteratorState) → Takes most cursor s taken new → (rest : List Row) → s.rows ++ rest ≡ J.rows → L J.rows ≡ rows_of taken ++ (L new.rows ++ L rest)
-  behind taken new takes rest is =
+  after : (taken : List RowEntry) (new : IteratorState) → Takes most cursor s taken new → (rest : List Row) → s.rows ++ rest ≡ J.rows → L J.rows ≡ rows_of taken ++ (L new.rows ++ L rest)
+  after taken new takes rest is =
       ap L (sym is) ∙ (filter-append (is_left cursor) s.rows rest ∙ (ap (λ (w : List Row). w ++ L rest) takes.rows ∙ append_assoc (rows_of taken) (L new.rows) (L rest)))
 
   first : (taken : List RowEntry) (new : IteratorState) → Takes most cursor s taken new → (b : Bool) → s.whole ≡ b → rows_of taken ≡ take most (L J.rows)
   first taken new takes true is =
       let count = length_rows taken in
-      sym (ap (take most) (behind taken new takes [] (append-nil s.rows ∙ gives.all is))
+      sym (ap (take most) (after taken new takes [] (append-nil s.rows ∙ gives.all is))
       ∙ taken_first most (rows_of taken) (L new.rows ++ L []) (subst (λ n. n ≤ most) (sym count) takes.few)
       (λ fewer. ap (λ (w : List Row). w ++ []) (none_left cursor new.rows (takes.ends (subst (λ n. n < most) count fewer)).0)))
   first taken new takes false is =
       let (rest, begins) = gives.begins in
       let count = length_rows taken in
-      sym (ap (take most) (behind taken new takes rest begins)
+      sym (ap (take most) (after taken new takes rest begins)
       ∙ taken_first most (rows_of taken) (L new.rows ++ L rest) (subst (λ n. n ≤ most) (sym count) takes.few)
       (λ fewer. let clash : true ≡ false = sym (takes.ends (subst (λ n. n < most) count fewer)).1 ∙ is in absurd (cc clash)))
 
@@ -129,8 +129,8 @@ module _ (merge : Operator) (settings : Settings) (cursor : Option Cursor) (rows
       by : (b : Bool) → s.whole ≡ b → RefusesTable merge settings cursor rows (record { rows = L J.rows; whole = J.whole }) most e
       by true is = absurd (other (refuses.cause.memory is))
       by false is =
-          let (behind, (some, operator)) = gives.refusal is in
-          let (fewer, same) = refuses.known behind some other in
+          let (after, (some, operator)) = gives.refusal is in
+          let (fewer, same) = refuses.known after some other in
           record {
             refused = sym gives.whole ∙ is;
             operator = subst (IsOfOperator merge rows) (sym same) operator;
@@ -157,5 +157,5 @@ module _ (merge : Operator) (settings : Settings) (cursor : Option Cursor) (rows
       by : (b : Bool) → s.whole ≡ b → RefusesRange merge rows (record { rows = L J.rows; whole = J.whole }) e
       by true is = absurd (other (refuses.cause.memory is))
       by false is =
-          let (behind, (some, operator)) = gives.refusal is in
-          record { refused = sym gives.whole ∙ is; operator = subst (IsOfOperator merge rows) (sym (refuses.known behind some other)) operator }
+          let (after, (some, operator)) = gives.refusal is in
+          record { refused = sym gives.whole ∙ is; operator = subst (IsOfOperator merge rows) (sym (refuses.known after some other)) operator }

@@ -45,23 +45,23 @@ module _ (merge : Operator) (settings : Settings) (range : Range) (sources : Lis
   left_is written rest is = sources_resume_after merge settings range (map source_rows sources) written rest (all_ordered sources h) is
 
   -- Tables that are taken after written rows have the first of the rows left.
-  first_behind : (sizes : List ℕ) (tables : List (List RowEntry)) (written rest : List Row) → J.rows ≡ written ++ rest
+  first_after : (sizes : List ℕ) (tables : List (List RowEntry)) (written rest : List Row) → J.rows ≡ written ++ rest
       → AreTaken merge settings range sources (cursor_after None written) sizes tables → rows_of_all tables ≡ take (sum sizes) rest
-  first_behind [] [] written rest is taken = refl
-  first_behind [] (table ∷ tables) written rest is taken = absurd taken
-  first_behind (most ∷ sizes) [] written rest is taken = absurd taken
-  first_behind (most ∷ sizes) (table ∷ tables) written rest is taken =
+  first_after [] [] written rest is taken = refl
+  first_after [] (table ∷ tables) written rest is taken = absurd taken
+  first_after (most ∷ sizes) [] written rest is taken = absurd taken
+  first_after (most ∷ sizes) (table ∷ tables) written rest is taken =
       let here : rows_of table ≡ take most rest = taken.0.rows ∙ ap (λ (j : JobRows). take most j.rows) (left_is written rest is) in
       let parts : J.rows ≡ (written ++ rows_of table) ++ drop most rest =
       is ∙ (ap (λ (w : List Row). written ++ w) (sym (take-append-drop most rest) ∙ ap (λ (w : List Row). w ++ drop most rest) (sym here)) ∙ sym (append_assoc written (rows_of table) (drop most rest))) in
       let later : AreTaken merge settings range sources (cursor_after None (written ++ rows_of table)) sizes tables =
       subst (λ (c : Option Cursor). AreTaken merge settings range sources c sizes tables) (sym (cursor_after-append None written (rows_of table))) taken.1 in
       ap (λ (w : List Row). w ++ rows_of_all tables) here
-      ∙ (ap (λ (w : List Row). take most rest ++ w) (first_behind sizes tables (written ++ rows_of table) (drop most rest) parts later)
+      ∙ (ap (λ (w : List Row). take most rest ++ w) (first_after sizes tables (written ++ rows_of table) (drop most rest) parts later)
       ∙ sym (ap (λ (m : ℕ). take m rest) (sum_by-cons (λ size. size) most sizes) ∙ take-add most (sum sizes) rest))
 
   first_taken : (sizes : List ℕ) (tables : List (List RowEntry)) → AreTaken merge settings range sources None sizes tables → rows_of_all tables ≡ take (sum sizes) J.rows
-  first_taken sizes tables taken = first_behind sizes tables [] J.rows refl taken
+  first_taken sizes tables taken = first_after sizes tables [] J.rows refl taken
 
   -- After tables taken from the start of the range, exactly the other rows are left.
   left_taken : (sizes : List ℕ) (tables : List (List RowEntry)) → AreTaken merge settings range sources None sizes tables

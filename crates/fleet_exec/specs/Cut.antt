@@ -13,7 +13,7 @@ use Rattle.fleet_rows.specs.declared.errors.SlateDBError.{SlateDBError}
 use Rattle.fleet_rows.specs.declared.errors.SlateDBError.TheVariants.{Memory}
 use Rattle.fleet_fold.specs.Jobs.{IsOfOperator}
 use Rattle.fleet_exec.specs.Ranges.{Tables, Sources, made_of, rows_read}
-use Rattle.fleet_exec.specs.Taking.{left_behind, ReadsOn}
+use Rattle.fleet_exec.specs.Taking.{left_after, ReadsOn}
 use Rattle.fleet_exec.specs.declared.range_job.RangeJob.{RangeJob}
 
 -- The tables after these rows are put in front of the first table's rows. If there are no tables, the rows
@@ -30,7 +30,7 @@ before_tables (r ∷ rows) tables = (r ∷ rows) ∷ tables
 -- The next table is taken. It is the first of the tables into which the rows left are cut. It is empty only
 -- if the iterator is whole.
 pub record TakesTable (size : ℕ) (cursor : Option Cursor) (old : IteratorState) (table : List RowEntry) (new : IteratorState) : Type 0 where
-  pub tables : cut_tables size (left_behind cursor old.rows) ≡ before_tables (rows_of table) (cut_tables size (left_behind cursor new.rows))
+  pub tables : cut_tables size (left_after cursor old.rows) ≡ before_tables (rows_of table) (cut_tables size (left_after cursor new.rows))
   pub reads : ReadsOn old new
   pub ends : table ≡ [] → old.whole ≡ true
 
@@ -38,7 +38,7 @@ pub record TakesTable (size : ℕ) (cursor : Option Cursor) (old : IteratorState
 -- `e` is that refusal.
 pub record RefusesAll (old : IteratorState) (e : SlateDBError) : Type 0 where
   pub cause : CanFail old.whole e
-  pub known : (behind : SlateDBError) → old.refusal ≡ Some behind → e ≢ Memory → e ≡ behind
+  pub known : (after : SlateDBError) → old.refusal ≡ Some after → e ≢ Memory → e ≡ after
 
 -- No fold refuses, and these tables are all that is made, cut at `size`.
 pub record IsFinished (size : ℕ) (made : JobRows) (tables : Tables) : Type 0 where

@@ -3,7 +3,7 @@ use Rattle.std.specs.Prelude.{◌≡◌, ◌≢◌, ℕ, ◌-◌, ◌≤◌, ◌
 use Rattle.std.specs.List.{AllByRecursion}
 use Rattle.std.specs.Option.{option_map_or}
 use Rattle.row_model.specs.Lists.{Pairs}
-use Rattle.row_model.specs.Plan.{planned}
+use Rattle.row_model.specs.Plan.{planned_ranges}
 use Rattle.row_model.specs.Ranges.{Range}
 use Rattle.row_model.specs.Rows.{Row}
 use Rattle.row_laws.specs.Turns.{AreCut}
@@ -24,16 +24,16 @@ abbrev pub job_ids : List ActiveParts → List ℕ
 job_ids jobs = map (λ job. job.args.id) jobs
 
 -- The active job with this id, if there is one.
-abbrev pub job_with : ℕ → List ActiveParts → Option ActiveParts
-job_with id jobs = find (λ job. job.args.id == id) jobs
+abbrev pub active_job_with : ℕ → List ActiveParts → Option ActiveParts
+active_job_with id jobs = find (λ job. job.args.id == id) jobs
 
 -- Under every other id stands the job that stood there before, or still none.
 abbrev pub OthersStay : ℕ → List ActiveParts → List ActiveParts → Type 0
-OthersStay id old new = (other : ℕ) → other ≢ id → job_with other new ≡ job_with other old
+OthersStay id old new = (other : ℕ) → other ≢ id → active_job_with other new ≡ active_job_with other old
 
 -- The job with this id is changed so, and each other job stays. Ids and their order stay too.
 pub record IsChanged (id : ℕ) (change : ActiveParts → ActiveParts) (old new : List ActiveParts) : Type 0 where
-  pub found : job_with id new ≡ option_map change (job_with id old)
+  pub found : active_job_with id new ≡ option_map change (active_job_with id old)
   pub others : OthersStay id old new
   pub count : length new ≡ length old
   pub same : job_ids new ≡ job_ids old
@@ -58,7 +58,7 @@ settings_with floor args = record { floor = floor; tick = args.compaction_clock_
 -- They follow one another, cut at rising edges, and each key lies in exactly one of them.
 pub record ArePlanned (most : ℕ) (views : List View) (ranges : List Range) : Type 0 where
   pub anchors : ranges ≡ planned_of most views
-  pub rows : (rows_of : View → List Row) → AreOfRows rows_of views → ranges ≡ planned most (map rows_of views)
+  pub rows : (rows_of : View → List Row) → AreOfRows rows_of views → ranges ≡ planned_ranges most (map rows_of views)
   pub few : length ranges ≤ max most 1
   pub rising : AreCut ranges
   pub every_key : HoldEveryKeyOnce ranges

@@ -44,8 +44,8 @@ made_of merge sources job = left_of merge (settings_of job.settings) (range_of j
 -- ---- opening a range
 
 -- An iterator for each source over its rows in the range.
-abbrev pub opened : Range → Sources → List IteratorState
-opened range sources = map (λ tables. state_of (record { left = rows_of_tables range tables; broken = false })) sources
+abbrev pub opened_states : Range → Sources → List IteratorState
+opened_states range sources = map (λ tables. state_of (record { left = rows_of_tables range tables; broken = false })) sources
 
 -- The rows from the cursor's key on. Without a cursor these are all rows.
 abbrev pub from_cursor : Option Cursor → List Row → List Row
@@ -53,12 +53,12 @@ from_cursor None rows = rows
 from_cursor (Some cursor) rows = from_key cursor.0 rows
 
 -- The rows of each source that lie in the range.
-abbrev pub ranged : Range → Sources → List (List Row)
-ranged range sources = map (λ tables. rows_in range (source_rows tables)) sources
+abbrev pub ranged_sources : Range → Sources → List (List Row)
+ranged_sources range sources = map (λ tables. rows_in range (source_rows tables)) sources
 
 -- The rows of all sources in the range, in order, from the cursor's key on.
 abbrev pub rows_from : Range → Option Cursor → Sources → List Row
-rows_from range cursor sources = from_cursor cursor (merged_rows (ranged range sources))
+rows_from range cursor sources = from_cursor cursor (merged_rows (ranged_sources range sources))
 
 -- The rows that are read for this range of a job.
 abbrev pub rows_read : Sources → RangeJob → List Row

@@ -14,7 +14,7 @@ use Rattle.fleet_rows.specs.declared.errors.SlateDBError.TheVariants.{Memory}
 use Rattle.fleet_fold.specs.Jobs.{IsOfOperator}
 use Rattle.fleet_rows.specs.Settings.{settings_of}
 use Rattle.fleet_exec.specs.Ranges.{Sources, made_of, rows_read}
-use Rattle.fleet_exec.specs.Taking.{left_behind}
+use Rattle.fleet_exec.specs.Taking.{left_after}
 use Rattle.fleet_exec.specs.declared.range_job.RangeJob.{RangeJob}
 
 -- The table has the first `most` rows of what is made, or all of them if there are fewer. It has at least one
@@ -36,7 +36,7 @@ pub record RefusesTable (merge : Operator) (settings : Settings) (cursor : Optio
   pub refused : made.whole ≡ false
   pub operator : IsOfOperator merge rows e
   pub early : (key : List ℕ) → (job_rows merge settings (filter (is_below key) rows)).whole ≡ true
-      → AllByRecursion (λ r. is_below key r ≡ true → length (left_behind cursor (job_rows merge settings (filter (is_below r.key) rows)).rows) < most) rows
+      → AllByRecursion (λ r. is_below key r ≡ true → length (left_after cursor (job_rows merge settings (filter (is_below r.key) rows)).rows) < most) rows
 
 -- If the error is not out of memory, the table is refused as `RefusesTable` says.
 abbrev pub RefusesTableUnless : Operator → Settings → Option Cursor → List Row → JobRows → ℕ → SlateDBError → Type 0

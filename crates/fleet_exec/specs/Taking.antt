@@ -16,8 +16,8 @@ is_left None r = true
 is_left (Some cursor) r = is_unwritten cursor r
 
 -- The rows that are left after a cursor.
-abbrev pub left_behind : Option Cursor → List Row → List Row
-left_behind cursor rows = filter (is_left cursor) rows
+abbrev pub left_after : Option Cursor → List Row → List Row
+left_after cursor rows = filter (is_left cursor) rows
 
 -- Reading rows leaves an iterator readable. It changes neither whether the iterator is whole nor the refusal
 -- after its rows.
@@ -29,7 +29,7 @@ pub record ReadsOn (old new : IteratorState) : Type 0 where
 -- The first rows that are left are taken, at most `most`. If they are fewer than `most`, no row is left and
 -- the iterator is whole.
 pub record Takes (most : ℕ) (cursor : Option Cursor) (old : IteratorState) (taken : List RowEntry) (new : IteratorState) : Type 0 where
-  pub rows : left_behind cursor old.rows ≡ rows_of taken ++ left_behind cursor new.rows
+  pub rows : left_after cursor old.rows ≡ rows_of taken ++ left_after cursor new.rows
   pub few : length taken ≤ most
   pub reads : ReadsOn old new
   pub ends : length taken < most → (new.rows ≡ []) × (old.whole ≡ true)
@@ -38,4 +38,4 @@ pub record Takes (most : ℕ) (cursor : Option Cursor) (old : IteratorState) (ta
 -- is that refusal. Fewer than `most` rows are then left before it.
 pub record RefusesTaking (most : ℕ) (cursor : Option Cursor) (old : IteratorState) (e : SlateDBError) : Type 0 where
   pub cause : CanFail old.whole e
-  pub known : (behind : SlateDBError) → old.refusal ≡ Some behind → e ≢ Memory → (length (left_behind cursor old.rows) < most) × (e ≡ behind)
+  pub known : (after : SlateDBError) → old.refusal ≡ Some after → e ≢ Memory → (length (left_after cursor old.rows) < most) × (e ≡ after)

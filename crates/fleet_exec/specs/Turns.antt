@@ -91,7 +91,7 @@ pub record BegunRange : Type 0 where
 pub record IsBegun (merge : Operator) (settings : Settings) (sources : Sources) (begun : BegunRange) : Type 0 where
   pub same : settings_of begun.job.settings ≡ settings
   pub tables : AreTaken merge settings (range_of begun.job.range) sources None begun.sizes begun.taken
-  pub behind : begun.job.cursor ≡ cursor_after None (rows_of_all begun.taken)
+  pub after : begun.job.cursor ≡ cursor_after None (rows_of_all begun.taken)
 
 -- A begun range together with the tables in which a call finishes it. The call cuts tables at this size.
 abbrev pub finished_at : Operator → Sources → ℕ → BegunRange → RangeTurns

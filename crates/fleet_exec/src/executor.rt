@@ -4,7 +4,7 @@ ghost use Rattle.std.specs.Prelude.{◌≡◌, ◌↔◌, ◌+◌, ◌≤◌, �
 ghost use Rattle.std.specs.Bool.{OnFalse, OnTrue};
 ghost use Rattle.std.specs.List.{prefix_len};
 ghost use Rattle.std.specs.Option.{ForNone, option_copied};
-ghost use Rattle.fleet_exec.specs.Executors.{AreDistinct, IsChanged, OthersStay, StartsAs, job_with, with_table};
+ghost use Rattle.fleet_exec.specs.Executors.{AreDistinct, IsChanged, OthersStay, StartsAs, active_job_with, with_table};
 
 use crate::StartCompactionJobArgs;
 use crate::active_job::ActiveJob;
@@ -53,10 +53,10 @@ impl Executor {
         args: StartCompactionJobArgs,
         max_subcompactions: u64,
     ) -> Result<(), SlateDBError>
-        requires new { IsNone (job_with args.id self.old.jobs) }
+        requires new { IsNone (active_job_with args.id self.old.jobs) }
         requires floor { ForNone args.ctx (IsSome args.retention_min_seq) }
         ensures started { OnOk result (OnFalse self.old.stopped
-            (IsSomeAnd (job_with args.id self.new.jobs) (StartsAs args max_subcompactions))) }
+            (IsSomeAnd (active_job_with args.id self.new.jobs) (StartsAs args max_subcompactions))) }
         ensures others { OthersStay args.id self.old.jobs self.new.jobs }
         ensures count { OnOk result (OnFalse self.old.stopped
             (length self.new.jobs ≡ length self.old.jobs + 1)) }
@@ -75,8 +75,8 @@ impl Executor {
 
     /// Ends the job with this id. Returns whether it was active.
     pub fn stop_compaction_job(&mut self, id: Ulid) -> bool
-        ensures active { IsTrue result ↔ IsSome (job_with id self.old.jobs) }
-        ensures ended { IsNone (job_with id self.new.jobs) }
+        ensures active { IsTrue result ↔ IsSome (active_job_with id self.old.jobs) }
+        ensures ended { IsNone (active_job_with id self.new.jobs) }
         ensures others { OthersStay id self.old.jobs self.new.jobs }
         ensures count { length self.old.jobs
             ≡ length self.new.jobs + (if result then 1 else 0) }
@@ -113,7 +113,7 @@ impl Executor {
 
     /// The number of the attempt that the active job with this id makes.
     pub fn attempt(&self, id: Ulid) -> Option<u64>
-        ensures { result ≡ option_map (λ job. job.args.attempt) (job_with id self.now.jobs) }
+        ensures { result ≡ option_map (λ job. job.args.attempt) (active_job_with id self.now.jobs) }
     {
         self.args(id).map(|args| args.attempt)
     }
@@ -121,7 +121,7 @@ impl Executor {
     /// The context of the active job with this id, with the tables that were added so far.
     pub fn ctx(&self, id: Ulid) -> Option<&CompactionContext>
         ensures { option_copied result
-            ≡ option_map (λ job. job.ctx) (job_with id self.now.jobs) }
+            ≡ option_map (λ job. job.ctx) (active_job_with id self.now.jobs) }
     {
         with_id(self.jobs.as_slice(), id).map(|job| job.ctx())
     }
@@ -129,7 +129,7 @@ impl Executor {
     /// The arguments with which the active job with this id was started.
     pub fn args(&self, id: Ulid) -> Option<&StartCompactionJobArgs>
         ensures { option_copied result
-            ≡ option_map (λ job. job.args) (job_with id self.now.jobs) }
+            ≡ option_map (λ job. job.args) (active_job_with id self.now.jobs) }
     {
         with_id(self.jobs.as_slice(), id).map(|job| job.args())
     }
@@ -144,10 +144,10 @@ impl Executor {
         table: SsTableHandle,
     ) -> Result<(), SlateDBError>
         requires counted { 1 ≤ range }
-        requires active { IsSomeAnd (job_with id self.old.jobs)
+        requires active { IsSomeAnd (active_job_with id self.old.jobs)
             (λ job. range ≤ length job.ctx.ranges) }
-        ensures added { OnOk result (job_with id self.new.jobs
-            ≡ option_map (with_table range table) (job_with id self.old.jobs)) }
+        ensures added { OnOk result (active_job_with id self.new.jobs
+            ≡ option_map (with_table range table) (active_job_with id self.old.jobs)) }
         ensures others { OthersStay id self.old.jobs self.new.jobs }
         ensures count { length self.new.jobs ≡ length self.old.jobs }
         ensures stopped { self.new.stopped ≡ self.old.stopped }
@@ -159,7 +159,7 @@ impl Executor {
 }
 
 fn with_id(jobs: &[ActiveJob], id: Ulid) -> Option<&ActiveJob>
-    ensures { option_copied result ≡ job_with id jobs.now }
+    ensures { option_copied result ≡ active_job_with id jobs.now }
 {
     jobs.iter().find(|job| job.id() == id)
 }
@@ -189,7 +189,7 @@ fn add_table_to(
     table: SsTableHandle,
 ) -> Result<(), SlateDBError>
     requires counted { 1 ≤ range }
-    requires active { IsSomeAnd (job_with id jobs.old)
+    requires active { IsSomeAnd (active_job_with id jobs.old)
         (λ job. range ≤ length job.ctx.ranges) }
     ensures ok { OnOk result (IsChanged id (with_table range table) jobs.old jobs.new) }
     ensures err { OnErr result (jobs.new ≡ jobs.old) }

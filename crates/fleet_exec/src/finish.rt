@@ -11,7 +11,7 @@ ghost use Rattle.fleet_rows.specs.declared.errors.SlateDBError.TheVariants as Sl
 ghost use Rattle.fleet_fold.specs.Retention.{IsReadable};
 ghost use Rattle.fleet_exec.specs.Cut.{TakesTable, RefusesAll, IsFinished, RefusesJobRange, FinishesRange, first_refusal, AreFinished, RefusesFirstUnless};
 ghost use Rattle.fleet_exec.specs.Ranges.{AreSources, source_rows, made_of};
-ghost use Rattle.fleet_exec.specs.Taking.{left_behind};
+ghost use Rattle.fleet_exec.specs.Taking.{left_after};
 
 use crate::open::open_range;
 use crate::take::next_left;
@@ -44,7 +44,7 @@ fn take_table<T: RowSource>(
     requires sound { T.sound source.old }
     requires readable { IsReadable (T.state source.old) }
     requires bounded { AllByRecursion IsInBounds
-        (left_behind cursor.now (T.state source.old).rows) }
+        (left_after cursor.now (T.state source.old).rows) }
     ensures ok { IfOk result (λ table.
         TakesTable size cursor.now (T.state source.old) table.items (T.state source.new)) }
     ensures err { IfErr result (RefusesAll (T.state source.old)) }
@@ -84,9 +84,9 @@ fn take_tables<T: RowSource, G: RangeGate>(
     requires sound { T.sound source.old }
     requires readable { IsReadable (T.state source.old) }
     requires bounded { AllByRecursion IsInBounds
-        (left_behind cursor.now (T.state source.old).rows) }
+        (left_after cursor.now (T.state source.old).rows) }
     ensures ok { IfOk result (λ tables.
-        map rows_of tables ≡ cut_tables size (left_behind cursor.now (T.state source.old).rows)) }
+        map rows_of tables ≡ cut_tables size (left_after cursor.now (T.state source.old).rows)) }
     ensures whole { IfOk result (λ tables. (T.state source.old).whole ≡ true) }
     ensures err { IfErr result (RefusesAll (T.state source.old)) }
 {

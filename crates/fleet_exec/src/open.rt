@@ -2,7 +2,7 @@
 
 ghost use Rattle.std.specs.Prelude.{◌≡◌, map, ⊤, IfOk, IsOkUnless};
 ghost use Rattle.row_laws.specs.Sources.{merged_rows};
-ghost use Rattle.fleet_iter.specs.Merge.{merged};
+ghost use Rattle.fleet_iter.specs.Merge.{merged_lists};
 ghost use Rattle.fleet_iter.specs.MergeState as merge;
 ghost use Rattle.fleet_iter.specs.declared.iterator.IterationOrder.TheVariants.{Ascending};
 ghost use Rattle.fleet_range.specs.Keys.{range_of};
@@ -12,7 +12,7 @@ ghost use Rattle.fleet_table.specs.Iterator.{state_of};
 ghost use Rattle.fleet_fold.specs.Jobs.{GivesJob};
 ghost use Rattle.fleet_fold.specs.Retention.{IsReadable};
 ghost use Rattle.fleet_fold.specs.JobState as job_state;
-ghost use Rattle.fleet_exec.specs.Ranges.{AreSources, opened, ranged, rows_read, reading};
+ghost use Rattle.fleet_exec.specs.Ranges.{AreSources, opened_states, ranged_sources, rows_read, reading};
 
 use crate::RangeJob;
 use fleet_fold::{JobIterator, MergeOperator, job_iterator};
@@ -29,7 +29,7 @@ fn range_iterators<'s>(
     range: &'s BytesRange,
 ) -> Result<Vec<RunIterator<'s>>, SlateDBError>
     ensures rows { IfOk result
-        (λ iterators. map state_of iterators.items ≡ opened (range_of range.now) sources.now) }
+        (λ iterators. map state_of iterators.items ≡ opened_states (range_of range.now) sources.now) }
     ensures memory { IsOkUnless result SlateDBError.Memory }
 {
     let mut iterators = Vec::with_capacity(alloc, sources.len())?;
@@ -46,7 +46,7 @@ pub(crate) fn merged_in<'s>(
     range: &'s BytesRange,
 ) -> Result<MergeIterator<RunIterator<'s>>, SlateDBError>
     ensures rows { IfOk result (λ rows. merge.state_of state_of rows
-        ≡ reading (merged Ascending (ranged (range_of range.now) sources.now))) }
+        ≡ reading (merged_lists Ascending (ranged_sources (range_of range.now) sources.now))) }
     ensures sound { IfOk result (λ rows. merge.IsSound (λ _. ⊤) state_of rows) }
     ensures memory { IsOkUnless result SlateDBError.Memory }
 {
@@ -64,7 +64,7 @@ fn ready_merge<'s>(
 ) -> Result<MergeIterator<RunIterator<'s>>, SlateDBError>
     requires { AreSources sources.now }
     ensures rows { IfOk result (λ rows. merge.state_of state_of rows
-        ≡ reading (merged_rows (ranged (range_of range.now) sources.now))) }
+        ≡ reading (merged_rows (ranged_sources (range_of range.now) sources.now))) }
     ensures sound { IfOk result (λ rows. merge.IsSound (λ _. ⊤) state_of rows) }
     ensures memory { IsOkUnless result SlateDBError.Memory }
 {

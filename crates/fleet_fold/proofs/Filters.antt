@@ -16,39 +16,39 @@ use Rattle.fleet_iter.specs.Resume.{is_written}
 use Rattle.fleet_iter.proofs.Failures.{next_refused, seek_refused}
 use Rattle.fleet_iter.proofs.RisingRows.{moves_alive, moves_rising}
 use Rattle.fleet_fold.specs.Retention.{IsReadable, from_ahead}
-use Rattle.fleet_fold.specs.Filter.{Answers, Closing, GoesOn, Filtered, IsTold, Refuses, Knows, KnowsUnlessFailed, FiltersSeeTheKey, decided, before_refused, filtered, filtering}
+use Rattle.fleet_fold.specs.Filter.{Answers, Closing, GoesOn, Filtered, IsStated, Refuses, Knows, KnowsUnlessFailed, FiltersSeeTheKey, decided_rows, before_refused, filtered_rows, filtering}
 
-filtered_alike : (a b : Answers) (e f : Closing) → ((seen : List Row) (q : Row) → a seen q ≡ b seen q) → ((seen : List Row) → e seen ≡ f seen) → (rows : List Row) → filtered a e rows ≡ filtered b f rows
+filtered_alike : (a b : Answers) (e f : Closing) → ((seen : List Row) (q : Row) → a seen q ≡ b seen q) → ((seen : List Row) → e seen ≡ f seen) → (rows : List Row) → filtered_rows a e rows ≡ filtered_rows b f rows
 filtered_alike a b e f h g [] = ap (λ w. record { rows = []; end = w }) (g [])
 filtered_alike a b e f h g (r ∷ rows) =
-    ap (λ w. before_refused w r (filtered (λ seen. a (r ∷ seen)) (λ seen. e (r ∷ seen)) rows)) (h [] r)
+    ap (λ w. before_refused w r (filtered_rows (λ seen. a (r ∷ seen)) (λ seen. e (r ∷ seen)) rows)) (h [] r)
     ∙ ap (λ w. before_refused (b [] r) r w) (filtered_alike (λ seen. a (r ∷ seen)) (λ seen. b (r ∷ seen)) (λ seen. e (r ∷ seen)) (λ seen. f (r ∷ seen)) (λ seen q. h (r ∷ seen) q) (λ seen. g (r ∷ seen)) rows)
 
 module _ (a a' : Answers) (e e' : Closing) (r : Row) (rows : List Row) where
   -- The filter decides about a row and goes on with the later ones.
   pub goes_on : (decision : CompactionFilterDecision) → Ok decision ≡ a [] r → GoesOn r a e a' e'
-      → filtered a e (r ∷ rows) ≡ record { rows = decided decision r ++ (filtered a' e' rows).rows; end = (filtered a' e' rows).end }
+      → filtered_rows a e (r ∷ rows) ≡ record { rows = decided_rows decision r ++ (filtered_rows a' e' rows).rows; end = (filtered_rows a' e' rows).end }
   goes_on decision is on =
-      ap (λ w. before_refused w r (filtered (λ seen. a (r ∷ seen)) (λ seen. e (r ∷ seen)) rows)) (sym is)
+      ap (λ w. before_refused w r (filtered_rows (λ seen. a (r ∷ seen)) (λ seen. e (r ∷ seen)) rows)) (sym is)
       ∙ ap (λ w. before_refused (Ok decision) r w) (sym (filtered_alike a' (λ seen. a (r ∷ seen)) e' (λ seen. e (r ∷ seen)) on.rows on.end rows))
 
   -- If the filter drops the first row, it leaves what it leaves of the later rows.
-  pub leaves_out : (decision : CompactionFilterDecision) → Ok decision ≡ a [] r → GoesOn r a e a' e' → decided decision r ≡ [] → filtered a' e' rows ≡ filtered a e (r ∷ rows)
-  leaves_out decision is on none = sym (goes_on decision is on ∙ ap (λ (w : List Row). record { rows = w ++ (filtered a' e' rows).rows; end = (filtered a' e' rows).end }) none)
+  pub leaves_out : (decision : CompactionFilterDecision) → Ok decision ≡ a [] r → GoesOn r a e a' e' → decided_rows decision r ≡ [] → filtered_rows a' e' rows ≡ filtered_rows a e (r ∷ rows)
+  leaves_out decision is on none = sym (goes_on decision is on ∙ ap (λ (w : List Row). record { rows = w ++ (filtered_rows a' e' rows).rows; end = (filtered_rows a' e' rows).end }) none)
 
   -- If the filter leaves a row in place of the first one, that row comes first in what it leaves.
-  pub leaves_in : (decision : CompactionFilterDecision) (q : Row) → Ok decision ≡ a [] r → GoesOn r a e a' e' → decided decision r ≡ q ∷ [] → filtered a e (r ∷ rows) ≡ record (filtered a' e' rows) { rows = q ∷ (filtered a' e' rows).rows }
-  leaves_in decision q is on one = goes_on decision is on ∙ ap (λ (w : List Row). record { rows = w ++ (filtered a' e' rows).rows; end = (filtered a' e' rows).end }) one
+  pub leaves_in : (decision : CompactionFilterDecision) (q : Row) → Ok decision ≡ a [] r → GoesOn r a e a' e' → decided_rows decision r ≡ q ∷ [] → filtered_rows a e (r ∷ rows) ≡ record (filtered_rows a' e' rows) { rows = q ∷ (filtered_rows a' e' rows).rows }
+  leaves_in decision q is on one = goes_on decision is on ∙ ap (λ (w : List Row). record { rows = w ++ (filtered_rows a' e' rows).rows; end = (filtered_rows a' e' rows).end }) one
 
   -- If the filter refuses the first row, it leaves no row, and the end is its error.
-  pub refuses : (x : CompactionFilterError) → Err x ≡ a [] r → filtered a e (r ∷ rows) ≡ record { rows = []; end = Err x }
-  refuses x is = ap (λ w. before_refused w r (filtered (λ seen. a (r ∷ seen)) (λ seen. e (r ∷ seen)) rows)) (sym is)
+  pub refuses : (x : CompactionFilterError) → Err x ≡ a [] r → filtered_rows a e (r ∷ rows) ≡ record { rows = []; end = Err x }
+  refuses x is = ap (λ w. before_refused w r (filtered_rows (λ seen. a (r ∷ seen)) (λ seen. e (r ∷ seen)) rows)) (sym is)
 
 -- The error with which the filter refuses a row is the error of the call.
-pub refused_by : (a : Answers) (e : Closing) (r : Row) (rows : List Row) (told : Filtered) (inner : IteratorState) (x : CompactionFilterError) → told ≡ filtered a e (r ∷ rows) → IsTold (a [] r) (Err x) → Refuses {A = Option RowEntry} told inner (Err (raised_by_filter x))
-refused_by a e r rows told inner x is answer = by x (λ far. is ∙ refuses a a e e r rows x (answer far))
+pub refused_by : (a : Answers) (e : Closing) (r : Row) (rows : List Row) (stated : Filtered) (inner : IteratorState) (x : CompactionFilterError) → stated ≡ filtered_rows a e (r ∷ rows) → IsStated (a [] r) (Err x) → Refuses {A = Option RowEntry} stated inner (Err (raised_by_filter x))
+refused_by a e r rows stated inner x is answer = by x (λ far. is ∙ refuses a a e e r rows x (answer far))
   where
-    named : (x : CompactionFilterError) → told ≡ record { rows = []; end = Err x } → Refuses {A = Option RowEntry} told inner (Err (raised_by_filter x))
+    named : (x : CompactionFilterError) → stated ≡ record { rows = []; end = Err x } → Refuses {A = Option RowEntry} stated inner (Err (raised_by_filter x))
     named x e = record {
       cause = λ y same ok far. let one : y ≡ raised_by_filter x = cc same in
           record { rows = ap (λ (f : Filtered). f.rows) e; cause = x; end = ap (λ (f : Filtered). f.end) e; same = one };
@@ -57,7 +57,7 @@ refused_by a e r rows told inner x is answer = by x (λ far. is ∙ refuses a a 
           ap (λ z. Err (raised_by_filter z)) two;
     }
 
-    by : (x : CompactionFilterError) → (◌≢◌ {A = Result CompactionFilterDecision CompactionFilterError} (Err x) (Err filter.Memory) → told ≡ record { rows = []; end = Err x }) → Refuses {A = Option RowEntry} told inner (Err (raised_by_filter x))
+    by : (x : CompactionFilterError) → (◌≢◌ {A = Result CompactionFilterDecision CompactionFilterError} (Err x) (Err filter.Memory) → stated ≡ record { rows = []; end = Err x }) → Refuses {A = Option RowEntry} stated inner (Err (raised_by_filter x))
     by (filter.CreationError t) h = named (filter.CreationError t) (h (λ q. cc q))
     by (filter.FilterError t) h = named (filter.FilterError t) (h (λ q. cc q))
     by (filter.CompactionEndError t) h = named (filter.CompactionEndError t) (h (λ q. cc q))
@@ -67,8 +67,8 @@ refused_by a e r rows told inner x is answer = by x (λ far. is ∙ refuses a a 
     }
 
 -- A filter's error that the iterator keeps as its failure is still the filter's error.
-pub refuses_kept : (told : Filtered) (inner : IteratorState) (e answer : SlateDBError) (old new : Option SlateDBError) → KeepsRefusal e old new answer → Refuses {A = Option RowEntry} told inner (Err e) → Refuses {A = Option RowEntry} told inner (Err answer)
-refuses_kept told inner e answer old new keeps h = record {
+pub refuses_kept : (stated : Filtered) (inner : IteratorState) (e answer : SlateDBError) (old new : Option SlateDBError) → KeepsRefusal e old new answer → Refuses {A = Option RowEntry} stated inner (Err e) → Refuses {A = Option RowEntry} stated inner (Err answer)
+refuses_kept stated inner e answer old new keeps h = record {
   cause = λ x is ok far.
       let one : answer ≡ x = cc is in
       let two : answer ≡ e = keeps.same (λ m. far (sym one ∙ m)) in
@@ -104,25 +104,25 @@ reads s t o k n = by o (n.answers k.0 k.1)
 
 -- ---- the rows that a filter leaves rise if those that it is shown do
 
-all_filtered : (P : List ℕ → Type 0) (answers : Answers) (closing : Closing) (rows : List Row) → AllByRecursion (λ r. P r.key) rows → AllByRecursion (λ r. P r.key) (filtered answers closing rows).rows
+all_filtered : (P : List ℕ → Type 0) (answers : Answers) (closing : Closing) (rows : List Row) → AllByRecursion (λ r. P r.key) rows → AllByRecursion (λ r. P r.key) (filtered_rows answers closing rows).rows
 all_filtered P answers closing [] all = tt
 all_filtered P answers closing (r ∷ rows) all = by (answers [] r) (all_filtered P (λ seen. answers (r ∷ seen)) (λ seen. closing (r ∷ seen)) rows all.1)
   where
-    by : (answer : Result CompactionFilterDecision CompactionFilterError) → AllByRecursion (λ q. P q.key) (filtered (λ seen. answers (r ∷ seen)) (λ seen. closing (r ∷ seen)) rows).rows
-        → AllByRecursion (λ q. P q.key) (before_refused answer r (filtered (λ seen. answers (r ∷ seen)) (λ seen. closing (r ∷ seen)) rows)).rows
+    by : (answer : Result CompactionFilterDecision CompactionFilterError) → AllByRecursion (λ q. P q.key) (filtered_rows (λ seen. answers (r ∷ seen)) (λ seen. closing (r ∷ seen)) rows).rows
+        → AllByRecursion (λ q. P q.key) (before_refused answer r (filtered_rows (λ seen. answers (r ∷ seen)) (λ seen. closing (r ∷ seen)) rows)).rows
     by (Err e) rest = tt
     by (Ok Keep) rest = (all.0, rest)
     by (Ok Drop) rest = rest
     by (Ok (Modify value)) rest = (all.0, rest)
 
-pub filtered_rise : (answers : Answers) (closing : Closing) (rows : List Row) → AreRising rows → AreRising (filtered answers closing rows).rows
+pub filtered_rise : (answers : Answers) (closing : Closing) (rows : List Row) → AreRising rows → AreRising (filtered_rows answers closing rows).rows
 filtered_rise answers closing [] h = tt
 filtered_rise answers closing (r ∷ rows) h =
     by (answers [] r) (all_filtered (λ key. is_gt (key_cmp r.key key) ≡ false) (λ seen. answers (r ∷ seen)) (λ seen. closing (r ∷ seen)) rows h.0) (filtered_rise (λ seen. answers (r ∷ seen)) (λ seen. closing (r ∷ seen)) rows h.1)
   where
-    by : (answer : Result CompactionFilterDecision CompactionFilterError) → AllByRecursion (λ q. is_gt (key_cmp r.key q.key) ≡ false) (filtered (λ seen. answers (r ∷ seen)) (λ seen. closing (r ∷ seen)) rows).rows
-        → AreRising (filtered (λ seen. answers (r ∷ seen)) (λ seen. closing (r ∷ seen)) rows).rows
-        → AreRising (before_refused answer r (filtered (λ seen. answers (r ∷ seen)) (λ seen. closing (r ∷ seen)) rows)).rows
+    by : (answer : Result CompactionFilterDecision CompactionFilterError) → AllByRecursion (λ q. is_gt (key_cmp r.key q.key) ≡ false) (filtered_rows (λ seen. answers (r ∷ seen)) (λ seen. closing (r ∷ seen)) rows).rows
+        → AreRising (filtered_rows (λ seen. answers (r ∷ seen)) (λ seen. closing (r ∷ seen)) rows).rows
+        → AreRising (before_refused answer r (filtered_rows (λ seen. answers (r ∷ seen)) (λ seen. closing (r ∷ seen)) rows)).rows
     by (Err e) all rest = tt
     by (Ok Keep) all rest = (all, rest)
     by (Ok Drop) all rest = rest
@@ -192,7 +192,7 @@ module _ (answers : Answers) (closing : Closing) (failure : Option SlateDBError)
     pub next_refused_filtered : Nexts inner after (Err e) → Nexts (F failure inner) (F kept after) (Err answer)
     next_refused_filtered nexts =
         subst (λ (b : Bool). Nexts (filtering failure b answers closing inner) (filtering kept b answers closing after) (Err answer)) (sym opened)
-        (next_refused (filtering failure false answers closing inner) (filtering kept false answers closing after) inner after e answer alive knows.alive keeps refl (stays false) (first inner.whole _) (λ told cause behind is. absurd (cc is)) nexts)
+        (next_refused (filtering failure false answers closing inner) (filtering kept false answers closing after) inner after e answer alive knows.alive keeps refl (stays false) (first inner.whole _) (λ stated cause afterwards is. absurd (cc is)) nexts)
 
     pub seek_refused_filtered : (key : List ℕ) → Seeks key inner after (Err e) → Seeks key (F failure inner) (F kept after) (Err answer)
     seek_refused_filtered key seeks =
@@ -202,4 +202,4 @@ module _ (answers : Answers) (closing : Closing) (failure : Option SlateDBError)
 -- The law on a filter under an iterator that resumes.
 pub filters_see_the_key : FiltersSeeTheKey
 filters_see_the_key answers closing inner left new cursor moves is =
-    ap (λ (s : IteratorState). s.rows) is ∙ ap (λ (s : IteratorState). without_first (is_written cursor) (filtered answers closing s.rows).rows) moves
+    ap (λ (s : IteratorState). s.rows) is ∙ ap (λ (s : IteratorState). without_first (is_written cursor) (filtered_rows answers closing s.rows).rows) moves

@@ -13,7 +13,7 @@ use Rattle.fleet_rows.specs.declared.row.RowEntry.{RowEntry}
 use Rattle.fleet_rows.specs.declared.errors.MergeOperatorError.TheVariants.{EmptyBatch, Callback}
 use Rattle.fleet_rows.specs.declared.errors.SlateDBError.{SlateDBError}
 use Rattle.fleet_rows.specs.declared.errors.SlateDBError.TheVariants.{IteratorNotInitialized, IteratorFailed, MergeOperatorMissing, InvalidSequenceOrder, MergeOperator, CompactionFilter, InvalidCompaction, InvalidDBState, Fenced, StoreFault, NotOwner, Conflict, Generate, Memory}
-use Rattle.fleet_fold.specs.Folded.{Folded, opens, joining, last_above, in_order, answer_of, batch_answer, batch_len, one_more, all_answers, over_base, base_among, operands_in, group_answer, merged_group, row_of_answer, folded_behind, up_to_refusal, folded}
+use Rattle.fleet_fold.specs.Folded.{Folded, opens, joining, last_above, in_order, answer_of, batch_answer, batch_len, one_more, all_answers, over_base, base_among, operands_in, group_answer, merged_group, row_of_answer, folded_after, up_to_refusal, folded_groups}
 use Rattle.fleet_fold.specs.Groups.{RefusesNext}
 use Rattle.fleet_fold.specs.Merging.{merging}
 use Rattle.fleet_fold.specs.Retention.{from_ahead}
@@ -79,18 +79,18 @@ module _ (merge : Operator) where
       by (Err x) h = let same : x ≡ e = cc in ap Err same
 
   module _ (rule : GroupRule) where
-    of_first : (r : Row) (rows : List Row) (e : SlateDBError) (others : List (Result Row SlateDBError)) → folded_behind merge rule 0 (r ∷ rows) ≡ Err e ∷ others → OfFold e
+    of_first : (r : Row) (rows : List Row) (e : SlateDBError) (others : List (Result Row SlateDBError)) → folded_after merge rule 0 (r ∷ rows) ≡ Err e ∷ others → OfFold e
     of_first r rows e others h = by (opens rule r) h
       where
         head : (a b : Result Row SlateDBError) (xs ys : List (Result Row SlateDBError)) → ◌≡◌ {A = List (Result Row SlateDBError)} (a ∷ xs) (b ∷ ys) → a ≡ b
         head a b xs ys h = cc h
 
-        by : (b : Bool) → (if b then merged_group merge (r, joining rule r rows) ∷ folded_behind merge rule (length (joining rule r rows)) rows else Ok r ∷ folded_behind merge rule 0 rows) ≡ Err e ∷ others → OfFold e
+        by : (b : Bool) → (if b then merged_group merge (r, joining rule r rows) ∷ folded_after merge rule (length (joining rule r rows)) rows else Ok r ∷ folded_after merge rule 0 rows) ≡ Err e ∷ others → OfFold e
         by true h = of_group (r, joining rule r rows) e (head _ (Err e) _ others h)
         by false h = let clash : ◌≡◌ {A = Result Row SlateDBError} (Ok r) (Err e) = head (Ok r) (Err e) _ others h in absurd (cc clash)
 
     -- If the first answer is an error, no row comes before it.
-    refused : (rows : List Row) (e : SlateDBError) (others : List (Result Row SlateDBError)) → folded_behind merge rule 0 rows ≡ Err e ∷ others → folded merge rule rows ≡ record { rows = []; refusal = Some e }
+    refused : (rows : List Row) (e : SlateDBError) (others : List (Result Row SlateDBError)) → folded_after merge rule 0 rows ≡ Err e ∷ others → folded_groups merge rule rows ≡ record { rows = []; refusal = Some e }
     refused rows e others h = ap up_to_refusal h
 
     both : (a b : Bool) → a && b ≡ true → (a ≡ true) × (b ≡ true)
@@ -104,7 +104,7 @@ module _ (merge : Operator) where
     next_handed ahead inner read after first e rows whole refuses = record {
       read = λ failed. subst (λ (w : Bool). CanFail w e) (sym whole) (refuses.read failed);
       handed = refuses.handed;
-      merged = λ ok other. let (others, is) = refuses.merged ok other in (others, ap (folded_behind merge rule 0) rows ∙ is);
+      merged = λ ok other. let (others, is) = refuses.merged ok other in (others, ap (folded_after merge rule 0) rows ∙ is);
     }
 
     -- What refuses the next row still does once the iterator has kept the error.
@@ -122,36 +122,36 @@ module _ (merge : Operator) where
     next_refused merge' rule' failure kept ahead later inner after first rest e alive marked rows begun refuses = record {
       failed = λ q. absurd (q alive);
       uninitialised = λ _ i. let clash = sym begun ∙ i in absurd (cc clash);
-      answers = λ _ _. record { failed = marked; cause = by after.failure refl; known = λ behind is other. tell behind other (if_whole behind inner.whole refl is) after.failure refl };
+      answers = λ _ _. record { failed = marked; cause = by after.failure refl; known = λ afterwards is other. tell afterwards other (if_whole afterwards inner.whole refl is) after.failure refl };
     }
       where
         some_fails : (x : SlateDBError) → after.failure ≡ Some x → after.failure ≢ None
         some_fails x was none = let clash : ◌≡◌ {A = Option SlateDBError} (Some x) None = sym was ∙ none in cc clash
 
-        if_whole : (behind : SlateDBError) (w : Bool) → inner.whole ≡ w → (if w then (folded merge rule (from_ahead ahead inner)).refusal else None) ≡ Some behind
-            → (inner.whole ≡ true) × ((folded merge rule (from_ahead ahead inner)).refusal ≡ Some behind)
-        if_whole behind true e h = (e, h)
-        if_whole behind false e h = absurd (cc h)
+        if_whole : (afterwards : SlateDBError) (w : Bool) → inner.whole ≡ w → (if w then (folded_groups merge rule (from_ahead ahead inner)).refusal else None) ≡ Some afterwards
+            → (inner.whole ≡ true) × ((folded_groups merge rule (from_ahead ahead inner)).refusal ≡ Some afterwards)
+        if_whole afterwards true e h = (e, h)
+        if_whole afterwards false e h = absurd (cc h)
 
-        tell : (behind : SlateDBError) → e ≢ Memory → (inner.whole ≡ true) × ((folded merge rule (from_ahead ahead inner)).refusal ≡ Some behind) → (o : Option SlateDBError) → after.failure ≡ o → ((folded merge rule (from_ahead ahead inner)).rows ≡ []) × (e ≡ behind)
-        tell behind other (all, is) (Some x) was = absurd (other ((refuses.read (some_fails x was)).memory all))
-        tell behind other (all, is) None was =
+        tell : (afterwards : SlateDBError) → e ≢ Memory → (inner.whole ≡ true) × ((folded_groups merge rule (from_ahead ahead inner)).refusal ≡ Some afterwards) → (o : Option SlateDBError) → after.failure ≡ o → ((folded_groups merge rule (from_ahead ahead inner)).rows ≡ []) × (e ≡ afterwards)
+        tell afterwards other (all, is) (Some x) was = absurd (other ((refuses.read (some_fails x was)).memory all))
+        tell afterwards other (all, is) None was =
             let (others, first_is) = refuses.merged was other in
             let made = refused (from_ahead ahead inner) e others first_is in
-            let same : Some e ≡ Some behind = sym (ap (λ (f : Folded). f.refusal) made) ∙ is in
+            let same : Some e ≡ Some afterwards = sym (ap (λ (f : Folded). f.refusal) made) ∙ is in
             (ap (λ (f : Folded). f.rows) made, cc same)
 
-        by : (o : Option SlateDBError) → after.failure ≡ o → CanFail (inner.whole && is_none (folded merge rule (from_ahead ahead inner)).refusal) e
+        by : (o : Option SlateDBError) → after.failure ≡ o → CanFail (inner.whole && is_none (folded_groups merge rule (from_ahead ahead inner)).refusal) e
         by (Some x) was =
             let h = refuses.read (some_fails x was) in
             record { initialised = h.initialised; alive = h.alive; memory = λ w. h.memory (both inner.whole _ w).0 }
         by None was =
-            let other : (e ≢ Memory) → OfFold e = λ not_memory. let (others, is) = refuses.merged was not_memory in of_first first rest e others (ap (folded_behind merge rule 0) (sym rows) ∙ is) in
+            let other : (e ≢ Memory) → OfFold e = λ not_memory. let (others, is) = refuses.merged was not_memory in of_first first rest e others (ap (folded_after merge rule 0) (sym rows) ∙ is) in
             record {
               initialised = λ is. (other (λ m. let k = sym is ∙ m in cc k)).0 is;
               alive = λ is. (other (λ m. let k = sym is ∙ m in cc k)).1 is;
               memory = λ w. memory_or e (λ not_memory. let (others, is) = refuses.merged was not_memory in
-                  let some : (folded merge rule (from_ahead ahead inner)).refusal ≡ Some e = ap (λ (f : Folded). f.refusal) (refused (from_ahead ahead inner) e others is) in
+                  let some : (folded_groups merge rule (from_ahead ahead inner)).refusal ≡ Some e = ap (λ (f : Folded). f.refusal) (refused (from_ahead ahead inner) e others is) in
                   let clash : false ≡ true = sym (ap is_none some) ∙ (both inner.whole _ w).1 in cc clash);
             }
 
@@ -166,4 +166,4 @@ module _ (merge : Operator) where
         by (Some x) was = (refuses.read (λ none. let clash : ◌≡◌ {A = Option SlateDBError} (Some x) None = sym was ∙ none in cc clash)).initialised early
         by None was =
             let (others, first) = refuses.merged was other in
-            (of_first r rest e others (ap (folded_behind merge rule 0) (sym is) ∙ first)).0 early
+            (of_first r rest e others (ap (folded_after merge rule 0) (sym is) ∙ first)).0 early

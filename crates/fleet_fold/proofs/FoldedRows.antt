@@ -12,7 +12,7 @@ use Rattle.fleet_rows.specs.declared.errors.SlateDBError.{SlateDBError}
 use Rattle.fleet_fold.specs.declared.group.Group.{Group}
 use Rattle.fleet_fold.specs.declared.group.GroupRule.{GroupRule}
 use Rattle.fleet_fold.specs.Retention.{from_ahead, IsReadable}
-use Rattle.fleet_fold.specs.Folded.{joining, merged_group, folded_behind, opens}
+use Rattle.fleet_fold.specs.Folded.{joining, merged_group, folded_after, opens}
 use Rattle.fleet_fold.specs.Groups.{Joins, Closes, RefusesClose, RefusesGroup, FoldsGroup, Folds, RefusesNext}
 
 module _ (merge : Operator) (rule : GroupRule) where
@@ -36,25 +36,25 @@ module _ (merge : Operator) (rule : GroupRule) where
   }
 
   -- The rows that a group has taken are skipped.
-  behind_taken : (xs later : List Row) → folded_behind merge rule (length xs) (xs ++ later) ≡ folded_behind merge rule 0 later
-  behind_taken [] later = refl
-  behind_taken (x ∷ xs) later = behind_taken xs later
+  after_taken : (xs later : List Row) → folded_after merge rule (length xs) (xs ++ later) ≡ folded_after merge rule 0 later
+  after_taken [] later = refl
+  after_taken (x ∷ xs) later = after_taken xs later
 
-  opened : (r : Row) (rows : List Row) → opens rule r ≡ true → folded_behind merge rule 0 (r ∷ rows) ≡ merged_group merge (r, joining rule r rows) ∷ folded_behind merge rule (length (joining rule r rows)) rows
+  opened : (r : Row) (rows : List Row) → opens rule r ≡ true → folded_after merge rule 0 (r ∷ rows) ≡ merged_group merge (r, joining rule r rows) ∷ folded_after merge rule (length (joining rule r rows)) rows
   opened r rows h =
-      ap (λ (b : Bool). if b then merged_group merge (r, joining rule r rows) ∷ folded_behind merge rule (length (joining rule r rows)) rows else Ok r ∷ folded_behind merge rule 0 rows) h
+      ap (λ (b : Bool). if b then merged_group merge (r, joining rule r rows) ∷ folded_after merge rule (length (joining rule r rows)) rows else Ok r ∷ folded_after merge rule 0 rows) h
 
-  passed : (r : Row) (rows : List Row) → opens rule r ≡ false → folded_behind merge rule 0 (r ∷ rows) ≡ Ok r ∷ folded_behind merge rule 0 rows
+  passed : (r : Row) (rows : List Row) → opens rule r ≡ false → folded_after merge rule 0 (r ∷ rows) ≡ Ok r ∷ folded_after merge rule 0 rows
   passed r rows h =
-      ap (λ (b : Bool). if b then merged_group merge (r, joining rule r rows) ∷ folded_behind merge rule (length (joining rule r rows)) rows else Ok r ∷ folded_behind merge rule 0 rows) h
+      ap (λ (b : Bool). if b then merged_group merge (r, joining rule r rows) ∷ folded_after merge rule (length (joining rule r rows)) rows else Ok r ∷ folded_after merge rule 0 rows) h
 
   pub folds_opened : (first r : Row) (old : IteratorState) (later : Option RowEntry) (new : IteratorState) → opens rule first ≡ true → FoldsGroup merge rule first old r later new → Folds merge rule first old r later new
   folds_opened first r old later new is h =
       let taken : List Row = joining rule first old.rows in
       record {
         rows = opened first old.rows is
-            ∙ (ap (λ (a : Result Row SlateDBError). a ∷ folded_behind merge rule (length taken) old.rows) h.group
-            ∙ ap (λ (others : List (Result Row SlateDBError)). Ok r ∷ others) (ap (folded_behind merge rule (length taken)) h.parts ∙ behind_taken taken (from_ahead later new)));
+            ∙ (ap (λ (a : Result Row SlateDBError). a ∷ folded_after merge rule (length taken) old.rows) h.group
+            ∙ ap (λ (others : List (Result Row SlateDBError)). Ok r ∷ others) (ap (folded_after merge rule (length taken)) h.parts ∙ after_taken taken (from_ahead later new)));
         readable = h.readable;
         whole = h.whole;
         steady = h.steady;
@@ -69,7 +69,7 @@ module _ (merge : Operator) (rule : GroupRule) where
     read = h.read;
     handed = h.handed;
     merged = λ alive other. (
-      folded_behind merge rule (length (joining rule first old.rows)) old.rows,
-      opened first old.rows is ∙ ap (λ (a : Result Row SlateDBError). a ∷ folded_behind merge rule (length (joining rule first old.rows)) old.rows) (h.merged alive other),
+      folded_after merge rule (length (joining rule first old.rows)) old.rows,
+      opened first old.rows is ∙ ap (λ (a : Result Row SlateDBError). a ∷ folded_after merge rule (length (joining rule first old.rows)) old.rows) (h.merged alive other),
     );
   }

@@ -15,7 +15,7 @@ use Rattle.fleet_iter.proofs.RisingRows.{moves_alive, moves_rising}
 use Rattle.fleet_rows.specs.Row.{rows_of}
 use Rattle.fleet_rows.specs.declared.row.RowEntry.{RowEntry}
 use Rattle.fleet_rows.specs.declared.errors.SlateDBError.{SlateDBError}
-use Rattle.fleet_fold.specs.Folded.{Folded, opens, joining, same_group, merged_group, merged_row, row_of_answer, group_answer, folded_behind, before_refusal, up_to_refusal, folded}
+use Rattle.fleet_fold.specs.Folded.{Folded, opens, joining, same_group, merged_group, merged_row, row_of_answer, group_answer, folded_after, before_refusal, up_to_refusal, folded_groups}
 use Rattle.fleet_fold.specs.Merging.{merging, ReadsGroups}
 use Rattle.fleet_fold.specs.Retention.{from_ahead}
 use Rattle.fleet_fold.specs.declared.group.GroupRule.{GroupRule}
@@ -24,12 +24,12 @@ use Rattle.fleet_fold.proofs.Plain.{inexact}
 
 module _ (merge : Operator) (rule : GroupRule) where
   abbrev pub U : ℕ → List Row → Folded
-  U taken rows = up_to_refusal (folded_behind merge rule taken rows)
+  U taken rows = up_to_refusal (folded_after merge rule taken rows)
 
   -- What a row and the rows after it become.
   abbrev pub made_of : Bool → Row → List Row → Folded
   made_of opened r rows =
-      up_to_refusal (if opened then merged_group merge (r, joining rule r rows) ∷ folded_behind merge rule (length (joining rule r rows)) rows else Ok r ∷ folded_behind merge rule 0 rows)
+      up_to_refusal (if opened then merged_group merge (r, joining rule r rows) ∷ folded_after merge rule (length (joining rule r rows)) rows else Ok r ∷ folded_after merge rule 0 rows)
 
   pub merged_key : (g : Chunk Row) (q : Row) → merged_group merge g ≡ Ok q → q.key ≡ g.0.key
   merged_key g q h = by (group_answer merge g) h
@@ -49,8 +49,8 @@ module _ (merge : Operator) (rule : GroupRule) where
       first (Ok q) later is rest = (subst P (sym (merged_key (r, joining rule r rows) q is)) all.0, rest)
 
       by : (b : Bool) → AllByRecursion (λ q. P q.key) (U (length (joining rule r rows)) rows).rows → AllByRecursion (λ q. P q.key) (U 0 rows).rows → AllByRecursion (λ q. P q.key) (made_of b r rows).rows
-      by true behind rest = first (merged_group merge (r, joining rule r rows)) (U (length (joining rule r rows)) rows) refl behind
-      by false behind rest = (all.0, rest)
+      by true afterwards rest = first (merged_group merge (r, joining rule r rows)) (U (length (joining rule r rows)) rows) refl afterwards
+      by false afterwards rest = (all.0, rest)
 
   pub folded_rise : (taken : ℕ) (rows : List Row) → AreRising rows → AreRising (U taken rows).rows
   folded_rise taken [] h = tt
@@ -63,8 +63,8 @@ module _ (merge : Operator) (rule : GroupRule) where
           (subst (λ (k : List ℕ). AllByRecursion (λ x. is_gt (key_cmp k x.key) ≡ false) (U (length (joining rule r rows)) rows).rows) (sym (merged_key (r, joining rule r rows) q is)) (all_made (λ k. is_gt (key_cmp r.key k) ≡ false) (length (joining rule r rows)) rows h.0), rest)
 
       by : (b : Bool) → AreRising (U (length (joining rule r rows)) rows).rows → AreRising (U 0 rows).rows → AreRising (made_of b r rows).rows
-      by true behind rest = first (merged_group merge (r, joining rule r rows)) refl behind
-      by false behind rest = (all_made (λ k. is_gt (key_cmp r.key k) ≡ false) 0 rows h.0, rest)
+      by true afterwards rest = first (merged_group merge (r, joining rule r rows)) refl afterwards
+      by false afterwards rest = (all_made (λ k. is_gt (key_cmp r.key k) ≡ false) 0 rows h.0, rest)
 
   -- ---- from a key on
 
@@ -135,12 +135,12 @@ module _ (merge : Operator) (rule : GroupRule) where
             → (is_below key r ≡ true → (U (length (joining rule r rows)) rows).refusal ≡ None → U 0 (from_key key rows) ≡ From (U (length (joining rule r rows)) rows))
             → ((U 0 rows).refusal ≡ None → U 0 (from_key key rows) ≡ From (U 0 rows))
             → (made_of opened r rows).refusal ≡ None → U 0 (cond b (from_key key rows) (r ∷ rows)) ≡ From (made_of opened r rows)
-        by true e true o behind rest none =
+        by true e true o afterwards rest none =
             let answer = merged_group merge (r, joining rule r rows) in
             let later = U (length (joining rule r rows)) rows in
-            behind e (later_none answer later none) ∙ sym (goes answer later (own true e) none)
-        by true e false o behind rest none = rest none ∙ sym (goes (Ok r) (U 0 rows) (itself true e) none)
-        by false e opened o behind rest none = ap (λ (b : Bool). made_of b r rows) o ∙ kept opened none
+            afterwards e (later_none answer later none) ∙ sym (goes answer later (own true e) none)
+        by true e false o afterwards rest none = rest none ∙ sym (goes (Ok r) (U 0 rows) (itself true e) none)
+        by false e opened o afterwards rest none = ap (λ (b : Bool). made_of b r rows) o ∙ kept opened none
           where
             kept : (opened : Bool) → (made_of opened r rows).refusal ≡ None → made_of opened r rows ≡ From (made_of opened r rows)
             kept true none = stays (merged_group merge (r, joining rule r rows)) (U (length (joining rule r rows)) rows) (own false e) none
@@ -169,37 +169,37 @@ module _ (key : List ℕ) (merge : Operator) (rule : GroupRule) (ahead later : O
   through = seek-through key (rows_of (option_to_list ahead)) inner.rows (sym at ∙ ap (λ (o : Option RowEntry). rows_of (option_to_list o)) gone)
 
   abbrev W : Bool
-  W = inner.whole && is_none (folded merge rule R).refusal
+  W = inner.whole && is_none (folded_groups merge rule R).refusal
 
   passes : inner.steady && W ≡ false → after.initialised ≡ inner.initialised → AreRising after.rows → Moves (inner.steady && W) key A B
   passes was begun rising =
       subst (λ (b : Bool). Moves b key A B) (sym was)
-      (record { initialised = begun; failure = refl; rising = subst (λ (w : List Row). AreRising (folded merge rule w).rows) (sym left_over) (folded_rise merge rule 0 after.rows rising) })
+      (record { initialised = begun; failure = refl; rising = subst (λ (w : List Row). AreRising (folded_groups merge rule w).rows) (sym left_over) (folded_rise merge rule 0 after.rows rising) })
 
-  moved : AreRising inner.rows → (exact : Bool) → is_exact inner ≡ exact → (o : Option SlateDBError) → (folded merge rule R).refusal ≡ o → Moves exact key inner after → Moves (inner.steady && W) key A B
+  moved : AreRising inner.rows → (exact : Bool) → is_exact inner ≡ exact → (o : Option SlateDBError) → (folded_groups merge rule R).refusal ≡ o → Moves exact key inner after → Moves (inner.steady && W) key A B
   moved rising true exact None eo m =
       let ew : inner.whole ≡ true = (and_parts inner.steady inner.whole exact).1 in
-      let w_true : W ≡ true = ap (λ (b : Bool). b && is_none (folded merge rule R).refusal) ew ∙ ap is_none eo in
+      let w_true : W ≡ true = ap (λ (b : Bool). b && is_none (folded_groups merge rule R).refusal) ew ∙ ap is_none eo in
       let was : inner.steady && W ≡ true = ap (λ (b : Bool). b && W) (and_parts inner.steady inner.whole exact).0 ∙ w_true in
       let rows : from_ahead later after ≡ from_key key R = left_over ∙ (ap (λ (s : IteratorState). s.rows) m ∙ sym through) in
-      let made : folded merge rule (from_ahead later after) ≡ record { rows = from_key key (folded merge rule R).rows; refusal = None } = ap (folded merge rule) rows ∙ folded_from merge rule key 0 R tt eo in
+      let made : folded_groups merge rule (from_ahead later after) ≡ record { rows = from_key key (folded_groups merge rule R).rows; refusal = None } = ap (folded_groups merge rule) rows ∙ folded_from merge rule key 0 R tt eo in
       let left : B.rows ≡ from_key key A.rows = ap (λ (f : Folded). f.rows) made in
       let begun : after.initialised ≡ inner.initialised = ap (λ (s : IteratorState). s.initialised) m in
       let steady : after.steady ≡ inner.steady = ap (λ (s : IteratorState). s.steady) m in
-      let now : after.whole && is_none (folded merge rule (from_ahead later after)).refusal ≡ true =
-      ap (λ (b : Bool). b && is_none (folded merge rule (from_ahead later after)).refusal) (ap (λ (s : IteratorState). s.whole) m ∙ ew) ∙ ap (λ (f : Folded). is_none f.refusal) made in
+      let now : after.whole && is_none (folded_groups merge rule (from_ahead later after)).refusal ≡ true =
+      ap (λ (b : Bool). b && is_none (folded_groups merge rule (from_ahead later after)).refusal) (ap (λ (s : IteratorState). s.whole) m ∙ ew) ∙ ap (λ (f : Folded). is_none f.refusal) made in
       let whole : B.whole ≡ A.whole = now ∙ sym w_true in
       let none_left : B.refusal ≡ None =
-      ap (λ (b : Bool). if b then (folded merge rule (from_ahead later after)).refusal else None) (ap (λ (s : IteratorState). s.whole) m ∙ ew) ∙ ap (λ (f : Folded). f.refusal) made in
-      let none_there : A.refusal ≡ None = ap (λ (b : Bool). if b then (folded merge rule R).refusal else None) ew ∙ eo in
+      ap (λ (b : Bool). if b then (folded_groups merge rule (from_ahead later after)).refusal else None) (ap (λ (s : IteratorState). s.whole) m ∙ ew) ∙ ap (λ (f : Folded). f.refusal) made in
+      let none_there : A.refusal ≡ None = ap (λ (b : Bool). if b then (folded_groups merge rule R).refusal else None) ew ∙ eo in
       subst (λ (b : Bool). Moves b key A B) (sym was)
       (ap (λ (w : List Row). S w after.initialised after.steady B.whole B.refusal) left
       ∙ (ap (λ (b : Bool). S (from_key key A.rows) b after.steady B.whole B.refusal) begun
       ∙ (ap (λ (b : Bool). S (from_key key A.rows) inner.initialised b B.whole B.refusal) steady
       ∙ (ap (λ (b : Bool). S (from_key key A.rows) inner.initialised inner.steady b B.refusal) whole ∙ ap (S (from_key key A.rows) inner.initialised inner.steady A.whole) (none_left ∙ sym none_there)))))
   moved rising true exact (Some e) eo m =
-      passes (and_right inner.steady W (and_right inner.whole (is_none (folded merge rule R).refusal) (ap is_none eo))) (ap (λ (s : IteratorState). s.initialised) m) (moves_rising key inner after true m rising)
-  moved rising false exact o eo m = passes (inexact inner.steady inner.whole (is_none (folded merge rule R).refusal) exact) m.initialised m.rising
+      passes (and_right inner.steady W (and_right inner.whole (is_none (folded_groups merge rule R).refusal) (ap is_none eo))) (ap (λ (s : IteratorState). s.initialised) m) (moves_rising key inner after true m rising)
+  moved rising false exact o eo m = passes (inexact inner.steady inner.whole (is_none (folded_groups merge rule R).refusal) exact) m.initialised m.rising
 
 pub seeks_folded : (key : List ℕ) (merge : Operator) (rule : GroupRule) (failure : Option SlateDBError) (ahead later : Option RowEntry) (inner after : IteratorState) → failure ≡ None → ReadsGroups merge rule failure ahead inner → AreRising (from_ahead ahead inner)
     → rows_of (option_to_list later) ≡ from_key key (rows_of (option_to_list ahead)) → later ≡ None → Seeks key inner after (Ok tt) → Seeks key (merging failure merge rule ahead inner) (merging failure merge rule later after) (Ok tt)
@@ -210,7 +210,7 @@ seeks_folded key merge rule None ahead later inner after alive k rises at gone s
     record {
       failed = λ q. absurd (q refl);
       uninitialised = λ _ i. let e = sym begun ∙ i in absurd (cc e);
-      answers = λ _ _. moved key merge rule ahead later inner after at gone (rising_back (rows_of (option_to_list ahead)) inner.rows rises) (is_exact inner) refl (folded merge rule (from_ahead ahead inner)).refusal refl moves;
+      answers = λ _ _. moved key merge rule ahead later inner after at gone (rising_back (rows_of (option_to_list ahead)) inner.rows rises) (is_exact inner) refl (folded_groups merge rule (from_ahead ahead inner)).refusal refl moves;
     }
 
 pub reads_groups : (key : List ℕ) (merge : Operator) (rule : GroupRule) (failure : Option SlateDBError) (ahead later : Option RowEntry) (inner after : IteratorState) → ReadsGroups merge rule failure ahead inner → AreRising (from_ahead ahead inner) → later ≡ None → Seeks key inner after (Ok tt) → ReadsGroups merge rule failure later after

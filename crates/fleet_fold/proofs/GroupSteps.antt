@@ -65,15 +65,15 @@ module _ (merge : Operator) where
             ∙ (h.cut (row ∷ later) ∙ ap (λ (w : List Row). h.done ++ batches batch_len w) (sym (append_assoc p (row ∷ []) later)));
         folded = h.folded ∙ ap (λ (w : List (List ℕ)). map Ok w) (sym (folded ∙ notes.folded));
         batch = ap reverse (batch ∙ ap (λ (w : List (List ℕ)). w ++ x ∷ []) notes.batch) ∙ (reverse-append old.batch.items (x ∷ [])
-            ∙ (ap (λ (w : List (List ℕ)). x ∷ w) h.batch ∙ (ap (λ (w : List (List ℕ)). w ++ group_operands p) (sym (operand_of row.content x is)) ∙ sym (behind p (h.plain)))));
+            ∙ (ap (λ (w : List (List ℕ)). x ∷ w) h.batch ∙ (ap (λ (w : List (List ℕ)). w ++ group_operands p) (sym (operand_of row.content x is)) ∙ sym (after p (h.plain)))));
         plain = operands-snoc p row h.plain operand;
         count = ap length batch ∙ (length-snoc mid.batch.items x ∙ (ap (λ (w : List (List ℕ)). suc (length w)) notes.batch ∙ (ap suc h.count ∙ sym (length-snoc p row))));
         late = late ∙ (notes.late ∙ (ap (λ (n : ℕ). option_or (above n row) old.late) h.seq ∙ (ap (option_or (above first.seq row)) h.late ∙ sym (last_above-snoc first.seq p row))));
         room = let short = h.room in let more = length-snoc p row in omega arith;
       }
     where
-      behind : (xs : List Row) → AllOperands xs → group_operands (xs ++ row ∷ []) ≡ with_group_operand row.content [] ++ group_operands xs
-      behind xs all = group_operands-append xs (row ∷ []) all
+      after : (xs : List Row) → AllOperands xs → group_operands (xs ++ row ∷ []) ≡ with_group_operand row.content [] ++ group_operands xs
+      after xs all = group_operands-append xs (row ∷ []) all
 
 -- ---- a batch is merged
 

@@ -17,7 +17,7 @@ use Rattle.row_laws.proofs.ApartRows.{chunk_by-append}
 use Rattle.row_laws.proofs.Elements.{all_weaken}
 use Rattle.row_laws.proofs.KeptReads.{flat, flat-chunk_by}
 use Rattle.fleet_rows.specs.declared.errors.SlateDBError.{SlateDBError}
-use Rattle.fleet_fold.specs.Folded.{Folded, opens, same_group, joining, group_answer, row_of_answer, merged_group, merged_row, folded_behind, before_refusal, up_to_refusal, folded}
+use Rattle.fleet_fold.specs.Folded.{Folded, opens, same_group, joining, group_answer, row_of_answer, merged_group, merged_row, folded_after, before_refusal, up_to_refusal, folded_groups}
 use Rattle.fleet_fold.specs.Jobs.{job_rule, rows_if_whole, FoldsMakeJobs}
 use Rattle.fleet_fold.specs.Retention.{HaveOneKey, AreEndedBy}
 use Rattle.fleet_fold.specs.declared.group.GroupRule.{GroupRule}
@@ -51,22 +51,22 @@ module _ (merge : Operator) (rule : GroupRule) where
       by false operand rest = omega arith
 
   -- A group in the first list takes no row of the second list.
-  behind-append : (taken : ℕ) (xs ys : List Row) → taken ≤ length xs → AreApart xs ys → folded_behind merge rule taken (xs ++ ys) ≡ folded_behind merge rule taken xs ++ folded_behind merge rule 0 ys
-  behind-append zero [] ys few apart = refl
-  behind-append (suc taken) [] ys few apart = absurd (omega arith)
-  behind-append (suc taken) (x ∷ xs) ys few apart = behind-append taken xs ys (omega arith) apart.1
-  behind-append zero (x ∷ xs) ys few apart =
-      by (opens rule x) (joining-append x xs ys apart.0) (behind-append (length (joining rule x xs)) xs ys (joining_short x xs) apart.1) (behind-append 0 xs ys (omega arith) apart.1)
+  after-append : (taken : ℕ) (xs ys : List Row) → taken ≤ length xs → AreApart xs ys → folded_after merge rule taken (xs ++ ys) ≡ folded_after merge rule taken xs ++ folded_after merge rule 0 ys
+  after-append zero [] ys few apart = refl
+  after-append (suc taken) [] ys few apart = absurd (omega arith)
+  after-append (suc taken) (x ∷ xs) ys few apart = after-append taken xs ys (omega arith) apart.1
+  after-append zero (x ∷ xs) ys few apart =
+      by (opens rule x) (joining-append x xs ys apart.0) (after-append (length (joining rule x xs)) xs ys (joining_short x xs) apart.1) (after-append 0 xs ys (omega arith) apart.1)
     where
       by : (b : Bool) → joining rule x (xs ++ ys) ≡ joining rule x xs
-          → folded_behind merge rule (length (joining rule x xs)) (xs ++ ys) ≡ folded_behind merge rule (length (joining rule x xs)) xs ++ folded_behind merge rule 0 ys
-          → folded_behind merge rule 0 (xs ++ ys) ≡ folded_behind merge rule 0 xs ++ folded_behind merge rule 0 ys
-          → (if b then merged_group merge (x, joining rule x (xs ++ ys)) ∷ folded_behind merge rule (length (joining rule x (xs ++ ys))) (xs ++ ys) else Ok x ∷ folded_behind merge rule 0 (xs ++ ys))
-          ≡ (if b then merged_group merge (x, joining rule x xs) ∷ folded_behind merge rule (length (joining rule x xs)) xs else Ok x ∷ folded_behind merge rule 0 xs) ++ folded_behind merge rule 0 ys
-      by true same behind rest =
-          ap (λ (joined : List Row). merged_group merge (x, joined) ∷ folded_behind merge rule (length joined) (xs ++ ys)) same
-          ∙ ap (λ (later : List (Result Row SlateDBError)). merged_group merge (x, joining rule x xs) ∷ later) behind
-      by false same behind rest = ap (λ (later : List (Result Row SlateDBError)). Ok x ∷ later) rest
+          → folded_after merge rule (length (joining rule x xs)) (xs ++ ys) ≡ folded_after merge rule (length (joining rule x xs)) xs ++ folded_after merge rule 0 ys
+          → folded_after merge rule 0 (xs ++ ys) ≡ folded_after merge rule 0 xs ++ folded_after merge rule 0 ys
+          → (if b then merged_group merge (x, joining rule x (xs ++ ys)) ∷ folded_after merge rule (length (joining rule x (xs ++ ys))) (xs ++ ys) else Ok x ∷ folded_after merge rule 0 (xs ++ ys))
+          ≡ (if b then merged_group merge (x, joining rule x xs) ∷ folded_after merge rule (length (joining rule x xs)) xs else Ok x ∷ folded_after merge rule 0 xs) ++ folded_after merge rule 0 ys
+      by true same after rest =
+          ap (λ (joined : List Row). merged_group merge (x, joined) ∷ folded_after merge rule (length joined) (xs ++ ys)) same
+          ∙ ap (λ (later : List (Result Row SlateDBError)). merged_group merge (x, joining rule x xs) ∷ later) after
+      by false same after rest = ap (λ (later : List (Result Row SlateDBError)). Ok x ∷ later) rest
 
   -- ---- folded rows have keys of the rows
 
@@ -77,22 +77,22 @@ module _ (merge : Operator) (rule : GroupRule) where
       by (Ok bytes) h = let e : merged_row g bytes ≡ q = cc in sym (ap (λ (r : Row). r.key) e)
       by (Err e) h = absurd (cc h)
 
-  behind_keys : (P : List ℕ → Type 0) (taken : ℕ) (rows : List Row) → AllByRecursion (λ r. P r.key) rows → AllByRecursion (λ r. P r.key) (up_to_refusal (folded_behind merge rule taken rows)).rows
-  behind_keys P taken [] all = tt
-  behind_keys P (suc taken) (r ∷ rows) all = behind_keys P taken rows all.1
-  behind_keys P zero (r ∷ rows) all = by (opens rule r) (behind_keys P (length (joining rule r rows)) rows all.1) (behind_keys P 0 rows all.1)
+  after_keys : (P : List ℕ → Type 0) (taken : ℕ) (rows : List Row) → AllByRecursion (λ r. P r.key) rows → AllByRecursion (λ r. P r.key) (up_to_refusal (folded_after merge rule taken rows)).rows
+  after_keys P taken [] all = tt
+  after_keys P (suc taken) (r ∷ rows) all = after_keys P taken rows all.1
+  after_keys P zero (r ∷ rows) all = by (opens rule r) (after_keys P (length (joining rule r rows)) rows all.1) (after_keys P 0 rows all.1)
     where
       first : (answer : Result Row SlateDBError) (later : Folded) → merged_group merge (r, joining rule r rows) ≡ answer → AllByRecursion (λ q. P q.key) later.rows → AllByRecursion (λ q. P q.key) (before_refusal answer later).rows
       first (Err e) later is rest = tt
       first (Ok q) later is rest = (subst P (sym (merged_key (r, joining rule r rows) q is)) all.0, rest)
 
-      by : (b : Bool) → AllByRecursion (λ q. P q.key) (up_to_refusal (folded_behind merge rule (length (joining rule r rows)) rows)).rows → AllByRecursion (λ q. P q.key) (up_to_refusal (folded_behind merge rule 0 rows)).rows
-          → AllByRecursion (λ q. P q.key) (up_to_refusal (if b then merged_group merge (r, joining rule r rows) ∷ folded_behind merge rule (length (joining rule r rows)) rows else Ok r ∷ folded_behind merge rule 0 rows)).rows
-      by true behind rest = first (merged_group merge (r, joining rule r rows)) (up_to_refusal (folded_behind merge rule (length (joining rule r rows)) rows)) refl behind
-      by false behind rest = (all.0, rest)
+      by : (b : Bool) → AllByRecursion (λ q. P q.key) (up_to_refusal (folded_after merge rule (length (joining rule r rows)) rows)).rows → AllByRecursion (λ q. P q.key) (up_to_refusal (folded_after merge rule 0 rows)).rows
+          → AllByRecursion (λ q. P q.key) (up_to_refusal (if b then merged_group merge (r, joining rule r rows) ∷ folded_after merge rule (length (joining rule r rows)) rows else Ok r ∷ folded_after merge rule 0 rows)).rows
+      by true after rest = first (merged_group merge (r, joining rule r rows)) (up_to_refusal (folded_after merge rule (length (joining rule r rows)) rows)) refl after
+      by false after rest = (all.0, rest)
 
-  pub folded_keys : (P : List ℕ → Type 0) (rows : List Row) → AllByRecursion (λ r. P r.key) rows → AllByRecursion (λ r. P r.key) (folded merge rule rows).rows
-  folded_keys P rows all = behind_keys P 0 rows all
+  pub folded_keys : (P : List ℕ → Type 0) (rows : List Row) → AllByRecursion (λ r. P r.key) rows → AllByRecursion (λ r. P r.key) (folded_groups merge rule rows).rows
+  folded_keys P rows all = after_keys P 0 rows all
 
 -- ---- up to the first refusal of two lists
 
@@ -110,11 +110,11 @@ up_to-refused (Err x ∷ xs) ys e some = refl
 up_to-refused (Ok r ∷ xs) ys e some = ap (before_refusal (Ok r)) (up_to-refused xs ys e some)
 
 module _ (merge : Operator) (rule : GroupRule) (xs ys : List Row) (apart : AreApart xs ys) where
-  pub folded-append : (folded merge rule xs).refusal ≡ None → folded merge rule (xs ++ ys) ≡ folded_of ((folded merge rule xs).rows ++ (folded merge rule ys).rows) (folded merge rule ys).refusal
-  folded-append none = ap up_to_refusal (behind-append merge rule 0 xs ys (omega arith) apart) ∙ up_to-append (folded_behind merge rule 0 xs) (folded_behind merge rule 0 ys) none
+  pub folded-append : (folded_groups merge rule xs).refusal ≡ None → folded_groups merge rule (xs ++ ys) ≡ folded_of ((folded_groups merge rule xs).rows ++ (folded_groups merge rule ys).rows) (folded_groups merge rule ys).refusal
+  folded-append none = ap up_to_refusal (after-append merge rule 0 xs ys (omega arith) apart) ∙ up_to-append (folded_after merge rule 0 xs) (folded_after merge rule 0 ys) none
 
-  pub folded-refused : (e : SlateDBError) → (folded merge rule xs).refusal ≡ Some e → folded merge rule (xs ++ ys) ≡ folded merge rule xs
-  folded-refused e some = ap up_to_refusal (behind-append merge rule 0 xs ys (omega arith) apart) ∙ up_to-refused (folded_behind merge rule 0 xs) (folded_behind merge rule 0 ys) e some
+  pub folded-refused : (e : SlateDBError) → (folded_groups merge rule xs).refusal ≡ Some e → folded_groups merge rule (xs ++ ys) ≡ folded_groups merge rule xs
+  folded-refused e some = ap up_to_refusal (after-append merge rule 0 xs ys (omega arith) apart) ∙ up_to-refused (folded_after merge rule 0 xs) (folded_after merge rule 0 ys) e some
 
 -- ---- what is kept of one key and of the others
 
@@ -152,10 +152,10 @@ job_of rows whole = record { rows = rows; whole = whole }
 
 module _ (merge : Operator) (lawful : IsLawful merge) (settings : Settings) (g : Chunk Row) (gs : List (Chunk Row)) (whole : AreWholeKeys (g ∷ gs)) where
   abbrev here : Folded
-  here = folded merge (job_rule settings.cut) (elements g)
+  here = folded_groups merge (job_rule settings.cut) (elements g)
 
   abbrev later : Folded
-  later = folded merge (job_rule settings.cut) (flat gs)
+  later = folded_groups merge (job_rule settings.cut) (flat gs)
 
   pub is_model : rows_if_whole here ≡ folded_rows merge settings.cut (elements g)
   is_model = folds_one_key merge lawful settings.cut g.0.key (elements g) whole.0
@@ -170,7 +170,7 @@ module _ (merge : Operator) (lawful : IsLawful merge) (settings : Settings) (g :
   pub job_on : here.refusal ≡ None → keys_job merge settings (g ∷ gs) ≡ job_of (kept_rows settings here.rows ++ (keys_job merge settings gs).rows) (keys_job merge settings gs).whole
   job_on none = ap (λ (k : Option (List Row)). joined_keys (k ∷ map (λ g. key_rows merge settings (elements g)) gs)) (made_here none)
 
-  pub folded_on : here.refusal ≡ None → folded merge (job_rule settings.cut) (elements g ++ flat gs) ≡ folded_of (here.rows ++ later.rows) later.refusal
+  pub folded_on : here.refusal ≡ None → folded_groups merge (job_rule settings.cut) (elements g ++ flat gs) ≡ folded_of (here.rows ++ later.rows) later.refusal
   folded_on none = folded-append merge (job_rule settings.cut) (elements g) (flat gs) apart none
 
   -- The job makes nothing of a key in which a fold refuses.
@@ -180,7 +180,7 @@ module _ (merge : Operator) (lawful : IsLawful merge) (settings : Settings) (g :
   pub job_ends : (e : SlateDBError) → here.refusal ≡ Some e → keys_job merge settings (g ∷ gs) ≡ job_of [] false
   job_ends e some = ap (λ (k : Option (List Row)). joined_keys (k ∷ map (λ g. key_rows merge settings (elements g)) gs)) (refused_here e some)
 
-  pub folded_ends : (e : SlateDBError) → here.refusal ≡ Some e → folded merge (job_rule settings.cut) (elements g ++ flat gs) ≡ here
+  pub folded_ends : (e : SlateDBError) → here.refusal ≡ Some e → folded_groups merge (job_rule settings.cut) (elements g ++ flat gs) ≡ here
   folded_ends e some = folded-refused merge (job_rule settings.cut) (elements g) (flat gs) apart e some
 
   pub here_keys : AllByRecursion (λ r. r.key ≡ g.0.key) here.rows
@@ -196,7 +196,7 @@ Agree settings f job = (is_none f.refusal ≡ job.whole) × (job.whole ≡ true 
 
 module _ (merge : Operator) (lawful : IsLawful merge) (settings : Settings) where
   abbrev make : List Row → Folded
-  make rows = folded merge (job_rule settings.cut) rows
+  make rows = folded_groups merge (job_rule settings.cut) rows
 
   agree : (gs : List (Chunk Row)) → AreWholeKeys gs → Agree settings (make (flat gs)) (keys_job merge settings gs)
   agree [] whole = (refl, λ _. refl)
@@ -220,6 +220,6 @@ module _ (merge : Operator) (lawful : IsLawful merge) (settings : Settings) wher
 pub folds_make_jobs : (merge : Operator) → IsLawful merge → FoldsMakeJobs merge
 folds_make_jobs merge lawful settings rows ordered =
     let same : flat (chunk_by same_key rows) ≡ rows = flat-chunk_by same_key rows in
-    let both : Agree settings (folded merge (job_rule settings.cut) rows) (job_rows merge settings rows) =
-    subst (λ (xs : List Row). Agree settings (folded merge (job_rule settings.cut) xs) (job_rows merge settings rows)) same (agree merge lawful settings (chunk_by same_key rows) (whole_keys rows ordered)) in
+    let both : Agree settings (folded_groups merge (job_rule settings.cut) rows) (job_rows merge settings rows) =
+    subst (λ (xs : List Row). Agree settings (folded_groups merge (job_rule settings.cut) xs) (job_rows merge settings rows)) same (agree merge lawful settings (chunk_by same_key rows) (whole_keys rows ordered)) in
     record { whole = both.0; kept = both.1 }

@@ -26,7 +26,7 @@ use Rattle.row_laws.proofs.Elements.{all_weaken}
 use Rattle.row_laws.proofs.KeptReads.{flat, flat-chunk_by}
 use Rattle.row_laws.proofs.KeyRows.{Keys, IsOther, key_alike, of_key-all, of_key-append, of_key-others, whole_both}
 use Rattle.fleet_rows.specs.declared.errors.SlateDBError.{SlateDBError}
-use Rattle.fleet_fold.specs.Folded.{Folded, folded}
+use Rattle.fleet_fold.specs.Folded.{Folded, folded_groups}
 use Rattle.fleet_fold.specs.Jobs.{job_rule, BeginsJob, FoldsBeginJobs}
 use Rattle.fleet_fold.specs.Retention.{kept_given}
 use Rattle.fleet_fold.specs.declared.group.GroupRule.{GroupRule}
@@ -55,10 +55,10 @@ module _ (merge : Operator) (lawful : IsLawful merge) (settings : Settings) (g :
   all = elements g ++ flat gs
 
   abbrev here : Folded
-  here = folded merge rule (elements g)
+  here = folded_groups merge rule (elements g)
 
   abbrev later : Folded
-  later = folded merge rule (flat gs)
+  later = folded_groups merge rule (flat gs)
 
   abbrev make : List Row → JobRows
   make rows = job_rows merge settings rows
@@ -113,36 +113,36 @@ module _ (merge : Operator) (lawful : IsLawful merge) (settings : Settings) (g :
   made_rows none =
       ap (λ (j : JobRows). j.rows) (made_one ∙ ap (λ (k : Option (List Row)). joined_keys (k ∷ [])) (made_here merge lawful settings g gs whole none)) ∙ append-nil (kept_rows settings here.rows)
 
-  rows_on : here.refusal ≡ None → (folded merge rule all).rows ≡ here.rows ++ later.rows
+  rows_on : here.refusal ≡ None → (folded_groups merge rule all).rows ≡ here.rows ++ later.rows
   rows_on none = ap (λ (f : Folded). f.rows) (folded_on merge lawful settings g gs whole none)
 
-  rows_end : (e : SlateDBError) → here.refusal ≡ Some e → (folded merge rule all).rows ≡ here.rows
+  rows_end : (e : SlateDBError) → here.refusal ≡ Some e → (folded_groups merge rule all).rows ≡ here.rows
   rows_end e some = ap (λ (f : Folded). f.rows) (folded_ends merge lawful settings g gs whole e some)
 
-  ends_alone : (folded merge rule all).rows ≡ here.rows → kept_given settings false (folded merge rule all).rows ≡ []
+  ends_alone : (folded_groups merge rule all).rows ≡ here.rows → kept_given settings false (folded_groups merge rule all).rows ≡ []
   ends_alone is = ap (kept_given settings false) is ∙ before_alone settings g.0.key here.rows (here_keys merge lawful settings g gs whole)
 
-  goes_on : here.refusal ≡ None → later.rows ≢ [] → kept_given settings false (folded merge rule all).rows ≡ kept_rows settings here.rows ++ kept_given settings false later.rows
+  goes_on : here.refusal ≡ None → later.rows ≢ [] → kept_given settings false (folded_groups merge rule all).rows ≡ kept_rows settings here.rows ++ kept_given settings false later.rows
   goes_on none some =
       ap (kept_given settings false) (rows_on none)
       ∙ before_on settings g.0.key here.rows later.rows (here_keys merge lawful settings g gs whole) (later_keys merge lawful settings g gs whole) (folds_some merge rule g.0 g.1 none) some
 
   -- ---- the beginning
 
-  pub begins_on : IsPrefixOf (kept_given settings false later.rows) (keys_job merge settings gs).rows → IsPrefixOf (kept_given settings false (folded merge rule all).rows) (keys_job merge settings (g ∷ gs)).rows
+  pub begins_on : IsPrefixOf (kept_given settings false later.rows) (keys_job merge settings gs).rows → IsPrefixOf (kept_given settings false (folded_groups merge rule all).rows) (keys_job merge settings (g ∷ gs)).rows
   begins_on rest = by here.refusal refl later.rows refl
     where
       made : List Row
       made = (keys_job merge settings (g ∷ gs)).rows
 
-      by : (refusal : Option SlateDBError) → here.refusal ≡ refusal → (rows : List Row) → later.rows ≡ rows → IsPrefixOf (kept_given settings false (folded merge rule all).rows) made
-      by None none [] empty = nothing_begins (kept_given settings false (folded merge rule all).rows) made (ends_alone (rows_on none ∙ (ap (λ (w : List Row). here.rows ++ w) empty ∙ append-nil here.rows)))
+      by : (refusal : Option SlateDBError) → here.refusal ≡ refusal → (rows : List Row) → later.rows ≡ rows → IsPrefixOf (kept_given settings false (folded_groups merge rule all).rows) made
+      by None none [] empty = nothing_begins (kept_given settings false (folded_groups merge rule all).rows) made (ends_alone (rows_on none ∙ (ap (λ (w : List Row). here.rows ++ w) empty ∙ append-nil here.rows)))
       by None none (q ∷ rows) is =
-          same_begins (kept_given settings false (folded merge rule all).rows) made (kept_rows settings here.rows ++ kept_given settings false later.rows) (kept_rows settings here.rows ++ (keys_job merge settings gs).rows)
+          same_begins (kept_given settings false (folded_groups merge rule all).rows) made (kept_rows settings here.rows ++ kept_given settings false later.rows) (kept_rows settings here.rows ++ (keys_job merge settings gs).rows)
           (goes_on none (λ empty. cons_some q rows (sym is ∙ empty)))
           (ap (λ (j : JobRows). j.rows) (job_on merge lawful settings g gs whole none))
           (both_begin (kept_rows settings here.rows) (kept_given settings false later.rows) (keys_job merge settings gs).rows rest)
-      by (Some e) some rows is = nothing_begins (kept_given settings false (folded merge rule all).rows) made (ends_alone (rows_end e some))
+      by (Some e) some rows is = nothing_begins (kept_given settings false (folded_groups merge rule all).rows) made (ends_alone (rows_end e some))
 
   -- ---- how far the kept rows reach
 
@@ -153,19 +153,19 @@ module _ (merge : Operator) (lawful : IsLawful merge) (settings : Settings) (g :
   wholes key low is =
       whole_both merge settings (elements g) (filter (is_below key) (flat gs)) (apart_low key) (ap (λ (rows : List Row). (make rows).whole) (sym (lows key low)) ∙ is)
 
-  reaches_first : here.refusal ≡ None → (q : Row) → q.key ≡ g.0.key → Reaches all (folded merge rule all).rows q
+  reaches_first : here.refusal ≡ None → (q : Row) → q.key ≡ g.0.key → Reaches all (folded_groups merge rule all).rows q
   reaches_first none q alike = (
     subst (λ (rows : List Row). rows ≢ []) (sym (rows_on none)) (append_some here.rows later.rows (folds_some merge rule g.0 g.1 none)),
-    nothing_begins (make (filter (is_below q.key) all)).rows (kept_given settings false (folded merge rule all).rows)
+    nothing_begins (make (filter (is_below q.key) all)).rows (kept_given settings false (folded_groups merge rule all).rows)
         (ap (λ (rows : List Row). (make rows).rows) (ap (λ (k : List ℕ). filter (is_below k) all) alike ∙ filter_none (is_below g.0.key) all own_lower)),
   )
 
-  reaches_later : (make (elements g)).whole ≡ true → (q : Row) → is_below q.key g.0 ≡ true → Reaches (flat gs) later.rows q → Reaches all (folded merge rule all).rows q
+  reaches_later : (make (elements g)).whole ≡ true → (q : Row) → is_below q.key g.0 ≡ true → Reaches (flat gs) later.rows q → Reaches all (folded_groups merge rule all).rows q
   reaches_later is q low rest =
       let none = not_refused is in
       let others = filter (is_below q.key) (flat gs) in (
         subst (λ (rows : List Row). rows ≢ []) (sym (rows_on none)) (append_some here.rows later.rows (folds_some merge rule g.0 g.1 none)),
-        same_begins (make (filter (is_below q.key) all)).rows (kept_given settings false (folded merge rule all).rows) (kept_rows settings here.rows ++ (make others).rows) (kept_rows settings here.rows ++ kept_given settings false later.rows)
+        same_begins (make (filter (is_below q.key) all)).rows (kept_given settings false (folded_groups merge rule all).rows) (kept_rows settings here.rows ++ (make others).rows) (kept_rows settings here.rows ++ kept_given settings false later.rows)
             (ap (λ (rows : List Row). (make rows).rows) (lows q.key low)
             ∙ (ap (λ (j : JobRows). j.rows) (job_rows-append merge settings (elements g) others (apart_low q.key) is) ∙ ap (λ (rows : List Row). rows ++ (make others).rows) (made_rows none)))
             (goes_on none rest.0)
@@ -174,22 +174,22 @@ module _ (merge : Operator) (lawful : IsLawful merge) (settings : Settings) (g :
 
   pub reaches_on : (key : List ℕ) → (make (filter (is_below key) all)).whole ≡ true
       → ((make (filter (is_below key) (flat gs))).whole ≡ true → AllByRecursion (λ q. is_below key q ≡ true → Reaches (flat gs) later.rows q) (flat gs))
-      → AllByRecursion (λ q. is_below key q ≡ true → Reaches all (folded merge rule all).rows q) all
+      → AllByRecursion (λ q. is_below key q ≡ true → Reaches all (folded_groups merge rule all).rows q) all
   reaches_on key is rest = by (is_below key g.0) refl
     where
       on : (first : (make (elements g)).whole ≡ true) (qs : List Row) → AllByRecursion (λ q. is_below q.key g.0 ≡ true) qs → AllByRecursion (λ q. is_below key q ≡ true → Reaches (flat gs) later.rows q) qs
-          → AllByRecursion (λ q. is_below key q ≡ true → Reaches all (folded merge rule all).rows q) qs
+          → AllByRecursion (λ q. is_below key q ≡ true → Reaches all (folded_groups merge rule all).rows q) qs
       on first [] low reached = tt
       on first (q ∷ qs) low reached = (λ below. reaches_later first q low.0 (reached.0 below), on first qs low.1 reached.1)
 
-      by : (b : Bool) → is_below key g.0 ≡ b → AllByRecursion (λ q. is_below key q ≡ true → Reaches all (folded merge rule all).rows q) all
+      by : (b : Bool) → is_below key g.0 ≡ b → AllByRecursion (λ q. is_below key q ≡ true → Reaches all (folded_groups merge rule all).rows q) all
       by true low =
           let both = wholes key low is in
-          all_append (λ q. is_below key q ≡ true → Reaches all (folded merge rule all).rows q) (elements g) (flat gs)
-          (all_weaken (λ q. q.key ≡ g.0.key) (λ q. is_below key q ≡ true → Reaches all (folded merge rule all).rows q) (λ q alike below. reaches_first (not_refused both.0) q alike) (elements g) whole.0.keys)
+          all_append (λ q. is_below key q ≡ true → Reaches all (folded_groups merge rule all).rows q) (elements g) (flat gs)
+          (all_weaken (λ q. q.key ≡ g.0.key) (λ q. is_below key q ≡ true → Reaches all (folded_groups merge rule all).rows q) (λ q alike below. reaches_first (not_refused both.0) q alike) (elements g) whole.0.keys)
           (on both.0 (flat gs) under (rest both.1))
       by false high =
-          all_weaken (λ q. is_below key q ≡ false) (λ q. is_below key q ≡ true → Reaches all (folded merge rule all).rows q) (λ q no below. let clash : false ≡ true = sym no ∙ below in absurd (cc clash)) all (none_lower key high)
+          all_weaken (λ q. is_below key q ≡ false) (λ q. is_below key q ≡ true → Reaches all (folded_groups merge rule all).rows q) (λ q no below. let clash : false ≡ true = sym no ∙ below in absurd (cc clash)) all (none_lower key high)
 
   -- ---- no row above a key in which a fold refuses
 
@@ -229,13 +229,13 @@ module _ (merge : Operator) (lawful : IsLawful merge) (settings : Settings) (g :
       by false e =
           ap (folded_rows merge settings.cut) (sym (split ∙ ap (λ (rows : List Row). rows ++ rows_of_key key (flat gs)) (of_key-others key (elements g) (own false e)))) ∙ refused
 
-  pub up_to_on : (key : List ℕ) → refuses key all → (refuses key (flat gs) → AllByRecursion (IsNotAbove key) later.rows) → AllByRecursion (IsNotAbove key) (folded merge rule all).rows
+  pub up_to_on : (key : List ℕ) → refuses key all → (refuses key (flat gs) → AllByRecursion (IsNotAbove key) later.rows) → AllByRecursion (IsNotAbove key) (folded_groups merge rule all).rows
   up_to_on key refused rest = by here.refusal refl
     where
       first : AllByRecursion (IsNotAbove key) here.rows
       first = all_weaken (λ q. q.key ≡ g.0.key) (IsNotAbove key) (λ q h. ap (λ (k : List ℕ). is_gt (key_cmp k key)) h ∙ not_above key refused) here.rows (here_keys merge lawful settings g gs whole)
 
-      by : (refusal : Option SlateDBError) → here.refusal ≡ refusal → AllByRecursion (IsNotAbove key) (folded merge rule all).rows
+      by : (refusal : Option SlateDBError) → here.refusal ≡ refusal → AllByRecursion (IsNotAbove key) (folded_groups merge rule all).rows
       by None none = subst (AllByRecursion (IsNotAbove key)) (sym (rows_on none)) (all_append (IsNotAbove key) here.rows later.rows first (rest (refused_later key none refused)))
       by (Some e) some = subst (AllByRecursion (IsNotAbove key)) (sym (rows_end e some)) first
 
@@ -243,7 +243,7 @@ module _ (merge : Operator) (lawful : IsLawful merge) (settings : Settings) (g :
 
 module _ (merge : Operator) (lawful : IsLawful merge) (settings : Settings) where
   abbrev made : List Row → List Row
-  made rows = (folded merge (job_rule settings.cut) rows).rows
+  made rows = (folded_groups merge (job_rule settings.cut) rows).rows
 
   begin : (gs : List (Chunk Row)) → AreWholeKeys gs → IsStrictlyOrdered (flat gs) → IsPrefixOf (kept_given settings false (made (flat gs))) (keys_job merge settings gs).rows
   begin [] whole ordered = ([], refl)

@@ -12,10 +12,10 @@ use Rattle.row_model.specs.Rows.{Row, rows_of_key, IsStrictlyOrdered}
 use Rattle.row_model.specs.Settings.{Settings}
 use Rattle.row_laws.proofs.JobReads.{jobs_keep_reads}
 use Rattle.fleet_iter.specs.Iteration.{IteratorState}
-use Rattle.fleet_fold.specs.Folded.{folded}
+use Rattle.fleet_fold.specs.Folded.{folded_groups}
 use Rattle.fleet_fold.specs.Jobs.{job_rule, IsOfOperator, GivesJob, MakesJob, BeginsJob, JobsKeepReads}
 use Rattle.fleet_fold.specs.Merging.{merging}
-use Rattle.fleet_fold.specs.Retention.{retained, kept_given}
+use Rattle.fleet_fold.specs.Retention.{retained_state, kept_given}
 use Rattle.fleet_fold.proofs.Jobs.{folds_make_jobs}
 use Rattle.fleet_fold.proofs.JobsBegun.{folds_begin_jobs}
 use Rattle.fleet_fold.proofs.JobsRefused.{refuses_by_operator}
@@ -23,7 +23,7 @@ use Rattle.fleet_rows.specs.declared.errors.SlateDBError.{SlateDBError}
 
 module _ (merge : Operator) (lawful : IsLawful merge) (settings : Settings) (inner : IteratorState) (all : inner.whole ≡ true) (ordered : IsStrictlyOrdered inner.rows) where
   abbrev S : IteratorState
-  S = retained None settings [] None (merging None merge (job_rule settings.cut) None inner)
+  S = retained_state None settings [] None (merging None merge (job_rule settings.cut) None inner)
 
   makes : MakesJob merge settings inner.rows
   makes = folds_make_jobs merge lawful settings inner.rows ordered
@@ -32,21 +32,21 @@ module _ (merge : Operator) (lawful : IsLawful merge) (settings : Settings) (inn
   starts = folds_begin_jobs merge lawful settings inner.rows ordered
 
   whole : S.whole ≡ (job_rows merge settings inner.rows).whole
-  whole = ap (λ b. b && is_none (folded merge (job_rule settings.cut) inner.rows).refusal) all ∙ makes.whole
+  whole = ap (λ b. b && is_none (folded_groups merge (job_rule settings.cut) inner.rows).refusal) all ∙ makes.whole
 
   made : S.whole ≡ true → S.rows ≡ (job_rows merge settings inner.rows).rows
-  made is = ap (λ b. kept_given settings b (folded merge (job_rule settings.cut) inner.rows).rows) is ∙ makes.kept (sym whole ∙ is)
+  made is = ap (λ b. kept_given settings b (folded_groups merge (job_rule settings.cut) inner.rows).rows) is ∙ makes.kept (sym whole ∙ is)
 
   begins : (b : Bool) → S.whole ≡ b → IsPrefixOf S.rows (job_rows merge settings inner.rows).rows
   begins true is = ([], append-nil S.rows ∙ made is)
-  begins false is = subst (λ b. IsPrefixOf (kept_given settings b (folded merge (job_rule settings.cut) inner.rows).rows) (job_rows merge settings inner.rows).rows) (sym is) starts.begins
+  begins false is = subst (λ b. IsPrefixOf (kept_given settings b (folded_groups merge (job_rule settings.cut) inner.rows).rows) (job_rows merge settings inner.rows).rows) (sym is) starts.begins
 
-  told : (refusal : Option SlateDBError) → (folded merge (job_rule settings.cut) inner.rows).refusal ≡ refusal → S.whole ≡ false → (e : SlateDBError) × ((S.refusal ≡ Some e) × IsOfOperator merge inner.rows e)
-  told None none is =
-      let clash : true ≡ false = sym (ap (λ b. b && is_none (folded merge (job_rule settings.cut) inner.rows).refusal) all ∙ ap is_none none) ∙ is in
+  stated : (refusal : Option SlateDBError) → (folded_groups merge (job_rule settings.cut) inner.rows).refusal ≡ refusal → S.whole ≡ false → (e : SlateDBError) × ((S.refusal ≡ Some e) × IsOfOperator merge inner.rows e)
+  stated None none is =
+      let clash : true ≡ false = sym (ap (λ b. b && is_none (folded_groups merge (job_rule settings.cut) inner.rows).refusal) all ∙ ap is_none none) ∙ is in
       absurd (cc clash)
-  told (Some e) some is =
-      (e, (ap (λ b. if b then (folded merge (job_rule settings.cut) inner.rows).refusal else None) all ∙ some, refuses_by_operator merge settings.cut inner.rows e ordered some))
+  stated (Some e) some is =
+      (e, (ap (λ b. if b then (folded_groups merge (job_rule settings.cut) inner.rows).refusal else None) all ∙ some, refuses_by_operator merge settings.cut inner.rows e ordered some))
 
   pub gives_job : GivesJob merge settings inner.rows S
   gives_job = record {
@@ -55,9 +55,9 @@ module _ (merge : Operator) (lawful : IsLawful merge) (settings : Settings) (inn
     begins = begins S.whole refl;
     reaches = λ is. subst
         (λ (b : Bool). (key : List ℕ) → (job_rows merge settings (filter (is_below key) inner.rows)).whole ≡ true
-        → AllByRecursion (λ r. is_below key r ≡ true → IsPrefixOf (job_rows merge settings (filter (is_below r.key) inner.rows)).rows (kept_given settings b (folded merge (job_rule settings.cut) inner.rows).rows)) inner.rows)
+        → AllByRecursion (λ r. is_below key r ≡ true → IsPrefixOf (job_rows merge settings (filter (is_below r.key) inner.rows)).rows (kept_given settings b (folded_groups merge (job_rule settings.cut) inner.rows).rows)) inner.rows)
         (sym is) starts.reaches;
-    refusal = λ is. told (folded merge (job_rule settings.cut) inner.rows).refusal refl is;
+    refusal = λ is. stated (folded_groups merge (job_rule settings.cut) inner.rows).refusal refl is;
   }
 
 pub keeps_reads : (merge : Operator) → IsLawful merge → JobsKeepReads merge

@@ -12,7 +12,7 @@ use Rattle.row_model.specs.Fold.{Operator, Outcome, Merged, Refused, fold_bytes,
 use Rattle.row_model.specs.FoldedRows.{same_stamp, with_group_operand, group_operands, base_in, group_base, base_bytes, content_of, group_content, group_row, greatest_created, cons_both}
 use Rattle.row_model.specs.Rows.{Row, Content, Value, Merge, Tombstone, is_merge, is_operand}
 use Rattle.row_laws.specs.Batches.{bytes_of, batch_results, content_over, batches}
-use Rattle.row_laws.specs.Walks.{taken}
+use Rattle.row_laws.specs.Walks.{taken_rows}
 use Rattle.row_laws.proofs.ApartRows.{all_filter}
 use Rattle.row_laws.proofs.Batches.{folds_by_batches}
 use Rattle.row_laws.proofs.Elements.{all_weaken}
@@ -99,29 +99,29 @@ lesser_own (Some a) = by (int_le a a)
 
 module _ (stamp : Option ℤ) where
   abbrev with_first : Bool → Bool → Row → List Row → List Row
-  with_first same operand q rows = if same then q ∷ (if operand then taken stamp rows else []) else []
+  with_first same operand q rows = if same then q ∷ (if operand then taken_rows stamp rows else []) else []
 
-  tail_operands : (rows : List Row) → group_operands (operands_in (taken stamp rows)) ≡ group_operands (taken stamp rows)
+  tail_operands : (rows : List Row) → group_operands (operands_in (taken_rows stamp rows)) ≡ group_operands (taken_rows stamp rows)
   tail_operands [] = refl
   tail_operands (q ∷ rows) = by (same_stamp stamp q.expires) (is_operand q) refl (tail_operands rows)
     where
-      by : (same operand : Bool) → is_operand q ≡ operand → group_operands (operands_in (taken stamp rows)) ≡ group_operands (taken stamp rows)
+      by : (same operand : Bool) → is_operand q ≡ operand → group_operands (operands_in (taken_rows stamp rows)) ≡ group_operands (taken_rows stamp rows)
           → group_operands (operands_in (with_first same operand q rows)) ≡ group_operands (with_first same operand q rows)
-      by true true e rest = ap group_operands (in_operands q (taken stamp rows) true e) ∙ ap (with_group_operand q.content) rest
+      by true true e rest = ap group_operands (in_operands q (taken_rows stamp rows) true e) ∙ ap (with_group_operand q.content) rest
       by true false e rest = ap group_operands (in_operands q [] false e) ∙ sym (no_operand q.content e)
       by false operand e rest = refl
 
-  tail_base : (rows : List Row) → group_base (base_among (taken stamp rows)) ≡ group_base (taken stamp rows)
+  tail_base : (rows : List Row) → group_base (base_among (taken_rows stamp rows)) ≡ group_base (taken_rows stamp rows)
   tail_base [] = refl
   tail_base (q ∷ rows) = by (same_stamp stamp q.expires) (is_operand q) refl (tail_base rows)
     where
-      by : (same operand : Bool) → is_operand q ≡ operand → group_base (base_among (taken stamp rows)) ≡ group_base (taken stamp rows)
+      by : (same operand : Bool) → is_operand q ≡ operand → group_base (base_among (taken_rows stamp rows)) ≡ group_base (taken_rows stamp rows)
           → group_base (base_among (with_first same operand q rows)) ≡ group_base (with_first same operand q rows)
-      by true true e rest = ap group_base (in_base q (taken stamp rows) true e) ∙ (rest ∙ sym (no_base q.content (group_base (taken stamp rows)) e))
+      by true true e rest = ap group_base (in_base q (taken_rows stamp rows) true e) ∙ (rest ∙ sym (no_base q.content (group_base (taken_rows stamp rows)) e))
       by true false e rest = ap group_base (in_base q [] false e)
       by false operand e rest = refl
 
-  tail_stamp : (rows : List Row) → lesser_stamp stamp (least_expiry (taken stamp rows)) ≡ stamp
+  tail_stamp : (rows : List Row) → lesser_stamp stamp (least_expiry (taken_rows stamp rows)) ≡ stamp
   tail_stamp [] = lesser_none stamp
   tail_stamp (q ∷ rows) = by (same_stamp stamp q.expires) refl (is_operand q) (tail_stamp rows)
     where
@@ -130,17 +130,17 @@ module _ (stamp : Option ℤ) where
           ap (λ (s : Option ℤ). lesser_stamp stamp (lesser_stamp s (least_expiry others))) (sym (same_is stamp q.expires e))
           ∙ (ap (lesser_stamp stamp) rest ∙ lesser_own stamp)
 
-      by : (same : Bool) → same_stamp stamp q.expires ≡ same → (operand : Bool) → lesser_stamp stamp (least_expiry (taken stamp rows)) ≡ stamp
+      by : (same : Bool) → same_stamp stamp q.expires ≡ same → (operand : Bool) → lesser_stamp stamp (least_expiry (taken_rows stamp rows)) ≡ stamp
           → lesser_stamp stamp (least_expiry (with_first same operand q rows)) ≡ stamp
-      by true e true rest = alike e (taken stamp rows) rest
+      by true e true rest = alike e (taken_rows stamp rows) rest
       by true e false rest = alike e [] (lesser_none stamp)
       by false e operand rest = lesser_none stamp
 
-  tail_all : (P : Row → Type 0) (rows : List Row) → AllByRecursion P rows → AllByRecursion P (taken stamp rows)
+  tail_all : (P : Row → Type 0) (rows : List Row) → AllByRecursion P rows → AllByRecursion P (taken_rows stamp rows)
   tail_all P [] all = tt
   tail_all P (q ∷ rows) all = by (same_stamp stamp q.expires) (is_operand q) (tail_all P rows all.1)
     where
-      by : (same operand : Bool) → AllByRecursion P (taken stamp rows) → AllByRecursion P (with_first same operand q rows)
+      by : (same operand : Bool) → AllByRecursion P (taken_rows stamp rows) → AllByRecursion P (with_first same operand q rows)
       by true true rest = (all.0, rest)
       by true false rest = (all.0, tt)
       by false operand rest = tt
@@ -214,7 +214,7 @@ same_row g base (Some bytes) is stamp =
 
 module _ (merge : Operator) (lawful : IsLawful merge) (first : Row) (rows : List Row) (operand : is_operand first ≡ true) (lower : AllByRecursion (λ q. q.seq < first.seq) rows) where
   abbrev g : Chunk Row
-  g = (first, taken first.expires rows)
+  g = (first, taken_rows first.expires rows)
 
   abbrev base : Option (Option (List ℕ))
   base = group_base (elements g)
@@ -250,7 +250,7 @@ module _ (merge : Operator) (lawful : IsLawful merge) (first : Row) (rows : List
       over_ok merge first (base_among g.1) base (all_answers (map (batch_answer merge first) (batches batch_len found))) (all_filter (UpTo first.seq) (λ r. not (is_operand r)) g.1 tail_lower) (tail_base first.expires rows ∙ sym base_is)
       ∙ (ap (content_over merge first.key base) results_are ∙ folds_by_batches merge lawful first.key (elements g) batch_len (omega arith))
 
-  pub merged_is_row : result_ok (merged_group merge (first, taken first.expires rows)) ≡ group_row merge (first, taken first.expires rows)
+  pub merged_is_row : result_ok (merged_group merge (first, taken_rows first.expires rows)) ≡ group_row merge (first, taken_rows first.expires rows)
   merged_is_row =
       row_ok g (group_answer merge g)
       ∙ (same_row g base (result_ok (group_answer merge g)) (sym base_is) (tail_stamp first.expires rows)

@@ -13,7 +13,7 @@ use Rattle.row_laws.proofs.ApartRows.{chunk_by-append}
 use Rattle.row_laws.proofs.Elements.{all_weaken}
 use Rattle.row_laws.proofs.KeyRows.{one_chunk}
 use Rattle.fleet_rows.specs.declared.errors.SlateDBError.{SlateDBError}
-use Rattle.fleet_fold.specs.Folded.{opens, joining, merged_group, folded_behind, up_to_refusal, folded}
+use Rattle.fleet_fold.specs.Folded.{opens, joining, merged_group, folded_after, up_to_refusal, folded_groups}
 use Rattle.fleet_fold.specs.Retention.{front, kept_given}
 use Rattle.fleet_fold.specs.declared.group.GroupRule.{GroupRule}
 use Rattle.fleet_fold.proofs.Jobs.{apart_key}
@@ -82,14 +82,14 @@ module _ (settings : Settings) (key : List ℕ) where
 -- ---- rows that are not refused become at least one row
 
 module _ (merge : Operator) (rule : GroupRule) where
-  pub folds_some : (r : Row) (rows : List Row) → (folded merge rule (r ∷ rows)).refusal ≡ None → (folded merge rule (r ∷ rows)).rows ≢ []
+  pub folds_some : (r : Row) (rows : List Row) → (folded_groups merge rule (r ∷ rows)).refusal ≡ None → (folded_groups merge rule (r ∷ rows)).rows ≢ []
   folds_some r rows none = by (opens rule r) none
     where
       first : (answer : Result Row SlateDBError) (others : List (Result Row SlateDBError)) → (up_to_refusal (answer ∷ others)).refusal ≡ None → (up_to_refusal (answer ∷ others)).rows ≢ []
       first (Err e) others none = absurd (cc none)
       first (Ok q) others none = cons_some q (up_to_refusal others).rows
 
-      by : (b : Bool) → (up_to_refusal (if b then merged_group merge (r, joining rule r rows) ∷ folded_behind merge rule (length (joining rule r rows)) rows else Ok r ∷ folded_behind merge rule 0 rows)).refusal ≡ None
-          → (up_to_refusal (if b then merged_group merge (r, joining rule r rows) ∷ folded_behind merge rule (length (joining rule r rows)) rows else Ok r ∷ folded_behind merge rule 0 rows)).rows ≢ []
-      by true none = first (merged_group merge (r, joining rule r rows)) (folded_behind merge rule (length (joining rule r rows)) rows) none
-      by false none = first (Ok r) (folded_behind merge rule 0 rows) none
+      by : (b : Bool) → (up_to_refusal (if b then merged_group merge (r, joining rule r rows) ∷ folded_after merge rule (length (joining rule r rows)) rows else Ok r ∷ folded_after merge rule 0 rows)).refusal ≡ None
+          → (up_to_refusal (if b then merged_group merge (r, joining rule r rows) ∷ folded_after merge rule (length (joining rule r rows)) rows else Ok r ∷ folded_after merge rule 0 rows)).rows ≢ []
+      by true none = first (merged_group merge (r, joining rule r rows)) (folded_after merge rule (length (joining rule r rows)) rows) none
+      by false none = first (Ok r) (folded_after merge rule 0 rows) none

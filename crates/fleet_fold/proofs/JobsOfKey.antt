@@ -9,31 +9,31 @@ use Rattle.row_model.specs.Fold.{Operator, IsLawful}
 use Rattle.row_model.specs.FoldedRows.{opens_group, same_stamp, operand_groups, group_row, folded_chunk, cons_both, all_or_none}
 use Rattle.row_model.specs.Rows.{Row, is_operand}
 use Rattle.row_laws.specs.KeptReads.{IsFalling}
-use Rattle.row_laws.specs.Walks.{taken, left}
+use Rattle.row_laws.specs.Walks.{taken_rows, left}
 use Rattle.row_laws.proofs.Elements.{all_weaken}
 use Rattle.row_laws.proofs.GroupReads.{and_left}
 use Rattle.row_laws.proofs.Walks.{groups_are_walked}
 use Rattle.fleet_rows.specs.declared.errors.SlateDBError.{SlateDBError}
-use Rattle.fleet_fold.specs.Folded.{Folded, joining, merged_group, folded_behind, up_to_refusal}
+use Rattle.fleet_fold.specs.Folded.{Folded, joining, merged_group, folded_after, up_to_refusal}
 use Rattle.fleet_fold.specs.Jobs.{job_rule, rows_if_whole, FoldsOneKey}
 use Rattle.fleet_fold.proofs.JobsGroups.{merged_is_row}
 
 -- ---- the rows that join a group, of rows of one key
 
 module _ (cut : ℕ) where
-  joining_taken : (r : Row) (rows : List Row) → AllByRecursion (λ q. q.key ≡ r.key) rows → joining (job_rule cut) r rows ≡ taken r.expires rows
+  joining_taken : (r : Row) (rows : List Row) → AllByRecursion (λ q. q.key ≡ r.key) rows → joining (job_rule cut) r rows ≡ taken_rows r.expires rows
   joining_taken r [] keys = refl
   joining_taken r (q ∷ rows) keys =
       ap (λ (others : List Row). if bytes_eq r.key q.key && same_stamp r.expires q.expires then q ∷ (if is_operand q then others else []) else []) (joining_taken r rows keys.1)
-      ∙ ap (λ (b : Bool). if b && same_stamp r.expires q.expires then q ∷ (if is_operand q then taken r.expires rows else []) else []) ((bytes_eq-Decides r.key q.key).1 (sym keys.0))
+      ∙ ap (λ (b : Bool). if b && same_stamp r.expires q.expires then q ∷ (if is_operand q then taken_rows r.expires rows else []) else []) ((bytes_eq-Decides r.key q.key).1 (sym keys.0))
 
-  behind_left : (merge : Operator) (stamp : Option ℤ) (rows : List Row) → folded_behind merge (job_rule cut) (length (taken stamp rows)) rows ≡ folded_behind merge (job_rule cut) 0 (left stamp rows)
-  behind_left merge stamp [] = refl
-  behind_left merge stamp (q ∷ rows) = by (same_stamp stamp q.expires) (is_operand q) (behind_left merge stamp rows)
+  after_left : (merge : Operator) (stamp : Option ℤ) (rows : List Row) → folded_after merge (job_rule cut) (length (taken_rows stamp rows)) rows ≡ folded_after merge (job_rule cut) 0 (left stamp rows)
+  after_left merge stamp [] = refl
+  after_left merge stamp (q ∷ rows) = by (same_stamp stamp q.expires) (is_operand q) (after_left merge stamp rows)
     where
-      by : (same operand : Bool) → folded_behind merge (job_rule cut) (length (taken stamp rows)) rows ≡ folded_behind merge (job_rule cut) 0 (left stamp rows)
-          → folded_behind merge (job_rule cut) (length (if same then q ∷ (if operand then taken stamp rows else []) else [])) (q ∷ rows)
-          ≡ folded_behind merge (job_rule cut) 0 (if same then (if operand then left stamp rows else rows) else q ∷ rows)
+      by : (same operand : Bool) → folded_after merge (job_rule cut) (length (taken_rows stamp rows)) rows ≡ folded_after merge (job_rule cut) 0 (left stamp rows)
+          → folded_after merge (job_rule cut) (length (if same then q ∷ (if operand then taken_rows stamp rows else []) else [])) (q ∷ rows)
+          ≡ folded_after merge (job_rule cut) 0 (if same then (if operand then left stamp rows else rows) else q ∷ rows)
       by true true rest = rest
       by true false rest = refl
       by false operand rest = refl
@@ -71,7 +71,7 @@ module _ (stamp : Option ℤ) where
 
 module _ (merge : Operator) (lawful : IsLawful merge) (cut : ℕ) where
   abbrev answers : List Row → List (Result Row SlateDBError)
-  answers rows = folded_behind merge (job_rule cut) 0 rows
+  answers rows = folded_after merge (job_rule cut) 0 rows
 
   abbrev IsFolded : List Row → Type 0
   IsFolded rows = map result_ok (answers rows) ≡ map (folded_chunk merge cut) (operand_groups cut rows)
@@ -81,25 +81,25 @@ module _ (merge : Operator) (lawful : IsLawful merge) (cut : ℕ) where
       let rule = job_rule cut in
       let stamp = r.expires in
       let others = left stamp rows in
-      ap (λ (b : Bool). map result_ok (if b then merged_group merge (r, joining rule r rows) ∷ folded_behind merge rule (length (joining rule r rows)) rows else Ok r ∷ answers rows)) opened
-      ∙ (ap (λ (xs : List Row). map result_ok (merged_group merge (r, xs) ∷ folded_behind merge rule (length xs) rows)) (joining_taken cut r rows keys)
-      ∙ (ap (λ (later : List (Result Row SlateDBError)). map result_ok (merged_group merge (r, taken stamp rows) ∷ later)) (behind_left cut merge stamp rows)
+      ap (λ (b : Bool). map result_ok (if b then merged_group merge (r, joining rule r rows) ∷ folded_after merge rule (length (joining rule r rows)) rows else Ok r ∷ answers rows)) opened
+      ∙ (ap (λ (xs : List Row). map result_ok (merged_group merge (r, xs) ∷ folded_after merge rule (length xs) rows)) (joining_taken cut r rows keys)
+      ∙ (ap (λ (later : List (Result Row SlateDBError)). map result_ok (merged_group merge (r, taken_rows stamp rows) ∷ later)) (after_left cut merge stamp rows)
       ∙ (ap (λ (o : Option Row). o ∷ map result_ok (answers others)) (merged_is_row merge lawful r rows (and_left (is_operand r) _ opened) falling.0)
-      ∙ (ap (λ (later : List (Option Row)). group_row merge (r, taken stamp rows) ∷ later) rest
-      ∙ (ap (λ (b : Bool). (if b then group_row merge (r, taken stamp rows) else Some r) ∷ map (folded_chunk merge cut) (operand_groups cut others)) (sym opened)
+      ∙ (ap (λ (later : List (Option Row)). group_row merge (r, taken_rows stamp rows) ∷ later) rest
+      ∙ (ap (λ (b : Bool). (if b then group_row merge (r, taken_rows stamp rows) else Some r) ∷ map (folded_chunk merge cut) (operand_groups cut others)) (sym opened)
       ∙ sym (ap (map (folded_chunk merge cut)) (groups_are_walked cut r rows falling
-      ∙ ap (λ (b : Bool). if b then (r, taken stamp rows) ∷ operand_groups cut others else (r, []) ∷ operand_groups cut rows) opened)))))))
+      ∙ ap (λ (b : Bool). if b then (r, taken_rows stamp rows) ∷ operand_groups cut others else (r, []) ∷ operand_groups cut rows) opened)))))))
 
   first_passes : (r : Row) (rows : List Row) → opens_group cut r ≡ false → IsFalling (r ∷ rows) → IsFolded rows → IsFolded (r ∷ rows)
   first_passes r rows closed falling rest =
       let rule = job_rule cut in
       let stamp = r.expires in
       let others = left stamp rows in
-      ap (λ (b : Bool). map result_ok (if b then merged_group merge (r, joining rule r rows) ∷ folded_behind merge rule (length (joining rule r rows)) rows else Ok r ∷ answers rows)) closed
+      ap (λ (b : Bool). map result_ok (if b then merged_group merge (r, joining rule r rows) ∷ folded_after merge rule (length (joining rule r rows)) rows else Ok r ∷ answers rows)) closed
       ∙ (ap (λ (later : List (Option Row)). Some r ∷ later) rest
       ∙ (ap (λ (b : Bool). (if b then group_row merge (r, []) else Some r) ∷ map (folded_chunk merge cut) (operand_groups cut rows)) (sym closed)
       ∙ sym (ap (map (folded_chunk merge cut)) (groups_are_walked cut r rows falling
-      ∙ ap (λ (b : Bool). if b then (r, taken stamp rows) ∷ operand_groups cut others else (r, []) ∷ operand_groups cut rows) closed))))
+      ∙ ap (λ (b : Bool). if b then (r, taken_rows stamp rows) ∷ operand_groups cut others else (r, []) ∷ operand_groups cut rows) closed))))
 
   of_key : (fuel : ℕ) (key : List ℕ) (rows : List Row) → length rows ≤ fuel → IsFalling rows → AllByRecursion (λ r. r.key ≡ key) rows → IsFolded rows
   of_key fuel key [] short falling keys = refl
@@ -111,8 +111,8 @@ module _ (merge : Operator) (lawful : IsLawful merge) (cut : ℕ) where
       (of_key fuel key rows (omega arith) falling.1 keys.1)
     where
       by : (b : Bool) → opens_group cut r ≡ b → IsFolded (left r.expires rows) → IsFolded rows → IsFolded (r ∷ rows)
-      by true opened behind rest = first_opens r rows opened falling (all_weaken (λ q. q.key ≡ key) (λ q. q.key ≡ r.key) (λ q h. h ∙ sym keys.0) rows keys.1) behind
-      by false closed behind rest = first_passes r rows closed falling rest
+      by true opened after rest = first_opens r rows opened falling (all_weaken (λ q. q.key ≡ key) (λ q. q.key ≡ r.key) (λ q h. h ∙ sym keys.0) rows keys.1) after
+      by false closed after rest = first_passes r rows closed falling rest
 
 -- ---- the rows up to a refusal, where there is none
 
@@ -130,4 +130,4 @@ whole_ok (Ok r ∷ others) = whole_first r (up_to_refusal others) ∙ ap (cons_b
 
 pub folds_one_key : (merge : Operator) → IsLawful merge → FoldsOneKey merge
 folds_one_key merge lawful cut key rows of =
-    whole_ok (folded_behind merge (job_rule cut) 0 rows) ∙ ap all_or_none (of_key merge lawful cut (length rows) key rows (omega arith) of.falling of.keys)
+    whole_ok (folded_after merge (job_rule cut) 0 rows) ∙ ap all_or_none (of_key merge lawful cut (length rows) key rows (omega arith) of.falling of.keys)

@@ -21,7 +21,7 @@ use Rattle.row_laws.proofs.ReadOnto.{fold_bytes-snoc}
 use Rattle.fleet_rows.specs.declared.errors.MergeOperatorError.TheVariants.{Callback}
 use Rattle.fleet_rows.specs.declared.errors.SlateDBError.{SlateDBError}
 use Rattle.fleet_rows.specs.declared.errors.SlateDBError.TheVariants.{MergeOperator}
-use Rattle.fleet_fold.specs.Folded.{Folded, opens, is_within, same_group, joining, answer_of, batch_answer, batch_len, one_more, all_answers, over_base, base_among, operands_in, group_answer, merged_group, row_of_answer, folded_behind, before_refusal, up_to_refusal}
+use Rattle.fleet_fold.specs.Folded.{Folded, opens, is_within, same_group, joining, answer_of, batch_answer, batch_len, one_more, all_answers, over_base, base_among, operands_in, group_answer, merged_group, row_of_answer, folded_after, before_refusal, up_to_refusal}
 use Rattle.fleet_fold.specs.Jobs.{job_rule, IsGroup, batch_outcomes, RefusesResults, IsOfOperator, RefusesByOperator}
 use Rattle.fleet_fold.specs.declared.group.GroupRule.{GroupRule}
 use Rattle.fleet_fold.proofs.JobsBatches.{AllIn, batches_all}
@@ -218,14 +218,14 @@ module _ (merge : Operator) (first : Row) where
       → over_base merge first base answers ≡ Err e → InGroup operands base e
   results_refused operands base (Err x) e lower refused merged is =
       let same : x ≡ e = cc in
-      let (message, told, stands) = refused (ap Err same) in
-      (message, told, inl stands)
+      let (message, stated, stands) = refused (ap Err same) in
+      (message, stated, inl stands)
   results_refused operands base (Ok results) e lower refused merged is =
       let (some, all) = merged results refl in
       let under : Option (List ℕ) = base_bytes (group_base base) in
       let o = fold_bytes merge first.key under (reverse results) in
-      let (message, told, refusing) = answer_refused merge first.key o e (back_some merge first.key under results some) (sym (ordered first.seq base (answer_of o) lower) ∙ is) in
-      (message, told, inr (record { results = results; merged = all; refused = refusing }))
+      let (message, stated, refusing) = answer_refused merge first.key o e (back_some merge first.key under results some) (sym (ordered first.seq base (answer_of o) lower) ∙ is) in
+      (message, stated, inr (record { results = results; merged = all; refused = refusing }))
 
   group_refused : (others : List Row) (e : SlateDBError) → is_operand first ≡ true → AllByRecursion (UpTo first.seq) others → merged_group merge (first, others) ≡ Err e → InGroup (first ∷ operands_in others) (base_among others) e
   group_refused others e operand lower is =
@@ -288,8 +288,8 @@ module _ (merge : Operator) (rule : GroupRule) where
         refused = refused;
       }
 
-  refused_behind : (r : Row) (rows : List Row) (e : SlateDBError) → IsOfOperator merge rows e → IsOfOperator merge (r ∷ rows) e
-  refused_behind r rows e h = record {
+  refused_after : (r : Row) (rows : List Row) (e : SlateDBError) → IsOfOperator merge rows e → IsOfOperator merge (r ∷ rows) e
+  refused_after r rows e h = record {
     message = h.message;
     same = h.same;
     key = h.key;
@@ -310,27 +310,27 @@ module _ (merge : Operator) (rule : GroupRule) where
       }
       by false = h.group
 
-  behind_refused : (taken : ℕ) (rows : List Row) (e : SlateDBError) → IsStrictlyOrdered rows → (up_to_refusal (folded_behind merge rule taken rows)).refusal ≡ Some e → IsOfOperator merge rows e
+  after_refused : (taken : ℕ) (rows : List Row) (e : SlateDBError) → IsStrictlyOrdered rows → (up_to_refusal (folded_after merge rule taken rows)).refusal ≡ Some e → IsOfOperator merge rows e
   unfolding IsStrictlySortedBy
-  behind_refused taken [] e sorted is = absurd (cc is)
-  behind_refused (suc taken) (r ∷ rows) e sorted is = refused_behind r rows e (behind_refused taken rows e sorted.1 is)
-  behind_refused zero (r ∷ rows) e sorted is =
-      by (opens rule r) refl (behind_refused (length (joining rule r rows)) rows e sorted.1) (behind_refused 0 rows e sorted.1) is
+  after_refused taken [] e sorted is = absurd (cc is)
+  after_refused (suc taken) (r ∷ rows) e sorted is = refused_after r rows e (after_refused taken rows e sorted.1 is)
+  after_refused zero (r ∷ rows) e sorted is =
+      by (opens rule r) refl (after_refused (length (joining rule r rows)) rows e sorted.1) (after_refused 0 rows e sorted.1) is
     where
       first : (answer : Result Row SlateDBError) (later : Folded) → (answer ≡ Err e → IsOfOperator merge (r ∷ rows) e) → (later.refusal ≡ Some e → IsOfOperator merge rows e) → (before_refusal answer later).refusal ≡ Some e
           → IsOfOperator merge (r ∷ rows) e
       first (Err x) later here rest is = let same : x ≡ e = cc in here (ap Err same)
-      first (Ok q) later here rest is = refused_behind r rows e (rest is)
+      first (Ok q) later here rest is = refused_after r rows e (rest is)
 
-      by : (b : Bool) → opens rule r ≡ b → ((up_to_refusal (folded_behind merge rule (length (joining rule r rows)) rows)).refusal ≡ Some e → IsOfOperator merge rows e)
-          → ((up_to_refusal (folded_behind merge rule 0 rows)).refusal ≡ Some e → IsOfOperator merge rows e)
-          → (up_to_refusal (if b then merged_group merge (r, joining rule r rows) ∷ folded_behind merge rule (length (joining rule r rows)) rows else Ok r ∷ folded_behind merge rule 0 rows)).refusal ≡ Some e
+      by : (b : Bool) → opens rule r ≡ b → ((up_to_refusal (folded_after merge rule (length (joining rule r rows)) rows)).refusal ≡ Some e → IsOfOperator merge rows e)
+          → ((up_to_refusal (folded_after merge rule 0 rows)).refusal ≡ Some e → IsOfOperator merge rows e)
+          → (up_to_refusal (if b then merged_group merge (r, joining rule r rows) ∷ folded_after merge rule (length (joining rule r rows)) rows else Ok r ∷ folded_after merge rule 0 rows)).refusal ≡ Some e
           → IsOfOperator merge (r ∷ rows) e
-      by true opened behind rest is =
-          first (merged_group merge (r, joining rule r rows)) (up_to_refusal (folded_behind merge rule (length (joining rule r rows)) rows))
+      by true opened afterwards rest is =
+          first (merged_group merge (r, joining rule r rows)) (up_to_refusal (folded_after merge rule (length (joining rule r rows)) rows))
           (λ refused. refused_first r rows e (and_left (is_operand r) (is_within rule.snapshot_barrier_seq r.seq) opened) (are_joined rule r rows sorted.0) refused)
-          behind is
-      by false closed behind rest is = refused_behind r rows e (rest is)
+          afterwards is
+      by false closed afterwards rest is = refused_after r rows e (rest is)
 
 pub refuses_by_operator : (merge : Operator) → RefusesByOperator merge
-refuses_by_operator merge cut rows e sorted is = behind_refused merge (job_rule cut) 0 rows e sorted is
+refuses_by_operator merge cut rows e sorted is = after_refused merge (job_rule cut) 0 rows e sorted is

@@ -12,7 +12,7 @@ use Rattle.fleet_rows.specs.Row.{rows_of}
 use Rattle.fleet_rows.specs.declared.row.RowEntry.{RowEntry}
 use Rattle.fleet_rows.specs.declared.errors.SlateDBError.{SlateDBError}
 use Rattle.fleet_rows.specs.declared.errors.SlateDBError.TheVariants.{IteratorNotInitialized}
-use Rattle.fleet_fold.specs.Retention.{kept_given, from_ahead, retained, Begins, Fills, RefusesFill}
+use Rattle.fleet_fold.specs.Retention.{kept_given, from_ahead, retained_state, Begins, Fills, RefusesFill}
 
 -- The last element of the buffer is the next row.
 pub popped : (rows left : List RowEntry) (row : Option RowEntry) → rows ≡ left ++ option_to_list row → reverse rows ≡ option_to_list row ++ reverse left
@@ -59,7 +59,7 @@ module _ (settings : Settings) (failure : Option SlateDBError) (alive : failure 
       ∙ ap (λ (rows : List Row). rows_of buffer ++ kept_given settings mid.whole rows) (sym begins.rows)
 
   pub next_given : (filled rest : List RowEntry) (later : Option RowEntry) (after : IteratorState) (row : Option RowEntry) → Fills settings buffer read mid filled later after → filled ≡ option_to_list row ++ rest → (row ≡ None → filled ≡ [])
-      → Nexts (retained failure settings buffer ahead inner) (retained failure settings rest later after) (Ok row)
+      → Nexts (retained_state failure settings buffer ahead inner) (retained_state failure settings rest later after) (Ok row)
   next_given filled rest later after row fills is ends = record {
     failed = λ failed. absurd (failed alive);
     uninitialised = λ _ i. let clash : true ≡ false = sym begins.begun ∙ i in absurd (cc clash);
@@ -82,7 +82,7 @@ module _ (settings : Settings) (failure : Option SlateDBError) (alive : failure 
           let r : inner.refusal ≡ after.refusal = sym (fills.refusal ∙ begins.refusal) in
           cc (e, begun, w, s, r)
 
-      by : (row : Option RowEntry) → filled ≡ option_to_list row ++ rest → (row ≡ None → filled ≡ []) → NextAnswers (retained failure settings buffer ahead inner) (retained failure settings rest later after) (Ok row)
+      by : (row : Option RowEntry) → filled ≡ option_to_list row ++ rest → (row ≡ None → filled ≡ []) → NextAnswers (retained_state failure settings buffer ahead inner) (retained_state failure settings rest later after) (Ok row)
       by None is ends =
           let none : filled ≡ [] = ends refl in
           let gone : from_ahead later after ≡ [] = fills.ends none in
@@ -94,15 +94,15 @@ module _ (settings : Settings) (failure : Option SlateDBError) (alive : failure 
       by (Some x) is ends = same_state _ _ (all ∙ ap (λ (w : List RowEntry). rows_of w ++ kept_given settings after.whole (from_ahead later after)) is)
 
   pub next_unfilled : (rest : List RowEntry) (later : Option RowEntry) (after : IteratorState) (kept : Option SlateDBError) (e answer : SlateDBError) → KeepsRefusal e failure kept answer → RefusesFill settings buffer read mid after e
-      → Nexts (retained failure settings buffer ahead inner) (retained kept settings rest later after) (Err answer)
+      → Nexts (retained_state failure settings buffer ahead inner) (retained_state kept settings rest later after) (Err answer)
   next_unfilled rest later after kept e answer keeps refuses = record {
     failed = λ failed. absurd (failed alive);
     uninitialised = λ _ i. let clash : true ≡ false = sym begins.begun ∙ i in absurd (cc clash);
     answers = λ _ _. record {
       failed = keeps.kept refuses.cause.initialised;
       cause = kept_cause mid.whole inner.whole e answer (λ all. begins.whole ∙ all) keeps.same keeps.memory refuses.cause;
-      known = kept_known (retained failure settings buffer ahead inner) e answer keeps.same keeps.memory (λ behind is other.
-          let (none, same) = refuses.known behind (begins.refusal ∙ is) other in
+      known = kept_known (retained_state failure settings buffer ahead inner) e answer keeps.same keeps.memory (λ afterwards is other.
+          let (none, same) = refuses.known afterwards (begins.refusal ∙ is) other in
           (same_rows ∙ none, same));
     };
   }

@@ -121,7 +121,7 @@ pub fill_refused : (settings : Settings) (buffer left : List RowEntry) (ahead la
 fill_refused settings buffer left ahead later old s new e refuses whole refusal so_far empty = record {
   cause = subst (λ (w : Bool). CanFail w e) whole refuses.cause;
   handed = refuses.handed;
-  known = λ behind is other. let (alike, same) = refuses.known behind (refusal ∙ is) other in
+  known = λ after is other. let (alike, same) = refuses.known after (refusal ∙ is) other in
       (so_far ∙ (ap (λ (w : List RowEntry). rows_of w ++ kept_given settings old.whole (from_ahead later s)) empty ∙ by old.whole refl other alike), same);
 }
   where

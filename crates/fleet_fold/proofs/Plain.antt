@@ -74,9 +74,9 @@ module _ (key : List ℕ) (inner after : IteratorState) (rising : AreRising inne
       let steady : after.steady ≡ inner.steady = ap (λ (s : IteratorState). s.steady) m in
       let now : after.whole && not (has_operand after.rows) ≡ true = ap (λ b. b && not (has_operand after.rows)) (ap (λ (s : IteratorState). s.whole) m ∙ ew) ∙ ap not none in
       let whole : after.whole && not (has_operand after.rows) ≡ inner.whole && not (has_operand inner.rows) = now ∙ sym w_true in
-      let behind : (if after.whole && has_operand after.rows then Some MergeOperatorMissing else None) ≡ (if inner.whole && has_operand inner.rows then Some MergeOperatorMissing else None) =
+      let afterwards : (if after.whole && has_operand after.rows then Some MergeOperatorMissing else None) ≡ (if inner.whole && has_operand inner.rows then Some MergeOperatorMissing else None) =
       ap (λ b. if b then Some MergeOperatorMissing else None) (ap (λ (s : IteratorState). s.whole && has_operand after.rows) m ∙ (ap (λ b. inner.whole && b) (none ∙ sym eo))) in
-      subst (λ b. Moves b key A B) (sym was) (cc (rows, begun, steady, whole, behind))
+      subst (λ b. Moves b key A B) (sym was) (cc (rows, begun, steady, whole, afterwards))
   moved true exact true eo m =
       subst (λ b. Moves b key A B) (sym (and_right inner.steady W (and_right inner.whole (not (has_operand inner.rows)) (ap not eo))))
       (record { initialised = ap (λ (s : IteratorState). s.initialised) m; failure = refl; rising = rising_before after.rows (moves_rising key inner after true m rising) })
@@ -117,9 +117,9 @@ module _ (failure kept : Option SlateDBError) (inner after : IteratorState) (e a
   exact_inner false b c h = absurd (cc h)
 
   known : IsKnown inner e → CanFail inner.whole e → IsKnown (without_operands failure inner) e
-  known told cause behind is other = absurd (other (cause.memory (by (inner.whole && has_operand inner.rows) refl is)))
+  known stated cause afterwards is other = absurd (other (cause.memory (by (inner.whole && has_operand inner.rows) refl is)))
     where
-      by : (b : Bool) → inner.whole && has_operand inner.rows ≡ b → (if b then Some MergeOperatorMissing else None) ≡ Some behind → inner.whole ≡ true
+      by : (b : Bool) → inner.whole && has_operand inner.rows ≡ b → (if b then Some MergeOperatorMissing else None) ≡ Some afterwards → inner.whole ≡ true
       by true w h = first inner.whole (has_operand inner.rows) w
       by false w h = absurd (cc h)
 

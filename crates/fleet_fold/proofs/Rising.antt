@@ -20,8 +20,8 @@ abbrev AreUpTo : List Row → List Row → Type 0
 AreUpTo xs ys = AllByRecursion (λ x. AllByRecursion (IsUpTo x) ys) xs
 
 -- A row that becomes a tombstone keeps its place in the order of keys.
-stays_behind : (r : Row) (tick : ℤ) (q : Row) → IsUpTo r q → IsUpTo r (as_tombstone_if_expired tick q)
-stays_behind r tick q h = by (is_expired q tick)
+stays_after : (r : Row) (tick : ℤ) (q : Row) → IsUpTo r q → IsUpTo r (as_tombstone_if_expired tick q)
+stays_after r tick q h = by (is_expired q tick)
   where
     by : (b : Bool) → IsUpTo r (if b then record q { content = Tombstone; expires = None } else q)
     by true = h
@@ -38,27 +38,27 @@ stays_before ys tick r h = by (is_expired r tick)
 
 rising-walk : (cut : ℕ) (tick : ℤ) (rows : List Row) → AreRising rows → AreRising (retention_walk cut tick rows)
 rising-walk cut tick [] h = tt
-rising-walk cut tick (r ∷ rows) h = by (is_operand r) (is_expired r tick) (nat_le r.seq cut) (all-walk (IsUpTo r) (stays_behind r) cut tick rows h.0) (rising-walk cut tick rows h.1)
+rising-walk cut tick (r ∷ rows) h = by (is_operand r) (is_expired r tick) (nat_le r.seq cut) (all-walk (IsUpTo r) (stays_after r) cut tick rows h.0) (rising-walk cut tick rows h.1)
   where
     by : (operand expired ends : Bool) → AllByRecursion (IsUpTo r) (retention_walk cut tick rows) → AreRising (retention_walk cut tick rows)
         → AreRising (if operand then (if expired then retention_walk cut tick rows else r ∷ retention_walk cut tick rows)
         else (if ends then as_tombstone_if_expired tick r ∷ [] else as_tombstone_if_expired tick r ∷ retention_walk cut tick rows))
-    by true true ends behind rest = rest
-    by true false ends behind rest = (behind, rest)
-    by false expired true behind rest = (tt, tt)
-    by false expired false behind rest = (stays_before (retention_walk cut tick rows) tick r behind, rest)
+    by true true ends after rest = rest
+    by true false ends after rest = (after, rest)
+    by false expired true after rest = (tt, tt)
+    by false expired false after rest = (stays_before (retention_walk cut tick rows) tick r after, rest)
 
 rising-stripped : (rows : List Row) → AreRising rows → AreRising (without_old_tombstones rows)
 rising-stripped [] h = tt
-rising-stripped (r ∷ rows) h = by (without_old_tombstones rows) (all-stripped (IsUpTo r) (stays_behind r) rows h.0) (rising-stripped rows h.1)
+rising-stripped (r ∷ rows) h = by (without_old_tombstones rows) (all-stripped (IsUpTo r) (stays_after r) rows h.0) (rising-stripped rows h.1)
   where
     alone : (t : Bool) → AreRising (if t then [] else r ∷ [])
     alone true = tt
     alone false = (tt, tt)
 
     by : (rest : List Row) → AllByRecursion (IsUpTo r) rest → AreRising rest → AreRising (before_old_tombstones r rest)
-    by [] behind rising = alone (is_tombstone r.content)
-    by (q ∷ rest) behind rising = (behind, rising)
+    by [] after rising = alone (is_tombstone r.content)
+    by (q ∷ rest) after rising = (after, rising)
 
 rising-kept : (settings : Settings) (rows : List Row) → AreRising rows → AreRising (kept_rows settings rows)
 rising-kept settings rows h = by settings.last_run (rising-walk settings.cut settings.tick rows h)
@@ -84,7 +84,7 @@ rising_across (x ∷ xs) ys h = (all_back (IsUpTo x) xs ys h.0, rising_across xs
 
 rising-both : (xs ys : List Row) → AreRising xs → AreRising ys → AreUpTo xs ys → AreRising (xs ++ ys)
 rising-both [] ys h g across = g
-rising-both (x ∷ xs) ys h g across = (all-both (IsUpTo x) (stays_behind x) xs ys h.0 across.0, rising-both xs ys h.1 g across.1)
+rising-both (x ∷ xs) ys h g across = (all-both (IsUpTo x) (stays_after x) xs ys h.0 across.0, rising-both xs ys h.1 g across.1)
 
 module _ (settings : Settings) where
   abbrev kept : List (Chunk Row) → List Row
@@ -93,8 +93,8 @@ module _ (settings : Settings) where
   all-chunks_kept : (r : Row) (gs : List (Chunk Row)) → AllByRecursion (IsUpTo r) (flat gs) → AllByRecursion (IsUpTo r) (kept gs)
   all-chunks_kept r [] h = tt
   all-chunks_kept r (g ∷ gs) h =
-      all-both (IsUpTo r) (stays_behind r) (kept_rows settings (elements g)) (kept gs)
-      (all_key_kept (IsUpTo r) (stays_behind r) settings (elements g) (all_front (IsUpTo r) (elements g) (flat gs) h)) (all-chunks_kept r gs (all_back (IsUpTo r) (elements g) (flat gs) h))
+      all-both (IsUpTo r) (stays_after r) (kept_rows settings (elements g)) (kept gs)
+      (all_key_kept (IsUpTo r) (stays_after r) settings (elements g) (all_front (IsUpTo r) (elements g) (flat gs) h)) (all-chunks_kept r gs (all_back (IsUpTo r) (elements g) (flat gs) h))
 
   later_kept : (xs : List Row) (gs : List (Chunk Row)) → AreUpTo xs (flat gs) → AreUpTo xs (kept gs)
   later_kept [] gs h = tt

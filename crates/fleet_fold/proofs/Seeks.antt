@@ -11,7 +11,7 @@ use Rattle.fleet_iter.proofs.RisingRows.{moves_on, moves_alive, moves_rising, ri
 use Rattle.fleet_rows.specs.Row.{rows_of}
 use Rattle.fleet_rows.specs.declared.row.RowEntry.{RowEntry}
 use Rattle.fleet_rows.specs.declared.errors.SlateDBError.{SlateDBError}
-use Rattle.fleet_fold.specs.Retention.{kept_given, from_ahead, retained, ReadsOn, Knows}
+use Rattle.fleet_fold.specs.Retention.{kept_given, from_ahead, retained_state, ReadsOn, Knows}
 use Rattle.fleet_fold.proofs.Keys.{sought, seek-through, seek-within, rising_back}
 use Rattle.fleet_fold.proofs.Rising.{given_rise}
 
@@ -46,22 +46,22 @@ module _ (key : List ℕ) (settings : Settings) (failure : Option SlateDBError) 
       (record { rows = ys; initialised = inner.initialised; failure = failure; whole = inner.whole; steady = inner.steady; refusal = inner.refusal })
   same_state inner xs ys e = ap (λ (w : List Row). record { rows = w; initialised = inner.initialised; failure = failure; whole = inner.whole; steady = inner.steady; refusal = inner.refusal }) e
 
-  pub in_buffer : (buffer left : List RowEntry) (ahead : Option RowEntry) (inner : IteratorState) → ReadsOn buffer ahead inner → rows_of left ≡ from_key key (rows_of buffer) → (left ≡ [] → ⊥) → AreRising (retained failure settings buffer ahead inner).rows
-      → Seeks key (retained failure settings buffer ahead inner) (retained failure settings left ahead inner) (Ok tt)
+  pub in_buffer : (buffer left : List RowEntry) (ahead : Option RowEntry) (inner : IteratorState) → ReadsOn buffer ahead inner → rows_of left ≡ from_key key (rows_of buffer) → (left ≡ [] → ⊥) → AreRising (retained_state failure settings buffer ahead inner).rows
+      → Seeks key (retained_state failure settings buffer ahead inner) (retained_state failure settings left ahead inner) (Ok tt)
   in_buffer buffer left ahead inner knows is some rising =
       let kept : List Row = kept_given settings inner.whole (from_ahead ahead inner) in
       record {
         failed = λ q. absurd (q alive);
         uninitialised = λ q i. absurd (apart inner.initialised (knows.begun (was_some buffer left is some)) i);
-        answers = λ q i. moves_on key (retained failure settings buffer ahead inner) (retained failure settings left ahead inner) rising
+        answers = λ q i. moves_on key (retained_state failure settings buffer ahead inner) (retained_state failure settings left ahead inner) rising
             (same_state inner (rows_of left ++ kept) (from_key key (rows_of buffer ++ kept))
             (ap (λ (w : List Row). w ++ kept) is ∙ sym (seek-within key (rows_of buffer) kept (λ none. some (none_of left (is ∙ none))))));
       }
 
   -- If no row of the buffer is left, the seek goes on in the rows after it.
-  behind : (buffer left : List RowEntry) (ahead : Option RowEntry) (inner : IteratorState) → ReadsOn buffer ahead inner → rows_of left ≡ from_key key (rows_of buffer) → left ≡ []
+  afterwards : (buffer left : List RowEntry) (ahead : Option RowEntry) (inner : IteratorState) → ReadsOn buffer ahead inner → rows_of left ≡ from_key key (rows_of buffer) → left ≡ []
       → K (from_key key (from_ahead ahead inner)) ≡ from_key key (rows_of buffer ++ K (from_ahead ahead inner))
-  behind buffer left ahead inner knows is none =
+  afterwards buffer left ahead inner knows is none =
       sym (seek-through key (rows_of buffer) (K (from_ahead ahead inner)) (sym is ∙ ap (λ (w : List RowEntry). rows_of w) none) ∙ sought key settings (from_ahead ahead inner) knows.rising)
 
   was_ahead : (ahead later : Option RowEntry) → rows_of (option_to_list later) ≡ from_key key (rows_of (option_to_list ahead)) → (later ≡ None → ⊥) → ahead ≡ None → ⊥
@@ -75,19 +75,19 @@ module _ (key : List ℕ) (settings : Settings) (failure : Option SlateDBError) 
 
   -- What is kept of the rows left, if the inner iterator is whole.
   module _ (buffer left : List RowEntry) (ahead later : Option RowEntry) (inner : IteratorState) (knows : ReadsOn buffer ahead inner) (is : rows_of left ≡ from_key key (rows_of buffer)) (none : left ≡ []) where
-    told : (rows : List Row) → inner.whole ≡ true → rows ≡ from_key key (from_ahead ahead inner) → rows_of left ++ kept_given settings inner.whole rows ≡ from_key key (rows_of buffer ++ kept_given settings inner.whole (from_ahead ahead inner))
-    told rows all from =
+    stated : (rows : List Row) → inner.whole ≡ true → rows ≡ from_key key (from_ahead ahead inner) → rows_of left ++ kept_given settings inner.whole rows ≡ from_key key (rows_of buffer ++ kept_given settings inner.whole (from_ahead ahead inner))
+    stated rows all from =
         ap (λ (w : List RowEntry). rows_of w ++ kept_given settings inner.whole rows) none
         ∙ (ap (λ (b : Bool). kept_given settings b rows) all
         ∙ (ap K from
-        ∙ (behind buffer left ahead inner knows is none ∙ ap (λ (b : Bool). from_key key (rows_of buffer ++ kept_given settings b (from_ahead ahead inner))) (sym all))))
+        ∙ (afterwards buffer left ahead inner knows is none ∙ ap (λ (b : Bool). from_key key (rows_of buffer ++ kept_given settings b (from_ahead ahead inner))) (sym all))))
 
     rises : (whole : Bool) (rows : List Row) → AreRising rows → AreRising (rows_of left ++ kept_given settings whole rows)
     rises whole rows rising = subst (λ (w : List RowEntry). AreRising (rows_of w ++ kept_given settings whole rows)) (sym none) (given_rise settings whole rows rising)
 
     -- A row that was read ahead stays, since it is not below the key.
-    pub at_ahead : rows_of (option_to_list later) ≡ from_key key (rows_of (option_to_list ahead)) → (later ≡ None → ⊥) → AreRising (retained failure settings buffer ahead inner).rows
-        → Seeks key (retained failure settings buffer ahead inner) (retained failure settings left later inner) (Ok tt)
+    pub at_ahead : rows_of (option_to_list later) ≡ from_key key (rows_of (option_to_list ahead)) → (later ≡ None → ⊥) → AreRising (retained_state failure settings buffer ahead inner).rows
+        → Seeks key (retained_state failure settings buffer ahead inner) (retained_state failure settings left later inner) (Ok tt)
     at_ahead at some rising = record {
       failed = λ q. absurd (q alive);
       uninitialised = λ q i. absurd (apart inner.initialised (knows.ahead_begun (was_ahead ahead later at some)) i);
@@ -97,27 +97,27 @@ module _ (key : List ℕ) (settings : Settings) (failure : Option SlateDBError) 
         from : from_ahead later inner ≡ from_key key (from_ahead ahead inner)
         from = ap (λ (w : List Row). w ++ inner.rows) at ∙ sym (seek-within key (rows_of (option_to_list ahead)) inner.rows (λ empty. some (none_ahead later (at ∙ empty))))
 
-        by : (exact : Bool) → is_exact inner ≡ exact → Moves (is_exact inner) key (retained failure settings buffer ahead inner) (retained failure settings left later inner)
+        by : (exact : Bool) → is_exact inner ≡ exact → Moves (is_exact inner) key (retained_state failure settings buffer ahead inner) (retained_state failure settings left later inner)
         by true e =
-            moves_on key (retained failure settings buffer ahead inner) (retained failure settings left later inner) rising
-            (same_state inner (rows_of left ++ kept_given settings inner.whole (from_ahead later inner)) (from_key key (rows_of buffer ++ kept_given settings inner.whole (from_ahead ahead inner))) (told (from_ahead later inner) (second inner.steady inner.whole e) from))
+            moves_on key (retained_state failure settings buffer ahead inner) (retained_state failure settings left later inner) rising
+            (same_state inner (rows_of left ++ kept_given settings inner.whole (from_ahead later inner)) (from_key key (rows_of buffer ++ kept_given settings inner.whole (from_ahead ahead inner))) (stated (from_ahead later inner) (second inner.steady inner.whole e) from))
         by false e =
-            subst (λ w. Moves w key (retained failure settings buffer ahead inner) (retained failure settings left later inner)) (sym e)
+            subst (λ w. Moves w key (retained_state failure settings buffer ahead inner) (retained_state failure settings left later inner)) (sym e)
             (record { initialised = refl; failure = refl; rising = rises inner.whole (from_ahead later inner) (subst AreRising (sym from) (rising_from key (from_ahead ahead inner) knows.rising)) })
 
     -- The inner iterator is sought.
-    moved : (after : IteratorState) → rows_of (option_to_list later) ≡ from_key key (rows_of (option_to_list ahead)) → later ≡ None → AreRising (retained failure settings buffer ahead inner).rows
-        → (exact : Bool) → is_exact inner ≡ exact → Moves exact key inner after → Moves (is_exact inner) key (retained failure settings buffer ahead inner) (retained failure settings left later after)
+    moved : (after : IteratorState) → rows_of (option_to_list later) ≡ from_key key (rows_of (option_to_list ahead)) → later ≡ None → AreRising (retained_state failure settings buffer ahead inner).rows
+        → (exact : Bool) → is_exact inner ≡ exact → Moves exact key inner after → Moves (is_exact inner) key (retained_state failure settings buffer ahead inner) (retained_state failure settings left later after)
     moved after at gone rising true e moves =
-        moves_on key (retained failure settings buffer ahead inner) (retained failure settings left later after) rising
-        (ap (λ (s : IteratorState). retained failure settings left later s) moves
+        moves_on key (retained_state failure settings buffer ahead inner) (retained_state failure settings left later after) rising
+        (ap (λ (s : IteratorState). retained_state failure settings left later s) moves
         ∙ same_state inner (rows_of left ++ kept_given settings inner.whole (rows_of (option_to_list later) ++ from_key key inner.rows)) (from_key key (rows_of buffer ++ kept_given settings inner.whole (from_ahead ahead inner)))
-        (told (rows_of (option_to_list later) ++ from_key key inner.rows) (second inner.steady inner.whole e)
+        (stated (rows_of (option_to_list later) ++ from_key key inner.rows) (second inner.steady inner.whole e)
         (ap (λ (o : Option RowEntry). rows_of (option_to_list o) ++ from_key key inner.rows) gone
         ∙ sym (seek-through key (rows_of (option_to_list ahead)) inner.rows (sym at ∙ ap (λ (o : Option RowEntry). rows_of (option_to_list o)) gone)))))
     moved after at gone rising false e moves =
         let left_over : from_ahead later after ≡ after.rows = ap (λ (o : Option RowEntry). rows_of (option_to_list o) ++ after.rows) gone in
-        subst (λ w. Moves w key (retained failure settings buffer ahead inner) (retained failure settings left later after)) (sym e)
+        subst (λ w. Moves w key (retained_state failure settings buffer ahead inner) (retained_state failure settings left later after)) (sym e)
         (record { initialised = moves.initialised; failure = refl; rising = rises after.whole (from_ahead later after) (subst AreRising (sym left_over) moves.rising) })
 
   -- An iterator of which a seek succeeded was initialised.
@@ -125,8 +125,8 @@ module _ (key : List ℕ) (settings : Settings) (failure : Option SlateDBError) 
   was_initialised inner after clean seeks = true_from_ne_false inner.initialised (λ i. let e = (seeks.uninitialised clean i).answer in cc e)
 
   pub in_inner : (buffer left : List RowEntry) (ahead later : Option RowEntry) (inner after : IteratorState) → ReadsOn buffer ahead inner → rows_of left ≡ from_key key (rows_of buffer) → left ≡ []
-      → rows_of (option_to_list later) ≡ from_key key (rows_of (option_to_list ahead)) → later ≡ None → AreRising (retained failure settings buffer ahead inner).rows → Seeks key inner after (Ok tt)
-      → Seeks key (retained failure settings buffer ahead inner) (retained failure settings left later after) (Ok tt)
+      → rows_of (option_to_list later) ≡ from_key key (rows_of (option_to_list ahead)) → later ≡ None → AreRising (retained_state failure settings buffer ahead inner).rows → Seeks key inner after (Ok tt)
+      → Seeks key (retained_state failure settings buffer ahead inner) (retained_state failure settings left later after) (Ok tt)
   in_inner buffer left ahead later inner after knows is none at gone rising seeks =
       let begun = was_initialised inner after knows.alive seeks in
       record {
@@ -171,35 +171,35 @@ clash false h g = cc h
 
 module _ (settings : Settings) (failure kept : Option SlateDBError) (buffer : List RowEntry) (ahead : Option RowEntry) (inner after : IteratorState) (e answer : SlateDBError) (alive : failure ≡ None) (knows : ReadsOn buffer ahead inner) (keeps : KeepsRefusal e failure kept answer) where
   pub seek_refused_kept : (key : List ℕ) (left : List RowEntry) (later : Option RowEntry) → rows_of left ≡ from_key key (rows_of buffer) → rows_of (option_to_list later) ≡ from_key key (rows_of (option_to_list ahead))
-      → Seeks key inner after (Err e) → Seeks key (retained failure settings buffer ahead inner) (retained kept settings left later after) (Err answer)
+      → Seeks key inner after (Err e) → Seeks key (retained_state failure settings buffer ahead inner) (retained_state kept settings left later after) (Err answer)
   seek_refused_kept key left later is at seeks =
-      seek_refused (retained failure settings buffer ahead inner) (retained kept settings left later after) inner after e answer alive knows.alive keeps refl stays key (λ exact. exact) seeks
+      seek_refused (retained_state failure settings buffer ahead inner) (retained_state kept settings left later after) inner after e answer alive knows.alive keeps refl stays key (λ exact. exact) seeks
     where
-      stays : inner.initialised ≡ false → after ≡ inner → kept ≡ failure → retained kept settings left later after ≡ retained failure settings buffer ahead inner
+      stays : inner.initialised ≡ false → after ≡ inner → kept ≡ failure → retained_state kept settings left later after ≡ retained_state failure settings buffer ahead inner
       stays begun same none =
           let empty : buffer ≡ [] = empty_of buffer (λ some. clash inner.initialised (knows.begun some) begun) in
           let gone : left ≡ [] = none_of_rows left (is ∙ ap (λ (w : List RowEntry). from_key key (rows_of w)) empty) in
           let nothing : ahead ≡ None = nothing_of ahead (λ some. clash inner.initialised (knows.ahead_begun some) begun) in
           let gone_too : later ≡ None = nothing_of_rows later (at ∙ ap (λ (o : Option RowEntry). from_key key (rows_of (option_to_list o))) nothing) in
-          ap (λ (f : Option SlateDBError). retained f settings left later after) none
-          ∙ (ap (λ (s : IteratorState). retained failure settings left later s) same
-          ∙ (ap (λ (w : List RowEntry). retained failure settings w later inner) (gone ∙ sym empty)
-          ∙ ap (λ (o : Option RowEntry). retained failure settings buffer o inner) (gone_too ∙ sym nothing)))
+          ap (λ (f : Option SlateDBError). retained_state f settings left later after) none
+          ∙ (ap (λ (s : IteratorState). retained_state failure settings left later s) same
+          ∙ (ap (λ (w : List RowEntry). retained_state failure settings w later inner) (gone ∙ sym empty)
+          ∙ ap (λ (o : Option RowEntry). retained_state failure settings buffer o inner) (gone_too ∙ sym nothing)))
 
-  pub next_refused_kept : buffer ≡ [] → ahead ≡ None → Nexts inner after (Err e) → Nexts (retained failure settings buffer ahead inner) (retained kept settings buffer ahead after) (Err answer)
+  pub next_refused_kept : buffer ≡ [] → ahead ≡ None → Nexts inner after (Err e) → Nexts (retained_state failure settings buffer ahead inner) (retained_state kept settings buffer ahead after) (Err answer)
   next_refused_kept empty nothing nexts =
-      next_refused (retained failure settings buffer ahead inner) (retained kept settings buffer ahead after) inner after e answer alive knows.alive keeps refl stays (λ whole. whole) known nexts
+      next_refused (retained_state failure settings buffer ahead inner) (retained_state kept settings buffer ahead after) inner after e answer alive knows.alive keeps refl stays (λ whole. whole) known nexts
     where
-      stays : inner.initialised ≡ false → after ≡ inner → kept ≡ failure → retained kept settings buffer ahead after ≡ retained failure settings buffer ahead inner
-      stays begun same none = ap (λ (f : Option SlateDBError). retained f settings buffer ahead after) none ∙ ap (λ (s : IteratorState). retained failure settings buffer ahead s) same
+      stays : inner.initialised ≡ false → after ≡ inner → kept ≡ failure → retained_state kept settings buffer ahead after ≡ retained_state failure settings buffer ahead inner
+      stays begun same none = ap (λ (f : Option SlateDBError). retained_state f settings buffer ahead after) none ∙ ap (λ (s : IteratorState). retained_state failure settings buffer ahead s) same
 
-      known : IsKnown inner e → CanFail inner.whole e → IsKnown (retained failure settings buffer ahead inner) e
-      known told cause behind is other =
-          let (none, as_told) = told behind is other in (
+      known : IsKnown inner e → CanFail inner.whole e → IsKnown (retained_state failure settings buffer ahead inner) e
+      known stated cause afterwards is other =
+          let (none, as_stated) = stated afterwards is other in (
             ap (λ (w : List RowEntry). rows_of w ++ kept_given settings inner.whole (from_ahead ahead inner)) empty
                 ∙ (ap (λ (o : Option RowEntry). kept_given settings inner.whole (rows_of (option_to_list o) ++ inner.rows)) nothing
                 ∙ (ap (kept_given settings inner.whole) none ∙ by inner.whole refl)),
-            as_told,
+            as_stated,
           )
         where
           by : (w : Bool) → inner.whole ≡ w → kept_given settings w [] ≡ []

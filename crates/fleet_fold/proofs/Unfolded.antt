@@ -13,7 +13,7 @@ use Rattle.fleet_iter.specs.Iteration.{IteratorState, AreRising}
 use Rattle.fleet_rows.specs.Row.{rows_of}
 use Rattle.fleet_rows.specs.declared.row.RowEntry.{RowEntry}
 use Rattle.fleet_rows.specs.declared.errors.SlateDBError.{SlateDBError}
-use Rattle.fleet_fold.specs.Folded.{Folded, opens, joining, same_group, merged_group, folded_behind, before_refusal, up_to_refusal, folded}
+use Rattle.fleet_fold.specs.Folded.{Folded, opens, joining, same_group, merged_group, folded_after, before_refusal, up_to_refusal, folded_groups}
 use Rattle.fleet_fold.specs.Merging.{merging, ReadsGroups, RisesIfRefused}
 use Rattle.fleet_fold.specs.Retention.{from_ahead}
 use Rattle.fleet_fold.specs.declared.group.GroupRule.{GroupRule}
@@ -72,13 +72,13 @@ module _ (merge : Operator) (rule : GroupRule) where
           → (FirstHave P (length (joining rule r rows)) rows → later.refusal ≡ None → AllByRecursion (λ q. P q.key) later.rows → AllByRecursion (λ q. P q.key) rows)
           → (FirstHave P 0 rows → (U merge rule 0 rows).refusal ≡ None → AllByRecursion (λ q. P q.key) (U merge rule 0 rows).rows → AllByRecursion (λ q. P q.key) rows)
           → AllByRecursion (λ q. P q.key) (r ∷ rows)
-      by true none all behind rest =
+      by true none all after rest =
           let answer = merged_group merge (r, joining rule r rows) in
           let b = begins answer later none in
           let both : AllByRecursion (λ q. P q.key) (b.q ∷ later.rows) = subst (AllByRecursion (λ q. P q.key)) (begun_rows answer later b.q b.is) all in
           let own : P r.key = subst P (merged_key merge rule (r, joining rule r rows) b.q b.is) both.0 in
-          (own, behind (first_weaken (λ key. key ≡ r.key) P (λ key same. subst P (sym same) own) (length (joining rule r rows)) rows (joining_same r rows)) b.none both.1)
-      by false none all behind rest = (all.0, rest tt none all.1)
+          (own, after (first_weaken (λ key. key ≡ r.key) P (λ key same. subst P (sym same) own) (length (joining rule r rows)) rows (joining_same r rows)) b.none both.1)
+      by false none all after rest = (all.0, rest tt none all.1)
 
   -- The rows that were skipped have this key, and no folded row has a lesser one.
   abbrev Joined : List ℕ → ℕ → List Row → Type 0
@@ -105,20 +105,20 @@ module _ (merge : Operator) (rule : GroupRule) where
           → (Joined r.key (length (joining rule r rows)) rows → later.refusal ≡ None → AreRising later.rows → AreRising rows)
           → ((U merge rule 0 rows).refusal ≡ None → AreRising (U merge rule 0 rows).rows → AreRising rows)
           → AreRising (r ∷ rows)
-      by true none rising behind rest =
+      by true none rising after rest =
           let answer = merged_group merge (r, joining rule r rows) in
           let b = begins answer later none in
           let both : AreRising (b.q ∷ later.rows) = subst AreRising (begun_rows answer later b.q b.is) rising in
           let up : AllByRecursion (λ q. is_gt (key_cmp r.key q.key) ≡ false) later.rows = subst (λ (k : List ℕ). AllByRecursion (λ q. is_gt (key_cmp k q.key) ≡ false) later.rows) (merged_key merge rule (r, joining rule r rows) b.q b.is) both.0 in
           let low = first_weaken (λ k. k ≡ r.key) (λ k. is_gt (key_cmp r.key k) ≡ false) (λ k same. subst (λ (x : List ℕ). is_gt (key_cmp r.key x) ≡ false) (sym same) (ap is_gt (key_alike r.key))) (length (joining rule r rows)) rows (joining_same r rows) in
-          (all_from (λ k. is_gt (key_cmp r.key k) ≡ false) (length (joining rule r rows)) rows low b.none up, behind (joined r.key (length (joining rule r rows)) rows (joining_same r rows) up) b.none both.1)
-      by false none rising behind rest = (all_from (λ k. is_gt (key_cmp r.key k) ≡ false) 0 rows tt none rising.0, rest none rising.1)
+          (all_from (λ k. is_gt (key_cmp r.key k) ≡ false) (length (joining rule r rows)) rows low b.none up, after (joined r.key (length (joining rule r rows)) rows (joining_same r rows) up) b.none both.1)
+      by false none rising after rest = (all_from (λ k. is_gt (key_cmp r.key k) ≡ false) 0 rows tt none rising.0, rest none rising.1)
 
   -- So rows that fall only where no fold refuses rise if the folded ones do.
-  pub rises_by_folded : (rows : List Row) → RisesIfRefused merge rule rows → AreRising (folded merge rule rows).rows → AreRising rows
-  rises_by_folded rows h rising = by (folded merge rule rows).refusal refl
+  pub rises_by_folded : (rows : List Row) → RisesIfRefused merge rule rows → AreRising (folded_groups merge rule rows).rows → AreRising rows
+  rises_by_folded rows h rising = by (folded_groups merge rule rows).refusal refl
     where
-      by : (o : Option SlateDBError) → (folded merge rule rows).refusal ≡ o → AreRising rows
+      by : (o : Option SlateDBError) → (folded_groups merge rule rows).refusal ≡ o → AreRising rows
       by None none = unfolded [] 0 rows tt none rising
       by (Some e) is = h (λ none. let clash : ◌≡◌ {A = Option SlateDBError} (Some e) None = sym is ∙ none in cc clash)
 

@@ -24,8 +24,8 @@ abbrev pub Closing : Type 0
 Closing = List Row → Result (Unit {0}) CompactionFilterError
 
 -- The answer is the stated one, or the error `Memory`.
-abbrev pub IsTold : {A : Type 0} → Result A CompactionFilterError → Result A CompactionFilterError → Type 0
-IsTold told answer = answer ≢ Err filter.Memory → answer ≡ told
+abbrev pub IsStated : {A : Type 0} → Result A CompactionFilterError → Result A CompactionFilterError → Type 0
+IsStated stated answer = answer ≢ Err filter.Memory → answer ≡ stated
 
 -- A filter was shown row `r`. It now answers to later rows, and when it is closed, what it would have
 -- answered before for rows that begin with `r`.
@@ -34,13 +34,13 @@ pub record GoesOn (r : Row) (old : Answers) (closing : Closing) (new : Answers) 
   pub end : (seen : List Row) → closing' seen ≡ closing (r ∷ seen)
 
 -- The row with another value. It keeps key, sequence and stamps, but a tombstone has no expiry.
-abbrev pub modified : ValueDeletable → Row → Row
-modified value r = record r { content = content_of value; expires = if is_tombstone (content_of value) then None else r.expires }
+abbrev pub modified_row : ValueDeletable → Row → Row
+modified_row value r = record r { content = content_of value; expires = if is_tombstone (content_of value) then None else r.expires }
 
-abbrev pub decided : CompactionFilterDecision → Row → List Row
-decided Keep r = r ∷ []
-decided Drop r = []
-decided (Modify value) r = modified value r ∷ []
+abbrev pub decided_rows : CompactionFilterDecision → Row → List Row
+decided_rows Keep r = r ∷ []
+decided_rows Drop r = []
+decided_rows (Modify value) r = modified_row value r ∷ []
 
 -- The rows that a filter leaves, up to the first row that it refuses. The end is `Ok`, or the error of that
 -- row or of the closing.
@@ -49,12 +49,12 @@ pub record Filtered : Type 0 where
   pub end : Result (Unit {0}) CompactionFilterError
 
 abbrev pub before_refused : Result CompactionFilterDecision CompactionFilterError → Row → Filtered → Filtered
-before_refused (Ok decision) r later = record { rows = decided decision r ++ later.rows; end = later.end }
+before_refused (Ok decision) r later = record { rows = decided_rows decision r ++ later.rows; end = later.end }
 before_refused (Err e) r later = record { rows = []; end = Err e }
 
-abbrev pub filtered : Answers → Closing → List Row → Filtered
-filtered answers closing [] = record { rows = []; end = closing [] }
-filtered answers closing (r ∷ rows) = before_refused (answers [] r) r (filtered (λ seen. answers (r ∷ seen)) (λ seen. closing (r ∷ seen)) rows)
+abbrev pub filtered_rows : Answers → Closing → List Row → Filtered
+filtered_rows answers closing [] = record { rows = []; end = closing [] }
+filtered_rows answers closing (r ∷ rows) = before_refused (answers [] r) r (filtered_rows (λ seen. answers (r ∷ seen)) (λ seen. closing (r ∷ seen)) rows)
 
 -- Whether the filter refuses no row and can be closed.
 abbrev pub ends_well : Filtered → Bool
@@ -64,7 +64,7 @@ ends_well f = is_ok f.end
 abbrev pub filtering : Option SlateDBError → Bool → Answers → Closing → IteratorState → IteratorState
 filtering failure true answers closing inner = record { rows = []; initialised = inner.initialised; failure = failure; whole = true; steady = false; refusal = None }
 filtering failure false answers closing inner =
-    let f = filtered answers closing inner.rows in
+    let f = filtered_rows answers closing inner.rows in
     record { rows = f.rows; initialised = inner.initialised; failure = failure; whole = inner.whole && ends_well f; steady = false; refusal = None }
 
 -- The call gives the next row that the filter leaves, or it closes the filter at the end of the rows.
@@ -73,17 +73,17 @@ Gives old whole None new closed inner = (old.rows ≡ []) × (old.end ≡ Ok tt)
 Gives old whole (Some row) new closed inner = (old ≡ record new { rows = row_of row ∷ new.rows }) × (inner.whole ≡ whole) × (closed ≡ false)
 
 -- The filter leaves no row before it refuses, and the error is the one with which it refuses.
-pub record IsFiltersRefusal (told : Filtered) (e : SlateDBError) : Type 0 where
-  pub rows : told.rows ≡ []
+pub record IsFiltersRefusal (stated : Filtered) (e : SlateDBError) : Type 0 where
+  pub rows : stated.rows ≡ []
   pub cause : CompactionFilterError
-  pub end : told.end ≡ Err cause
+  pub end : stated.end ≡ Err cause
   pub same : e ≡ raised_by_filter cause
 
 -- What a call answers if the inner iterator does not fail in it. It answers the filter's error exactly if the
 -- filter leaves no row before that error. It may answer `Memory` instead.
-pub record Refuses {A : Type 0} (told : Filtered) (inner : IteratorState) (answer : Result A SlateDBError) : Type 0 where
-  pub cause : (e : SlateDBError) → answer ≡ Err e → inner.failure ≡ None → e ≢ Memory → IsFiltersRefusal told e
-  pub comes : (e : CompactionFilterError) → told.rows ≡ [] → told.end ≡ Err e → inner.failure ≡ None → answer ≢ Err Memory → answer ≡ Err (raised_by_filter e)
+pub record Refuses {A : Type 0} (stated : Filtered) (inner : IteratorState) (answer : Result A SlateDBError) : Type 0 where
+  pub cause : (e : SlateDBError) → answer ≡ Err e → inner.failure ≡ None → e ≢ Memory → IsFiltersRefusal stated e
+  pub comes : (e : CompactionFilterError) → stated.rows ≡ [] → stated.end ≡ Err e → inner.failure ≡ None → answer ≢ Err Memory → answer ≡ Err (raised_by_filter e)
 
 -- What holds inside a filtered iterator until a call fails it.
 pub record Knows (ended is_closed : Bool) (inner : IteratorState) : Type 0 where
@@ -108,4 +108,4 @@ pub record SeeksFiltered (sought : List ℕ → IteratorState → Type 0) (ended
 abbrev pub FiltersSeeTheKey : Type 0
 FiltersSeeTheKey = (answers : Answers) (closing : Closing) (inner left new : IteratorState) (cursor : Cursor) → Moves true cursor.0 inner left
     → new ≡ record (filtering None false answers closing left) { rows = without_first (is_written cursor) (filtering None false answers closing left).rows }
-    → new.rows ≡ without_first (is_written cursor) (filtered answers closing (from_key cursor.0 inner.rows)).rows
+    → new.rows ≡ without_first (is_written cursor) (filtered_rows answers closing (from_key cursor.0 inner.rows)).rows

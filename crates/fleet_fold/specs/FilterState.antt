@@ -3,7 +3,7 @@ use Rattle.std.specs.Prelude.{◌≡◌, ◌≢◌, ℕ, List, Bool, true, false
 use Rattle.fleet_rows.specs.declared.row.RowEntry.{RowEntry}
 use Rattle.fleet_rows.specs.declared.errors.SlateDBError.{SlateDBError}
 use Rattle.fleet_iter.specs.Iteration.{IteratorState}
-use Rattle.fleet_fold.specs.Filter.{Answers, Closing, filtered, filtering, Refuses, KnowsUnlessFailed, SeeksFiltered}
+use Rattle.fleet_fold.specs.Filter.{Answers, Closing, filtered_rows, filtering, Refuses, KnowsUnlessFailed, SeeksFiltered}
 use Rattle.fleet_fold.specs.declared.filtering.CompactionFilterIterator.{CompactionFilterIterator}
 
 abbrev pub state_of : {T F : Type 0} → (T → IteratorState) → (F → Answers) → (F → Closing) → CompactionFilterIterator T F → IteratorState
@@ -25,7 +25,7 @@ IsClosed closed i = closed i.filter ≡ true
 -- before that error. It may be `Memory` instead.
 abbrev pub RefusesIn : {T F : Type 0} → (T → IteratorState) → (F → Answers) → (F → Closing) → CompactionFilterIterator T F → CompactionFilterIterator T F → Result (Option RowEntry) SlateDBError → Type 0
 RefusesIn state answers closing old new answer =
-    old.failure ≡ None → old.ended ≡ false → (state old.inner).initialised ≡ true → Refuses (filtered (answers old.filter) (closing old.filter) (state old.inner).rows) (state new.inner) answer
+    old.failure ≡ None → old.ended ≡ false → (state old.inner).initialised ≡ true → Refuses (filtered_rows (answers old.filter) (closing old.filter) (state old.inner).rows) (state new.inner) answer
 
 -- If the inner iterator fails in a call, the filter is not closed.
 abbrev pub StaysOpen : {T F : Type 0} → (T → IteratorState) → (F → Bool) → CompactionFilterIterator T F → CompactionFilterIterator T F → Type 0

@@ -125,12 +125,12 @@ merged_group merge g = row_of_answer g (group_answer merge g)
 
 -- What the rows become, group after group. The first `taken` rows were taken by an earlier group and are
 -- skipped.
-abbrev pub folded_behind : Operator → GroupRule → ℕ → List Row → List (Result Row SlateDBError)
-folded_behind merge rule taken [] = []
-folded_behind merge rule (suc taken) (r ∷ rows) = folded_behind merge rule taken rows
-folded_behind merge rule zero (r ∷ rows) =
-    if opens rule r then merged_group merge (r, joining rule r rows) ∷ folded_behind merge rule (length (joining rule r rows)) rows
-    else Ok r ∷ folded_behind merge rule 0 rows
+abbrev pub folded_after : Operator → GroupRule → ℕ → List Row → List (Result Row SlateDBError)
+folded_after merge rule taken [] = []
+folded_after merge rule (suc taken) (r ∷ rows) = folded_after merge rule taken rows
+folded_after merge rule zero (r ∷ rows) =
+    if opens rule r then merged_group merge (r, joining rule r rows) ∷ folded_after merge rule (length (joining rule r rows)) rows
+    else Ok r ∷ folded_after merge rule 0 rows
 
 -- The rows before the first error, and this error, if there is one.
 pub record Folded : Type 0 where
@@ -146,5 +146,5 @@ up_to_refusal [] = record { rows = []; refusal = None }
 up_to_refusal (a ∷ others) = before_refusal a (up_to_refusal others)
 
 -- The rows with each group merged to one row, up to the first group that is refused.
-abbrev pub folded : Operator → GroupRule → List Row → Folded
-folded merge rule rows = up_to_refusal (folded_behind merge rule 0 rows)
+abbrev pub folded_groups : Operator → GroupRule → List Row → Folded
+folded_groups merge rule rows = up_to_refusal (folded_after merge rule 0 rows)

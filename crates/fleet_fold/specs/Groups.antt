@@ -12,7 +12,7 @@ use Rattle.fleet_rows.specs.declared.row.RowEntry.{RowEntry}
 use Rattle.fleet_rows.specs.declared.errors.SlateDBError.{SlateDBError}
 use Rattle.fleet_rows.specs.declared.errors.SlateDBError.TheVariants.{Memory}
 use Rattle.fleet_fold.specs.Retention.{from_ahead, IsReadable}
-use Rattle.fleet_fold.specs.Folded.{above, last_above, in_order, answer_of, batch_answer, batch_len, lesser_stamp, least_expiry, merged_group, joining, folded_behind}
+use Rattle.fleet_fold.specs.Folded.{above, last_above, in_order, answer_of, batch_answer, batch_len, lesser_stamp, least_expiry, merged_group, joining, folded_after}
 use Rattle.fleet_fold.specs.declared.group.Group.{Group}
 use Rattle.fleet_fold.specs.declared.group.GroupRule.{GroupRule}
 
@@ -138,13 +138,13 @@ pub record JoinsSoFar (merge : Operator) (rule : GroupRule) (first : Row) (old :
   pub parts : old.rows ≡ taken ++ new.rows
 
 -- The base, if there is one, is no operand.
-abbrev pub IsPlain : Option RowEntry → Type 0
-IsPlain None = ⊤
-IsPlain (Some row) = is_operand (row_of row) ≡ false
+abbrev pub IsNoOperand : Option RowEntry → Type 0
+IsNoOperand None = ⊤
+IsNoOperand (Some row) = is_operand (row_of row) ≡ false
 
 pub record TakesRows (merge : Operator) (rule : GroupRule) (g : Group) (old : IteratorState) (base : Option RowEntry) (filled : Group) (later : Option RowEntry) (new : IteratorState) : Type 0 where
   pub group : (first : Row) → Gathers merge first [] g → Joins merge rule first old base filled later new
-  pub plain : IsPlain base
+  pub plain : IsNoOperand base
   pub readable : IsReadable new
   pub whole : new.whole ≡ old.whole
   pub steady : new.steady ≡ old.steady
@@ -175,7 +175,7 @@ pub record FoldsGroup (merge : Operator) (rule : GroupRule) (first : Row) (old :
 
 -- The next row that is made of the first row and the rows after it is `r`.
 pub record Folds (merge : Operator) (rule : GroupRule) (first : Row) (old : IteratorState) (r : Row) (later : Option RowEntry) (new : IteratorState) : Type 0 where
-  pub rows : folded_behind merge rule 0 (first ∷ old.rows) ≡ Ok r ∷ folded_behind merge rule 0 (from_ahead later new)
+  pub rows : folded_after merge rule 0 (first ∷ old.rows) ≡ Ok r ∷ folded_after merge rule 0 (from_ahead later new)
   pub readable : IsReadable new
   pub whole : new.whole ≡ old.whole
   pub steady : new.steady ≡ old.steady
@@ -185,4 +185,4 @@ pub record Folds (merge : Operator) (rule : GroupRule) (first : Row) (old : Iter
 pub record RefusesNext (merge : Operator) (rule : GroupRule) (rows : List Row) (old new : IteratorState) (e : SlateDBError) : Type 0 where
   pub read : new.failure ≢ None → CanFail old.whole e
   pub handed : new.failure ≢ None → IsHandedOn new e
-  pub merged : new.failure ≡ None → e ≢ Memory → (others : List (Result Row SlateDBError)) × (folded_behind merge rule 0 rows ≡ Err e ∷ others)
+  pub merged : new.failure ≡ None → e ≢ Memory → (others : List (Result Row SlateDBError)) × (folded_after merge rule 0 rows ≡ Err e ∷ others)

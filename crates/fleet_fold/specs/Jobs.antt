@@ -19,7 +19,7 @@ use Rattle.row_laws.specs.Refusals.{RefusesIn}
 use Rattle.fleet_rows.specs.declared.errors.MergeOperatorError.TheVariants.{Callback}
 use Rattle.fleet_rows.specs.declared.errors.SlateDBError.{SlateDBError}
 use Rattle.fleet_rows.specs.declared.errors.SlateDBError.TheVariants.{MergeOperator}
-use Rattle.fleet_fold.specs.Folded.{batch_len, Folded, folded}
+use Rattle.fleet_fold.specs.Folded.{batch_len, Folded, folded_groups}
 use Rattle.fleet_fold.specs.Retention.{kept_given}
 use Rattle.fleet_fold.specs.declared.group.GroupRule.{GroupRule}
 
@@ -34,13 +34,13 @@ rows_if_whole f = if is_none f.refusal then Some f.rows else None
 -- Of rows of one key, folding in batches gives the model's folded rows. It is refused exactly if the model's
 -- fold is.
 abbrev pub FoldsOneKey : Operator → Type 0
-FoldsOneKey merge = (cut : ℕ) (key : List ℕ) (rows : List Row) → AreOfKey key rows → rows_if_whole (folded merge (job_rule cut) rows) ≡ folded_rows merge cut rows
+FoldsOneKey merge = (cut : ℕ) (key : List ℕ) (rows : List Row) → AreOfKey key rows → rows_if_whole (folded_groups merge (job_rule cut) rows) ≡ folded_rows merge cut rows
 
 -- Folding is refused exactly if the job is not whole. If the job is whole, what retention keeps of the folded
 -- rows is the job's rows.
 pub record MakesJob (merge : Operator) (settings : Settings) (rows : List Row) : Type 0 where
-  pub whole : is_none (folded merge (job_rule settings.cut) rows).refusal ≡ (job_rows merge settings rows).whole
-  pub kept : (job_rows merge settings rows).whole ≡ true → kept_of_keys settings (folded merge (job_rule settings.cut) rows).rows ≡ (job_rows merge settings rows).rows
+  pub whole : is_none (folded_groups merge (job_rule settings.cut) rows).refusal ≡ (job_rows merge settings rows).whole
+  pub kept : (job_rows merge settings rows).whole ≡ true → kept_of_keys settings (folded_groups merge (job_rule settings.cut) rows).rows ≡ (job_rows merge settings rows).rows
 
 -- Of strictly ordered rows, folding and then retention make the job's rows.
 abbrev pub FoldsMakeJobs : Operator → Type 0
@@ -51,13 +51,13 @@ FoldsMakeJobs merge = (settings : Settings) (rows : List Row) → IsStrictlyOrde
 -- What holds of folded rows and the job's rows, whether or not a fold is refused.
 pub record BeginsJob (merge : Operator) (settings : Settings) (rows : List Row) : Type 0 where
   -- The last key of the folded rows may lack rows. What is kept of the keys before it begins the job's rows.
-  pub begins : IsPrefixOf (kept_given settings false (folded merge (job_rule settings.cut) rows).rows) (job_rows merge settings rows).rows
+  pub begins : IsPrefixOf (kept_given settings false (folded_groups merge (job_rule settings.cut) rows).rows) (job_rows merge settings rows).rows
   -- No folded row is above a key in which a fold refuses.
-  pub up_to : (key : List ℕ) → RefusesIn merge settings key rows → AllByRecursion (λ r. is_gt (key_cmp r.key key) ≡ false) (folded merge (job_rule settings.cut) rows).rows
+  pub up_to : (key : List ℕ) → RefusesIn merge settings key rows → AllByRecursion (λ r. is_gt (key_cmp r.key key) ≡ false) (folded_groups merge (job_rule settings.cut) rows).rows
   -- Take a key below which no fold refuses, and a row below that key. The kept rows begin with all that the
   -- job makes of the keys before that row's key.
   pub reaches : (key : List ℕ) → (job_rows merge settings (filter (is_below key) rows)).whole ≡ true
-      → AllByRecursion (λ r. is_below key r ≡ true → IsPrefixOf (job_rows merge settings (filter (is_below r.key) rows)).rows (kept_given settings false (folded merge (job_rule settings.cut) rows).rows)) rows
+      → AllByRecursion (λ r. is_below key r ≡ true → IsPrefixOf (job_rows merge settings (filter (is_below r.key) rows)).rows (kept_given settings false (folded_groups merge (job_rule settings.cut) rows).rows)) rows
 
 -- Of strictly ordered rows, folding and then retention begin the job's rows, even if a fold refuses.
 abbrev pub FoldsBeginJobs : Operator → Type 0
@@ -101,7 +101,7 @@ pub record IsOfOperator (merge : Operator) (rows : List Row) (e : SlateDBError) 
 
 -- Of strictly ordered rows, every error of folding is the operator's.
 abbrev pub RefusesByOperator : Operator → Type 0
-RefusesByOperator merge = (cut : ℕ) (rows : List Row) (e : SlateDBError) → IsStrictlyOrdered rows → (folded merge (job_rule cut) rows).refusal ≡ Some e → IsOfOperator merge rows e
+RefusesByOperator merge = (cut : ℕ) (rows : List Row) (e : SlateDBError) → IsStrictlyOrdered rows → (folded_groups merge (job_rule cut) rows).refusal ≡ Some e → IsOfOperator merge rows e
 
 -- ---- an iterator over a job's rows
 

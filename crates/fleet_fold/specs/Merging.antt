@@ -8,7 +8,7 @@ use Rattle.fleet_iter.specs.Peek.{is_left}
 use Rattle.fleet_rows.specs.declared.row.RowEntry.{RowEntry}
 use Rattle.fleet_rows.specs.declared.errors.SlateDBError.{SlateDBError}
 use Rattle.fleet_fold.specs.Retention.{from_ahead}
-use Rattle.fleet_fold.specs.Folded.{folded}
+use Rattle.fleet_fold.specs.Folded.{folded_groups}
 use Rattle.fleet_fold.specs.Groups.{RefusesNext}
 use Rattle.fleet_fold.specs.declared.group.GroupRule.{GroupRule}
 use Rattle.fleet_fold.specs.declared.merging.MergeOperatorIterator.{MergeOperatorIterator}
@@ -17,12 +17,12 @@ use Rattle.fleet_fold.specs.declared.merging.MergeOperatorIterator.{MergeOperato
 -- error.
 abbrev pub merging : Option SlateDBError → Operator → GroupRule → Option RowEntry → IteratorState → IteratorState
 merging failure merge rule ahead inner =
-    let f = folded merge rule (from_ahead ahead inner) in
+    let f = folded_groups merge rule (from_ahead ahead inner) in
     record { rows = f.rows; initialised = inner.initialised; failure = failure; whole = inner.whole && is_none f.refusal; steady = inner.steady; refusal = if inner.whole then f.refusal else None }
 
 -- Rows rise if a fold of them refuses. Where none does, they may fall.
 abbrev pub RisesIfRefused : Operator → GroupRule → List Row → Type 0
-RisesIfRefused merge rule rows = (folded merge rule rows).refusal ≢ None → AreRising rows
+RisesIfRefused merge rule rows = (folded_groups merge rule rows).refusal ≢ None → AreRising rows
 
 -- What holds of the inner iterator until a call fails the outer one.
 abbrev pub ReadsGroups : Operator → GroupRule → Option SlateDBError → Option RowEntry → IteratorState → Type 0

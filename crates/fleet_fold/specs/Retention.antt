@@ -73,7 +73,7 @@ pub record ReadsKey (ahead : Option RowEntry) (old : IteratorState) (rows : List
 pub record RefusesKey (ahead : Option RowEntry) (old new : IteratorState) (e : SlateDBError) : Type 0 where
   pub cause : CanFail old.whole e
   pub handed : IsHandedOn new e
-  pub known : (behind : SlateDBError) → old.refusal ≡ Some behind → e ≢ Memory → HaveOneKey (from_ahead ahead old) × (e ≡ behind)
+  pub known : (after : SlateDBError) → old.refusal ≡ Some after → e ≢ Memory → HaveOneKey (from_ahead ahead old) × (e ≡ after)
 
 -- Keys are read and kept until the buffer has a row or no row is left.
 pub record Fills (settings : Settings) (buffer : List RowEntry) (ahead : Option RowEntry) (old : IteratorState) (filled : List RowEntry) (later : Option RowEntry) (new : IteratorState) : Type 0 where
@@ -91,11 +91,11 @@ pub record Fills (settings : Settings) (buffer : List RowEntry) (ahead : Option 
 pub record RefusesFill (settings : Settings) (buffer : List RowEntry) (ahead : Option RowEntry) (old new : IteratorState) (e : SlateDBError) : Type 0 where
   pub cause : CanFail old.whole e
   pub handed : IsHandedOn new e
-  pub known : (behind : SlateDBError) → old.refusal ≡ Some behind → e ≢ Memory → (rows_of buffer ++ kept_given settings old.whole (from_ahead ahead old) ≡ []) × (e ≡ behind)
+  pub known : (after : SlateDBError) → old.refusal ≡ Some after → e ≢ Memory → (rows_of buffer ++ kept_given settings old.whole (from_ahead ahead old) ≡ []) × (e ≡ after)
 
 -- The state of retention. Its rows are the kept ones in the buffer, and what it will keep of the other rows.
-abbrev pub retained : Option SlateDBError → Settings → List RowEntry → Option RowEntry → IteratorState → IteratorState
-retained failure settings buffer ahead inner =
+abbrev pub retained_state : Option SlateDBError → Settings → List RowEntry → Option RowEntry → IteratorState → IteratorState
+retained_state failure settings buffer ahead inner =
     record { rows = rows_of buffer ++ kept_given settings inner.whole (from_ahead ahead inner); initialised = inner.initialised; failure = failure; whole = inner.whole; steady = inner.steady; refusal = inner.refusal }
 
 -- What holds of the inner iterator until a call fails the outer one.
@@ -130,5 +130,5 @@ Knows None buffer ahead inner = ReadsOn buffer ahead inner
 -- changes. Otherwise that row is dropped, and the inner iterator is sought.
 pub record SeeksKept (sought : List ℕ → IteratorState → Type 0) (settings : Settings) (buffer : List RowEntry) (ahead : Option RowEntry) (inner : IteratorState) (key : List ℕ) (new : IteratorState) : Type 0 where
   pub kept : from_key key (rows_of buffer) ≢ [] → new.rows ≡ from_key key (rows_of buffer) ++ kept_given settings inner.whole (from_ahead ahead inner)
-  pub stays : from_key key (rows_of buffer) ≡ [] → is_left key ahead ≡ true → new ≡ retained None settings [] ahead inner
-  pub goes_on : from_key key (rows_of buffer) ≡ [] → is_left key ahead ≡ false → SoughtThrough sought (retained None settings [] None) inner key new
+  pub stays : from_key key (rows_of buffer) ≡ [] → is_left key ahead ≡ true → new ≡ retained_state None settings [] ahead inner
+  pub goes_on : from_key key (rows_of buffer) ≡ [] → is_left key ahead ≡ false → SoughtThrough sought (retained_state None settings [] None) inner key new

@@ -3,10 +3,10 @@ use Rattle.std.specs.Prelude.{ℕ, List, reverse}
 use Rattle.fleet_iter.specs.Iteration.{IteratorState}
 use Rattle.fleet_fold.specs.declared.retention.RetentionIterator.{RetentionIterator}
 use Rattle.fleet_rows.specs.Settings.{settings_of}
-use Rattle.fleet_fold.specs.Retention.{retained, Knows, SeeksKept}
+use Rattle.fleet_fold.specs.Retention.{retained_state, Knows, SeeksKept}
 
 abbrev pub state_of : {T : Type 0} → (T → IteratorState) → RetentionIterator T → IteratorState
-state_of state r = retained r.failure (settings_of r.settings) (reverse r.buffer.items) r.ahead (state r.inner)
+state_of state r = retained_state r.failure (settings_of r.settings) (reverse r.buffer.items) r.ahead (state r.inner)
 
 abbrev pub IsSound : {T : Type 0} → (T → Type 0) → (T → IteratorState) → RetentionIterator T → Type 0
 IsSound sound state r = sound r.inner × Knows r.failure (reverse r.buffer.items) r.ahead (state r.inner)

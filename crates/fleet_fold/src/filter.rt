@@ -3,7 +3,7 @@
 ghost use Rattle.std.specs.Prelude.{◌≡◌, ℕ, [], ◌∷◌, Bool, true, false, IfOk, IsOkUnless};
 ghost use Rattle.fleet_rows.specs.Row.{row_of};
 ghost use Rattle.fleet_rows.specs.declared.errors.SlateDBError.TheVariants as fleet;
-ghost use Rattle.fleet_fold.specs.Filter.{Answers, Closing, IsTold, GoesOn};
+ghost use Rattle.fleet_fold.specs.Filter.{Answers, Closing, IsStated, GoesOn};
 
 use fleet_rows::{CompactionFilterError, RowEntry, SlateDBError, ValueDeletable};
 use std::alloc::Global;
@@ -59,7 +59,7 @@ pub trait CompactionFilter: Send + Sync + Drop {
         entry: &RowEntry,
     ) -> Result<CompactionFilterDecision, CompactionFilterError>
         requires { is_closed self.old ≡ false }
-        ensures answer { IsTold (answers self.old [] (row_of entry.now)) result }
+        ensures answer { IsStated (answers self.old [] (row_of entry.now)) result }
         ensures later { IfOk result (λ _. GoesOn (row_of entry.now)
             (answers self.old) (closing self.old) (answers self.new) (closing self.new)) }
         ensures open { is_closed self.new ≡ false };
@@ -68,7 +68,7 @@ pub trait CompactionFilter: Send + Sync + Drop {
     /// not come to their end.
     fn on_compaction_end(&mut self, alloc: Global) -> Result<(), CompactionFilterError>
         requires { is_closed self.old ≡ false }
-        ensures answer { IsTold (closing self.old []) result }
+        ensures answer { IsStated (closing self.old []) result }
         ensures closed { is_closed self.new ≡ true };
 }
 
@@ -101,7 +101,7 @@ pub trait RowFilter {
         entry: &RowEntry,
     ) -> Result<CompactionFilterDecision, CompactionFilterError>
         requires { is_closed self.old ≡ false }
-        ensures answer { IsTold (answers self.old [] (row_of entry.now)) result }
+        ensures answer { IsStated (answers self.old [] (row_of entry.now)) result }
         ensures later { IfOk result (λ _. GoesOn (row_of entry.now)
             (answers self.old) (closing self.old) (answers self.new) (closing self.new)) }
         ensures open { is_closed self.new ≡ false };
@@ -109,7 +109,7 @@ pub trait RowFilter {
     /// Does what `CompactionFilter::on_compaction_end` does.
     fn close(&mut self, alloc: Global) -> Result<(), CompactionFilterError>
         requires { is_closed self.old ≡ false }
-        ensures answer { IsTold (closing self.old []) result }
+        ensures answer { IsStated (closing self.old []) result }
         ensures closed { is_closed self.new ≡ true };
 }
 

@@ -5,7 +5,7 @@ ghost use Rattle.std.specs.Option.{option_to_list};
 ghost use Rattle.fleet_rows.specs.Row.{row_of, rows_of};
 ghost use Rattle.fleet_iter.specs.Iteration.{IteratorState, Inits, Nexts, Seeks, HandsOn, IsHandedOn, CanFail, AreRising};
 ghost use Rattle.fleet_fold.specs.Retention.{IsReadable, from_ahead};
-ghost use Rattle.fleet_fold.specs.Filter.{decided, filtered, ends_well, filtering, Gives, Refuses};
+ghost use Rattle.fleet_fold.specs.Filter.{decided_rows, filtered_rows, ends_well, filtering, Gives, Refuses};
 ghost use Rattle.fleet_fold.specs.FilterState.{state_of, IsSound, Sought, IsClosed, StaysOpen, RefusesIn};
 
 use crate::filter::{CompactionFilter, CompactionFilterDecision, RowFilter};
@@ -27,7 +27,7 @@ pub struct CompactionFilterIterator<T: RowEntryIterator, F: CompactionFilter> {
 
 // What a decision leaves of a row: the row, the row with another value, or nothing.
 fn decided(row: RowEntry, decision: CompactionFilterDecision) -> Option<RowEntry>
-    ensures { rows_of (option_to_list result) ≡ decided decision (row_of row) }
+    ensures { rows_of (option_to_list result) ≡ decided_rows decision (row_of row) }
 {
     match decision {
         CompactionFilterDecision::Keep => Some(row),
@@ -63,18 +63,18 @@ fn next_left<T: RowSource, F: RowFilter>(
     requires rising { AreRising (from_ahead first (T.state inner.old)) }
     requires ended { first
         ≡ None → ((T.state inner.old).rows ≡ []) × ((T.state inner.old).whole ≡ true) }
-    ensures ok { IfOk result (λ row. Gives (filtered (F.answers filter.old)
+    ensures ok { IfOk result (λ row. Gives (filtered_rows (F.answers filter.old)
         (F.closing filter.old) (from_ahead first (T.state inner.old))) (T.state inner.old).whole row
-        (filtered (F.answers filter.new) (F.closing filter.new) (T.state inner.new).rows)
+        (filtered_rows (F.answers filter.new) (F.closing filter.new) (T.state inner.new).rows)
         (F.is_closed filter.new) (T.state inner.new)) }
     ensures readable { IfOk result (λ _. IsReadable (T.state inner.new)) }
     ensures rising { IfOk result (λ _. AreRising (T.state inner.new).rows) }
-    ensures err { IfErr result (CanFail ((T.state inner.old).whole && ends_well (filtered
+    ensures err { IfErr result (CanFail ((T.state inner.old).whole && ends_well (filtered_rows
         (F.answers filter.old) (F.closing filter.old) (from_ahead first (T.state inner.old))))) }
     ensures open { (T.state inner.new).failure ≢ None → F.is_closed filter.new ≡ false }
     ensures handed { IfErr result
         (λ e. (T.state inner.new).failure ≢ None → IsHandedOn (T.state inner.new) e) }
-    ensures refused { Refuses (filtered (F.answers filter.old)
+    ensures refused { Refuses (filtered_rows (F.answers filter.old)
         (F.closing filter.old) (from_ahead first (T.state inner.old))) (T.state inner.new) result }
     ensures sound { T.sound inner.new }
 {

@@ -1,14 +1,14 @@
 -- The bytes of the rows that a merge takes.
 use Rattle.std.proofs.Common.{◌≡◌, ◌∙◌, sym, refl, ap, ℕ, ◌+◌, List, [], ◌∷◌, ◌++◌, Option, Some, None, Bool, true, false, cond}
 use Rattle.row_model.specs.Rows.{Row}
-use Rattle.row_model.specs.Sizes.{saturated}
+use Rattle.row_model.specs.Sizes.{saturated_sum}
 use Rattle.fleet_rows.specs.Row.{row_of}
 use Rattle.fleet_rows.specs.declared.row.RowEntry.{RowEntry}
 use Rattle.std.proofs.Math.ListN.{set}
-use Rattle.fleet_iter.specs.Iteration.{IteratorState, behind_first, without_first}
+use Rattle.fleet_iter.specs.Iteration.{IteratorState, after_first, without_first}
 use Rattle.fleet_iter.specs.declared.iterator.IterationOrder.{IterationOrder}
-use Rattle.fleet_iter.specs.Merge.{best, passes, hides, merged, lists, rows_left, merged_left, AllTaken, Takes, Drops, Skips}
-use Rattle.fleet_iter.specs.Tracked.{row_bytes, first_bytes, counted, kept_back, taken_at_once}
+use Rattle.fleet_iter.specs.Merge.{best, passes, hides, merged_lists, lists, rows_left, merged_left, AllTaken, Takes, Drops, Skips}
+use Rattle.fleet_iter.specs.Tracked.{row_bytes, first_bytes, counted_bytes, kept_back, taken_at_once}
 use Rattle.fleet_iter.proofs.Merges.{first_left, none_left, takes_head}
 
 -- The rows are those that a row hides, followed by the others.
@@ -32,14 +32,14 @@ takes_in_front order hs hs1 hs' ss ss1 ss' x t s =
 
 -- A hidden row is dropped, and its bytes are counted.
 pub counts_step : (order : IterationOrder) (row : Row) (hs hs' : List (Option RowEntry)) (ss ss' : List IteratorState) (count bytes more : ℕ) → AllTaken hs ss → passes (hides row) (best order hs) ≡ true → Drops order hs ss hs' ss'
-    → bytes ≡ first_bytes (merged_left order hs ss) → more ≡ saturated (count + bytes) → counted more (kept_back row (merged_left order hs' ss')) ≡ counted count (kept_back row (merged_left order hs ss))
+    → bytes ≡ first_bytes (merged_left order hs ss) → more ≡ saturated_sum (count + bytes) → counted_bytes more (kept_back row (merged_left order hs' ss')) ≡ counted_bytes count (kept_back row (merged_left order hs ss))
 counts_step order row hs hs' ss ss' count bytes more a low d e q =
     let f = first_left order (hides row) hs ss a low in
-    let later : merged_left order hs' ss' ≡ f.1 = d.rows ∙ ap behind_first f.2 in
+    let later : merged_left order hs' ss' ≡ f.1 = d.rows ∙ ap after_first f.2 in
     let kept : kept_back row (merged_left order hs ss) ≡ f.0 ∷ kept_back row f.1 = ap (kept_back row) f.2 ∙ ap (λ b. cond b (f.0 ∷ kept_back row f.1) []) f.3 in
     let size : bytes ≡ row_bytes f.0 = e ∙ ap first_bytes f.2 in
-    ap (λ (w : List Row). counted more (kept_back row w)) later
-    ∙ (ap (λ (n : ℕ). counted n (kept_back row f.1)) (q ∙ ap (λ (b : ℕ). saturated (count + b)) size) ∙ sym (ap (counted count) kept))
+    ap (λ (w : List Row). counted_bytes more (kept_back row w)) later
+    ∙ (ap (λ (n : ℕ). counted_bytes n (kept_back row f.1)) (q ∙ ap (λ (b : ℕ). saturated_sum (count + b)) size) ∙ sym (ap (counted_bytes count) kept))
 
 -- If the first row is not hidden, no row is.
 pub counts_end : (order : IterationOrder) (row : Row) (hs : List (Option RowEntry)) (ss : List IteratorState) → AllTaken hs ss → passes (hides row) (best order hs) ≡ false → kept_back row (merged_left order hs ss) ≡ []
@@ -48,5 +48,5 @@ counts_end order row hs ss a high = by (best order hs) refl high
     by : (b : Option (ℕ × RowEntry)) → best order hs ≡ b → passes (hides row) b ≡ false → kept_back row (merged_left order hs ss) ≡ []
     by None f high = ap (kept_back row) (none_left order hs ss a f).0
     by (Some p) f high =
-        let rest = merged order (lists (set hs p.0 None) (rows_left ss)) in
+        let rest = merged_lists order (lists (set hs p.0 None) (rows_left ss)) in
         ap (kept_back row) (takes_head order hs ss a p.0 p.1 f).rows ∙ ap (λ b. cond b (row_of p.1 ∷ kept_back row rest) []) high

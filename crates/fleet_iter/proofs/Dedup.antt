@@ -12,16 +12,16 @@ use Rattle.fleet_iter.specs.declared.iterator.IterationOrder.{IterationOrder}
 use Rattle.fleet_iter.specs.declared.iterator.IterationOrder.TheVariants.{Ascending, Descending}
 use Rattle.fleet_iter.proofs.RisingRows.{moves_on}
 use Rattle.fleet_iter.proofs.RisingMerges.{rising_given_too}
-use Rattle.fleet_iter.specs.Merge.{hides, given_behind, deduplicated, given, merged_left, are_whole, are_steady, are_exact, all_whole, all_steady, is_told, Takes, Skips, SkipsTo, merging}
+use Rattle.fleet_iter.specs.Merge.{hides, given_after, deduplicated_rows, given_rows, merged_left, are_whole, are_steady, are_exact, all_whole, all_steady, is_known, Takes, Skips, SkipsTo, merging}
 
 -- After a given row, dedup skips the rows that this row hides and treats the rest as rows from their
 -- beginning.
-pub given_behind_skipped : (r : Row) (rows : List Row) → given_behind r rows ≡ deduplicated (without_first (hides r) rows)
-given_behind_skipped r [] = refl
-given_behind_skipped r (q ∷ rows) = by (hides r q) (given_behind_skipped r rows)
+pub given_after_skipped : (r : Row) (rows : List Row) → given_after r rows ≡ deduplicated_rows (without_first (hides r) rows)
+given_after_skipped r [] = refl
+given_after_skipped r (q ∷ rows) = by (hides r q) (given_after_skipped r rows)
   where
-    by : (b : Bool) → given_behind r rows ≡ deduplicated (without_first (hides r) rows)
-        → cond b (given_behind r rows) (q ∷ given_behind q rows) ≡ deduplicated (cond b (without_first (hides r) rows) (q ∷ rows))
+    by : (b : Bool) → given_after r rows ≡ deduplicated_rows (without_first (hides r) rows)
+        → cond b (given_after r rows) (q ∷ given_after q rows) ≡ deduplicated_rows (cond b (without_first (hides r) rows) (q ∷ rows))
     by true rest = rest
     by false rest = refl
 
@@ -30,7 +30,7 @@ pub takes_given : (order : IterationOrder) (hs hs1 hs' : List (Option RowEntry))
     → Takes order false hs ss hs1 ss1 (Some x) → Skips order (hides (row_of x)) hs1 ss1 hs' ss' → Takes order true hs ss hs' ss' (Some x)
 takes_given order hs hs1 hs' ss ss1 ss' x t s =
     record {
-      rows = ap deduplicated t.rows ∙ ap (λ (w : List Row). row_of x ∷ w) (given_behind_skipped (row_of x) (merged_left order hs1 ss1) ∙ sym (ap deduplicated s.rows));
+      rows = ap deduplicated_rows t.rows ∙ ap (λ (w : List Row). row_of x ∷ w) (given_after_skipped (row_of x) (merged_left order hs1 ss1) ∙ sym (ap deduplicated_rows s.rows));
       taken = s.taken;
       same_manner = s.same_manner ∙ t.same_manner;
       ends = λ n. absurd (cc n);
@@ -38,7 +38,7 @@ takes_given order hs hs1 hs' ss ss1 ss' x t s =
 
 -- A step that takes no row without dedup takes none with dedup.
 pub takes_none_given : (order : IterationOrder) (hs hs' : List (Option RowEntry)) (ss ss' : List IteratorState) → Takes order false hs ss hs' ss' None → Takes order true hs ss hs' ss' None
-takes_none_given order hs hs' ss ss' t = record { rows = ap deduplicated t.rows; taken = t.taken; same_manner = t.same_manner; ends = t.ends }
+takes_none_given order hs hs' ss ss' t = record { rows = ap deduplicated_rows t.rows; taken = t.taken; same_manner = t.same_manner; ends = t.ends }
 
 pub from_key_skipped : (key : List ℕ) (rows : List Row) → from_key key rows ≡ without_first (is_below key) rows
 from_key_skipped key [] = refl
@@ -55,38 +55,38 @@ below_key : (key : List ℕ) (r q : Row) → r.key ≡ q.key → is_below key r 
 below_key key r q e = ap (λ (k : List ℕ). is_lt (key_cmp k key)) e
 
 -- After a row below the key, dedup gives from the key on what it gives of all the rows from the key on.
-seek_behind : (key : List ℕ) (r : Row) (rows : List Row) → is_below key r ≡ true → from_key key (given_behind r rows) ≡ deduplicated (from_key key rows)
-seek_behind key r [] low = refl
-seek_behind key r (q ∷ rows) low = by (hides r q) refl (is_below key q) refl (seek_behind key r rows low) (seek_behind key q rows)
+seek_after : (key : List ℕ) (r : Row) (rows : List Row) → is_below key r ≡ true → from_key key (given_after r rows) ≡ deduplicated_rows (from_key key rows)
+seek_after key r [] low = refl
+seek_after key r (q ∷ rows) low = by (hides r q) refl (is_below key q) refl (seek_after key r rows low) (seek_after key q rows)
   where
-    by : (b : Bool) → hides r q ≡ b → (d : Bool) → is_below key q ≡ d → from_key key (given_behind r rows) ≡ deduplicated (from_key key rows)
-        → (is_below key q ≡ true → from_key key (given_behind q rows) ≡ deduplicated (from_key key rows))
-        → from_key key (cond b (given_behind r rows) (q ∷ given_behind q rows)) ≡ deduplicated (cond (is_below key q) (from_key key rows) (q ∷ rows))
+    by : (b : Bool) → hides r q ≡ b → (d : Bool) → is_below key q ≡ d → from_key key (given_after r rows) ≡ deduplicated_rows (from_key key rows)
+        → (is_below key q ≡ true → from_key key (given_after q rows) ≡ deduplicated_rows (from_key key rows))
+        → from_key key (cond b (given_after r rows) (q ∷ given_after q rows)) ≡ deduplicated_rows (cond (is_below key q) (from_key key rows) (q ∷ rows))
     by true h d e rest later =
         let low_too : is_below key q ≡ true = sym (below_key key r q (hides_key r q h)) ∙ low in
-        rest ∙ sym (ap (λ c. deduplicated (cond c (from_key key rows) (q ∷ rows))) low_too)
+        rest ∙ sym (ap (λ c. deduplicated_rows (cond c (from_key key rows) (q ∷ rows))) low_too)
     by false h true e rest later =
-        ap (λ c. cond c (from_key key (given_behind q rows)) (q ∷ given_behind q rows)) e
-        ∙ (later e ∙ sym (ap (λ c. deduplicated (cond c (from_key key rows) (q ∷ rows))) e))
+        ap (λ c. cond c (from_key key (given_after q rows)) (q ∷ given_after q rows)) e
+        ∙ (later e ∙ sym (ap (λ c. deduplicated_rows (cond c (from_key key rows) (q ∷ rows))) e))
     by false h false e rest later =
-        ap (λ c. cond c (from_key key (given_behind q rows)) (q ∷ given_behind q rows)) e
-        ∙ sym (ap (λ c. deduplicated (cond c (from_key key rows) (q ∷ rows))) e)
+        ap (λ c. cond c (from_key key (given_after q rows)) (q ∷ given_after q rows)) e
+        ∙ sym (ap (λ c. deduplicated_rows (cond c (from_key key rows) (q ∷ rows))) e)
 
-seek_deduplicated : (key : List ℕ) (rows : List Row) → from_key key (deduplicated rows) ≡ deduplicated (from_key key rows)
+seek_deduplicated : (key : List ℕ) (rows : List Row) → from_key key (deduplicated_rows rows) ≡ deduplicated_rows (from_key key rows)
 seek_deduplicated key [] = refl
 seek_deduplicated key (r ∷ rows) = by (is_below key r) refl
   where
-    by : (d : Bool) → is_below key r ≡ d → cond (is_below key r) (from_key key (given_behind r rows)) (r ∷ given_behind r rows) ≡ deduplicated (cond (is_below key r) (from_key key rows) (r ∷ rows))
+    by : (d : Bool) → is_below key r ≡ d → cond (is_below key r) (from_key key (given_after r rows)) (r ∷ given_after r rows) ≡ deduplicated_rows (cond (is_below key r) (from_key key rows) (r ∷ rows))
     by true e =
-        ap (λ c. cond c (from_key key (given_behind r rows)) (r ∷ given_behind r rows)) e
-        ∙ (seek_behind key r rows e ∙ sym (ap (λ c. deduplicated (cond c (from_key key rows) (r ∷ rows))) e))
+        ap (λ c. cond c (from_key key (given_after r rows)) (r ∷ given_after r rows)) e
+        ∙ (seek_after key r rows e ∙ sym (ap (λ c. deduplicated_rows (cond c (from_key key rows) (r ∷ rows))) e))
     by false e =
-        ap (λ c. cond c (from_key key (given_behind r rows)) (r ∷ given_behind r rows)) e
-        ∙ sym (ap (λ c. deduplicated (cond c (from_key key rows) (r ∷ rows))) e)
+        ap (λ c. cond c (from_key key (given_after r rows)) (r ∷ given_after r rows)) e
+        ∙ sym (ap (λ c. deduplicated_rows (cond c (from_key key rows) (r ∷ rows))) e)
 
 -- The rows below a key may be dropped before dedup or after it.
-pub seek_given : (dedup : Bool) (key : List ℕ) (rows : List Row) → given dedup (without_first (is_below key) rows) ≡ from_key key (given dedup rows)
-seek_given true key rows = ap deduplicated (sym (from_key_skipped key rows)) ∙ sym (seek_deduplicated key rows)
+pub seek_given : (dedup : Bool) (key : List ℕ) (rows : List Row) → given_rows dedup (without_first (is_below key) rows) ≡ from_key key (given_rows dedup rows)
+seek_given true key rows = ap deduplicated_rows (sym (from_key_skipped key rows)) ∙ sym (seek_deduplicated key rows)
 seek_given false key rows = sym (from_key_skipped key rows)
 
 -- What a seek of a merge leaves.
@@ -94,19 +94,19 @@ module _ (key : List ℕ) (dedup initialised : Bool) (failure : Option SlateDBEr
   abbrev state : IterationOrder → List (Option RowEntry) → List IteratorState → IteratorState
   state order heads sources = merging order dedup initialised failure heads sources
 
-  told : (order : IterationOrder) → Skips order (is_below key) hs ss hs' ss' → state order hs' ss' ≡ record (state order hs ss) { rows = from_key key (state order hs ss).rows }
-  told order s =
-      let rows : given dedup (merged_left order hs' ss') ≡ from_key key (given dedup (merged_left order hs ss)) = ap (given dedup) s.rows ∙ seek_given dedup key (merged_left order hs ss) in
+  stated : (order : IterationOrder) → Skips order (is_below key) hs ss hs' ss' → state order hs' ss' ≡ record (state order hs ss) { rows = from_key key (state order hs ss).rows }
+  stated order s =
+      let rows : given_rows dedup (merged_left order hs' ss') ≡ from_key key (given_rows dedup (merged_left order hs ss)) = ap (given_rows dedup) s.rows ∙ seek_given dedup key (merged_left order hs ss) in
       let whole : are_whole ss' ≡ are_whole ss = ap all_whole s.same_manner in
       let steady : are_steady ss' ≡ are_steady ss = ap all_steady s.same_manner in
       cc (rows, whole, steady)
 
-  moves : (order : IterationOrder) (exact : Bool) → are_exact ss ≡ exact → AreRising (state order hs ss).rows → SkipsTo (is_told order exact) order key hs ss hs' ss' → Moves (are_exact ss) key (state order hs ss) (state order hs' ss')
-  moves Ascending true e rising s = moves_on key (state Ascending hs ss) (state Ascending hs' ss') rising (told Ascending s)
+  moves : (order : IterationOrder) (exact : Bool) → are_exact ss ≡ exact → AreRising (state order hs ss).rows → SkipsTo (is_known order exact) order key hs ss hs' ss' → Moves (are_exact ss) key (state order hs ss) (state order hs' ss')
+  moves Ascending true e rising s = moves_on key (state Ascending hs ss) (state Ascending hs' ss') rising (stated Ascending s)
   moves Ascending false e rising s = subst (λ b. Moves b key (state Ascending hs ss) (state Ascending hs' ss')) (sym e) (record { initialised = refl; failure = refl; rising = rising_given_too dedup (merged_left Ascending hs' ss') s.1 })
-  moves Descending exact e rising s = moves_on key (state Descending hs ss) (state Descending hs' ss') rising (told Descending s)
+  moves Descending exact e rising s = moves_on key (state Descending hs ss) (state Descending hs' ss') rising (stated Descending s)
 
-  pub seeks : (order : IterationOrder) → initialised ≡ true → failure ≡ None → AreRising (state order hs ss).rows → SkipsTo (is_told order (are_exact ss)) order key hs ss hs' ss' → Seeks key (state order hs ss) (state order hs' ss') (Ok tt)
+  pub seeks : (order : IterationOrder) → initialised ≡ true → failure ≡ None → AreRising (state order hs ss).rows → SkipsTo (is_known order (are_exact ss)) order key hs ss hs' ss' → Seeks key (state order hs ss) (state order hs' ss') (Ok tt)
   seeks order begun alive rising s = record {
     failed = λ h. absurd (h alive);
     uninitialised = λ _ h. let clash : true ≡ false = sym begun ∙ h in absurd (cc clash);
@@ -114,6 +114,6 @@ module _ (key : List ℕ) (dedup initialised : Bool) (failure : Option SlateDBEr
   }
 
   -- If all sources are exact, a seek leaves exactly the merged rows from the key on.
-  pub seeks_all : (order : IterationOrder) → are_exact ss ≡ true → SkipsTo (is_told order (are_exact ss)) order key hs ss hs' ss' → merged_left order hs' ss' ≡ from_key key (merged_left order hs ss)
+  pub seeks_all : (order : IterationOrder) → are_exact ss ≡ true → SkipsTo (is_known order (are_exact ss)) order key hs ss hs' ss' → merged_left order hs' ss' ≡ from_key key (merged_left order hs ss)
   seeks_all Ascending e s = (subst (λ b. SkipsTo b Ascending key hs ss hs' ss') e s).rows ∙ sym (from_key_skipped key (merged_left Ascending hs ss))
   seeks_all Descending e s = s.rows ∙ sym (from_key_skipped key (merged_left Descending hs ss))

@@ -19,9 +19,9 @@ kept_cause inner outer e answer weaker same memory cause = record {
 }
 
 pub kept_known : (s : IteratorState) (e answer : SlateDBError) → (answer ≢ Memory → answer ≡ e) → (e ≡ Memory → answer ≡ Memory) → IsKnown s e → IsKnown s answer
-kept_known s e answer same memory known behind is other =
-    let (none, as_told) = known behind is (λ m. other (memory m)) in
-    (none, same other ∙ as_told)
+kept_known s e answer same memory known afterwards is other =
+    let (none, as_stated) = known afterwards is (λ m. other (memory m)) in
+    (none, same other ∙ as_stated)
 
 -- The answers of an outer iterator, whose states and inner states before and after the call are given.
 module _ (old new inner after : IteratorState) (e answer : SlateDBError) (alive : old.failure ≡ None) (inner_alive : inner.failure ≡ None) (keeps : KeepsRefusal e old.failure new.failure answer) where

@@ -25,7 +25,7 @@ use Rattle.fleet_iter.specs.declared.iterator.IterationOrder.TheVariants.{Ascend
 use Rattle.fleet_iter.specs.declared.entry.MergeIteratorHeapEntry.{MergeIteratorHeapEntry}
 use Rattle.fleet_iter.specs.Entry.{entry_cmp, order_cmp, keys_total}
 use Rattle.fleet_iter.specs.Merge.{best, choose, goes_first, keys_in}
-use Rattle.fleet_iter.specs.Heads.{HeadRows, placed_rows, heads_of, AreHeads, refilled}
+use Rattle.fleet_iter.specs.Heads.{HeadRows, placed_rows, heads_of, AreHeads, refilled_heads}
 
 -- The row that entries have for a place.
 abbrev pub row_at : List (Reverse MergeIteratorHeapEntry) → ℕ → Option RowEntry
@@ -116,8 +116,8 @@ within_same : (P : Reverse MergeIteratorHeapEntry → Type 0) (es fs : List (Rev
 within_same P es fs p all = recursion_from_All P fs (All-permutation P es fs p (All-from_recursion P es all))
 
 -- No other entry has the place of the first one.
-none_behind : (e : Reverse MergeIteratorHeapEntry) (es : List (Reverse MergeIteratorHeapEntry)) → AreApart (e ∷ es) → row_at es e.0.index ≡ None
-none_behind e es d = absent es (IsDistinct-head nat_eq e.0.index (keys_of (placed_rows es)) d)
+none_after : (e : Reverse MergeIteratorHeapEntry) (es : List (Reverse MergeIteratorHeapEntry)) → AreApart (e ∷ es) → row_at es e.0.index ≡ None
+none_after e es d = absent es (IsDistinct-head nat_eq e.0.index (keys_of (placed_rows es)) d)
   where
     absent : (es : List (Reverse MergeIteratorHeapEntry)) → AllByRecursion (λ j. nat_eq e.0.index j ≡ false) (keys_of (placed_rows es)) → row_at es e.0.index ≡ None
     absent [] all = refl
@@ -169,7 +169,7 @@ removed order n es fs e a p heap = (record { heap = heap; within = all.1; apart 
     heads : heads_of n fs ≡ set (heads_of n es) e.0.index None
     heads =
         made_set (row_at (e ∷ fs)) (row_at fs) 0 n e.0.index e.0.index (zero-add e.0.index) all.0.1 (λ j far. later_row e fs j far)
-        ∙ (ap (λ (h : Option RowEntry). set (heads_of n (e ∷ fs)) e.0.index h) (none_behind e fs apart) ∙ ap (λ (hs : List (Option RowEntry)). set hs e.0.index None) (sym (heads_same es (e ∷ fs) n p a.apart)))
+        ∙ (ap (λ (h : Option RowEntry). set (heads_of n (e ∷ fs)) e.0.index h) (none_after e fs apart) ∙ ap (λ (hs : List (Option RowEntry)). set hs e.0.index None) (sym (heads_same es (e ∷ fs) n p a.apart)))
 
 -- ---- heads that are added
 
@@ -240,16 +240,16 @@ best_at order (h ∷ hs) p e = by h (best order hs) refl e (λ q f. best_at orde
 -- A head that goes before each head after it, and before which no head in front of it goes, is the least.
 best_is : (order : IterationOrder) (hs : List (Option RowEntry)) (k : ℕ) (x : RowEntry) → slice_get hs k ≡ Some (Some x) → ((i : ℕ) (y : RowEntry) → slice_get hs i ≡ Some (Some y) → i < k → goes_first order (row_of y) (row_of x) ≡ false)
     → ((i : ℕ) (y : RowEntry) → slice_get hs i ≡ Some (Some y) → k < i → goes_first order (row_of x) (row_of y) ≡ true) → best order hs ≡ Some (k, x)
-best_is order [] k x at front behind = absurd (cc at)
-best_is order (h ∷ hs) zero x at front behind =
+best_is order [] k x at front after = absurd (cc at)
+best_is order (h ∷ hs) zero x at front after =
     let is : h ≡ Some x = cc at in
     ap (λ (w : Option RowEntry). choose order w (best order hs)) is ∙ by (best order hs) refl
   where
     by : (b : Option (ℕ × RowEntry)) → best order hs ≡ b → choose order (Some x) b ≡ Some (0, x)
     by None e = refl
-    by (Some p) e = ap (λ b. cond b (Some (0, x)) (Some (p.0 + 1, p.1))) (behind (suc p.0) p.1 (best_at order hs p e) (omega arith))
-best_is order (h ∷ hs) (suc k) x at front behind =
-    ap (choose order h) (best_is order hs k x at (λ i y e lt. front (suc i) y e (omega (arith, lt))) (λ i y e lt. behind (suc i) y e (omega (arith, lt)))) ∙ by h refl
+    by (Some p) e = ap (λ b. cond b (Some (0, x)) (Some (p.0 + 1, p.1))) (after (suc p.0) p.1 (best_at order hs p e) (omega arith))
+best_is order (h ∷ hs) (suc k) x at front after =
+    ap (choose order h) (best_is order hs k x at (λ i y e lt. front (suc i) y e (omega (arith, lt))) (λ i y e lt. after (suc i) y e (omega (arith, lt)))) ∙ by h refl
   where
     by : (w : Option RowEntry) → h ≡ w → choose order w (Some (k, x)) ≡ Some (suc k, x)
     by None e = ap (λ (n : ℕ). Some (n, x)) (add-one k)
@@ -264,12 +264,12 @@ before_place Equal Less h = absurd (cc h)
 before_place Equal Equal h = absurd (cc h)
 before_place Equal Greater h = refl
 
-behind_place : (c d : Ordering) → is_lt (ordering_then c (ordering_then d Greater)) ≡ false → not (is_gt (ordering_then (ordering_reverse c) (ordering_reverse d))) ≡ true
-behind_place Less d h = absurd (cc h)
-behind_place Greater d h = refl
-behind_place Equal Less h = absurd (cc h)
-behind_place Equal Equal h = refl
-behind_place Equal Greater h = refl
+after_place : (c d : Ordering) → is_lt (ordering_then c (ordering_then d Greater)) ≡ false → not (is_gt (ordering_then (ordering_reverse c) (ordering_reverse d))) ≡ true
+after_place Less d h = absurd (cc h)
+after_place Greater d h = refl
+after_place Equal Less h = absurd (cc h)
+after_place Equal Equal h = refl
+after_place Equal Greater h = refl
 
 -- An entry that is not less than another one, at equal orders.
 abbrev IsNoLess : IterationOrder → ℕ → RowEntry → ℕ → RowEntry → Type 0
@@ -282,7 +282,7 @@ after_it : (order : IterationOrder) (i k : ℕ) (y x : RowEntry) → IsNoLess or
 after_it order i k y x h lt =
     ap (λ o. not (is_gt (ordering_then o (nat_cmp y.seq x.seq)))) ((keys_total order).antisymm x.key y.key)
     ∙ (ap (λ o. not (is_gt (ordering_then (ordering_reverse (keys_in order y.key x.key)) o))) (nat_cmp_total.antisymm y.seq x.seq)
-    ∙ behind_place (keys_in order y.key x.key) (nat_cmp x.seq y.seq) (subst (λ o. is_lt (ordering_then (keys_in order y.key x.key) (ordering_then (nat_cmp x.seq y.seq) o)) ≡ false) (sym (nat_cmp_is i k Greater lt)) h))
+    ∙ after_place (keys_in order y.key x.key) (nat_cmp x.seq y.seq) (subst (λ o. is_lt (ordering_then (keys_in order y.key x.key) (ordering_then (nat_cmp x.seq y.seq) o)) ≡ false) (sym (nat_cmp_is i k Greater lt)) h))
 
 same_order : (order : IterationOrder) → order_cmp order order ≡ Equal
 same_order Ascending = refl
@@ -291,17 +291,17 @@ same_order Descending = refl
 no_less : (order : IterationOrder) (d e : Reverse MergeIteratorHeapEntry) → d.0.order ≡ order → e.0.order ≡ order → is_lt (entry_cmp d.0 e.0) ≡ false → IsNoLess order d.0.index d.0.row e.0.index e.0.row
 no_less order d e f g h = subst F (same_order order) (subst D f (subst C g h))
   where
-    behind : Ordering
-    behind = ordering_then (nat_cmp e.0.row.seq d.0.row.seq) (nat_cmp d.0.index e.0.index)
+    after : Ordering
+    after = ordering_then (nat_cmp e.0.row.seq d.0.row.seq) (nat_cmp d.0.index e.0.index)
 
     C : IterationOrder → Type 0
-    C = λ o. is_lt (ordering_then (ordering_then (order_cmp d.0.order o) (keys_in d.0.order d.0.row.key e.0.row.key)) behind) ≡ false
+    C = λ o. is_lt (ordering_then (ordering_then (order_cmp d.0.order o) (keys_in d.0.order d.0.row.key e.0.row.key)) after) ≡ false
 
     D : IterationOrder → Type 0
-    D = λ o. is_lt (ordering_then (ordering_then (order_cmp o order) (keys_in o d.0.row.key e.0.row.key)) behind) ≡ false
+    D = λ o. is_lt (ordering_then (ordering_then (order_cmp o order) (keys_in o d.0.row.key e.0.row.key)) after) ≡ false
 
     F : Ordering → Type 0
-    F = λ o. is_lt (ordering_then (ordering_then o (keys_in order d.0.row.key e.0.row.key)) behind) ≡ false
+    F = λ o. is_lt (ordering_then (ordering_then o (keys_in order d.0.row.key e.0.row.key)) after) ≡ false
 
 none_less : (order : IterationOrder) (n : ℕ) (e : Reverse MergeIteratorHeapEntry) → e.0.order ≡ order → (es : List (Reverse MergeIteratorHeapEntry)) → AllByRecursion (λ d. (d.0.order ≡ order) × (d.0.index < n)) es → IsUpperBound (λ a b. entry_cmp b.0 a.0) e es
     → AllByRecursion (λ d. IsNoLess order d.0.index d.0.row e.0.index e.0.row) es
@@ -350,11 +350,11 @@ pub none_taken : (h v : HeadRows) → h ≡ v → best h.order h.rows ≡ None �
 none_taken h v same is = sym (ap (option_map {U = RowEntry} (λ (p : ℕ × RowEntry). p.1)) is) ∙ ap (λ (w : HeadRows). option_map {U = RowEntry} (λ (p : ℕ × RowEntry). p.1) (best w.order w.rows)) same
 
 pub refilled_rows : (h v : HeadRows) (k : ℕ) (x : RowEntry) (head : Option RowEntry) (rows : List (Option RowEntry)) → h ≡ v → best h.order h.rows ≡ Some (k, x) → rows ≡ set h.rows k head
-    → ◌≡◌ {A = HeadRows} (record { order = h.order; rows = rows }) (record { order = v.order; rows = refilled (best v.order v.rows) head v.rows })
-refilled_rows h v k x head rows same is made = viewed (λ w. refilled (best w.order w.rows) head w.rows) h v rows same (made ∙ sym (ap (λ b. refilled b head h.rows) is))
+    → ◌≡◌ {A = HeadRows} (record { order = h.order; rows = rows }) (record { order = v.order; rows = refilled_heads (best v.order v.rows) head v.rows })
+refilled_rows h v k x head rows same is made = viewed (λ w. refilled_heads (best w.order w.rows) head w.rows) h v rows same (made ∙ sym (ap (λ b. refilled_heads b head h.rows) is))
 
-pub refilled_none : (h v : HeadRows) (head : Option RowEntry) → h ≡ v → best h.order h.rows ≡ None → ◌≡◌ {A = HeadRows} h (record { order = v.order; rows = refilled (best v.order v.rows) head v.rows })
-refilled_none h v head same is = viewed (λ w. refilled (best w.order w.rows) head w.rows) h v h.rows same (sym (ap (λ b. refilled b head h.rows) is))
+pub refilled_none : (h v : HeadRows) (head : Option RowEntry) → h ≡ v → best h.order h.rows ≡ None → ◌≡◌ {A = HeadRows} h (record { order = v.order; rows = refilled_heads (best v.order v.rows) head v.rows })
+refilled_none h v head same is = viewed (λ w. refilled_heads (best w.order w.rows) head w.rows) h v h.rows same (sym (ap (λ b. refilled_heads b head h.rows) is))
 
 -- ---- the heads are taken out of the heap
 
@@ -388,7 +388,7 @@ one_out order n es fs e rows all a p count so_far i lt = by (nat_eq i e.0.index)
     by true q =
         let here : i ≡ e.0.index = same_place i e.0.index q in
         let within : e.0.index < length rows = omega (arith, lt, count, here) in
-        ap (λ h. option_or h (get_or (set rows e.0.index (Some e.0.row)) i None)) (ap (row_at fs) here ∙ none_behind e fs apart)
+        ap (λ h. option_or h (get_or (set rows e.0.index (Some e.0.row)) i None)) (ap (row_at fs) here ∙ none_after e fs apart)
         ∙ (ap (λ j. get_or (set rows e.0.index (Some e.0.row)) j None) here
         ∙ (get_or-set_same rows e.0.index (Some e.0.row) None within
         ∙ (sym (ap (λ h. option_or h (get_or rows i None)) (ap (row_at (e ∷ fs)) here ∙ first_row e fs)) ∙ before)))

@@ -10,13 +10,13 @@ use Rattle.row_model.specs.Rows.{Row}
 use Rattle.fleet_rows.specs.Row.{row_of, rows_of}
 use Rattle.fleet_rows.specs.declared.row.RowEntry.{RowEntry}
 use Rattle.fleet_rows.specs.declared.errors.SlateDBError.{SlateDBError}
-use Rattle.fleet_iter.specs.Iteration.{IteratorState, Nexts, NextAnswers, CanFail, behind_first, without_first, is_exact}
+use Rattle.fleet_iter.specs.Iteration.{IteratorState, Nexts, NextAnswers, CanFail, after_first, without_first, is_exact}
 use Rattle.fleet_iter.specs.declared.iterator.IterationOrder.{IterationOrder}
-use Rattle.fleet_iter.specs.Merge.{best, choose, goes_first, passes, merged, merge_two, merge_into, merged_left, lists, rows_left, AllTaken, IsTaken, are_whole, are_steady, are_exact, manner, manners, OneFailedBy, Steps, Takes, Drops, AllBegun}
+use Rattle.fleet_iter.specs.Merge.{best, choose, goes_first, passes, merged_lists, merge_two, merge_into, merged_left, lists, rows_left, AllTaken, IsTaken, are_whole, are_steady, are_exact, manner, manners, OneFailedBy, Steps, Takes, Drops, AllBegun}
 
-behind_none : (order : IterationOrder) → (b : Option (ℕ × RowEntry)) → choose order None b ≡ None → b ≡ None
-behind_none order None e = refl
-behind_none order (Some p) e = cc
+after_none : (order : IterationOrder) → (b : Option (ℕ × RowEntry)) → choose order None b ≡ None → b ≡ None
+after_none order None e = refl
+after_none order (Some p) e = cc
 
 some_head : (order : IterationOrder) → (x : RowEntry) (b : Option (ℕ × RowEntry)) → choose order (Some x) b ≡ None → ⊥
 some_head order x None e = cc
@@ -26,27 +26,27 @@ some_head order x (Some p) e = tested (goes_first order (row_of x) (row_of p.1))
   tested false e = cc
 
 -- If no head is left, no row is left, and all sources are whole.
-pub none_left : (order : IterationOrder) → (hs : List (Option RowEntry)) (ss : List IteratorState) → AllTaken hs ss → best order hs ≡ None → (merged order (lists hs (rows_left ss)) ≡ []) × (are_whole ss ≡ true)
+pub none_left : (order : IterationOrder) → (hs : List (Option RowEntry)) (ss : List IteratorState) → AllTaken hs ss → best order hs ≡ None → (merged_lists order (lists hs (rows_left ss)) ≡ []) × (are_whole ss ≡ true)
 none_left order [] [] a e = (refl, refl)
 none_left order [] (s ∷ ss) a e = absurd a
 none_left order (h ∷ hs) [] a e = absurd a
 none_left order (None ∷ hs) (s ∷ ss) a e =
-    let rest = none_left order hs ss a.1 (behind_none order (best order hs) e) in
-    (ap (λ (w : List Row). merge_two order w (merged order (lists hs (rows_left ss)))) a.0.2 ∙ rest.0, ap (λ b. cond b (are_whole ss) false) a.0.3 ∙ rest.1)
+    let rest = none_left order hs ss a.1 (after_none order (best order hs) e) in
+    (ap (λ (w : List Row). merge_two order w (merged_lists order (lists hs (rows_left ss)))) a.0.2 ∙ rest.0, ap (λ b. cond b (are_whole ss) false) a.0.3 ∙ rest.1)
 none_left order (Some x ∷ hs) (s ∷ ss) a e = absurd (some_head order x (best order hs) e)
 
 -- The least head is the first row of the merge, and its place has this head.
 pub record Heads (order : IterationOrder) (hs : List (Option RowEntry)) (rs : List (List Row)) (k : ℕ) (x : RowEntry) : Type 0 where
-  pub rows : merged order (lists hs rs) ≡ row_of x ∷ merged order (lists (set hs k None) rs)
+  pub rows : merged_lists order (lists hs rs) ≡ row_of x ∷ merged_lists order (lists (set hs k None) rs)
   pub head : (d : Option RowEntry) → get_or hs k d ≡ Some x
 
 -- A place and a row may be replaced by equal ones.
 heads_at : (order : IterationOrder) → (hs : List (Option RowEntry)) (rs : List (List Row)) (k j : ℕ) (x y : RowEntry) → k ≡ j → x ≡ y → Heads order hs rs j y → Heads order hs rs k x
 heads_at order hs rs k j x y e f h = subst (λ n. Heads order hs rs n x) (sym e) (subst (λ z. Heads order hs rs j z) (sym f) h)
 
-behind_front : (order : IterationOrder) → (b : Option (ℕ × RowEntry)) (k : ℕ) (x : RowEntry) → choose order None b ≡ Some (k, x) → (p : ℕ × RowEntry) × (b ≡ Some p) × (k ≡ suc p.0) × (x ≡ p.1)
-behind_front order None k x e = absurd (cc)
-behind_front order (Some p) k x e =
+after_front : (order : IterationOrder) → (b : Option (ℕ × RowEntry)) (k : ℕ) (x : RowEntry) → choose order None b ≡ Some (k, x) → (p : ℕ × RowEntry) × (b ≡ Some p) × (k ≡ suc p.0) × (x ≡ p.1)
+after_front order None k x e = absurd (cc)
+after_front order (Some p) k x e =
     let q : (p.0 + 1, p.1) ≡ (k, x) = cc in
     (p, refl, sym (ap (λ (z : ℕ × RowEntry). z.0) q) ∙ add-one p.0, sym (ap (λ (z : ℕ × RowEntry). z.1) q))
 
@@ -54,19 +54,19 @@ pub takes_head : (order : IterationOrder) → (hs : List (Option RowEntry)) (ss 
 takes_head order [] ss a k x e = absurd (cc)
 takes_head order (h ∷ hs) [] a k x e = absurd a
 takes_head order (None ∷ hs) (s ∷ ss) a k x e =
-    let f = behind_front order (best order hs) k x e in
+    let f = after_front order (best order hs) k x e in
     let ih = takes_head order hs ss a.1 f.0.0 f.0.1 f.1 in
     let here : s.rows ≡ [] = a.0.2 in
     heads_at order (None ∷ hs) (rows_left (s ∷ ss)) k (suc f.0.0) x f.0.1 f.2 f.3
-    (record { rows = ap (λ (w : List Row). merge_two order w (merged order (lists hs (rows_left ss)))) here ∙ (ih.rows ∙ ap (λ (w : List Row). row_of f.0.1 ∷ merge_two order w (merged order (lists (set hs f.0.0 None) (rows_left ss)))) (sym here)); head = λ d. ih.head d })
+    (record { rows = ap (λ (w : List Row). merge_two order w (merged_lists order (lists hs (rows_left ss)))) here ∙ (ih.rows ∙ ap (λ (w : List Row). row_of f.0.1 ∷ merge_two order w (merged_lists order (lists (set hs f.0.0 None) (rows_left ss)))) (sym here)); head = λ d. ih.head d })
 takes_head order (Some z ∷ hs) (s ∷ ss) a k x e = by_best (λ j y q. takes_head order hs ss a.1 j y q) (best order hs) refl e where
-  first : merged order (lists hs (rows_left ss)) ≡ [] → Heads order (Some z ∷ hs) (rows_left (s ∷ ss)) 0 z
+  first : merged_lists order (lists hs (rows_left ss)) ≡ [] → Heads order (Some z ∷ hs) (rows_left (s ∷ ss)) 0 z
   first n = record { rows = ap (merge_into order (row_of z) (merge_two order s.rows)) n ∙ ap (λ (w : List Row). row_of z ∷ merge_two order s.rows w) (sym n); head = λ d. refl }
 
   by_test : (p : ℕ × RowEntry) → Heads order hs (rows_left ss) p.0 p.1 → (t : Bool) → goes_first order (row_of z) (row_of p.1) ≡ t → cond {A = Option (ℕ × RowEntry)} t (Some (0, z)) (Some (p.0 + 1, p.1)) ≡ Some (k, x) → Heads order (Some z ∷ hs) (rows_left (s ∷ ss)) k x
   by_test p ih true q f =
       let g : (0, z) ≡ (k, x) = cc in
-      let rest = merged order (lists (set hs p.0 None) (rows_left ss)) in
+      let rest = merged_lists order (lists (set hs p.0 None) (rows_left ss)) in
       heads_at order (Some z ∷ hs) (rows_left (s ∷ ss)) k 0 x z (sym (ap (λ (w : ℕ × RowEntry). w.0) g)) (sym (ap (λ (w : ℕ × RowEntry). w.1) g))
       (record {
         rows = ap (merge_into order (row_of z) (merge_two order s.rows)) ih.rows
@@ -76,7 +76,7 @@ takes_head order (Some z ∷ hs) (s ∷ ss) a k x e = by_best (λ j y q. takes_h
       })
   by_test p ih false q f =
       let g : (p.0 + 1, p.1) ≡ (k, x) = cc in
-      let rest = merged order (lists (set hs p.0 None) (rows_left ss)) in
+      let rest = merged_lists order (lists (set hs p.0 None) (rows_left ss)) in
       heads_at order (Some z ∷ hs) (rows_left (s ∷ ss)) k (suc p.0) x p.1 (sym (ap (λ (w : ℕ × RowEntry). w.0) g) ∙ add-one p.0) (sym (ap (λ (w : ℕ × RowEntry). w.1) g))
       (record {
         rows = ap (merge_into order (row_of z) (merge_two order s.rows)) ih.rows
@@ -113,7 +113,7 @@ pub takes_all : (order : IterationOrder) → (hs : List (Option RowEntry)) (ss :
 takes_all order hs ss a k x e s t h is st =
     let p = takes_head order hs ss a k x e in
     let q = refilled hs ss a k x (p.head None) s t h is st in
-    record { rows = p.rows ∙ ap (λ (w : List (List Row)). row_of x ∷ merged order w) q.same; taken = q.taken; same_manner = q.same_manner; ends = λ n. absurd (cc) }
+    record { rows = p.rows ∙ ap (λ (w : List (List Row)). row_of x ∷ merged_lists order w) q.same; taken = q.taken; same_manner = q.same_manner; ends = λ n. absurd (cc) }
 
 pub takes_none : (order : IterationOrder) → (hs : List (Option RowEntry)) (ss : List IteratorState) → AllTaken hs ss → best order hs ≡ None → Takes order false hs ss hs ss None
 takes_none order hs ss a e = record { rows = refl; taken = a; same_manner = refl; ends = λ q. none_left order hs ss a e }
@@ -170,7 +170,7 @@ best_within order (h ∷ hs) k x e = by_head h (best order hs) e (λ j y q. best
 
   by_head : (h' : Option RowEntry) (b : Option (ℕ × RowEntry)) → choose order h' b ≡ Some (k, x) → ((j : ℕ) (y : RowEntry) → b ≡ Some (j, y) → j < length hs) → k < length (h ∷ hs)
   by_head None None e ih = absurd (cc)
-  by_head None (Some p) e ih = let f = behind_front order (Some p) k x e in let q : f.0 ≡ p = cc in deeper p (ih p.0 p.1 refl) (f.2 ∙ (ap (λ (w : ℕ × RowEntry). suc w.0) q ∙ sym (add-one p.0)))
+  by_head None (Some p) e ih = let f = after_front order (Some p) k x e in let q : f.0 ≡ p = cc in deeper p (ih p.0 p.1 refl) (f.2 ∙ (ap (λ (w : ℕ × RowEntry). suc w.0) q ∙ sym (add-one p.0)))
   by_head (Some z) None e ih = front_within (length hs) z k x e
   by_head (Some z) (Some p) e ih = by_test z p (goes_first order (row_of z) (row_of p.1)) (ih p.0 p.1 refl) e
 
@@ -320,14 +320,14 @@ first_left order test hs ss a low = by (best order hs) refl low
   where
     by : (b : Option (ℕ × RowEntry)) → best order hs ≡ b → passes test b ≡ true → (r : Row) × (rest : List Row) × (merged_left order hs ss ≡ r ∷ rest) × (test r ≡ true)
     by None f low = absurd (cc low)
-    by (Some p) f low = (row_of p.1, merged order (lists (set hs p.0 None) (rows_left ss)), (takes_head order hs ss a p.0 p.1 f).rows, low)
+    by (Some p) f low = (row_of p.1, merged_lists order (lists (set hs p.0 None) (rows_left ss)), (takes_head order hs ss a p.0 p.1 f).rows, low)
 
 -- If the least head passes the test, it is dropped, and fewer rows are left.
 pub skip_step : (order : IterationOrder) (test : Row → Bool) (hs hs' : List (Option RowEntry)) (ss ss' : List IteratorState) → AllTaken hs ss → passes test (best order hs) ≡ true → Drops order hs ss hs' ss'
     → (without_first test (merged_left order hs ss) ≡ without_first test (merged_left order hs' ss')) × (length (merged_left order hs' ss') < length (merged_left order hs ss))
 skip_step order test hs hs' ss ss' a low d =
     let f = first_left order test hs ss a low in
-    let later : merged_left order hs' ss' ≡ f.1 = d.rows ∙ ap behind_first f.2 in
+    let later : merged_left order hs' ss' ≡ f.1 = d.rows ∙ ap after_first f.2 in
     let size : length (merged_left order hs ss) ≡ suc (length f.1) = ap length f.2 in
     let less : length (merged_left order hs' ss') ≡ length f.1 = ap length later in
     (ap (without_first test) f.2 ∙ (ap (λ b. cond b (without_first test f.1) (f.0 ∷ f.1)) f.3 ∙ sym (ap (without_first test) later)), omega (arith, size, less))
@@ -340,13 +340,13 @@ skip_end order test hs ss a high = by (best order hs) refl high
     by None f high = let none = (none_left order hs ss a f).0 in none ∙ sym (ap (without_first test) none)
     by (Some p) f high =
         let is = (takes_head order hs ss a p.0 p.1 f).rows in
-        let rest = merged order (lists (set hs p.0 None) (rows_left ss)) in
+        let rest = merged_lists order (lists (set hs p.0 None) (rows_left ss)) in
         is ∙ (sym (ap (λ b. cond b (without_first test rest) (row_of p.1 ∷ rest)) high) ∙ sym (ap (without_first test) is))
 
 -- A step that takes the first row drops it.
 pub dropped : (order : IterationOrder) (hs hs' : List (Option RowEntry)) (ss ss' : List IteratorState) (o : Option RowEntry) → Takes order false hs ss hs' ss' o → Drops order hs ss hs' ss'
 dropped order hs hs' ss ss' o t = record { rows = by o t.rows t.ends; taken = t.taken; same_manner = t.same_manner }
   where
-    by : (o : Option RowEntry) → merged_left order hs ss ≡ rows_of (option_to_list o) ++ merged_left order hs' ss' → (o ≡ None → (merged_left order hs ss ≡ []) × (are_whole ss ≡ true)) → merged_left order hs' ss' ≡ behind_first (merged_left order hs ss)
-    by None e ends = let none = (ends refl).0 in sym e ∙ (none ∙ sym (ap behind_first none))
-    by (Some x) e ends = sym (ap behind_first e)
+    by : (o : Option RowEntry) → merged_left order hs ss ≡ rows_of (option_to_list o) ++ merged_left order hs' ss' → (o ≡ None → (merged_left order hs ss ≡ []) × (are_whole ss ≡ true)) → merged_left order hs' ss' ≡ after_first (merged_left order hs ss)
+    by None e ends = let none = (ends refl).0 in sym e ∙ (none ∙ sym (ap after_first none))
+    by (Some x) e ends = sym (ap after_first e)

@@ -17,7 +17,7 @@ use Rattle.row_laws.proofs.ApartRows.{below_too, false_or, filter_all, passes, o
 use Rattle.row_laws.proofs.Elements.{all_weaken}
 use Rattle.row_laws.proofs.KeyRows.{exact}
 use Rattle.fleet_iter.specs.Iteration.{IteratorState, AreRising, Moves, from_key, without_first}
-use Rattle.fleet_iter.specs.Resume.{is_written, Resumes, ResumesBy, ResumesBehind}
+use Rattle.fleet_iter.specs.Resume.{is_written, Resumes, ResumesBy, ResumesAfter}
 use Rattle.fleet_iter.proofs.RisingRows.{rising_without}
 use Rattle.fleet_iter.proofs.Dedup.{from_key_skipped}
 
@@ -66,8 +66,8 @@ unfolding IsStrictlySortedBy
 written_first c [] h high = tt
 written_first c (r ∷ rows) h high = (all_weaken (λ q. row_cmp r q ≡ Less) (λ q. is_written c q ≡ true → is_written c r ≡ true) (λ q less written. written_back c r q less high.0 written) rows h.0, written_first c rows h.1 high.1)
 
-pub resumes_behind : ResumesBehind
-resumes_behind c rows ordered =
+pub resumes_after : ResumesAfter
+resumes_after c rows ordered =
     let from : from_key c.0 rows ≡ filter (is_from c.0) rows = from_key_skipped c.0 rows ∙ first_are_filtered (is_below c.0) rows (below_first c.0 rows ordered) in
     ap (without_first (is_written c)) from
     ∙ first_are_filtered (is_written c) (filter (is_from c.0) rows) (written_first c (filter (is_from c.0) rows) (ordered_filter (is_from c.0) rows ordered) (passes (is_from c.0) rows))
@@ -87,5 +87,5 @@ resumes_at whole cursor c key old sought new is same m e = subst (λ w. Resumes 
 
 -- What is left after a cursor is what a seek to its key left, without the first rows that are written
 -- already.
-pub resumes_by : (told : List ℕ → IteratorState → Type 0) (cursor : Option Cursor) (c : Cursor) (key : List ℕ) (old left new : IteratorState) → cursor ≡ Some c → key ≡ c.0 → told key left → new ≡ record left { rows = without_first (is_written c) left.rows } → ResumesBy told cursor old new
-resumes_by told cursor c key old left new is same h e = subst (λ w. ResumesBy told w old new) (sym is) (record { left = left; told = subst (λ (w : List ℕ). told w left) same h; rows = e })
+pub resumes_by : (stated : List ℕ → IteratorState → Type 0) (cursor : Option Cursor) (c : Cursor) (key : List ℕ) (old left new : IteratorState) → cursor ≡ Some c → key ≡ c.0 → stated key left → new ≡ record left { rows = without_first (is_written c) left.rows } → ResumesBy stated cursor old new
+resumes_by stated cursor c key old left new is same h e = subst (λ w. ResumesBy stated w old new) (sym is) (record { left = left; stated = subst (λ (w : List ℕ). stated w left) same h; rows = e })

@@ -9,7 +9,7 @@ use Rattle.row_model.specs.Rows.{Row, key_cmp}
 use Rattle.row_laws.proofs.Elements.{all_weaken}
 use Rattle.fleet_iter.specs.Iteration.{AreRising}
 use Rattle.fleet_iter.specs.declared.iterator.IterationOrder.TheVariants.{Ascending}
-use Rattle.fleet_iter.specs.Merge.{merge_two, merge_into, merged, goes_first, hides, given_behind, deduplicated, given, MergesRise}
+use Rattle.fleet_iter.specs.Merge.{merge_two, merge_into, merged_lists, goes_first, hides, given_after, deduplicated_rows, given_rows, MergesRise}
 use Rattle.fleet_iter.proofs.RisingRows.{not_after_too}
 use Rattle.fleet_iter.proofs.MergedRows.{all_into, all_merged}
 
@@ -51,33 +51,33 @@ rising_two : (xs ys : List Row) → AreRising xs → AreRising ys → AreRising 
 rising_two [] ys h g = g
 rising_two (x ∷ xs) ys h g = rising_into x xs ys h.0 (λ zs k. rising_two xs zs h.1 k) g
 
-pub rising_merged : (ls : List (List Row)) → AllByRecursion AreRising ls → AreRising (merged Ascending ls)
+pub rising_merged : (ls : List (List Row)) → AllByRecursion AreRising ls → AreRising (merged_lists Ascending ls)
 rising_merged [] h = tt
-rising_merged (rows ∷ ls) h = rising_two rows (merged Ascending ls) h.0 (rising_merged ls h.1)
+rising_merged (rows ∷ ls) h = rising_two rows (merged_lists Ascending ls) h.0 (rising_merged ls h.1)
 
-all_behind : (P : Row → Type 0) (r : Row) (rows : List Row) → AllByRecursion P rows → AllByRecursion P (given_behind r rows)
-all_behind P r [] all = tt
-all_behind P r (q ∷ rows) all = by (hides r q) (all_behind P r rows all.1) (all_behind P q rows all.1)
+all_after : (P : Row → Type 0) (r : Row) (rows : List Row) → AllByRecursion P rows → AllByRecursion P (given_after r rows)
+all_after P r [] all = tt
+all_after P r (q ∷ rows) all = by (hides r q) (all_after P r rows all.1) (all_after P q rows all.1)
   where
-    by : (b : Bool) → AllByRecursion P (given_behind r rows) → AllByRecursion P (given_behind q rows) → AllByRecursion P (cond b (given_behind r rows) (q ∷ given_behind q rows))
+    by : (b : Bool) → AllByRecursion P (given_after r rows) → AllByRecursion P (given_after q rows) → AllByRecursion P (cond b (given_after r rows) (q ∷ given_after q rows))
     by true rest later = rest
     by false rest later = (all.0, later)
 
-rising_behind : (r : Row) (rows : List Row) → AreRising rows → AreRising (given_behind r rows)
-rising_behind r [] h = tt
-rising_behind r (q ∷ rows) h = by (hides r q) (rising_behind r rows h.1) (rising_behind q rows h.1)
+rising_after : (r : Row) (rows : List Row) → AreRising rows → AreRising (given_after r rows)
+rising_after r [] h = tt
+rising_after r (q ∷ rows) h = by (hides r q) (rising_after r rows h.1) (rising_after q rows h.1)
   where
-    by : (b : Bool) → AreRising (given_behind r rows) → AreRising (given_behind q rows) → AreRising (cond b (given_behind r rows) (q ∷ given_behind q rows))
+    by : (b : Bool) → AreRising (given_after r rows) → AreRising (given_after q rows) → AreRising (cond b (given_after r rows) (q ∷ given_after q rows))
     by true rest later = rest
-    by false rest later = (all_behind (IsUpTo q) q rows h.0, later)
+    by false rest later = (all_after (IsUpTo q) q rows h.0, later)
 
-rising_deduplicated : (rows : List Row) → AreRising rows → AreRising (deduplicated rows)
+rising_deduplicated : (rows : List Row) → AreRising rows → AreRising (deduplicated_rows rows)
 rising_deduplicated [] h = tt
-rising_deduplicated (r ∷ rows) h = (all_behind (IsUpTo r) r rows h.0, rising_behind r rows h.1)
+rising_deduplicated (r ∷ rows) h = (all_after (IsUpTo r) r rows h.0, rising_after r rows h.1)
 
-pub rising_given_too : (dedup : Bool) (rows : List Row) → AreRising rows → AreRising (given dedup rows)
+pub rising_given_too : (dedup : Bool) (rows : List Row) → AreRising rows → AreRising (given_rows dedup rows)
 rising_given_too true rows h = rising_deduplicated rows h
 rising_given_too false rows h = h
 
 pub merges_rise : MergesRise
-merges_rise dedup ls h = rising_given_too dedup (merged Ascending ls) (rising_merged ls h)
+merges_rise dedup ls h = rising_given_too dedup (merged_lists Ascending ls) (rising_merged ls h)

@@ -16,7 +16,7 @@ use Rattle.fleet_iter.proofs.RisingMerges.{rising_merged}
 use Rattle.fleet_iter.proofs.Dedup.{from_key_skipped}
 use Rattle.fleet_iter.specs.declared.iterator.IterationOrder.{IterationOrder}
 use Rattle.fleet_iter.specs.declared.iterator.IterationOrder.TheVariants.{Ascending, Descending}
-use Rattle.fleet_iter.specs.Merge.{head_passes, merged, lists, rows_left, merged_left, AllTaken, IsTaken, Steps, StepsFrom, SkipsTo, is_told, manner, manners, all_whole, all_steady, are_exact}
+use Rattle.fleet_iter.specs.Merge.{head_passes, merged_lists, lists, rows_left, merged_left, AllTaken, IsTaken, Steps, StepsFrom, SkipsTo, is_known, manner, manners, all_whole, all_steady, are_exact}
 use Rattle.fleet_iter.proofs.SoughtMerges.{parts_rise, seek_merged}
 
 -- The lists, of which the first n are sought to the key.
@@ -93,19 +93,19 @@ head_taken (g ∷ hs) (r ∷ ss) a (suc i) h s lt e f = head_taken hs ss a.1 i h
 -- ---- a step of a seek
 
 pub record Sought (order : IterationOrder) (key : List ℕ) (i : ℕ) (ls : List (List Row)) (hs : List (Option RowEntry)) (ss old : List IteratorState) : Type 0 where
-  pub rows : is_told order (are_exact old) ≡ true → lists hs (rows_left ss) ≡ sought key i ls
+  pub rows : is_known order (are_exact old) ≡ true → lists hs (rows_left ss) ≡ sought key i ls
   pub rising : AllByRecursion AreRising (lists hs (rows_left ss))
   pub taken : AllTaken hs ss
-  pub same_manner : is_told order (are_exact old) ≡ true → manners ss ≡ manners old
+  pub same_manner : is_known order (are_exact old) ≡ true → manners ss ≡ manners old
   pub later : (j : ℕ) (d : IteratorState) → i ≤ j → get_or ss j d ≡ get_or old j d
 
 exact_of : (ss old : List IteratorState) → manners ss ≡ manners old → are_exact old ≡ true → are_exact ss ≡ true
 exact_of ss old same all = ap (λ (ms : List (Bool × Bool)). all_steady ms && all_whole ms) same ∙ all
 
-one_told : (order : IterationOrder) (key : List ℕ) (i : ℕ) (ls : List (List Row)) (hs : List (Option RowEntry)) (ss old : List IteratorState) (s : IteratorState) → i < length ss → s ≡ get_or ss i s → Sought order key i ls hs ss old
-    → is_told order (are_exact old) ≡ true → is_told order (is_exact s) ≡ true
-one_told Ascending key i ls hs ss old s lt f k all = one_exact ss i s lt f (exact_of ss old (k.same_manner all) all)
-one_told Descending key i ls hs ss old s lt f k all = refl
+one_known : (order : IterationOrder) (key : List ℕ) (i : ℕ) (ls : List (List Row)) (hs : List (Option RowEntry)) (ss old : List IteratorState) (s : IteratorState) → i < length ss → s ≡ get_or ss i s → Sought order key i ls hs ss old
+    → is_known order (are_exact old) ≡ true → is_known order (is_exact s) ≡ true
+one_known Ascending key i ls hs ss old s lt f k all = one_exact ss i s lt f (exact_of ss old (k.same_manner all) all)
+one_known Descending key i ls hs ss old s lt f k all = refl
 
 rising_at : (i : ℕ) (ls : List (List Row)) → AllByRecursion AreRising ls → AreRising (get_or ls i [])
 rising_at i [] all = tt
@@ -126,38 +126,38 @@ source_rises order key i ls hs ss old g s lt k e f = by g (subst AreRising (list
     by None r = r
     by (Some x) r = r.1
 
-step_rises : (told : Bool) (key : List ℕ) (s t : IteratorState) (h : Option RowEntry) → AreRising s.rows → StepsFrom told key s t h → AreRising (rows_of (option_to_list h) ++ t.rows)
+step_rises : (stated : Bool) (key : List ℕ) (s t : IteratorState) (h : Option RowEntry) → AreRising s.rows → StepsFrom stated key s t h → AreRising (rows_of (option_to_list h) ++ t.rows)
 step_rises true key s t h rising st = subst AreRising st.0 (rising_from key s.rows rising)
 step_rises false key s t h rising st = st.1
 
-step_taken : (told : Bool) (key : List ℕ) (s t : IteratorState) (h : Option RowEntry) → StepsFrom told key s t h → IsTaken h t
+step_taken : (stated : Bool) (key : List ℕ) (s t : IteratorState) (h : Option RowEntry) → StepsFrom stated key s t h → IsTaken h t
 step_taken true key s t h st = st.1
 step_taken false key s t h st = st.0
 
 -- If the head is below the key, the source moves on to the key.
 pub sought_step : (order : IterationOrder) (key : List ℕ) (i : ℕ) (ls : List (List Row)) (hs : List (Option RowEntry)) (ss old : List IteratorState) (g h : Option RowEntry) (s t : IteratorState) → i < length ls → i < length ss → Sought order key i ls hs ss old
-    → g ≡ get_or hs i g → s ≡ get_or ss i s → head_passes (is_below key) g ≡ true → StepsFrom (is_told order (is_exact s)) key s t h → Sought order key (suc i) ls (set hs i h) (set ss i t) old
+    → g ≡ get_or hs i g → s ≡ get_or ss i s → head_passes (is_below key) g ≡ true → StepsFrom (is_known order (is_exact s)) key s t h → Sought order key (suc i) ls (set hs i h) (set ss i t) old
 sought_step order key i ls hs ss old g h s t lt lt2 k e f low st = record {
-  rows = λ told. rows told (subst (λ b. StepsFrom b key s t h) (one_told order key i ls hs ss old s lt2 f k told) st);
+  rows = λ stated. rows stated (subst (λ b. StepsFrom b key s t h) (one_known order key i ls hs ss old s lt2 f k stated) st);
   rising = subst (AllByRecursion AreRising) (sym (lists_set hs ss k.taken i h t))
-      (rising_set i (lists hs (rows_left ss)) (rows_of (option_to_list h) ++ t.rows) (step_rises (is_told order (is_exact s)) key s t h (source_rises order key i ls hs ss old g s lt2 k e f) st) k.rising);
-  taken = taken_set hs ss k.taken i h t (step_taken (is_told order (is_exact s)) key s t h st);
-  same_manner = λ told. let exact : Steps (record s { rows = from_key key s.rows }) t h = subst (λ b. StepsFrom b key s t h) (one_told order key i ls hs ss old s lt2 f k told) st in manner_set ss i s t f exact.2 ∙ k.same_manner told;
+      (rising_set i (lists hs (rows_left ss)) (rows_of (option_to_list h) ++ t.rows) (step_rises (is_known order (is_exact s)) key s t h (source_rises order key i ls hs ss old g s lt2 k e f) st) k.rising);
+  taken = taken_set hs ss k.taken i h t (step_taken (is_known order (is_exact s)) key s t h st);
+  same_manner = λ stated. let exact : Steps (record s { rows = from_key key s.rows }) t h = subst (λ b. StepsFrom b key s t h) (one_known order key i ls hs ss old s lt2 f k stated) st in manner_set ss i s t f exact.2 ∙ k.same_manner stated;
   later = λ j d le. get_later ss i j t d le ∙ k.later j d (omega (arith, le));
 }
   where
-    rows : is_told order (are_exact old) ≡ true → Steps (record s { rows = from_key key s.rows }) t h → lists (set hs i h) (rows_left (set ss i t)) ≡ sought key (suc i) ls
-    rows told exact = by g refl low
+    rows : is_known order (are_exact old) ≡ true → Steps (record s { rows = from_key key s.rows }) t h → lists (set hs i h) (rows_left (set ss i t)) ≡ sought key (suc i) ls
+    rows stated exact = by g refl low
       where
         here : get_or ls i [] ≡ rows_of (option_to_list g) ++ s.rows
-        here = sym (sought_at key i ls) ∙ (ap (λ (w : List (List Row)). get_or w i []) (sym (k.rows told)) ∙ lists_at hs ss k.taken i g s lt2 e f)
+        here = sym (sought_at key i ls) ∙ (ap (λ (w : List (List Row)). get_or w i []) (sym (k.rows stated)) ∙ lists_at hs ss k.taken i g s lt2 e f)
 
         by : (w : Option RowEntry) → g ≡ w → head_passes (is_below key) w ≡ true → lists (set hs i h) (rows_left (set ss i t)) ≡ sought key (suc i) ls
         by None is low = absurd (cc low)
         by (Some x) is low =
             let all : get_or ls i [] ≡ row_of x ∷ s.rows = here ∙ ap (λ (w : Option RowEntry). rows_of (option_to_list w) ++ s.rows) is in
             let left : from_key key (get_or ls i []) ≡ rows_of (option_to_list h) ++ t.rows = ap (from_key key) all ∙ (ap (λ c. cond c (from_key key s.rows) (row_of x ∷ s.rows)) low ∙ exact.0) in
-            lists_set hs ss k.taken i h t ∙ (ap (λ (w : List Row). set (lists hs (rows_left ss)) i w) (sym left) ∙ (ap (λ (w : List (List Row)). set w i (from_key key (get_or ls i []))) (k.rows told) ∙ sym (sought_more key i ls lt)))
+            lists_set hs ss k.taken i h t ∙ (ap (λ (w : List Row). set (lists hs (rows_left ss)) i w) (sym left) ∙ (ap (λ (w : List (List Row)). set w i (from_key key (get_or ls i []))) (k.rows stated) ∙ sym (sought_more key i ls lt)))
 
 -- There is a state at each place within the list.
 state_at : (ss : List IteratorState) (i : ℕ) → i < length ss → (s : IteratorState) × (s ≡ get_or ss i s)
@@ -169,7 +169,7 @@ state_at (r ∷ ss) (suc i) lt = state_at ss i (omega arith)
 pub sought_left : (order : IterationOrder) (key : List ℕ) (i : ℕ) (ls : List (List Row)) (hs : List (Option RowEntry)) (ss old : List IteratorState) (g : Option RowEntry) → i < length ls → i < length ss → Sought order key i ls hs ss old
     → g ≡ get_or hs i g → head_passes (is_below key) g ≡ false → Sought order key (suc i) ls hs ss old
 sought_left order key i ls hs ss old g lt lt2 k e high = record {
-  rows = λ told. k.rows told ∙ sym (sought_more key i ls lt ∙ (ap (λ (w : List Row). set (sought key i ls) i w) (same told ∙ sym (sought_at key i ls)) ∙ set-get_or (sought key i ls) i []));
+  rows = λ stated. k.rows stated ∙ sym (sought_more key i ls lt ∙ (ap (λ (w : List Row). set (sought key i ls) i w) (same stated ∙ sym (sought_at key i ls)) ∙ set-get_or (sought key i ls) i []));
   rising = k.rising;
   taken = k.taken;
   same_manner = k.same_manner;
@@ -180,24 +180,24 @@ sought_left order key i ls hs ss old g lt lt2 k e high = record {
     by s None a high = ap (from_key key) a.2 ∙ sym a.2
     by s (Some x) a high = ap (λ c. cond c (from_key key s.rows) (row_of x ∷ s.rows)) high
 
-    same : is_told order (are_exact old) ≡ true → from_key key (get_or ls i []) ≡ get_or ls i []
-    same told =
+    same : is_known order (are_exact old) ≡ true → from_key key (get_or ls i []) ≡ get_or ls i []
+    same stated =
         let at = state_at ss i lt2 in
-        let here : get_or ls i [] ≡ rows_of (option_to_list g) ++ at.0.rows = sym (sought_at key i ls) ∙ (ap (λ (w : List (List Row)). get_or w i []) (sym (k.rows told)) ∙ lists_at hs ss k.taken i g at.0 lt2 e at.1) in
+        let here : get_or ls i [] ≡ rows_of (option_to_list g) ++ at.0.rows = sym (sought_at key i ls) ∙ (ap (λ (w : List (List Row)). get_or w i []) (sym (k.rows stated)) ∙ lists_at hs ss k.taken i g at.0 lt2 e at.1) in
         ap (from_key key) here ∙ (by at.0 g (head_taken hs ss k.taken i g at.0 lt2 e at.1) high ∙ sym here)
 
 -- Once all sources have moved on, the merge has dropped its rows below the key.
 pub sought_merge : (order : IterationOrder) (key : List ℕ) (n : ℕ) (hs0 hs : List (Option RowEntry)) (ss old : List IteratorState) → length (lists hs0 (rows_left old)) ≤ n → AreRising (merged_left order hs0 old) → Sought order key n (lists hs0 (rows_left old)) hs ss old
-    → SkipsTo (is_told order (are_exact old)) order key hs0 old hs ss
-sought_merge order key n hs0 hs ss old le rising k = by (is_told order (are_exact old)) refl
+    → SkipsTo (is_known order (are_exact old)) order key hs0 old hs ss
+sought_merge order key n hs0 hs ss old le rising k = by (is_known order (are_exact old)) refl
   where
-    in_order : (order : IterationOrder) → is_told order (are_exact old) ≡ false → AreRising (merged_left order hs ss)
+    in_order : (order : IterationOrder) → is_known order (are_exact old) ≡ false → AreRising (merged_left order hs ss)
     in_order Ascending e = rising_merged (lists hs (rows_left ss)) k.rising
     in_order Descending e = absurd (cc e)
 
-    by : (b : Bool) → is_told order (are_exact old) ≡ b → SkipsTo b order key hs0 old hs ss
+    by : (b : Bool) → is_known order (are_exact old) ≡ b → SkipsTo b order key hs0 old hs ss
     by true e = record {
-      rows = ap (merged order) (k.rows e ∙ sought_all key n (lists hs0 (rows_left old)) le) ∙ (seek_merged order key (lists hs0 (rows_left old)) rising ∙ from_key_skipped key (merged_left order hs0 old));
+      rows = ap (merged_lists order) (k.rows e ∙ sought_all key n (lists hs0 (rows_left old)) le) ∙ (seek_merged order key (lists hs0 (rows_left old)) rising ∙ from_key_skipped key (merged_left order hs0 old));
       taken = k.taken;
       same_manner = k.same_manner e;
     }

@@ -9,7 +9,7 @@ use Rattle.row_model.specs.Rows.{Row, key_cmp}
 use Rattle.row_laws.specs.Keys.{is_below}
 use Rattle.fleet_iter.specs.Iteration.{AreRising, from_key}
 use Rattle.fleet_iter.specs.declared.iterator.IterationOrder.{IterationOrder}
-use Rattle.fleet_iter.specs.Merge.{merge_two, merge_into, merged, goes_first, hides, given_behind, given}
+use Rattle.fleet_iter.specs.Merge.{merge_two, merge_into, merged_lists, goes_first, hides, given_after, given_rows}
 use Rattle.fleet_iter.proofs.RisingMerges.{IsUpTo, up_to_all}
 use Rattle.fleet_iter.proofs.Dedup.{hides_key}
 
@@ -47,9 +47,9 @@ parts_two : (order : IterationOrder) (xs ys : List Row) → AreRising (merge_two
 parts_two order [] ys r = (tt, r)
 parts_two order (x ∷ xs) ys r = parts_into order x xs (λ zs k. parts_two order xs zs k) ys r
 
-pub parts_rise : (order : IterationOrder) (ls : List (List Row)) → AreRising (merged order ls) → AllByRecursion AreRising ls
+pub parts_rise : (order : IterationOrder) (ls : List (List Row)) → AreRising (merged_lists order ls) → AllByRecursion AreRising ls
 parts_rise order [] r = tt
-parts_rise order (l ∷ ls) r = let p = parts_two order l (merged order ls) r in (p.0, parts_rise order ls p.1)
+parts_rise order (l ∷ ls) r = let p = parts_two order l (merged_lists order ls) r in (p.0, parts_rise order ls p.1)
 
 -- ---- each list may be sought
 
@@ -108,11 +108,11 @@ seek_two : (order : IterationOrder) (key : List ℕ) (xs ys : List Row) → AreR
 seek_two order key [] ys r = refl
 seek_two order key (x ∷ xs) ys r = seek_into order key x xs (λ zs k. seek_two order key xs zs k) ys r
 
-pub seek_merged : (order : IterationOrder) (key : List ℕ) (ls : List (List Row)) → AreRising (merged order ls) → merged order (map (from_key key) ls) ≡ from_key key (merged order ls)
+pub seek_merged : (order : IterationOrder) (key : List ℕ) (ls : List (List Row)) → AreRising (merged_lists order ls) → merged_lists order (map (from_key key) ls) ≡ from_key key (merged_lists order ls)
 seek_merged order key [] r = refl
 seek_merged order key (l ∷ ls) r =
-    let p = parts_two order l (merged order ls) r in
-    ap (merge_two order (from_key key l)) (seek_merged order key ls p.1) ∙ seek_two order key l (merged order ls) r
+    let p = parts_two order l (merged_lists order ls) r in
+    ap (merge_two order (from_key key l)) (seek_merged order key ls p.1) ∙ seek_two order key l (merged_lists order ls) r
 
 -- ---- if the rows that are given rise, all merged rows rise
 
@@ -121,11 +121,11 @@ alike Less e = absurd (cc e)
 alike Equal e = refl
 alike Greater e = absurd (cc e)
 
-rising_behind : (r : Row) (rows : List Row) → AreRising (r ∷ given_behind r rows) → AreRising (r ∷ rows)
-rising_behind r [] h = h
-rising_behind r (q ∷ rows) h = by (hides r q) refl h (rising_behind r rows) (rising_behind q rows)
+rising_after : (r : Row) (rows : List Row) → AreRising (r ∷ given_after r rows) → AreRising (r ∷ rows)
+rising_after r [] h = h
+rising_after r (q ∷ rows) h = by (hides r q) refl h (rising_after r rows) (rising_after q rows)
   where
-    by : (b : Bool) → hides r q ≡ b → AreRising (r ∷ cond b (given_behind r rows) (q ∷ given_behind q rows)) → (AreRising (r ∷ given_behind r rows) → AreRising (r ∷ rows)) → (AreRising (q ∷ given_behind q rows) → AreRising (q ∷ rows)) → AreRising (r ∷ q ∷ rows)
+    by : (b : Bool) → hides r q ≡ b → AreRising (r ∷ cond b (given_after r rows) (q ∷ given_after q rows)) → (AreRising (r ∷ given_after r rows) → AreRising (r ∷ rows)) → (AreRising (q ∷ given_after q rows) → AreRising (q ∷ rows)) → AreRising (r ∷ q ∷ rows)
     by true e h one other =
         let k = one h in
         let same : r.key ≡ q.key = hides_key r q e in
@@ -135,7 +135,7 @@ rising_behind r (q ∷ rows) h = by (hides r q) refl h (rising_behind r rows) (r
         let k = other h.1 in
         ((h.0.0, up_to_all r q rows h.0.0 k.0), k)
 
-pub rising_given : (dedup : Bool) (rows : List Row) → AreRising (given dedup rows) → AreRising rows
+pub rising_given : (dedup : Bool) (rows : List Row) → AreRising (given_rows dedup rows) → AreRising rows
 rising_given false rows h = h
 rising_given true [] h = tt
-rising_given true (r ∷ rows) h = rising_behind r rows h
+rising_given true (r ∷ rows) h = rising_after r rows h

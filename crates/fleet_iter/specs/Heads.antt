@@ -30,6 +30,6 @@ pub record AreHeads (order : IterationOrder) (count : ℕ) (es : List (Reverse M
   pub apart : IsDistinct nat_eq (keys_of (placed_rows es))
 
 -- The heads after the least one was taken and its source's next row has come in its place.
-abbrev pub refilled : Option (ℕ × RowEntry) → Option RowEntry → List (Option RowEntry) → List (Option RowEntry)
-refilled None head hs = hs
-refilled (Some p) head hs = slice_set hs p.0 head
+abbrev pub refilled_heads : Option (ℕ × RowEntry) → Option RowEntry → List (Option RowEntry) → List (Option RowEntry)
+refilled_heads None head hs = hs
+refilled_heads (Some p) head hs = slice_set hs p.0 head

@@ -42,7 +42,7 @@ pub record Fails (whole : Bool) (new : IteratorState) (e : SlateDBError) : Type 
 -- If the error that comes after the rows is known, an error other than `Memory` is that one, and it comes
 -- only when no row is left.
 abbrev pub IsKnown : IteratorState → SlateDBError → Type 0
-IsKnown s e = (behind : SlateDBError) → s.refusal ≡ Some behind → e ≢ Memory → (s.rows ≡ []) × (e ≡ behind)
+IsKnown s e = (after : SlateDBError) → s.refusal ≡ Some after → e ≢ Memory → (s.rows ≡ []) × (e ≡ after)
 
 -- A call of `next` failed the iterator with this error.
 pub record NextFails (old new : IteratorState) (e : SlateDBError) : Type 0 where
@@ -95,9 +95,9 @@ pub record Nexts (old new : IteratorState) (result : Result (Option RowEntry) Sl
   pub answers : old.failure ≡ None → old.initialised ≡ true → NextAnswers old new result
 
 -- The rows after the first one. The empty list stays empty.
-abbrev pub behind_first : List Row → List Row
-behind_first [] = []
-behind_first (r ∷ rows) = rows
+abbrev pub after_first : List Row → List Row
+after_first [] = []
+after_first (r ∷ rows) = rows
 
 -- The rows from the first one on that does not pass the test.
 abbrev pub without_first : (Row → Bool) → List Row → List Row
@@ -145,7 +145,7 @@ SeekAnswers key old new (Err e) = Fails (is_exact old) new e
 pub record SoughtThrough (sought : List ℕ → IteratorState → Type 0) (make : IteratorState → IteratorState) (inner : IteratorState) (key : List ℕ) (new : IteratorState) : Type 0 where
   pub left : IteratorState
   pub moves : Moves (is_exact inner) key inner left
-  pub told : sought key left
+  pub stated : sought key left
   pub made : new ≡ make left
 
 pub record Seeks (key : List ℕ) (old new : IteratorState) (result : Result (Unit {0}) SlateDBError) : Type 0 where

@@ -14,7 +14,7 @@ use Rattle.fleet_rows.specs.Row.{row_of, rows_of}
 use Rattle.fleet_rows.specs.declared.row.RowEntry.{RowEntry}
 use Rattle.fleet_rows.specs.declared.errors.SlateDBError.{SlateDBError}
 use Rattle.fleet_rows.specs.declared.errors.SlateDBError.TheVariants.{Memory}
-use Rattle.fleet_iter.specs.Iteration.{IteratorState, AreRising, behind_first, from_key, without_first}
+use Rattle.fleet_iter.specs.Iteration.{IteratorState, AreRising, after_first, from_key, without_first}
 use Rattle.fleet_iter.specs.declared.iterator.IterationOrder.{IterationOrder}
 use Rattle.fleet_iter.specs.declared.iterator.IterationOrder.TheVariants.{Ascending, Descending}
 
@@ -40,9 +40,9 @@ abbrev pub merge_two : IterationOrder → List Row → List Row → List Row
 merge_two order [] others = others
 merge_two order (r ∷ rows) others = merge_into order r (merge_two order rows) others
 
-abbrev pub merged : IterationOrder → List (List Row) → List Row
-merged order [] = []
-merged order (rows ∷ lists) = merge_two order rows (merged order lists)
+abbrev pub merged_lists : IterationOrder → List (List Row) → List Row
+merged_lists order [] = []
+merged_lists order (rows ∷ lists) = merge_two order rows (merged_lists order lists)
 
 -- Whether a row hides a later one: both have the same key, and the first one is no operand.
 abbrev pub hides : Row → Row → Bool
@@ -50,18 +50,18 @@ hides r q = not (is_operand r) && same_key r q
 
 -- The rows that dedup gives after a row that it has given. It leaves out each row that the row given last
 -- hides.
-abbrev pub given_behind : Row → List Row → List Row
-given_behind r [] = []
-given_behind r (q ∷ rows) = if hides r q then given_behind r rows else q ∷ given_behind q rows
+abbrev pub given_after : Row → List Row → List Row
+given_after r [] = []
+given_after r (q ∷ rows) = if hides r q then given_after r rows else q ∷ given_after q rows
 
-abbrev pub deduplicated : List Row → List Row
-deduplicated [] = []
-deduplicated (r ∷ rows) = r ∷ given_behind r rows
+abbrev pub deduplicated_rows : List Row → List Row
+deduplicated_rows [] = []
+deduplicated_rows (r ∷ rows) = r ∷ given_after r rows
 
 -- The rows that a merge gives of its merged rows, with dedup if the flag is true.
-abbrev pub given : Bool → List Row → List Row
-given true rows = deduplicated rows
-given false rows = rows
+abbrev pub given_rows : Bool → List Row → List Row
+given_rows true rows = deduplicated_rows rows
+given_rows false rows = rows
 
 -- The lists of rows left, each with the head that was taken from it put back in front.
 abbrev pub lists : List (Option RowEntry) → List (List Row) → List (List Row)
@@ -74,7 +74,7 @@ rows_left ss = map (λ s. s.rows) ss
 
 -- The merge of all rows that heads and sources have left.
 abbrev pub merged_left : IterationOrder → List (Option RowEntry) → List IteratorState → List Row
-merged_left order hs ss = merged order (lists hs (rows_left ss))
+merged_left order hs ss = merged_lists order (lists hs (rows_left ss))
 
 -- The lesser of a head and of the least head after it, with its place. Of equal ones the head comes first.
 abbrev pub choose : IterationOrder → Option RowEntry → Option (ℕ × RowEntry) → Option (ℕ × RowEntry)
@@ -146,9 +146,9 @@ Steps s t h = (s.rows ≡ rows_of (option_to_list h) ++ t.rows) × IsTaken h t �
 
 -- Whether it is known which rows a seek of a source leaves. In descending order it always is, since a merge
 -- then reads the source row by row instead of seeking it.
-abbrev pub is_told : IterationOrder → Bool → Bool
-is_told Ascending exact = exact
-is_told Descending exact = true
+abbrev pub is_known : IterationOrder → Bool → Bool
+is_known Ascending exact = exact
+is_known Descending exact = true
 
 -- A step of a source to its first row at or after a key. If the flag is false, it is only known that the
 -- source's rows rise.
@@ -159,14 +159,14 @@ StepsFrom false key s t h = IsTaken h t × AreRising (rows_of (option_to_list h)
 -- A step of a merge takes the first row that is given, and with dedup the rows that this one hides. If it
 -- takes no row, none is left and all sources are whole.
 pub record Takes (order : IterationOrder) (dedup : Bool) (hs : List (Option RowEntry)) (ss : List IteratorState) (hs' : List (Option RowEntry)) (ss' : List IteratorState) (o : Option RowEntry) : Type 0 where
-  pub rows : given dedup (merged_left order hs ss) ≡ rows_of (option_to_list o) ++ given dedup (merged_left order hs' ss')
+  pub rows : given_rows dedup (merged_left order hs ss) ≡ rows_of (option_to_list o) ++ given_rows dedup (merged_left order hs' ss')
   pub taken : AllTaken hs' ss'
   pub same_manner : manners ss' ≡ manners ss
   pub ends : o ≡ None → (merged_left order hs ss ≡ []) × (are_whole ss ≡ true)
 
 -- A merge drops its first row, if it has one.
 pub record Drops (order : IterationOrder) (hs : List (Option RowEntry)) (ss : List IteratorState) (hs' : List (Option RowEntry)) (ss' : List IteratorState) : Type 0 where
-  pub rows : merged_left order hs' ss' ≡ behind_first (merged_left order hs ss)
+  pub rows : merged_left order hs' ss' ≡ after_first (merged_left order hs ss)
   pub taken : AllTaken hs' ss'
   pub same_manner : manners ss' ≡ manners ss
 
@@ -220,17 +220,17 @@ Fits None false hs ss = (hs ≡ []) × NoneFailed ss
 -- The state of a merge with these flags, heads and sources.
 abbrev pub merging : IterationOrder → Bool → Bool → Option SlateDBError → List (Option RowEntry) → List IteratorState → IteratorState
 merging order dedup initialised failure hs ss =
-    record { rows = given dedup (merged_left order hs ss); initialised = initialised; failure = failure; whole = are_whole ss; steady = are_steady ss; refusal = None }
+    record { rows = given_rows dedup (merged_left order hs ss); initialised = initialised; failure = failure; whole = are_whole ss; steady = are_steady ss; refusal = None }
 
 -- The state of a merge with dedup that is not initialised.
 abbrev pub starting : IterationOrder → List IteratorState → IteratorState
-starting order ss = record { rows = deduplicated (merged order (rows_left ss)); initialised = false; failure = None; whole = are_whole ss; steady = are_steady ss; refusal = None }
+starting order ss = record { rows = deduplicated_rows (merged_lists order (rows_left ss)); initialised = false; failure = None; whole = are_whole ss; steady = are_steady ss; refusal = None }
 
 -- If each list is strictly ordered and no two rows share key and sequence, the ascending merge has all rows
 -- in order.
 abbrev pub MergesSort : Type 0
-MergesSort = (ls : List (List Row)) → AllByRecursion IsStrictlyOrdered ls → AreApart (flat_map (λ rows. rows) ls) → merged Ascending ls ≡ merged_rows ls
+MergesSort = (ls : List (List Row)) → AllByRecursion IsStrictlyOrdered ls → AreApart (flat_map (λ rows. rows) ls) → merged_lists Ascending ls ≡ merged_rows ls
 
 -- The ascending merge of rising lists rises, with or without dedup. So it may be sought.
 abbrev pub MergesRise : Type 0
-MergesRise = (dedup : Bool) (ls : List (List Row)) → AllByRecursion AreRising ls → AreRising (given dedup (merged Ascending ls))
+MergesRise = (dedup : Bool) (ls : List (List Row)) → AllByRecursion AreRising ls → AreRising (given_rows dedup (merged_lists Ascending ls))

@@ -7,7 +7,7 @@ use Rattle.fleet_rows.specs.Row.{row_of, rows_of}
 use Rattle.fleet_rows.specs.declared.row.RowEntry.{RowEntry}
 use Rattle.fleet_rows.specs.declared.errors.SlateDBError.{SlateDBError}
 use Rattle.fleet_rows.specs.declared.errors.SlateDBError.TheVariants.{IteratorNotInitialized, IteratorFailed}
-use Rattle.fleet_iter.specs.Iteration.{IteratorState, CanFail, IsKnown, NextFails, Ends, StaysFailed, StaysUninitialised, behind_first}
+use Rattle.fleet_iter.specs.Iteration.{IteratorState, CanFail, IsKnown, NextFails, Ends, StaysFailed, StaysUninitialised, after_first}
 
 -- The state of an iterator with the row that was read ahead put back in front.
 abbrev pub ahead : Option RowEntry → IteratorState → IteratorState
@@ -31,7 +31,7 @@ pub record SeeksAhead (sought : List ℕ → IteratorState → Type 0) (row : Op
 
 -- The row is the first one left, and nothing changes.
 pub record Shows (row : RowEntry) (old new : IteratorState) : Type 0 where
-  pub first : old.rows ≡ row_of row ∷ behind_first old.rows
+  pub first : old.rows ≡ row_of row ∷ after_first old.rows
   pub same : new ≡ old
 
 abbrev pub PeekAnswers : IteratorState → IteratorState → Result (Option RowEntry) SlateDBError → Type 0
@@ -48,7 +48,7 @@ pub record Peeks (old new : IteratorState) (result : Result (Option RowEntry) Sl
 -- row that is shown is borrowed.
 abbrev pub LookAnswers : IteratorState → Result (Option RowEntry) SlateDBError → Type 0
 LookAnswers s (Ok None) = (s.rows ≡ []) × (s.whole ≡ true)
-LookAnswers s (Ok (Some row)) = s.rows ≡ row_of row ∷ behind_first s.rows
+LookAnswers s (Ok (Some row)) = s.rows ≡ row_of row ∷ after_first s.rows
 LookAnswers s (Err e) = CanFail s.whole e × IsKnown s e
 
 pub record Looks (s : IteratorState) (result : Result (Option RowEntry) SlateDBError) : Type 0 where
@@ -57,11 +57,11 @@ pub record Looks (s : IteratorState) (result : Result (Option RowEntry) SlateDBE
   pub answers : s.failure ≡ None → s.initialised ≡ true → LookAnswers s result
 
 -- An answer with the row that it shows by value.
-abbrev pub shown : Result (Option (Bor RowEntry)) SlateDBError → Result (Option RowEntry) SlateDBError
-shown (Ok row) = Ok (option_copied row)
-shown (Err e) = Err e
+abbrev pub shown_row : Result (Option (Bor RowEntry)) SlateDBError → Result (Option RowEntry) SlateDBError
+shown_row (Ok row) = Ok (option_copied row)
+shown_row (Err e) = Err e
 
 -- The answer of a look ahead: the row that was read ahead, or the error.
-abbrev pub filled : Result (Unit {0}) SlateDBError → Option RowEntry → Result (Option RowEntry) SlateDBError
-filled (Ok done) row = Ok row
-filled (Err e) row = Err e
+abbrev pub filled_row : Result (Unit {0}) SlateDBError → Option RowEntry → Result (Option RowEntry) SlateDBError
+filled_row (Ok done) row = Ok row
+filled_row (Err e) row = Err e

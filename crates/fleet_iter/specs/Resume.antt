@@ -12,28 +12,28 @@ is_written cursor r = bytes_eq r.key cursor.0 && nat_le cursor.1 r.seq
 
 -- The rows from the cursor's key on, without the first ones that are written already. Without a cursor these
 -- are all rows.
-abbrev pub rows_behind : Option Cursor → List Row → List Row
-rows_behind None rows = rows
-rows_behind (Some cursor) rows = without_first (is_written cursor) (from_key cursor.0 rows)
+abbrev pub rows_after : Option Cursor → List Row → List Row
+rows_after None rows = rows
+rows_after (Some cursor) rows = without_first (is_written cursor) (from_key cursor.0 rows)
 
 -- What an iterator has left after a cursor. If the flag is false, the iterator is not exact, and it is only
 -- known that the rows left rise.
 abbrev pub Resumes : Bool → Option Cursor → IteratorState → IteratorState → Type 0
-Resumes true cursor old new = new ≡ record old { rows = rows_behind cursor old.rows }
+Resumes true cursor old new = new ≡ record old { rows = rows_after cursor old.rows }
 Resumes false None old new = new ≡ old
 Resumes false (Some cursor) old new = Passes old new
 
 -- What a seek to the cursor's key leaves, without the first rows that are written already.
-pub record SoughtBehind (sought : List ℕ → IteratorState → Type 0) (cursor : Cursor) (new : IteratorState) : Type 0 where
+pub record SoughtAfter (sought : List ℕ → IteratorState → Type 0) (cursor : Cursor) (new : IteratorState) : Type 0 where
   pub left : IteratorState
-  pub told : sought cursor.0 left
+  pub stated : sought cursor.0 left
   pub rows : new ≡ record left { rows = without_first (is_written cursor) left.rows }
 
 abbrev pub ResumesBy : (List ℕ → IteratorState → Type 0) → Option Cursor → IteratorState → IteratorState → Type 0
 ResumesBy sought None old new = new ≡ old
-ResumesBy sought (Some cursor) old new = SoughtBehind sought cursor new
+ResumesBy sought (Some cursor) old new = SoughtAfter sought cursor new
 
 -- Of strictly ordered rows, those after a cursor are exactly the rows from its key on that are not written
 -- yet.
-abbrev pub ResumesBehind : Type 0
-ResumesBehind = (cursor : Cursor) (rows : List Row) → IsStrictlyOrdered rows → rows_behind (Some cursor) rows ≡ filter (is_unwritten cursor) (filter (is_from cursor.0) rows)
+abbrev pub ResumesAfter : Type 0
+ResumesAfter = (cursor : Cursor) (rows : List Row) → IsStrictlyOrdered rows → rows_after (Some cursor) rows ≡ filter (is_unwritten cursor) (filter (is_from cursor.0) rows)

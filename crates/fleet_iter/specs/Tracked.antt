@@ -1,16 +1,16 @@
 -- The bytes of rows, and counts of them.
 use Rattle.std.specs.Prelude.{ℕ, ◌+◌, Bool, List, [], ◌∷◌, length, if◌then◌else◌}
 use Rattle.row_model.specs.Rows.{Row}
-use Rattle.row_model.specs.Sizes.{content_len, saturated}
+use Rattle.row_model.specs.Sizes.{content_len, saturated_sum}
 use Rattle.fleet_iter.specs.Merge.{hides}
 
 abbrev pub row_bytes : Row → ℕ
-row_bytes r = saturated (length r.key + content_len r.content)
+row_bytes r = saturated_sum (length r.key + content_len r.content)
 
 -- A count of bytes after further rows. It stops at 2^64 - 1.
-abbrev pub counted : ℕ → List Row → ℕ
-counted n [] = n
-counted n (r ∷ rows) = counted (saturated (n + row_bytes r)) rows
+abbrev pub counted_bytes : ℕ → List Row → ℕ
+counted_bytes n [] = n
+counted_bytes n (r ∷ rows) = counted_bytes (saturated_sum (n + row_bytes r)) rows
 
 abbrev pub first_bytes : List Row → ℕ
 first_bytes [] = 0

@@ -6,7 +6,7 @@ ghost use Rattle.std.specs.List.{range_with_len};
 ghost use Rattle.fleet_rows.specs.Row.{row_of};
 ghost use Rattle.fleet_rows.specs.declared.errors.SlateDBError.TheVariants as SlateDBError;
 ghost use Rattle.fleet_iter.specs.Merge.{best, found_row, hides, passes};
-ghost use Rattle.fleet_iter.specs.Heads.{HeadRows, refilled};
+ghost use Rattle.fleet_iter.specs.Heads.{HeadRows, refilled_heads};
 
 use crate::merge::hides;
 use crate::{IterationOrder, MergeIteratorHeapEntry};
@@ -100,7 +100,7 @@ impl Heads {
     pub(crate) fn replace_least(&mut self, head: Option<RowEntry>) -> Option<RowEntry>
         ensures taken { result ≡ option_map (λ p. p.1) (best self.old.order self.old.rows) }
         ensures heads { self.new ≡ record self.old
-            { rows = refilled (best self.old.order self.old.rows) head self.old.rows } }
+            { rows = refilled_heads (best self.old.order self.old.rows) head self.old.rows } }
     {
         match head {
             Some(row) => self.exchange_least(row),
@@ -112,7 +112,7 @@ impl Heads {
     fn exchange_least(&mut self, row: RowEntry) -> Option<RowEntry>
         ensures taken { result ≡ option_map (λ p. p.1) (best self.old.order self.old.rows) }
         ensures heads { self.new ≡ record self.old
-            { rows = refilled (best self.old.order self.old.rows) (Some row) self.old.rows } }
+            { rows = refilled_heads (best self.old.order self.old.rows) (Some row) self.old.rows } }
     {
         let Some(mut least) = self.entries.peek_mut() else {
             return None;
@@ -124,7 +124,7 @@ impl Heads {
     fn remove_least(&mut self) -> Option<RowEntry>
         ensures taken { result ≡ option_map (λ p. p.1) (best self.old.order self.old.rows) }
         ensures heads { self.new ≡ record self.old
-            { rows = refilled (best self.old.order self.old.rows) None self.old.rows } }
+            { rows = refilled_heads (best self.old.order self.old.rows) None self.old.rows } }
     {
         let Some(Reverse(entry)) = self.entries.pop() else {
             return None;

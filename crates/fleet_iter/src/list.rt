@@ -4,7 +4,7 @@ ghost use Rattle.std.specs.Prelude.{◌≡◌, ⊤, false, [], reverse};
 ghost use Rattle.fleet_rows.specs.Row.{rows_of};
 ghost use Rattle.fleet_iter.specs.Iteration.{Inits, Nexts, Seeks};
 ghost use Rattle.fleet_iter.specs.List.{left, giving};
-ghost use Rattle.fleet_iter.specs.Tracked.{counted, taken_at_once};
+ghost use Rattle.fleet_iter.specs.Tracked.{counted_bytes, taken_at_once};
 
 use crate::tracked::row_bytes;
 use crate::{RowEntryIterator, TrackedRowEntryIterator};
@@ -89,7 +89,7 @@ impl RowEntryIterator for ListIterator {
     fn next(&mut self, _alloc: Global) -> Result<Option<RowEntry>, SlateDBError>
         ensures next { Nexts (giving self.old) (giving self.new) result }
         ensures processed { self.new.processed
-            ≡ counted self.old.processed (taken_at_once false self.old.rows) }
+            ≡ counted_bytes self.old.processed (taken_at_once false self.old.rows) }
     {
         let Some(row) = self.rows.pop() else {
             return Ok(None);

@@ -6,8 +6,8 @@ ghost use Rattle.row_laws.specs.Keys.{is_below};
 ghost use Rattle.fleet_rows.specs.Row.{row_of};
 ghost use Rattle.fleet_iter.specs.Iteration.{IteratorState, Inits, Nexts, Seeks, CanFail, AreRising, from_key, is_exact};
 ghost use Rattle.fleet_iter.specs.declared.iterator.IterationOrder.TheVariants as in_order;
-ghost use Rattle.fleet_iter.specs.Merge.{keys_in, cmp_in, hides, head_passes, AllTaken, Takes, Drops, Steps, Skips, SkipsTo, StepsFrom, is_told, Begins, LeavesFrom, NoneFailed, IsHandedOn, starting, merged, merged_left, rows_left, given, are_whole, are_exact, MergesSort, MergesRise};
-ghost use Rattle.fleet_iter.specs.Tracked.{row_bytes, first_bytes, kept_back, counted, taken_at_once};
+ghost use Rattle.fleet_iter.specs.Merge.{keys_in, cmp_in, hides, head_passes, AllTaken, Takes, Drops, Steps, Skips, SkipsTo, StepsFrom, is_known, Begins, LeavesFrom, NoneFailed, IsHandedOn, starting, merged_lists, merged_left, rows_left, given_rows, are_whole, are_exact, MergesSort, MergesRise};
+ghost use Rattle.fleet_iter.specs.Tracked.{row_bytes, first_bytes, kept_back, counted_bytes, taken_at_once};
 ghost use Rattle.fleet_iter.specs.MergeState.{state_of, merge_of, IsSound};
 
 use crate::heads::Heads;
@@ -190,7 +190,7 @@ fn first_from<T: RowSource>(
     requires alive { (T.state source.old).failure ≡ None }
     requires initialised { (T.state source.old).initialised ≡ true }
     requires rising { AreRising (T.state source.old).rows }
-    ensures ok { IfOk result (StepsFrom (is_told order (is_exact (T.state source.old))) key.now
+    ensures ok { IfOk result (StepsFrom (is_known order (is_exact (T.state source.old))) key.now
         (T.state source.old) (T.state source.new)) }
     ensures err { IfErr result (CanFail (is_exact (T.state source.old))) }
     ensures handed { IfErr result (λ e. (T.state source.new).failure ≡ Some e) }
@@ -215,7 +215,7 @@ fn skip_below<T: RowSource>(
         (merged_left order heads.old.items (map T.state sources.old.items)) }
     requires sound { AllByRecursion T.sound sources.old.items }
     ensures ok { OnOk result (SkipsTo
-        (is_told order (are_exact (map T.state sources.old.items))) order key.now heads.old.items
+        (is_known order (are_exact (map T.state sources.old.items))) order key.now heads.old.items
         (map T.state sources.old.items) heads.new.items (map T.state sources.new.items)) }
     ensures leaves { OnOk result
         (LeavesFrom key.now heads.old.items sources.old.items heads.new.items sources.new.items) }
@@ -246,7 +246,7 @@ fn seek_heads<T: RowSource>(
         (merged_left heads.old.order heads.old.rows (map T.state sources.old.items)) }
     requires sound { AllByRecursion T.sound sources.old.items }
     ensures ok { OnOk result (SkipsTo
-        (is_told heads.old.order (are_exact (map T.state sources.old.items))) heads.old.order
+        (is_known heads.old.order (are_exact (map T.state sources.old.items))) heads.old.order
         key.now heads.old.rows (map T.state sources.old.items) heads.new.rows
         (map T.state sources.new.items)) }
     ensures leaves { OnOk result
@@ -275,7 +275,7 @@ fn skip_hidden<T: RowSource>(
     requires sound { AllByRecursion T.sound sources.old.items }
     ensures ok { IfOk result (λ _. Skips heads.old.order (hides (row_of row.now)) heads.old.rows
         (map T.state sources.old.items) heads.new.rows (map T.state sources.new.items)) }
-    ensures bytes { IfOk result (λ count. count ≡ counted processed (kept_back
+    ensures bytes { IfOk result (λ count. count ≡ counted_bytes processed (kept_back
         (row_of row.now) (merged_left heads.old.order heads.old.rows (map T.state sources.old.items)))) }
     ensures err { IfErr result (CanFail (are_whole (map T.state sources.old.items))) }
     ensures handed { IfErr result (IsHandedOn (map T.state sources.new.items)) }
@@ -307,7 +307,7 @@ fn take_given<T: RowSource>(
         (λ _. merged_left heads.old.order heads.old.rows (map T.state sources.old.items)
         ≡ taken_at_once dedup (merged_left heads.old.order heads.old.rows (map T.state sources.old.items))
         ++ merged_left heads.old.order heads.new.rows (map T.state sources.new.items)) }
-    ensures bytes { IfOk result (λ _. processed.new ≡ counted processed.old
+    ensures bytes { IfOk result (λ _. processed.new ≡ counted_bytes processed.old
         (taken_at_once dedup (merged_left heads.old.order heads.old.rows (map T.state sources.old.items)))) }
     ensures unchanged { IfErr result (λ _. processed.new ≡ processed.old) }
     ensures err { IfErr result (CanFail (are_whole (map T.state sources.old.items))) }
@@ -349,7 +349,7 @@ impl<T: RowEntryIterator> MergeIterator<T> {
         ensures rows { state_of T.state result
             ≡ starting in_order.Ascending (map T.state iterators.items) }
         ensures all { merge_of T.state result
-            ≡ merged in_order.Ascending (rows_left (map T.state iterators.items)) }
+            ≡ merged_lists in_order.Ascending (rows_left (map T.state iterators.items)) }
         ensures dedup { result.dedup ≡ true }
         ensures processed { result.processed ≡ 0 }
         ensures sound { IsSound T.sound T.state result }
@@ -364,7 +364,7 @@ impl<T: RowEntryIterator> MergeIterator<T> {
         requires alive { NoneFailed (map T.state iterators.items) }
         ensures rows { state_of T.state result ≡ starting order (map T.state iterators.items) }
         ensures all { merge_of T.state result
-            ≡ merged order (rows_left (map T.state iterators.items)) }
+            ≡ merged_lists order (rows_left (map T.state iterators.items)) }
         ensures dedup { result.dedup ≡ true }
         ensures processed { result.processed ≡ 0 }
         ensures sound { IsSound T.sound T.state result }
@@ -384,7 +384,7 @@ impl<T: RowEntryIterator> MergeIterator<T> {
     pub fn with_dedup(self, dedup: bool) -> Self
         requires { IsSound T.sound T.state self }
         ensures rows { state_of T.state result
-            ≡ record (state_of T.state self) { rows = given dedup (merge_of T.state self) } }
+            ≡ record (state_of T.state self) { rows = given_rows dedup (merge_of T.state self) } }
         ensures all { merge_of T.state result ≡ merge_of T.state self }
         ensures dedup { result.dedup ≡ dedup }
         ensures processed { result.processed ≡ self.processed }
@@ -432,7 +432,7 @@ impl<T: RowEntryIterator> RowEntryIterator for MergeIterator<T> {
             (merge_of T.state self.old) ++ merge_of T.state self.new) }
         ensures sound { IsSound T.sound T.state self.new }
         ensures dedup { self.new.dedup ≡ self.old.dedup }
-        ensures processed { IfOk result (λ _. self.new.processed ≡ counted self.old.processed
+        ensures processed { IfOk result (λ _. self.new.processed ≡ counted_bytes self.old.processed
             (taken_at_once self.old.dedup (merge_of T.state self.old))) }
         ensures unprocessed { IfErr result (λ _. self.new.processed ≡ self.old.processed) }
         ensures handed { self.old.failure ≡ None → self.old.initialised

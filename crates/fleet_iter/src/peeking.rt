@@ -2,7 +2,7 @@
 
 ghost use Rattle.std.specs.Prelude.{◌≡◌, None};
 ghost use Rattle.std.specs.Option.{option_copied};
-ghost use Rattle.fleet_iter.specs.Peek.{Peeks, Looks, shown, filled};
+ghost use Rattle.fleet_iter.specs.Peek.{Peeks, Looks, shown_row, filled_row};
 ghost use Rattle.fleet_iter.specs.PeekState.{state_of, IsSound, Sought};
 
 use crate::{RowEntryIterator, TrackedRowEntryIterator};
@@ -36,7 +36,7 @@ impl<T: RowEntryIterator> PeekingIterator<T> {
     /// the iterator has left. A caller that needs this uses `look_ahead` and `peeked`.
     pub fn peek(&mut self, alloc: Global) -> Result<Option<&RowEntry>, SlateDBError>
         requires { IsSound T.sound T.state self.old }
-        ensures { Looks (state_of T.state self.old) (shown result) }
+        ensures { Looks (state_of T.state self.old) (shown_row result) }
     {
         self.look_ahead(alloc)?;
         Ok(self.peeked())
@@ -47,7 +47,7 @@ impl<T: RowEntryIterator> PeekingIterator<T> {
     pub fn look_ahead(&mut self, alloc: Global) -> Result<(), SlateDBError>
         requires { IsSound T.sound T.state self.old }
         ensures peeks { Peeks (state_of T.state self.old)
-            (state_of T.state self.new) (filled result self.new.peeked) }
+            (state_of T.state self.new) (filled_row result self.new.peeked) }
         ensures sound { IsSound T.sound T.state self.new }
     {
         if self.peeked.is_none() {

@@ -5,7 +5,7 @@ ghost use Rattle.std.specs.Option.{option_copied};
 ghost use Rattle.fleet_rows.specs.Row.{row_of};
 ghost use Rattle.fleet_iter.specs.Iteration.{Inits, Nexts, Seeks, CanFail, AreRising, without_first, is_exact};
 ghost use Rattle.fleet_iter.specs.Peek.{ahead, HasBegun};
-ghost use Rattle.fleet_iter.specs.Resume.{is_written, Resumes, ResumesBy, ResumesBehind};
+ghost use Rattle.fleet_iter.specs.Resume.{is_written, Resumes, ResumesBy, ResumesAfter};
 ghost use Rattle.fleet_iter.specs.ResumeState.{state_of, IsSound, Sought};
 
 use crate::{PeekingIterator, RowEntryIterator, RowSource, TrackedRowEntryIterator};
@@ -47,7 +47,7 @@ fn first_unwritten<T: RowSource>(
 
 // Takes rows up to the first one after the cursor, and gives that row. Without a cursor it takes
 // none.
-fn first_behind<T: RowSource>(
+fn first_after<T: RowSource>(
     alloc: Global,
     source: &mut T,
     cursor: &Option<(Bytes, u64)>,
@@ -103,7 +103,7 @@ impl<T: RowEntryIterator> ResumingIterator<T> {
         ensures err { IfErr result (CanFail (is_exact (T.state iterator))) }
     {
         let mut source = iterator;
-        let peeked = first_behind(alloc, &mut source, &resume_cursor)?;
+        let peeked = first_after(alloc, &mut source, &resume_cursor)?;
         let inner = PeekingIterator {
             inner: source,
             peeked,
@@ -172,6 +172,6 @@ impl<T: TrackedRowEntryIterator> TrackedRowEntryIterator for ResumingIterator<T>
 
 /// Of strictly ordered rows, those after a cursor are exactly the rows from its key on that are not
 /// written yet.
-pub fn resumes_behind()
-    ensures { ResumesBehind }
+pub fn resumes_after()
+    ensures { ResumesAfter }
 {}

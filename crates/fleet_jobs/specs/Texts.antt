@@ -22,13 +22,13 @@ abbrev pub segment_text : List ℕ → List ℕ
 segment_text segment = codes "[seg=b\"" ++ flat_map byte_text segment ++ codes "\"] "
 
 -- A source in quotes.
-abbrev pub quoted : SourceId → List ℕ
-quoted source = codes "\"" ++ source_text source ++ codes "\""
+abbrev pub quoted_source : SourceId → List ℕ
+quoted_source source = codes "\"" ++ source_text source ++ codes "\""
 
 -- The sources in quotes, with commas between them, in brackets.
 abbrev pub sources_text : List SourceId → List ℕ
 sources_text [] = codes "[]"
-sources_text (source ∷ sources) = codes "[" ++ quoted source ++ flat_map (λ other. codes ", " ++ quoted other) sources ++ codes "]"
+sources_text (source ∷ sources) = codes "[" ++ quoted_source source ++ flat_map (λ other. codes ", " ++ quoted_source other) sources ++ codes "]"
 
 -- The prefix of a segment, or nothing for the root.
 abbrev pub segment_or_root : List ℕ → List ℕ

@@ -102,7 +102,7 @@ impl Compaction {
         self.spec.get()
     }
 
-    /// The number of bytes of rows that the job has read so far, as its worker told.
+    /// The number of bytes of rows that the job has read so far, as its worker reported.
     pub fn bytes_processed(&self) -> u64
         ensures { result ≡ self.now.bytes_processed }
     {

@@ -7,7 +7,7 @@ ghost use Rattle.fleet_model.specs.Jobs.{is_drain};
 ghost use Rattle.fleet_jobs.specs.declared.spec.CompactionSpec.TheVariants as spec;
 ghost use Rattle.fleet_jobs.specs.Sources.{is_run, is_view};
 ghost use Rattle.fleet_jobs.specs.Specs.{destination_of, segment_of, sources_of, spec_of};
-ghost use Rattle.fleet_jobs.specs.Texts.{byte_text, is_plain, quoted, segment_or_root, segment_text, sources_text, spec_text};
+ghost use Rattle.fleet_jobs.specs.Texts.{byte_text, is_plain, quoted_source, segment_or_root, segment_text, sources_text, spec_text};
 
 use crate::{SourceId, SourceList};
 use bytes::Bytes;
@@ -299,7 +299,7 @@ fn write_sources<W: fmt::Write>(f: &mut fmt::Formatter<W>, sources: &[SourceId])
 // Writes each source in quotes, with a comma before it.
 fn write_others<W: fmt::Write>(f: &mut fmt::Formatter<W>, sources: &[SourceId]) -> fmt::Result
     ensures { DisplaysOnOk W.write_str_gives f.old result
-        (Some (flat_map (λ other. codes ", " ++ quoted other) sources.now)) f.new }
+        (Some (flat_map (λ other. codes ", " ++ quoted_source other) sources.now)) f.new }
 {
     'sources: for source in sources {
         write!(f, ", \"{source}\"")?;

@@ -16,16 +16,16 @@ abbrev pub version : ℕ → ℕ → Row
 version byte seq = record { key = 0x61 ∷ []; content = Value (byte ∷ []); seq = seq; created = None; expires = None }
 
 -- The id that the worker drew, for the table that it put.
-abbrev pub drawn : ℕ
-drawn = drawn_base + 1
+abbrev pub drawn_id : ℕ
+drawn_id = drawn_base + 1
 
 -- The tables that were put: the flush's table and the worker's table.
 abbrev pub tables : Tables
-tables = (1, version 0x35 5 ∷ version 0x34 4 ∷ version 0x33 3 ∷ []) ∷ (drawn, version 0x35 5 ∷ version 0x34 4 ∷ []) ∷ []
+tables = (1, version 0x35 5 ∷ version 0x34 4 ∷ version 0x33 3 ∷ []) ∷ (drawn_id, version 0x35 5 ∷ version 0x34 4 ∷ []) ∷ []
 
 -- The context that the worker published.
 abbrev pub context : Context
-context = record { settings = record { floor = 4; tick = pos 0; last_run = true; cut = 2 }; has_cut = true; ranges = (all_keys, drawn ∷ []) ∷ [] }
+context = record { settings = record { floor = 4; tick = pos 0; last_run = true; cut = 2 }; has_cut = true; ranges = (all_keys, drawn_id ∷ []) ∷ [] }
 
 -- The spec of the job, which makes the run 0 of the flush.
 abbrev pub spec : JobSpec
@@ -50,8 +50,8 @@ abbrev pub entry : ℕ → Party → Event → Answer → Entry
 entry line party event answer = record { line = line; party = party; event = event; answer = answer }
 
 -- The change of the poll that opened the job.
-abbrev pub opened : PollChange
-opened = record { freed = []; completed = []; failed = []; added = []; scheduled = 1 ∷ [] }
+abbrev pub opened_change : PollChange
+opened_change = record { freed = []; completed = []; failed = []; added = []; scheduled = 1 ∷ [] }
 
 -- The history: all puts of the manifest and of the records, the get after the claim, and the plan of one
 -- range.
@@ -61,7 +61,7 @@ history =
     ∷ entry 2 (Coordinator 1) (PutManifest (ManifestEpoch 1)) (Done 3)
     ∷ entry 2 (Coordinator 1) (PutRecords (RecordsEpoch 1)) (Done 1)
     ∷ entry 4 Submitter (PutRecords (Submit ((1, spec) ∷ []))) (Done 2)
-    ∷ entry 5 (Coordinator 1) (PutRecords (Polled opened)) (Done 3)
+    ∷ entry 5 (Coordinator 1) (PutRecords (Polled opened_change)) (Done 3)
     ∷ entry 6 (Worker 1) (PutRecords (Claim 1 ((1, 1) ∷ []))) (Done 4)
     ∷ entry 6 (Worker 1) GetManifest (Done 3)
     ∷ entry 6 (Worker 1) (Plan 1 1 (all_keys ∷ [])) (Done 0)

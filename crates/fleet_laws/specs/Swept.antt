@@ -7,7 +7,7 @@ use Rattle.fleet_model.specs.Jobs.{drawn_base, Job, Compacted}
 use Rattle.fleet_model.specs.History.{Entry, Worker, Coordinator, Sweeper, GetManifest, GetRecords, PutManifest, PutRecords, Commit, Join, Finish, Polled, PollChange, ListTables, DeleteTable, Done, Lost}
 use Rattle.fleet_model.specs.Store.{Store}
 use Rattle.fleet_model.specs.Sweeps.{swept_tables}
-use Rattle.fleet_laws.specs.Midway.{version, drawn, tables, spec, entry, history, midway_store}
+use Rattle.fleet_laws.specs.Midway.{version, drawn_id, tables, spec, entry, history, midway_store}
 
 -- The id of the table into which the finish put the third version.
 abbrev pub last_drawn : ℕ
@@ -18,8 +18,8 @@ abbrev pub all_tables : Tables
 all_tables = tables ++ (last_drawn, version 0x33 3 ∷ []) ∷ []
 
 -- The record of the finished job, which keeps the cut of the attempt that finished it.
-abbrev pub finished : Job
-finished = record {
+abbrev pub finished_job : Job
+finished_job = record {
   id = 1;
   spec = spec;
   status = Compacted;
@@ -27,22 +27,22 @@ finished = record {
   attempt = 1;
   source_tables = 1 ∷ [];
   context = None;
-  outputs = (drawn ∷ last_drawn ∷ []) ∷ [];
+  outputs = (drawn_id ∷ last_drawn ∷ []) ∷ [];
   kept_cut = Some 2;
 }
 
 -- The change of the poll that would have completed the job.
-abbrev pub completed : PollChange
-completed = record { freed = []; completed = 1 ∷ []; failed = []; added = []; scheduled = [] }
+abbrev pub completed_change : PollChange
+completed_change = record { freed = []; completed = 1 ∷ []; failed = []; added = []; scheduled = [] }
 
 -- The history, which goes on with the puts of the manifest and of the records that the finish and the poll
 -- made.
 abbrev pub later_history : List Entry
 later_history =
     history
-    ++ entry 9 (Worker 1) (PutRecords (Finish 1 1 1 ((drawn ∷ last_drawn ∷ []) ∷ []))) (Done 6)
+    ++ entry 9 (Worker 1) (PutRecords (Finish 1 1 1 ((drawn_id ∷ last_drawn ∷ []) ∷ []))) (Done 6)
     ∷ entry 10 (Coordinator 1) (PutManifest (Commit (Join 1 ∷ []))) (Done 4)
-    ∷ entry 10 (Coordinator 1) (PutRecords (Polled completed)) Lost
+    ∷ entry 10 (Coordinator 1) (PutRecords (Polled completed_change)) Lost
     ∷ []
 
 -- The store after the join: the run has replaced the flush, and the horizon has risen to the kept cut.
@@ -51,13 +51,13 @@ joined_store = record {
   manifest = record {
     version = 4;
     epoch = 1;
-    trees = record { prefix = []; tree = record { name = Run 0; flushes = 1 ∷ []; pieces = drawn ∷ last_drawn ∷ [] } ∷ []; last_seq = Some 5; watermark = Some 1 } ∷ [];
+    trees = record { prefix = []; tree = record { name = Run 0; flushes = 1 ∷ []; pieces = drawn_id ∷ last_drawn ∷ [] } ∷ []; last_seq = Some 5; watermark = Some 1 } ∷ [];
     floor = 4;
     tick = pos 0;
     tracker = record { least_seq = 3; moment = 0 } ∷ [];
     horizon = 2;
   };
-  records = Some (record { version = 6; epoch = 1; jobs = finished ∷ [] });
+  records = Some (record { version = 6; epoch = 1; jobs = finished_job ∷ [] });
   tables = all_tables;
   deleted = [];
   jobs_drawn = 1;

@@ -10,7 +10,7 @@ use Rattle.fleet_model.specs.Jobs.{JobSpec, Release, One, Two, knows_cut, Contex
 use Rattle.row_model.specs.Ranges.{Range, rows_in}
 use Rattle.fleet_model.specs.Sources.{run_ids}
 use Rattle.fleet_model.specs.Store.{Manifest, cut_at}
-use Rattle.row_model.specs.Plan.{planned}
+use Rattle.row_model.specs.Plan.{planned_ranges}
 
 -- True if this run id is the last of the list, or the list is empty.
 abbrev pub is_last : ℕ → List ℕ → Bool
@@ -52,7 +52,7 @@ abbrev pub fresh_context : ClaimInput → Job → Context
 fresh_context input job = record {
   settings = claim_settings input.manifest (claim_cut input.release input.manifest input.moment input.retention) job.spec;
   has_cut = knows_cut input.release;
-  ranges = map (λ range. (range, [])) (planned input.most (map (table_rows input.tables) job.source_tables));
+  ranges = map (λ range. (range, [])) (planned_ranges input.most (map (table_rows input.tables) job.source_tables));
 }
 
 -- The published context, or the fresh one if none is published. The published context keeps its settings

@@ -15,12 +15,12 @@ number_in None = None
 number_in (Some attempt) = Some attempt.1
 
 -- The number of the attempt at this job in the list, if the list names the job.
-abbrev pub attempt_of : ℕ → List (ℕ × ℕ) → Option ℕ
-attempt_of job attempts = number_in (find (λ attempt. attempt.0 == job) attempts)
+abbrev pub attempt_number_at : ℕ → List (ℕ × ℕ) → Option ℕ
+attempt_number_at job attempts = number_in (find (λ attempt. attempt.0 == job) attempts)
 
 -- The number of the attempt that a heartbeat names for the job. It is None for other jobs and other events.
 abbrev pub beaten_in : ℕ → Event → Option ℕ
-beaten_in job (PutRecords (Beat worker attempts)) = attempt_of job attempts
+beaten_in job (PutRecords (Beat worker attempts)) = attempt_number_at job attempts
 beaten_in job _ = None
 
 -- The first number if there is one, and otherwise the second.
@@ -50,9 +50,9 @@ is_same n None = false
 is_same n (Some m) = n == m
 
 -- The worker that claims this attempt, if the event is such a claim.
-abbrev pub claims_in : ℕ → ℕ → Event → Option ℕ
-claims_in job attempt (PutRecords (Claim worker attempts)) = if is_same attempt (attempt_of job attempts) then Some worker else None
-claims_in job attempt _ = None
+abbrev pub claimant_in : ℕ → ℕ → Event → Option ℕ
+claimant_in job attempt (PutRecords (Claim worker attempts)) = if is_same attempt (attempt_number_at job attempts) then Some worker else None
+claimant_in job attempt _ = None
 
 -- True if the party is the worker with this number.
 abbrev pub is_worker : ℕ → Party → Bool
@@ -61,16 +61,16 @@ is_worker n _ = false
 
 -- The objects that a get of the manifest finds. It is None for any other event, since the claim then ended
 -- before its get, and for a get that a fault struck.
-abbrev pub got : Event → Answer → Objects → Option Objects
-got GetManifest (Done version) o = Some o
-got _ _ o = None
+abbrev pub objects_found : Event → Answer → Objects → Option Objects
+objects_found GetManifest (Done version) o = Some o
+objects_found _ _ o = None
 
 -- The objects that are stored at the worker's next entry, if that entry is the get after its claim.
 -- Otherwise it is None.
 abbrev pub objects_at_get : Tables → (ℕ → JobSpec) → ℕ → List Entry → Objects → Option Objects
 objects_at_get tables specs worker [] o = None
 objects_at_get tables specs worker (entry ∷ history) o =
-    if is_worker worker entry.party then got entry.event entry.answer o else objects_at_get tables specs worker history (after_entry tables specs entry o)
+    if is_worker worker entry.party then objects_found entry.event entry.answer o else objects_at_get tables specs worker history (after_entry tables specs entry o)
 
 -- If a claim is found, the objects at its worker's get, and otherwise what a search of the later entries
 -- finds.
@@ -83,7 +83,7 @@ abbrev pub objects_at_claim : Tables → (ℕ → JobSpec) → ℕ → ℕ → L
 objects_at_claim tables specs job attempt [] o = None
 objects_at_claim tables specs job attempt (entry ∷ history) o =
     let after = after_entry tables specs entry o in
-    from_claim (if stood entry.answer then claims_in job attempt entry.event else None)
+    from_claim (if stood entry.answer then claimant_in job attempt entry.event else None)
     (λ worker. objects_at_get tables specs worker history after)
     (objects_at_claim tables specs job attempt history after)
 

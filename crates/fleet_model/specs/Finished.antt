@@ -6,10 +6,10 @@ use Rattle.fleet_model.specs.History.{Event, PutRecords, Finish, Polled, Entry, 
 use Rattle.fleet_model.specs.Store.{Store, stored_jobs}
 
 -- An event may finish the job, which gives true, or end it, which gives false. Any other event gives None.
-abbrev pub finishes : ℕ → Event → Option Bool
-finishes job (PutRecords (Finish worker other attempt outputs)) = if job == other then Some true else None
-finishes job (PutRecords (Polled change)) = if contains (change.completed ++ change.failed) job then Some false else None
-finishes job _ = None
+abbrev pub finishes_job : ℕ → Event → Option Bool
+finishes_job job (PutRecords (Finish worker other attempt outputs)) = if job == other then Some true else None
+finishes_job job (PutRecords (Polled change)) = if contains (change.completed ++ change.failed) job then Some false else None
+finishes_job job _ = None
 
 -- The answer of the later of two events if it has one, and otherwise the earlier answer.
 abbrev pub later_or : Bool → Option Bool → Bool
@@ -20,7 +20,7 @@ later_or earlier (Some finished) = finished
 -- answer stays.
 abbrev pub finished_after : Bool → List Entry → ℕ → Bool
 finished_after finished [] job = finished
-finished_after finished (entry ∷ history) job = finished_after (if stood entry.answer then later_or finished (finishes job entry.event) else finished) history job
+finished_after finished (entry ∷ history) job = finished_after (if stood entry.answer then later_or finished (finishes_job job entry.event) else finished) history job
 
 -- True if the last put that took effect and that finishes or ends the job finishes it.
 abbrev pub is_finished_by : List Entry → ℕ → Bool

@@ -36,8 +36,8 @@ describe id rows = record {
 }
 
 -- The handles of the tables with these ids.
-abbrev pub described : Tables → List ℕ → List Handle
-described tables ids = map (λ id. describe id (table_rows tables id)) ids
+abbrev pub handles_of : Tables → List ℕ → List Handle
+handles_of tables ids = map (λ id. describe id (table_rows tables id)) ids
 
 -- The tables that are noted for the ranges of a context, if there is a context.
 abbrev pub context_tables : Option Context → List ℕ

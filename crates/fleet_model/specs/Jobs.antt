@@ -146,8 +146,8 @@ in_id_order [] = []
 in_id_order (id ∷ others) = put_id id (in_id_order others)
 
 -- Changes the jobs with these ids, and leaves all others as they are.
-abbrev pub changed : (Job → Job) → List ℕ → Jobs → Jobs
-changed change these jobs = map (λ job. if contains these job.id then change job else job) jobs
+abbrev pub changed_jobs : (Job → Job) → List ℕ → Jobs → Jobs
+changed_jobs change these jobs = map (λ job. if contains these job.id then change job else job) jobs
 
 -- Inserts a job in front of the first job with a greater id.
 abbrev pub put_job : Job → Jobs → Jobs
@@ -171,6 +171,6 @@ finished_later (job ∷ jobs) = is_finished job.status || finished_later jobs
 
 -- The jobs that a put of the records keeps: all active jobs and, of the finished jobs, the one with the
 -- greatest id.
-abbrev pub trimmed : Jobs → Jobs
-trimmed [] = []
-trimmed (job ∷ jobs) = if is_active job then job ∷ trimmed jobs else (if finished_later jobs then trimmed jobs else job ∷ trimmed jobs)
+abbrev pub trimmed_jobs : Jobs → Jobs
+trimmed_jobs [] = []
+trimmed_jobs (job ∷ jobs) = if is_active job then job ∷ trimmed_jobs jobs else (if finished_later jobs then trimmed_jobs jobs else job ∷ trimmed_jobs jobs)

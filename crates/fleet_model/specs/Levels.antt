@@ -2,7 +2,7 @@
 -- oldest.
 use Rattle.std.specs.Prelude.{ℕ, ◌+◌, ◌*◌, ◌-◌, ◌^◌, Bool, true, not, ◌&&◌, ◌||◌, ◌==◌, nat_le, nat_lt, min, max, if◌then◌else◌, List, [], ◌∷◌, ◌++◌, filter, flat_map, find, take, length, sum_by, count_by, Option, Some, None}
 use Rattle.std.specs.List.{list_any}
-use Rattle.row_model.specs.Sizes.{saturated}
+use Rattle.row_model.specs.Sizes.{saturated_sum}
 use Rattle.fleet_model.specs.Nodes.{NodeName, L0, Run, is_l0, names_contain, Node, Tree, names, Segment, Trees}
 use Rattle.fleet_model.specs.Jobs.{JobSpec, nodes_of, Job, Submitted, Scheduled, Running, has_status}
 use Rattle.fleet_model.specs.Sources.{all_run_ids}
@@ -23,7 +23,7 @@ are_allowed o = nat_lt 0 o.l0_trigger && nat_lt 0 o.base && nat_lt 1 o.ratio
 
 -- The greatest size in bytes that a run at this place may have. The newest run is at place 0.
 abbrev pub limit : LevelOptions → ℕ → ℕ
-limit o place = saturated (o.base * o.ratio ^ place)
+limit o place = saturated_sum (o.base * o.ratio ^ place)
 
 -- The size in bytes that a handle gives, or 0 if there is no handle.
 abbrev pub size_or_none : Option Handle → ℕ
@@ -36,7 +36,7 @@ size_of_table handles table = size_or_none (find (λ h. h.id == table) handles)
 
 -- The size of a node in bytes: the sum of the sizes of its tables.
 abbrev pub node_size : List Handle → Node → ℕ
-node_size handles node = saturated (sum_by (size_of_table handles) node.pieces)
+node_size handles node = saturated_sum (sum_by (size_of_table handles) node.pieces)
 
 -- The flushes of a tree, newest first.
 abbrev pub flushes_of : Tree → List Node

@@ -4,7 +4,7 @@ use Rattle.fleet_model.specs.Nodes.{Tables, Trees}
 use Rattle.fleet_model.specs.Jobs.{JobSpec, Jobs}
 use Rattle.fleet_model.specs.History.{Step}
 use Rattle.fleet_model.specs.Store.{Manifest, Records}
-use Rattle.fleet_model.specs.Scheduler.{View, Scheduler, shown}
+use Rattle.fleet_model.specs.Scheduler.{View, Scheduler, shown_view}
 
 -- The options of a poll.
 pub record PollOptions : Type 0 where
@@ -38,13 +38,13 @@ pub record PollState : Type 0 where
   pub refused : List (ℕ × ℕ)  -- jobs that the gate of submitted jobs refused, with the rule
 
 -- The state of a poll before its first step, with the trees, the horizon and the jobs that it got.
-abbrev pub begun : Trees → ℕ → Jobs → PollState
-begun trees horizon jobs = record { trees = trees; horizon = horizon; jobs = jobs; steps = []; freed = []; done = []; lost = []; added = []; dropped = []; opened = []; moved = []; drained = []; refused = [] }
+abbrev pub poll_begun : Trees → ℕ → Jobs → PollState
+poll_begun trees horizon jobs = record { trees = trees; horizon = horizon; jobs = jobs; steps = []; freed = []; done = []; lost = []; added = []; dropped = []; opened = []; moved = []; drained = []; refused = [] }
 
 -- The view that the scheduler is shown: it has the trees, the horizon and the jobs that the poll has
 -- reached so far.
 abbrev pub view_of : PollInput → PollState → View
-view_of input p = shown input.tables (record input.manifest { trees = p.trees; horizon = p.horizon }) input.records p.jobs
+view_of input p = shown_view input.tables (record input.manifest { trees = p.trees; horizon = p.horizon }) input.records p.jobs
 
 -- True if the scheduler accepts the spec on the poll's present view.
 abbrev pub accepts : PollInput → PollState → JobSpec → Bool

@@ -2,16 +2,16 @@
 use Rattle.std.specs.Prelude.{ℕ, ◌+◌, ◌-◌, Bool, true, false, not, ◌&&◌, ◌||◌, ◌==◌, if◌then◌else◌, List, [], ◌∷◌, ◌++◌, filter, take, count_by, Option, Some, None, bytes_eq}
 use Rattle.std.specs.List.{list_any, concat}
 use Rattle.fleet_model.specs.Nodes.{Trees, tree_at}
-use Rattle.fleet_model.specs.Jobs.{JobSpec, is_drain, Job, Jobs, Submitted, Running, Compacted, has_status, is_active, changed, put_job, ids, in_id_order, is_stale}
+use Rattle.fleet_model.specs.Jobs.{JobSpec, is_drain, Job, Jobs, Submitted, Running, Compacted, has_status, is_active, changed_jobs, put_job, ids, in_id_order, is_stale}
 use Rattle.fleet_model.specs.History.{Step, Join, Move, Drain, PollChange}
 use Rattle.fleet_model.specs.Trees.{source_pieces, by_first_key, are_apart, tables_now, stepped_in, horizon_after}
 use Rattle.fleet_model.specs.Records.{new_job, to_waiting, to_scheduled, to_completed, to_failed, firsts}
 use Rattle.fleet_model.specs.Gates.{submit_gate, commit_gate, is_nonempty}
-pub use Rattle.fleet_model.specs.PollStates.{PollOptions, PollInput, PollState, begun, view_of, accepts}
+pub use Rattle.fleet_model.specs.PollStates.{PollOptions, PollInput, PollState, poll_begun, view_of, accepts}
 
 -- Frees the jobs with these ids, so that they wait for a worker again.
 abbrev pub with_freed : List ℕ → PollState → PollState
-with_freed these p = record p { jobs = changed to_waiting these p.jobs; freed = these }
+with_freed these p = record p { jobs = changed_jobs to_waiting these p.jobs; freed = these }
 
 -- Step 1 frees the stale jobs, so that they wait for a worker again.
 abbrev pub free_stale : PollInput → PollState → PollState
@@ -21,11 +21,11 @@ free_stale input p = with_freed (ids (filter (is_stale input.options.timeout inp
 -- The horizon rises to the cut that the job kept, or to the floor if it kept none, unless it is higher
 -- already.
 abbrev pub commit_by : PollInput → Job → Option ℕ → PollState → PollState
-commit_by input job (Some rule) p = record p { jobs = changed to_failed (job.id ∷ []) p.jobs; lost = p.lost ++ (job.id, rule) ∷ [] }
+commit_by input job (Some rule) p = record p { jobs = changed_jobs to_failed (job.id ∷ []) p.jobs; lost = p.lost ++ (job.id, rule) ∷ [] }
 commit_by input job None p = record p {
   trees = stepped_in input.tables (Join job.id) job.spec (concat job.outputs) p.trees;
   horizon = horizon_after input.manifest.floor (Join job.id) job.kept_cut p.horizon;
-  jobs = changed to_completed (job.id ∷ []) p.jobs;
+  jobs = changed_jobs to_completed (job.id ∷ []) p.jobs;
   steps = p.steps ++ Join job.id ∷ [];
   done = p.done ++ job.id ∷ [];
 }
@@ -85,7 +85,7 @@ lost_to_scheduler lost = firsts (filter (λ l. l.1 == 0) lost)
 abbrev pub at_once : PollInput → Step → Job → PollState → PollState
 at_once input step job p = record p {
   trees = stepped_in input.tables step job.spec [] p.trees;
-  jobs = changed to_completed (job.id ∷ []) p.jobs;
+  jobs = changed_jobs to_completed (job.id ∷ []) p.jobs;
   steps = p.steps ++ step ∷ [];
 }
 
@@ -99,12 +99,12 @@ move_job input job p = let q = at_once input (Move job.id) job p in record q { m
 
 -- Opens a job with the tables that its sources have now. The job then waits for a worker.
 abbrev pub schedule_job : Job → PollState → PollState
-schedule_job job p = record p { jobs = changed (to_scheduled (tables_now p.trees)) (job.id ∷ []) p.jobs; opened = p.opened ++ job.id ∷ [] }
+schedule_job job p = record p { jobs = changed_jobs (to_scheduled (tables_now p.trees)) (job.id ∷ []) p.jobs; opened = p.opened ++ job.id ∷ [] }
 
 -- Step 4, for one job. If a rule of the gate failed, the job fails. Otherwise it is drained, moved or
 -- opened.
 abbrev pub open_by : PollInput → Job → Option ℕ → PollState → PollState
-open_by input job (Some rule) p = record p { jobs = changed to_failed (job.id ∷ []) p.jobs; refused = p.refused ++ (job.id, rule) ∷ [] }
+open_by input job (Some rule) p = record p { jobs = changed_jobs to_failed (job.id ∷ []) p.jobs; refused = p.refused ++ (job.id, rule) ∷ [] }
 open_by input job None p =
     if is_drain job.spec then drain_job input job p
     else (if can_move input p.trees job.spec then move_job input job p else schedule_job job p)
@@ -118,8 +118,8 @@ abbrev pub open_submitted : PollInput → PollState → PollState
 open_submitted input p = each (open_job input) (filter (has_status Submitted) p.jobs) p
 
 -- The state after the poll of a coordinator that only commits: it takes step 2 alone.
-unfoldable pub committed : PollInput → PollState
-committed input = commit_finished input (begun input.manifest.trees input.manifest.horizon input.records.jobs)
+unfoldable pub committed_poll : PollInput → PollState
+committed_poll input = commit_finished input (poll_begun input.manifest.trees input.manifest.horizon input.records.jobs)
 
 -- The change of the records that a poll puts. The completed and the failed jobs are by rising id.
 abbrev pub change_of : PollState → PollChange

@@ -1,6 +1,6 @@
 -- A change of the job records makes new jobs of the old ones.
 use Rattle.std.specs.Prelude.{ℕ, ◌+◌, List, [], ◌∷◌, map, Option, Some, None}
-use Rattle.fleet_model.specs.Jobs.{JobSpec, Job, Jobs, Context, Submitted, Scheduled, Running, Compacted, Completed, Failed, changed, put_job, trimmed}
+use Rattle.fleet_model.specs.Jobs.{JobSpec, Job, Jobs, Context, Submitted, Scheduled, Running, Compacted, Completed, Failed, changed_jobs, put_job, trimmed_jobs}
 use Rattle.fleet_model.specs.History.{RecordChange, RecordsEpoch, Submit, Claim, Beat, Finish, Release, Polled, PollChange}
 
 -- What a change of the records depends on and the history does not record. It is the moment, the contexts
@@ -65,18 +65,18 @@ to_failed job = record job { status = Failed; context = None }
 -- The jobs after a poll. The jobs that it adds come first, since it may open or end them at once.
 abbrev pub after_poll : Unrecorded → PollChange → Jobs → Jobs
 after_poll unrecorded change jobs =
-    changed to_failed change.failed (changed to_completed change.completed (changed (to_scheduled unrecorded.tables_of) change.scheduled (changed to_waiting change.freed (with_new change.added jobs))))
+    changed_jobs to_failed change.failed (changed_jobs to_completed change.completed (changed_jobs (to_scheduled unrecorded.tables_of) change.scheduled (changed_jobs to_waiting change.freed (with_new change.added jobs))))
 
 -- The jobs after a change, before finished jobs are dropped.
 abbrev pub after_change : Unrecorded → RecordChange → Jobs → Jobs
 after_change unrecorded (RecordsEpoch epoch) jobs = jobs
 after_change unrecorded (Submit specs) jobs = with_new specs jobs
-after_change unrecorded (Claim worker attempts) jobs = changed (claimed_by worker unrecorded.moment) (firsts attempts) jobs
-after_change unrecorded (Beat worker attempts) jobs = changed (beaten_by worker unrecorded) (firsts attempts) jobs
-after_change unrecorded (Finish worker job attempt outputs) jobs = changed (finished_by worker unrecorded outputs) (job ∷ []) jobs
-after_change unrecorded (Release worker attempts) jobs = changed to_waiting (firsts attempts) jobs
+after_change unrecorded (Claim worker attempts) jobs = changed_jobs (claimed_by worker unrecorded.moment) (firsts attempts) jobs
+after_change unrecorded (Beat worker attempts) jobs = changed_jobs (beaten_by worker unrecorded) (firsts attempts) jobs
+after_change unrecorded (Finish worker job attempt outputs) jobs = changed_jobs (finished_by worker unrecorded outputs) (job ∷ []) jobs
+after_change unrecorded (Release worker attempts) jobs = changed_jobs to_waiting (firsts attempts) jobs
 after_change unrecorded (Polled change) jobs = after_poll unrecorded change jobs
 
 -- The jobs after a put of the records that took effect.
 abbrev pub jobs_after : Unrecorded → RecordChange → Jobs → Jobs
-jobs_after unrecorded change jobs = trimmed (after_change unrecorded change jobs)
+jobs_after unrecorded change jobs = trimmed_jobs (after_change unrecorded change jobs)

@@ -4,7 +4,7 @@ use Rattle.fleet_model.specs.Nodes.{Tables, is_l0, names, Segment, segment_at}
 use Rattle.fleet_model.specs.Jobs.{Jobs, JobSpec, is_active}
 use Rattle.fleet_model.specs.Store.{Manifest, Records}
 use Rattle.fleet_model.specs.Sources.{run_ids}
-use Rattle.fleet_model.specs.Handles.{Handle, described, named_tables}
+use Rattle.fleet_model.specs.Handles.{Handle, handles_of, named_tables}
 
 -- What the scheduler is shown: the manifest, the version and epoch of the job records, the active jobs, and
 -- handles of tables. The handles are of all tables that the trees name, and then of all that these jobs
@@ -17,15 +17,15 @@ pub record View : Type 0 where
   pub handles : List Handle
 
 -- The view of a manifest, records and jobs. It shows only the active jobs.
-abbrev pub shown : Tables → Manifest → Records → Jobs → View
-shown tables manifest records jobs =
+abbrev pub shown_view : Tables → Manifest → Records → Jobs → View
+shown_view tables manifest records jobs =
     let active = filter is_active jobs in
     record {
       manifest = manifest;
       records_version = records.version;
       records_epoch = records.epoch;
       jobs = active;
-      handles = described tables (named_tables manifest.trees active);
+      handles = handles_of tables (named_tables manifest.trees active);
     }
 
 -- A request of a user: to compact every tree whole, one tree whole, or by one spec.

@@ -11,8 +11,8 @@ abbrev pub source_nodes : List NodeName → Tree → List Node
 source_nodes sources tree = filter_map (λ name. node_named name tree) sources
 
 -- The tree without the sources.
-abbrev pub without : List NodeName → Tree → Tree
-without sources tree = filter (λ node. not (names_contain sources node.name)) tree
+abbrev pub without_nodes : List NodeName → Tree → Tree
+without_nodes sources tree = filter (λ node. not (names_contain sources node.name)) tree
 
 -- True if the node is a run with a lower id.
 abbrev pub is_run_below : ℕ → NodeName → Bool
@@ -27,7 +27,7 @@ put_run id run (node ∷ tree) = if is_run_below id node.name then run ∷ node 
 -- Replaces the sources of a tree by one run with these tables. The run has all flushes of the sources.
 abbrev pub with_run_for : List NodeName → ℕ → List ℕ → Tree → Tree
 with_run_for sources id pieces tree =
-    put_run id (record { name = Run id; flushes = flat_map (λ node. node.flushes) (source_nodes sources tree); pieces = pieces }) (without sources tree)
+    put_run id (record { name = Run id; flushes = flat_map (λ node. node.flushes) (source_nodes sources tree); pieces = pieces }) (without_nodes sources tree)
 
 -- The key of the first row, or the empty key if there are no rows.
 abbrev pub first_key : List Row → List ℕ
@@ -57,10 +57,10 @@ to_run change (Some id) tree = change id tree
 -- The tree of a job's segment after a step, given the job's spec and the tables that it recorded. A join
 -- replaces the sources by a run of the recorded tables, and a move replaces them by a run of their own
 -- tables. A drain drops the sources.
-abbrev pub stepped : Tables → Step → JobSpec → List ℕ → Tree → Tree
-stepped tables (Join job) spec outputs tree = to_run (λ id. with_run_for spec.sources id outputs) spec.destination tree
-stepped tables (Move job) spec outputs tree = to_run (λ id. with_run_for spec.sources id (by_first_key tables (source_pieces spec.sources tree))) spec.destination tree
-stepped tables (Drain job) spec outputs tree = without spec.sources tree
+abbrev pub stepped_tree : Tables → Step → JobSpec → List ℕ → Tree → Tree
+stepped_tree tables (Join job) spec outputs tree = to_run (λ id. with_run_for spec.sources id outputs) spec.destination tree
+stepped_tree tables (Move job) spec outputs tree = to_run (λ id. with_run_for spec.sources id (by_first_key tables (source_pieces spec.sources tree))) spec.destination tree
+stepped_tree tables (Drain job) spec outputs tree = without_nodes spec.sources tree
 
 -- The name of a flush, or the given mark for a run.
 abbrev pub l0_or : Option ℕ → NodeName → Option ℕ
@@ -81,7 +81,7 @@ on_segment prefix sources change s =
 
 -- The trees after a step, which changes only the tree of its job's segment.
 abbrev pub stepped_in : Tables → Step → JobSpec → List ℕ → Trees → Trees
-stepped_in tables step spec outputs trees = map (on_segment spec.segment spec.sources (stepped tables step spec outputs)) trees
+stepped_in tables step spec outputs trees = map (on_segment spec.segment spec.sources (stepped_tree tables step spec outputs)) trees
 
 -- The greater of two sequences, or the second if there is no first.
 abbrev pub greater_seq : Option ℕ → ℕ → Option ℕ
@@ -102,11 +102,11 @@ abbrev pub empty_segment : List ℕ → Segment
 empty_segment prefix = record { prefix = prefix; tree = []; last_seq = None; watermark = None }
 
 -- The trees after a flush into the segment with this prefix. The segment is made if there is none.
-abbrev pub flushed : List ℕ → ℕ → List Row → Trees → Trees
-flushed prefix name rows [] = flushed_on name rows (empty_segment prefix) ∷ []
-flushed prefix name rows (s ∷ trees) =
+abbrev pub flushed_trees : List ℕ → ℕ → List Row → Trees → Trees
+flushed_trees prefix name rows [] = flushed_on name rows (empty_segment prefix) ∷ []
+flushed_trees prefix name rows (s ∷ trees) =
     if bytes_eq prefix s.prefix then flushed_on name rows s ∷ trees
-    else (if is_lt (key_cmp prefix s.prefix) then flushed_on name rows (empty_segment prefix) ∷ s ∷ trees else s ∷ flushed prefix name rows trees)
+    else (if is_lt (key_cmp prefix s.prefix) then flushed_on name rows (empty_segment prefix) ∷ s ∷ trees else s ∷ flushed_trees prefix name rows trees)
 
 -- The job that a step is taken for.
 abbrev pub job_of : Step → ℕ

@@ -13,7 +13,7 @@ use Rattle.std.proofs.lemmas.List.{append_assoc, map-append}
 use Rattle.row_model.specs.Rows.{key_cmp}
 use Rattle.row_model.specs.Ranges.{Range, is_after_start, is_in_range, ranges_from}
 use Rattle.row_model.specs.Ranges as model
-use Rattle.row_model.specs.Sizes.{saturated}
+use Rattle.row_model.specs.Sizes.{saturated_sum}
 use Rattle.row_model.specs.Plan.{Anchor, anchors_by_key, cut_anchors, cuts, smallest_key}
 use Rattle.row_laws.proofs.ApartRows.{lt_is}
 use Rattle.row_laws.proofs.Elements.{all_weaken}
@@ -32,7 +32,7 @@ either : (P : List (List ℕ) → Type 0) (anchors : List Anchor) (most least : 
 either P anchors most least none some = by (nat_le most 1) (target == 0) (nat_le total target) refl
   where
     total : ℕ
-    total = saturated (sum_by (λ (a : Anchor). a.bytes) anchors)
+    total = saturated_sum (sum_by (λ (a : Anchor). a.bytes) anchors)
 
     target : ℕ
     target = max (total / most) least
@@ -54,8 +54,8 @@ unfolding IsStrictlySortedBy
 cut_rises most target standing before threshold last [] = (tt, tt)
 cut_rises most target standing before threshold last (a ∷ anchors) =
     by (nat_le threshold before && nat_lt (standing + 1) most) (is_lt (key_cmp last a.key)) refl _ _
-    (cut_rises most target (standing + 1) (saturated (before + a.bytes)) (saturated (threshold + target)) a.key anchors)
-    (cut_rises most target standing (saturated (before + a.bytes)) threshold last anchors)
+    (cut_rises most target (standing + 1) (saturated_sum (before + a.bytes)) (saturated_sum (threshold + target)) a.key anchors)
+    (cut_rises most target standing (saturated_sum (before + a.bytes)) threshold last anchors)
   where
     by : (room above : Bool) → is_lt (key_cmp last a.key) ≡ above → (opened same : List (List ℕ))
         → IsStrictlySortedBy key_cmp (a.key ∷ opened) → IsStrictlySortedBy key_cmp (last ∷ same) → IsStrictlySortedBy key_cmp (last ∷ cond (room && above) (a.key ∷ opened) same)
@@ -73,8 +73,8 @@ cuts_few : (most target standing before threshold : ℕ) (last : List ℕ) (anch
 cuts_few most target standing before threshold last [] room = omega (arith, room)
 cuts_few most target standing before threshold last (a ∷ anchors) room =
     by (nat_le threshold before) (nat_lt (standing + 1) most) (is_lt (key_cmp last a.key)) _ _
-    (λ e. cuts_few most target (standing + 1) (saturated (before + a.bytes)) (saturated (threshold + target)) a.key anchors (grind (arith, common_steps)))
-    (cuts_few most target standing (saturated (before + a.bytes)) threshold last anchors room)
+    (λ e. cuts_few most target (standing + 1) (saturated_sum (before + a.bytes)) (saturated_sum (threshold + target)) a.key anchors (grind (arith, common_steps)))
+    (cuts_few most target standing (saturated_sum (before + a.bytes)) threshold last anchors room)
   where
     by : (reached more above : Bool) (opened same : List (List ℕ)) → (more ≡ true → standing + 1 + length opened < most) → standing + length same < most
         → standing + length (cond (reached && more && above) (a.key ∷ opened) same) < most

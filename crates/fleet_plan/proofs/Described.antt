@@ -12,8 +12,8 @@ use Rattle.std.proofs.lemmas.List.MinMax.{ranks_by}
 use Rattle.row_model.specs.Rows.{Row, key_cmp, row_cmp, IsStrictlyOrdered}
 use Rattle.std.proofs.lemmas.Grind.{common_steps}
 use Rattle.row_model.specs.Ranges.{Range, Included, Unbounded, all_keys, is_in_range, ranges_from}
-use Rattle.row_model.specs.Sizes.{Block, blocks, blocks_from, estimated_size, or_full, saturated, table_size}
-use Rattle.row_model.specs.Plan.{Anchor, anchors_by_key, cut_anchors, every, greatest_size, max_anchors, planned, sample_anchors, select_boundaries, spans}
+use Rattle.row_model.specs.Sizes.{Block, blocks, blocks_from, estimated_size, or_full, saturated_sum, table_size}
+use Rattle.row_model.specs.Plan.{Anchor, anchors_by_key, cut_anchors, every, greatest_size, max_anchors, planned_ranges, sample_anchors, select_boundaries, spans}
 use Rattle.row_laws.proofs.ApartRows.{gt_of_reverse}
 use Rattle.row_laws.proofs.Elements.{all_weaken}
 use Rattle.fleet_model.specs.Trees.{first_key, last_key}
@@ -25,7 +25,7 @@ use Rattle.fleet_plan.specs.Plans.{AreOfRows, IsOfRows, greatest_view_size, plan
 module _ (P : List ℕ → Type 0) where
   blocks_have : (offset filled : ℕ) (rows : List Row) → AllByRecursion (λ r. P r.key) rows → AllByRecursion (λ b. P b.first_key) (blocks_from offset filled rows)
   blocks_have offset filled [] all = tt
-  blocks_have offset filled (r ∷ rows) all = by (filled == 0) (blocks_from (saturated (offset + estimated_size r)) (or_full (filled + estimated_size r)) rows) (blocks_have (saturated (offset + estimated_size r)) (or_full (filled + estimated_size r)) rows all.1)
+  blocks_have offset filled (r ∷ rows) all = by (filled == 0) (blocks_from (saturated_sum (offset + estimated_size r)) (or_full (filled + estimated_size r)) rows) (blocks_have (saturated_sum (offset + estimated_size r)) (or_full (filled + estimated_size r)) rows all.1)
     where
       by : (b : Bool) (later : List Block) → AllByRecursion (λ block. P block.first_key) later → AllByRecursion (λ block. P block.first_key) (cond b (record { first_key = r.key; offset = offset } ∷ later) later)
       by true later rest = (all.0, rest)
@@ -129,8 +129,8 @@ module _ (rows : View → List Row) where
       ap (λ h. max h.size (greatest_view_size views)) are.0.described
       ∙ ap (max (table_size (rows view))) (greatest_same views are.1)
 
-  pub planned_same : (most : ℕ) (views : List View) → AreOfRows rows views → planned_of most views ≡ planned most (map rows views)
-  unfolding planned
+  pub planned_same : (most : ℕ) (views : List View) → AreOfRows rows views → planned_of most views ≡ planned_ranges most (map rows views)
+  unfolding planned_ranges
   planned_same most views are =
       ap (λ anchors. select_boundaries anchors most (greatest_view_size views)) (anchors_same views are)
       ∙ ap (select_boundaries (flat_map (λ table. sample_anchors (blocks table) (table_size table) max_anchors all_keys) (map rows views)) most) (greatest_same views are)
@@ -143,6 +143,6 @@ one_range anchors others most least size few =
   where
     alone : (xs : List Anchor) (n : ℕ) → nat_le most 1 ≡ true → select_boundaries xs most n ≡ all_keys ∷ []
     alone xs n test =
-        let total = saturated (sum_by (λ (a : Anchor). a.bytes) xs) in
+        let total = saturated_sum (sum_by (λ (a : Anchor). a.bytes) xs) in
         let target = max (total / most) n in
         ap (λ b. cond (b || target == 0 || nat_le total target) (all_keys ∷ []) (ranges_from Unbounded (cut_anchors most target (anchors_by_key xs)))) test

@@ -29,13 +29,13 @@ known_first l0 runs anchors size is top = (
 pub known_more : (all : List model.Anchor) (greatest : ℕ) (run : SortedRun) (left rest : List SortedRun) (anchors made : List model.Anchor) (size now : ℕ) → left ≡ run ∷ rest
     → made ≡ anchors ++ flat_map view_anchors run.views → now ≡ max size (greatest_view_size run.views) → Known all greatest anchors size left → Known all greatest made now rest
 known_more all greatest run left rest anchors made size now first more top known =
-    let behind : List View = views_of [] rest in
-    let joined : max now (greatest_view_size behind) ≡ max size (greatest_view_size (run.views ++ behind)) =
-    let both = greatest-append run.views behind in
+    let after : List View = views_of [] rest in
+    let joined : max now (greatest_view_size after) ≡ max size (greatest_view_size (run.views ++ after)) =
+    let both = greatest-append run.views after in
     omega (arith, both, top) in (
-      ap (λ xs. xs ++ flat_map view_anchors behind) more
-          ∙ append_assoc anchors (flat_map view_anchors run.views) (flat_map view_anchors behind)
-          ∙ ap (λ xs. anchors ++ xs) (sym (flat_map-append view_anchors run.views behind))
+      ap (λ xs. xs ++ flat_map view_anchors after) more
+          ∙ append_assoc anchors (flat_map view_anchors run.views) (flat_map view_anchors after)
+          ∙ ap (λ xs. anchors ++ xs) (sym (flat_map-append view_anchors run.views after))
           ∙ ap (λ runs. anchors ++ flat_map view_anchors (views_of [] runs)) (sym first)
           ∙ known.0,
       joined ∙ ap (λ runs. max size (greatest_view_size (views_of [] runs))) (sym first) ∙ known.1,

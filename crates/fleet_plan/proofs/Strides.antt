@@ -117,19 +117,19 @@ module _ (within : List ℕ → Bool) (stride end groups : ℕ) (some : 0 < grou
 
   pub without_group : (rest later : List BlockMeta) → later ≡ drop stride rest → rest ≡ first ∷ drop 1 rest → within first.first_key ≡ false
       → SoFar within stride end blocks all anchors rest → SoFar within stride end blocks all anchors later
-  without_group [] later behind e out so_far = absurd (cc e)
-  without_group (b ∷ bs) later behind e out so_far =
+  without_group [] later afterwards e out so_far = absurd (cc e)
+  without_group (b ∷ bs) later afterwards e out so_far =
       let same : b ≡ first = cc e in
       let next : List BlockMeta = drop stride (b ∷ bs) in
       let left : grouped within stride end (blocks_of (b ∷ bs)) ≡ grouped within stride end (blocks_of next) =
       grouped_first within stride end b bs (strides b bs so_far.1)
       ∙ ap (λ t. cond t (anchor_at end (block_of b) (blocks_of next) ∷ grouped within stride end (blocks_of next)) (grouped within stride end (blocks_of next))) (ap (λ (f : BlockMeta). within f.first_key) same ∙ out) in
-      subst (SoFar within stride end blocks all anchors) (sym behind) (ap (λ more. anchors ++ more) (sym left) ∙ so_far.0, fewer b bs so_far.1)
+      subst (SoFar within stride end blocks all anchors) (sym afterwards) (ap (λ more. anchors ++ more) (sym left) ∙ so_far.0, fewer b bs so_far.1)
 
   pub with_group : (rest later : List BlockMeta) (made : List model.Anchor) → later ≡ drop stride rest → rest ≡ first ∷ drop 1 rest → within first.first_key ≡ true
       → made ≡ anchors ++ anchor_at end (block_of first) (blocks_of later) ∷ [] → SoFar within stride end blocks all anchors rest → SoFar within stride end blocks all made later
-  with_group [] later made behind e inside more so_far = absurd (cc e)
-  with_group (b ∷ bs) later made behind e inside more so_far =
+  with_group [] later made afterwards e inside more so_far = absurd (cc e)
+  with_group (b ∷ bs) later made afterwards e inside more so_far =
       let same : b ≡ first = cc e in
       let next : List BlockMeta = drop stride (b ∷ bs) in
       let after : List model.Anchor = grouped within stride end (blocks_of next) in
@@ -137,8 +137,8 @@ module _ (within : List ℕ → Bool) (stride end groups : ℕ) (some : 0 < grou
       grouped_first within stride end b bs (strides b bs so_far.1)
       ∙ ap (λ (f : BlockMeta). cond (within f.first_key) (anchor_at end (block_of f) (blocks_of next) ∷ after) after) same
       ∙ ap (λ t. cond t (anchor_at end (block_of first) (blocks_of next) ∷ after) after) inside in
-      let now : made ≡ anchors ++ anchor_at end (block_of first) (blocks_of next) ∷ [] = more ∙ ap (λ bs. anchors ++ anchor_at end (block_of first) (blocks_of bs) ∷ []) behind in
-      subst (SoFar within stride end blocks all made) (sym behind) (
+      let now : made ≡ anchors ++ anchor_at end (block_of first) (blocks_of next) ∷ [] = more ∙ ap (λ bs. anchors ++ anchor_at end (block_of first) (blocks_of bs) ∷ []) afterwards in
+      subst (SoFar within stride end blocks all made) (sym afterwards) (
         ap (λ made. made ++ after) now
             ∙ append_assoc anchors (anchor_at end (block_of first) (blocks_of next) ∷ []) after
             ∙ ap (λ more. anchors ++ more) (sym left)

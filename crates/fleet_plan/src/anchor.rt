@@ -41,7 +41,7 @@ pub fn sample_anchors(
     let mut anchors = Vec::new(alloc);
     let mut rest = blocks;
     'groups: while let [first, ..] = rest {
-        let later = behind_group(rest, stride);
+        let later = after_group(rest, stride);
         if effective_range.contains(first.first_key.as_slice()) {
             let end = end_of_group(later, data_end_offset);
             anchors.push(Anchor {
@@ -63,7 +63,7 @@ fn stride(blocks: &[BlockMeta], max_anchors: u64) -> usize
 }
 
 // The blocks after the first group.
-fn behind_group<'a>(blocks: &'a [BlockMeta], stride: usize) -> &'a [BlockMeta]
+fn after_group<'a>(blocks: &'a [BlockMeta], stride: usize) -> &'a [BlockMeta]
     ensures { result.now ≡ drop stride blocks.now }
 {
     &blocks[stride.min(blocks.len())..]

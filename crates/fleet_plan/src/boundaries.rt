@@ -5,7 +5,7 @@ ghost use Rattle.std.specs.List.Sorted.{IsStrictlySortedBy};
 ghost use Rattle.row_model.specs.Plan.{anchors_by_key, cut_anchors, select_boundaries};
 ghost use Rattle.row_model.specs.Ranges.{Unbounded, ranges_from};
 ghost use Rattle.row_model.specs.Rows.{key_cmp};
-ghost use Rattle.row_model.specs.Sizes.{saturated};
+ghost use Rattle.row_model.specs.Sizes.{saturated_sum};
 ghost use Rattle.row_laws.specs.Turns.{AreCut};
 ghost use Rattle.fleet_plan.specs.Anchors.{anchors_of};
 ghost use Rattle.fleet_plan.specs.Boundaries.{HoldEveryKeyOnce, boundary_keys, ranges_of};
@@ -62,13 +62,13 @@ fn boundary_keys(
 }
 
 fn total_bytes(anchors: &[Anchor]) -> u64
-    ensures { result ≡ saturated (sum_by (λ a. a.bytes) (anchors_of anchors.now)) }
+    ensures { result ≡ saturated_sum (sum_by (λ a. a.bytes) (anchors_of anchors.now)) }
 {
     anchors.iter().fold(0, with_bytes)
 }
 
 fn with_bytes(total: u64, anchor: &Anchor) -> u64
-    ensures { result ≡ saturated (total + anchor.now.bytes) }
+    ensures { result ≡ saturated_sum (total + anchor.now.bytes) }
 {
     total.saturating_add(anchor.bytes)
 }

@@ -1,7 +1,7 @@
 //! The ranges for a job over tables that are described.
 
 ghost use Rattle.std.specs.Prelude.{◌≡◌, ◌≤◌, ◌++◌, [], List, flat_map, length, map, max, IfOk, IsOkUnless, OnOk};
-ghost use Rattle.row_model.specs.Plan.{planned};
+ghost use Rattle.row_model.specs.Plan.{planned_ranges};
 ghost use Rattle.row_model.specs.Rows.{Row};
 ghost use Rattle.row_laws.specs.Turns.{AreCut};
 ghost use Rattle.fleet_tree.specs.Views.{View};
@@ -29,7 +29,7 @@ pub fn plan_subcompaction_ranges(
     // If the rows of the tables are known, these are the ranges that the model plans for them.
     ensures planned { IfOk result (λ ranges. (rows : View → List Row)
         → AreOfRows rows (views_of l0.now runs.now) → ranges_of ranges.items
-        ≡ planned max_subcompactions (map rows (views_of l0.now runs.now))) }
+        ≡ planned_ranges max_subcompactions (map rows (views_of l0.now runs.now))) }
     ensures at_most { IfOk result (λ ranges. length ranges.items ≤ max max_subcompactions 1) }
     // The ranges follow one another, cut at rising edges.
     ensures rising { IfOk result (λ ranges. AreCut (ranges_of ranges.items)) }

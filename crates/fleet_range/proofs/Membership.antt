@@ -9,7 +9,7 @@ use Rattle.std.specs.declared.ops.Bound.{Bound}
 use Rattle.std.specs.declared.ops.Bound.TheVariants.{Included, Excluded, Unbounded}
 use Rattle.row_model.specs.Rows.{key_cmp}
 use Rattle.row_model.specs.Ranges.{is_in_range, is_after_start, is_before_end}
-use Rattle.fleet_range.specs.Keys.{IsBytes, end_before, model_bound, placed, placed_ends, prefix_ends, prefix_start, range_of, successor}
+use Rattle.fleet_range.specs.Keys.{IsBytes, end_before, model_bound, placed_range, placed_ends, prefix_ends, prefix_start, range_of, successor}
 use Rattle.fleet_range.specs.Ranges.{Ends, intersection, is_from_start, is_in, is_non_empty, is_to_end}
 use Rattle.std.specs.Option.{option_map}
 use Rattle.fleet_range.proofs.Cuts.{not_greater}
@@ -55,12 +55,12 @@ keys_of_prefix prefix key bytes =
     ∙ (λ i. from_start_of_prefix prefix key i && to_end_before (successor prefix) key i)
     ∙ prefix_keys prefix key (recursion_from_All (λ b. b < 256) key bytes)
 
-start_placed : (prefix suffix : List ℕ) (start : Bound (List ℕ)) → is_from_start key_cmp (placed prefix (prefix_start prefix) start) (prefix ++ suffix) ≡ is_from_start key_cmp start suffix
+start_placed : (prefix suffix : List ℕ) (start : Bound (List ℕ)) → is_from_start key_cmp (placed_range prefix (prefix_start prefix) start) (prefix ++ suffix) ≡ is_from_start key_cmp start suffix
 start_placed prefix suffix Unbounded = from_start_of_prefix prefix (prefix ++ suffix) ∙ ap not (from_prefix_start prefix suffix)
 start_placed prefix suffix (Included x) = ap (λ r. not (is_gt r)) (key_cmp-append prefix x suffix)
 start_placed prefix suffix (Excluded x) = ap is_lt (key_cmp-append prefix x suffix)
 
-end_placed : (prefix suffix : List ℕ) (end : Bound (List ℕ)) → is_to_end key_cmp (placed prefix (end_before (successor prefix)) end) (prefix ++ suffix) ≡ is_to_end key_cmp end suffix
+end_placed : (prefix suffix : List ℕ) (end : Bound (List ℕ)) → is_to_end key_cmp (placed_range prefix (end_before (successor prefix)) end) (prefix ++ suffix) ≡ is_to_end key_cmp end suffix
 end_placed prefix suffix Unbounded = to_end_before (successor prefix) (prefix ++ suffix) ∙ short_of_end prefix suffix
 end_placed prefix suffix (Included y) = ap (λ r. not (is_gt r)) (key_cmp-append prefix suffix y)
 end_placed prefix suffix (Excluded y) = ap is_lt (key_cmp-append prefix suffix y)
@@ -76,12 +76,12 @@ false_from_not : (b : Bool) → not b ≡ true → b ≡ false
 false_from_not true h = cc
 false_from_not false h = refl
 
-from_prefix_on : (prefix key : List ℕ) (start : Bound (List ℕ)) → is_from_start key_cmp (placed prefix (prefix_start prefix) start) key ≡ true → is_gt (key_cmp prefix key) ≡ false
+from_prefix_on : (prefix key : List ℕ) (start : Bound (List ℕ)) → is_from_start key_cmp (placed_range prefix (prefix_start prefix) start) key ≡ true → is_gt (key_cmp prefix key) ≡ false
 from_prefix_on prefix key Unbounded h = false_from_not _ (sym (from_start_of_prefix prefix key) ∙ h)
 from_prefix_on prefix key (Included x) h = upto nat_list_cmp_total prefix (prefix ++ x) key (from_prefix_start prefix x) (false_from_not _ h)
 from_prefix_on prefix key (Excluded x) h = upto nat_list_cmp_total prefix (prefix ++ x) key (from_prefix_start prefix x) (not_greater _ h)
 
-short_of_placed : (prefix key : List ℕ) (end : Bound (List ℕ)) → is_to_end key_cmp (placed prefix (end_before (successor prefix)) end) key ≡ true → is_short_of (successor prefix) key ≡ true
+short_of_placed : (prefix key : List ℕ) (end : Bound (List ℕ)) → is_to_end key_cmp (placed_range prefix (end_before (successor prefix)) end) key ≡ true → is_short_of (successor prefix) key ≡ true
 short_of_placed prefix key Unbounded h = sym (to_end_before (successor prefix) key) ∙ h
 short_of_placed prefix key (Included y) h = short_below (successor prefix) key (prefix ++ y) (false_from_not _ h) (short_of_end prefix y)
 short_of_placed prefix key (Excluded y) h = short_below (successor prefix) key (prefix ++ y) (not_greater _ h) (short_of_end prefix y)

@@ -12,7 +12,7 @@ use Rattle.std.specs.BTreeMap.Comparable.{le_lt_trans}
 use Rattle.std.specs.declared.cmp.Ordering.{Ordering}
 use Rattle.std.specs.declared.cmp.Ordering.TheVariants.{Less, Equal, Greater}
 use Rattle.row_model.specs.Rows.{key_cmp}
-use Rattle.fleet_range.specs.Keys.{raised, successor}
+use Rattle.fleet_range.specs.Keys.{raised_key, successor}
 
 -- Whether the key is below the end. Every key is if there is no end.
 abbrev pub is_short_of : Option (List ℕ) → List ℕ → Bool
@@ -22,7 +22,7 @@ is_short_of (Some end) key = is_lt (key_cmp key end)
 -- If a list has a successor, bytes put before the list stand unchanged before the successor.
 pub successor-append : (front rest end : List ℕ) → successor rest ≡ Some end → successor (front ++ rest) ≡ Some (front ++ end)
 successor-append [] rest end h = h
-successor-append (b ∷ front) rest end h = ap (raised b) (successor-append front rest end h)
+successor-append (b ∷ front) rest end h = ap (raised_key b) (successor-append front rest end h)
 
 same_byte : (b : ℕ) → nat_cmp b b ≡ Equal
 same_byte b = sym (nat_cmp_is b b Equal refl)
@@ -43,7 +43,7 @@ pub short_of_end : (prefix rest : List ℕ) → is_short_of (successor prefix) (
 short_of_end [] rest = refl
 short_of_end (b ∷ prefix) rest = step (successor prefix) (short_of_end prefix rest)
   where
-    step : (end : Option (List ℕ)) → is_short_of end (prefix ++ rest) ≡ true → is_short_of (raised b end) (b ∷ prefix ++ rest) ≡ true
+    step : (end : Option (List ℕ)) → is_short_of end (prefix ++ rest) ≡ true → is_short_of (raised_key b end) (b ∷ prefix ++ rest) ≡ true
     step (Some end) h = rw (same_byte b) h
     step None h = by_test (nat_lt b 255) refl
       where
@@ -55,7 +55,7 @@ other_byte : (a b : ℕ) → a ≢ b → nat_eq a b ≡ false
 other_byte a b h = grind (arith, nat_tests)
 
 -- A key whose first byte is greater than that of the prefix is not below the prefix's end.
-not_short : (b k : ℕ) (key : List ℕ) (end : Option (List ℕ)) → b < k → k < 256 → is_short_of (raised b end) (k ∷ key) ≡ false
+not_short : (b k : ℕ) (key : List ℕ) (end : Option (List ℕ)) → b < k → k < 256 → is_short_of (raised_key b end) (k ∷ key) ≡ false
 not_short b k key (Some end) h f = rw (greater_byte k b h) refl
 not_short b k key None h f = by_test (nat_lt b 255) refl
   where
@@ -77,7 +77,7 @@ equal_byte a b h = grind (arith, nat_tests)
 
 -- If the key and the prefix have the same first byte, the rest of the key decides whether the key is below
 -- the prefix's end.
-same_short : (b k : ℕ) → b ≡ k → (end : Option (List ℕ)) (key : List ℕ) → is_short_of (raised b end) (k ∷ key) ≡ is_short_of end key
+same_short : (b k : ℕ) → b ≡ k → (end : Option (List ℕ)) (key : List ℕ) → is_short_of (raised_key b end) (k ∷ key) ≡ is_short_of end key
 same_short b k m (Some end) key = rw (sym (nat_cmp_is k b Equal (sym m))) refl
 same_short b k m None key = by_test (nat_lt b 255) refl
   where
@@ -92,7 +92,7 @@ prefix_keys [] (k ∷ key) f = refl
 prefix_keys (b ∷ prefix) [] f = refl
 prefix_keys (b ∷ prefix) (k ∷ key) f = by_order (nat_cmp b k) refl (ranked b k (nat_cmp b k) refl) (prefix_keys prefix key f.1)
   where
-    by_order : (r : Ordering) → nat_cmp b k ≡ r → MatchOrdering r (b < k) (b ≡ k) (k < b) → (not (is_gt (key_cmp prefix key)) && is_short_of (successor prefix) key) ≡ starts_with nat_eq key prefix → (not (is_gt (ordering_then (nat_cmp b k) (key_cmp prefix key))) && is_short_of (raised b (successor prefix)) (k ∷ key)) ≡ (nat_eq b k && starts_with nat_eq key prefix)
+    by_order : (r : Ordering) → nat_cmp b k ≡ r → MatchOrdering r (b < k) (b ≡ k) (k < b) → (not (is_gt (key_cmp prefix key)) && is_short_of (successor prefix) key) ≡ starts_with nat_eq key prefix → (not (is_gt (ordering_then (nat_cmp b k) (key_cmp prefix key))) && is_short_of (raised_key b (successor prefix)) (k ∷ key)) ≡ (nat_eq b k && starts_with nat_eq key prefix)
     by_order Less e m h = rw (e, not_short b k key (successor prefix) m f.0, other_byte b k (omega arith)) refl
     by_order Equal e m h = rw (e, equal_byte b k m, same_short b k m (successor prefix) key) h
     by_order Greater e m h = rw (e, other_byte b k (omega arith)) refl
@@ -119,15 +119,15 @@ short_below (Some end) a b h s = ap is_lt (le_lt_trans nat_list_cmp_total a b en
     less Greater h = cc
 
 -- If the bytes after a place have no successor, only the byte at the place can be raised.
-from_place : (prefix : List ℕ) (place : ℕ) → place < length prefix → successor (drop (place + 1) prefix) ≡ None → successor (drop place prefix) ≡ raised (slice_index_or prefix place 0) None
-from_place prefix place inside h = ap successor (drop_more prefix place 0 inside) ∙ ap (raised (slice_index_or prefix place 0)) h
+from_place : (prefix : List ℕ) (place : ℕ) → place < length prefix → successor (drop (place + 1) prefix) ≡ None → successor (drop place prefix) ≡ raised_key (slice_index_or prefix place 0) None
+from_place prefix place inside h = ap successor (drop_more prefix place 0 inside) ∙ ap (raised_key (slice_index_or prefix place 0)) h
 
 -- If the byte at a place is 0xff and the bytes after it have no successor, the bytes from the place on have
 -- none.
 pub still_none : (prefix : List ℕ) (place : ℕ) → place < length prefix → 255 ≤ slice_index_or prefix place 0 → successor (drop (place + 1) prefix) ≡ None → successor (drop place prefix) ≡ None
 still_none prefix place inside ff h = from_place prefix place inside h ∙ by_test (slice_index_or prefix place 0) ff
   where
-    by_test : (b : ℕ) → 255 ≤ b → raised b None ≡ None
+    by_test : (b : ℕ) → 255 ≤ b → raised_key b None ≡ None
     by_test b ff = rw (le-ltb b 255 ff) refl
 
 -- If the byte at a place is below 0xff and the bytes after it have no successor, the prefix's successor ends
@@ -137,5 +137,5 @@ found prefix place inside less h =
     ap successor (sym (take-append-drop place prefix))
     ∙ successor-append (take place prefix) (drop place prefix) ((slice_index_or prefix place 0 + 1) ∷ []) (from_place prefix place inside h ∙ by_test (slice_index_or prefix place 0) less)
   where
-    by_test : (b : ℕ) → b < 255 → raised b None ≡ Some ((b + 1) ∷ [])
+    by_test : (b : ℕ) → b < 255 → raised_key b None ≡ Some ((b + 1) ∷ [])
     by_test b less = rw (lt-ltb b 255 less) refl

@@ -9,7 +9,7 @@ use Rattle.std.specs.declared.cmp.Ordering.{Ordering}
 use Rattle.std.specs.declared.cmp.Ordering.TheVariants.{Less, Equal, Greater}
 use Rattle.std.specs.declared.ops.Bound.{Bound}
 use Rattle.fleet_range.specs.Sides.{Cut, below, cut_cmp, cut_total, end_cmp, end_cut, end_cuts, start_cmp, start_cut, start_cuts, start_total}
-use Rattle.fleet_range.specs.Ranges.{Ends, ends_cmp, if_non_empty, intersection, is_in, is_non_empty, joined, overlap, touches}
+use Rattle.fleet_range.specs.Ranges.{Ends, ends_cmp, if_non_empty, intersection, is_in, is_non_empty, joined_ends, overlap, touches}
 use Rattle.fleet_range.proofs.Cuts.{in_cuts, not_greater, past, room_cuts, touch_cuts}
 use Rattle.fleet_range.proofs.Bounded.{lesser_first, past_max, past_min, rises}
 
@@ -92,7 +92,7 @@ module _ {K : Type 0} {R : K → K → Ordering} (o : IsTotalOrder R) where
       (rises (cut_total o) (start_cut b.0) (end_cut a.1) (below key) (starts_by_end a b t))
       ∙ sym (λ i. in_cuts o a.0 a.1 key i || in_cuts o b.0 b.1 key i)
 
-  pub joined_near : (a b : Ends K) → (is_non_empty R (overlap R a b) || touches R b.0 a.1) ≡ true → joined R a b ≡ Some (a.0, ord_max (end_cmp R) a.1 b.1)
+  pub joined_near : (a b : Ends K) → (is_non_empty R (overlap R a b) || touches R b.0 a.1) ≡ true → joined_ends R a b ≡ Some (a.0, ord_max (end_cmp R) a.1 b.1)
   joined_near a b h = ap (λ t. cond t (Some (a.0, ord_max (end_cmp R) a.1 b.1)) None) h
 
   -- Statements about an answer that may be None, by the bounds that the answer shows.
@@ -113,7 +113,7 @@ module _ {K : Type 0} {R : K → K → Ordering} (o : IsTotalOrder R) where
         by_test true h e key = cc
         by_test false h e key = sym (in_overlap a b key) ∙ in_none (overlap R a b) key h
 
-    joined_either : (a b : Ends K) (r : Option X) → is_gt (start_cmp R a.0 b.0) ≡ false → option_map ends_of r ≡ joined R a b → IfSome r (λ x. (key : K) → is_in R (ends_of x) key ≡ (is_in R a key || is_in R b key))
+    joined_either : (a b : Ends K) (r : Option X) → is_gt (start_cmp R a.0 b.0) ≡ false → option_map ends_of r ≡ joined_ends R a b → IfSome r (λ x. (key : K) → is_in R (ends_of x) key ≡ (is_in R a key || is_in R b key))
     joined_either a b None h e = tt
     joined_either a b (Some x) h e = λ key. by_test (is_non_empty R (overlap R a b) || touches R b.0 a.1) refl e key
       where
@@ -139,12 +139,12 @@ module _ {K : Type 0} {R : K → K → Ordering} (o : IsTotalOrder R) where
 
     -- If the first range is before the second one, a key lies in their union exactly if it lies in one of the
     -- two.
-    pub joined_before : (a b : Ends K) (r : Option X) → is_lt (ends_cmp R a b) ≡ true → option_map ends_of r ≡ joined R a b → IfSome r (λ x. (key : K) → is_in R (ends_of x) key ≡ (is_in R a key || is_in R b key))
+    pub joined_before : (a b : Ends K) (r : Option X) → is_lt (ends_cmp R a b) ≡ true → option_map ends_of r ≡ joined_ends R a b → IfSome r (λ x. (key : K) → is_in R (ends_of x) key ≡ (is_in R a key || is_in R b key))
     joined_before a b r h e = joined_either a b r (first_starts _ _ h) e
 
-    pub joined_behind : (a b : Ends K) (r : Option X) → is_lt (ends_cmp R a b) ≡ false → option_map ends_of r ≡ joined R b a → IfSome r (λ x. (key : K) → is_in R (ends_of x) key ≡ (is_in R a key || is_in R b key))
-    joined_behind a b None h e = tt
-    joined_behind a b (Some x) h e = λ key. joined_either b a (Some x) (lesser_first (start_total o) b.0 a.0 (second_starts _ _ h)) e key ∙ or_turned (is_in R b key) (is_in R a key)
+    pub joined_after : (a b : Ends K) (r : Option X) → is_lt (ends_cmp R a b) ≡ false → option_map ends_of r ≡ joined_ends R b a → IfSome r (λ x. (key : K) → is_in R (ends_of x) key ≡ (is_in R a key || is_in R b key))
+    joined_after a b None h e = tt
+    joined_after a b (Some x) h e = λ key. joined_either b a (Some x) (lesser_first (start_total o) b.0 a.0 (second_starts _ _ h)) e key ∙ or_turned (is_in R b key) (is_in R a key)
 
 -- What holds of bounds holds of the range that is made of them, if they leave room.
 pub if_room : {K : Type 0} (R : K → K → Ordering) (ends : Ends K) (r : Option (Ends K)) → r ≡ if_non_empty R ends → (P : Ends K → Type 0) → P ends → IfSome r P

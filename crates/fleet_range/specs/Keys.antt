@@ -20,15 +20,15 @@ IsBytes key = All (λ b. b < 256) key
 
 -- A byte put before the successor of a rest. If the rest has none, the byte itself is raised by one, and a
 -- byte of 0xff gives None.
-abbrev pub raised : ℕ → Option (List ℕ) → Option (List ℕ)
-raised b (Some rest) = Some (b ∷ rest)
-raised b None = if nat_lt b 255 then Some ((b + 1) ∷ []) else None
+abbrev pub raised_key : ℕ → Option (List ℕ) → Option (List ℕ)
+raised_key b (Some rest) = Some (b ∷ rest)
+raised_key b None = if nat_lt b 255 then Some ((b + 1) ∷ []) else None
 
 -- The prefix up to its last byte below 0xff, with that byte raised by one. None if the prefix has no such
 -- byte.
 abbrev pub successor : List ℕ → Option (List ℕ)
 successor [] = None
-successor (b ∷ prefix) = raised b (successor prefix)
+successor (b ∷ prefix) = raised_key b (successor prefix)
 
 abbrev pub end_before : Option (List ℕ) → Bound (List ℕ)
 end_before None = Unbounded
@@ -43,13 +43,13 @@ prefix_ends prefix = (prefix_start prefix, end_before (successor prefix))
 
 -- A bound on what follows the prefix, as a bound on the whole key. Unbounded becomes `whole`, the bound that
 -- the prefix's range has on this side.
-abbrev pub placed : List ℕ → Bound (List ℕ) → Bound (List ℕ) → Bound (List ℕ)
-placed prefix whole Unbounded = whole
-placed prefix whole (Included suffix) = Included (prefix ++ suffix)
-placed prefix whole (Excluded suffix) = Excluded (prefix ++ suffix)
+abbrev pub placed_range : List ℕ → Bound (List ℕ) → Bound (List ℕ) → Bound (List ℕ)
+placed_range prefix whole Unbounded = whole
+placed_range prefix whole (Included suffix) = Included (prefix ++ suffix)
+placed_range prefix whole (Excluded suffix) = Excluded (prefix ++ suffix)
 
 abbrev pub placed_ends : List ℕ → Ends (List ℕ) → Ends (List ℕ)
-placed_ends prefix ends = (placed prefix (prefix_start prefix) ends.0, placed prefix (end_before (successor prefix)) ends.1)
+placed_ends prefix ends = (placed_range prefix (prefix_start prefix) ends.0, placed_range prefix (end_before (successor prefix)) ends.1)
 
 abbrev pub is_excluded : {K : Type 0} → Bound K → Bool
 is_excluded (Excluded key) = true

@@ -5,7 +5,7 @@ ghost use Rattle.std.specs.Option.{option_map};
 ghost use Rattle.std.specs.Ordering.{ord_max, ord_min};
 ghost use Rattle.std.specs.Range.Bound.{bound_map};
 ghost use Rattle.fleet_rows.specs.declared.errors.SlateDBError.TheVariants as fleet;
-ghost use Rattle.fleet_range.specs.Ranges.{ClonesEqual, intersection, is_in, is_non_empty, joined, leaves_room, overlap, touches, union_of};
+ghost use Rattle.fleet_range.specs.Ranges.{ClonesEqual, intersection, is_in, is_non_empty, joined_ends, leaves_room, overlap, touches, union_of};
 ghost use Rattle.fleet_range.specs.Shown.{end_of, ends_of, start_of};
 
 use crate::{EndBound, StartBound};
@@ -142,7 +142,7 @@ impl<T: Ord + Clone> ComparableRange<T> {
     fn united(&self, other: &ComparableRange<T>) -> Result<Option<ComparableRange<T>>, SlateDBError>
         requires { ClonesEqual T.is_clone }
         ensures bounds { IfOk result
-            (λ r. option_map ends_of r ≡ joined T.cmp (ends_of self.now) (ends_of other.now)) }
+            (λ r. option_map ends_of r ≡ joined_ends T.cmp (ends_of self.now) (ends_of other.now)) }
         ensures memory { IsOkUnless result fleet.Memory }
     {
         if self.is_near(other) {

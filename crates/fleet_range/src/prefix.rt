@@ -2,7 +2,7 @@
 
 ghost use Rattle.std.specs.Prelude.{◌≡◌, ◌++◌, IfOk};
 ghost use Rattle.std.specs.Range.Bound.{bound_map};
-ghost use Rattle.fleet_range.specs.Keys.{end_before, placed, prefix_start, successor};
+ghost use Rattle.fleet_range.specs.Keys.{end_before, placed_range, prefix_start, successor};
 
 use bytes::Bytes;
 use std::alloc::{AllocError, Global};
@@ -64,7 +64,7 @@ pub(crate) fn placed_start(
     start: Bound<&[u8]>,
 ) -> Result<Bound<Bytes>, AllocError>
     ensures { IfOk result (λ b. b
-        ≡ placed prefix.now (prefix_start prefix.now) (bound_map (λ key. key.now) start.entry)) }
+        ≡ placed_range prefix.now (prefix_start prefix.now) (bound_map (λ key. key.now) start.entry)) }
 {
     match start {
         Bound::Included(suffix) => Ok(Bound::Included(concatenated(alloc, prefix, suffix)?)),
@@ -80,7 +80,7 @@ pub(crate) fn placed_end(
     prefix: &[u8],
     end: Bound<&[u8]>,
 ) -> Result<Bound<Bytes>, AllocError>
-    ensures { IfOk result (λ b. b ≡ placed prefix.now
+    ensures { IfOk result (λ b. b ≡ placed_range prefix.now
         (end_before (successor prefix.now)) (bound_map (λ key. key.now) end.entry)) }
 {
     match end {

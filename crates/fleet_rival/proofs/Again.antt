@@ -6,16 +6,16 @@ use Rattle.std.proofs.lemmas.Bool.{eqb-true}
 use Rattle.std.proofs.lemmas.List.{append-nil}
 use Rattle.row_model.specs.Fold.{Operator}
 use Rattle.fleet_model.specs.Handles.{describe}
-use Rattle.fleet_model.specs.Exchanges.{Exchange, Plain, DrawsJob, DrawsTable, PutsTable, ListsTables, DeletesTable, performed, records_version}
+use Rattle.fleet_model.specs.Exchanges.{Exchange, Plain, DrawsJob, DrawsTable, PutsTable, ListsTables, DeletesTable, after_exchange, records_version}
 use Rattle.fleet_model.specs.Exchanges as exchange
 use Rattle.fleet_model.specs.History.{Party, Submitter, Worker, GetManifest, GetRecords, Submit, Claim}
 use Rattle.fleet_model.specs.Nodes.{Tables, is_among, rows_or_none, table_rows}
 use Rattle.fleet_model.specs.Store.{Records, Store}
 use Rattle.fleet_model.specs.Store as model_store
-use Rattle.fleet_model.specs.Jobs.{trimmed}
-use Rattle.step_model.specs.Past.{Told}
+use Rattle.fleet_model.specs.Jobs.{trimmed_jobs}
+use Rattle.step_model.specs.Past.{World}
 use Rattle.step_model.specs.LawfulRecords.{RecordsFit}
-use Rattle.step_model.specs.Rivals.{Caller, RivalCall, Rivals, RivalsFrom, Strike, called, told_by, told_by_rival}
+use Rattle.step_model.specs.Rivals.{Caller, RivalCall, Rivals, RivalsFrom, Strike, store_after_call, after_call, after_rival}
 use Rattle.fleet_rows.specs.declared.errors.SlateDBError.{SlateDBError}
 use Rattle.fleet_tree.specs.Views.{View}
 use Rattle.fleet_tree.specs.declared.manifest.Manifest.{Manifest}
@@ -106,7 +106,7 @@ put_records_keeps version value store next = by (version == records_version stor
         }
     by false e = keeps_itself store
 
-performed_keeps : (x : Exchange) (store : Store) → Keeps store (performed x store)
+performed_keeps : (x : Exchange) (store : Store) → Keeps store (after_exchange x store)
 performed_keeps (Plain event) store = keeps_itself store
 performed_keeps (DrawsJob moment) store = record { manifest_rises = omega arith; manifest_stays = λ e. refl; records_rise = omega arith; records_stay = λ e. refl; more = []; tables = sym (append-nil store.tables) }
 performed_keeps (DrawsTable moment) store = record { manifest_rises = omega arith; manifest_stays = λ e. refl; records_rise = omega arith; records_stay = λ e. refl; more = []; tables = sym (append-nil store.tables) }
@@ -122,7 +122,7 @@ under_keeps (Some true) x store = performed_keeps x store
 under_keeps (Some false) x store = keeps_itself store
 
 -- A call keeps them.
-pub call_keeps : (line : ℕ) (party : Party) (x : Exchange) (strike : Strike) (store : Store) → Keeps store (called line party x strike store)
+pub call_keeps : (line : ℕ) (party : Party) (x : Exchange) (strike : Strike) (store : Store) → Keeps store (store_after_call line party x strike store)
 call_keeps line party x strike store =
     let kept = under_keeps strike x store in
     let is = called_is line party x strike store in
@@ -138,13 +138,13 @@ call_keeps line party x strike store =
 -- ---- calls of others
 
 -- Calls of others keep them.
-pub rivals_keep : (who : Caller) (old met : Told) → Rivals who old met → Keeps old.store met.store
+pub rivals_keep : (who : Caller) (old met : World) → Rivals who old met → Keeps old.store met.store
 rivals_keep who old met r = by r.calls old r.lead
   where
-    by : (calls : List RivalCall) (from : Told) → RivalsFrom who calls from met → Keeps from.store met.store
-    by [] from lead = subst (λ (t : Told). Keeps from.store t.store) lead (keeps_itself from.store)
+    by : (calls : List RivalCall) (from : World) → RivalsFrom who calls from met → Keeps from.store met.store
+    by [] from lead = subst (λ (t : World). Keeps from.store t.store) lead (keeps_itself from.store)
     by (c ∷ calls) from lead =
-        keeps_both from.store (told_by_rival c from).store met.store (call_keeps c.line c.party c.exchange c.strike from.store) (by calls (told_by_rival c from) lead.1)
+        keeps_both from.store (after_rival c from).store met.store (call_keeps c.line c.party c.exchange c.strike from.store) (by calls (after_rival c from) lead.1)
 
 -- ---- an object that was got
 
@@ -184,23 +184,23 @@ still_stored got met m keeps is same =
     }
 
 -- So it may be put once more, unchanged, whatever others do meanwhile.
-pub put_again_fits : (who : Caller) (told : Told) (m : VersionedManifest) → IsManifest m told.store → ManifestPutFits who told m.id m.manifest (change.Commit []) []
-put_again_fits who told m is = record {
-  lawful = λ met rivals same. manifest_fits met m (still_stored told.store met.store m (rivals_keep who told met rivals) is same) who.party;
-  shown = λ met rivals same. manifest_trees met m (still_stored told.store met.store m (rivals_keep who told met rivals) is same);
+pub put_again_fits : (who : Caller) (world : World) (m : VersionedManifest) → IsManifest m world.store → ManifestPutFits who world m.id m.manifest (change.Commit []) []
+put_again_fits who world m is = record {
+  lawful = λ met rivals same. manifest_fits met m (still_stored world.store met.store m (rivals_keep who world met rivals) is same) who.party;
+  shown = λ met rivals same. manifest_trees met m (still_stored world.store met.store m (rivals_keep who world met rivals) is same);
 }
 
 -- The same, given apart what is put, and why.
-pub put_of_fits : (who : Caller) (told : Told) (m : VersionedManifest) (value : Manifest) (steps : List Step) (jobs : List JobParts)
-    → IsManifest m told.store → value ≡ m.manifest → steps ≡ [] → jobs ≡ [] → ManifestPutFits who told m.id value (change.Commit steps) jobs
-put_of_fits who told m value steps jobs is copy none no_jobs = rw (copy, none, no_jobs) (put_again_fits who told m is)
+pub put_of_fits : (who : Caller) (world : World) (m : VersionedManifest) (value : Manifest) (steps : List Step) (jobs : List JobParts)
+    → IsManifest m world.store → value ≡ m.manifest → steps ≡ [] → jobs ≡ [] → ManifestPutFits who world m.id value (change.Commit steps) jobs
+put_of_fits who world m value steps jobs is copy none no_jobs = rw (copy, none, no_jobs) (put_again_fits who world m is)
 
 -- The same of a manifest that was just got.
-pub put_got_fits : (who caller : Caller) (met new : Told) (m : VersionedManifest) (steps : List Step) (jobs : List JobParts) → IsManifest m met.store
-    → new ≡ told_by who.line who.party (Plain GetManifest) None met → steps ≡ [] → jobs ≡ [] → ManifestPutFits caller new m.id m.manifest (change.Commit steps) jobs
+pub put_got_fits : (who caller : Caller) (met new : World) (m : VersionedManifest) (steps : List Step) (jobs : List JobParts) → IsManifest m met.store
+    → new ≡ after_call who.line who.party (Plain GetManifest) None met → steps ≡ [] → jobs ≡ [] → ManifestPutFits caller new m.id m.manifest (change.Commit steps) jobs
 put_got_fits who caller met new m steps jobs is made none no_jobs =
-    subst (λ (told : Told). ManifestPutFits caller told m.id m.manifest (change.Commit steps) jobs) (sym made)
-    (put_of_fits caller (told_by who.line who.party (Plain GetManifest) None met) m m.manifest steps jobs (record { same = is.same; views = is.views }) refl none no_jobs)
+    subst (λ (world : World). ManifestPutFits caller world m.id m.manifest (change.Commit steps) jobs) (sym made)
+    (put_of_fits caller (after_call who.line who.party (Plain GetManifest) None met) m m.manifest steps jobs (record { same = is.same; views = is.views }) refl none no_jobs)
 
 -- Records that were got are the stored ones as long as their version is.
 records_stored : (got met : Store) (r : VersionedRecords) → Keeps got met → AreRecords (Some r) got → r.id ≡ records_version met.records → AreRecords (Some r) met
@@ -217,11 +217,11 @@ abbrev pub kept_in : VersionedRecords → Compactions
 kept_in r = record r.compactions { jobs = kept_records r.compactions.jobs }
 
 -- So they may be put once more, by a change that changes nothing, whatever others do meanwhile.
-module _ (who : Caller) (told : Told) (r : VersionedRecords) (are : AreRecords (Some r) told.store) (trim : jobs_of (kept_records r.compactions.jobs) ≡ trimmed (jobs_of r.compactions.jobs)) where
-  stored : (met : Told) → Rivals who told met → r.id ≡ records_version met.store.records → AreRecords (Some r) met.store
-  stored met rivals same = records_stored told.store met.store r (rivals_keep who told met rivals) are same
+module _ (who : Caller) (world : World) (r : VersionedRecords) (are : AreRecords (Some r) world.store) (trim : jobs_of (kept_records r.compactions.jobs) ≡ trimmed_jobs (jobs_of r.compactions.jobs)) where
+  stored : (met : World) → Rivals who world met → r.id ≡ records_version met.store.records → AreRecords (Some r) met.store
+  stored met rivals same = records_stored world.store met.store r (rivals_keep who world met rivals) are same
 
-  pub submit_again_fits : who.party ≡ Submitter → RecordsPutFit who told r.id (kept_in r) (record_change.Submit [])
+  pub submit_again_fits : who.party ≡ Submitter → RecordsPutFit who world r.id (kept_in r) (record_change.Submit [])
   submit_again_fits by = record {
     lawful = λ met rivals. (
       no_names who.party met,
@@ -231,7 +231,7 @@ module _ (who : Caller) (told : Told) (r : VersionedRecords) (are : AreRecords (
     shown = λ met rivals same. kept_describe r.compactions.jobs met.store (stored met rivals same).handles;
   }
 
-  pub claim_again_fits : (worker : ℕ) → who.party ≡ Worker worker → RecordsPutFit who told r.id (kept_in r) (record_change.Claim worker [])
+  pub claim_again_fits : (worker : ℕ) → who.party ≡ Worker worker → RecordsPutFit who world r.id (kept_in r) (record_change.Claim worker [])
   claim_again_fits worker by = record {
     lawful = λ met rivals. (
       no_names who.party met,
@@ -242,34 +242,34 @@ module _ (who : Caller) (told : Told) (r : VersionedRecords) (are : AreRecords (
   }
 
 -- The same, given apart what is put.
-module _ (who : Caller) (told : Told) (r : VersionedRecords) (version : ℕ) (copy value : Compactions) (are : AreRecords (Some r) told.store) (at : version ≡ r.id) (copied : copy ≡ r.compactions)
-    (kept : value ≡ record copy { jobs = kept_records copy.jobs }) (trim : jobs_of value.jobs ≡ trimmed (jobs_of copy.jobs)) where
+module _ (who : Caller) (world : World) (r : VersionedRecords) (version : ℕ) (copy value : Compactions) (are : AreRecords (Some r) world.store) (at : version ≡ r.id) (copied : copy ≡ r.compactions)
+    (kept : value ≡ record copy { jobs = kept_records copy.jobs }) (trim : jobs_of value.jobs ≡ trimmed_jobs (jobs_of copy.jobs)) where
   value_is : value ≡ kept_in r
   value_is = kept ∙ ap (λ (c : Compactions). record c { jobs = kept_records c.jobs }) copied
 
-  trim_is : jobs_of (kept_records r.compactions.jobs) ≡ trimmed (jobs_of r.compactions.jobs)
-  trim_is = sym (ap (λ (c : Compactions). jobs_of c.jobs) value_is) ∙ (trim ∙ ap (λ (c : Compactions). trimmed (jobs_of c.jobs)) copied)
+  trim_is : jobs_of (kept_records r.compactions.jobs) ≡ trimmed_jobs (jobs_of r.compactions.jobs)
+  trim_is = sym (ap (λ (c : Compactions). jobs_of c.jobs) value_is) ∙ (trim ∙ ap (λ (c : Compactions). trimmed_jobs (jobs_of c.jobs)) copied)
 
-  pub submit_of_fits : (specs : List (ℕ × CompactionSpec)) → specs ≡ [] → who.party ≡ Submitter → RecordsPutFit who told version value (record_change.Submit specs)
-  submit_of_fits specs none by = rw (at, value_is, none) (submit_again_fits who told r are trim_is by)
+  pub submit_of_fits : (specs : List (ℕ × CompactionSpec)) → specs ≡ [] → who.party ≡ Submitter → RecordsPutFit who world version value (record_change.Submit specs)
+  submit_of_fits specs none by = rw (at, value_is, none) (submit_again_fits who world r are trim_is by)
 
-  pub claim_of_fits : (worker : ℕ) → who.party ≡ Worker worker → RecordsPutFit who told version value (record_change.Claim worker [])
-  claim_of_fits worker by = rw (at, value_is) (claim_again_fits who told r are trim_is worker by)
+  pub claim_of_fits : (worker : ℕ) → who.party ≡ Worker worker → RecordsPutFit who world version value (record_change.Claim worker [])
+  claim_of_fits worker by = rw (at, value_is) (claim_again_fits who world r are trim_is worker by)
 
   pub idle_of_fits : (party : own.Party) (why : record_own.RecordChange) → who.party ≡ party_of party
-      → ((party ≡ parties.Submitter) × (why ≡ record_change.Submit [])) ⊎ ((party ≡ parties.Worker 0) × (why ≡ record_change.Claim 0 [])) → RecordsPutFit who told version value why
+      → ((party ≡ parties.Submitter) × (why ≡ record_change.Submit [])) ⊎ ((party ≡ parties.Worker 0) × (why ≡ record_change.Claim 0 [])) → RecordsPutFit who world version value why
   idle_of_fits party why by (inl is) = rw is.1 (submit_of_fits [] refl (by ∙ ap party_of is.0))
   idle_of_fits party why by (inr is) = rw is.1 (claim_of_fits 0 (by ∙ ap party_of is.0))
 
 -- The same of records that were just got.
-pub submit_got_fits : (who caller : Caller) (met new : Told) (found : Option VersionedRecords) (r : VersionedRecords) (version : ℕ) (copy value : Compactions) (specs : List (ℕ × CompactionSpec))
-    → AreRecords found met.store → found ≡ Some r → new ≡ told_by who.line who.party (Plain GetRecords) None met → version ≡ r.id → copy ≡ r.compactions
-    → value ≡ record copy { jobs = kept_records copy.jobs } → jobs_of value.jobs ≡ trimmed (jobs_of copy.jobs) → specs ≡ [] → caller.party ≡ Submitter
+pub submit_got_fits : (who caller : Caller) (met new : World) (found : Option VersionedRecords) (r : VersionedRecords) (version : ℕ) (copy value : Compactions) (specs : List (ℕ × CompactionSpec))
+    → AreRecords found met.store → found ≡ Some r → new ≡ after_call who.line who.party (Plain GetRecords) None met → version ≡ r.id → copy ≡ r.compactions
+    → value ≡ record copy { jobs = kept_records copy.jobs } → jobs_of value.jobs ≡ trimmed_jobs (jobs_of copy.jobs) → specs ≡ [] → caller.party ≡ Submitter
     → RecordsPutFit caller new version value (record_change.Submit specs)
 submit_got_fits who caller met new found r version copy value specs are some made at copied kept trim none by =
     let got : AreRecords (Some r) met.store = subst (λ (o : Option VersionedRecords). AreRecords o met.store) some are in
-    subst (λ (told : Told). RecordsPutFit caller told version value (record_change.Submit specs)) (sym made)
-    (submit_of_fits caller (told_by who.line who.party (Plain GetRecords) None met) r version copy value (record { same = got.same; handles = got.handles }) at copied kept trim specs none by)
+    subst (λ (world : World). RecordsPutFit caller world version value (record_change.Submit specs)) (sym made)
+    (submit_of_fits caller (after_call who.line who.party (Plain GetRecords) None met) r version copy value (record { same = got.same; handles = got.handles }) at copied kept trim specs none by)
 
 -- ---- the put of another party over a store in memory
 
@@ -280,27 +280,27 @@ module _ (merge : Operator) (old acting : LogParts) (line : ℕ) (other : own.Pa
   abbrev own_log : own.Party → LogParts
   own_log own = record old { line = line; party = own }
 
-  module _ (m : VersionedManifest) (value : Manifest) (steps : List Step) (jobs : List JobParts) (is : IsManifest m old.told.store) (copy : value ≡ m.manifest) (none : steps ≡ []) (no_jobs : jobs ≡ []) where
-    fits : ManifestPutFits (caller_of merge other_log) old.told m.id value (change.Commit steps) jobs
-    fits = put_of_fits (caller_of merge other_log) old.told m value steps jobs is copy none no_jobs
+  module _ (m : VersionedManifest) (value : Manifest) (steps : List Step) (jobs : List JobParts) (is : IsManifest m old.world.store) (copy : value ≡ m.manifest) (none : steps ≡ []) (no_jobs : jobs ≡ []) where
+    fits : ManifestPutFits (caller_of merge other_log) old.world m.id value (change.Commit steps) jobs
+    fits = put_of_fits (caller_of merge other_log) old.world m value steps jobs is copy none no_jobs
 
-    pub manifest_fits_told : ManifestPutFits (caller_of merge acting) acting.told m.id value (change.Commit steps) jobs
-    manifest_fits_told = subst (λ (l : LogParts). ManifestPutFits (caller_of merge l) l.told m.id value (change.Commit steps) jobs) (sym acts) fits
+    pub manifest_fits_world : ManifestPutFits (caller_of merge acting) acting.world m.id value (change.Commit steps) jobs
+    manifest_fits_world = subst (λ (l : LogParts). ManifestPutFits (caller_of merge l) l.world m.id value (change.Commit steps) jobs) (sym acts) fits
 
     pub manifest_came : (own : own.Party) (new : LogParts) (result : Result ℕ SlateDBError) → party_of other ≢ party_of own
-        → PutsManifest (caller_of merge acting) acting.told new.told acting.faults new.faults acting.waits new.waits m.id value (change.Commit steps) jobs result → Rivals (shared_caller merge line own) old.told new.told
+        → PutsManifest (caller_of merge acting) acting.world new.world acting.faults new.faults acting.waits new.waits m.id value (change.Commit steps) jobs result → Rivals (shared_caller merge line own) old.world new.world
     manifest_came own new result differs made =
-        came (caller_of merge (own_log own)) (caller_of merge other_log) old.told new.told old.faults new.faults old.waits new.waits (manifest_put m.id value (change.Commit steps) jobs) _ _ result
-        differs (fits.lawful old.told (none_came (caller_of merge other_log) old.told)) refl refl
-        (subst (λ (l : LogParts). PutsManifest (caller_of merge l) l.told new.told l.faults new.faults l.waits new.waits m.id value (change.Commit steps) jobs result) acts made)
+        came (caller_of merge (own_log own)) (caller_of merge other_log) old.world new.world old.faults new.faults old.waits new.waits (manifest_put m.id value (change.Commit steps) jobs) _ _ result
+        differs (fits.lawful old.world (none_came (caller_of merge other_log) old.world)) refl refl
+        (subst (λ (l : LogParts). PutsManifest (caller_of merge l) l.world new.world l.faults new.faults l.waits new.waits m.id value (change.Commit steps) jobs result) acts made)
 
-  module _ (version : ℕ) (value : Compactions) (why : record_own.RecordChange) (fit : (who : Caller) → who.party ≡ party_of other → RecordsPutFit who old.told version value why) where
-    pub records_fit_told : RecordsPutFit (caller_of merge acting) acting.told version value why
-    records_fit_told = subst (λ (l : LogParts). RecordsPutFit (caller_of merge l) l.told version value why) (sym acts) (fit (caller_of merge other_log) refl)
+  module _ (version : ℕ) (value : Compactions) (why : record_own.RecordChange) (fit : (who : Caller) → who.party ≡ party_of other → RecordsPutFit who old.world version value why) where
+    pub records_fit_world : RecordsPutFit (caller_of merge acting) acting.world version value why
+    records_fit_world = subst (λ (l : LogParts). RecordsPutFit (caller_of merge l) l.world version value why) (sym acts) (fit (caller_of merge other_log) refl)
 
     pub records_came : (own : own.Party) (new : LogParts) (result : Result ℕ SlateDBError) → party_of other ≢ party_of own
-        → PutsRecords (caller_of merge acting) acting.told new.told acting.faults new.faults acting.waits new.waits version value why result → Rivals (shared_caller merge line own) old.told new.told
+        → PutsRecords (caller_of merge acting) acting.world new.world acting.faults new.faults acting.waits new.waits version value why result → Rivals (shared_caller merge line own) old.world new.world
     records_came own new result differs made =
-        came (caller_of merge (own_log own)) (caller_of merge other_log) old.told new.told old.faults new.faults old.waits new.waits (λ met. records_put version value why) _ _ result
-        differs ((fit (caller_of merge other_log) refl).lawful old.told (none_came (caller_of merge other_log) old.told)) refl refl
-        (subst (λ (l : LogParts). PutsRecords (caller_of merge l) l.told new.told l.faults new.faults l.waits new.waits version value why result) acts made)
+        came (caller_of merge (own_log own)) (caller_of merge other_log) old.world new.world old.faults new.faults old.waits new.waits (λ met. records_put version value why) _ _ result
+        differs ((fit (caller_of merge other_log) refl).lawful old.world (none_came (caller_of merge other_log) old.world)) refl refl
+        (subst (λ (l : LogParts). PutsRecords (caller_of merge l) l.world new.world l.faults new.faults l.waits new.waits version value why result) acts made)

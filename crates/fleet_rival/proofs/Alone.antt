@@ -2,11 +2,11 @@
 use Rattle.std.proofs.Common.{◌≡◌, refl, ap, sym, ◌∙◌, subst, ℕ, true, List, [], Some}
 use Rattle.fleet_model.specs.Exchanges.{records_version}
 use Rattle.fleet_model.specs.History.{Submitter, Commit}
-use Rattle.fleet_model.specs.Jobs.{trimmed}
+use Rattle.fleet_model.specs.Jobs.{trimmed_jobs}
 use Rattle.fleet_model.specs.Store.{Store}
 use Rattle.fleet_model.specs.Store as model_store
 use Rattle.step_model.specs.LawfulManifests.{ManifestFits}
-use Rattle.step_model.specs.Past.{Told}
+use Rattle.step_model.specs.Past.{World}
 use Rattle.step_model.specs.Rivals.{Caller, Rivals}
 use Rattle.fleet_tree.specs.declared.manifest.Manifest.{Manifest}
 use Rattle.fleet_tree.specs.declared.manifest.VersionedManifest.{VersionedManifest}
@@ -26,29 +26,29 @@ use Rattle.fleet_store.specs.Records.{AreRecords}
 use Rattle.fleet_rival.proofs.Again.{put_again_fits, submit_of_fits}
 use Rattle.fleet_rival.proofs.Rivals.{only_met}
 
-module _ (who : Caller) (told : Told) (alone : who.alone ≡ true) where
+module _ (who : Caller) (world : World) (alone : who.alone ≡ true) where
   -- The stored manifest may be put once more, unchanged, over any version.
   pub manifest_of_any : (m : VersionedManifest) (version : ℕ) (value : Manifest) (steps : List Step) (jobs : List JobParts)
-      → IsManifest m told.store → value ≡ m.manifest → steps ≡ [] → jobs ≡ [] → ManifestPutFits who told version value (change.Commit steps) jobs
+      → IsManifest m world.store → value ≡ m.manifest → steps ≡ [] → jobs ≡ [] → ManifestPutFits who world version value (change.Commit steps) jobs
   manifest_of_any m version value steps jobs is copy none no_jobs = rw (copy, none, no_jobs) (record { lawful = lawful; shown = shown })
     where
-      at : (met : Told) → Rivals who told met → version ≡ met.store.manifest.version → m.id ≡ version
+      at : (met : World) → Rivals who world met → version ≡ met.store.manifest.version → m.id ≡ version
       at met rivals same =
-          ap (λ (b : model_store.Manifest). b.version) is.same ∙ (ap (λ (t : Told). t.store.manifest.version) (only_met who told met alone rivals) ∙ sym same)
+          ap (λ (b : model_store.Manifest). b.version) is.same ∙ (ap (λ (t : World). t.store.manifest.version) (only_met who world met alone rivals) ∙ sym same)
 
-      lawful : MayCall who told (manifest_put version m.manifest (change.Commit []) [])
+      lawful : MayCall who world (manifest_put version m.manifest (change.Commit []) [])
       lawful met rivals same =
           let e = at met rivals same in
           subst (λ v. ManifestFits who.party met (Commit []) (meant_by [] (Commit []) v m.manifest met.store)) e
-          ((put_again_fits who told m is).lawful met rivals (e ∙ same))
+          ((put_again_fits who world m is).lawful met rivals (e ∙ same))
 
-      shown : (met : Told) → Rivals who told met → version ≡ met.store.manifest.version → HasTrees m.manifest [] (Commit []) met.store
-      shown met rivals same = (put_again_fits who told m is).shown met rivals (at met rivals same ∙ same)
+      shown : (met : World) → Rivals who world met → version ≡ met.store.manifest.version → HasTrees m.manifest [] (Commit []) met.store
+      shown met rivals same = (put_again_fits who world m is).shown met rivals (at met rivals same ∙ same)
 
   -- The stored records may be put once more, over any version, as a submit of no jobs.
   pub submit_of_any : (r : VersionedRecords) (version : ℕ) (copy value : Compactions) (specs : List (ℕ × CompactionSpec))
-      → AreRecords (Some r) told.store → copy ≡ r.compactions → value ≡ record copy { jobs = kept_records copy.jobs } → jobs_of value.jobs ≡ trimmed (jobs_of copy.jobs)
-      → specs ≡ [] → who.party ≡ Submitter → RecordsPutFit who told version value (record_change.Submit specs)
+      → AreRecords (Some r) world.store → copy ≡ r.compactions → value ≡ record copy { jobs = kept_records copy.jobs } → jobs_of value.jobs ≡ trimmed_jobs (jobs_of copy.jobs)
+      → specs ≡ [] → who.party ≡ Submitter → RecordsPutFit who world version value (record_change.Submit specs)
   submit_of_any r version copy value specs are copied kept trim none by = record {
     lawful = λ met rivals. (
       ((fits r.id refl).lawful met rivals).0,
@@ -57,8 +57,8 @@ module _ (who : Caller) (told : Told) (alone : who.alone ≡ true) where
     shown = λ met rivals same. (fits version (at met rivals same)).shown met rivals same;
   }
     where
-      at : (met : Told) → Rivals who told met → version ≡ records_version met.store.records → version ≡ r.id
-      at met rivals same = same ∙ sym (ap records_version are.same ∙ ap (λ (t : Told). records_version t.store.records) (only_met who told met alone rivals))
+      at : (met : World) → Rivals who world met → version ≡ records_version met.store.records → version ≡ r.id
+      at met rivals same = same ∙ sym (ap records_version are.same ∙ ap (λ (t : World). records_version t.store.records) (only_met who world met alone rivals))
 
-      fits : (v : ℕ) → v ≡ r.id → RecordsPutFit who told v value (record_change.Submit specs)
-      fits v same = submit_of_fits who told r v copy value are same copied kept trim specs none by
+      fits : (v : ℕ) → v ≡ r.id → RecordsPutFit who world v value (record_change.Submit specs)
+      fits v same = submit_of_fits who world r v copy value are same copied kept trim specs none by

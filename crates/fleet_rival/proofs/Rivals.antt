@@ -5,16 +5,16 @@ use Rattle.std.specs.List.{AllByRecursion}
 use Rattle.row_model.specs.Fold.{Operator}
 use Rattle.fleet_model.specs.History.{Party, Submitter, Worker, Submit, Claim, Commit}
 use Rattle.fleet_model.specs.Exchanges.{Exchange, Fault}
-use Rattle.fleet_model.specs.Jobs.{Job, Jobs, changed, trimmed}
+use Rattle.fleet_model.specs.Jobs.{Job, Jobs, changed_jobs, trimmed_jobs}
 use Rattle.fleet_model.specs.Records.{Unrecorded, claimed_by, jobs_after, no_contexts}
 use Rattle.fleet_model.specs.Replay.{epoch_after}
 use Rattle.fleet_model.specs.Store.{Store}
 use Rattle.fleet_model.specs.Store as model_store
-use Rattle.step_model.specs.Past.{Told}
+use Rattle.step_model.specs.Past.{World}
 use Rattle.step_model.specs.Lawful.{Lawful}
 use Rattle.step_model.specs.LawfulManifests.{ManifestFits}
 use Rattle.step_model.specs.LawfulRecords.{NamesFit, RecordsFit}
-use Rattle.step_model.specs.Rivals.{Caller, MayStrike, Rivals, RivalsFrom, Strike, is_deletion, told_by}
+use Rattle.step_model.specs.Rivals.{Caller, MayStrike, Rivals, RivalsFrom, Strike, is_deletion, after_call}
 use Rattle.fleet_rows.specs.declared.errors.SlateDBError.{SlateDBError}
 use Rattle.fleet_rows.specs.declared.errors.SlateDBError.TheVariants.{IteratorNotInitialized, IteratorFailed, MergeOperatorMissing, InvalidSequenceOrder, MergeOperator, CompactionFilter, InvalidCompaction, InvalidDBState, Fenced, StoreFault, NotOwner, Conflict, Generate, Memory}
 use Rattle.fleet_tree.specs.declared.manifest.Manifest.{Manifest}
@@ -39,15 +39,15 @@ use Rattle.fleet_store.specs.Manifests.{HasTrees, IsManifest, meant_by, spec_or_
 use Rattle.fleet_store.specs.Records.{DescribeTables, job_handles}
 use Rattle.fleet_rival.specs.Callers.{shared_caller}
 
--- Only what was told before can be met, if nobody else calls.
-pub only_met : (who : Caller) (old met : Told) → who.alone ≡ true → Rivals who old met → old ≡ met
+-- Only what was world before can be met, if nobody else calls.
+pub only_met : (who : Caller) (old met : World) → who.alone ≡ true → Rivals who old met → old ≡ met
 only_met who old met alone r = subst (λ calls. RivalsFrom who calls old met) (r.none alone) r.lead
 
 -- No call of others came.
-pub none_came : (who : Caller) (told : Told) → Rivals who told told
-none_came who told = record { calls = []; lead = refl; none = λ alone. refl }
+pub none_came : (who : Caller) (world : World) → Rivals who world world
+none_came who world = record { calls = []; lead = refl; none = λ alone. refl }
 
--- ---- a call behind calls of others
+-- ---- a call after calls of others
 
 -- The caller, if others call too.
 abbrev pub shared : Caller → Caller
@@ -56,7 +56,7 @@ shared who = record who { alone = false }
 absurd_alone : {A : Type 0} → false ≡ true → A
 absurd_alone e = absurd (cc e)
 
-module _ {A : Type 0} (who : Caller) (x : Exchange) (met new : Told) (before after : ℕ) (waits left : Option Fault) (Gives : A → Type 0) (Refuses : ℕ → Type 0) where
+module _ {A : Type 0} (who : Caller) (x : Exchange) (met new : World) (before after : ℕ) (waits left : Option Fault) (Gives : A → Type 0) (Refuses : ℕ → Type 0) where
   end_shared : (first : ℕ) (waited : Option Fault) → first ≤ before → (result : Result A SlateDBError) → Ended who x met new before after waits left Gives Refuses result → Ended (shared who) x met new first after waited left Gives Refuses result
   end_shared first waited low (Ok answer) is = (is.0, is.1, is.2, λ alone. absurd_alone alone)
   end_shared first waited low (Err StoreFault) is = (omega (arith, low, is.0), is.1, (is.2.0, is.2.1, λ alone. absurd_alone alone))
@@ -75,75 +75,75 @@ module _ {A : Type 0} (who : Caller) (x : Exchange) (met new : Told) (before aft
   end_shared first waited low (Err (Generate message)) is = absurd is
 
 -- Calls of others and then a call by a caller that is alone are one call of a store that others call too.
-pub behind : {A : Type 0} (who : Caller) (old middle new : Told) (first before after : ℕ) (waited waits left : Option Fault) (x : Store → Exchange) (Gives : Store → A → Type 0) (Refuses : Store → ℕ → Type 0) (result : Result A SlateDBError)
+pub called_after_others : {A : Type 0} (who : Caller) (old middle new : World) (first before after : ℕ) (waited waits left : Option Fault) (x : Store → Exchange) (Gives : Store → A → Type 0) (Refuses : Store → ℕ → Type 0) (result : Result A SlateDBError)
     → who.alone ≡ true → Rivals (shared who) old middle → first ≤ before → Called who middle new before after waits left x Gives Refuses result
     → Called (shared who) old new first after waited left x Gives Refuses result
-behind who old middle new first before after waited waits left x Gives Refuses result alone others low called = record {
+called_after_others who old middle new first before after waited waits left x Gives Refuses result alone others low called = record {
   rise = omega (arith, low, called.rise);
   met = called.met;
   rivals = subst (Rivals (shared who) old) (only_met who middle called.met alone called.rivals) others;
   ended = end_shared who (x called.met.store) called.met new before after waits left (Gives called.met.store) (Refuses called.met.store) first waited low result called.ended;
 }
 
--- A store in memory was told who calls.
+-- A store in memory was world who calls.
 module _ (merge : Operator) (old acting : LogParts) (line : ℕ) (party : own.Party) (acts : acting ≡ record old { line = line; party = party }) where
-  abbrev told_who : LogParts
-  told_who = record old { line = line; party = party }
+  abbrev world_who : LogParts
+  world_who = record old { line = line; party = party }
 
-  -- What may be met, behind calls of others.
-  met_later : (first : Told) (met : Told) → Rivals (shared_caller merge line party) first old.told → Rivals (caller_of merge acting) acting.told met → Rivals (shared_caller merge line party) first met
+  -- What may be met, after calls of others.
+  met_later : (first : World) (met : World) → Rivals (shared_caller merge line party) first old.world → Rivals (caller_of merge acting) acting.world met → Rivals (shared_caller merge line party) first met
   met_later first met others alone =
       subst (Rivals (shared_caller merge line party) first)
-      (only_met (caller_of merge told_who) old.told met refl (subst (λ (l : LogParts). Rivals (caller_of merge l) l.told met) acts alone)) others
+      (only_met (caller_of merge world_who) old.world met refl (subst (λ (l : LogParts). Rivals (caller_of merge l) l.world met) acts alone)) others
 
   same_party : party_of acting.party ≡ party_of party
   same_party = ap (λ (l : LogParts). party_of l.party) acts
 
-  -- A call that may be made whatever others do may be made behind calls of others.
-  pub may_call : (first : Told) (x : Store → Exchange) → Rivals (shared_caller merge line party) first old.told → MayCall (shared_caller merge line party) first x → MayCall (caller_of merge acting) acting.told x
+  -- A call that may be made whatever others do may be made after calls of others.
+  pub may_call : (first : World) (x : Store → Exchange) → Rivals (shared_caller merge line party) first old.world → MayCall (shared_caller merge line party) first x → MayCall (caller_of merge acting) acting.world x
   may_call first x others may met alone = subst (λ by. Lawful merge by met (x met.store)) (sym same_party) (may met (met_later first met others alone))
 
-  pub manifest_may : (first : Told) (version : ℕ) (value : Manifest) (why : ManifestChange) (jobs : List JobParts) → Rivals (shared_caller merge line party) first old.told
-      → ManifestPutFits (shared_caller merge line party) first version value why jobs → ManifestPutFits (caller_of merge acting) acting.told version value why jobs
+  pub manifest_may : (first : World) (version : ℕ) (value : Manifest) (why : ManifestChange) (jobs : List JobParts) → Rivals (shared_caller merge line party) first old.world
+      → ManifestPutFits (shared_caller merge line party) first version value why jobs → ManifestPutFits (caller_of merge acting) acting.world version value why jobs
   manifest_may first version value why jobs others fits = record {
     lawful = may_call first (manifest_put version value why jobs) others fits.lawful;
     shown = λ met alone. fits.shown met (met_later first met others alone);
   }
 
-  pub records_may : (first : Told) (version : ℕ) (value : Compactions) (why : own_change.RecordChange) → Rivals (shared_caller merge line party) first old.told
-      → RecordsPutFit (shared_caller merge line party) first version value why → RecordsPutFit (caller_of merge acting) acting.told version value why
+  pub records_may : (first : World) (version : ℕ) (value : Compactions) (why : own_change.RecordChange) → Rivals (shared_caller merge line party) first old.world
+      → RecordsPutFit (shared_caller merge line party) first version value why → RecordsPutFit (caller_of merge acting) acting.world version value why
   records_may first version value why others fits = record {
     lawful = may_call first (λ met. records_put version value why) others fits.lawful;
     shown = λ met alone. fits.shown met (met_later first met others alone);
   }
 
-  -- A call by the caller, behind calls of others.
+  -- A call by the caller, after calls of others.
   module _ {A : Type 0} (new : LogParts) (x : Store → Exchange) (Gives : Store → A → Type 0) (Refuses : Store → ℕ → Type 0) (result : Result A SlateDBError)
-      (made : Called (caller_of merge acting) acting.told new.told acting.faults new.faults acting.waits new.waits x Gives Refuses result) where
-    pub behind_others : (first : LogParts) → Rivals (shared_caller merge line party) first.told old.told → first.faults ≤ old.faults
-        → Called (shared_caller merge line party) first.told new.told first.faults new.faults first.waits new.waits x Gives Refuses result
-    behind_others first others low =
-        behind (caller_of merge told_who) first.told old.told new.told first.faults old.faults new.faults first.waits old.waits new.waits x Gives Refuses result refl others low
-        (subst (λ (l : LogParts). Called (caller_of merge l) l.told new.told l.faults new.faults l.waits new.waits x Gives Refuses result) acts made)
+      (made : Called (caller_of merge acting) acting.world new.world acting.faults new.faults acting.waits new.waits x Gives Refuses result) where
+    pub after_others : (first : LogParts) → Rivals (shared_caller merge line party) first.world old.world → first.faults ≤ old.faults
+        → Called (shared_caller merge line party) first.world new.world first.faults new.faults first.waits new.waits x Gives Refuses result
+    after_others first others low =
+        called_after_others (caller_of merge world_who) first.world old.world new.world first.faults old.faults new.faults first.waits old.waits new.waits x Gives Refuses result refl others low
+        (subst (λ (l : LogParts). Called (caller_of merge l) l.world new.world l.faults new.faults l.waits new.waits x Gives Refuses result) acts made)
 
-    pub at_once : Called (shared_caller merge line party) old.told new.told old.faults new.faults old.waits new.waits x Gives Refuses result
-    at_once = behind_others old (none_came (shared_caller merge line party) old.told) (omega arith)
+    pub at_once : Called (shared_caller merge line party) old.world new.world old.faults new.faults old.waits new.waits x Gives Refuses result
+    at_once = after_others old (none_came (shared_caller merge line party) old.world) (omega arith)
 
 -- ---- the call of another party
 
-module _ (who other : Caller) (told new : Told) (x : Exchange) (differs : other.party ≢ who.party) (lawful : Lawful who.merge other.party told x) (keeps : is_deletion x ≡ false) where
-  made : (strike : Strike) → MayStrike x told strike → new ≡ told_by other.line other.party x strike told → Rivals (shared who) told new
+module _ (who other : Caller) (world new : World) (x : Exchange) (differs : other.party ≢ who.party) (lawful : Lawful who.merge other.party world x) (keeps : is_deletion x ≡ false) where
+  made : (strike : Strike) → MayStrike x world strike → new ≡ after_call other.line other.party x strike world → Rivals (shared who) world new
   made strike may is = record {
     calls = record { line = other.line; party = other.party; exchange = x; strike = strike } ∷ [];
     lead = (record { other = differs; lawful = lawful; strike = may; deletes_none = keeps }, sym is);
     none = λ alone. absurd_alone alone;
   }
 
-  from_end : {A : Type 0} (before after : ℕ) (waits left : Option Fault) (Gives : A → Type 0) (Refuses : ℕ → Type 0) (result : Result A SlateDBError) → Ended other x told new before after waits left Gives Refuses result → Rivals (shared who) told new
+  from_end : {A : Type 0} (before after : ℕ) (waits left : Option Fault) (Gives : A → Type 0) (Refuses : ℕ → Type 0) (result : Result A SlateDBError) → Ended other x world new before after waits left Gives Refuses result → Rivals (shared who) world new
   from_end before after waits left Gives Refuses (Ok answer) is = made None tt is.2
   from_end before after waits left Gives Refuses (Err StoreFault) is = made (Some is.2.0) is.1 is.2.1
   from_end before after waits left Gives Refuses (Err (Conflict seen)) is = made None tt is.1
-  from_end before after waits left Gives Refuses (Err Memory) is = subst (Rivals (shared who) told) (sym is.0) (none_came (shared who) told)
+  from_end before after waits left Gives Refuses (Err Memory) is = subst (Rivals (shared who) world) (sym is.0) (none_came (shared who) world)
   from_end before after waits left Gives Refuses (Err IteratorNotInitialized) is = absurd is
   from_end before after waits left Gives Refuses (Err IteratorFailed) is = absurd is
   from_end before after waits left Gives Refuses (Err MergeOperatorMissing) is = absurd is
@@ -157,30 +157,30 @@ module _ (who other : Caller) (told new : Told) (x : Exchange) (differs : other.
   from_end before after waits left Gives Refuses (Err (Generate message)) is = absurd is
 
 -- A lawful call of another party, which is alone meanwhile, is a call of others.
-pub came : {A : Type 0} (who other : Caller) (told new : Told) (before after : ℕ) (waits left : Option Fault) (x : Store → Exchange) (Gives : Store → A → Type 0) (Refuses : Store → ℕ → Type 0) (result : Result A SlateDBError)
-    → other.party ≢ who.party → Lawful who.merge other.party told (x told.store) → is_deletion (x told.store) ≡ false → other.alone ≡ true
-    → Called other told new before after waits left x Gives Refuses result → Rivals (shared who) told new
-came who other told new before after waits left x Gives Refuses result differs lawful keeps alone called =
-    let same = only_met other told called.met alone called.rivals in
-    from_end who other told new (x told.store) differs lawful keeps before after waits left (Gives told.store) (Refuses told.store) result
-    (subst (λ (met : Told). Ended other (x met.store) met new before after waits left (Gives met.store) (Refuses met.store) result) (sym same) called.ended)
+pub came : {A : Type 0} (who other : Caller) (world new : World) (before after : ℕ) (waits left : Option Fault) (x : Store → Exchange) (Gives : Store → A → Type 0) (Refuses : Store → ℕ → Type 0) (result : Result A SlateDBError)
+    → other.party ≢ who.party → Lawful who.merge other.party world (x world.store) → is_deletion (x world.store) ≡ false → other.alone ≡ true
+    → Called other world new before after waits left x Gives Refuses result → Rivals (shared who) world new
+came who other world new before after waits left x Gives Refuses result differs lawful keeps alone called =
+    let same = only_met other world called.met alone called.rivals in
+    from_end who other world new (x world.store) differs lawful keeps before after waits left (Gives world.store) (Refuses world.store) result
+    (subst (λ (met : World). Ended other (x met.store) met new before after waits left (Gives met.store) (Refuses met.store) result) (sym same) called.ended)
 
 -- ---- the stored manifest once more
 
-module _ (told : Told) (m : VersionedManifest) (is : IsManifest m told.store) where
-  again : meant_by [] (Commit []) m.id m.manifest told.store ≡ told.store.manifest
-  again = ap (λ (b : model_store.Manifest). record b { trees = told.store.manifest.trees }) is.same
+module _ (world : World) (m : VersionedManifest) (is : IsManifest m world.store) where
+  again : meant_by [] (Commit []) m.id m.manifest world.store ≡ world.store.manifest
+  again = ap (λ (b : model_store.Manifest). record b { trees = world.store.manifest.trees }) is.same
 
   -- A commit of no steps may put it.
-  pub manifest_fits : (party : Party) → ManifestFits party told (Commit []) (meant_by [] (Commit []) m.id m.manifest told.store)
+  pub manifest_fits : (party : Party) → ManifestFits party world (Commit []) (meant_by [] (Commit []) m.id m.manifest world.store)
   manifest_fits party = record { by = tt; specs = λ id. spec_or_none None; known = tt; each = tt; makes = again }
 
-  pub manifest_trees : HasTrees m.manifest [] (Commit []) told.store
+  pub manifest_trees : HasTrees m.manifest [] (Commit []) world.store
   manifest_trees = record { same = ap (λ (b : model_store.Manifest). b.trees) is.same; views = is.views }
 
 -- ---- the stored records once more
 
-changed_none : (f : Job → Job) (jobs : Jobs) → changed f [] jobs ≡ jobs
+changed_none : (f : Job → Job) (jobs : Jobs) → changed_jobs f [] jobs ≡ jobs
 changed_none f [] = refl
 changed_none f (job ∷ jobs) = ap (λ js. job ∷ js) (changed_none f jobs)
 
@@ -208,18 +208,18 @@ kept_describe (job ∷ jobs) store all = by (is_open job) (over_later jobs) (kep
     by false false rest = keep rest
 
 -- Any party may name no jobs.
-pub no_names : (party : Party) (told : Told) → NamesFit party told []
-no_names party told = record { once = tt; drawn = tt; replays = λ specs faithful. faithful }
+pub no_names : (party : Party) (world : World) → NamesFit party world []
+no_names party world = record { once = tt; drawn = tt; replays = λ specs faithful. faithful }
 
 -- No change of the records depends on these.
 pub nothing : Unrecorded
 nothing = record { moment = 0; published = no_contexts; kept_cut = None; tables_of = λ spec. [] }
 
-module _ (merge : Operator) (party : Party) (told : Told) (r : VersionedRecords) (is : Some (records_of r) ≡ told.store.records) where
-  there : IsTrue (is_some told.store.records)
+module _ (merge : Operator) (party : Party) (world : World) (r : VersionedRecords) (is : Some (records_of r) ≡ world.store.records) where
+  there : IsTrue (is_some world.store.records)
   there = subst (λ records. IsTrue (is_some records)) is refl
 
-  pub submit_fits : party ≡ Submitter → RecordsFit merge party told (Submit []) r.compactions.compactor_epoch (trimmed (jobs_of r.compactions.jobs))
+  pub submit_fits : party ≡ Submitter → RecordsFit merge party world (Submit []) r.compactions.compactor_epoch (trimmed_jobs (jobs_of r.compactions.jobs))
   submit_fits by = record {
     there = there;
     unrecorded = nothing;
@@ -228,11 +228,11 @@ module _ (merge : Operator) (party : Party) (told : Told) (r : VersionedRecords)
     fits = record { by = by; new = tt };
   }
 
-  pub claim_fits : (worker : ℕ) → party ≡ Worker worker → RecordsFit merge party told (Claim worker []) r.compactions.compactor_epoch (trimmed (jobs_of r.compactions.jobs))
+  pub claim_fits : (worker : ℕ) → party ≡ Worker worker → RecordsFit merge party world (Claim worker []) r.compactions.compactor_epoch (trimmed_jobs (jobs_of r.compactions.jobs))
   claim_fits worker by = record {
     there = there;
     unrecorded = nothing;
-    makes_jobs = ap trimmed (sym (changed_none (claimed_by worker 0) (jobs_of r.compactions.jobs))) ∙ ap (λ records. jobs_after nothing (Claim worker []) (model_store.jobs_in records)) is;
+    makes_jobs = ap trimmed_jobs (sym (changed_none (claimed_by worker 0) (jobs_of r.compactions.jobs))) ∙ ap (λ records. jobs_after nothing (Claim worker []) (model_store.jobs_in records)) is;
     makes_epoch = ap (epoch_after (Claim worker [])) is;
     fits = record { by = by; once = tt; each = tt };
   }

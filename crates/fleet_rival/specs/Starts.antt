@@ -2,18 +2,18 @@
 use Rattle.std.specs.Prelude.{ℕ, ◌+◌, [], None}
 use Rattle.fleet_model.specs.Exchanges.{PutsManifest, PutsRecords}
 use Rattle.fleet_model.specs.History.{Coordinator, ManifestEpoch, RecordsEpoch}
-use Rattle.step_model.specs.Past.{Told}
-use Rattle.step_model.specs.Rivals.{told_by}
+use Rattle.step_model.specs.Past.{World}
+use Rattle.step_model.specs.Rivals.{after_call}
 
 -- The next epoch of the manifest.
-abbrev pub next_epoch : Told → ℕ
-next_epoch told = told.store.manifest.epoch + 1
+abbrev pub next_epoch : World → ℕ
+next_epoch world = world.store.manifest.epoch + 1
 
--- What is told after the coordinator 1 put the next epoch into the manifest.
-abbrev pub raised : Told → Told
-raised told =
-    told_by 0 (Coordinator 1) (PutsManifest told.store.manifest.version (ManifestEpoch (next_epoch told)) (record told.store.manifest { epoch = next_epoch told })) None told
+-- What is world after the coordinator 1 put the next epoch into the manifest.
+abbrev pub raised : World → World
+raised world =
+    after_call 0 (Coordinator 1) (PutsManifest world.store.manifest.version (ManifestEpoch (next_epoch world)) (record world.store.manifest { epoch = next_epoch world })) None world
 
--- What is told after it then put the first records, which have that epoch and no jobs.
-abbrev pub started : Told → Told
-started told = told_by 0 (Coordinator 1) (PutsRecords 0 (RecordsEpoch (next_epoch told)) (next_epoch told) []) None (raised told)
+-- What is world after it then put the first records, which have that epoch and no jobs.
+abbrev pub started : World → World
+started world = after_call 0 (Coordinator 1) (PutsRecords 0 (RecordsEpoch (next_epoch world)) (next_epoch world) []) None (raised world)

@@ -14,9 +14,9 @@ use std::alloc::Global;
 /// next epoch into the manifest, and then records of that epoch. The answer is their version. If the
 /// second put fails, the first one stands.
 pub fn first_records(store: &mut MemStore, alloc: Global) -> Result<u64, SlateDBError>
-    requires { store.old.told.store.records ≡ None }
+    requires { store.old.world.store.records ≡ None }
     ensures version { IfOk result (λ version. version ≡ 1) }
-    ensures told { OnOk result (store.new.told ≡ started store.old.told) }
+    ensures world { OnOk result (store.new.world ≡ started store.old.world) }
 {
     let epoch = raise_epoch(store, alloc)?;
     let records = Compactions::new(alloc, epoch);
@@ -27,8 +27,8 @@ pub fn first_records(store: &mut MemStore, alloc: Global) -> Result<u64, SlateDB
 
 // Puts the next epoch into the manifest, by the coordinator 1. The answer is that epoch.
 fn raise_epoch(store: &mut MemStore, alloc: Global) -> Result<u64, SlateDBError>
-    ensures epoch { IfOk result (λ epoch. epoch ≡ next_epoch store.old.told) }
-    ensures told { OnOk result (store.new.told ≡ raised store.old.told) }
+    ensures epoch { IfOk result (λ epoch. epoch ≡ next_epoch store.old.world) }
+    ensures world { OnOk result (store.new.world ≡ raised store.old.world) }
 {
     let stored = store.manifest();
     let version = stored.id;

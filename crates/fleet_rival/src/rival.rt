@@ -86,7 +86,7 @@ fn put_manifest_again(
     own: Party,
 ) -> Result<(), SlateDBError>
     ensures rivals { Rivals (shared_caller append line own)
-        (lent.store_of under.old).told (lent.store_of under.new).told }
+        (lent.store_of under.old).world (lent.store_of under.new).world }
     ensures faults { (lent.store_of under.old).faults ≤ (lent.store_of under.new).faults }
     ensures same_reference { lent.lent_of under.new ≡ lent.lent_of under.old }
     ensures memory { IsOkUnless result SlateDBError.Memory }
@@ -109,7 +109,7 @@ fn put_records_again(
     own: Party,
 ) -> Result<(), SlateDBError>
     ensures rivals { Rivals (shared_caller append line own)
-        (lent.store_of under.old).told (lent.store_of under.new).told }
+        (lent.store_of under.old).world (lent.store_of under.new).world }
     ensures faults { (lent.store_of under.old).faults ≤ (lent.store_of under.new).faults }
     ensures same_reference { lent.lent_of under.new ≡ lent.lent_of under.old }
     ensures memory { IsOkUnless result SlateDBError.Memory }
@@ -130,7 +130,7 @@ fn put_records_again(
 impl Store for Rival<'_> {
     ghost use Rattle.fleet_rival.specs.Rival.{caller_of, lent_of, store_of};
 
-    ghost told = { λ r. (store_of r).told };
+    ghost world = { λ r. (store_of r).world };
 
     ghost who = { λ r. caller_of r };
 

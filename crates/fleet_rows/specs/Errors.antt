@@ -7,10 +7,10 @@ use Rattle.fleet_rows.specs.declared.errors.SlateDBError.{SlateDBError}
 use Rattle.fleet_rows.specs.declared.errors.SlateDBError.TheVariants.{MergeOperator, CompactionFilter, Memory}
 
 -- The error of the fleet for an error of a merge operator. `Memory` stays `Memory`.
-abbrev pub raised : MergeOperatorError → SlateDBError
-raised merge.EmptyBatch = MergeOperator merge.EmptyBatch
-raised (merge.Callback message) = MergeOperator (merge.Callback message)
-raised merge.Memory = Memory
+abbrev pub raised_error : MergeOperatorError → SlateDBError
+raised_error merge.EmptyBatch = MergeOperator merge.EmptyBatch
+raised_error (merge.Callback message) = MergeOperator (merge.Callback message)
+raised_error merge.Memory = Memory
 
 -- The error of the fleet for an error of a compaction filter. `Memory` stays `Memory`.
 abbrev pub raised_by_filter : CompactionFilterError → SlateDBError

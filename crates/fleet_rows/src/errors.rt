@@ -4,7 +4,7 @@ ghost use Rattle.std.specs.Prelude.{◌≡◌, IfOk, IsOkUnless};
 ghost use Rattle.fleet_rows.specs.declared.errors.CompactionFilterError.TheVariants as filter;
 ghost use Rattle.fleet_rows.specs.declared.errors.MergeOperatorError.TheVariants as merge;
 ghost use Rattle.fleet_rows.specs.declared.errors.SlateDBError.TheVariants as fleet;
-ghost use Rattle.fleet_rows.specs.Errors.{raised, raised_by_filter};
+ghost use Rattle.fleet_rows.specs.Errors.{raised_error, raised_by_filter};
 
 use crate::Text;
 use std::alloc::{AllocError, AllocFailed};
@@ -146,7 +146,7 @@ impl<T: Drop> From<AllocFailed<T>> for SlateDBError {
 }
 
 impl From<MergeOperatorError> for SlateDBError {
-    ghost from_gives = { λ refusal e. e ≡ raised refusal };
+    ghost from_gives = { λ refusal e. e ≡ raised_error refusal };
 
     fn from(error: MergeOperatorError) -> SlateDBError {
         match error {

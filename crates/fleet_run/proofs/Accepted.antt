@@ -9,7 +9,7 @@ use Rattle.row_model.specs.Sizes.{content_len}
 use Rattle.fleet_model.specs.Trees.{greater_seq, greatest_seq}
 use Rattle.fleet_rows.specs.Row.{rows_of}
 use Rattle.fleet_rows.specs.declared.row.RowEntry.{RowEntry}
-use Rattle.fleet_table.specs.Table.{IsTable}
+use Rattle.fleet_table.specs.Table.{IsTableRows}
 use Rattle.fleet_block.proofs.Ordered.{ordered_of_test}
 use Rattle.step_model.specs.FlushSteps.{is_above}
 use Rattle.step_model.specs.StepEnds.{BadName, BadOrder, BadSequence, BadFloor, BadTick}
@@ -68,7 +68,7 @@ rows_in_bounds (r ∷ rows) h =
     (first, rows_in_bounds rows h.1)
 
 -- The rows of a flush that breaks no rule are a table.
-pub are_table : (fleet : FleetView) (name floor : ℕ) (tick : ℤ) (rows : List RowEntry) → 0 < length rows → AreRows (rows_of rows) → flush_fault fleet name floor tick (rows_of rows) ≡ None → IsTable (rows_of rows)
+pub are_table : (fleet : FleetView) (name floor : ℕ) (tick : ℤ) (rows : List RowEntry) → 0 < length rows → AreRows (rows_of rows) → flush_fault fleet name floor tick (rows_of rows) ≡ None → IsTableRows (rows_of rows)
 are_table fleet name floor tick [] some fits h = absurd (omega arith)
 are_table fleet name floor tick (r ∷ rows) some fits h =
     let all = rows_of (r ∷ rows) in

@@ -6,11 +6,11 @@ use Rattle.std.proofs.lemmas.Bool.Decides.{nat_tests}
 use Rattle.fleet_model.specs.History.{Party, GetManifest, GetRecords, PutTable, PutManifest, PutRecords, DrawJob, DrawTable, ListTables, DeleteTable, ManifestChange, RecordChange, Entry}
 use Rattle.fleet_model.specs.Jobs.{Jobs}
 use Rattle.fleet_model.specs.Store.{Manifest, Records, Store, held_tables}
-use Rattle.fleet_model.specs.Exchanges.{Exchange, Plain, DrawsJob, DrawsTable, PutsTable, PutsManifest, PutsRecords, ListsTables, DeletesTable, records_version, answer_of, answered, next_job_id, next_table_id}
+use Rattle.fleet_model.specs.Exchanges.{Exchange, Plain, DrawsJob, DrawsTable, PutsTable, PutsManifest, PutsRecords, ListsTables, DeletesTable, records_version, answer_of, after_answered, next_job_id, next_table_id}
 use Rattle.step_model.specs.Alone.{run_alone}
 use Rattle.step_model.specs.Course.{Course, Ends, Calls, then_course, gets_manifest, gets_records, puts_manifest, puts_records}
 use Rattle.step_model.specs.Entries.{name_in, last_name}
-use Rattle.fleet_run.specs.Holds.{Held, held}
+use Rattle.fleet_run.specs.Holds.{Held, held_parts}
 
 -- ---- calls
 
@@ -46,28 +46,28 @@ same_number n m h = grind (arith, nat_tests, h)
 name_stays : (store : Store) (e : Entry) → name_in e.event ≡ 0 → last_name (store.history ++ e ∷ []) ≡ last_name store.history
 name_stays store e h = omega (arith, last_name-append store.history e, h)
 
-held_one : (line : ℕ) (party : Party) (x : Exchange) (store : Store) → Succeeds x (held store) → held (answered line party x store) ≡ held_after x (held store)
+held_one : (line : ℕ) (party : Party) (x : Exchange) (store : Store) → Succeeds x (held_parts store) → held_parts (after_answered line party x store) ≡ held_after x (held_parts store)
 held_one line party (Plain event) store h =
-    ap (λ name. record (held store) { name = name }) (name_stays store (record { line = line; party = party; event = event; answer = answer_of (Plain event) store }) h)
+    ap (λ name. record (held_parts store) { name = name }) (name_stays store (record { line = line; party = party; event = event; answer = answer_of (Plain event) store }) h)
 held_one line party (DrawsJob moment) store h =
-    ap (λ name. record (held store) { jobs_drawn = store.jobs_drawn + 1; name = name }) (name_stays store (record { line = line; party = party; event = DrawJob (next_job_id moment store); answer = answer_of (DrawsJob moment) store }) refl)
+    ap (λ name. record (held_parts store) { jobs_drawn = store.jobs_drawn + 1; name = name }) (name_stays store (record { line = line; party = party; event = DrawJob (next_job_id moment store); answer = answer_of (DrawsJob moment) store }) refl)
 held_one line party (DrawsTable moment) store h =
-    ap (λ name. record (held store) { tables_drawn = store.tables_drawn + 1; name = name }) (name_stays store (record { line = line; party = party; event = DrawTable (next_table_id moment store); answer = answer_of (DrawsTable moment) store }) refl)
+    ap (λ name. record (held_parts store) { tables_drawn = store.tables_drawn + 1; name = name }) (name_stays store (record { line = line; party = party; event = DrawTable (next_table_id moment store); answer = answer_of (DrawsTable moment) store }) refl)
 held_one line party (PutsTable table rows) store h =
-    ap (λ name. record (held store) { tables = store.tables ++ (table, rows) ∷ []; name = name }) (last_name-append store.history (record { line = line; party = party; event = PutTable table (length rows); answer = answer_of (PutsTable table rows) store }))
+    ap (λ name. record (held_parts store) { tables = store.tables ++ (table, rows) ∷ []; name = name }) (last_name-append store.history (record { line = line; party = party; event = PutTable table (length rows); answer = answer_of (PutsTable table rows) store }))
 held_one line party (PutsManifest version change value) store h =
     let e : Entry = record { line = line; party = party; event = PutManifest change; answer = answer_of (PutsManifest version change value) store } in
-    ap (λ b. held (record (cond b (record store { manifest = record value { version = version + 1 } }) store) { history = (cond b (record store { manifest = record value { version = version + 1 } }) store).history ++ e ∷ [] })) (same_number version store.manifest.version h)
-    ∙ ap (λ name. record (held store) { manifest = record value { version = version + 1 }; name = name }) (name_stays store e refl)
+    ap (λ b. held_parts (record (cond b (record store { manifest = record value { version = version + 1 } }) store) { history = (cond b (record store { manifest = record value { version = version + 1 } }) store).history ++ e ∷ [] })) (same_number version store.manifest.version h)
+    ∙ ap (λ name. record (held_parts store) { manifest = record value { version = version + 1 }; name = name }) (name_stays store e refl)
 held_one line party (PutsRecords version change epoch jobs) store h =
     let e : Entry = record { line = line; party = party; event = PutRecords change; answer = answer_of (PutsRecords version change epoch jobs) store } in
     let new : Option Records = Some (record { version = version + 1; epoch = epoch; jobs = jobs }) in
-    ap (λ b. held (record (cond b (record store { records = new }) store) { history = (cond b (record store { records = new }) store).history ++ e ∷ [] })) (same_number version (records_version store.records) h)
-    ∙ ap (λ name. record (held store) { records = new; name = name }) (name_stays store e refl)
+    ap (λ b. held_parts (record (cond b (record store { records = new }) store) { history = (cond b (record store { records = new }) store).history ++ e ∷ [] })) (same_number version (records_version store.records) h)
+    ∙ ap (λ name. record (held_parts store) { records = new; name = name }) (name_stays store e refl)
 held_one line party ListsTables store h =
-    ap (λ name. record (held store) { name = name }) (name_stays store (record { line = line; party = party; event = ListTables (length (held_tables store)); answer = answer_of ListsTables store }) refl)
+    ap (λ name. record (held_parts store) { name = name }) (name_stays store (record { line = line; party = party; event = ListTables (length (held_tables store)); answer = answer_of ListsTables store }) refl)
 held_one line party (DeletesTable table) store h =
-    ap (λ name. record (held store) { name = name }) (name_stays store (record { line = line; party = party; event = DeleteTable table; answer = answer_of (DeletesTable table) store }) refl)
+    ap (λ name. record (held_parts store) { name = name }) (name_stays store (record { line = line; party = party; event = DeleteTable table; answer = answer_of (DeletesTable table) store }) refl)
 
 -- ---- courses
 
@@ -75,23 +75,23 @@ held_one line party (DeletesTable table) store h =
 -- What is held of the store that a call meets decides how the course goes on.
 abbrev pub Leads : {A : Type 0} → Course A → Held → Held → A → Type 0
 Leads (Ends answer) h last end = (h ≡ last) × (answer ≡ end)
-Leads (Calls x next) h last end = Succeeds x h × ((met : Store) → held met ≡ h → Leads (next met) (held_after x h) last end)
+Leads (Calls x next) h last end = Succeeds x h × ((met : Store) → held_parts met ≡ h → Leads (next met) (held_after x h) last end)
 
 -- The course, run alone with no waiting fault, ends with the answer. What is held of the store that
 -- it leaves is `last`.
 pub record RunsTo {A : Type 0} (line : ℕ) (party : Party) (course : Course A) (store : Store) (last : Held) (end : A) : Type 0 where
   pub left : Store
   pub run : run_alone line party course None store ≡ record { answer = Some end; store = left; fault = None }
-  pub holds : held left ≡ last
+  pub holds : held_parts left ≡ last
 
 -- A course that leads somewhere also runs there: alone, with no waiting fault, each call at the
 -- store that the one before it left.
-pub run_leads : {A : Type 0} (line : ℕ) (party : Party) (course : Course A) (store : Store) (last : Held) (end : A) → Leads course (held store) last end → RunsTo line party course store last end
+pub run_leads : {A : Type 0} (line : ℕ) (party : Party) (course : Course A) (store : Store) (last : Held) (end : A) → Leads course (held_parts store) last end → RunsTo line party course store last end
 run_leads line party (Ends answer) store last end h =
     let is : answer ≡ end = h.1 in
     record { left = store; run = ap (λ a. record { answer = Some a; store = store; fault = None }) is; holds = h.0 }
 run_leads {A} line party (Calls x next) store last end h =
-    let after = answered line party x store in
+    let after = after_answered line party x store in
     let rest = subst (λ (k : Held). Leads (next store) k last end) (sym (held_one line party x store h.0)) (h.1 store refl) in
     let r = run_leads line party (next store) after last end rest in
     record { left = r.left; run = r.run; holds = r.holds }
@@ -108,7 +108,7 @@ then_leads (Calls x next) rest h mid last answer end (succeeds, further) later =
 
 module _ {A : Type 0} (h last : Held) (end : A) where
   -- What is held of the store that a call meets decides how the course goes on.
-  pub call_leads : (x : Exchange) (next : Held → Course A) → Succeeds x h → Leads (next h) (held_after x h) last end → Leads (Calls x (λ met. next (held met))) h last end
+  pub call_leads : (x : Exchange) (next : Held → Course A) → Succeeds x h → Leads (next h) (held_after x h) last end → Leads (Calls x (λ met. next (held_parts met))) h last end
   call_leads x next succeeds rest = (succeeds, λ met same. subst (λ (k : Held). Leads (next k) (held_after x h) last end) (sym same) rest)
 
   pub gets_manifest_leads : (next : Manifest → Course A) → Leads (next h.manifest) h last end → Leads (gets_manifest next) h last end

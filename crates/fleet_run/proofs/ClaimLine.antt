@@ -5,10 +5,10 @@ use Rattle.std.specs.List.{AllByRecursion, list_all}
 use Rattle.std.proofs.lemmas.Bool.Decides.{nat_tests}
 use Rattle.row_model.specs.Ranges.{Range}
 use Rattle.row_model.specs.Settings.{Settings}
-use Rattle.row_model.specs.Plan.{planned}
+use Rattle.row_model.specs.Plan.{planned_ranges}
 use Rattle.fleet_model.specs.Nodes.{Tables, Tree, L0, names, names_contain, table_rows, tree_at}
 use Rattle.fleet_model.specs.History.{Worker, GetManifest, Plan, Claim}
-use Rattle.fleet_model.specs.Jobs.{Job, Jobs, Two, Status, Submitted, Scheduled, Running, Compacted, Completed, Failed, status_eq, is_finished, ids, contains, changed, trimmed}
+use Rattle.fleet_model.specs.Jobs.{Job, Jobs, Two, Status, Submitted, Scheduled, Running, Compacted, Completed, Failed, status_eq, is_finished, ids, contains, changed_jobs, trimmed_jobs}
 use Rattle.fleet_model.specs.Records.{claimed_by, firsts}
 use Rattle.fleet_model.specs.Parties.{LiveWorker, Attempt, Parties, worker_with, without_worker, with_attempts, attempt_jobs}
 use Rattle.fleet_model.specs.Store.{Manifest, Store, Records, jobs_in}
@@ -28,7 +28,7 @@ use Rattle.fleet_run.specs.declared.jobs.AskedJob.{AskedJob}
 use Rattle.fleet_run.specs.Jobs.{Stage, Waits, Runs, Wrote, OpenJob, attempt_of}
 use Rattle.fleet_run.specs.FleetView.{FleetView}
 use Rattle.fleet_run.specs.Serve.{no_such_party, settings_now, waiting_job, claimed_reply, opened_claimed, claim_answer, after_claim}
-use Rattle.fleet_run.specs.Holds.{Held, held, Holds, JobsAre, AreRecords, IfOpen, OpenStands, IsStored, spec_of, asked_job, opened_job, open_jobs, known_tables, coordinators, workers, attempts_by, parties_of, state_of}
+use Rattle.fleet_run.specs.Holds.{Held, held_parts, Holds, JobsAre, AreRecords, IfOpen, OpenStands, IsStored, spec_of, asked_job, opened_job, open_jobs, known_tables, coordinators, workers, attempts_by, parties_of, state_of}
 use Rattle.fleet_run.proofs.Calls.{Leads, call_leads, gets_records_leads, puts_records_leads}
 use Rattle.fleet_run.proofs.Commits.{oldest_stands}
 use Rattle.fleet_run.proofs.JobLists.{filter_active, one_changed, trimmed_are}
@@ -46,7 +46,7 @@ options = worker_options default_options
 abbrev input_of : Manifest → Tables → ClaimInput
 input_of manifest tables = record { release = Two; manifest = manifest; moment = 0; retention = 0; most = 4; tables = tables }
 
-settings_are : (fleet : FleetView) (store : Store) (job : AskedJob) → Holds fleet (held store) → claim_settings store.manifest store.manifest.floor (spec_of job) ≡ settings_now fleet job
+settings_are : (fleet : FleetView) (store : Store) (job : AskedJob) → Holds fleet (held_parts store) → claim_settings store.manifest store.manifest.floor (spec_of job) ≡ settings_now fleet job
 settings_are fleet store job holds =
     ap (λ f. record { floor = f; tick = store.manifest.tick; last_run = is_last_run (Some job.destination) (tree_at [] store.manifest.trees); cut = f }) holds.floor
     ∙ ap (λ t. record { floor = fleet.floor; tick = t; last_run = is_last_run (Some job.destination) (tree_at [] store.manifest.trees); cut = fleet.floor }) holds.tick
@@ -54,11 +54,11 @@ settings_are fleet store job holds =
     ∙ ap (λ (runs : List ℕ). record { floor = fleet.floor; tick = fleet.tick; last_run = is_last job.destination runs; cut = fleet.floor })
     (run_ids_are fleet.flushes holds.made ∙ sym (ap (λ (rs : List (ℕ × Tables)). firsts rs) holds.runs))
 
-attempt_is : (fleet : FleetView) (store : Store) (job : AskedJob) → Holds fleet (held store) → claimed_attempt (input_of store.manifest store.tables) (opened_job job) ≡ attempt_of job (settings_now fleet job)
+attempt_is : (fleet : FleetView) (store : Store) (job : AskedJob) → Holds fleet (held_parts store) → claimed_attempt (input_of store.manifest store.tables) (opened_job job) ≡ attempt_of job (settings_now fleet job)
 attempt_is fleet store job holds =
     let attempt : Settings → List Range → Attempt = λ settings ranges.
     record { job = job.id; number = 1; sources = job.source ∷ []; context = record { settings = settings; has_cut = true; ranges = map (λ range. (range, [])) ranges } } in
-    ap (λ settings. attempt settings (planned 4 (table_rows store.tables job.source ∷ []))) (settings_are fleet store job holds)
+    ap (λ settings. attempt settings (planned_ranges 4 (table_rows store.tables job.source ∷ []))) (settings_are fleet store job holds)
     ∙ ap (attempt (settings_now fleet job)) (one_range 4 (table_rows store.tables job.source))
 
 -- ---- which jobs wait
@@ -135,7 +135,7 @@ none_leads left seen h attempts none stops same =
 
 -- The records after the job of this id was claimed.
 abbrev claimed_records : Records → ℕ → Records
-claimed_records got id = record got { version = got.version + 1; jobs = trimmed (changed (claimed_by 1 0) (id ∷ []) got.jobs) }
+claimed_records got id = record got { version = got.version + 1; jobs = trimmed_jobs (changed_jobs (claimed_by 1 0) (id ∷ []) got.jobs) }
 
 one_leads : (left seen : ℕ) (h : Held) (got : Records) (job : AskedJob) (a : Attempt) → h.records ≡ Some got → claimed_jobs 4 (worker_of []) got.jobs ≡ opened_job job ∷ [] → stopped_jobs (worker_of []) got.jobs ≡ []
     → can_start h.manifest (opened_job job) ≡ true → claimed_attempt (input_of h.manifest h.tables) (opened_job job) ≡ a
@@ -194,7 +194,7 @@ one_leads left seen h got job a here claims stops starts_here is =
 abbrev line_at : State → Parties → LineCourse
 line_at s parties = if_some (worker_with 1 parties) (only_replies s no_such_party) (λ w. worker_line w s (claim options 0 w) (λ r. claim_reply r.begun r.stopped) (λ r. r.attempts) w.attempts)
 
-module _ (number : ℕ) (fleet : FleetView) (store : Store) (holds : Holds fleet (held store)) where
+module _ (number : ℕ) (fleet : FleetView) (store : Store) (holds : Holds fleet (held_parts store)) where
   abbrev s : State
   s = state_of fleet store
 
@@ -220,10 +220,10 @@ module _ (number : ℕ) (fleet : FleetView) (store : Store) (holds : Holds fleet
   -- The line of a claim by the live worker gives this reply and leaves this fleet.
   of_worker : (attempts : List Attempt) (new : FleetView) (answer : List ℕ) → fleet.worker ≡ true → attempts_by fleet.opened ≡ attempts → answer ≡ claim_answer fleet → new ≡ after_claim fleet
       → Serves number fleet store (line_at s (parties_with true attempts)) answer new → Goal
-  of_worker attempts new answer live are told is served =
+  of_worker attempts new answer live are replied is served =
       subst (λ on. Serves number fleet store (line_at s (parties_with on (attempts_by fleet.opened))) (claim_answer fleet) (after_claim fleet)) (sym live)
       (subst (λ these. Serves number fleet store (line_at s (parties_with true these)) (claim_answer fleet) (after_claim fleet)) (sym are)
-      (subst (λ text. Serves number fleet store (line_at s (parties_with true attempts)) text (after_claim fleet)) told
+      (subst (λ text. Serves number fleet store (line_at s (parties_with true attempts)) text (after_claim fleet)) replied
       (subst (λ (f : FleetView). Serves number fleet store (line_at s (parties_with true attempts)) answer f) is served)))
 
   abbrev ends_of : List Attempt → StepEnd Claimed → LineEnd
@@ -242,8 +242,8 @@ module _ (number : ℕ) (fleet : FleetView) (store : Store) (holds : Holds fleet
       let stops : stopped_jobs (worker_of attempts) jobs ≡ [] = own_are at_work active fleet.jobs_drawn jobs holds.jobs ∙ stopped in
       let new_is : fleet ≡ after_claim fleet = ap (λ o. record fleet { opened = opened_claimed fleet fleet.opened o }) (sym none) ∙ after_is live in
       let parties : running (worker_of attempts) s attempts ≡ parties_of fleet = workers_one attempts attempts live ∙ sym (ap (λ on. parties_with on attempts) live) in
-      let served = step_serves number fleet fleet store (Worker 1) (claim options 0 (worker_of attempts)) (ends_of attempts) (without_worker 1 s.parties) (Reports (nothing_claimed attempts)) (claim_reply [] []) (held store)
-      (none_leads 63 0 (held store) attempts claims stops same) (ap (λ p. record { reply = claim_reply [] []; parties = p }) parties) holds in
+      let served = step_serves number fleet fleet store (Worker 1) (claim options 0 (worker_of attempts)) (ends_of attempts) (without_worker 1 s.parties) (Reports (nothing_claimed attempts)) (claim_reply [] []) (held_parts store)
+      (none_leads 63 0 (held_parts store) attempts claims stops same) (ap (λ p. record { reply = claim_reply [] []; parties = p }) parties) holds in
       of_worker attempts fleet (claim_reply [] []) live refl (ap (claimed_reply fleet) (sym none) ∙ answer_is live) new_is served
 
   -- A run above all others is the last one only if there are no others.
@@ -283,7 +283,7 @@ module _ (number : ℕ) (fleet : FleetView) (store : Store) (holds : Holds fleet
       let answer : claim_reply (a ∷ []) [] ≡ claim_answer fleet = sym (ap (λ o. claimed_reply fleet (waiting_job o)) e) ∙ answer_is live in
       let new_is : new ≡ after_claim fleet = sym (ap (λ o. record fleet { opened = opened_claimed fleet o (waiting_job o) }) e) ∙ after_is live in
       let parties : running (worker_of []) s (a ∷ []) ≡ parties_of new = workers_one (a ∷ []) [] live ∙ sym (ap (λ on. parties_with on (a ∷ [])) live) in
-      let last : Held = record (held store) { records = Some (claimed_records got job.id) } in
+      let last : Held = record (held_parts store) { records = Some (claimed_records got job.id) } in
       let holds_new : Holds new last = record {
         made = holds.made;
         watermark = holds.watermark;
@@ -317,7 +317,7 @@ module _ (number : ℕ) (fleet : FleetView) (store : Store) (holds : Holds fleet
         idle = λ off. absurd (let clash : true ≡ false = sym live ∙ off in cc clash);
       } in
       let served = step_serves number fleet new store (Worker 1) (claim options 0 (worker_of [])) (ends_of []) (without_worker 1 s.parties) (Reports (one_begun a)) (claim_reply (a ∷ []) []) last
-      (one_leads 63 0 (held store) got job a there.is claims stops (starts_here job stands) (attempt_is fleet store job holds)) (ap (λ p. record { reply = claim_reply (a ∷ []) []; parties = p }) parties) holds_new in
+      (one_leads 63 0 (held_parts store) got job a there.is claims stops (starts_here job stands) (attempt_is fleet store job holds)) (ap (λ p. record { reply = claim_reply (a ∷ []) []; parties = p }) parties) holds_new in
       of_worker [] new (claim_reply (a ∷ []) []) live (ap attempts_by e) answer new_is served
 
   no_claim : fleet.worker ≡ false → Goal

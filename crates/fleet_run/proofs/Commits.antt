@@ -11,7 +11,7 @@ use Rattle.fleet_model.specs.History.{Join}
 use Rattle.fleet_model.specs.Records.{firsts}
 use Rattle.fleet_model.specs.Attempts.{is_last}
 use Rattle.fleet_model.specs.Gates.{first_failing, commit_gate}
-use Rattle.fleet_model.specs.Trees.{source_pieces, without, put_run, stepped, stepped_in, watermark_after}
+use Rattle.fleet_model.specs.Trees.{source_pieces, without_nodes, put_run, stepped_tree, stepped_in, watermark_after}
 use Rattle.step_model.specs.PollSteps.{node_eq, same_tree}
 use Rattle.fleet_run.specs.declared.jobs.AskedJob.{AskedJob}
 use Rattle.fleet_run.specs.Jobs.{Wrote}
@@ -51,18 +51,18 @@ other_name n m h = grind (arith, nat_tests, h)
 abbrev keeps : ℕ → Node → Bool
 keeps n node = not (names_contain (L0 n ∷ []) node.name)
 
-runs_stay : (n : ℕ) (made : List MadeRun) → without (L0 n ∷ []) (map run_node made) ≡ map run_node made
+runs_stay : (n : ℕ) (made : List MadeRun) → without_nodes (L0 n ∷ []) (map run_node made) ≡ map run_node made
 runs_stay n [] = refl
 runs_stay n (m ∷ made) = ap (λ t. run_node m ∷ t) (runs_stay n made)
 
 pub without_oldest : (newer : Tables) (flush : ℕ × List Row) (made : List MadeRun) (n : ℕ) → flush.0 ≡ n → AllByRecursion (λ f. flush.0 < f.0) newer
-    → without (L0 n ∷ []) (tree (newer ++ flush ∷ []) made) ≡ tree newer made
+    → without_nodes (L0 n ∷ []) (tree (newer ++ flush ∷ []) made) ≡ tree newer made
 without_oldest [] flush made n e h =
     let same : (n == flush.0) ≡ true = grind (arith, nat_tests, e) in
-    ap (λ b. cond (not (cond b true false)) (node_of flush ∷ without (L0 n ∷ []) (map run_node made)) (without (L0 n ∷ []) (map run_node made))) same ∙ runs_stay n made
+    ap (λ b. cond (not (cond b true false)) (node_of flush ∷ without_nodes (L0 n ∷ []) (map run_node made)) (without_nodes (L0 n ∷ []) (map run_node made))) same ∙ runs_stay n made
 without_oldest (f ∷ newer) flush made n e h =
     let other : (n == f.0) ≡ false = grind (arith, nat_tests, h.0, e) in
-    let rest : Tree = without (L0 n ∷ []) (tree (newer ++ flush ∷ []) made) in
+    let rest : Tree = without_nodes (L0 n ∷ []) (tree (newer ++ flush ∷ []) made) in
     ap (λ b. cond (not (cond b true false)) (node_of f ∷ rest) rest) other ∙ ap (λ t. node_of f ∷ t) (without_oldest newer flush made n e h.1)
 
 pub put_above : (d : ℕ) (run : Node) (newer : Tables) (made : List MadeRun) → AllByRecursion (λ m. m.id < d) made → put_run d run (tree newer made) ≡ map node_of newer ++ run ∷ map run_node made
@@ -74,7 +74,7 @@ put_above d run (f ∷ newer) made h = ap (λ t. node_of f ∷ t) (put_above d r
 
 pub stepped_root : (tables : Tables) (job : AskedJob) (out : Tables) (newer : Tables) (flush : ℕ × List Row) (made : List MadeRun) (more : Tables) → flush.0 ≡ job.source → AreFlushes ((newer ++ flush ∷ []) ++ more)
     → AllByRecursion (λ m. m.id < job.destination) made
-    → stepped tables (Join job.id) (spec_of job) (concat (firsts out ∷ [])) (tree (newer ++ flush ∷ []) made) ≡ tree newer (record { id = job.destination; tables = out; flush = flush } ∷ made)
+    → stepped_tree tables (Join job.id) (spec_of job) (concat (firsts out ∷ [])) (tree (newer ++ flush ∷ []) made) ≡ tree newer (record { id = job.destination; tables = out; flush = flush } ∷ made)
 stepped_root tables job out newer flush made more e sound above =
     let n = job.source in
     let d = job.destination in
@@ -82,9 +82,9 @@ stepped_root tables job out newer flush made more e sound above =
     let whole : Tree = tree (newer ++ flush ∷ []) made in
     let nodes = nodes_found (newer ++ flush ∷ []) made n there in
     let named = (node_found (newer ++ flush ∷ []) made n there).named in
-    ap (λ (ns : List Node). put_run d (record { name = Run d; flushes = flat_map (λ node. node.flushes) ns; pieces = concat (firsts out ∷ []) }) (without (L0 n ∷ []) whole)) nodes
-    ∙ ap (λ (m : ℕ). put_run d (record { name = Run d; flushes = m ∷ []; pieces = concat (firsts out ∷ []) }) (without (L0 n ∷ []) whole)) (named ∙ sym e)
-    ∙ ap (λ (pieces : List ℕ). put_run d (record { name = Run d; flushes = flush.0 ∷ []; pieces = pieces }) (without (L0 n ∷ []) whole)) (append-nil (firsts out))
+    ap (λ (ns : List Node). put_run d (record { name = Run d; flushes = flat_map (λ node. node.flushes) ns; pieces = concat (firsts out ∷ []) }) (without_nodes (L0 n ∷ []) whole)) nodes
+    ∙ ap (λ (m : ℕ). put_run d (record { name = Run d; flushes = m ∷ []; pieces = concat (firsts out ∷ []) }) (without_nodes (L0 n ∷ []) whole)) (named ∙ sym e)
+    ∙ ap (λ (pieces : List ℕ). put_run d (record { name = Run d; flushes = flush.0 ∷ []; pieces = pieces }) (without_nodes (L0 n ∷ []) whole)) (append-nil (firsts out))
     ∙ ap (put_run d (record { name = Run d; flushes = flush.0 ∷ []; pieces = firsts out })) (without_oldest newer flush made n e (all_above_oldest newer flush more sound))
     ∙ put_above d (record { name = Run d; flushes = flush.0 ∷ []; pieces = firsts out }) newer made above
 

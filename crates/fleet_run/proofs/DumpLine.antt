@@ -12,7 +12,7 @@ use Rattle.script_model.specs.Looks as looks
 use Rattle.script_model.specs.Looks.{dump}
 use Rattle.fleet_run.specs.FleetView.{FleetView}
 use Rattle.fleet_run.specs.Serve.{rows_in, node_rows_or_none, dump_reply}
-use Rattle.fleet_run.specs.Holds.{held, Holds, MadeRun, run_of, all_flushes, node_of, run_node, IsStored, open_tables, state_of}
+use Rattle.fleet_run.specs.Holds.{held_parts, Holds, MadeRun, run_of, all_flushes, node_of, run_node, IsStored, open_tables, state_of}
 use Rattle.fleet_run.proofs.ReadLine.{stored_rows}
 use Rattle.fleet_run.proofs.RootTree.{tree}
 use Rattle.fleet_run.proofs.Serves.{Serves, replies_serve}
@@ -71,13 +71,13 @@ run_found stored (m ∷ made) id h =
     by true is rest = ap found (other_way m.id id true is) ∙ ap Some (piece_rows stored m.tables (all_front (IsStored stored) m.tables (flat_map (λ m. m.tables) made) h))
     by false is rest = ap found (other_way m.id id false is) ∙ rest
 
-behind_flushes : (stored flushes : Tables) (made : List MadeRun) (id : ℕ) → rows_of_node stored (node_named (Run id) (tree flushes made)) ≡ rows_of_node stored (node_named (Run id) (map run_node made))
-behind_flushes stored [] made id = refl
-behind_flushes stored (f ∷ flushes) made id = behind_flushes stored flushes made id
+after_flushes : (stored flushes : Tables) (made : List MadeRun) (id : ℕ) → rows_of_node stored (node_named (Run id) (tree flushes made)) ≡ rows_of_node stored (node_named (Run id) (map run_node made))
+after_flushes stored [] made id = refl
+after_flushes stored (f ∷ flushes) made id = after_flushes stored flushes made id
 
 -- ---- the line
 
-rows_found : (fleet : FleetView) (store : Store) (holds : Holds fleet (held store)) (name : NodeName) → rows_of_node store.tables (node_named name (tree fleet.flushes holds.made)) ≡ node_rows_or_none fleet name
+rows_found : (fleet : FleetView) (store : Store) (holds : Holds fleet (held_parts store)) (name : NodeName) → rows_of_node store.tables (node_named name (tree fleet.flushes holds.made)) ≡ node_rows_or_none fleet name
 rows_found fleet store holds (L0 n) =
     let P : ℕ × List Row → Type 0 = IsStored store.tables in
     let flushes = all_flushes fleet holds.made in
@@ -89,19 +89,19 @@ rows_found fleet store holds (Run id) =
     let flushes = all_flushes fleet holds.made in
     let inner : Tables = flat_map (λ m. m.tables) holds.made in
     let in_runs = all_back P flushes inner (all_front P (flushes ++ inner) (open_tables fleet.opened) holds.tables) in
-    behind_flushes store.tables fleet.flushes holds.made id ∙ run_found store.tables holds.made id in_runs ∙ ap (run_in id) (sym holds.runs)
+    after_flushes store.tables fleet.flushes holds.made id ∙ run_found store.tables holds.made id in_runs ∙ ap (run_in id) (sym holds.runs)
 
 reply_alike : (stored : Tables) (node : Option Node) → looks.dump_reply stored node ≡ dump_reply (rows_of_node stored node)
 reply_alike stored None = refl
 reply_alike stored (Some node) = refl
 
-pub dump_serves : (number : ℕ) (fleet : FleetView) (store : Store) → Holds fleet (held store) → (name : NodeName)
+pub dump_serves : (number : ℕ) (fleet : FleetView) (store : Store) → Holds fleet (held_parts store) → (name : NodeName)
     → Serves number fleet store (dump [] name (state_of fleet store)) (dump_reply (node_rows_or_none fleet name)) fleet
 dump_serves number fleet store holds name =
     let s = state_of fleet store in
-    let told : List ℕ = looks.dump_reply store.tables (node_named name (tree_at [] store.manifest.trees)) in
-    let is : told ≡ dump_reply (node_rows_or_none fleet name) =
+    let replied : List ℕ = looks.dump_reply store.tables (node_named name (tree_at [] store.manifest.trees)) in
+    let is : replied ≡ dump_reply (node_rows_or_none fleet name) =
     reply_alike store.tables (node_named name (tree_at [] store.manifest.trees))
     ∙ ap (λ trees. dump_reply (rows_of_node store.tables (node_named name (tree_at [] trees)))) holds.trees
     ∙ ap dump_reply (rows_found fleet store holds name) in
-    subst (λ answer. Serves number fleet store (only_replies s told) answer fleet) is (replies_serve number fleet store told holds)
+    subst (λ answer. Serves number fleet store (only_replies s replied) answer fleet) is (replies_serve number fleet store replied holds)

@@ -18,7 +18,7 @@ use Rattle.row_laws.proofs.Tables.{cut_flat}
 use Rattle.fleet_model.specs.Nodes.{Tables, table_rows}
 use Rattle.fleet_model.specs.Attempts.{source_rows, rows_left}
 use Rattle.fleet_model.specs.History.{Worker, Finish}
-use Rattle.fleet_model.specs.Jobs.{Job, changed, number_of, trimmed}
+use Rattle.fleet_model.specs.Jobs.{Job, changed_jobs, number_of, trimmed_jobs}
 use Rattle.fleet_model.specs.Parties.{Attempt, LiveWorker, Parties, is_live, runs_attempt, worker_with, without_worker, without_attempts}
 use Rattle.fleet_model.specs.Records.{Unrecorded, no_contexts, firsts, finished_by}
 use Rattle.fleet_model.specs.Store.{Store, Records, jobs_in}
@@ -38,8 +38,8 @@ use Rattle.script_model.specs.WorkLines.{worker_options, running, finish_line}
 use Rattle.fleet_run.specs.declared.jobs.AskedJob.{AskedJob}
 use Rattle.fleet_run.specs.Jobs.{Stage, Waits, Runs, Wrote, OpenJob, attempt_of}
 use Rattle.fleet_run.specs.FleetView.{FleetView, AreFlushes, IsFlushAbove, newest_name}
-use Rattle.fleet_run.specs.Serve.{no_such_party, numbered, written, run_opened, run_by, wrote, finished, after_finish, finish_reply, finish_answer}
-use Rattle.fleet_run.specs.Holds.{Held, held, Holds, made_of, all_flushes, IsStored, IsUsed, JobsAre, AreRecords, IfOpen, OpenStands, open_jobs, open_tables, job_at, asked_job, coordinators, workers, attempts_by, parties_of, state_of}
+use Rattle.fleet_run.specs.Serve.{no_such_party, numbered_tables, written_tables, run_opened, run_by, wrote, finished_fleet, after_finish, finish_reply, finish_answer}
+use Rattle.fleet_run.specs.Holds.{Held, held_parts, Holds, made_of, all_flushes, IsStored, IsUsed, JobsAre, AreRecords, IfOpen, OpenStands, open_jobs, open_tables, job_at, asked_job, coordinators, workers, attempts_by, parties_of, state_of}
 use Rattle.fleet_run.proofs.Calls.{Leads, gets_records_leads, puts_records_leads}
 use Rattle.fleet_run.proofs.ClaimLine.{worker_of, workers_one}
 use Rattle.fleet_run.proofs.FlushLine.{still_stored, new_stored}
@@ -53,9 +53,9 @@ use Rattle.fleet_run.proofs.TreeHolds.{all_both, all_front, all_back}
 
 -- ---- the oldest flush that no job took
 
-flush_behind : (newer : Tables) (flush : ℕ × List Row) (more : Tables) → AreFlushes (newer ++ flush ∷ more) → IsFlushAbove more flush
-flush_behind [] flush more sound = sound.0
-flush_behind (f ∷ newer) flush more sound = flush_behind newer flush more sound.1
+flush_after : (newer : Tables) (flush : ℕ × List Row) (more : Tables) → AreFlushes (newer ++ flush ∷ more) → IsFlushAbove more flush
+flush_after [] flush more sound = sound.0
+flush_after (f ∷ newer) flush more sound = flush_after newer flush more sound.1
 
 -- All newer flushes have greater names.
 names_above : (newer : Tables) (flush : ℕ × List Row) (more : Tables) → AreFlushes (newer ++ flush ∷ more)
@@ -79,7 +79,7 @@ finishing cut = record { moment = 0; published = no_contexts; kept_cut = Some cu
 
 -- The records after the job of this id was finished.
 abbrev finished_records : Records → ℕ → ℕ → List ℕ → Records
-finished_records got id cut outputs = record got { version = got.version + 1; jobs = trimmed (changed (finished_by 1 (finishing cut) (outputs ∷ [])) (id ∷ []) got.jobs) }
+finished_records got id cut outputs = record got { version = got.version + 1; jobs = trimmed_jobs (changed_jobs (finished_by 1 (finishing cut) (outputs ∷ [])) (id ∷ []) got.jobs) }
 
 -- The end of a finish of the worker's only attempt, with these outputs.
 abbrev finish_end : List ℕ → StepEnd FinishedJob
@@ -115,20 +115,20 @@ ends_leads left seen h got job settings outputs here live gone =
 finish_leads : (merge : Operator) (h : Held) (got : Records) (job : AskedJob) (settings : Settings) (kept : List Row) → h.records ≡ Some got → is_live got.jobs 1 (attempt_of job settings) ≡ true
     → without_attempts (job.id ∷ []) (attempt_of job settings ∷ []) ≡ []
     → (rows_left merge h.tables settings (job.source ∷ []) (all_keys, [])).rows ≡ kept
-    → let tables = numbered h.tables_drawn (cut_tables options.table_size kept) in
+    → let tables = numbered_tables h.tables_drawn (cut_tables options.table_size kept) in
     Leads (finish merge h.tables options 0 (worker_of (attempt_of job settings ∷ [])) (attempt_of job settings) None) h
     (record (after_puts tables h) { records = Some (finished_records got job.id settings.cut (firsts tables)) }) (finish_end (firsts tables))
 unfolding finish end_job
 finish_leads merge h got job settings kept here live gone makes = (refl, λ met same. subst (λ rows. Leads (puts rows) h last end) (sym makes) ends)
   where
     tables : Tables
-    tables = numbered h.tables_drawn (cut_tables options.table_size kept)
+    tables = numbered_tables h.tables_drawn (cut_tables options.table_size kept)
 
     last : Held
-    last = record (after_puts (numbered h.tables_drawn (cut_tables options.table_size kept)) h) { records = Some (finished_records got job.id settings.cut (firsts (numbered h.tables_drawn (cut_tables options.table_size kept)))) }
+    last = record (after_puts (numbered_tables h.tables_drawn (cut_tables options.table_size kept)) h) { records = Some (finished_records got job.id settings.cut (firsts (numbered_tables h.tables_drawn (cut_tables options.table_size kept)))) }
 
     end : StepEnd FinishedJob
-    end = finish_end (firsts (numbered h.tables_drawn (cut_tables options.table_size kept)))
+    end = finish_end (firsts (numbered_tables h.tables_drawn (cut_tables options.table_size kept)))
 
     -- The course that ends the job with these outputs.
     further : List ℕ → Course (StepEnd FinishedJob)
@@ -139,7 +139,7 @@ finish_leads merge h got job settings kept here live gone makes = (refl, λ met 
 
     ends : Leads (puts kept) h last end
     ends = puts_tables_leads (cut_tables options.table_size kept) further h last end
-        (ends_leads 63 0 (after_puts (numbered h.tables_drawn (cut_tables options.table_size kept)) h) got job settings (firsts (numbered h.tables_drawn (cut_tables options.table_size kept))) here live gone)
+        (ends_leads 63 0 (after_puts (numbered_tables h.tables_drawn (cut_tables options.table_size kept)) h) got job settings (firsts (numbered_tables h.tables_drawn (cut_tables options.table_size kept))) here live gone)
 
 -- ---- the line
 
@@ -157,7 +157,7 @@ pub record FinishServes (merge : Operator) (number : ℕ) (fleet : FleetView) (s
 abbrev attempt_in : Parties → ℕ → Option (LiveWorker × Attempt)
 attempt_in parties job = if_some (worker_with 1 parties) None (λ w. if_some (attempt_numbered job w.attempts) None (λ a. Some (w, a)))
 
-module _ (merge : Operator) (number : ℕ) (fleet : FleetView) (store : Store) (holds : Holds fleet (held store)) where
+module _ (merge : Operator) (number : ℕ) (fleet : FleetView) (store : Store) (holds : Holds fleet (held_parts store)) where
   abbrev s : State
   s = state_of fleet store
 
@@ -166,7 +166,7 @@ module _ (merge : Operator) (number : ℕ) (fleet : FleetView) (store : Store) (
   none_runs : (job : ℕ) → attempt_in (parties_of fleet) job ≡ None → run_by fleet job ≡ None → FinishServes merge number fleet store job
   none_runs job none mine =
       let answer : no_such_party ≡ finish_answer fleet job = sym (ap (finish_reply fleet) mine) in
-      let same : fleet ≡ after_finish fleet job = sym (ap (finished fleet) mine) in
+      let same : fleet ≡ after_finish fleet job = sym (ap (finished_fleet fleet) mine) in
       let served = replies_serve number fleet store no_such_party holds in
       record {
         may = subst (λ f. FinishMay (with_quiet_scheduler merge) s f None) (sym none) refl;
@@ -192,7 +192,7 @@ module _ (merge : Operator) (number : ℕ) (fleet : FleetView) (store : Store) (
     cut = cut_tables default_options.table_size kept
 
     abbrev tables : Tables
-    tables = numbered fleet.tables_drawn cut
+    tables = numbered_tables fleet.tables_drawn cut
 
     flushes_are : all_flushes fleet holds.made ≡ stands.newer ++ stands.flush ∷ made_of holds.made
     flushes_are = ap (λ fs. fs ++ made_of holds.made) stands.source ∙ append_assoc stands.newer (stands.flush ∷ []) (made_of holds.made)
@@ -201,7 +201,7 @@ module _ (merge : Operator) (number : ℕ) (fleet : FleetView) (store : Store) (
     sound = subst AreFlushes flushes_are holds.flushes
 
     flush_is : IsFlushAbove (made_of holds.made) stands.flush
-    flush_is = flush_behind stands.newer stands.flush (made_of holds.made) sound
+    flush_is = flush_after stands.newer stands.flush (made_of holds.made) sound
 
     flush_stored : IsStored store.tables stands.flush
     flush_stored =
@@ -223,8 +223,8 @@ module _ (merge : Operator) (number : ℕ) (fleet : FleetView) (store : Store) (
         ∙ ap (λ rows. job_rows merge settings rows) (all_in stands.flush.1)
         ∙ job_plain merge settings stands.flush.1 flush_is.plain
 
-    written_is : written fleet job.source settings ≡ tables
-    written_is = ap (λ rows. numbered fleet.tables_drawn (cut_tables default_options.table_size (kept_of_keys settings rows)))
+    written_is : written_tables fleet job.source settings ≡ tables
+    written_is = ap (λ rows. numbered_tables fleet.tables_drawn (cut_tables default_options.table_size (kept_of_keys settings rows)))
         (ap (λ fs. table_rows fs job.source) stands.source ∙ ap (table_rows (stands.newer ++ stands.flush ∷ [])) (sym stands.named) ∙ oldest_found stands.newer stands.flush (made_of holds.made) sound)
 
     abbrev running_job : Job
@@ -252,7 +252,7 @@ module _ (merge : Operator) (number : ℕ) (fleet : FleetView) (store : Store) (
     last = fleet.tables_drawn + length tables
 
     abbrev last_held : Held
-    last_held = record (after_puts tables (held store)) { records = Some (finished_records there.got job.id settings.cut (firsts tables)) }
+    last_held = record (after_puts tables (held_parts store)) { records = Some (finished_records there.got job.id settings.cut (firsts tables)) }
 
     drawn : AllByRecursion (λ (table : ℕ × List Row). (2 ^ 79 + fleet.tables_drawn < table.0) × (table.0 ≤ 2 ^ 79 + last)) tables
     drawn = numbered_drawn fleet.tables_drawn last cut (omega (arith, numbered_length fleet.tables_drawn cut))
@@ -305,11 +305,11 @@ module _ (merge : Operator) (number : ℕ) (fleet : FleetView) (store : Store) (
         }
 
     -- The finish leads to what the fleet after it holds.
-    leads : Leads (finish merge store.tables options 0 w attempt None) (held store) last_held (finish_end (firsts tables))
+    leads : Leads (finish merge store.tables options 0 w attempt None) (held_parts store) last_held (finish_end (firsts tables))
     leads =
-        subst (λ n. Leads (finish merge store.tables options 0 w attempt None) (held store)
-        (record (after_puts (numbered n cut) (held store)) { records = Some (finished_records there.got job.id settings.cut (firsts (numbered n cut))) }) (finish_end (firsts (numbered n cut)))) holds.tables_drawn
-        (finish_leads merge (held store) there.got job settings kept there.is still_live gone (ap (λ (made : JobRows). made.rows) makes))
+        subst (λ n. Leads (finish merge store.tables options 0 w attempt None) (held_parts store)
+        (record (after_puts (numbered_tables n cut) (held_parts store)) { records = Some (finished_records there.got job.id settings.cut (firsts (numbered_tables n cut))) }) (finish_end (firsts (numbered_tables n cut)))) holds.tables_drawn
+        (finish_leads merge (held_parts store) there.got job settings kept there.is still_live gone (ap (λ (made : JobRows). made.rows) makes))
 
     run_finishes : (job_number : ℕ) → (job_number == number_of job.id) ≡ true → FinishServes merge number fleet store job_number
     run_finishes job_number is =
@@ -321,18 +321,18 @@ module _ (merge : Operator) (number : ℕ) (fleet : FleetView) (store : Store) (
         ∙ ap (λ b. cond_run b) is in
         let answer : reply (codes "ok" ∷ ranges_text (firsts tables ∷ []) ∷ []) ≡ finish_answer fleet job_number =
         sym (ap (finish_reply fleet) mine ∙ ap (λ (ts : Tables). reply (codes "ok" ∷ ranges_text (firsts ts ∷ []) ∷ [])) written_is) in
-        let new_is : new ≡ after_finish fleet job_number = sym (ap (finished fleet) mine ∙ ap (λ ts. wrote fleet job ts settings.cut) written_is) in
+        let new_is : new ≡ after_finish fleet job_number = sym (ap (finished_fleet fleet) mine ∙ ap (λ ts. wrote fleet job ts settings.cut) written_is) in
         let parties : running w s [] ≡ parties_of new = workers_one number fleet store holds [] (attempt ∷ []) live ∙ sym (ap (λ on. record { coordinators = coordinators fleet.coordinator; workers = workers on [] }) live) in
-        let told : List ℕ = reply (codes "ok" ∷ ranges_text (firsts tables ∷ []) ∷ []) in
+        let replied : List ℕ = reply (codes "ok" ∷ ranges_text (firsts tables ∷ []) ∷ []) in
         let ends : StepEnd FinishedJob → LineEnd = line_end (λ r. reply (codes "ok" ∷ ranges_text r.outputs ∷ [])) (λ r. running w s r.attempts) (running w s (without_attempts (job.id ∷ []) (attempt ∷ []))) in
-        let served = step_serves number fleet new store (Worker 1) (finish merge store.tables options 0 w attempt None) ends (without_worker 1 s.parties) (finish_end (firsts tables)) told last_held leads
-        (ap (λ p. record { reply = told; parties = p }) parties) finish_holds in
+        let served = step_serves number fleet new store (Worker 1) (finish merge store.tables options 0 w attempt None) ends (without_worker 1 s.parties) (finish_end (firsts tables)) replied last_held leads
+        (ap (λ p. record { reply = replied; parties = p }) parties) finish_holds in
         let whole : is_whole (with_quiet_scheduler merge) s attempt ≡ true = ap (λ (made : JobRows). made.whole && true) makes in
         record {
           may = subst (λ f. FinishMay (with_quiet_scheduler merge) s f None) (sym run) whole;
           serves = subst (λ f. Serves number fleet store (line_by merge s f) (finish_answer fleet job_number) (after_finish fleet job_number)) (sym run)
               (subst (λ text. Serves number fleet store (finish_line (with_quiet_scheduler merge) s w attempt None) text (after_finish fleet job_number)) answer
-              (subst (λ (f : FleetView). Serves number fleet store (finish_line (with_quiet_scheduler merge) s w attempt None) told f) new_is served));
+              (subst (λ (f : FleetView). Serves number fleet store (finish_line (with_quiet_scheduler merge) s w attempt None) replied f) new_is served));
         }
       where
         cond_run : Bool → Option (LiveWorker × Attempt)
@@ -350,16 +350,16 @@ module _ (merge : Operator) (number : ℕ) (fleet : FleetView) (store : Store) (
           ∙ ap (λ found. if_some found None (λ a. Some (worker_of (attempts_by opened), a))) none)
           (ap (λ on. cond on (run_opened job fleet.opened) None) live ∙ ap (run_opened job) e ∙ mine)
 
-      by_number : fleet.worker ≡ true → (held : AskedJob) (settings : Settings) → fleet.opened ≡ Some (record { job = held; stage = Runs settings })
-          → OpenStands fleet (record { job = held; stage = Runs settings }) → (b : Bool) → (job == number_of held.id) ≡ b → FinishServes merge number fleet store job
-      by_number live held settings e stands true is = run_finishes live held settings e stands job is
-      by_number live held settings e stands false is =
-          idle live (Some (record { job = held; stage = Runs settings })) e (ap (λ b. cond b (Some (attempt_of held settings)) None) is) (ap (λ b. cond b (Some (held, settings)) None) is)
+      by_number : fleet.worker ≡ true → (held_parts : AskedJob) (settings : Settings) → fleet.opened ≡ Some (record { job = held_parts; stage = Runs settings })
+          → OpenStands fleet (record { job = held_parts; stage = Runs settings }) → (b : Bool) → (job == number_of held_parts.id) ≡ b → FinishServes merge number fleet store job
+      by_number live held_parts settings e stands true is = run_finishes live held_parts settings e stands job is
+      by_number live held_parts settings e stands false is =
+          idle live (Some (record { job = held_parts; stage = Runs settings })) e (ap (λ b. cond b (Some (attempt_of held_parts settings)) None) is) (ap (λ b. cond b (Some (held_parts, settings)) None) is)
 
-      by_stage : fleet.worker ≡ true → (held : AskedJob) (stage : Stage) → fleet.opened ≡ Some (record { job = held; stage = stage }) → OpenStands fleet (record { job = held; stage = stage }) → FinishServes merge number fleet store job
-      by_stage live held Waits e stands = idle live (Some (record { job = held; stage = Waits })) e refl refl
-      by_stage live held (Runs settings) e stands = by_number live held settings e stands (job == number_of held.id) refl
-      by_stage live held (Wrote tables cut) e stands = idle live (Some (record { job = held; stage = Wrote tables cut })) e refl refl
+      by_stage : fleet.worker ≡ true → (held_parts : AskedJob) (stage : Stage) → fleet.opened ≡ Some (record { job = held_parts; stage = stage }) → OpenStands fleet (record { job = held_parts; stage = stage }) → FinishServes merge number fleet store job
+      by_stage live held_parts Waits e stands = idle live (Some (record { job = held_parts; stage = Waits })) e refl refl
+      by_stage live held_parts (Runs settings) e stands = by_number live held_parts settings e stands (job == number_of held_parts.id) refl
+      by_stage live held_parts (Wrote tables cut) e stands = idle live (Some (record { job = held_parts; stage = Wrote tables cut })) e refl refl
 
       by_opened : fleet.worker ≡ true → (opened : Option OpenJob) → fleet.opened ≡ opened → IfOpen fleet opened → FinishServes merge number fleet store job
       by_opened live None e h = idle live None e refl refl

@@ -10,7 +10,7 @@ use Rattle.row_laws.proofs.Elements.{all_weaken}
 use Rattle.fleet_model.specs.Nodes.{Tables}
 use Rattle.fleet_model.specs.History.{Writer, PutTable, Flush}
 use Rattle.fleet_model.specs.Store.{Manifest, Store, Records}
-use Rattle.fleet_model.specs.Trees.{flushed, greatest_seq}
+use Rattle.fleet_model.specs.Trees.{flushed_trees, greatest_seq}
 use Rattle.fleet_model.specs.Exchanges.{PutsTable}
 use Rattle.step_model.specs.Course.{Course, Ends, puts_manifest}
 use Rattle.step_model.specs.Entries.{name_in}
@@ -25,7 +25,7 @@ use Rattle.script_model.specs.States.{State}
 use Rattle.fleet_run.specs.Jobs.{Stage, Waits, Runs, Wrote, OpenJob}
 use Rattle.fleet_run.specs.FleetView.{FleetView, IsFlushAbove}
 use Rattle.fleet_run.specs.Serve.{fault_alone, fault_against, flush_fault, flush_reply, with_flush, after_flush}
-use Rattle.fleet_run.specs.Holds.{Held, held, Holds, all_flushes, IfOpen, StageFits, IsStored, IsUsed, known_tables, AreRecords, state_of}
+use Rattle.fleet_run.specs.Holds.{Held, held_parts, Holds, all_flushes, IfOpen, StageFits, IsStored, IsUsed, known_tables, AreRecords, state_of}
 use Rattle.fleet_run.proofs.Accepted.{sound_alone, rows_newer, none_first, none_second}
 use Rattle.fleet_run.proofs.Calls.{Leads, call_leads, gets_manifest_leads, puts_manifest_leads}
 use Rattle.fleet_run.proofs.Serves.{Serves, step_serves, line_end_of}
@@ -41,11 +41,11 @@ starts_empty : (rows : List Row) → list_all (λ r. starts_with nat_eq r.key []
 starts_empty [] = refl
 starts_empty (r ∷ rows) = starts_empty rows
 
-alone_alike : (fleet : FleetView) (store : Store) (name floor : ℕ) (tick : ℤ) (rows : List Row) → Holds fleet (held store)
-    → fault_before_get (held store).name (ask_of name floor tick rows) ≡ fault_alone fleet name rows
+alone_alike : (fleet : FleetView) (store : Store) (name floor : ℕ) (tick : ℤ) (rows : List Row) → Holds fleet (held_parts store)
+    → fault_before_get (held_parts store).name (ask_of name floor tick rows) ≡ fault_alone fleet name rows
 alone_alike fleet store name floor tick rows holds = rw (holds.named, starts_empty rows) refl
 
-against_alike : (fleet : FleetView) (store : Store) (name floor : ℕ) (tick : ℤ) (rows : List Row) → Holds fleet (held store)
+against_alike : (fleet : FleetView) (store : Store) (name floor : ℕ) (tick : ℤ) (rows : List Row) → Holds fleet (held_parts store)
     → fault_after_get store.manifest (ask_of name floor tick rows) ≡ fault_against fleet floor tick rows
 against_alike fleet store name floor tick rows holds = rw (holds.trees, holds.floor, holds.tick) refl
 
@@ -119,15 +119,15 @@ open_on fleet name floor tick rows (Some o) h = record {
     on (Wrote tables cut) g = g
 
 -- The fleet after an accepted flush holds what the store has.
-accepted_holds : (fleet : FleetView) (store : Store) (name floor : ℕ) (tick : ℤ) (rows : List Row) → Holds fleet (held store) → name ≤ 1099511627775 → AllByRecursion IsPlain rows
-    → flush_fault fleet name floor tick rows ≡ None → Holds (with_flush fleet name floor tick rows) (flushed_held (held store) name floor tick rows)
+accepted_holds : (fleet : FleetView) (store : Store) (name floor : ℕ) (tick : ℤ) (rows : List Row) → Holds fleet (held_parts store) → name ≤ 1099511627775 → AllByRecursion IsPlain rows
+    → flush_fault fleet name floor tick rows ≡ None → Holds (with_flush fleet name floor tick rows) (flushed_held (held_parts store) name floor tick rows)
 accepted_holds fleet store name floor tick rows holds named plain none =
     let alone = sound_alone fleet name rows (none_first (fault_alone fleet name rows) (fault_against fleet floor tick rows) none) in
     let against : fault_against fleet floor tick rows ≡ None = none_second (fault_alone fleet name rows) (fault_against fleet floor tick rows) none in
     let new = with_flush fleet name floor tick rows in
     let made = holds.made in
     let others = all_flushes fleet made in
-    let h = held store in
+    let h = held_parts store in
     let flush : IsFlushAbove others (name, rows) = record {
       named = omega (arith, holds.newest, alone.named);
       ordered = alone.ordered;
@@ -141,7 +141,7 @@ accepted_holds fleet store name floor tick rows holds named plain none =
     record {
       made = made;
       watermark = holds.watermark;
-      trees = ap (flushed [] name rows) holds.trees;
+      trees = ap (flushed_trees [] name rows) holds.trees;
       floor = refl;
       horizon = holds.horizon;
       tracker = refl;
@@ -172,7 +172,7 @@ accepted_holds fleet store name floor tick rows holds named plain none =
     still_used other (inl le) above = inl (omega (arith, le, above))
     still_used other (inr both) above = inr both
 
-    epoch_kept : (c : Bool) (r : Option Records) → AreRecords c store.manifest r → AreRecords c (flushed_held (held store) name floor tick rows).manifest r
+    epoch_kept : (c : Bool) (r : Option Records) → AreRecords c store.manifest r → AreRecords c (flushed_held (held_parts store) name floor tick rows).manifest r
     epoch_kept true None h = h
     epoch_kept true (Some r) h = h
     epoch_kept false None h = h
@@ -184,17 +184,17 @@ accepted_holds fleet store name floor tick rows holds named plain none =
 record FlushLeads (fleet : FleetView) (store : Store) (name floor : ℕ) (tick : ℤ) (rows : List Row) (fault : Option FlushFault) (course : Course (StepEnd ⊤)) : Type 0 where
   last : Held
   end : StepEnd ⊤
-  leads : Leads course (held store) last end
+  leads : Leads course (held_parts store) last end
   ends : line_end (λ done. ok) (λ done. (state_of fleet store).parties) (state_of fleet store).parties end ≡ line_end_of (flush_reply fault) (after_flush fleet name floor tick rows fault)
   holds : Holds (after_flush fleet name floor tick rows fault) last
 
-pub flush_serves : (number : ℕ) (fleet : FleetView) (store : Store) (name floor : ℕ) (tick : ℤ) (rows : List Row) → Holds fleet (held store) → name ≤ 1099511627775 → AllByRecursion IsPlain rows
+pub flush_serves : (number : ℕ) (fleet : FleetView) (store : Store) (name floor : ℕ) (tick : ℤ) (rows : List Row) → Holds fleet (held_parts store) → name ≤ 1099511627775 → AllByRecursion IsPlain rows
     → Serves number fleet store (flush_line name [] floor tick rows (state_of fleet store)) (flush_reply (flush_fault fleet name floor tick rows)) (after_flush fleet name floor tick rows (flush_fault fleet name floor tick rows))
 unfolding flush
 flush_serves number fleet store name floor tick rows holds named plain =
     let f = by_alone (fault_alone fleet name rows) refl in
-    step_serves number fleet (after_flush fleet name floor tick rows (flush_fault fleet name floor tick rows)) store Writer (flush 0 0 (held store).name ask) ends s.parties f.end (flush_reply (flush_fault fleet name floor tick rows)) f.last
-    (subst (λ fault. Leads (unless_bad fault further) (held store) f.last f.end) (sym (alone_alike fleet store name floor tick rows holds)) f.leads) f.ends f.holds
+    step_serves number fleet (after_flush fleet name floor tick rows (flush_fault fleet name floor tick rows)) store Writer (flush 0 0 (held_parts store).name ask) ends s.parties f.end (flush_reply (flush_fault fleet name floor tick rows)) f.last
+    (subst (λ fault. Leads (unless_bad fault further) (held_parts store) f.last f.end) (sym (alone_alike fleet store name floor tick rows holds)) f.leads) f.ends f.holds
   where
     s : State
     s = state_of fleet store
@@ -216,15 +216,15 @@ flush_serves number fleet store name floor tick rows holds named plain =
     by_against None is alone =
         let none : flush_fault fleet name floor tick rows ≡ None = ap (λ a. option_or a (fault_against fleet floor tick rows)) alone ∙ is in
         record {
-          last = flushed_held (held store) name floor tick rows;
+          last = flushed_held (held_parts store) name floor tick rows;
           end = Reports tt;
-          leads = flushes_leads 63 0 (held store) name floor tick rows (after_get ∙ is);
+          leads = flushes_leads 63 0 (held_parts store) name floor tick rows (after_get ∙ is);
           ends = refl;
           holds = accepted_holds fleet store name floor tick rows holds named plain none;
         }
     by_against (Some fault) is alone =
-        record { last = held store; end = BadFlush fault; leads = refused_leads 63 0 (held store) name floor tick rows fault (after_get ∙ is); ends = refl; holds = holds }
+        record { last = held_parts store; end = BadFlush fault; leads = refused_leads 63 0 (held_parts store) name floor tick rows fault (after_get ∙ is); ends = refl; holds = holds }
 
     by_alone : (alone : Option FlushFault) → fault_alone fleet name rows ≡ alone → FlushLeads fleet store name floor tick rows (option_or alone (fault_against fleet floor tick rows)) (unless_bad alone further)
     by_alone None is = by_against (fault_against fleet floor tick rows) refl is
-    by_alone (Some fault) is = record { last = held store; end = BadFlush fault; leads = (refl, refl); ends = refl; holds = holds }
+    by_alone (Some fault) is = record { last = held_parts store; end = BadFlush fault; leads = (refl, refl); ends = refl; holds = holds }

@@ -12,7 +12,7 @@ use Rattle.row_model.specs.Tables.{cut_from, cut_tables}
 use Rattle.row_laws.proofs.Order.{kept_keys_order}
 use Rattle.row_laws.proofs.Tables.{cut_flat, cut_filled}
 use Rattle.fleet_fold.proofs.AllKept.{all_kept}
-use Rattle.fleet_table.specs.Table.{IsTable}
+use Rattle.fleet_table.specs.Table.{IsTableRows}
 
 -- A row that becomes a tombstone stays in bounds.
 bounds_stay : (tick : ℤ) (r : Row) → IsInBounds r → IsInBounds (as_tombstone_if_expired tick r)
@@ -22,7 +22,7 @@ bounds_stay tick r h = by (is_expired r tick)
     by true = record { key = h.key; content = omega arith }
     by false = h
 
-pub kept_in_bounds : (settings : Settings) (rows : List Row) → IsTable rows → AllByRecursion IsInBounds (kept_of_keys settings rows)
+pub kept_in_bounds : (settings : Settings) (rows : List Row) → IsTableRows rows → AllByRecursion IsInBounds (kept_of_keys settings rows)
 kept_in_bounds settings rows table = all_kept IsInBounds bounds_stay settings rows table.in_bounds
 
 all_front : {A : Type 0} (P : A → Type 0) (xs ys : List A) → AllByRecursion P (xs ++ ys) → AllByRecursion P xs
@@ -45,17 +45,17 @@ ordered_back (x ∷ xs) ys h = ordered_back xs ys h.1
 
 -- If lists of rows are not empty, and together are strictly ordered and in bounds, each of them is
 -- a table.
-all_tables : (tables : List (List Row)) → AllByRecursion (λ table. table ≢ []) tables → IsStrictlyOrdered (flat_map (λ table. table) tables) → AllByRecursion IsInBounds (flat_map (λ table. table) tables) → AllByRecursion IsTable tables
+all_tables : (tables : List (List Row)) → AllByRecursion (λ table. table ≢ []) tables → IsStrictlyOrdered (flat_map (λ table. table) tables) → AllByRecursion IsInBounds (flat_map (λ table. table) tables) → AllByRecursion IsTableRows tables
 all_tables [] filled ordered bounds = tt
 all_tables (table ∷ tables) filled ordered bounds =
-    let first : IsTable table = record {
+    let first : IsTableRows table = record {
       some = filled.0;
       ordered = ordered_front table (flat_map (λ table. table) tables) ordered;
       in_bounds = all_front IsInBounds table (flat_map (λ table. table) tables) bounds;
     } in
     (first, all_tables tables filled.1 (ordered_back table (flat_map (λ table. table) tables) ordered) (all_back IsInBounds table (flat_map (λ table. table) tables) bounds))
 
-pub outputs_are_tables : (size : ℕ) (settings : Settings) (rows : List Row) → IsTable rows → AllByRecursion IsTable (cut_tables size (kept_of_keys settings rows))
+pub outputs_are_tables : (size : ℕ) (settings : Settings) (rows : List Row) → IsTableRows rows → AllByRecursion IsTableRows (cut_tables size (kept_of_keys settings rows))
 outputs_are_tables size settings rows table =
     let kept = kept_of_keys settings rows in
     let all : flat_map (λ table. table) (cut_from size 0 kept) ≡ kept = cut_flat size 0 kept in

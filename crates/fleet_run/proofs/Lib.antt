@@ -34,4 +34,4 @@ pub mod Texts
 pub mod Written
 pub mod Given
 pub mod Runs
-pub mod Told
+pub mod Refusals

@@ -4,9 +4,9 @@ use Rattle.std.specs.Prelude.{sum_by, filter, ⊤}
 use Rattle.std.proofs.lemmas.Bool.Decides.{nat_tests}
 use Rattle.std.proofs.lemmas.List.Sums.{sum_by-cons}
 use Rattle.row_model.specs.Rows.{Row}
-use Rattle.row_model.specs.Sizes.{Block, estimated_size, saturated, table_size, or_full, blocks_from, blocks}
+use Rattle.row_model.specs.Sizes.{Block, estimated_size, saturated_sum, table_size, or_full, blocks_from, blocks}
 use Rattle.row_model.specs.Ranges.{Unbounded, all_keys, is_in_range, ranges_from}
-use Rattle.row_model.specs.Plan.{Anchor, max_anchors, every, spans, sample_anchors, anchors_by_key, cut_anchors, planned}
+use Rattle.row_model.specs.Plan.{Anchor, max_anchors, every, spans, sample_anchors, anchors_by_key, cut_anchors, planned_ranges}
 
 -- The blocks begin one after the other, between two offsets.
 abbrev Within : ℕ → ℕ → List Block → Type 0
@@ -17,18 +17,18 @@ lower : (a b hi : ℕ) (bs : List Block) → a ≤ b → Within b hi bs → With
 lower a b hi [] le h = tt
 lower a b hi (x ∷ bs) le h = (omega (arith, h.0, le), h.1)
 
-blocks_within : (offset filled : ℕ) (rows : List Row) → offset ≤ 2 ^ 64 - 1 → Within offset (saturated (offset + sum_by estimated_size rows)) (blocks_from offset filled rows)
+blocks_within : (offset filled : ℕ) (rows : List Row) → offset ≤ 2 ^ 64 - 1 → Within offset (saturated_sum (offset + sum_by estimated_size rows)) (blocks_from offset filled rows)
 blocks_within offset filled [] le = tt
 blocks_within offset filled (r ∷ rows) le =
-    let next : ℕ = saturated (offset + estimated_size r) in
+    let next : ℕ = saturated_sum (offset + estimated_size r) in
     let later : List Block = blocks_from next (or_full (filled + estimated_size r)) rows in
-    let hi : saturated (next + sum_by estimated_size rows) ≡ saturated (offset + sum_by estimated_size (r ∷ rows)) = omega (arith, sum_by-cons estimated_size r rows) in
-    let above : Within offset (saturated (offset + sum_by estimated_size (r ∷ rows))) later =
-    subst (λ n. Within offset n later) hi (lower offset next (saturated (next + sum_by estimated_size rows)) later (omega arith) (blocks_within next (or_full (filled + estimated_size r)) rows (omega arith))) in
+    let hi : saturated_sum (next + sum_by estimated_size rows) ≡ saturated_sum (offset + sum_by estimated_size (r ∷ rows)) = omega (arith, sum_by-cons estimated_size r rows) in
+    let above : Within offset (saturated_sum (offset + sum_by estimated_size (r ∷ rows))) later =
+    subst (λ n. Within offset n later) hi (lower offset next (saturated_sum (next + sum_by estimated_size rows)) later (omega arith) (blocks_within next (or_full (filled + estimated_size r)) rows (omega arith))) in
     by later above (filled == 0)
   where
-    by : (later : List Block) → Within offset (saturated (offset + sum_by estimated_size (r ∷ rows))) later → (b : Bool)
-        → Within offset (saturated (offset + sum_by estimated_size (r ∷ rows))) (cond b (record { first_key = r.key; offset = offset } ∷ later) later)
+    by : (later : List Block) → Within offset (saturated_sum (offset + sum_by estimated_size (r ∷ rows))) later → (b : Bool)
+        → Within offset (saturated_sum (offset + sum_by estimated_size (r ∷ rows))) (cond b (record { first_key = r.key; offset = offset } ∷ later) later)
     by later above true = (omega arith, (omega arith, above))
     by later above false = above
 
@@ -78,18 +78,18 @@ stops false true c h = refl
 stops false false c h = h
 
 -- One source table is not split into ranges.
-pub one_range : (most : ℕ) (rows : List Row) → planned most (rows ∷ []) ≡ all_keys ∷ []
-unfolding planned bytes
+pub one_range : (most : ℕ) (rows : List Row) → planned_ranges most (rows ∷ []) ≡ all_keys ∷ []
+unfolding planned_ranges bytes
 one_range most rows =
     let size = table_size rows in
     let groups = max max_anchors 1 in
     let sampled : List Block = every ((length (blocks rows) + groups - 1) / groups) 0 (blocks rows) in
     let anchors : List Anchor = sample_anchors (blocks rows) size max_anchors all_keys in
     let all : List Anchor = anchors ++ [] in
-    let inside : Within 0 size (blocks rows) = subst (λ n. Within 0 (saturated n) (blocks rows)) (zero-add (sum_by estimated_size rows)) (blocks_within 0 0 rows (omega arith)) in
+    let inside : Within 0 size (blocks rows) = subst (λ n. Within 0 (saturated_sum n) (blocks rows)) (zero-add (sum_by estimated_size rows)) (blocks_within 0 0 rows (omega arith)) in
     let spanned : bytes (spans size sampled) + 0 ≤ size = spans_within 0 size sampled (omega arith) (every_within ((length (blocks rows) + groups - 1) / groups) 0 0 size (blocks rows) inside) in
     let few : bytes anchors ≤ bytes (spans size sampled) = fewer (λ a. is_in_range all_keys a.key) (spans size sampled) in
-    let total = saturated (bytes all) in
+    let total = saturated_sum (bytes all) in
     let target = max (total / most) (max size 0) in
     let same : bytes all ≡ bytes anchors = ap bytes (append-nil anchors) in
     let le : nat_le total target ≡ true = grind (arith, nat_tests, spanned, few, same) in

@@ -3,10 +3,10 @@ use Rattle.std.proofs.Common.{◌≡◌, refl, sym, ap, ◌∙◌, subst, ℕ, s
 use Rattle.std.proofs.lemmas.Bool.Decides.{nat_tests}
 use Rattle.fleet_model.specs.Nodes.{Tables}
 use Rattle.fleet_model.specs.History.{GetRecords, Commit, Polled}
-use Rattle.fleet_model.specs.Jobs.{JobSpec, trimmed}
+use Rattle.fleet_model.specs.Jobs.{JobSpec, trimmed_jobs}
 use Rattle.fleet_model.specs.Store.{Manifest, Records, jobs_in, records_epoch}
 use Rattle.fleet_model.specs.Exchanges.{Plain, records_version}
-use Rattle.fleet_model.specs.Polls.{PollState, PollInput, begun, free_stale, commit_finished, proposals, add_drawn, open_submitted, change_of, is_nothing}
+use Rattle.fleet_model.specs.Polls.{PollState, PollInput, poll_begun, free_stale, commit_finished, proposals, add_drawn, open_submitted, change_of, is_nothing}
 use Rattle.step_model.specs.Course.{Course, Ends, Calls, gets_records, draws_jobs, puts_manifest, puts_records}
 use Rattle.step_model.specs.PollSteps.{PollAsk, is_unchanged, records_or_none, unless_fenced, merged_into, puts_polled, puts_trees, polls_over, polls_from}
 use Rattle.step_model.specs.StepEnds.{StepEnd, Reports, GivesUp, Fenced, most_refused}
@@ -27,7 +27,7 @@ polled_manifest manifest q false = record manifest { trees = q.trees; horizon = 
 
 abbrev pub polled_records : Option Records → PollState → Bool → Option Records
 polled_records records q true = records
-polled_records records q false = let got = records_or_none records in Some (record { version = got.version + 1; epoch = got.epoch; jobs = trimmed q.jobs })
+polled_records records q false = let got = records_or_none records in Some (record { version = got.version + 1; epoch = got.epoch; jobs = trimmed_jobs q.jobs })
 
 abbrev pub polled_held : Held → PollState → Held
 polled_held h q = record h { manifest = polled_manifest h.manifest q (is_unchanged h.manifest q); records = polled_records h.records q (is_nothing (change_of q)) }
@@ -52,18 +52,18 @@ module _ (records : Option Records) (q : PollState) where
 
   -- The poll puts the records if it changed jobs.
   polled_leads : (left seen : ℕ) (h : Held) → h.records ≡ records → (b : Bool) → is_nothing (change_of q) ≡ b → Leads (puts_polled 1 q got (suc left) seen) h (record h { records = polled_records records q b }) (Reports q)
-  polled_leads left seen h here b is = subst (λ c. Leads (cond c (Ends (Reports q)) (puts_records got (Polled (change_of q)) got.epoch (trimmed q.jobs) (Ends (Reports q)) refused)) h (record h { records = polled_records records q b }) (Reports q)) (sym is) (by b)
+  polled_leads left seen h here b is = subst (λ c. Leads (cond c (Ends (Reports q)) (puts_records got (Polled (change_of q)) got.epoch (trimmed_jobs q.jobs) (Ends (Reports q)) refused)) h (record h { records = polled_records records q b }) (Reports q)) (sym is) (by b)
     where
       refused : ℕ → Course (StepEnd PollState)
       refused seen = cond (left == 0) (Ends (GivesUp seen)) (gets_records (λ newer.
           let got = records_or_none newer in
           unless_fenced 1 got.epoch (puts_polled 1 (merged_into q got.jobs) got left seen)))
 
-      by : (b : Bool) → Leads (cond b (Ends (Reports q)) (puts_records got (Polled (change_of q)) got.epoch (trimmed q.jobs) (Ends (Reports q)) refused)) h (record h { records = polled_records records q b }) (Reports q)
+      by : (b : Bool) → Leads (cond b (Ends (Reports q)) (puts_records got (Polled (change_of q)) got.epoch (trimmed_jobs q.jobs) (Ends (Reports q)) refused)) h (record h { records = polled_records records q b }) (Reports q)
       by true = (ap (λ (r : Option Records). record h { records = r }) here, refl)
       by false =
           let last : Held = record h { records = polled_records records q false } in
-          puts_records_leads h last (Reports q) got (Polled (change_of q)) got.epoch (trimmed q.jobs) (Ends (Reports q)) refused (records_versions records ∙ ap records_version (sym here)) (refl, refl)
+          puts_records_leads h last (Reports q) got (Polled (change_of q)) got.epoch (trimmed_jobs q.jobs) (Ends (Reports q)) refused (records_versions records ∙ ap records_version (sym here)) (refl, refl)
 
   -- The poll puts the manifest if it changed the trees or the horizon, and then the records.
   trees_leads : (left seen : ℕ) (again : ℕ → Course (StepEnd PollState)) (h : Held) → h.records ≡ records → Leads (puts_trees 1 q h.manifest got (suc left) seen again) h (record h {
@@ -89,7 +89,7 @@ module _ (records : Option Records) (q : PollState) where
 -- state, and the poll ends with the last one.
 pub polls_leads : (left seen : ℕ) (h : Held) (first last : PollState) → h.manifest.epoch ≡ 1 → records_epoch h.records ≡ 1
     → let input = quiet_input h.tables h.manifest (records_or_none h.records) in
-    commit_finished input (free_stale input (begun h.manifest.trees h.manifest.horizon (records_or_none h.records).jobs)) ≡ first → open_submitted input first ≡ last
+    commit_finished input (free_stale input (poll_begun h.manifest.trees h.manifest.horizon (records_or_none h.records).jobs)) ≡ first → open_submitted input first ≡ last
     → Leads (polls_from quiet_ask (suc left) seen) h (polled_held h last) (Reports last)
 polls_leads left seen h first last epoch other commits opens =
     gets_manifest_leads h (polled_held h last) (Reports last) (λ manifest. unless_fenced 1 manifest.epoch (Calls (Plain GetRecords) (λ met. over met.tables manifest (records_or_none met.records))))

@@ -8,13 +8,13 @@ use Rattle.fleet_model.specs.Jobs.{Jobs}
 use Rattle.fleet_model.specs.Records.{firsts}
 use Rattle.fleet_model.specs.Attempts.{is_last}
 use Rattle.fleet_model.specs.Store.{Manifest, Records}
-use Rattle.fleet_model.specs.Polls.{PollState, PollInput, begun, each, open_job}
+use Rattle.fleet_model.specs.Polls.{PollState, PollInput, poll_begun, each, open_job}
 use Rattle.script_model.specs.Replies.{poll_reply}
 use Rattle.fleet_run.specs.declared.jobs.AskedJob.{AskedJob}
 use Rattle.fleet_run.specs.Jobs.{Stage, Waits, Runs, Wrote, OpenJob, Judged, judge_all}
 use Rattle.fleet_run.specs.FleetView.{FleetView}
 use Rattle.fleet_run.specs.Serve.{held_by, opened_after}
-use Rattle.fleet_run.specs.Holds.{held, MadeRun, run_of, asked_job, job_at, open_jobs, IfOpen, OpenStands, StageFits, made_of, attempts_by, known_tables}
+use Rattle.fleet_run.specs.Holds.{held_parts, MadeRun, run_of, asked_job, job_at, open_jobs, IfOpen, OpenStands, StageFits, made_of, attempts_by, known_tables}
 use Rattle.fleet_run.proofs.RootTree.{is_flush}
 use Rattle.fleet_run.proofs.Rules.{root, AreHeld, IsHeldJob}
 use Rattle.fleet_run.proofs.Commits.{oldest_is_last}
@@ -23,9 +23,9 @@ use Rattle.fleet_run.proofs.TreeHolds.{TreeHolds}
 
 -- ---- what a poll replies
 
-pub reply_told : (ts : Trees) (horizon : ℕ) (active : Jobs) (drawn : ℕ) (done opened : List ℕ) (refused : List (ℕ × ℕ)) (p : PollState) → At ts horizon active drawn done opened refused p
-    → poll_reply p ≡ poll_reply (record (begun [] 0 []) { done = done; opened = opened; refused = refused })
-reply_told ts horizon active drawn done opened refused p at = rw (at.freed, at.done, at.lost, at.added, at.dropped, at.opened, at.moved, at.drained, at.refused) refl
+pub reply_is : (ts : Trees) (horizon : ℕ) (active : Jobs) (drawn : ℕ) (done opened : List ℕ) (refused : List (ℕ × ℕ)) (p : PollState) → At ts horizon active drawn done opened refused p
+    → poll_reply p ≡ poll_reply (record (poll_begun [] 0 []) { done = done; opened = opened; refused = refused })
+reply_is ts horizon active drawn done opened refused p at = rw (at.freed, at.done, at.lost, at.added, at.dropped, at.opened, at.moved, at.drained, at.refused) refl
 
 -- ---- what a poll reached
 
@@ -111,10 +111,10 @@ module _ (stored : Tables) (manifest : Manifest) (records : Records) (fleet : Fl
   ends_held o p e stands at =
       let oldest : is_last o.job.source (firsts fleet.flushes) ≡ true =
       subst (λ fs. is_last o.job.source (firsts fs) ≡ true) (sym stands.source) (oldest_is_last stands.newer stands.flush o.job.source stands.named) in
-      let held : (begin fleet).held ≡ Some o.job = ap held_by e in
+      let held_parts : (begin fleet).held ≡ Some o.job = ap held_by e in
       let are : AreHeld (begin fleet).held (open_jobs fleet.opened) =
-      subst (λ h. AreHeld h (open_jobs fleet.opened)) (sym held) (job_at o.job o.stage, held_job o.job o.stage, ap open_jobs e) in
-      let all = all_refused stored manifest records fleet.flushes made fleet.last_seq watermark fleet.horizon (made_of made) tree_holds.flushes fleet.jobs_drawn joined o.job (open_jobs fleet.opened) fleet.asked (begin fleet) p held are oldest at in
+      subst (λ h. AreHeld h (open_jobs fleet.opened)) (sym held_parts) (job_at o.job o.stage, held_job o.job o.stage, ap open_jobs e) in
+      let all = all_refused stored manifest records fleet.flushes made fleet.last_seq watermark fleet.horizon (made_of made) tree_holds.flushes fleet.jobs_drawn joined o.job (open_jobs fleet.opened) fleet.asked (begin fleet) p held_parts are oldest at in
       ends_same (each (open_job input) (map asked_job fleet.asked) p) all.opened (subst (IfOpen fleet) (sym e) stands) all.at
 
   ends_free : (p : PollState) → fleet.opened ≡ None → StartsAt fleet.opened p → PollEnds fleet made watermark joined last_judged (each (open_job input) (map asked_job fleet.asked) p)
@@ -124,11 +124,11 @@ module _ (stored : Tables) (manifest : Manifest) (records : Records) (fleet : Fl
       q = each (open_job input) (map asked_job fleet.asked) p
 
       by : Outcome stored manifest records fleet.flushes made fleet.last_seq watermark fleet.horizon (made_of made) tree_holds.flushes fleet.jobs_drawn joined (begin fleet) fleet.asked p → PollEnds fleet made watermark joined last_judged q
-      by (NoneOpened held opened reached_at) = ends_same q opened (subst (IfOpen fleet) (sym e) tt) (subst (λ o. EndsWith o q) (sym e) reached_at)
-      by (OneOpened a passes held opened reached_at) =
+      by (NoneOpened held_parts opened reached_at) = ends_same q opened (subst (IfOpen fleet) (sym e) tt) (subst (λ o. EndsWith o q) (sym e) reached_at)
+      by (OneOpened a passes held_parts opened reached_at) =
           let new : Option OpenJob = Some (record { job = a; stage = Waits }) in
           let is : opened_after fleet.opened last_judged.opened last_judged.held ≡ new =
-          ap (λ os. opened_after fleet.opened os last_judged.held) opened ∙ ap (λ h. opened_after fleet.opened (a.id ∷ []) h) held in
+          ap (λ os. opened_after fleet.opened os last_judged.held) opened ∙ ap (λ h. opened_after fleet.opened (a.id ∷ []) h) held_parts in
           let oldest = has_oldest fleet.flushes a.source passes.there passes.oldest in
           let above : AllByRecursion (λ run. run.0 < a.destination) fleet.runs =
           subst (AllByRecursion (λ run. run.0 < a.destination)) (sym tree_holds.runs) (below_test a.destination (map run_of made) (second_true (not (a.destination == 4294967295)) _ passes.above)) in

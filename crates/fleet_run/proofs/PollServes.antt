@@ -10,7 +10,7 @@ use Rattle.fleet_model.specs.Records.{firsts}
 use Rattle.fleet_model.specs.Parties.{LiveCoordinator, coordinator_with, without_coordinator}
 use Rattle.fleet_model.specs.Store.{Manifest, Records, Store, jobs_in, records_epoch}
 use Rattle.fleet_model.specs.Trees.{watermark_after}
-use Rattle.fleet_model.specs.Polls.{PollState, PollInput, begun, free_stale, commit_finished, each, open_job, open_submitted, change_of, is_nothing}
+use Rattle.fleet_model.specs.Polls.{PollState, PollInput, poll_begun, free_stale, commit_finished, each, open_job, open_submitted, change_of, is_nothing}
 use Rattle.step_model.specs.PollSteps.{same_tree, is_unchanged, records_or_none, poll}
 use Rattle.step_model.specs.StepEnds.{Reports}
 use Rattle.script_model.specs.Defaults.{with_quiet_scheduler}
@@ -21,8 +21,8 @@ use Rattle.script_model.specs.States.{State}
 use Rattle.fleet_run.specs.declared.jobs.AskedJob.{AskedJob}
 use Rattle.fleet_run.specs.Jobs.{Stage, Waits, Runs, Wrote, OpenJob, Judged, judge_all}
 use Rattle.fleet_run.specs.FleetView.{FleetView, AreFlushes}
-use Rattle.fleet_run.specs.Serve.{no_such_party, committed, done_job, done_ids, done_tables, flushes_left, runs_after, horizon_raised, opened_left, held_by, run_ids_after, judged_after, judged, opened_after, with_judged, after_poll, polled_reply, poll_answer}
-use Rattle.fleet_run.specs.Holds.{held, Holds, MadeRun, run_of, made_of, JobsAre, AreRecords, asked_job, job_at, open_jobs, IfOpen, OpenStands, coordinators, workers, attempts_by, parties_of, state_of, IsStored}
+use Rattle.fleet_run.specs.Serve.{no_such_party, committed_fleet, done_job, done_ids, done_tables, flushes_left, runs_after, horizon_raised, opened_left, held_by, run_ids_after, judged_after, judged_job, opened_after, with_judged, after_poll, polled_reply, poll_answer}
+use Rattle.fleet_run.specs.Holds.{held_parts, Holds, MadeRun, run_of, made_of, JobsAre, AreRecords, asked_job, job_at, open_jobs, IfOpen, OpenStands, coordinators, workers, attempts_by, parties_of, state_of, IsStored}
 use Rattle.fleet_run.proofs.Serves.{Serves, step_serves, replies_serve, line_end_of}
 use Rattle.fleet_run.proofs.RootTree.{tree}
 use Rattle.fleet_run.proofs.JobLists.{trimmed_are}
@@ -33,7 +33,7 @@ use Rattle.fleet_run.proofs.PollCourse.{quiet_ask, polled_manifest, polled_recor
 use Rattle.fleet_run.proofs.PollSteps.{with_status, submitted_are, at_first, none_committed, one_committed, none_stale}
 use Rattle.fleet_run.proofs.Nothing.{did_nothing, none_asked}
 use Rattle.fleet_run.proofs.TreeHolds.{TreeHolds, tree_held, tree_committed, made_below, front_of}
-use Rattle.fleet_run.proofs.PollLine.{reply_told, PollEnds, ends_poll, begin}
+use Rattle.fleet_run.proofs.PollLine.{reply_is, PollEnds, ends_poll, begin}
 
 pub epochs : (manifest : Manifest) (records : Option Records) → AreRecords true manifest records → (manifest.epoch ≡ 1) × (records_epoch records ≡ 1)
 epochs manifest None h = absurd h
@@ -41,27 +41,27 @@ epochs manifest (Some r) h = h
 
 -- The fleet after the commits of a poll, with these flushes and runs, this horizon and this open
 -- job.
-abbrev behind : FleetView → Tables → List (ℕ × Tables) → ℕ → Option OpenJob → FleetView
-behind fleet flushes runs horizon opened = record fleet { flushes = flushes; runs = runs; horizon = horizon; opened = opened }
+abbrev afterwards : FleetView → Tables → List (ℕ × Tables) → ℕ → Option OpenJob → FleetView
+afterwards fleet flushes runs horizon opened = record fleet { flushes = flushes; runs = runs; horizon = horizon; opened = opened }
 
 -- What the commits of a poll leave.
 record Commits (fleet : FleetView) (store : Store) (flushes : Tables) (runs : List (ℕ × Tables)) (horizon : ℕ) (opened : Option OpenJob) (made : List MadeRun) (watermark : Option ℕ) : Type 0 where
-  fleet_is : committed fleet ≡ behind fleet flushes runs horizon opened
-  judged_is : judged fleet ≡ judge_all (firsts flushes) (firsts (map run_of made)) (begin (behind fleet flushes runs horizon opened)) fleet.asked
-  tree_holds : TreeHolds (behind fleet flushes runs horizon opened) made store.tables
-  stands : IfOpen (behind fleet flushes runs horizon opened) opened
+  fleet_is : committed_fleet fleet ≡ afterwards fleet flushes runs horizon opened
+  judged_is : judged_job fleet ≡ judge_all (firsts flushes) (firsts (map run_of made)) (begin (afterwards fleet flushes runs horizon opened)) fleet.asked
+  tree_holds : TreeHolds (afterwards fleet flushes runs horizon opened) made store.tables
+  stands : IfOpen (afterwards fleet flushes runs horizon opened) opened
   attempts : attempts_by opened ≡ attempts_by fleet.opened
   at : At (root flushes made fleet.last_seq watermark) horizon (open_jobs opened ++ map asked_job fleet.asked) fleet.jobs_drawn (done_ids (done_job fleet.opened)) [] []
-      (commit_finished (quiet_input store.tables store.manifest (records_or_none store.records)) (begun store.manifest.trees store.manifest.horizon (jobs_in store.records)))
+      (commit_finished (quiet_input store.tables store.manifest (records_or_none store.records)) (poll_begun store.manifest.trees store.manifest.horizon (jobs_in store.records)))
   same_trees : pointwise same_tree store.manifest.trees (root flushes made fleet.last_seq watermark) ≡ true → (store.manifest.trees ≡ root flushes made fleet.last_seq watermark) × (store.manifest.horizon ≡ horizon)
   same_jobs : done_ids (done_job fleet.opened) ≡ []
-      → (commit_finished (quiet_input store.tables store.manifest (records_or_none store.records)) (begun store.manifest.trees store.manifest.horizon (jobs_in store.records))).jobs ≡ jobs_in store.records
+      → (commit_finished (quiet_input store.tables store.manifest (records_or_none store.records)) (poll_begun store.manifest.trees store.manifest.horizon (jobs_in store.records))).jobs ≡ jobs_in store.records
 
 first_true : (a b : Bool) → (a && b) ≡ true → a ≡ true
 first_true true b h = refl
 first_true false b h = absurd (cc h)
 
-module _ (merge : Operator) (number : ℕ) (fleet : FleetView) (store : Store) (holds : Holds fleet (held store)) (live : fleet.coordinator ≡ true) where
+module _ (merge : Operator) (number : ℕ) (fleet : FleetView) (store : Store) (holds : Holds fleet (held_parts store)) (live : fleet.coordinator ≡ true) where
   abbrev s : State
   s = state_of fleet store
 
@@ -79,10 +79,10 @@ module _ (merge : Operator) (number : ℕ) (fleet : FleetView) (store : Store) (
 
   module _ (flushes : Tables) (runs : List (ℕ × Tables)) (highest : ℕ) (opened : Option OpenJob) (made : List MadeRun) (watermark : Option ℕ) (commits : Commits fleet store flushes runs highest opened made watermark) where
     abbrev after : FleetView
-    after = behind fleet flushes runs highest opened
+    after = afterwards fleet flushes runs highest opened
 
     abbrev first : PollState
-    first = commit_finished input (begun store.manifest.trees store.manifest.horizon jobs)
+    first = commit_finished input (poll_begun store.manifest.trees store.manifest.horizon jobs)
 
     abbrev q : PollState
     q = each (open_job input) (map asked_job fleet.asked) first
@@ -102,22 +102,22 @@ module _ (merge : Operator) (number : ℕ) (fleet : FleetView) (store : Store) (
     opens : open_submitted input first ≡ q
     opens = ap (λ js. each (open_job input) js first) (with_status Submitted refl (open_jobs opened ++ map asked_job fleet.asked) fleet.jobs_drawn first.jobs commits.at.jobs ∙ submitted_are opened fleet.asked)
 
-    begins : commit_finished input (free_stale input (begun store.manifest.trees store.manifest.horizon (records_or_none store.records).jobs)) ≡ first
+    begins : commit_finished input (free_stale input (poll_begun store.manifest.trees store.manifest.horizon (records_or_none store.records).jobs)) ≡ first
     begins =
-        ap (λ js. commit_finished input (free_stale input (begun store.manifest.trees store.manifest.horizon js))) (records_jobs store.records)
+        ap (λ js. commit_finished input (free_stale input (poll_begun store.manifest.trees store.manifest.horizon js))) (records_jobs store.records)
         ∙ none_stale store.tables store.manifest (records_or_none store.records) store.manifest.horizon fleet.jobs_drawn jobs store.manifest.trees fleet.opened fleet.asked holds.jobs
 
     ends : PollEnds after made watermark (done_ids (done_job fleet.opened)) k q
     ends = ends_poll store.tables store.manifest (records_or_none store.records) after made watermark (done_ids (done_job fleet.opened)) commits.tree_holds first commits.stands commits.at
 
     new_is : new ≡ after_poll fleet
-    new_is = sym (ap (λ b. cond b (with_judged (committed fleet) (judged fleet)) fleet) live
-        ∙ ap (λ c. with_judged c (judged fleet)) commits.fleet_is
+    new_is = sym (ap (λ b. cond b (with_judged (committed_fleet fleet) (judged_job fleet)) fleet) live
+        ∙ ap (λ c. with_judged c (judged_job fleet)) commits.fleet_is
         ∙ ap (with_judged after) commits.judged_is)
 
     answer_is : poll_reply q ≡ poll_answer fleet
-    answer_is = reply_told reached highest (open_jobs chosen ++ []) fleet.jobs_drawn (done_ids (done_job fleet.opened)) k.opened k.refused q ends.at
-        ∙ sym (ap (λ b. cond b (polled_reply (done_ids (done_job fleet.opened)) (judged fleet)) no_such_party) live ∙ ap (polled_reply (done_ids (done_job fleet.opened))) commits.judged_is)
+    answer_is = reply_is reached highest (open_jobs chosen ++ []) fleet.jobs_drawn (done_ids (done_job fleet.opened)) k.opened k.refused q ends.at
+        ∙ sym (ap (λ b. cond b (polled_reply (done_ids (done_job fleet.opened)) (judged_job fleet)) no_such_party) live ∙ ap (polled_reply (done_ids (done_job fleet.opened))) commits.judged_is)
 
     -- The manifest fits the fleet after the poll. With fitting records, that fleet holds it.
     record Fit (manifest : Manifest) : Type 0 where
@@ -128,7 +128,7 @@ module _ (merge : Operator) (number : ℕ) (fleet : FleetView) (store : Store) (
       tick : manifest.tick ≡ fleet.tick
 
     holds_with : (manifest : Manifest) (records : Option Records) → Fit manifest → AreRecords fleet.coordinator manifest records
-        → JobsAre (open_jobs chosen ++ []) fleet.jobs_drawn (jobs_in records) → Holds new (record (held store) { manifest = manifest; records = records })
+        → JobsAre (open_jobs chosen ++ []) fleet.jobs_drawn (jobs_in records) → Holds new (record (held_parts store) { manifest = manifest; records = records })
     holds_with manifest records fit are jobs_are = record {
       made = made;
       watermark = watermark;
@@ -201,15 +201,15 @@ module _ (merge : Operator) (number : ℕ) (fleet : FleetView) (store : Store) (
         let gone = without_coordinator 1 s.parties in
         step_line (Coordinator 1) (poll (poll_ask (with_quiet_scheduler merge) s c false)) (line_end poll_reply (λ reached. s.parties) gone) gone) in
         let parties : s.parties ≡ parties_of new = ap (λ these. record { coordinators = coordinators fleet.coordinator; workers = workers fleet.worker these }) (sym (ends.attempts ∙ commits.attempts)) in
-        let told : record { reply = poll_reply q; parties = s.parties } ≡ line_end_of (poll_answer fleet) new =
+        let replied : record { reply = poll_reply q; parties = s.parties } ≡ line_end_of (poll_answer fleet) new =
         ap (λ (text : List ℕ). record { reply = text; parties = s.parties }) answer_is ∙ ap (λ p. record { reply = poll_answer fleet; parties = p }) parties in
-        let last = polled_held (held store) q in
+        let last = polled_held (held_parts store) q in
         let holds_new : Holds new last = holds_with (polled_manifest store.manifest q (is_unchanged store.manifest q)) (polled_records store.records q (is_nothing (change_of q)))
         (manifest_fits (is_unchanged store.manifest q) refl) (records_fit (is_unchanged store.manifest q) (is_nothing (change_of q))) (jobs_fit (is_nothing (change_of q)) refl) in
         let gone = without_coordinator 1 s.parties in
         let served : Serves number fleet store (at true) (poll_answer fleet) new =
         step_serves number fleet new store (Coordinator 1) (poll quiet_ask) (line_end poll_reply (λ reached. s.parties) gone) gone (Reports q) (poll_answer fleet) last
-        (polls_leads 63 0 (held store) first q both.0 both.1 begins opens) told holds_new in
+        (polls_leads 63 0 (held_parts store) first q both.0 both.1 begins opens) replied holds_new in
         subst (λ on. Serves number fleet store (at on) (poll_answer fleet) (after_poll fleet)) (sym live)
         (subst (λ f. Serves number fleet store (at true) (poll_answer fleet) f) new_is served)
 
@@ -231,19 +231,19 @@ module _ (merge : Operator) (number : ℕ) (fleet : FleetView) (store : Store) (
   none_done none idle =
       let trees = root fleet.flushes holds.made fleet.last_seq holds.watermark in
       let active = open_jobs fleet.opened ++ map asked_job fleet.asked in
-      let here : commit_finished input (begun store.manifest.trees store.manifest.horizon jobs) ≡ begun store.manifest.trees store.manifest.horizon jobs =
+      let here : commit_finished input (poll_begun store.manifest.trees store.manifest.horizon jobs) ≡ poll_begun store.manifest.trees store.manifest.horizon jobs =
       none_committed store.tables store.manifest (records_or_none store.records) store.manifest.horizon fleet.jobs_drawn jobs store.manifest.trees (open_jobs fleet.opened) fleet.asked idle holds.jobs in
       record {
         fleet_is = ap (λ d. record fleet { flushes = flushes_left fleet.flushes d; runs = runs_after fleet.runs d (done_tables fleet.opened); horizon = horizon_raised fleet.horizon fleet.opened; opened = opened_left fleet.opened d }) none
             ∙ ap (λ h. record fleet { horizon = h }) (none_raised fleet.opened none);
         judged_is = ap (judged_after fleet) none ∙ runs_are;
-        tree_holds = tree_held fleet (held store) holds;
+        tree_holds = tree_held fleet (held_parts store) holds;
         stands = holds.opened;
         attempts = refl;
         at = subst (At trees fleet.horizon active fleet.jobs_drawn (done_ids (done_job fleet.opened)) [] []) (sym here)
-            (subst (λ d. At trees fleet.horizon active fleet.jobs_drawn (done_ids d) [] [] (begun store.manifest.trees store.manifest.horizon jobs)) (sym none)
-            (subst (λ h. At trees fleet.horizon active fleet.jobs_drawn [] [] [] (begun store.manifest.trees h jobs)) (sym holds.horizon)
-            (subst (λ ts. At trees fleet.horizon active fleet.jobs_drawn [] [] [] (begun ts fleet.horizon jobs)) (sym holds.trees) (at_first trees fleet.horizon active fleet.jobs_drawn jobs holds.jobs))));
+            (subst (λ d. At trees fleet.horizon active fleet.jobs_drawn (done_ids d) [] [] (poll_begun store.manifest.trees store.manifest.horizon jobs)) (sym none)
+            (subst (λ h. At trees fleet.horizon active fleet.jobs_drawn [] [] [] (poll_begun store.manifest.trees h jobs)) (sym holds.horizon)
+            (subst (λ ts. At trees fleet.horizon active fleet.jobs_drawn [] [] [] (poll_begun ts fleet.horizon jobs)) (sym holds.trees) (at_first trees fleet.horizon active fleet.jobs_drawn jobs holds.jobs))));
         same_trees = λ _. (holds.trees, holds.horizon);
         same_jobs = λ _. ap (λ (p : PollState). p.jobs) here;
       }
@@ -258,7 +258,7 @@ module _ (merge : Operator) (number : ℕ) (fleet : FleetView) (store : Store) (
       let flush = stands.flush in
       let m : MadeRun = record { id = job.destination; tables = out; flush = flush } in
       let mark = watermark_after (L0 job.source ∷ []) (tree (newer ++ flush ∷ []) holds.made) holds.watermark in
-      let after : FleetView = behind fleet newer ((job.destination, out) ∷ fleet.runs) (max fleet.horizon cut) None in
+      let after : FleetView = afterwards fleet newer ((job.destination, out) ∷ fleet.runs) (max fleet.horizon cut) None in
       let trees = root newer (m ∷ holds.made) fleet.last_seq mark in
       let old : Trees = root (newer ++ flush ∷ []) holds.made fleet.last_seq holds.watermark in
       let left : take (length fleet.flushes - 1) fleet.flushes ≡ newer = ap (λ (fs : Tables). take (length fs - 1) fs) stands.source ∙ front_of newer flush in
@@ -273,12 +273,12 @@ module _ (merge : Operator) (number : ℕ) (fleet : FleetView) (store : Store) (
         judged_is = ap (λ o. judge_all (firsts (flushes_left fleet.flushes (done_job o))) (run_ids_after (firsts fleet.runs) (done_job o)) (record { held = held_by (opened_left o (done_job o)); opened = []; refused = [] }) fleet.asked) e
             ∙ ap (λ (fs : Tables). judge_all (firsts fs) (job.destination ∷ firsts fleet.runs) (begin after) fleet.asked) left
             ∙ ap (λ (rs : List (ℕ × Tables)). judge_all (firsts newer) (job.destination ∷ firsts rs) (begin after) fleet.asked) holds.runs;
-        tree_holds = tree_committed fleet holds.made store.tables job out cut e (tree_held fleet (held store) holds) stands;
+        tree_holds = tree_committed fleet holds.made store.tables job out cut e (tree_held fleet (held_parts store) holds) stands;
         stands = tt;
         attempts = sym (ap attempts_by e);
-        at = subst (λ ts. At trees (max fleet.horizon cut) (map asked_job fleet.asked) fleet.jobs_drawn (done_ids (done_job fleet.opened)) [] [] (commit_finished input (begun ts store.manifest.horizon jobs))) (sym these)
-            (subst (λ h. At trees (max fleet.horizon cut) (map asked_job fleet.asked) fleet.jobs_drawn (done_ids (done_job fleet.opened)) [] [] (commit_finished input (begun old h jobs))) (sym holds.horizon)
-            (subst (λ o. At trees (max fleet.horizon cut) (map asked_job fleet.asked) fleet.jobs_drawn (done_ids (done_job o)) [] [] (commit_finished input (begun old fleet.horizon jobs))) (sym e) reached));
+        at = subst (λ ts. At trees (max fleet.horizon cut) (map asked_job fleet.asked) fleet.jobs_drawn (done_ids (done_job fleet.opened)) [] [] (commit_finished input (poll_begun ts store.manifest.horizon jobs))) (sym these)
+            (subst (λ h. At trees (max fleet.horizon cut) (map asked_job fleet.asked) fleet.jobs_drawn (done_ids (done_job fleet.opened)) [] [] (commit_finished input (poll_begun old h jobs))) (sym holds.horizon)
+            (subst (λ o. At trees (max fleet.horizon cut) (map asked_job fleet.asked) fleet.jobs_drawn (done_ids (done_job o)) [] [] (commit_finished input (poll_begun old fleet.horizon jobs))) (sym e) reached));
         same_trees = λ same. absurd (let clash : true ≡ false = sym same ∙ ap (λ ts. pointwise same_tree ts trees) these ∙ roots_differ newer flush holds.made m fleet.last_seq holds.watermark mark in cc clash);
         same_jobs = λ none. absurd (let clash : job.id ∷ [] ≡ [] = sym (ap (λ o. done_ids (done_job o)) e) ∙ none in cc clash);
       }
@@ -306,7 +306,7 @@ module _ (merge : Operator) (number : ℕ) (fleet : FleetView) (store : Store) (
       by (Some o) e h = by_stage o.job o.stage e h
 
 -- A poll is refused if no coordinator is live.
-pub no_poll_serves : (merge : Operator) (number : ℕ) (fleet : FleetView) (store : Store) → Holds fleet (held store) → fleet.coordinator ≡ false
+pub no_poll_serves : (merge : Operator) (number : ℕ) (fleet : FleetView) (store : Store) → Holds fleet (held_parts store) → fleet.coordinator ≡ false
     → Serves number fleet store (poll_line (with_quiet_scheduler merge) 1 (state_of fleet store)) (poll_answer fleet) (after_poll fleet)
 no_poll_serves merge number fleet store holds off =
     let s = state_of fleet store in
@@ -314,8 +314,8 @@ no_poll_serves merge number fleet store holds off =
     if_some (coordinator_with 1 (record { coordinators = coordinators on; workers = workers fleet.worker (attempts_by fleet.opened) })) (only_replies s no_such_party) (λ (c : LiveCoordinator).
     let gone = without_coordinator 1 s.parties in
     step_line (Coordinator 1) (poll (poll_ask (with_quiet_scheduler merge) s c false)) (line_end poll_reply (λ reached. s.parties) gone) gone) in
-    let answer : no_such_party ≡ poll_answer fleet = sym (ap (λ b. cond b (polled_reply (done_ids (done_job fleet.opened)) (judged fleet)) no_such_party) off) in
-    let same : fleet ≡ after_poll fleet = sym (ap (λ b. cond b (with_judged (committed fleet) (judged fleet)) fleet) off) in
+    let answer : no_such_party ≡ poll_answer fleet = sym (ap (λ b. cond b (polled_reply (done_ids (done_job fleet.opened)) (judged_job fleet)) no_such_party) off) in
+    let same : fleet ≡ after_poll fleet = sym (ap (λ b. cond b (with_judged (committed_fleet fleet) (judged_job fleet)) fleet) off) in
     let served = replies_serve number fleet store no_such_party holds in
     subst (λ on. Serves number fleet store (at on) (poll_answer fleet) (after_poll fleet)) (sym off)
     (subst (λ text. Serves number fleet store (at false) text (after_poll fleet)) answer (subst (λ f. Serves number fleet store (at false) no_such_party f) same served))

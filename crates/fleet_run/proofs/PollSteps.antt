@@ -7,7 +7,7 @@ use Rattle.fleet_model.specs.Jobs.{Job, Jobs, Status, Submitted, Scheduled, Runn
 use Rattle.fleet_model.specs.Records.{to_completed}
 use Rattle.fleet_model.specs.Store.{Manifest, Records}
 use Rattle.fleet_model.specs.Trees.{watermark_after}
-use Rattle.fleet_model.specs.Polls.{PollInput, PollState, begun, free_stale, commit_by, commit_job, commit_finished, each}
+use Rattle.fleet_model.specs.Polls.{PollInput, PollState, poll_begun, free_stale, commit_by, commit_job, commit_finished, each}
 use Rattle.fleet_run.specs.declared.jobs.AskedJob.{AskedJob}
 use Rattle.fleet_run.specs.Jobs.{Stage, Waits, Runs, Wrote, OpenJob}
 use Rattle.fleet_run.specs.FleetView.{AreFlushes}
@@ -75,7 +75,7 @@ submitted_are (Some o) asked = by o.stage
 
 -- ---- 2. a finished job is committed
 
-pub at_first : (trees : Trees) (horizon : ℕ) (active : Jobs) (drawn : ℕ) (jobs : Jobs) → JobsAre active drawn jobs → At trees horizon active drawn [] [] [] (begun trees horizon jobs)
+pub at_first : (trees : Trees) (horizon : ℕ) (active : Jobs) (drawn : ℕ) (jobs : Jobs) → JobsAre active drawn jobs → At trees horizon active drawn [] [] [] (poll_begun trees horizon jobs)
 at_first trees horizon active drawn jobs h = record {
   trees = refl;
   horizon = refl;
@@ -97,19 +97,19 @@ module _ (tables : Tables) (manifest : Manifest) (records : Records) (horizon dr
 
   -- If no job has finished, the commits change nothing.
   pub none_committed : (trees : Trees) (front : Jobs) (asked : List AskedJob) → filter (has_status Compacted) (front ++ map asked_job asked) ≡ [] → JobsAre (front ++ map asked_job asked) drawn jobs
-      → commit_finished input (begun trees horizon jobs) ≡ begun trees horizon jobs
+      → commit_finished input (poll_begun trees horizon jobs) ≡ poll_begun trees horizon jobs
   none_committed trees front asked none h =
-      ap (λ js. each (commit_job input) js (begun trees horizon jobs)) (with_status Compacted refl (front ++ map asked_job asked) drawn jobs h ∙ none)
+      ap (λ js. each (commit_job input) js (poll_begun trees horizon jobs)) (with_status Compacted refl (front ++ map asked_job asked) drawn jobs h ∙ none)
 
   -- If a job has finished, the poll commits it.
   pub one_committed : (job : AskedJob) (out : Tables) (cut : ℕ) (asked : List AskedJob) (newer : Tables) (flush : ℕ × List Row) (made : List MadeRun) (last_seq watermark : Option ℕ) (more : Tables) → flush.0 ≡ job.source
       → AreFlushes ((newer ++ flush ∷ []) ++ more) → AllByRecursion (λ m. m.id < job.destination) made → JobsAre (job_at job (Wrote out cut) ∷ map asked_job asked) drawn jobs
       → At (root newer (record { id = job.destination; tables = out; flush = flush } ∷ made) last_seq (watermark_after (L0 job.source ∷ []) (tree (newer ++ flush ∷ []) made) watermark)) (max horizon cut) (map asked_job asked) drawn (job.id ∷ []) [] []
-      (commit_finished input (begun (root (newer ++ flush ∷ []) made last_seq watermark) horizon jobs))
+      (commit_finished input (poll_begun (root (newer ++ flush ∷ []) made last_seq watermark) horizon jobs))
   one_committed job out cut asked newer flush made last_seq watermark more e sound above h =
       let trees = root (newer ++ flush ∷ []) made last_seq watermark in
       let it : Job = job_at job (Wrote out cut) in
-      let start = begun trees horizon jobs in
+      let start = poll_begun trees horizon jobs in
       let after : PollState = commit_by input it None start in
       let these : filter (has_status Compacted) jobs ≡ it ∷ [] = with_status Compacted refl (it ∷ map asked_job asked) drawn jobs h ∙ ap (λ js. it ∷ js) (none_compacted asked) in
       let reached : commit_finished input start ≡ after =
@@ -135,5 +135,5 @@ module _ (tables : Tables) (manifest : Manifest) (records : Records) (horizon dr
 
   -- No job is stale, so the commits begin with the jobs that the poll got.
   pub none_stale : (trees : Trees) (opened : Option OpenJob) (asked : List AskedJob) → JobsAre (open_jobs opened ++ map asked_job asked) drawn jobs
-      → commit_finished input (free_stale input (begun trees horizon jobs)) ≡ commit_finished input (begun trees horizon jobs)
+      → commit_finished input (free_stale input (poll_begun trees horizon jobs)) ≡ commit_finished input (poll_begun trees horizon jobs)
   none_stale trees opened asked h = ap (commit_finished input) (none_freed input opened asked drawn trees horizon jobs refl refl h)

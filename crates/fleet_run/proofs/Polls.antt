@@ -6,13 +6,13 @@ use Rattle.std.specs.List.{AllByRecursion}
 use Rattle.std.proofs.lemmas.Bool.Decides.{nat_tests}
 use Rattle.fleet_model.specs.Nodes.{Tables, Trees}
 use Rattle.std.proofs.lemmas.Option.{same_Some}
-use Rattle.fleet_model.specs.Jobs.{JobSpec, Job, Jobs, Status, Submitted, Scheduled, Running, Compacted, Completed, Failed, status_eq, is_finished, has_status, is_active, is_stale, changed, ids}
+use Rattle.fleet_model.specs.Jobs.{JobSpec, Job, Jobs, Status, Submitted, Scheduled, Running, Compacted, Completed, Failed, status_eq, is_finished, has_status, is_active, is_stale, changed_jobs, ids}
 use Rattle.fleet_model.specs.Records.{firsts, to_waiting, to_scheduled, to_failed}
 use Rattle.fleet_model.specs.Attempts.{is_last}
 use Rattle.fleet_model.specs.Gates.{first_failing, submit_gate}
 use Rattle.fleet_model.specs.Store.{Manifest, Records}
 use Rattle.fleet_model.specs.Trees.{tables_now}
-use Rattle.fleet_model.specs.Polls.{PollInput, PollState, begun, free_stale, with_freed, proposals, each, open_job, open_by, lost_to_scheduler}
+use Rattle.fleet_model.specs.Polls.{PollInput, PollState, poll_begun, free_stale, with_freed, proposals, each, open_job, open_by, lost_to_scheduler}
 use Rattle.script_model.specs.Defaults.{quiet_scheduler}
 use Rattle.fleet_run.specs.declared.jobs.AskedJob.{AskedJob}
 use Rattle.fleet_run.specs.Jobs.{Stage, Waits, Runs, Wrote, OpenJob, Judged, judged_by, judge, judge_all, failed_rule, is_above_all, is_apart_from}
@@ -73,19 +73,19 @@ none_stale (Some o) asked = by o.stage
     by (Runs settings) = asked_not_stale asked
     by (Wrote tables cut) = asked_not_stale asked
 
-changed_none : (f : Job → Job) (jobs : Jobs) → changed f [] jobs ≡ jobs
+changed_none : (f : Job → Job) (jobs : Jobs) → changed_jobs f [] jobs ≡ jobs
 changed_none f [] = refl
 changed_none f (job ∷ jobs) = ap (λ js. job ∷ js) (changed_none f jobs)
 
 pub none_freed : (input : PollInput) (opened : Option OpenJob) (asked : List AskedJob) (drawn : ℕ) (trees : Trees) (horizon : ℕ) (jobs : Jobs) → input.options.timeout ≡ 60000 → input.moment ≡ 0
-    → JobsAre (open_jobs opened ++ map asked_job asked) drawn jobs → free_stale input (begun trees horizon jobs) ≡ begun trees horizon jobs
+    → JobsAre (open_jobs opened ++ map asked_job asked) drawn jobs → free_stale input (poll_begun trees horizon jobs) ≡ poll_begun trees horizon jobs
 none_freed input opened asked drawn trees horizon jobs timeout moment h =
     let none : filter (is_stale 60000 0) jobs ≡ [] =
     filter_active (is_stale 60000 0) (λ job. running_active job.status _) jobs ∙ ap (filter (is_stale 60000 0)) h.are ∙ none_stale opened asked in
-    ap (λ t. with_freed (ids (filter (is_stale t input.moment) jobs)) (begun trees horizon jobs)) timeout
-    ∙ ap (λ m. with_freed (ids (filter (is_stale 60000 m) jobs)) (begun trees horizon jobs)) moment
-    ∙ ap (λ js. with_freed (ids js) (begun trees horizon jobs)) none
-    ∙ ap (λ js. record (begun trees horizon jobs) { jobs = js }) (changed_none to_waiting jobs)
+    ap (λ t. with_freed (ids (filter (is_stale t input.moment) jobs)) (poll_begun trees horizon jobs)) timeout
+    ∙ ap (λ m. with_freed (ids (filter (is_stale 60000 m) jobs)) (poll_begun trees horizon jobs)) moment
+    ∙ ap (λ js. with_freed (ids js) (poll_begun trees horizon jobs)) none
+    ∙ ap (λ js. record (poll_begun trees horizon jobs) { jobs = js }) (changed_none to_waiting jobs)
 
 -- ---- 3. nothing is proposed
 
@@ -217,7 +217,7 @@ module _ (tables : Tables) (manifest : Manifest) (records : Records) (flushes : 
   opened_at a asked j p there at = record {
     trees = at.trees;
     horizon = at.horizon;
-    jobs = subst (λ job. JobsAre (job ∷ map asked_job asked) drawn (changed (to_scheduled (tables_now p.trees)) (a.id ∷ []) p.jobs)) (scheduled_is a p at.trees there)
+    jobs = subst (λ job. JobsAre (job ∷ map asked_job asked) drawn (changed_jobs (to_scheduled (tables_now p.trees)) (a.id ∷ []) p.jobs)) (scheduled_is a p at.trees there)
         (one_changed (to_scheduled (tables_now p.trees)) true [] (asked_job a) (map asked_job asked) drawn p.jobs refl refl at.jobs);
     freed = at.freed;
     done = at.done;

@@ -12,7 +12,7 @@ use Rattle.fleet_model.specs.Exchanges.{DrawsTable, PutsTable}
 use Rattle.fleet_model.specs.Records.{firsts}
 use Rattle.step_model.specs.Entries.{name_in}
 use Rattle.step_model.specs.Course.{Course, Calls, puts_tables}
-use Rattle.fleet_run.specs.Serve.{numbered}
+use Rattle.fleet_run.specs.Serve.{numbered_tables}
 use Rattle.fleet_run.specs.Holds.{Held, IsStored, rows_in_tables}
 use Rattle.fleet_run.proofs.Calls.{Leads, held_after, call_leads}
 use Rattle.fleet_run.proofs.FlushLine.{new_stored}
@@ -23,11 +23,11 @@ use Rattle.fleet_run.proofs.TreeHolds.{all_both}
 pub table_id : (n : ℕ) → table_id_of 0 n ≡ 2 ^ 79 + n
 table_id n = omega arith
 
-pub numbered_length : (drawn : ℕ) (cut : List (List Row)) → length (numbered drawn cut) ≡ length cut
+pub numbered_length : (drawn : ℕ) (cut : List (List Row)) → length (numbered_tables drawn cut) ≡ length cut
 numbered_length drawn [] = refl
 numbered_length drawn (rows ∷ cut) = omega (arith, numbered_length (drawn + 1) cut)
 
-pub numbered_rows : (drawn : ℕ) (cut : List (List Row)) → rows_in_tables (numbered drawn cut) ≡ flat_map (λ table. table) cut
+pub numbered_rows : (drawn : ℕ) (cut : List (List Row)) → rows_in_tables (numbered_tables drawn cut) ≡ flat_map (λ table. table) cut
 numbered_rows drawn [] = refl
 numbered_rows drawn (rows ∷ cut) = ap (λ rs. rows ++ rs) (numbered_rows (drawn + 1) cut)
 
@@ -38,20 +38,20 @@ IsDrawn drawn last table = (2 ^ 79 + drawn < table.0) × (table.0 ≤ 2 ^ 79 + l
 abbrev are_drawn : ℕ → ℕ → Tables → Type 0
 are_drawn drawn last tables = AllByRecursion (IsDrawn drawn last) tables
 
-pub numbered_drawn : (drawn last : ℕ) (cut : List (List Row)) → drawn + length cut ≤ last → are_drawn drawn last (numbered drawn cut)
+pub numbered_drawn : (drawn last : ℕ) (cut : List (List Row)) → drawn + length cut ≤ last → are_drawn drawn last (numbered_tables drawn cut)
 numbered_drawn drawn last [] h = tt
 numbered_drawn drawn last (rows ∷ cut) h = (
   (omega (arith, table_id (drawn + 1)), omega (arith, table_id (drawn + 1), h)),
-  all_weaken (IsDrawn (drawn + 1) last) (IsDrawn drawn last) (λ table between. (omega (arith, between.0), between.1)) (numbered (drawn + 1) cut) (numbered_drawn (drawn + 1) last cut (omega (arith, h))),
+  all_weaken (IsDrawn (drawn + 1) last) (IsDrawn drawn last) (λ table between. (omega (arith, between.0), between.1)) (numbered_tables (drawn + 1) cut) (numbered_drawn (drawn + 1) last cut (omega (arith, h))),
 )
 
 -- ---- what is found
 
-pub numbered_stored : (stored : Tables) (drawn : ℕ) (cut : List (List Row)) → AllByRecursion (λ (other : ℕ × List Row). other.0 ≤ 2 ^ 79 + drawn) stored → AllByRecursion (IsStored (stored ++ numbered drawn cut)) (numbered drawn cut)
+pub numbered_stored : (stored : Tables) (drawn : ℕ) (cut : List (List Row)) → AllByRecursion (λ (other : ℕ × List Row). other.0 ≤ 2 ^ 79 + drawn) stored → AllByRecursion (IsStored (stored ++ numbered_tables drawn cut)) (numbered_tables drawn cut)
 numbered_stored stored drawn [] h = tt
 numbered_stored stored drawn (rows ∷ cut) h =
     let table : ℕ × List Row = (table_id_of 0 (drawn + 1), rows) in
-    let more = numbered (drawn + 1) cut in
+    let more = numbered_tables (drawn + 1) cut in
     let apart = all_weaken (λ (other : ℕ × List Row). other.0 ≤ 2 ^ 79 + drawn) (λ other. (other.0 == table.0) ≡ false) (λ other le. differ other.0 le) stored h in
     let up = all_weaken (λ (other : ℕ × List Row). other.0 ≤ 2 ^ 79 + drawn) (λ other. other.0 ≤ 2 ^ 79 + (drawn + 1)) (λ other le. omega (arith, le)) stored h in
     let all = all_both (λ (other : ℕ × List Row). other.0 ≤ 2 ^ 79 + (drawn + 1)) stored (table ∷ []) up (omega (arith, table_id (drawn + 1)), tt) in
@@ -90,15 +90,15 @@ no_puts h =
 
 -- Tables are put in order under the next ids, and the course goes on with these ids.
 pub puts_tables_leads : {A : Type 0} (cut : List (List Row)) (next : List ℕ → Course A) (h last : Held) (end : A)
-    → Leads (next (firsts (numbered h.tables_drawn cut))) (after_puts (numbered h.tables_drawn cut) h) last end → Leads (puts_tables 0 cut next) h last end
+    → Leads (next (firsts (numbered_tables h.tables_drawn cut))) (after_puts (numbered_tables h.tables_drawn cut) h) last end → Leads (puts_tables 0 cut next) h last end
 puts_tables_leads [] next h last end rest = subst (λ (k : Held). Leads (next []) k last end) (no_puts h) rest
 puts_tables_leads {A} (rows ∷ cut) next h last end rest =
     let id = table_id_of 0 (h.tables_drawn + 1) in
     let drawn = held_after (DrawsTable 0) h in
     let put = after_puts ((id, rows) ∷ []) h in
     let further : ℕ → Course A = λ table. puts_tables 0 cut (λ ids. next (table ∷ ids)) in
-    let later : Leads (next (id ∷ firsts (numbered put.tables_drawn cut))) (after_puts (numbered put.tables_drawn cut) put) last end =
-    subst (λ (k : Held). Leads (next (id ∷ firsts (numbered put.tables_drawn cut))) k last end) (sym (puts_joined (id, rows) (numbered put.tables_drawn cut) h)) rest in
+    let later : Leads (next (id ∷ firsts (numbered_tables put.tables_drawn cut))) (after_puts (numbered_tables put.tables_drawn cut) put) last end =
+    subst (λ (k : Held). Leads (next (id ∷ firsts (numbered_tables put.tables_drawn cut))) k last end) (sym (puts_joined (id, rows) (numbered_tables put.tables_drawn cut) h)) rest in
     let others : Leads (further id) put last end = puts_tables_leads cut (λ ids. next (id ∷ ids)) put last end later in
     call_leads h last end (DrawsTable 0) (λ k. let table = table_id_of 0 (k.tables_drawn + 1) in Calls (PutsTable table rows) (λ met. further table)) tt
     (call_leads drawn last end (PutsTable id rows) (λ k. further id) tt (subst (λ (k : Held). Leads (further id) k last end) (sym (one_put h.tables_drawn rows h)) others))

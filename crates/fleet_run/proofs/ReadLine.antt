@@ -20,7 +20,7 @@ use Rattle.script_model.specs.LineRuns.{only_replies}
 use Rattle.script_model.specs.Looks.{read_line}
 use Rattle.fleet_run.specs.FleetView.{FleetView, AreFlushes}
 use Rattle.fleet_run.specs.Serve.{newest_row, newest_stored, run_tables, value_of, key_reply}
-use Rattle.fleet_run.specs.Holds.{Held, held, Holds, MadeRun, run_of, made_of, all_flushes, AreKept, IsStored, rows_in_tables, open_tables, state_of}
+use Rattle.fleet_run.specs.Holds.{Held, held_parts, Holds, MadeRun, run_of, made_of, all_flushes, AreKept, IsStored, rows_in_tables, open_tables, state_of}
 use Rattle.fleet_run.proofs.NewerFirst.{all_append, all_rows, all_of_key, key_rows_ordered}
 use Rattle.fleet_run.proofs.Newest.{newest-cons, newest-append}
 use Rattle.fleet_run.proofs.PlainReads.{read-plain}
@@ -47,7 +47,7 @@ all_plain : (flushes : Tables) → AreFlushes flushes → AllByRecursion IsPlain
 all_plain [] sound = tt
 all_plain (flush ∷ older) sound = all_append IsPlain flush.1 (all_rows older) sound.0.plain (all_plain older sound.1)
 
-flushed_newest : (merge : Operator) (fleet : FleetView) (store : Store) (holds : Holds fleet (held store)) (key : List ℕ) (seq : ℕ) (now : ℤ)
+flushed_newest : (merge : Operator) (fleet : FleetView) (store : Store) (holds : Holds fleet (held_parts store)) (key : List ℕ) (seq : ℕ) (now : ℤ)
     → flushed_read merge store [] key seq now ≡ value_of (newest_row (all_flushes fleet holds.made) key seq)
 flushed_newest merge fleet store holds key seq now =
     let flushes = all_flushes fleet holds.made in
@@ -71,9 +71,9 @@ or_both : (a b : Option Row) (older : Option Outcome) → or_older (option_or a 
 or_both None b older = refl
 or_both (Some r) b older = refl
 
-behind : (flushes more : Tables) → AreFlushes (flushes ++ more) → AreFlushes more
-behind [] more h = h
-behind (f ∷ flushes) more h = behind flushes more h.1
+after : (flushes more : Tables) → AreFlushes (flushes ++ more) → AreFlushes more
+after [] more h = h
+after (f ∷ flushes) more h = after flushes more h.1
 
 runs_read : (horizon seq : ℕ) (key : List ℕ) (made : List MadeRun) → horizon ≤ seq → AreFlushes (made_of made) → AreKept horizon made
     → or_older (newest_row (run_tables (map run_of made)) key seq) None ≡ or_older (newest_row (made_of made) key seq) None
@@ -99,22 +99,22 @@ stored_newest fleet h holds key seq low =
     of_older (newest_row (all_flushes fleet made) key seq)
     ∙ ap (λ o. or_older o None) (newest-append fleet.flushes (made_of made) key seq)
     ∙ or_both first (newest_row (made_of made) key seq) None
-    ∙ ap (or_older first) (sym (runs_read fleet.horizon seq key made low (behind fleet.flushes (made_of made) holds.flushes) holds.kept))
+    ∙ ap (or_older first) (sym (runs_read fleet.horizon seq key made low (after fleet.flushes (made_of made) holds.flushes) holds.kept))
     ∙ ap (λ (runs : List (ℕ × Tables)). or_older first (or_older (newest_row (run_tables runs) key seq) None)) (sym holds.runs)
     ∙ sym (or_both first (newest_row (run_tables fleet.runs) key seq) None)
     ∙ sym (of_older (newest_stored fleet key seq))
 
-pub read_serves : (merge : Operator) (number : ℕ) (fleet : FleetView) (store : Store) → Holds fleet (held store) → (key : List ℕ) (seq : ℕ) (now : ℤ)
+pub read_serves : (merge : Operator) (number : ℕ) (fleet : FleetView) (store : Store) → Holds fleet (held_parts store) → (key : List ℕ) (seq : ℕ) (now : ℤ)
     → Serves number fleet store (read_line (with_quiet_scheduler merge) [] key seq now (state_of fleet store)) (key_reply fleet key seq now) fleet
 read_serves merge number fleet store holds key seq now =
     let s = state_of fleet store in
     let m = store.manifest in
-    let told : List ℕ = cond (nat_lt seq m.horizon || int_lt now m.tick) (not_retained m.horizon m.tick) (read_reply (flushed_read merge store [] key seq now)) in
-    let is : told ≡ key_reply fleet key seq now =
+    let replied : List ℕ = cond (nat_lt seq m.horizon || int_lt now m.tick) (not_retained m.horizon m.tick) (read_reply (flushed_read merge store [] key seq now)) in
+    let is : replied ≡ key_reply fleet key seq now =
     ap (λ h. cond (nat_lt seq h || int_lt now m.tick) (not_retained h m.tick) (read_reply (flushed_read merge store [] key seq now))) holds.horizon
     ∙ ap (λ t. cond (nat_lt seq fleet.horizon || int_lt now t) (not_retained fleet.horizon t) (read_reply (flushed_read merge store [] key seq now))) holds.tick
     ∙ by (nat_lt seq fleet.horizon) refl (int_lt now fleet.tick) in
-    subst (λ answer. Serves number fleet store (only_replies s told) answer fleet) is (replies_serve number fleet store told holds)
+    subst (λ answer. Serves number fleet store (only_replies s replied) answer fleet) is (replies_serve number fleet store replied holds)
   where
     by : (below : Bool) → nat_lt seq fleet.horizon ≡ below → (early : Bool) → cond (below || early) (not_retained fleet.horizon fleet.tick) (read_reply (flushed_read merge store [] key seq now))
         ≡ cond (below || early) (not_retained fleet.horizon fleet.tick) (read_reply (value_of (newest_stored fleet key seq)))
@@ -122,4 +122,4 @@ read_serves merge number fleet store holds key seq now =
     by false e true = refl
     by false e false =
         let low : fleet.horizon ≤ seq = grind (arith, nat_tests, e) in
-        ap read_reply (flushed_newest merge fleet store holds key seq now ∙ stored_newest fleet (held store) holds key seq low)
+        ap read_reply (flushed_newest merge fleet store holds key seq now ∙ stored_newest fleet (held_parts store) holds key seq low)

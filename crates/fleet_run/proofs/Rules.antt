@@ -95,12 +95,12 @@ is_clear_of a held front asked drawn jobs are h other =
 rules_asked : Bool → Bool → Bool → Bool → Option ℕ
 rules_asked b4 b5 b7 b8 = first_failing ((1, true) ∷ (2, true) ∷ (3, true) ∷ (4, b4) ∷ (5, b5) ∷ (6, true) ∷ (7, b7) ∷ (8, b8) ∷ (0, true) ∷ [])
 
-rules_told : Bool → Bool → Bool → Bool → Option ℕ
-rules_told b4 b5 b7 b8 = first_failing ((4, b4) ∷ (5, b5) ∷ (7, b7) ∷ (8, b8) ∷ [])
+rules_stated : Bool → Bool → Bool → Bool → Option ℕ
+rules_stated b4 b5 b7 b8 = first_failing ((4, b4) ∷ (5, b5) ∷ (7, b7) ∷ (8, b8) ∷ [])
 
 -- The results agree even if rule 5 agrees only where rule 4 holds.
-same_rules : (a b c d e f g h : Bool) → a ≡ b → (b ≡ true → c ≡ d) → e ≡ f → g ≡ h → rules_asked a c e g ≡ rules_told b d f h
-unfolding rules_asked rules_told
+same_rules : (a b c d e f g h : Bool) → a ≡ b → (b ≡ true → c ≡ d) → e ≡ f → g ≡ h → rules_asked a c e g ≡ rules_stated b d f h
+unfolding rules_asked rules_stated
 same_rules a true c d e f g h p q r s = rw (p, q refl, r, s) refl
 same_rules a false c d e f g h p q r s = rw p refl
 
@@ -114,7 +114,7 @@ all_runs flushes made last_seq watermark = append-nil (run_ids (names (tree flus
 pub gate_is : (flushes : Tables) (made : List MadeRun) (last_seq watermark : Option ℕ) (more : Tables) (a : AskedJob) (held : Option AskedJob) (front : Jobs) (asked : List AskedJob) (drawn : ℕ) (jobs : Jobs)
     → AreFlushes (flushes ++ more) → AreHeld held front → JobsAre (front ++ map asked_job (a ∷ asked)) drawn jobs → ((h : AskedJob) → held ≡ Some h → (a.id == h.id) ≡ false)
     → submit_gate (root flushes made last_seq watermark) jobs [] (λ spec. true) (asked_job a) ≡ failed_rule (firsts flushes) (firsts (map run_of made)) held a
-unfolding rules_asked rules_told
+unfolding rules_asked rules_stated
 gate_is flushes made last_seq watermark more a held front asked drawn jobs sound are h other =
     same_rules
     (list_all (names_contain (names (tree flushes made))) (L0 a.source ∷ [])) (is_flush (firsts flushes) a.source)

@@ -10,7 +10,7 @@ use Rattle.script_model.specs.Defaults.{default_options, with_quiet_scheduler}
 use Rattle.script_model.specs.Follows.{LineStep, ScriptRun}
 use Rattle.fleet_run.proofs.MoreLines.{run-more}
 use Rattle.fleet_run.specs.FleetView.{FleetView, fresh_fleet}
-use Rattle.fleet_run.specs.Holds.{held, Holds, state_of}
+use Rattle.fleet_run.specs.Holds.{held_parts, Holds, state_of}
 use Rattle.fleet_run.specs.Serve.{IsServed, reply_to, fleet_after}
 use Rattle.fleet_run.specs.Program.{ReadWhole, ReadFront, RunsFirst}
 use Rattle.fleet_run.specs.Outside.{SourceView, SinkView, Took, TookShort, TookNothing}
@@ -29,7 +29,7 @@ served_in_bounds : (line : Line) → IsInBounds line → IsServed line
 served_in_bounds (FlushRows name segment floor tick rows) (named, prefix, low, at, some, are) = (some, are)
 served_in_bounds _ bounds = tt
 
-fresh_holds : Holds fresh_fleet (held (fresh_state default_options).store)
+fresh_holds : Holds fresh_fleet (held_parts (fresh_state default_options).store)
 fresh_holds = record {
   made = [];
   watermark = None;

@@ -13,14 +13,14 @@ use Rattle.script_model.specs.Script.{Line, StartCoordinator, StartWorker, Flush
 use Rattle.script_model.specs.Grammars.{job_grammar, IsOfOneJob, IsPlain, starts_coordinator, starts_worker}
 use Rattle.script_model.specs.Defaults.{with_quiet_scheduler}
 use Rattle.script_model.specs.Follows.{LineStep}
-use Rattle.script_model.specs.LineCourses.{prepared, course_of}
+use Rattle.script_model.specs.LineCourses.{prepared_state, course_of}
 use Rattle.script_model.specs.LineRuns.{run_line}
 use Rattle.script_model.specs.LineSteps.{MayRefuse, OneCourse}
 use Rattle.script_model.specs.States.{State}
 use Rattle.fleet_run.specs.declared.jobs.AskedJob.{AskedJob}
 use Rattle.fleet_run.specs.FleetView.{FleetView}
-use Rattle.fleet_run.specs.Serve.{IsServed, reply_to, fleet_after, flush_fault, after_flush, run_by, finished}
-use Rattle.fleet_run.specs.Holds.{held, Holds, state_of}
+use Rattle.fleet_run.specs.Serve.{IsServed, reply_to, fleet_after, flush_fault, after_flush, run_by, finished_fleet}
+use Rattle.fleet_run.specs.Holds.{held_parts, Holds, state_of}
 use Rattle.fleet_run.proofs.ClaimLine.{claim_serves}
 use Rattle.fleet_run.proofs.DumpLine.{dump_serves}
 use Rattle.fleet_run.proofs.FinishLine.{finish_serves}
@@ -43,17 +43,17 @@ pub record AreStarted (lines : List Line) (fleet : FleetView) : Type 0 where
 pub record LineServes (merge : Operator) (number : ℕ) (line : Line) (fleet : FleetView) (store : Store) : Type 0 where
   pub left : Store
   pub step : LineStep (with_quiet_scheduler merge) number (state_of fleet store) line (reply_to line fleet) (state_of (fleet_after line fleet) left)
-  pub holds : Holds (fleet_after line fleet) (held left)
+  pub holds : Holds (fleet_after line fleet) (held_parts left)
 
 of_one_job : (lines : List Line) (line : Line) → job_grammar lines line → IsOfOneJob line
 of_one_job lines line fits = fits.1
 
 -- The line has one course, in which the operator refuses nothing.
-only_course : (merge : Operator) (number : ℕ) (line : Line) (old new : State) (answer : List ℕ) → MayRefuse (with_quiet_scheduler merge) line (prepared line old) None
-    → run_line number (prepared line old) (course_of (with_quiet_scheduler merge) line None (prepared line old)) ≡ (answer, new) → OneCourse (with_quiet_scheduler merge) number old line answer new
-only_course merge number line old new answer may ends = record { course = course_of (with_quiet_scheduler merge) line None (prepared line old); does = record { refusal = None; may = may; is = refl }; ends = ends }
+only_course : (merge : Operator) (number : ℕ) (line : Line) (old new : State) (answer : List ℕ) → MayRefuse (with_quiet_scheduler merge) line (prepared_state line old) None
+    → run_line number (prepared_state line old) (course_of (with_quiet_scheduler merge) line None (prepared_state line old)) ≡ (answer, new) → OneCourse (with_quiet_scheduler merge) number old line answer new
+only_course merge number line old new answer may ends = record { course = course_of (with_quiet_scheduler merge) line None (prepared_state line old); does = record { refusal = None; may = may; is = refl }; ends = ends }
 
-poll_serves : (merge : Operator) (number : ℕ) (fleet : FleetView) (store : Store) → Holds fleet (held store) → (live : Bool) → fleet.coordinator ≡ live
+poll_serves : (merge : Operator) (number : ℕ) (fleet : FleetView) (store : Store) → Holds fleet (held_parts store) → (live : Bool) → fleet.coordinator ≡ live
     → LineServes merge number (Poll 1) fleet store
 unfolding course_of
 poll_serves merge number fleet store holds true live =
@@ -64,7 +64,7 @@ poll_serves merge number fleet store holds false off =
     record { left = s.left; step = only_course merge number (Poll 1) (state_of fleet store) _ _ refl s.ends; holds = s.holds }
 
 root_flush_serves : (merge : Operator) (number : ℕ) (fleet : FleetView) (store : Store) (name : ℕ) (segment : List ℕ) (floor : ℕ) (tick : _) (rows : List Row) → segment ≡ []
-    → Holds fleet (held store) → name ≤ 1099511627775 → AllByRecursion IsPlain rows → LineServes merge number (FlushRows name segment floor tick rows) fleet store
+    → Holds fleet (held_parts store) → name ≤ 1099511627775 → AllByRecursion IsPlain rows → LineServes merge number (FlushRows name segment floor tick rows) fleet store
 unfolding course_of
 root_flush_serves merge number fleet store name segment floor tick rows root holds named plain =
     let s = flush_serves number fleet store name floor tick rows holds named plain in
@@ -72,7 +72,7 @@ root_flush_serves merge number fleet store name segment floor tick rows root hol
     (record { left = s.left; step = only_course merge number (FlushRows name [] floor tick rows) (state_of fleet store) _ _ refl s.ends; holds = s.holds })
 
 pub line_serves : (merge : Operator) (number : ℕ) (lines : List Line) (line : Line) (fleet : FleetView) (store : Store) → job_grammar lines line → IsServed line → AreStarted lines fleet
-    → Holds fleet (held store) → LineServes merge number line fleet store
+    → Holds fleet (held_parts store) → LineServes merge number line fleet store
 unfolding course_of
 line_serves merge number lines (StartCoordinator n) fleet store fits served started holds =
     let s = start_coordinator_serves number fleet store holds (started.coordinator ∙ fits.2) in
@@ -141,7 +141,7 @@ if_same : (fleet changed : FleetView) (b : Bool) → as_before fleet changed →
 if_same fleet changed true h = h
 if_same fleet changed false h = same_parties fleet
 
-finished_same : (fleet : FleetView) (run : Option (AskedJob × Settings)) → as_before fleet (finished fleet run)
+finished_same : (fleet : FleetView) (run : Option (AskedJob × Settings)) → as_before fleet (finished_fleet fleet run)
 finished_same fleet None = same_parties fleet
 finished_same fleet (Some run) = same_parties fleet
 

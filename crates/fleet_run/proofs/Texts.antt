@@ -12,13 +12,13 @@ first_attempt : (job : AskedJob) (settings : Settings) → jobs_text (job.id ∷
 unfolding digits
 first_attempt job settings = simp append_assoc
 
-pub claim_told : (job : AskedJob) (settings : Settings) → reply (codes "ok" ∷ codes "claimed" ∷ (jobs_text (job.id ∷ []) ++ codes ".1:-") ∷ codes "stopped" ∷ codes "-" ∷ []) ≡ claim_reply (attempt_of job settings ∷ []) []
-claim_told job settings = ap (λ text. reply (codes "ok" ∷ codes "claimed" ∷ text ∷ codes "stopped" ∷ codes "-" ∷ [])) (first_attempt job settings)
+pub claim_reply_is : (job : AskedJob) (settings : Settings) → reply (codes "ok" ∷ codes "claimed" ∷ (jobs_text (job.id ∷ []) ++ codes ".1:-") ∷ codes "stopped" ∷ codes "-" ∷ []) ≡ claim_reply (attempt_of job settings ∷ []) []
+claim_reply_is job settings = ap (λ text. reply (codes "ok" ∷ codes "claimed" ∷ text ∷ codes "stopped" ∷ codes "-" ∷ [])) (first_attempt job settings)
 
 pub claim_answered : (fleet : FleetView) (job : AskedJob) (claimed before : List ℕ) → fleet.worker ≡ true → waiting_job fleet.opened ≡ Some job → claimed ≡ before ++ job.id ∷ [] → before ≡ []
     → reply (codes "ok" ∷ codes "claimed" ∷ (jobs_text claimed ++ codes ".1:-") ∷ codes "stopped" ∷ codes "-" ∷ []) ≡ claim_answer fleet
 claim_answered fleet job claimed before worker waits is empty =
     let text : List ℕ → List ℕ = λ ids. reply (codes "ok" ∷ codes "claimed" ∷ (jobs_text ids ++ codes ".1:-") ∷ codes "stopped" ∷ codes "-" ∷ []) in
     ap text is ∙ ap (λ first. text (first ++ job.id ∷ [])) empty
-    ∙ claim_told job (settings_now fleet job)
+    ∙ claim_reply_is job (settings_now fleet job)
     ∙ sym (ap (λ b. cond b (claimed_reply fleet (waiting_job fleet.opened)) no_such_party) worker ∙ ap (claimed_reply fleet) waits)

@@ -2,7 +2,7 @@
 use Rattle.std.proofs.Common.{◌≡◌, ℕ, ◌+◌, ◌≤◌, List, [], ◌++◌, length, take, drop, Option, Some, None, sym, ap, ◌∙◌, append_assoc, append-nil, take-append-drop, length-append, arith, ◌-◌, length-drop}
 use Rattle.std.proofs.lemmas.List.{take_all, length-take-le}
 use Rattle.std.specs.Io.KnownBytes.{Appends, Keeps}
-use Rattle.fleet_run.specs.Outside.{SinkView, counted, Rose, Took, TookNothing}
+use Rattle.fleet_run.specs.Outside.{SinkView, counted_bytes, Rose, Took, TookNothing}
 
 appends_none : (a : Option (List ℕ)) → Appends a a []
 appends_none None = tt
@@ -20,7 +20,7 @@ appends_kept (Some x) None c bs p q = absurd p
 appends_kept (Some x) (Some y) None bs p q = absurd q
 appends_kept (Some x) (Some y) (Some z) bs p q = q ∙ p
 
-counted_more : (a b c m n : ℕ) → b ≡ counted a m → c ≡ counted b n → c ≡ counted a (m + n)
+counted_more : (a b c m n : ℕ) → b ≡ counted_bytes a m → c ≡ counted_bytes b n → c ≡ counted_bytes a (m + n)
 counted_more a b c m n p q = omega arith
 
 pub took_none : (a : SinkView) → Took [] a a
@@ -41,7 +41,7 @@ pub record TakenSoFar (piece rest : List ℕ) (old new : SinkView) : Type 0 wher
   pub parts : piece ≡ front ++ rest
   pub took : Took front old new
 
-pub taken_more : (piece rest : List ℕ) (n : ℕ) (a b c : SinkView) → TakenSoFar piece rest a b → n ≤ length rest → Appends b.written c.written (take n rest) → c.taken ≡ counted b.taken n
+pub taken_more : (piece rest : List ℕ) (n : ℕ) (a b c : SinkView) → TakenSoFar piece rest a b → n ≤ length rest → Appends b.written c.written (take n rest) → c.taken ≡ counted_bytes b.taken n
     → TakenSoFar piece (take (length rest - n) (drop n rest)) a c
 taken_more piece rest n a b c so_far le bytes count =
     let took : Took (take n rest) b c = record { written = bytes; taken = rw (length-take-le n rest le) count } in

@@ -27,8 +27,8 @@ pub record Held : Type 0 where
   pub tables_drawn : ℕ
   pub name : ℕ
 
-abbrev pub held : Store → Held
-held store = record {
+abbrev pub held_parts : Store → Held
+held_parts store = record {
   manifest = store.manifest;
   records = store.records;
   tables = store.tables;

@@ -18,13 +18,13 @@ abbrev pub Rose : ℕ → ℕ → Type 0
 Rose old new = min (old + 1) (2 ^ 64 - 1) ≤ new
 
 -- A count in a u64 after n more. It stops at the greatest u64.
-abbrev pub counted : ℕ → ℕ → ℕ
-counted old n = max old (min (old + n) (2 ^ 64 - 1))
+abbrev pub counted_bytes : ℕ → ℕ → ℕ
+counted_bytes old n = max old (min (old + n) (2 ^ 64 - 1))
 
 -- The sink took exactly these bytes.
 pub record Took (bytes : List ℕ) (old new : SinkView) : Type 0 where
   pub written : Appends old.written new.written bytes
-  pub taken : new.taken ≡ counted old.taken (length bytes)
+  pub taken : new.taken ≡ counted_bytes old.taken (length bytes)
 
 -- The sink took a front of these bytes, and not all of them.
 pub record TookShort (bytes : List ℕ) (old new : SinkView) : Type 0 where

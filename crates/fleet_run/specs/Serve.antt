@@ -14,12 +14,12 @@ use Rattle.fleet_model.specs.Jobs.{table_id_of, number_of}
 use Rattle.fleet_model.specs.Records.{firsts}
 use Rattle.fleet_model.specs.Trees.{greatest_seq}
 use Rattle.fleet_model.specs.Attempts.{is_last}
-use Rattle.fleet_model.specs.Polls.{begun}
+use Rattle.fleet_model.specs.Polls.{poll_begun}
 use Rattle.script_model.specs.Script.{Line, StartCoordinator, StartWorker, FlushRows, ReadKey, SubmitJob, Poll, ClaimJobs, FinishJob, Dump}
 use Rattle.step_model.specs.StepEnds.{FlushFault, BadName, BadOrder, BadSequence, BadFloor, BadTick}
 use Rattle.step_model.specs.FlushSteps.{is_above}
 use Rattle.script_model.specs.Words.{rows_text}
-use Rattle.script_model.specs.Replies.{reply, ok, read_reply, not_retained, jobs_text, ranges_text, poll_reply, claim_reply, absent}
+use Rattle.script_model.specs.Replies.{reply, ok, read_reply, not_retained, jobs_text, ranges_text, poll_reply, claim_reply, absent_reply}
 use Rattle.script_model.specs.LineRuns.{flush_fault_text}
 use Rattle.script_model.specs.Defaults.{default_options}
 use Rattle.fleet_run.specs.declared.jobs.AskedJob.{AskedJob}
@@ -101,13 +101,13 @@ node_rows_or_none fleet (L0 name) = option_map (λ flush. flush.1) (find (λ flu
 node_rows_or_none fleet (Run id) = option_map rows_in (option_map (λ run. run.1) (find (λ run. run.0 == id) fleet.runs))
 
 abbrev pub dump_reply : Option (List Row) → List ℕ
-dump_reply None = absent
+dump_reply None = absent_reply
 dump_reply (Some rows) = reply (codes "ok" ∷ rows_text rows ∷ [])
 
 -- ---- starts and requests
 
-abbrev pub started : List ℕ
-started = reply (codes "ok" ∷ codes "epoch" ∷ decimal 1 ∷ [])
+abbrev pub started_reply : List ℕ
+started_reply = reply (codes "ok" ∷ codes "epoch" ∷ decimal 1 ∷ [])
 
 abbrev pub submit_reply : FleetView → List ℕ
 submit_reply fleet = if fleet.coordinator then reply (codes "ok" ∷ codes "job" ∷ jobs_text ((fleet.jobs_drawn + 1) ∷ []) ∷ []) else reply (codes "invaliddbstate" ∷ [])
@@ -167,8 +167,8 @@ abbrev pub opened_left : Option OpenJob → Option AskedJob → Option OpenJob
 opened_left opened None = opened
 opened_left opened (Some job) = None
 
-abbrev pub committed : FleetView → FleetView
-committed fleet = record fleet {
+abbrev pub committed_fleet : FleetView → FleetView
+committed_fleet fleet = record fleet {
   flushes = flushes_left fleet.flushes (done_job fleet.opened);
   runs = runs_after fleet.runs (done_job fleet.opened) (done_tables fleet.opened);
   horizon = horizon_raised fleet.horizon fleet.opened;
@@ -188,8 +188,8 @@ abbrev pub judged_after : FleetView → Option AskedJob → Judged
 judged_after fleet done =
     judge_all (firsts (flushes_left fleet.flushes done)) (run_ids_after (firsts fleet.runs) done) (record { held = held_by (opened_left fleet.opened done); opened = []; refused = [] }) fleet.asked
 
-abbrev pub judged : FleetView → Judged
-judged fleet = judged_after fleet (done_job fleet.opened)
+abbrev pub judged_job : FleetView → Judged
+judged_job fleet = judged_after fleet (done_job fleet.opened)
 
 abbrev pub opened_after : Option OpenJob → List ℕ → Option AskedJob → Option OpenJob
 opened_after old [] held = old
@@ -200,13 +200,13 @@ abbrev pub with_judged : FleetView → Judged → FleetView
 with_judged fleet j = record fleet { asked = []; opened = opened_after fleet.opened j.opened j.held }
 
 abbrev pub after_poll : FleetView → FleetView
-after_poll fleet = if fleet.coordinator then with_judged (committed fleet) (judged fleet) else fleet
+after_poll fleet = if fleet.coordinator then with_judged (committed_fleet fleet) (judged_job fleet) else fleet
 
 abbrev pub polled_reply : List ℕ → Judged → List ℕ
-polled_reply done j = poll_reply (record (begun [] 0 []) { done = done; opened = j.opened; refused = j.refused })
+polled_reply done j = poll_reply (record (poll_begun [] 0 []) { done = done; opened = j.opened; refused = j.refused })
 
 abbrev pub poll_answer : FleetView → List ℕ
-poll_answer fleet = if fleet.coordinator then polled_reply (done_ids (done_job fleet.opened)) (judged fleet) else no_such_party
+poll_answer fleet = if fleet.coordinator then polled_reply (done_ids (done_job fleet.opened)) (judged_job fleet) else no_such_party
 
 -- ---- claims
 
@@ -239,13 +239,13 @@ after_claim fleet = if fleet.worker then record fleet { opened = opened_claimed 
 
 -- ---- finishes
 
-abbrev pub numbered : ℕ → List (List Row) → Tables
-numbered drawn [] = []
-numbered drawn (rows ∷ tables) = (table_id_of 0 (drawn + 1), rows) ∷ numbered (drawn + 1) tables
+abbrev pub numbered_tables : ℕ → List (List Row) → Tables
+numbered_tables drawn [] = []
+numbered_tables drawn (rows ∷ tables) = (table_id_of 0 (drawn + 1), rows) ∷ numbered_tables (drawn + 1) tables
 
 -- The tables that a job with these settings writes from a flush.
-abbrev pub written : FleetView → ℕ → Settings → Tables
-written fleet source settings = numbered fleet.tables_drawn (cut_tables default_options.table_size (kept_of_keys settings (table_rows fleet.flushes source)))
+abbrev pub written_tables : FleetView → ℕ → Settings → Tables
+written_tables fleet source settings = numbered_tables fleet.tables_drawn (cut_tables default_options.table_size (kept_of_keys settings (table_rows fleet.flushes source)))
 
 -- The job that runs under this number, with its settings.
 abbrev pub run_at : ℕ → AskedJob → Stage → Option (AskedJob × Settings)
@@ -263,16 +263,16 @@ run_by fleet number = if fleet.worker then run_opened number fleet.opened else N
 abbrev pub wrote : FleetView → AskedJob → Tables → ℕ → FleetView
 wrote fleet job tables cut = record fleet { tables_drawn = fleet.tables_drawn + length tables; opened = Some (record { job = job; stage = Wrote tables cut }) }
 
-abbrev pub finished : FleetView → Option (AskedJob × Settings) → FleetView
-finished fleet None = fleet
-finished fleet (Some run) = wrote fleet run.0 (written fleet run.0.source run.1) run.1.cut
+abbrev pub finished_fleet : FleetView → Option (AskedJob × Settings) → FleetView
+finished_fleet fleet None = fleet
+finished_fleet fleet (Some run) = wrote fleet run.0 (written_tables fleet run.0.source run.1) run.1.cut
 
 abbrev pub after_finish : FleetView → ℕ → FleetView
-after_finish fleet number = finished fleet (run_by fleet number)
+after_finish fleet number = finished_fleet fleet (run_by fleet number)
 
 abbrev pub finish_reply : FleetView → Option (AskedJob × Settings) → List ℕ
 finish_reply fleet None = no_such_party
-finish_reply fleet (Some run) = reply (codes "ok" ∷ ranges_text (firsts (written fleet run.0.source run.1) ∷ []) ∷ [])
+finish_reply fleet (Some run) = reply (codes "ok" ∷ ranges_text (firsts (written_tables fleet run.0.source run.1) ∷ []) ∷ [])
 
 abbrev pub finish_answer : FleetView → ℕ → List ℕ
 finish_answer fleet number = finish_reply fleet (run_by fleet number)
@@ -291,7 +291,7 @@ IsServed _ = ⊤
 
 -- The reply to a line.
 abbrev pub reply_to : Line → FleetView → List ℕ
-reply_to (StartCoordinator n) fleet = started
+reply_to (StartCoordinator n) fleet = started_reply
 reply_to (StartWorker n release) fleet = ok
 reply_to (FlushRows name segment floor tick rows) fleet = flush_reply (flush_fault fleet name floor tick rows)
 reply_to (ReadKey segment key seq now) fleet = key_reply fleet key seq now

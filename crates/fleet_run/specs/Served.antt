@@ -9,7 +9,7 @@ use Rattle.script_model.specs.States.{State, fresh_state}
 use Rattle.script_model.specs.Defaults.{default_options, with_quiet_scheduler}
 use Rattle.script_model.specs.Follows.{ScriptRun, Follows}
 use Rattle.fleet_run.specs.FleetView.{FleetView}
-use Rattle.fleet_run.specs.Holds.{held, Holds, parties_of}
+use Rattle.fleet_run.specs.Holds.{held_parts, Holds, parties_of}
 use Rattle.fleet_run.specs.Outside.{SinkView, Took}
 
 -- The text is a script. A fresh fleet ran it, and the sink took exactly the replies. The fleet
@@ -18,7 +18,7 @@ pub record Served (merge : Operator) (text : List ℕ) (fleet : FleetView) (old 
   pub written : List ℕ
   pub store : Store
   pub follows : Follows job_grammar (with_quiet_scheduler merge) default_options text store written
-  pub holds : Holds fleet (held store)
+  pub holds : Holds fleet (held_parts store)
   pub live : follows.last.parties ≡ parties_of fleet
   pub took : Took written old new
 
@@ -27,7 +27,7 @@ pub record Ran (merge : Operator) (lines : List Line) (fleet : FleetView) (old n
   pub answers : List (List ℕ)
   pub last : State
   pub run : ScriptRun (with_quiet_scheduler merge) 1 (fresh_state default_options) lines answers last
-  pub holds : Holds fleet (held last.store)
+  pub holds : Holds fleet (held_parts last.store)
   pub live : last.parties ≡ parties_of fleet
   pub took : Took (concat answers) old new
 
@@ -38,7 +38,7 @@ pub record RanButTheEnd (merge : Operator) (lines : List Line) (fleet : FleetVie
   pub answer : List ℕ
   pub last : State
   pub run : ScriptRun (with_quiet_scheduler merge) 1 (fresh_state default_options) lines (answers ++ answer ∷ []) last
-  pub holds : Holds fleet (held last.store)
+  pub holds : Holds fleet (held_parts last.store)
   pub live : last.parties ≡ parties_of fleet
   pub front : List ℕ
   pub end : List ℕ

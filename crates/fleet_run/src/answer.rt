@@ -6,9 +6,9 @@ ghost use Rattle.fleet_rows.specs.declared.errors.SlateDBError.TheVariants as Sl
 ghost use Rattle.fleet_rows.specs.Row.{row_of, rows_of};
 ghost use Rattle.script_model.specs.Words.{rows_text};
 ghost use Rattle.script_model.specs.LineRuns.{flush_fault_text};
-ghost use Rattle.script_model.specs.Replies.{reply, ok, read_reply, not_retained, jobs_text, ranges_text, claim_reply, absent};
+ghost use Rattle.script_model.specs.Replies.{reply, ok, read_reply, not_retained, jobs_text, ranges_text, claim_reply, absent_reply};
 ghost use Rattle.fleet_run.specs.Jobs.{judged_of};
-ghost use Rattle.fleet_run.specs.Serve.{bad_flush, no_such_party, value_of, started, polled_reply};
+ghost use Rattle.fleet_run.specs.Serve.{bad_flush, no_such_party, value_of, started_reply, polled_reply};
 ghost use Rattle.fleet_run.specs.Kinds.{fault_of};
 
 use crate::jobs::Judged;
@@ -123,7 +123,7 @@ pub(crate) fn no_records(alloc: Global) -> Result<Reply, SlateDBError>
 
 /// The reply to the start of a coordinator, whose epoch is 1.
 pub(crate) fn started(alloc: Global) -> Result<Reply, SlateDBError>
-    ensures reply { IfOk result (λ reply. reply ≡ started) }
+    ensures reply { IfOk result (λ reply. reply ≡ started_reply) }
     ensures memory { IsOkUnless result SlateDBError.Memory }
 {
     let mut reply = Reply::new(alloc);
@@ -134,7 +134,7 @@ pub(crate) fn started(alloc: Global) -> Result<Reply, SlateDBError>
 }
 
 pub(crate) fn absent(alloc: Global) -> Result<Reply, SlateDBError>
-    ensures reply { IfOk result (λ reply. reply ≡ absent) }
+    ensures reply { IfOk result (λ reply. reply ≡ absent_reply) }
     ensures memory { IsOkUnless result SlateDBError.Memory }
 {
     words(alloc, "ok absent\n")

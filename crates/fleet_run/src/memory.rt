@@ -25,7 +25,7 @@ impl<'a> MemSource<'a> {
     /// fail.
     pub fn new(bytes: &'a [u8], failing: &'a [u64]) -> MemSource<'a>
         ensures fails_at { source_failing result ≡ failing.now }
-        ensures told { source_view result
+        ensures view { source_view result
             ≡ record { left = Some bytes.now; given = 0; ended = false; faults = 0 } }
     {
         MemSource {
@@ -42,7 +42,7 @@ impl<'a> MemSource<'a> {
 impl Source for MemSource<'_> {
     ghost use Rattle.fleet_run.specs.Memory.{source_view};
 
-    ghost told = { source_view };
+    ghost view = { source_view };
 
     fn read(&mut self, into: &mut [u8]) -> Result<usize, Failed> {
         self.calls = self.calls.saturating_add(1);
@@ -79,7 +79,7 @@ impl<'a> MemSink<'a> {
     /// An empty sink. Its calls of `write` are counted from 1, and the calls in `failing` fail.
     pub fn new(alloc: Global, failing: &'a [u64]) -> MemSink<'a>
         ensures fails_at { sink_failing result ≡ failing.now }
-        ensures told { sink_view result ≡ record { written = Some []; taken = 0; faults = 0 } }
+        ensures view { sink_view result ≡ record { written = Some []; taken = 0; faults = 0 } }
     {
         MemSink {
             bytes: Vec::new(alloc),
@@ -101,7 +101,7 @@ impl<'a> MemSink<'a> {
 impl Sink for MemSink<'_> {
     ghost use Rattle.fleet_run.specs.Memory.{sink_view};
 
-    ghost told = { sink_view };
+    ghost view = { sink_view };
 
     /// A write that is out of memory counts as a fault.
     fn write(&mut self, from: &[u8]) -> Result<usize, Failed> {

@@ -11,8 +11,8 @@ ghost use Rattle.fleet_iter.specs.Iteration.{CanFail};
 ghost use Rattle.fleet_rows.specs.declared.errors.SlateDBError.TheVariants as SlateDBError;
 ghost use Rattle.fleet_rows.specs.Row.{row_of, rows_of};
 ghost use Rattle.fleet_rows.specs.Settings.{settings_of};
-ghost use Rattle.fleet_table.specs.Table.{IsTable};
-ghost use Rattle.fleet_run.specs.Serve.{numbered};
+ghost use Rattle.fleet_table.specs.Table.{IsTableRows};
+ghost use Rattle.fleet_run.specs.Serve.{numbered_tables};
 ghost use Rattle.fleet_run.specs.Outputs.{all_rows_of, table_size};
 
 use crate::tables::Table;
@@ -57,7 +57,7 @@ fn kept_rows(
 ) -> Result<Vec<RowEntry>, SlateDBError>
     ensures rows { IfOk result
         (λ rows. rows_of rows.items ≡ kept_of_keys (settings_of settings) table.now) }
-    ensures table { IsTable table.now }
+    ensures table { IsTableRows table.now }
     ensures memory { IsOkUnless result SlateDBError.Memory }
 {
     ordered_rows_rise();
@@ -110,9 +110,9 @@ fn numbered(
     drawn: u64,
     rows: VecDeque<ListOf<RowEntry>>,
 ) -> Result<VecDeque<Table>, SlateDBError>
-    requires { AllByRecursion IsTable (all_rows_of rows.items) }
+    requires { AllByRecursion IsTableRows (all_rows_of rows.items) }
     ensures tables { IfOk result
-        (λ tables. tables.items ≡ numbered drawn (all_rows_of rows.items)) }
+        (λ tables. tables.items ≡ numbered_tables drawn (all_rows_of rows.items)) }
     ensures memory { IsOkUnless result SlateDBError.Memory }
 {
     let mut tables = VecDeque::new(alloc);
@@ -136,7 +136,7 @@ pub fn outputs(
     table: &TableData,
 ) -> Result<VecDeque<Table>, SlateDBError>
     ensures tables { IfOk result (λ tables. tables.items
-        ≡ numbered drawn (cut_tables table_size (kept_of_keys (settings_of settings) table.now))) }
+        ≡ numbered_tables drawn (cut_tables table_size (kept_of_keys (settings_of settings) table.now))) }
     ensures memory { IsOkUnless result SlateDBError.Memory }
 {
     let rows = kept_rows(alloc, settings, table)?;

@@ -19,16 +19,16 @@ const LONGEST: usize = 67_108_864;
 
 // Reads a source to its end, or until it has given more than `LONGEST` bytes.
 fn read_all<S: Source>(alloc: Global, source: &mut S) -> Result<Vec<u8>, FleetError>
-    requires { (S.told source.old).given < 2 ^ 63 }
+    requires { (S.view source.old).given < 2 ^ 63 }
     ensures whole { IfOk result
-        (λ text. ReadWhole text.items (S.told source.old) (S.told source.new)) }
+        (λ text. ReadWhole text.items (S.view source.old) (S.view source.new)) }
     ensures too_long { (result
-        ≡ Err TooLong) ↔ ((S.told source.old).given + longest < (S.told source.new).given) }
+        ≡ Err TooLong) ↔ ((S.view source.old).given + longest < (S.view source.new).given) }
     ensures read_fault { result
-        ≡ Err ReadFault → Rose (S.told source.old).faults (S.told source.new).faults }
-    ensures front { IfErr result (λ _. ReadFront (S.told source.old) (S.told source.new)) }
+        ≡ Err ReadFault → Rose (S.view source.old).faults (S.view source.new).faults }
+    ensures front { IfErr result (λ _. ReadFront (S.view source.old) (S.view source.new)) }
     ensures only { IfErr result (λ e. (e ≡ TooLong) ⊎ ((e ≡ ReadFault) ⊎ (e ≡ Memory))) }
-    ensures never_fall { (S.told source.old).faults ≤ (S.told source.new).faults }
+    ensures never_fall { (S.view source.old).faults ≤ (S.view source.new).faults }
 {
     let mut text = Vec::new(alloc);
     let mut piece = [0u8; 8192];
@@ -83,37 +83,37 @@ pub fn fleet_main<S: Source, K: Sink>(
     sink: &mut K,
 ) -> u8
     requires fresh { fleet.old ≡ fresh_fleet }
-    requires given { (S.told source.old).given < 2 ^ 63 }
+    requires given { (S.view source.old).given < 2 ^ 63 }
     ensures status { IsStatus result }
 
     ensures run { result ≡ 0 → RunsScript fleet.new
-        (S.told source.old) (S.told source.new) (K.told sink.old) (K.told sink.new) }
+        (S.view source.old) (S.view source.new) (K.view sink.old) (K.view sink.new) }
 
     ensures usage { (result ≡ 2) ↔ (map (λ word. word.now) words.now ≢ codes "run" ∷ []) }
     ensures usage_reads_nothing { result ≡ 2 → source.new ≡ source.old }
 
-    ensures bad_line { result ≡ 3 → HasBadLine (S.told source.old) (S.told source.new) }
+    ensures bad_line { result ≡ 3 → HasBadLine (S.view source.old) (S.view source.new) }
 
-    ensures read_fault { result ≡ 4 → Rose (S.told source.old).faults (S.told source.new).faults }
+    ensures read_fault { result ≡ 4 → Rose (S.view source.old).faults (S.view source.new).faults }
 
-    ensures write_fault { result ≡ 5 → Rose (K.told sink.old).faults (K.told sink.new).faults }
+    ensures write_fault { result ≡ 5 → Rose (K.view sink.old).faults (K.view sink.new).faults }
     ensures wrote_front { result ≡ 5 → RunsUpTo fleet.new
-        (S.told source.old) (S.told source.new) (K.told sink.old) (K.told sink.new) }
+        (S.view source.old) (S.view source.new) (K.view sink.old) (K.view sink.new) }
 
     ensures memory { result ≡ 6 → RunsFirst fleet.new
-        (S.told source.old) (S.told source.new) (K.told sink.old) (K.told sink.new) }
+        (S.view source.old) (S.view source.new) (K.view sink.old) (K.view sink.new) }
 
     ensures too_long { (result
-        ≡ 7) ↔ ((S.told source.old).given + longest < (S.told source.new).given) }
+        ≡ 7) ↔ ((S.view source.old).given + longest < (S.view source.new).given) }
 
     // With the statuses 2, 3, 4 and 7, nothing was run or written.
-    ensures took_nothing { RunsNothing result → TookNothing (K.told sink.old) (K.told sink.new) }
+    ensures took_nothing { RunsNothing result → TookNothing (K.view sink.old) (K.view sink.new) }
     ensures left_fresh { RunsNothing result → fleet.new ≡ fleet.old }
 
     // A script that is not too long is run, unless the words are not `run`, the source or the sink
     // fails, or memory runs out.
     ensures complete { (text : List ℕ) (lines : List model.Line) → IsScript job_grammar text lines
-        → length text ≤ longest → (S.told source.old).left ≡ Some text
+        → length text ≤ longest → (S.view source.old).left ≡ Some text
         → (result ≡ 0) ⊎ (result ≡ 2) ⊎ (result ≡ 4) ⊎ (result ≡ 5) ⊎ (result ≡ 6) }
 {
     if !is_run(words) {

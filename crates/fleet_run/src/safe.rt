@@ -31,7 +31,7 @@ impl<'a> SafeSource<'a> {
 impl Source for SafeSource<'_> {
     ghost use Rattle.fleet_run.specs.Safe.{safe_source_view};
 
-    ghost told = { safe_source_view };
+    ghost view = { safe_source_view };
 
     fn read(&mut self, into: &mut [u8]) -> Result<usize, Failed> {
         let n = into.len().min(self.left.len());
@@ -72,7 +72,7 @@ impl SafeSink {
 impl Sink for SafeSink {
     ghost use Rattle.fleet_run.specs.Safe.{safe_sink_view};
 
-    ghost told = { safe_sink_view };
+    ghost view = { safe_sink_view };
 
     fn write(&mut self, from: &[u8]) -> Result<usize, Failed> {
         self.taken = self.taken.saturating_add(from.len() as u64);

@@ -52,11 +52,11 @@ impl From<TextError> for FleetError {
 
 // Writes a piece to the sink. If the sink takes only a front, the rest is written again.
 fn write_all<K: Sink>(sink: &mut K, piece: &[u8]) -> Result<(), FleetError>
-    ensures ok { OnOk result (Took piece.now (K.told sink.old) (K.told sink.new)) }
-    ensures rose { OnErr result (Rose (K.told sink.old).faults (K.told sink.new).faults) }
-    ensures short { OnErr result (TookShort piece.now (K.told sink.old) (K.told sink.new)) }
+    ensures ok { OnOk result (Took piece.now (K.view sink.old) (K.view sink.new)) }
+    ensures rose { OnErr result (Rose (K.view sink.old).faults (K.view sink.new).faults) }
+    ensures short { OnErr result (TookShort piece.now (K.view sink.old) (K.view sink.new)) }
     ensures only { IfErr result (λ e. e ≡ WriteFault) }
-    ensures never_fall { (K.told sink.old).faults ≤ (K.told sink.new).faults }
+    ensures never_fall { (K.view sink.old).faults ≤ (K.view sink.new).faults }
 {
     let mut rest = piece;
     'pieces: while !rest.is_empty() {
@@ -78,17 +78,17 @@ fn run_line<K: Sink>(
     requires { IsServed (line_of line) }
     ensures state { OnOk result (fleet.new ≡ fleet_after (line_of line) fleet.old) }
     ensures took { OnOk result
-        (Took (reply_to (line_of line) fleet.old) (K.told sink.old) (K.told sink.new)) }
+        (Took (reply_to (line_of line) fleet.old) (K.view sink.old) (K.view sink.new)) }
     ensures rose { result
-        ≡ Err WriteFault → Rose (K.told sink.old).faults (K.told sink.new).faults }
+        ≡ Err WriteFault → Rose (K.view sink.old).faults (K.view sink.new).faults }
     ensures fault_state { result
         ≡ Err WriteFault → fleet.new ≡ fleet_after (line_of line) fleet.old }
     ensures fault_took { result ≡ Err WriteFault
-        → TookShort (reply_to (line_of line) fleet.old) (K.told sink.old) (K.told sink.new) }
+        → TookShort (reply_to (line_of line) fleet.old) (K.view sink.old) (K.view sink.new) }
     ensures memory_state { result ≡ Err Memory → fleet.new ≡ fleet.old }
-    ensures memory_took { result ≡ Err Memory → TookNothing (K.told sink.old) (K.told sink.new) }
+    ensures memory_took { result ≡ Err Memory → TookNothing (K.view sink.old) (K.view sink.new) }
     ensures only { IfErr result (λ e. (e ≡ WriteFault) ⊎ (e ≡ Memory)) }
-    ensures never_fall { (K.told sink.old).faults ≤ (K.told sink.new).faults }
+    ensures never_fall { (K.view sink.old).faults ≤ (K.view sink.new).faults }
 {
     let reply = match fleet.serve(alloc, line) {
         Ok(reply) => reply,
@@ -108,15 +108,15 @@ fn run_lines<K: Sink>(
     requires fresh { fleet.old ≡ fresh_fleet }
     requires grammar { AreLines job_grammar [] (lines_of lines) }
     ensures ran { OnOk result ((merge : Operator)
-        → Ran merge (lines_of lines) fleet.new (K.told sink.old) (K.told sink.new)) }
+        → Ran merge (lines_of lines) fleet.new (K.view sink.old) (K.view sink.new)) }
     ensures rose { result
-        ≡ Err WriteFault → Rose (K.told sink.old).faults (K.told sink.new).faults }
+        ≡ Err WriteFault → Rose (K.view sink.old).faults (K.view sink.new).faults }
     ensures fault { result ≡ Err WriteFault → (merge : Operator)
-        → RunsUpToFault merge (lines_of lines) fleet.new (K.told sink.old) (K.told sink.new) }
+        → RunsUpToFault merge (lines_of lines) fleet.new (K.view sink.old) (K.view sink.new) }
     ensures memory { result
-        ≡ Err Memory → RunsFront (lines_of lines) fleet.new (K.told sink.old) (K.told sink.new) }
+        ≡ Err Memory → RunsFront (lines_of lines) fleet.new (K.view sink.old) (K.view sink.new) }
     ensures only { IfErr result (λ e. (e ≡ WriteFault) ⊎ (e ≡ Memory)) }
-    ensures never_fall { (K.told sink.old).faults ≤ (K.told sink.new).faults }
+    ensures never_fall { (K.view sink.old).faults ≤ (K.view sink.new).faults }
 {
     let mut left = VecDeque::from_vec(lines.into_vec());
     'lines: while let Some(line) = left.pop_front() {
@@ -137,7 +137,7 @@ pub fn run_script<K: Sink>(
 
     // On success the text is a script, and the sink took exactly the replies of its run.
     ensures served { OnOk result
-        ((merge : Operator) → Served merge text.now fleet.new (K.told sink.old) (K.told sink.new)) }
+        ((merge : Operator) → Served merge text.now fleet.new (K.view sink.old) (K.view sink.new)) }
 
     // BadLine names the first line outside the grammar. Nothing was run or written.
     ensures bad_line { (n : ℕ) → result ≡ Err (BadLine n) → IsBadAt job_grammar text.now n }
@@ -145,23 +145,23 @@ pub fn run_script<K: Sink>(
         → IsBadAt job_grammar text.now n → (result ≡ Err (BadLine n)) ⊎ (result ≡ Err Memory) }
     ensures bad_line_state { (n : ℕ) → result ≡ Err (BadLine n) → fleet.new ≡ fleet.old }
     ensures bad_line_took { (n : ℕ)
-        → result ≡ Err (BadLine n) → TookNothing (K.told sink.old) (K.told sink.new) }
+        → result ≡ Err (BadLine n) → TookNothing (K.view sink.old) (K.view sink.new) }
 
     // WriteFault comes only if the sink failed in this call. A front of the replies was written.
     ensures rose { result
-        ≡ Err WriteFault → Rose (K.told sink.old).faults (K.told sink.new).faults }
+        ≡ Err WriteFault → Rose (K.view sink.old).faults (K.view sink.new).faults }
     ensures fault { result ≡ Err WriteFault → (merge : Operator)
-        → ServedUpToFault merge text.now fleet.new (K.told sink.old) (K.told sink.new) }
+        → ServedUpToFault merge text.now fleet.new (K.view sink.old) (K.view sink.new) }
 
     // Memory: the sink took exactly the whole replies to the first lines. If there is such a line,
     // the whole text is a script.
     ensures memory { result
-        ≡ Err Memory → ServedFront text.now fleet.new (K.told sink.old) (K.told sink.new) }
+        ≡ Err Memory → ServedFront text.now fleet.new (K.view sink.old) (K.view sink.new) }
 
     ensures valid { (lines : List model.Line) → IsScript job_grammar text.now lines
         → IfErr result (λ e. (e ≡ WriteFault) ⊎ (e ≡ Memory)) }
     ensures only { IfErr result IsScriptError }
-    ensures never_fall { (K.told sink.old).faults ≤ (K.told sink.new).faults }
+    ensures never_fall { (K.view sink.old).faults ≤ (K.view sink.new).faults }
 {
     let lines = read_script(alloc, text)?;
     run_lines(alloc, lines, fleet, sink)

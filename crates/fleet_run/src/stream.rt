@@ -58,7 +58,7 @@ impl<R: Read> StreamSource<R> {
 impl<R: Read> Source for StreamSource<R> {
     ghost use Rattle.fleet_run.specs.Streams.{source_view};
 
-    ghost told = { source_view };
+    ghost view = { source_view };
 
     fn read(&mut self, into: &mut [u8]) -> Result<usize, Failed> {
         match self.reader.read(into) {
@@ -118,7 +118,7 @@ impl<W: Write> StreamSink<W> {
 impl<W: Write> Sink for StreamSink<W> {
     ghost use Rattle.fleet_run.specs.Streams.{sink_view};
 
-    ghost told = { sink_view };
+    ghost view = { sink_view };
 
     fn write(&mut self, from: &[u8]) -> Result<usize, Failed> {
         match self.writer.write(from) {

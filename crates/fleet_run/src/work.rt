@@ -10,7 +10,7 @@ ghost use Rattle.fleet_rows.specs.declared.errors.SlateDBError.TheVariants as Sl
 ghost use Rattle.fleet_rows.specs.Settings.{settings_of};
 ghost use Rattle.fleet_text.specs.Lines.{node_of};
 ghost use Rattle.fleet_run.specs.Jobs.{open_of, stage_of, run_of, judged_of};
-ghost use Rattle.fleet_run.specs.Serve.{started, submit_reply, after_submit, done_job, done_tables, done_ids, flushes_left, runs_after, horizon_raised, opened_left, held_by, run_ids_after, judged, opened_after, poll_answer, after_poll, waiting_job, claim_answer, after_claim, run_at, run_by, written, finish_answer, after_finish, dump_reply, rows_in, node_rows_or_none};
+ghost use Rattle.fleet_run.specs.Serve.{started_reply, submit_reply, after_submit, done_job, done_tables, done_ids, flushes_left, runs_after, horizon_raised, opened_left, held_by, run_ids_after, judged_job, opened_after, poll_answer, after_poll, waiting_job, claim_answer, after_claim, run_at, run_by, written_tables, finish_answer, after_finish, dump_reply, rows_in, node_rows_or_none};
 
 use crate::answer;
 use crate::fleet::Fleet;
@@ -27,7 +27,7 @@ use std::collections::VecDeque;
 
 impl Fleet {
     pub(crate) fn start_coordinator(&mut self, alloc: Global) -> Result<Reply, SlateDBError>
-        ensures reply { IfOk result (λ reply. reply ≡ started) }
+        ensures reply { IfOk result (λ reply. reply ≡ started_reply) }
         ensures ok { OnOk result (self.new ≡ record self.old { coordinator = true }) }
         ensures err { OnErr result (self.new ≡ self.old) }
         ensures memory { IsOkUnless result SlateDBError.Memory }
@@ -106,7 +106,7 @@ impl Fleet {
 
     // Which submitted jobs are opened or refused, after the finished job is committed.
     fn judged(&self, alloc: Global) -> Result<Judged, SlateDBError>
-        ensures judged { IfOk result (λ j. judged_of j ≡ judged self.now) }
+        ensures judged { IfOk result (λ j. judged_of j ≡ judged_job self.now) }
         ensures memory { IsOkUnless result SlateDBError.Memory }
     {
         let done = done_job(&self.opened);
@@ -196,7 +196,7 @@ impl Fleet {
         settings: Settings,
     ) -> Result<VecDeque<Table>, SlateDBError>
         ensures tables { IfOk result
-            (λ tables. tables.items ≡ written self.now source (settings_of settings)) }
+            (λ tables. tables.items ≡ written_tables self.now source (settings_of settings)) }
         ensures memory { IsOkUnless result SlateDBError.Memory }
     {
         match table_of(&self.flushes, source) {

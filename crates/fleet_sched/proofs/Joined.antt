@@ -6,7 +6,7 @@ use Rattle.std.proofs.lemmas.Bool.{le-leb, leb-true, lt-leb}
 use Rattle.std.proofs.lemmas.List.{length-drop, length-take-le, map-append}
 use Rattle.std.proofs.lemmas.List.Folds.{list_all-append}
 use Rattle.std.proofs.lemmas.List.Sums.{fold-append, sum_by-append}
-use Rattle.row_model.specs.Sizes.{saturated}
+use Rattle.row_model.specs.Sizes.{saturated_sum}
 use Rattle.fleet_model.specs.Nodes.{NodeName, Run, names_contain}
 use Rattle.fleet_model.specs.Scheduler.{last_of}
 use Rattle.fleet_model.specs.Sources.{is_apart}
@@ -24,10 +24,10 @@ least_of_more runs i run least lt is so =
     ap (λ l. lesser l run) so ∙ sym (fold-append lesser None (take i runs) (run ∷ [])) ∙ ap least_size (to_here runs i run lt is)
 
 -- The size of one run more.
-pub size_of_more : (runs : List Sized) (i : ℕ) (run : Sized) (size : ℕ) → i < length runs → run ≡ get_or runs i run → size ≡ total_size (take i runs) → saturated (size + run.size) ≡ total_size (take (i + 1) runs)
+pub size_of_more : (runs : List Sized) (i : ℕ) (run : Sized) (size : ℕ) → i < length runs → run ≡ get_or runs i run → size ≡ total_size (take i runs) → saturated_sum (size + run.size) ≡ total_size (take (i + 1) runs)
 size_of_more runs i run size lt is so =
     let sum : sum_by (λ (r : Sized). r.size) (take i runs ++ run ∷ []) ≡ sum_by (λ (r : Sized). r.size) (take i runs) + (0 + run.size) = sum_by-append (λ (r : Sized). r.size) (take i runs) (run ∷ []) in
-    let both : saturated (size + run.size) ≡ total_size (take i runs ++ run ∷ []) = omega (arith, sum, so) in
+    let both : saturated_sum (size + run.size) ≡ total_size (take i runs ++ run ∷ []) = omega (arith, sum, so) in
     both ∙ ap total_size (to_here runs i run lt is)
 
 -- What is known of a series in the midst: it goes on from the first runs.

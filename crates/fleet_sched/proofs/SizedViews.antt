@@ -5,7 +5,7 @@ use Rattle.std.specs.List.{filter_map}
 use Rattle.std.proofs.Math.Seq.{take-append_seam, drop-append_seam}
 use Rattle.std.proofs.lemmas.List.{map-append, length-append}
 use Rattle.std.proofs.lemmas.List.Sums.{sum_by-cons}
-use Rattle.row_model.specs.Sizes.{saturated}
+use Rattle.row_model.specs.Sizes.{saturated_sum}
 use Rattle.fleet_model.specs.Handles.{Handle, tree_tables}
 use Rattle.fleet_model.specs.Nodes.{NodeName, L0, Run, Node}
 use Rattle.sched_model.specs.Sizes.{Sized, SizedTree, sized_flush, sized_nodes, sized_run, sized_tree, sized_trees, tables_size}
@@ -42,7 +42,7 @@ sum_of (view ∷ views) =
 
 -- The tables of these views have the size of a run of them.
 size_of : (views : List View) → tables_size (handles_of views) ≡ run_size views
-size_of views = ap saturated (sum_of views)
+size_of views = ap saturated_sum (sum_of views)
 
 -- The first handles are those of the first views.
 first_views : (views : List View) (more : List Handle) → take (length (map (λ view. view.sst.id) views)) (handles_of views ++ more) ≡ handles_of views

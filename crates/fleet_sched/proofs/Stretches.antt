@@ -40,7 +40,7 @@ later name sources (node ∷ nodes) i lt h =
 none_left : (source : NodeName) (sources : List NodeName) → is_some (older_nodes (source ∷ sources) []) ≡ false
 none_left source sources = refl
 
--- Sources do not stand behind all nodes.
+-- Sources do not stand after all nodes.
 pub nowhere : {X Y : Type 0} (name : X → NodeName) (other : Y → NodeName) (sources : List Y) (nodes : List X) (i : ℕ) → 1 ≤ length sources → length nodes ≤ i
     → is_some (older_nodes (map other sources) (map name (drop i nodes))) ≡ false
 nowhere name other [] nodes i some past = absurd (omega arith)

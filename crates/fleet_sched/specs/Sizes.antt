@@ -3,7 +3,7 @@ use Rattle.std.specs.Prelude.{ℕ, List, [], ◌∷◌, map}
 use Rattle.fleet_model.specs.Jobs.{Jobs}
 use Rattle.sched_model.specs.Picks.{Planned}
 use Rattle.sched_model.specs.Sizes.{Sized, SizedTree}
-use Rattle.sched_model.specs.SizeTiered.{unplanned}
+use Rattle.sched_model.specs.SizeTiered.{unplanned_tree}
 use Rattle.fleet_tree.specs.Sizes.{run_size}
 use Rattle.fleet_tree.specs.Views.{View}
 use Rattle.fleet_tree.specs.declared.run.SortedRun.{SortedRun}
@@ -23,4 +23,4 @@ tree_in s = record { segment = s.0; flushes = map flush_in s.1.l0; runs = map ru
 
 -- The trees before the first pick. The jobs use their nodes.
 abbrev pub planned_in : Jobs → List (List ℕ × LsmTreeState) → List Planned
-planned_in jobs trees = map (λ s. unplanned jobs (tree_in s)) trees
+planned_in jobs trees = map (λ s. unplanned_tree jobs (tree_in s)) trees

@@ -5,7 +5,7 @@ ghost use Rattle.std.specs.Prelude.{Some, max, filter, bytes_eq};
 ghost use Rattle.fleet_model.specs.Levels.{above_all, capped_id, destination_list, fresh_run_id};
 ghost use Rattle.fleet_jobs.specs.Jobs.{is_open, jobs_of};
 ghost use Rattle.fleet_jobs.specs.Specs.{segment_of};
-ghost use Rattle.sched_model.specs.SizeTiered.{by_flushes, free_slots, nodes_used, unplanned};
+ghost use Rattle.sched_model.specs.SizeTiered.{by_flushes, free_slots, nodes_used, unplanned_tree};
 ghost use Rattle.fleet_sched.specs.Sizes.{planned_in, tree_in};
 ghost use Rattle.fleet_sched.specs.Views.{open_records, shown_jobs, trees_in, view_of};
 ghost use Rattle.fleet_tree.specs.Trees.{RunFlushes, trees_with_prefix};
@@ -55,7 +55,7 @@ fn add_tree(
     trees: &mut Vec<Planned>,
 ) -> Result<(), AllocError>
     ensures { OnOk result (trees.new.items ≡ trees.old.items
-        ++ unplanned (shown_jobs state.now) (tree_in (segment.now, tree.now)) ∷ []) }
+        ++ unplanned_tree (shown_jobs state.now) (tree_in (segment.now, tree.now)) ∷ []) }
 {
     trees.push(Planned {
         segment: Clone::clone(segment)?,

@@ -1,7 +1,7 @@
 //! Flushes and runs with their sizes.
 
 ghost use Rattle.std.specs.Prelude.{◌≡◌, ◌+◌, ◌-◌, drop, fold, length, map, IfOk};
-ghost use Rattle.row_model.specs.Sizes.{saturated};
+ghost use Rattle.row_model.specs.Sizes.{saturated_sum};
 ghost use Rattle.fleet_jobs.specs.Sources.{name_of};
 ghost use Rattle.sched_model.specs.Series.{oldest};
 ghost use Rattle.sched_model.specs.Sizes.{flush_names, run_names, total_size};
@@ -115,13 +115,13 @@ pub fn total_size(flushes: &[SizedFlush]) -> u64
 }
 
 fn size_of(flushes: &[SizedFlush]) -> u64
-    ensures { result ≡ fold (λ size flush. saturated (size + flush.size)) 0 flushes.now }
+    ensures { result ≡ fold (λ size flush. saturated_sum (size + flush.size)) 0 flushes.now }
 {
     flushes.iter().fold(0, with_flush)
 }
 
 fn with_flush(size: u64, flush: &SizedFlush) -> u64
-    ensures { result ≡ saturated (size + flush.now.size) }
+    ensures { result ≡ saturated_sum (size + flush.now.size) }
 {
     size.saturating_add(flush.size)
 }

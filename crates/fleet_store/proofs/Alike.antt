@@ -2,12 +2,12 @@
 use Rattle.std.proofs.Common.{◌≡◌, refl, ap, ℕ, ◌+◌, ◌==◌, Bool, true, false, if◌then◌else◌, Some, None}
 use Rattle.std.proofs.lemmas.Bool.{eqb-true}
 use Rattle.fleet_model.specs.History.{ManifestChange, PutManifest}
-use Rattle.fleet_model.specs.Exchanges.{PutsManifest, logged, performed, put_answer, stands_or_lost}
+use Rattle.fleet_model.specs.Exchanges.{PutsManifest, with_entry, after_exchange, put_answer, stands_or_lost}
 use Rattle.fleet_model.specs.Store.{Manifest, Store}
-use Rattle.step_model.specs.Past.{told_after}
+use Rattle.step_model.specs.Past.{world_after}
 use Rattle.fleet_store.specs.Laws.{RefusedPutsAreAlike}
 
-performed_alike : (version : ℕ) (change : ManifestChange) (one other : Manifest) (store : Store) → (version ≡ store.manifest.version → one ≡ other) → performed (PutsManifest version change one) store ≡ performed (PutsManifest version change other) store
+performed_alike : (version : ℕ) (change : ManifestChange) (one other : Manifest) (store : Store) → (version ≡ store.manifest.version → one ≡ other) → after_exchange (PutsManifest version change one) store ≡ after_exchange (PutsManifest version change other) store
 performed_alike version change one other store same = by (version == store.manifest.version) refl
   where
     by : (b : Bool) → (version == store.manifest.version) ≡ b
@@ -16,8 +16,8 @@ performed_alike version change one other store same = by (version == store.manif
     by false is = refl
 
 pub refused_puts_are_alike : RefusedPutsAreAlike
-refused_puts_are_alike line party version change one other None told same =
-    ap (λ (s : Store). told_after told (logged line party (PutManifest change) (put_answer version told.store.manifest.version) s)) (performed_alike version change one other told.store same)
-refused_puts_are_alike line party version change one other (Some true) told same =
-    ap (λ (s : Store). told_after told (logged line party (PutManifest change) (stands_or_lost (put_answer version told.store.manifest.version)) s)) (performed_alike version change one other told.store same)
-refused_puts_are_alike line party version change one other (Some false) told same = refl
+refused_puts_are_alike line party version change one other None world same =
+    ap (λ (s : Store). world_after world (with_entry line party (PutManifest change) (put_answer version world.store.manifest.version) s)) (performed_alike version change one other world.store same)
+refused_puts_are_alike line party version change one other (Some true) world same =
+    ap (λ (s : Store). world_after world (with_entry line party (PutManifest change) (stands_or_lost (put_answer version world.store.manifest.version)) s)) (performed_alike version change one other world.store same)
+refused_puts_are_alike line party version change one other (Some false) world same = refl

@@ -14,7 +14,7 @@ use Rattle.fleet_store.specs.Memory.{IsMade, Makes, caller_of, ended_of}
 use Rattle.fleet_store.specs.Strikes.{strike_by, waits_after, faults_after}
 
 -- Nobody else calls.
-pub nobody : (merge : Operator) (log : LogParts) → Rivals (caller_of merge log) log.told log.told
+pub nobody : (merge : Operator) (log : LogParts) → Rivals (caller_of merge log) log.world log.world
 nobody merge log = record { calls = []; lead = refl; none = λ alone. refl }
 
 -- A call that no fault strikes.
@@ -45,11 +45,11 @@ may_strike event (Some fault) h = by (is_get_or_put event) h
 module _ {A : Type 0} (merge : Operator) (old new : LogParts) (x : Store → Exchange) (Gives : Store → A → Type 0) (Refuses : Store → ℕ → Type 0) where
   -- The end of a call that was made.
   abbrev End : Result A SlateDBError → Type 0
-  End result = Ended (caller_of merge old) (x old.told.store) old.told new.told old.faults new.faults old.waits new.waits (Gives old.told.store) (Refuses old.told.store) result
+  End result = Ended (caller_of merge old) (x old.world.store) old.world new.world old.faults new.faults old.waits new.waits (Gives old.world.store) (Refuses old.world.store) result
 
-  made_end : (strike : Strike) (answer : Result A SlateDBError) → IsMade (x old.told.store) (Gives old.told.store) (Refuses old.told.store) old new (strike, answer) → End (ended_of (Ok (strike, answer)))
-  made_end None (Ok answer) is = (is.fits, is.room, is.told_is, λ alone. spared _ old.waits new.waits is.strike_is is.waits_is)
-  made_end None (Err (Conflict seen)) is = (is.fits, is.told_is, λ alone. spared _ old.waits new.waits is.strike_is is.waits_is)
+  made_end : (strike : Strike) (answer : Result A SlateDBError) → IsMade (x old.world.store) (Gives old.world.store) (Refuses old.world.store) old new (strike, answer) → End (ended_of (Ok (strike, answer)))
+  made_end None (Ok answer) is = (is.fits, is.room, is.world_is, λ alone. spared _ old.waits new.waits is.strike_is is.waits_is)
+  made_end None (Err (Conflict seen)) is = (is.fits, is.world_is, λ alone. spared _ old.waits new.waits is.strike_is is.waits_is)
   made_end None (Err IteratorNotInitialized) is = absurd is.fits
   made_end None (Err IteratorFailed) is = absurd is.fits
   made_end None (Err MergeOperatorMissing) is = absurd is.fits
@@ -65,28 +65,28 @@ module _ {A : Type 0} (merge : Operator) (old new : LogParts) (x : Store → Exc
   made_end None (Err Memory) is = absurd is.fits
   made_end (Some stands) answer is =
       let s = struck _ old.waits new.waits stands is.strike_is is.waits_is in
-      (omega (arith, is.faults_are), may_strike _ old.waits s.struck, (stands, is.told_is, λ alone. s))
+      (omega (arith, is.faults_are), may_strike _ old.waits s.struck, (stands, is.world_is, λ alone. s))
 
   low : (strike : Strike) → old.faults ≤ faults_after strike old.faults
   low None = omega arith
   low (Some stands) = omega arith
 
   -- A call of a store in memory is a call of a store that nobody else calls.
-  called_by : (made : Result (Strike × Result A SlateDBError) AllocError) → Makes (x old.told.store) (Gives old.told.store) (Refuses old.told.store) old new made
-      → Called (caller_of merge old) old.told new.told old.faults new.faults old.waits new.waits x Gives Refuses (ended_of made)
-  called_by (Err wanting) same = record {
+  called_by : (made : Result (Strike × Result A SlateDBError) AllocError) → Makes (x old.world.store) (Gives old.world.store) (Refuses old.world.store) old new made
+      → Called (caller_of merge old) old.world new.world old.faults new.faults old.waits new.waits x Gives Refuses (ended_of made)
+  called_by (Err refusal) same = record {
     rise = omega (arith, ap (λ l. l.faults) same);
-    met = old.told;
+    met = old.world;
     rivals = nobody merge old;
-    ended = (ap (λ l. l.told) same, λ alone. ap (λ l. l.waits) same);
+    ended = (ap (λ l. l.world) same, λ alone. ap (λ l. l.waits) same);
   }
   called_by (Ok (strike, answer)) is = record {
     rise = omega (arith, is.faults_are, low strike);
-    met = old.told;
+    met = old.world;
     rivals = nobody merge old;
     ended = made_end strike answer is;
   }
 
-  pub called_of : (made : Result (Strike × Result A SlateDBError) AllocError) (result : Result A SlateDBError) → result ≡ ended_of made → Makes (x old.told.store) (Gives old.told.store) (Refuses old.told.store) old new made
-      → Called (caller_of merge old) old.told new.told old.faults new.faults old.waits new.waits x Gives Refuses result
-  called_of made result is makes = subst (Called (caller_of merge old) old.told new.told old.faults new.faults old.waits new.waits x Gives Refuses) (sym is) (called_by made makes)
+  pub called_of : (made : Result (Strike × Result A SlateDBError) AllocError) (result : Result A SlateDBError) → result ≡ ended_of made → Makes (x old.world.store) (Gives old.world.store) (Refuses old.world.store) old new made
+      → Called (caller_of merge old) old.world new.world old.faults new.faults old.waits new.waits x Gives Refuses result
+  called_of made result is makes = subst (Called (caller_of merge old) old.world new.world old.faults new.faults old.waits new.waits x Gives Refuses) (sym is) (called_by made makes)

@@ -1,4 +1,4 @@
--- What a store in memory keeps stays what is told of it, call by call.
+-- What a store in memory keeps stays what is world of it, call by call.
 use Rattle.std.proofs.Common.{IsTrue, ◌≡◌, refl, ap, sym, subst, ◌∙◌, ℕ, ◌+◌, ◌≤◌, ◌==◌, ◌&&◌, Bool, true, false, if◌then◌else◌, List, [], ◌∷◌, length, Option, Some, None, option_map, arith}
 use Rattle.std.specs.BTreeMap.{insert_entry, is_at}
 use Rattle.std.specs.Map.{remove_entry}
@@ -7,10 +7,10 @@ use Rattle.std.proofs.lemmas.Bool.{eqb-true}
 use Rattle.std.proofs.lemmas.List.Sums.{fold-append}
 use Rattle.row_model.specs.Rows.{Row}
 use Rattle.fleet_model.specs.History.{DrawJob, DrawTable, Event}
-use Rattle.fleet_model.specs.Exchanges.{DeletesTable, Exchange, Plain, DrawsJob, DrawsTable, Fault, PutsTable, ListsTables, next_job_id, next_table_id, performed, records_version}
+use Rattle.fleet_model.specs.Exchanges.{DeletesTable, Exchange, Plain, DrawsJob, DrawsTable, Fault, PutsTable, ListsTables, next_job_id, next_table_id, after_exchange, records_version}
 use Rattle.fleet_model.specs.Nodes.{Tables, is_among}
 use Rattle.fleet_model.specs.Store.{Store, held_tables, is_held}
-use Rattle.step_model.specs.Rivals.{Strike, called}
+use Rattle.step_model.specs.Rivals.{Strike, store_after_call}
 use Rattle.fleet_tree.specs.declared.manifest.Manifest.{Manifest}
 use Rattle.fleet_tree.specs.declared.manifest.VersionedManifest.{VersionedManifest}
 use Rattle.fleet_jobs.specs.JobParts.{JobParts}
@@ -49,13 +49,13 @@ longer store history many more manifest records held jobs tables is low = record
   tables_low = omega (arith, low, is.tables_low);
 }
 
--- Behind a call the store keeps what is performed.
-pub behind : (old new : LogParts) (x : Exchange) (strike : Strike) (manifest : VersionedManifest) (records : Option VersionedRecords) (held : Tables) (jobs tables : ℕ)
-    → Adds x old new strike → IsMemory (performed_under strike x old.told.store) (length old.history + 1) manifest records held jobs tables → IsMemory new.told.store (length new.history) manifest records held jobs tables
-behind old new x strike manifest records held jobs tables adds is =
-    let at : new.told.store ≡ called old.line (party_of old.party) x strike old.told.store = ap (λ t. t.store) adds.told_is in
-    subst (λ s. IsMemory s (length new.history) manifest records held jobs tables) (sym (at ∙ called_is old.line (party_of old.party) x strike old.told.store))
-    (longer (performed_under strike x old.told.store) _ (length old.history + 1) (length new.history) manifest records held jobs tables is (omega (arith, adds.longer)))
+-- After a call the store keeps what is performed.
+pub kept_after_call : (old new : LogParts) (x : Exchange) (strike : Strike) (manifest : VersionedManifest) (records : Option VersionedRecords) (held : Tables) (jobs tables : ℕ)
+    → Adds x old new strike → IsMemory (performed_under strike x old.world.store) (length old.history + 1) manifest records held jobs tables → IsMemory new.world.store (length new.history) manifest records held jobs tables
+kept_after_call old new x strike manifest records held jobs tables adds is =
+    let at : new.world.store ≡ store_after_call old.line (party_of old.party) x strike old.world.store = ap (λ t. t.store) adds.world_is in
+    subst (λ s. IsMemory s (length new.history) manifest records held jobs tables) (sym (at ∙ called_is old.line (party_of old.party) x strike old.world.store))
+    (longer (performed_under strike x old.world.store) _ (length old.history + 1) (length new.history) manifest records held jobs tables is (omega (arith, adds.longer)))
 
 -- The numbers are bounded by a greater length, too.
 more_room : (store : Store) (many : ℕ) (manifest : VersionedManifest) (records : Option VersionedRecords) (held : Tables) (jobs tables : ℕ)
@@ -76,30 +76,30 @@ more_room store many manifest records held jobs tables is = record {
 
 -- A get or a note changes nothing.
 pub plain_kept : (old new : LogParts) (event : Event) (strike : Strike) (manifest : VersionedManifest) (records : Option VersionedRecords) (held : Tables) (jobs tables : ℕ)
-    → Adds (Plain event) old new strike → IsMemory old.told.store (length old.history) manifest records held jobs tables → IsMemory new.told.store (length new.history) manifest records held jobs tables
+    → Adds (Plain event) old new strike → IsMemory old.world.store (length old.history) manifest records held jobs tables → IsMemory new.world.store (length new.history) manifest records held jobs tables
 plain_kept old new event strike manifest records held jobs tables adds is =
-    behind old new (Plain event) strike manifest records held jobs tables adds (by (is_performed strike))
+    kept_after_call old new (Plain event) strike manifest records held jobs tables adds (by (is_performed strike))
   where
-    by : (b : Bool) → IsMemory (if b then old.told.store else old.told.store) (length old.history + 1) manifest records held jobs tables
-    by true = more_room old.told.store (length old.history) manifest records held jobs tables is
-    by false = more_room old.told.store (length old.history) manifest records held jobs tables is
+    by : (b : Bool) → IsMemory (if b then old.world.store else old.world.store) (length old.history + 1) manifest records held jobs tables
+    by true = more_room old.world.store (length old.history) manifest records held jobs tables is
+    by false = more_room old.world.store (length old.history) manifest records held jobs tables is
 
 -- So does a list.
 pub list_kept : (old new : LogParts) (strike : Strike) (manifest : VersionedManifest) (records : Option VersionedRecords) (held : Tables) (jobs tables : ℕ)
-    → Adds ListsTables old new strike → IsMemory old.told.store (length old.history) manifest records held jobs tables → IsMemory new.told.store (length new.history) manifest records held jobs tables
+    → Adds ListsTables old new strike → IsMemory old.world.store (length old.history) manifest records held jobs tables → IsMemory new.world.store (length new.history) manifest records held jobs tables
 list_kept old new strike manifest records held jobs tables adds is =
-    behind old new ListsTables strike manifest records held jobs tables adds (by (is_performed strike))
+    kept_after_call old new ListsTables strike manifest records held jobs tables adds (by (is_performed strike))
   where
-    by : (b : Bool) → IsMemory (if b then old.told.store else old.told.store) (length old.history + 1) manifest records held jobs tables
-    by true = more_room old.told.store (length old.history) manifest records held jobs tables is
-    by false = more_room old.told.store (length old.history) manifest records held jobs tables is
+    by : (b : Bool) → IsMemory (if b then old.world.store else old.world.store) (length old.history + 1) manifest records held jobs tables
+    by true = more_room old.world.store (length old.history) manifest records held jobs tables is
+    by false = more_room old.world.store (length old.history) manifest records held jobs tables is
 
 -- A draw for a job raises its number, since it is never struck.
 pub job_drawn : (old new : LogParts) (moment : ℕ) (strike : Strike) (manifest : VersionedManifest) (records : Option VersionedRecords) (held : Tables) (jobs tables : ℕ)
-    → Adds (DrawsJob moment) old new strike → IsMemory old.told.store (length old.history) manifest records held jobs tables → IsMemory new.told.store (length new.history) manifest records held (jobs + 1) tables
+    → Adds (DrawsJob moment) old new strike → IsMemory old.world.store (length old.history) manifest records held jobs tables → IsMemory new.world.store (length new.history) manifest records held (jobs + 1) tables
 job_drawn old new moment strike manifest records held jobs tables adds is =
-    behind old new (DrawsJob moment) strike manifest records held (jobs + 1) tables adds
-    (subst (λ s. IsMemory (performed_under s (DrawsJob moment) old.told.store) (length old.history + 1) manifest records held (jobs + 1) tables) (sym (adds.strike_is ∙ free old.waits)) (record {
+    kept_after_call old new (DrawsJob moment) strike manifest records held (jobs + 1) tables adds
+    (subst (λ s. IsMemory (performed_under s (DrawsJob moment) old.world.store) (length old.history + 1) manifest records held (jobs + 1) tables) (sym (adds.strike_is ∙ free old.waits)) (record {
       manifest_is = record { same = is.manifest_is.same; views = is.manifest_is.views };
       records_are = record { same = is.records_are.same; handles = is.records_are.handles };
       held_are = is.held_are;
@@ -113,16 +113,16 @@ job_drawn old new moment strike manifest records held jobs tables adds is =
       tables_low = omega (arith, is.tables_low);
     }))
   where
-    free : (waits : Option Fault) → strike_by (DrawJob (next_job_id moment old.told.store)) waits ≡ None
+    free : (waits : Option Fault) → strike_by (DrawJob (next_job_id moment old.world.store)) waits ≡ None
     free None = refl
     free (Some fault) = refl
 
 -- So does a draw for a table.
 pub table_drawn : (old new : LogParts) (moment : ℕ) (strike : Strike) (manifest : VersionedManifest) (records : Option VersionedRecords) (held : Tables) (jobs tables : ℕ)
-    → Adds (DrawsTable moment) old new strike → IsMemory old.told.store (length old.history) manifest records held jobs tables → IsMemory new.told.store (length new.history) manifest records held jobs (tables + 1)
+    → Adds (DrawsTable moment) old new strike → IsMemory old.world.store (length old.history) manifest records held jobs tables → IsMemory new.world.store (length new.history) manifest records held jobs (tables + 1)
 table_drawn old new moment strike manifest records held jobs tables adds is =
-    behind old new (DrawsTable moment) strike manifest records held jobs (tables + 1) adds
-    (subst (λ s. IsMemory (performed_under s (DrawsTable moment) old.told.store) (length old.history + 1) manifest records held jobs (tables + 1)) (sym (adds.strike_is ∙ free old.waits)) (record {
+    kept_after_call old new (DrawsTable moment) strike manifest records held jobs (tables + 1) adds
+    (subst (λ s. IsMemory (performed_under s (DrawsTable moment) old.world.store) (length old.history + 1) manifest records held jobs (tables + 1)) (sym (adds.strike_is ∙ free old.waits)) (record {
       manifest_is = record { same = is.manifest_is.same; views = is.manifest_is.views };
       records_are = record { same = is.records_are.same; handles = is.records_are.handles };
       held_are = is.held_are;
@@ -136,7 +136,7 @@ table_drawn old new moment strike manifest records held jobs tables adds is =
       tables_low = omega (arith, is.tables_low);
     }))
   where
-    free : (waits : Option Fault) → strike_by (DrawTable (next_table_id moment old.told.store)) waits ≡ None
+    free : (waits : Option Fault) → strike_by (DrawTable (next_table_id moment old.world.store)) waits ≡ None
     free None = refl
     free (Some fault) = refl
 
@@ -150,21 +150,21 @@ records_version_is records store is = ap records_version is.same
 
 -- A put manifest takes the place of the stored one, if it stands.
 pub manifest_kept : (old new : LogParts) (version : ℕ) (value : Manifest) (why : ManifestChange) (changed : List JobParts) (strike : Strike) (manifest : VersionedManifest) (records : Option VersionedRecords) (held : Tables) (jobs tables : ℕ) (later : VersionedManifest)
-    → Adds (manifest_put version value why changed old.told.store) old new strike
-    → (version ≡ old.told.store.manifest.version → HasTrees value changed (manifest_change_of why) old.told.store)
+    → Adds (manifest_put version value why changed old.world.store) old new strike
+    → (version ≡ old.world.store.manifest.version → HasTrees value changed (manifest_change_of why) old.world.store)
     → later ≡ (if is_performed strike && (version == manifest.id) then record { id = manifest.id + 1; manifest = value } else manifest)
-    → IsMemory old.told.store (length old.history) manifest records held jobs tables → IsMemory new.told.store (length new.history) later records held jobs tables
+    → IsMemory old.world.store (length old.history) manifest records held jobs tables → IsMemory new.world.store (length new.history) later records held jobs tables
 manifest_kept old new version value why changed strike manifest records held jobs tables later adds shown is_later is =
-    behind old new (manifest_put version value why changed old.told.store) strike later records held jobs tables adds (rw is_later (at (is_performed strike)))
+    kept_after_call old new (manifest_put version value why changed old.world.store) strike later records held jobs tables adds (rw is_later (at (is_performed strike)))
   where
     store : Store
-    store = old.told.store
+    store = old.world.store
 
     id_is : manifest.id ≡ store.manifest.version
     id_is = version_is manifest store is.manifest_is
 
     by : (b : Bool) → (version == manifest.id) ≡ b
-        → IsMemory (if b then record store { manifest = record (meant_by changed (manifest_change_of why) version value old.told.store) { version = version + 1 } } else store) (length old.history + 1) (if b then record { id = manifest.id + 1; manifest = value } else manifest) records held jobs tables
+        → IsMemory (if b then record store { manifest = record (meant_by changed (manifest_change_of why) version value old.world.store) { version = version + 1 } } else store) (length old.history + 1) (if b then record { id = manifest.id + 1; manifest = value } else manifest) records held jobs tables
     by true here =
         let same : version ≡ manifest.id = eqb-true version manifest.id here in
         let trees = shown (same ∙ id_is) in
@@ -183,24 +183,24 @@ manifest_kept old new version value why changed strike manifest records held job
         }
     by false here = more_room store (length old.history) manifest records held jobs tables is
 
-    at : (p : Bool) → IsMemory (if p then performed (manifest_put version value why changed store) store else store) (length old.history + 1) (if p && (version == manifest.id) then record { id = manifest.id + 1; manifest = value } else manifest) records held jobs tables
+    at : (p : Bool) → IsMemory (if p then after_exchange (manifest_put version value why changed store) store else store) (length old.history + 1) (if p && (version == manifest.id) then record { id = manifest.id + 1; manifest = value } else manifest) records held jobs tables
     at true =
-        subst (λ n. IsMemory (if version == n then record store { manifest = record (meant_by changed (manifest_change_of why) version value old.told.store) { version = version + 1 } } else store) (length old.history + 1) (if version == manifest.id then record { id = manifest.id + 1; manifest = value } else manifest) records held jobs tables) id_is
+        subst (λ n. IsMemory (if version == n then record store { manifest = record (meant_by changed (manifest_change_of why) version value old.world.store) { version = version + 1 } } else store) (length old.history + 1) (if version == manifest.id then record { id = manifest.id + 1; manifest = value } else manifest) records held jobs tables) id_is
         (by (version == manifest.id) refl)
     at false = more_room store (length old.history) manifest records held jobs tables is
 
 -- Put records take the place of the stored ones, if they stand.
 pub records_kept : (old new : LogParts) (version : ℕ) (value : Compactions) (why : RecordChange) (strike : Strike) (manifest : VersionedManifest) (records : Option VersionedRecords) (held : Tables) (jobs tables stored : ℕ) (later : Option VersionedRecords)
     → Adds (records_put version value why) old new strike
-    → (version ≡ records_version old.told.store.records → DescribeTables value.jobs old.told.store)
+    → (version ≡ records_version old.world.store.records → DescribeTables value.jobs old.world.store)
     → stored ≡ records_version (option_map records_of records)
     → later ≡ (if is_performed strike && (version == stored) then Some (record { id = stored + 1; compactions = value }) else records)
-    → IsMemory old.told.store (length old.history) manifest records held jobs tables → IsMemory new.told.store (length new.history) manifest later held jobs tables
+    → IsMemory old.world.store (length old.history) manifest records held jobs tables → IsMemory new.world.store (length new.history) manifest later held jobs tables
 records_kept old new version value why strike manifest records held jobs tables stored later adds shown is_stored is_later is =
-    behind old new (records_put version value why) strike manifest later held jobs tables adds (rw is_later (rw (is_stored ∙ records_version_is records old.told.store is.records_are) (at (is_performed strike))))
+    kept_after_call old new (records_put version value why) strike manifest later held jobs tables adds (rw is_later (rw (is_stored ∙ records_version_is records old.world.store is.records_are) (at (is_performed strike))))
   where
     store : Store
-    store = old.told.store
+    store = old.world.store
 
     by : (b : Bool) → (version == records_version store.records) ≡ b
         → IsMemory (if b then record store { records = Some (record { version = version + 1; epoch = value.compactor_epoch; jobs = jobs_of value.jobs }) } else store) (length old.history + 1) manifest (if b then Some (record { id = records_version store.records + 1; compactions = value }) else records) held jobs tables
@@ -221,22 +221,22 @@ records_kept old new version value why strike manifest records held jobs tables 
         }
     by false here = more_room store (length old.history) manifest records held jobs tables is
 
-    at : (p : Bool) → IsMemory (if p then performed (records_put version value why) store else store) (length old.history + 1) manifest (if p && (version == records_version store.records) then Some (record { id = records_version store.records + 1; compactions = value }) else records) held jobs tables
+    at : (p : Bool) → IsMemory (if p then after_exchange (records_put version value why) store else store) (length old.history + 1) manifest (if p && (version == records_version store.records) then Some (record { id = records_version store.records + 1; compactions = value }) else records) held jobs tables
     at true = by (version == records_version store.records) refl
     at false = more_room store (length old.history) manifest records held jobs tables is
 
 -- A put table is held, if the put stands.
 pub table_kept : (old new : LogParts) (id : ℕ) (rows : List Row) (strike : Strike) (manifest : VersionedManifest) (records : Option VersionedRecords) (held : Tables) (jobs tables : ℕ) (later : Tables)
-    → Adds (PutsTable id rows) old new strike → is_among old.told.store.tables id ≡ false
+    → Adds (PutsTable id rows) old new strike → is_among old.world.store.tables id ≡ false
     → later ≡ (if is_performed strike then insert_entry nat_cmp held id rows else held)
-    → IsMemory old.told.store (length old.history) manifest records held jobs tables → IsMemory new.told.store (length new.history) manifest records later jobs tables
+    → IsMemory old.world.store (length old.history) manifest records held jobs tables → IsMemory new.world.store (length new.history) manifest records later jobs tables
 table_kept old new id rows strike manifest records held jobs tables later adds none is_later is =
-    behind old new (PutsTable id rows) strike manifest records later jobs tables adds (rw is_later (at (is_performed strike)))
+    kept_after_call old new (PutsTable id rows) strike manifest records later jobs tables adds (rw is_later (at (is_performed strike)))
   where
     store : Store
-    store = old.told.store
+    store = old.world.store
 
-    at : (p : Bool) → IsMemory (if p then performed (PutsTable id rows) store else store) (length old.history + 1) manifest records (if p then insert_entry nat_cmp held id rows else held) jobs tables
+    at : (p : Bool) → IsMemory (if p then after_exchange (PutsTable id rows) store else store) (length old.history + 1) manifest records (if p then insert_entry nat_cmp held id rows else held) jobs tables
     at true = record {
       manifest_is = record { same = is.manifest_is.same; views = all_map _ _ _ (named_stays store.tables (id, rows)) is.manifest_is.views };
       records_are = record { same = is.records_are.same; handles = all_map _ _ _ (described_stays store.tables (id, rows)) is.records_are.handles };
@@ -256,16 +256,16 @@ table_kept old new id rows strike manifest records held jobs tables later adds n
 
 -- A deleted table is no longer held, if the deletion stands.
 pub deletion_kept : (old new : LogParts) (id : ℕ) (strike : Strike) (manifest : VersionedManifest) (records : Option VersionedRecords) (held : Tables) (jobs tables : ℕ) (later : Tables)
-    → Adds (DeletesTable id) old new strike → IsTrue (is_held old.told.store id)
+    → Adds (DeletesTable id) old new strike → IsTrue (is_held old.world.store id)
     → later ≡ (if is_performed strike then remove_entry (is_at (nat_cmp id)) held else held)
-    → IsMemory old.told.store (length old.history) manifest records held jobs tables → IsMemory new.told.store (length new.history) manifest records later jobs tables
+    → IsMemory old.world.store (length old.history) manifest records held jobs tables → IsMemory new.world.store (length new.history) manifest records later jobs tables
 deletion_kept old new id strike manifest records held jobs tables later adds there is_later is =
-    behind old new (DeletesTable id) strike manifest records later jobs tables adds (rw is_later (at (is_performed strike)))
+    kept_after_call old new (DeletesTable id) strike manifest records later jobs tables adds (rw is_later (at (is_performed strike)))
   where
     store : Store
-    store = old.told.store
+    store = old.world.store
 
-    at : (p : Bool) → IsMemory (if p then performed (DeletesTable id) store else store) (length old.history + 1) manifest records (if p then remove_entry (is_at (nat_cmp id)) held else held) jobs tables
+    at : (p : Bool) → IsMemory (if p then after_exchange (DeletesTable id) store else store) (length old.history + 1) manifest records (if p then remove_entry (is_at (nat_cmp id)) held else held) jobs tables
     at true = record {
       manifest_is = record { same = is.manifest_is.same; views = is.manifest_is.views };
       records_are = record { same = is.records_are.same; handles = is.records_are.handles };

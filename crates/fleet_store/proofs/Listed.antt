@@ -21,15 +21,15 @@ use Rattle.fleet_store.proofs.ByIds.{at_itself, lookup_others}
 put_below : (a x : ℕ) (xs : List ℕ) → a < x → put_id a (x ∷ xs) ≡ a ∷ x ∷ xs
 put_below a x xs low = ap (λ b. if b then a ∷ x ∷ xs else x ∷ put_id a xs) (lt-ltb a x low)
 
-put_behind : (a x : ℕ) (xs : List ℕ) → x ≤ a → put_id a (x ∷ xs) ≡ x ∷ put_id a xs
-put_behind a x xs low = ap (λ b. if b then a ∷ x ∷ xs else x ∷ put_id a xs) (le-ltb a x low)
+put_after : (a x : ℕ) (xs : List ℕ) → x ≤ a → put_id a (x ∷ xs) ≡ x ∷ put_id a xs
+put_after a x xs low = ap (λ b. if b then a ∷ x ∷ xs else x ∷ put_id a xs) (le-ltb a x low)
 
 -- Two ids may be inserted in either order, the lower one being the first here.
 put_twice_from : (a b : ℕ) (xs : List ℕ) → a ≤ b → put_id a (put_id b xs) ≡ put_id b (put_id a xs)
 put_twice_from a b [] low = by (nat_lt a b) refl
   where
     by : (t : Bool) → nat_lt a b ≡ t → put_id a (b ∷ []) ≡ put_id b (a ∷ [])
-    by true is = put_below a b [] (ltb-true a b is) ∙ sym (put_behind b a [] low)
+    by true is = put_below a b [] (ltb-true a b is) ∙ sym (put_after b a [] low)
     by false is =
         let same : a ≡ b = omega (arith, low, ltb-false a b is) in
         subst (λ n. put_id a (n ∷ []) ≡ put_id n (a ∷ [])) same refl
@@ -40,18 +40,18 @@ put_twice_from a b (x ∷ xs) low = by (nat_lt b x) refl (nat_lt a x) refl (nat_
         let bx : b < x = ltb-true b x s in
         let ab : a < b = ltb-true a b u in
         let ax : a < x = omega (arith, bx, ab) in
-        ap (put_id a) (put_below b x xs bx) ∙ (put_below a b (x ∷ xs) ab ∙ sym (ap (put_id b) (put_below a x xs ax) ∙ (put_behind b a (x ∷ xs) low ∙ ap (λ l. a ∷ l) (put_below b x xs bx))))
+        ap (put_id a) (put_below b x xs bx) ∙ (put_below a b (x ∷ xs) ab ∙ sym (ap (put_id b) (put_below a x xs ax) ∙ (put_after b a (x ∷ xs) low ∙ ap (λ l. a ∷ l) (put_below b x xs bx))))
     by true s t is false u rest =
         let same : a ≡ b = omega (arith, low, ltb-false a b u) in
         subst (λ n. put_id a (put_id n (x ∷ xs)) ≡ put_id n (put_id a (x ∷ xs))) same refl
     by false s true t u is rest =
         let xb : x ≤ b = ltb-false b x s in
         let ax : a < x = ltb-true a x t in
-        ap (put_id a) (put_behind b x xs xb) ∙ (put_below a x (put_id b xs) ax ∙ sym (ap (put_id b) (put_below a x xs ax) ∙ (put_behind b a (x ∷ xs) low ∙ ap (λ l. a ∷ l) (put_behind b x xs xb))))
+        ap (put_id a) (put_after b x xs xb) ∙ (put_below a x (put_id b xs) ax ∙ sym (ap (put_id b) (put_below a x xs ax) ∙ (put_after b a (x ∷ xs) low ∙ ap (λ l. a ∷ l) (put_after b x xs xb))))
     by false s false t u is rest =
         let xb : x ≤ b = ltb-false b x s in
         let xa : x ≤ a = ltb-false a x t in
-        ap (put_id a) (put_behind b x xs xb) ∙ (put_behind a x (put_id b xs) xa ∙ (ap (λ l. x ∷ l) rest ∙ sym (ap (put_id b) (put_behind a x xs xa) ∙ put_behind b x (put_id a xs) xb)))
+        ap (put_id a) (put_after b x xs xb) ∙ (put_after a x (put_id b xs) xa ∙ (ap (λ l. x ∷ l) rest ∙ sym (ap (put_id b) (put_after a x xs xa) ∙ put_after b x (put_id a xs) xb)))
 
 put_twice : (a b : ℕ) (xs : List ℕ) → put_id a (put_id b xs) ≡ put_id b (put_id a xs)
 put_twice a b xs = by (nat_lt a b) refl
@@ -105,7 +105,7 @@ keys_inserted k v (e ∷ es) none = by (nat_cmp k e.0) refl (keys_inserted k v e
         absurd (cc found)
     by Greater is rest =
         let lower : e.0 < k = ranked k e.0 Greater is in
-        ap (λ l. e.0 ∷ l) (rest (skipped (is_at (nat_cmp k) e.0) none)) ∙ sym (put_behind k e.0 (keys_of es) (omega (arith, lower)))
+        ap (λ l. e.0 ∷ l) (rest (skipped (is_at (nat_cmp k) e.0) none)) ∙ sym (put_after k e.0 (keys_of es) (omega (arith, lower)))
       where
         skipped : (b : Bool) → cond b (Some e.1) (lookup (is_at (nat_cmp k)) es) ≡ None → lookup (is_at (nat_cmp k)) es ≡ None
         skipped true h = absurd (cc h)

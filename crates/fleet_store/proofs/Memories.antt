@@ -150,13 +150,13 @@ held_some store id = some_among id (held_tables store)
 pub taken_away : (added : Result Strike AllocError) (before between after : Tables) (id : ℕ) (rows : List Row) → false ≡ is_done added → lookup (is_at (nat_cmp id)) before ≡ None
     → between ≡ insert_entry nat_cmp before id rows → after ≡ remove_entry (is_at (nat_cmp id)) between
     → IfOk added (λ strike. after ≡ (if is_performed strike then insert_entry nat_cmp before id rows else before))
-taken_away (Err wanting) before between after id rows not_done none put gone = tt
+taken_away (Err refusal) before between after id rows not_done none put gone = tt
 taken_away (Ok strike) before between after id rows not_done none put gone =
     rw (sym not_done) (gone ∙ (ap (remove_entry (is_at (nat_cmp id))) put ∙ removed_inserted id rows before none))
 
 pub taken_away_at_last : (added : Result Strike AllocError) (before between after : Tables) (id : ℕ) (rows : List Row) → lookup (is_at (nat_cmp id)) before ≡ None
     → between ≡ insert_entry nat_cmp before id rows → after ≡ remove_entry (is_at (nat_cmp id)) between → OnErr added (after ≡ before)
-taken_away_at_last (Err wanting) before between after id rows none put gone = gone ∙ (ap (remove_entry (is_at (nat_cmp id))) put ∙ removed_inserted id rows before none)
+taken_away_at_last (Err refusal) before between after id rows none put gone = gone ∙ (ap (remove_entry (is_at (nat_cmp id))) put ∙ removed_inserted id rows before none)
 taken_away_at_last (Ok strike) before between after id rows none put gone = tt
 
 -- ---- a list of the held tables

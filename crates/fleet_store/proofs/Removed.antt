@@ -68,8 +68,8 @@ inserted_below k v (e ∷ es) h = ap (λ o. match_ordering o ((k, v) ∷ e ∷ e
 inserted_here : (k : ℕ) (v : List Row) (e : ℕ × List Row) (es : Tables) → k ≡ e.0 → insert_entry nat_cmp (e ∷ es) k v ≡ (e.0, v) ∷ es
 inserted_here k v e es same = ap (λ o. match_ordering o ((k, v) ∷ e ∷ es) ((e.0, v) ∷ es) (e ∷ insert_entry nat_cmp es k v)) (sym (nat_cmp_is k e.0 Equal same))
 
-inserted_behind : (k : ℕ) (v : List Row) (e : ℕ × List Row) (es : Tables) → e.0 < k → insert_entry nat_cmp (e ∷ es) k v ≡ e ∷ insert_entry nat_cmp es k v
-inserted_behind k v e es low = ap (λ o. match_ordering o ((k, v) ∷ e ∷ es) ((e.0, v) ∷ es) (e ∷ insert_entry nat_cmp es k v)) (sym (nat_cmp_is k e.0 Greater low))
+inserted_after : (k : ℕ) (v : List Row) (e : ℕ × List Row) (es : Tables) → e.0 < k → insert_entry nat_cmp (e ∷ es) k v ≡ e ∷ insert_entry nat_cmp es k v
+inserted_after k v e es low = ap (λ o. match_ordering o ((k, v) ∷ e ∷ es) ((e.0, v) ∷ es) (e ∷ insert_entry nat_cmp es k v)) (sym (nat_cmp_is k e.0 Greater low))
 
 -- The removed table may be inserted first.
 without_inserted : (id : ℕ) (v : List Row) (es : Tables) → Rise es → without id (insert_entry nat_cmp es id v) ≡ without id es
@@ -112,7 +112,7 @@ without_others id k v (e ∷ es) other h = by (nat_cmp k e.0) refl (id == e.0) r
     by Greater is false at rest =
         let away : id ≢ e.0 = λ same. absurd (cc (sym (eq-eqb id e.0 same) ∙ at)) in
         without_there id e (insert_entry nat_cmp es k v) away ∙ (ap (λ l. e ∷ l) rest
-        ∙ sym (ap (λ l. insert_entry nat_cmp l k v) (without_there id e es away) ∙ inserted_behind k v e (without id es) (ranked k e.0 Greater is)))
+        ∙ sym (ap (λ l. insert_entry nat_cmp l k v) (without_there id e es away) ∙ inserted_after k v e (without id es) (ranked k e.0 Greater is)))
 
 -- The tables with another id.
 abbrev others : ℕ → Tables → Tables

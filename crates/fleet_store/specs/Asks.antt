@@ -4,7 +4,7 @@ use Rattle.row_model.specs.Rows.{Row}
 use Rattle.fleet_model.specs.History.{GetManifest, GetRecords, GetTable}
 use Rattle.fleet_model.specs.Exchanges.{Exchange, Plain, DrawsJob, DrawsTable, Fault, PutsTable, ListsTables, DeletesTable, next_job_id, next_table_id, records_version}
 use Rattle.fleet_model.specs.Store.{Store}
-use Rattle.step_model.specs.Past.{Told}
+use Rattle.step_model.specs.Past.{World}
 use Rattle.step_model.specs.Lawful.{Lawful}
 use Rattle.step_model.specs.Rivals.{Caller, Rivals}
 use Rattle.fleet_rows.specs.declared.errors.SlateDBError.{SlateDBError}
@@ -18,30 +18,30 @@ use Rattle.fleet_history.specs.declared.manifest_change.ManifestChange.{Manifest
 use Rattle.fleet_history.specs.declared.note.Note.{Note}
 use Rattle.fleet_history.specs.declared.record_change.RecordChange.{RecordChange}
 use Rattle.fleet_store.specs.Called.{Called, Never, PutsNext, ShowsStored}
-use Rattle.fleet_store.specs.Exchanges.{manifest_put, records_put, noted}
+use Rattle.fleet_store.specs.Exchanges.{manifest_put, records_put, noted_exchange}
 use Rattle.fleet_store.specs.Manifests.{HasTrees, IsManifest}
 use Rattle.fleet_store.specs.Records.{AreRecords, DescribeTables}
 use Rattle.fleet_store.specs.Tables.{held_rows, held_ids}
 
 -- The call is lawful at each store that calls of others may leave.
-abbrev pub MayCall : Caller → Told → (Store → Exchange) → Type 0
-MayCall who told x = (met : Told) → Rivals who told met → Lawful who.merge who.party met (x met.store)
+abbrev pub MayCall : Caller → World → (Store → Exchange) → Type 0
+MayCall who world x = (met : World) → Rivals who world met → Lawful who.merge who.party met (x met.store)
 
 -- A put of the manifest fits each store that calls of others may leave: it is lawful, and if its version is
 -- stored, then it has the trees that the change makes of the stored ones.
-pub record ManifestPutFits (who : Caller) (told : Told) (version : ℕ) (value : Manifest) (why : ManifestChange) (jobs : List JobParts) : Type 0 where
-  pub lawful : MayCall who told (manifest_put version value why jobs)
-  pub shown : (met : Told) → Rivals who told met → version ≡ met.store.manifest.version → HasTrees value jobs (manifest_change_of why) met.store
+pub record ManifestPutFits (who : Caller) (world : World) (version : ℕ) (value : Manifest) (why : ManifestChange) (jobs : List JobParts) : Type 0 where
+  pub lawful : MayCall who world (manifest_put version value why jobs)
+  pub shown : (met : World) → Rivals who world met → version ≡ met.store.manifest.version → HasTrees value jobs (manifest_change_of why) met.store
 
 -- A put of the records fits each store that calls of others may leave: it is lawful, and if its version is
 -- stored, then it describes its tables.
-pub record RecordsPutFit (who : Caller) (told : Told) (version : ℕ) (value : Compactions) (why : RecordChange) : Type 0 where
-  pub lawful : MayCall who told (λ met. records_put version value why)
-  pub shown : (met : Told) → Rivals who told met → version ≡ records_version met.store.records → DescribeTables value.jobs met.store
+pub record RecordsPutFit (who : Caller) (world : World) (version : ℕ) (value : Compactions) (why : RecordChange) : Type 0 where
+  pub lawful : MayCall who world (λ met. records_put version value why)
+  pub shown : (met : World) → Rivals who world met → version ≡ records_version met.store.records → DescribeTables value.jobs met.store
 
--- What a call of each kind leaves and answers. `old` and `new` are what is told before and after, `before` and
+-- What a call of each kind leaves and answers. `old` and `new` are what is world before and after, `before` and
 -- `after` count the faults, and `waits` and `left` are the faults that wait.
-module _ (who : Caller) (old new : Told) (before after : ℕ) (waits left : Option Fault) where
+module _ (who : Caller) (old new : World) (before after : ℕ) (waits left : Option Fault) where
   abbrev pub GetsManifest : Result VersionedManifest SlateDBError → Type 0
   GetsManifest result = Called who old new before after waits left (λ met. Plain GetManifest) (λ met manifest. IsManifest manifest met) Never result
 
@@ -69,7 +69,7 @@ module _ (who : Caller) (old new : Told) (before after : ℕ) (waits left : Opti
   DrawsTableId moment result = Called who old new before after waits left (λ met. DrawsTable moment) (λ met id. id ≡ next_table_id moment met) Never result
 
   abbrev pub Notes : Note → Result Unit SlateDBError → Type 0
-  Notes note result = Called who old new before after waits left (λ met. noted note) (λ met done. ⊤) Never result
+  Notes note result = Called who old new before after waits left (λ met. noted_exchange note) (λ met done. ⊤) Never result
 
   abbrev pub ListsHeld : Result (List ℕ) SlateDBError → Type 0
   ListsHeld result = Called who old new before after waits left (λ met. ListsTables) (λ met ids. ids ≡ held_ids met) Never result

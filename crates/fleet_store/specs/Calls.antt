@@ -2,8 +2,8 @@
 use Rattle.std.specs.Prelude.{List, fold}
 use Rattle.fleet_model.specs.Exchanges as model
 use Rattle.fleet_model.specs.Store as model_store
-use Rattle.step_model.specs.Past.{Told, fresh_told}
-use Rattle.step_model.specs.Rivals.{told_by}
+use Rattle.step_model.specs.Past.{World, fresh_world}
+use Rattle.step_model.specs.Rivals.{after_call}
 use Rattle.fleet_history.specs.Entries.{event_of}
 use Rattle.fleet_history.specs.Parties.{party_of}
 use Rattle.fleet_store.specs.Exchanges.{manifest_put, records_put}
@@ -22,10 +22,10 @@ exchange_of (PutsRecords version value why) store = records_put version value.va
 exchange_of ListsTables store = model.ListsTables
 exchange_of (DeletesTable id) store = model.DeletesTable id
 
--- What is told after a call.
-abbrev pub told_by_call : Told → Call → Told
-told_by_call told call = told_by call.line (party_of call.party) (exchange_of call.made told.store) call.strike told
+-- What is world after a call.
+abbrev pub after_kept_call : World → Call → World
+after_kept_call world call = after_call call.line (party_of call.party) (exchange_of call.made world.store) call.strike world
 
--- What is told after these calls of a fresh store.
-abbrev pub told_of : List Call → Told
-told_of calls = fold told_by_call fresh_told calls
+-- What is world after these calls of a fresh store.
+abbrev pub world_of : List Call → World
+world_of calls = fold after_kept_call fresh_world calls

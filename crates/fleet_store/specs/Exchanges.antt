@@ -23,5 +23,5 @@ abbrev pub records_put : ℕ → Compactions → RecordChange → model.Exchange
 records_put version value why = model.PutsRecords version (record_change_of why) value.compactor_epoch (jobs_of value.jobs)
 
 -- A note.
-abbrev pub noted : Note → model.Exchange
-noted note = model.Plain (event_of (event_of_note note))
+abbrev pub noted_exchange : Note → model.Exchange
+noted_exchange note = model.Plain (event_of (event_of_note note))

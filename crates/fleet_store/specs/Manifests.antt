@@ -6,7 +6,7 @@ use Rattle.fleet_model.specs.Nodes.{Node, Segment, Trees, table_rows}
 use Rattle.fleet_model.specs.Jobs.{JobSpec}
 use Rattle.fleet_model.specs.History as model
 use Rattle.fleet_model.specs.Store as model_store
-use Rattle.fleet_model.specs.Trees.{flushed, stepped_all}
+use Rattle.fleet_model.specs.Trees.{flushed_trees, stepped_all}
 use Rattle.fleet_model.specs.Replay.{outputs_in}
 use Rattle.fleet_tree.specs.Manifests.{manifest_of}
 use Rattle.fleet_tree.specs.Trees.{trees_of, trees_with_prefix}
@@ -63,7 +63,7 @@ spec_in jobs id = spec_or_none (record_with id jobs)
 -- The trees that a change makes of the stored ones. The specs are those of the jobs that a commit does.
 abbrev pub changed_trees : (ℕ → JobSpec) → model.ManifestChange → model_store.Store → Trees
 changed_trees specs (model.ManifestEpoch epoch) store = store.manifest.trees
-changed_trees specs (model.Flush name segment floor tick) store = flushed segment name (table_rows store.tables name) store.manifest.trees
+changed_trees specs (model.Flush name segment floor tick) store = flushed_trees segment name (table_rows store.tables name) store.manifest.trees
 changed_trees specs (model.Commit steps) store = stepped_all store.tables (λ id. (specs id, outputs_in store.records id)) steps store.manifest.trees
 
 -- The model's manifest that is meant by a program's manifest which is put over this store: its trees are those

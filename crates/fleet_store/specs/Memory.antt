@@ -9,7 +9,7 @@ use Rattle.row_model.specs.Lists.{Pairs}
 use Rattle.fleet_model.specs.Nodes.{Tables, is_among}
 use Rattle.fleet_model.specs.Exchanges.{Exchange, event_of, records_version}
 use Rattle.fleet_model.specs.Store.{Store, held_tables}
-use Rattle.step_model.specs.Rivals.{Caller, Strike, told_by}
+use Rattle.step_model.specs.Rivals.{Caller, Strike, after_call}
 use Rattle.step_model.specs.CourseRuns.{HasRoom}
 use Rattle.fleet_rows.specs.declared.errors.SlateDBError.{SlateDBError}
 use Rattle.fleet_rows.specs.declared.errors.SlateDBError.TheVariants.{StoreFault, Conflict, Memory}
@@ -25,7 +25,7 @@ use Rattle.fleet_store.specs.Strikes.{is_performed, strike_by, waits_after, faul
 abbrev pub by_id : Tables → Tables
 by_id tables = fold (λ held table. insert_entry nat_cmp held table.0 table.1) [] tables
 
--- What a store in memory keeps is what is told of it. `many` is the length of its history, which bounds its
+-- What a store in memory keeps is what is world of it. `many` is the length of its history, which bounds its
 -- numbers.
 pub record IsMemory (store : Store) (many : ℕ) (manifest : VersionedManifest) (records : Option VersionedRecords) (held : Tables) (jobs_drawn tables_drawn : ℕ) : Type 0 where
   pub manifest_is : IsManifest manifest store
@@ -46,14 +46,14 @@ caller_of merge log = record { merge = merge; line = log.line; party = party_of 
 
 -- The end of a call, given the fault that struck it, if one did, and its answer without a fault.
 abbrev pub ended_of : {A : Type 0} → Result (Strike × Result A SlateDBError) AllocError → Result A SlateDBError
-ended_of (Err wanting) = Err Memory
+ended_of (Err refusal) = Err Memory
 ended_of (Ok (None, answer)) = answer
 ended_of (Ok (Some stands, answer)) = Err StoreFault
 
 -- True if the call was made and is performed.
 abbrev pub is_done : Result Strike AllocError → Bool
 is_done (Ok strike) = is_performed strike
-is_done (Err wanting) = false
+is_done (Err refusal) = false
 
 -- An answer without a fault.
 abbrev pub Fits : {A : Type 0} → (A → Type 0) → (ℕ → Type 0) → Result A SlateDBError → Type 0
@@ -63,16 +63,16 @@ Fits Gives Refuses (Err _) = ⊥
 
 -- The call was made, with this fault and this answer without a fault.
 pub record IsMade {A : Type 0} (x : Exchange) (Gives : A → Type 0) (Refuses : ℕ → Type 0) (old new : LogParts) (made : Strike × Result A SlateDBError) : Type 0 where
-  pub strike_is : made.0 ≡ strike_by (event_of x old.told.store) old.waits
-  pub told_is : new.told ≡ told_by old.line (party_of old.party) x made.0 old.told
+  pub strike_is : made.0 ≡ strike_by (event_of x old.world.store) old.waits
+  pub world_is : new.world ≡ after_call old.line (party_of old.party) x made.0 old.world
   pub line_is : new.line ≡ old.line
   pub party_is : new.party ≡ old.party
   pub faults_are : new.faults ≡ faults_after made.0 old.faults
-  pub waits_is : new.waits ≡ waits_after (event_of x old.told.store) old.waits
-  pub room : HasRoom old.told x
+  pub waits_is : new.waits ≡ waits_after (event_of x old.world.store) old.waits
+  pub room : HasRoom old.world x
   pub fits : Fits Gives Refuses made.1
 
--- The call was made, or memory was wanting and nothing changed.
+-- The call was made, or memory ran out and nothing changed.
 abbrev pub Makes : {A : Type 0} → Exchange → (A → Type 0) → (ℕ → Type 0) → (old new : LogParts) → Result (Strike × Result A SlateDBError) AllocError → Type 0
-Makes x Gives Refuses old new (Err wanting) = new ≡ old
+Makes x Gives Refuses old new (Err refusal) = new ≡ old
 Makes x Gives Refuses old new (Ok made) = IsMade x Gives Refuses old new made

@@ -1,7 +1,7 @@
 -- What a fault that strikes a call does, if one does.
 use Rattle.std.specs.Prelude.{ℕ, ◌+◌, Bool, true, false, Option, Some, None, if◌then◌else◌}
 use Rattle.fleet_model.specs.History.{Event, Answer, Lost}
-use Rattle.fleet_model.specs.Exchanges.{Exchange, Fault, performed, strikes, waiting_after, does_stand, stands_or_lost}
+use Rattle.fleet_model.specs.Exchanges.{Exchange, Fault, after_exchange, strikes, waiting_after, does_stand, stands_or_lost}
 use Rattle.fleet_model.specs.Store.{Store}
 use Rattle.step_model.specs.Rivals.{Strike}
 
@@ -31,4 +31,4 @@ is_performed (Some stands) = stands
 
 -- The store after a call, without the call's entry in the history.
 abbrev pub performed_under : Strike → Exchange → Store → Store
-performed_under strike x store = if is_performed strike then performed x store else store
+performed_under strike x store = if is_performed strike then after_exchange x store else store

@@ -5,7 +5,7 @@ ghost use Rattle.fleet_model.specs.History as model;
 ghost use Rattle.fleet_model.specs.History.{is_get_or_put};
 ghost use Rattle.fleet_history.specs.Entries.{answer_of, event_of, history_of};
 ghost use Rattle.fleet_history.specs.declared.party.Party.TheVariants.{Writer};
-ghost use Rattle.step_model.specs.Past.{fresh_told};
+ghost use Rattle.step_model.specs.Past.{fresh_world};
 ghost use Rattle.fleet_model.specs.Exchanges.{Plain, PutsTable};
 ghost use Rattle.fleet_model.specs.Exchanges as exchange;
 ghost use Rattle.fleet_store.specs.Calls.{exchange_of};
@@ -37,13 +37,13 @@ pub(crate) struct Log {
 
 impl Model for Log {
     ghost use Rattle.std.specs.Prelude.{map, option_map};
-    ghost use Rattle.fleet_store.specs.Calls.{told_of};
+    ghost use Rattle.fleet_store.specs.Calls.{world_of};
     ghost use Rattle.fleet_store.specs.Log.{LogParts, IsLog, fault_of};
 
     ghost Value = { LogParts };
 
     ghost view = { λ l. record {
-      told = told_of (map (λ s. s.value) l.calls.items);
+      world = world_of (map (λ s. s.value) l.calls.items);
       history = l.history.items;
       line = l.line;
       party = l.party;
@@ -52,14 +52,14 @@ impl Model for Log {
     } };
 
     ghost invariant = { λ l. IsLog
-        (told_of (map (λ s. s.value) l.calls.items)) l.history.items l.faults };
+        (world_of (map (λ s. s.value) l.calls.items)) l.history.items l.faults };
 }
 
 impl Log {
     /// An empty history.
     pub(crate) fn new(alloc: Global) -> Log
         ensures { result ≡ record {
-          told = fresh_told;
+          world = fresh_world;
           history = [];
           line = 0;
           party = Writer;
@@ -97,7 +97,7 @@ impl Log {
     /// The entries, oldest first.
     pub(crate) fn history(&self) -> &[HistoryEntry]
         ensures entries { result.now ≡ self.now.history }
-        ensures told { history_of result.now ≡ self.now.told.store.history }
+        ensures world { history_of result.now ≡ self.now.world.store.history }
     {
         self.history.as_slice()
     }
@@ -110,9 +110,9 @@ impl Log {
         event: Event,
         answer: Answer,
     ) -> Result<Option<bool>, AllocError>
-        requires { IsCall made event answer self.old.told }
+        requires { IsCall made event answer self.old.world }
         ensures ok { IfOk result
-            (Adds (exchange_of made self.old.told.store) self.old self.new) }
+            (Adds (exchange_of made self.old.world.store) self.old self.new) }
         ensures err { OnErr result (self.new ≡ self.old) }
     {
         let counts = event.is_get_or_put();
@@ -145,7 +145,7 @@ impl Log {
     /// The number of entries.
     pub(crate) fn len(&self) -> u64
         ensures value { result ≡ length self.now.history }
-        ensures told { length self.now.told.store.history ≡ length self.now.history }
+        ensures world { length self.now.world.store.history ≡ length self.now.history }
         ensures bound { length self.now.history ≤ 2 ^ 62 }
     {
         self.history.len() as u64
@@ -158,7 +158,7 @@ impl Log {
         answer: Answer,
     ) -> Result<Option<bool>, AllocError>
         requires { answer_of answer
-            ≡ exchange.answer_of (Plain (event_of event)) self.old.told.store }
+            ≡ exchange.answer_of (Plain (event_of event)) self.old.world.store }
         ensures ok { IfOk result (Adds (Plain (event_of event)) self.old self.new) }
         ensures err { OnErr result (self.new ≡ self.old) }
     {
@@ -191,9 +191,9 @@ impl Log {
         answer: Answer,
     ) -> Result<Option<bool>, AllocError>
         requires { answer_of answer
-            ≡ exchange.put_answer version self.old.told.store.manifest.version }
+            ≡ exchange.put_answer version self.old.world.store.manifest.version }
         ensures ok { IfOk result (Adds
-            (manifest_put version value.now why jobs.now.jobs self.old.told.store)
+            (manifest_put version value.now why jobs.now.jobs self.old.world.store)
             self.old self.new) }
         ensures err { OnErr result (self.new ≡ self.old) }
     {
@@ -216,7 +216,7 @@ impl Log {
     ) -> Result<Option<bool>, AllocError>
         requires { answer_of answer
             ≡ exchange.put_answer version
-            (exchange.records_version self.old.told.store.records) }
+            (exchange.records_version self.old.world.store.records) }
         ensures ok { IfOk result (Adds (records_put version value.now why) self.old self.new) }
         ensures err { OnErr result (self.new ≡ self.old) }
     {

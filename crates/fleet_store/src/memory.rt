@@ -13,10 +13,10 @@ ghost use Rattle.fleet_model.specs.Store.{fresh_store, is_held};
 ghost use Rattle.fleet_history.specs.Changes.{manifest_change_of};
 ghost use Rattle.fleet_history.specs.Entries.{answer_of, history_of};
 ghost use Rattle.fleet_history.specs.declared.party.Party.TheVariants.{Writer};
-ghost use Rattle.step_model.specs.Past.{fresh_told};
+ghost use Rattle.step_model.specs.Past.{fresh_world};
 ghost use Rattle.fleet_book.specs.Versions.{records_of};
 ghost use Rattle.fleet_store.specs.Called.{Never, PutsNext, ShowsStored};
-ghost use Rattle.fleet_store.specs.Exchanges.{manifest_put, noted, records_put};
+ghost use Rattle.fleet_store.specs.Exchanges.{manifest_put, noted_exchange, records_put};
 ghost use Rattle.fleet_store.specs.Log.{Adds};
 ghost use Rattle.fleet_store.specs.Manifests.{HasTrees, IsManifest};
 ghost use Rattle.fleet_store.specs.Memory.{Fits, Makes, ended_of, is_done};
@@ -42,7 +42,7 @@ use std::snapshot::Snapshot;
 /// a call that is struck is still one entry of the history.
 pub(crate) type Outcome<T> = Result<(Option<bool>, Result<T, SlateDBError>), AllocError>;
 
-/// A store in memory. Contracts see what is told of it.
+/// A store in memory. Contracts see what is world of it.
 #[derive(Drop)]
 pub struct MemStore {
     log: Log,
@@ -62,7 +62,7 @@ impl Model for MemStore {
 
     ghost view = { λ m. m.log };
 
-    ghost invariant = { λ m. IsMemory m.log.told.store (length m.log.history)
+    ghost invariant = { λ m. IsMemory m.log.world.store (length m.log.history)
         m.manifest m.records m.tables.entries m.jobs_drawn m.tables_drawn };
 }
 
@@ -70,7 +70,7 @@ impl MemStore {
     /// A fresh store. Its manifest has an empty root tree, and it has no records.
     pub fn new(alloc: Global) -> Result<MemStore, SlateDBError>
         ensures store { IfOk result (λ store. store ≡ record {
-          told = fresh_told;
+          world = fresh_world;
           history = [];
           line = 0;
           party = Writer;
@@ -91,21 +91,21 @@ impl MemStore {
 
     /// The manifest, looked at without a call.
     pub fn manifest(&self) -> &VersionedManifest
-        ensures { IsManifest result.now self.now.told.store }
+        ensures { IsManifest result.now self.now.world.store }
     {
         &self.manifest
     }
 
     /// The records, looked at without a call, or None if there are none.
     pub fn records(&self) -> Option<&VersionedCompactions>
-        ensures { AreRecords (option_copied result) self.now.told.store }
+        ensures { AreRecords (option_copied result) self.now.world.store }
     {
         self.records.as_ref()
     }
 
     /// The table with this id, looked at without a call, or None if it is not held.
     pub fn table(&self, id: Ulid) -> Option<&TableData>
-        ensures { option_copied result ≡ held_rows id self.now.told.store }
+        ensures { option_copied result ≡ held_rows id self.now.world.store }
     {
         self.tables.get(&id)
     }
@@ -113,7 +113,7 @@ impl MemStore {
     /// The history.
     pub fn history(&self) -> &[HistoryEntry]
         ensures entries { result.now ≡ self.now.history }
-        ensures told { history_of result.now ≡ self.now.told.store.history }
+        ensures world { history_of result.now ≡ self.now.world.store.history }
     {
         self.log.history()
     }
@@ -137,8 +137,8 @@ impl MemStore {
 
     pub(crate) fn make_get_manifest(&mut self) -> Outcome<VersionedManifest>
         ensures { Makes (Plain event.GetManifest)
-            (λ manifest. IsManifest manifest self.old.told.store)
-            (Never self.old.told.store) self.old self.new result }
+            (λ manifest. IsManifest manifest self.old.world.store)
+            (Never self.old.world.store) self.old self.new result }
     {
         let copy = Clone::clone(&self.manifest)?;
         let answer = Answer::Done(copy.id);
@@ -153,11 +153,11 @@ impl MemStore {
         why: ManifestChange,
         jobs: &Compactions,
     ) -> Outcome<u64>
-        requires { version ≡ self.old.told.store.manifest.version
-            → HasTrees value jobs.now.jobs (manifest_change_of why) self.old.told.store }
-        ensures { Makes (manifest_put version value why jobs.now.jobs self.old.told.store)
-            (PutsNext version self.old.told.store.manifest.version)
-            (ShowsStored version self.old.told.store.manifest.version)
+        requires { version ≡ self.old.world.store.manifest.version
+            → HasTrees value jobs.now.jobs (manifest_change_of why) self.old.world.store }
+        ensures { Makes (manifest_put version value why jobs.now.jobs self.old.world.store)
+            (PutsNext version self.old.world.store.manifest.version)
+            (ShowsStored version self.old.world.store.manifest.version)
             self.old self.new result }
     {
         let _many = self.log.len();
@@ -171,8 +171,8 @@ impl MemStore {
 
     pub(crate) fn make_get_records(&mut self) -> Outcome<Option<VersionedCompactions>>
         ensures { Makes (Plain event.GetRecords)
-            (λ records. AreRecords records self.old.told.store)
-            (Never self.old.told.store) self.old self.new result }
+            (λ records. AreRecords records self.old.world.store)
+            (Never self.old.world.store) self.old self.new result }
     {
         let copy = copied(&self.records)?;
         let answer = records_answer(&self.records);
@@ -186,11 +186,11 @@ impl MemStore {
         value: Compactions,
         why: RecordChange,
     ) -> Outcome<u64>
-        requires { version ≡ records_version self.old.told.store.records
-            → DescribeTables value.jobs self.old.told.store }
+        requires { version ≡ records_version self.old.world.store.records
+            → DescribeTables value.jobs self.old.world.store }
         ensures { Makes (records_put version value why)
-            (PutsNext version (records_version self.old.told.store.records))
-            (ShowsStored version (records_version self.old.told.store.records))
+            (PutsNext version (records_version self.old.world.store.records))
+            (ShowsStored version (records_version self.old.world.store.records))
             self.old self.new result }
     {
         let _many = self.log.len();
@@ -203,8 +203,8 @@ impl MemStore {
     }
 
     pub(crate) fn make_draw_job(&mut self, moment: u64) -> Outcome<Ulid>
-        ensures { Makes (DrawsJob moment) (λ id. id ≡ next_job_id moment self.old.told.store)
-            (Never self.old.told.store) self.old self.new result }
+        ensures { Makes (DrawsJob moment) (λ id. id ≡ next_job_id moment self.old.world.store)
+            (Never self.old.world.store) self.old self.new result }
     {
         let _many = self.log.len();
         let number = self.jobs_drawn + 1;
@@ -216,8 +216,8 @@ impl MemStore {
     }
 
     pub(crate) fn make_draw_table(&mut self, moment: u64) -> Outcome<Ulid>
-        ensures { Makes (DrawsTable moment) (λ id. id ≡ next_table_id moment self.old.told.store)
-            (Never self.old.told.store) self.old self.new result }
+        ensures { Makes (DrawsTable moment) (λ id. id ≡ next_table_id moment self.old.world.store)
+            (Never self.old.world.store) self.old self.new result }
     {
         let _many = self.log.len();
         let number = self.tables_drawn + 1;
@@ -229,7 +229,7 @@ impl MemStore {
     }
 
     pub(crate) fn make_note(&mut self, note: Note) -> Outcome<()>
-        ensures { Makes (noted note) (λ done. ⊤) (Never self.old.told.store)
+        ensures { Makes (noted_exchange note) (λ done. ⊤) (Never self.old.world.store)
             self.old self.new result }
     {
         let strike = self.log.add_plain(note.into_event(), Answer::Done(0))?;
@@ -239,8 +239,8 @@ impl MemStore {
 
 impl MemStore {
     pub(crate) fn make_put_table(&mut self, id: Ulid, table: TableData) -> Outcome<()>
-        requires { is_among self.old.told.store.tables id ≡ false }
-        ensures { Makes (PutsTable id table) (λ done. ⊤) (Never self.old.told.store)
+        requires { is_among self.old.world.store.tables id ≡ false }
+        ensures { Makes (PutsTable id table) (λ done. ⊤) (Never self.old.world.store)
             self.old self.new result }
     {
         let strike = hold(&mut self.log, &mut self.tables, id, table)?;
@@ -249,8 +249,8 @@ impl MemStore {
 
     pub(crate) fn make_get_table(&mut self, id: Ulid) -> Outcome<Option<TableData>>
         ensures { Makes (Plain (event.GetTable id))
-            (λ rows. rows ≡ held_rows id self.old.told.store)
-            (Never self.old.told.store) self.old self.new result }
+            (λ rows. rows ≡ held_rows id self.old.world.store)
+            (Never self.old.world.store) self.old self.new result }
     {
         let table = table_copy(&self.tables, id)?;
         let answer = table_answer(&table);
@@ -259,8 +259,8 @@ impl MemStore {
     }
 
     pub(crate) fn make_list_tables(&mut self, alloc: Global) -> Outcome<JobList>
-        ensures { Makes ListsTables (λ ids. ids ≡ held_ids self.old.told.store)
-            (Never self.old.told.store) self.old self.new result }
+        ensures { Makes ListsTables (λ ids. ids ≡ held_ids self.old.world.store)
+            (Never self.old.world.store) self.old self.new result }
     {
         let ids = JobList::from_vec(ids_of(alloc, &self.tables)?);
         let count = ids.len();
@@ -274,8 +274,8 @@ impl MemStore {
 
 impl MemStore {
     pub(crate) fn make_delete_table(&mut self, id: Ulid) -> Outcome<()>
-        requires { IsTrue (is_held self.old.told.store id) }
-        ensures { Makes (DeletesTable id) (λ done. ⊤) (Never self.old.told.store)
+        requires { IsTrue (is_held self.old.world.store id) }
+        ensures { Makes (DeletesTable id) (λ done. ⊤) (Never self.old.world.store)
             self.old self.new result }
     {
         let made = Made::DeletesTable(id);

@@ -2,10 +2,10 @@
 
 ghost use Rattle.std.specs.Prelude.{◌≡◌, ℕ, Option};
 ghost use Rattle.fleet_model.specs.Exchanges.{DeletesTable, Fault, PutsTable};
-ghost use Rattle.step_model.specs.Past.{Told};
+ghost use Rattle.step_model.specs.Past.{World};
 ghost use Rattle.step_model.specs.Rivals.{Caller};
 ghost use Rattle.fleet_store.specs.Asks as asks;
-ghost use Rattle.fleet_store.specs.Exchanges.{noted};
+ghost use Rattle.fleet_store.specs.Exchanges.{noted_exchange};
 
 use fleet_book::{Compactions, VersionedCompactions};
 use fleet_history::{ManifestChange, Note, RecordChange};
@@ -19,8 +19,8 @@ use std::alloc::Global;
 /// and a deletion must be lawful whatever store those leave. `StoreFault` comes only if a fault
 /// struck the call, which then may have taken effect or not.
 pub trait Store {
-    /// What is told of the store: all that it has, with each manifest that it ever had.
-    ghost told: { Self → Told };
+    /// What is world of the store: all that it has, with each manifest that it ever had.
+    ghost world: { Self → World };
 
     /// Who calls: the operator under which rows are merged, the line and the party of the entries,
     /// and whether nobody else calls.
@@ -40,7 +40,7 @@ pub trait Store {
 
     /// The manifest.
     fn get_manifest(&mut self) -> Result<VersionedManifest, SlateDBError>
-        ensures gets { asks.GetsManifest (who self.old) (told self.old) (told self.new)
+        ensures gets { asks.GetsManifest (who self.old) (world self.old) (world self.new)
             (faults self.old) (faults self.new) (waits self.old) (waits self.new)
             result }
         ensures same_who { who self.new ≡ who self.old }
@@ -56,9 +56,9 @@ pub trait Store {
         why: ManifestChange,
         jobs: &Compactions,
     ) -> Result<u64, SlateDBError>
-        requires { asks.ManifestPutFits (who self.old) (told self.old) version value why
+        requires { asks.ManifestPutFits (who self.old) (world self.old) version value why
             jobs.now.jobs }
-        ensures puts { asks.PutsManifest (who self.old) (told self.old) (told self.new)
+        ensures puts { asks.PutsManifest (who self.old) (world self.old) (world self.new)
             (faults self.old) (faults self.new) (waits self.old) (waits self.new)
             version value why jobs.now.jobs result }
         ensures same_who { who self.new ≡ who self.old }
@@ -67,7 +67,7 @@ pub trait Store {
 
     /// The job records, or None if there are none.
     fn get_records(&mut self) -> Result<Option<VersionedCompactions>, SlateDBError>
-        ensures gets { asks.GetsRecords (who self.old) (told self.old) (told self.new)
+        ensures gets { asks.GetsRecords (who self.old) (world self.old) (world self.new)
             (faults self.old) (faults self.new) (waits self.old) (waits self.new)
             result }
         ensures same_who { who self.new ≡ who self.old }
@@ -82,8 +82,8 @@ pub trait Store {
         value: Compactions,
         why: RecordChange,
     ) -> Result<u64, SlateDBError>
-        requires { asks.RecordsPutFit (who self.old) (told self.old) version value why }
-        ensures puts { asks.PutsRecords (who self.old) (told self.old) (told self.new)
+        requires { asks.RecordsPutFit (who self.old) (world self.old) version value why }
+        ensures puts { asks.PutsRecords (who self.old) (world self.old) (world self.new)
             (faults self.old) (faults self.new) (waits self.old) (waits self.new)
             version value why result }
         ensures same_who { who self.new ≡ who self.old }
@@ -92,8 +92,8 @@ pub trait Store {
 
     /// Puts a table under an id under which none was ever put.
     fn put_table(&mut self, id: Ulid, table: TableData) -> Result<(), SlateDBError>
-        requires { asks.MayCall (who self.old) (told self.old) (λ met. PutsTable id table) }
-        ensures puts { asks.PutsTableRows (who self.old) (told self.old) (told self.new)
+        requires { asks.MayCall (who self.old) (world self.old) (λ met. PutsTable id table) }
+        ensures puts { asks.PutsTableRows (who self.old) (world self.old) (world self.new)
             (faults self.old) (faults self.new) (waits self.old) (waits self.new)
             id table result }
         ensures same_who { who self.new ≡ who self.old }
@@ -102,7 +102,7 @@ pub trait Store {
 
     /// The table with this id, or None if it is not held.
     fn get_table(&mut self, id: Ulid) -> Result<Option<TableData>, SlateDBError>
-        ensures gets { asks.GetsTable (who self.old) (told self.old) (told self.new)
+        ensures gets { asks.GetsTable (who self.old) (world self.old) (world self.new)
             (faults self.old) (faults self.new) (waits self.old) (waits self.new)
             id result }
         ensures same_who { who self.new ≡ who self.old }
@@ -112,7 +112,7 @@ pub trait Store {
     /// A new id for a job, with this moment in milliseconds. If the history has no room for the
     /// draw, the error is `Memory`.
     fn draw_job(&mut self, moment: u64) -> Result<Ulid, SlateDBError>
-        ensures draws { asks.DrawsJobId (who self.old) (told self.old) (told self.new)
+        ensures draws { asks.DrawsJobId (who self.old) (world self.old) (world self.new)
             (faults self.old) (faults self.new) (waits self.old) (waits self.new)
             moment result }
         ensures same_who { who self.new ≡ who self.old }
@@ -121,8 +121,8 @@ pub trait Store {
 
     /// Adds a note to the history.
     fn note(&mut self, note: Note) -> Result<(), SlateDBError>
-        requires { asks.MayCall (who self.old) (told self.old) (λ met. noted note) }
-        ensures notes { asks.Notes (who self.old) (told self.old) (told self.new)
+        requires { asks.MayCall (who self.old) (world self.old) (λ met. noted_exchange note) }
+        ensures notes { asks.Notes (who self.old) (world self.old) (world self.new)
             (faults self.old) (faults self.new) (waits self.old) (waits self.new)
             note result }
         ensures same_who { who self.new ≡ who self.old }
@@ -132,7 +132,7 @@ pub trait Store {
     /// A new id for a table, with this moment in milliseconds. If the history has no room for the
     /// draw, the error is `Memory`.
     fn draw_table(&mut self, moment: u64) -> Result<Ulid, SlateDBError>
-        ensures draws { asks.DrawsTableId (who self.old) (told self.old) (told self.new)
+        ensures draws { asks.DrawsTableId (who self.old) (world self.old) (world self.new)
             (faults self.old) (faults self.new) (waits self.old) (waits self.new)
             moment result }
         ensures same_who { who self.new ≡ who self.old }
@@ -144,7 +144,7 @@ pub trait Store {
 pub trait SweepStore: Store {
     /// The ids of the tables that are held, in rising order.
     fn list_tables(&mut self, alloc: Global) -> Result<JobList, SlateDBError>
-        ensures lists { asks.ListsHeld (Self.who self.old) (Self.told self.old) (Self.told self.new)
+        ensures lists { asks.ListsHeld (Self.who self.old) (Self.world self.old) (Self.world self.new)
             (Self.faults self.old) (Self.faults self.new)
             (Self.waits self.old) (Self.waits self.new) result }
         ensures same_who { Self.who self.new ≡ Self.who self.old }
@@ -153,8 +153,8 @@ pub trait SweepStore: Store {
 
     /// Deletes a table that is held.
     fn delete_table(&mut self, id: Ulid) -> Result<(), SlateDBError>
-        requires { asks.MayCall (Self.who self.old) (Self.told self.old) (λ met. DeletesTable id) }
-        ensures deletes { asks.Deletes (Self.who self.old) (Self.told self.old) (Self.told self.new)
+        requires { asks.MayCall (Self.who self.old) (Self.world self.old) (λ met. DeletesTable id) }
+        ensures deletes { asks.Deletes (Self.who self.old) (Self.world self.old) (Self.world self.new)
             (Self.faults self.old) (Self.faults self.new)
             (Self.waits self.old) (Self.waits self.new) id result }
         ensures same_who { Self.who self.new ≡ Self.who self.old }

@@ -61,7 +61,7 @@ impl<O: MergeOperator> Store for Under<'_, '_, O> {
     ghost use Rattle.fleet_store.specs.Memory.{caller_of};
     ghost use Rattle.fleet_store.specs.Under.{lent_of, operator_of, store_of};
 
-    ghost told = { λ u. (store_of u).told };
+    ghost world = { λ u. (store_of u).world };
 
     ghost who = { λ u. caller_of (O.merged (O.settings (operator_of u))) (store_of u) };
 

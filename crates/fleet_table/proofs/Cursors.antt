@@ -6,9 +6,9 @@ use Rattle.std.proofs.lemmas.Grind.{flat_map-append}
 use Rattle.std.proofs.lemmas.Option.{slice_get-map}
 use Rattle.std.proofs.lemmas.List.{append_assoc, length-append, length-drop, take-append-drop, take_all, take_at}
 use Rattle.row_model.specs.Rows.{Row}
-use Rattle.row_model.specs.Sizes.{Block, blocks, estimated_size, saturated}
+use Rattle.row_model.specs.Sizes.{Block, blocks, estimated_size, saturated_sum}
 use Rattle.row_model.specs.TableBytes.{blocks_of_rows, bytes_of_blocks, row_bytes, rows_bytes, table_bytes, IsWritable}
-use Rattle.fleet_block.specs.Finds.{joined}
+use Rattle.fleet_block.specs.Finds.{joined_rows}
 use Rattle.fleet_block.specs.Laws.{index_from, rows_place}
 use Rattle.fleet_block.specs.Places.{places_from}
 use Rattle.fleet_block.specs.declared.place.BlockPlace.{BlockPlace}
@@ -23,7 +23,7 @@ use Rattle.fleet_table.specs.declared.cursor.Cursor.{Cursor}
 
 -- ---- lists
 
-joined-append : (xs ys : List (List Row)) → joined (xs ++ ys) ≡ joined xs ++ joined ys
+joined-append : (xs ys : List (List Row)) → joined_rows (xs ++ ys) ≡ joined_rows xs ++ joined_rows ys
 joined-append xs ys = flat_map-append (λ (rows : List Row). rows) xs ys
 
 some_at : {A : Type 0} (front : List A) (x : A) (later : List A) (i : ℕ) → i ≡ length front → slice_get (front ++ x ∷ later) i ≡ Some x
@@ -45,30 +45,30 @@ module _ (rows : List Row) where
   cut = blocks_of_rows 0 rows
 
   module _ (before : List (List Row)) (here : List Row) (after : List (List Row)) (all : blocks_of_rows 0 rows ≡ before ++ here ∷ after) (block : ℕ) (at : block ≡ length before) where
-    pub before_is : rows_before block rows ≡ length (joined before)
-    before_is = ap (λ bs. length (joined (take block bs))) all ∙ ap (λ bs. length (joined bs)) (take_at before (here ∷ after) block (sym at))
+    pub before_is : rows_before block rows ≡ length (joined_rows before)
+    before_is = ap (λ bs. length (joined_rows (take block bs))) all ∙ ap (λ bs. length (joined_rows bs)) (take_at before (here ∷ after) block (sym at))
 
     through : blocks_of_rows 0 rows ≡ (before ++ here ∷ []) ++ after
     through = all ∙ sym (append_assoc before (here ∷ []) after)
 
-    pub before_next : rows_before (block + 1) rows ≡ length (joined before) + length here
+    pub before_next : rows_before (block + 1) rows ≡ length (joined_rows before) + length here
     before_next =
         let two : length (before ++ here ∷ []) ≡ block + 1 = length-append before (here ∷ []) ∙ omega (arith, at) in
-        let parts = length-append (joined before) (here ++ []) in
+        let parts = length-append (joined_rows before) (here ++ []) in
         let one = length-append here [] in
-        ap (λ bs. length (joined (take (block + 1) bs))) through
-        ∙ ap (λ bs. length (joined bs)) (take_at (before ++ here ∷ []) after (block + 1) two)
+        ap (λ bs. length (joined_rows (take (block + 1) bs))) through
+        ∙ ap (λ bs. length (joined_rows bs)) (take_at (before ++ here ∷ []) after (block + 1) two)
         ∙ ap length (joined-append before (here ∷ []))
         ∙ omega (arith, parts, one)
 
-    pub rows_are : rows ≡ joined before ++ (here ++ joined after)
-    rows_are = sym (joined_blocks 0 rows) ∙ ap joined all ∙ joined-append before (here ∷ after)
+    pub rows_are : rows ≡ joined_rows before ++ (here ++ joined_rows after)
+    rows_are = sym (joined_blocks 0 rows) ∙ ap joined_rows all ∙ joined-append before (here ∷ after)
 
     pub here_some : here ≢ []
     here_some = all_in (λ (b : List Row). b ≢ []) before here after (subst (AllByRecursion (λ (b : List Row). b ≢ [])) all (rows_are_cut_into_blocks rows).filled)
 
   pub before_end : (block : ℕ) → length (blocks_of_rows 0 rows) ≤ block → rows_before block rows ≡ length rows
-  before_end block behind = ap (λ bs. length (joined bs)) (take_all block (blocks_of_rows 0 rows) behind) ∙ ap length (joined_blocks 0 rows)
+  before_end block bytes_after = ap (λ bs. length (joined_rows bs)) (take_all block (blocks_of_rows 0 rows) bytes_after) ∙ ap length (joined_blocks 0 rows)
 
   pub before_start : (places : List BlockPlace) (block : ℕ) (p d : BlockPlace) → places ≡ places_from 0 0 (blocks_of_rows 0 rows) → block < length places → p ≡ slice_index_or places block d → p.row ≡ rows_before block rows
   before_start places block p d are within is =
@@ -83,7 +83,7 @@ module _ (rows : List Row) where
   block_bytes_at before here after all place at =
       ap (λ bs. drop place (bytes_of_blocks bs)) all ∙ ap (λ n. drop n (bytes_of_blocks (before ++ here ∷ after))) at ∙ blocks_stand_in_bytes before after here
 
-  first_stands : (before : List (List Row)) (here : List Row) (after : List (List Row)) → blocks_of_rows 0 rows ≡ before ++ here ∷ after → here ≢ [] → (cursor : Cursor) → cursor.block ≡ length before → cursor.row ≡ length (joined before)
+  first_stands : (before : List (List Row)) (here : List Row) (after : List (List Row)) → blocks_of_rows 0 rows ≡ before ++ here ∷ after → here ≢ [] → (cursor : Cursor) → cursor.block ≡ length before → cursor.row ≡ length (joined_rows before)
       → drop cursor.place (table_bytes rows) ≡ rows_bytes here ++ flat_map rows_bytes after → StandsAt rows cursor
   first_stands before [] after all some cursor block row place = absurd (some refl)
   first_stands before (r ∷ later) after all some cursor block row place = record {
@@ -116,25 +116,25 @@ module _ (rows : List Row) where
       omega (arith, all, length-drop place bytes)
 
   module _ (cursor : Cursor) (at : StandsAt rows cursor) where
-    split : rows ≡ (joined at.before ++ at.front) ++ at.here ∷ (at.later ++ joined at.after)
+    split : rows ≡ (joined_rows at.before ++ at.front) ++ at.here ∷ (at.later ++ joined_rows at.after)
     split =
         rows_are at.before (at.front ++ at.here ∷ at.later) at.after at.all cursor.block at.block
-        ∙ ap (λ xs. joined at.before ++ xs) (append_assoc at.front (at.here ∷ at.later) (joined at.after))
-        ∙ sym (append_assoc (joined at.before) at.front (at.here ∷ (at.later ++ joined at.after)))
+        ∙ ap (λ xs. joined_rows at.before ++ xs) (append_assoc at.front (at.here ∷ at.later) (joined_rows at.after))
+        ∙ sym (append_assoc (joined_rows at.before) at.front (at.here ∷ (at.later ++ joined_rows at.after)))
 
-    ahead : cursor.row ≡ length (joined at.before ++ at.front)
-    ahead = at.row ∙ sym (length-append (joined at.before) at.front)
+    ahead : cursor.row ≡ length (joined_rows at.before ++ at.front)
+    ahead = at.row ∙ sym (length-append (joined_rows at.before) at.front)
 
     pub row_there : slice_get rows cursor.row ≡ Some at.here
-    row_there = ap (λ rs. slice_get rs cursor.row) split ∙ some_at (joined at.before ++ at.front) at.here (at.later ++ joined at.after) cursor.row ahead
+    row_there = ap (λ rs. slice_get rs cursor.row) split ∙ some_at (joined_rows at.before ++ at.front) at.here (at.later ++ joined_rows at.after) cursor.row ahead
 
     pub writable_there : AllByRecursion IsWritable rows → IsWritable at.here
-    writable_there fits = all_in IsWritable (joined at.before ++ at.front) at.here (at.later ++ joined at.after) (subst (AllByRecursion IsWritable) split fits)
+    writable_there fits = all_in IsWritable (joined_rows at.before ++ at.front) at.here (at.later ++ joined_rows at.after) (subst (AllByRecursion IsWritable) split fits)
 
-    pub start_row : rows_before cursor.block rows ≡ length (joined at.before)
+    pub start_row : rows_before cursor.block rows ≡ length (joined_rows at.before)
     start_row = before_is at.before (at.front ++ at.here ∷ at.later) at.after at.all cursor.block at.block
 
-    pub end_row : rows_before (cursor.block + 1) rows ≡ length (joined at.before) + (length at.front + (1 + length at.later))
+    pub end_row : rows_before (cursor.block + 1) rows ≡ length (joined_rows at.before) + (length at.front + (1 + length at.later))
     end_row =
         let parts = length-append at.front (at.here ∷ at.later) in
         before_next at.before (at.front ++ at.here ∷ at.later) at.after at.all cursor.block at.block ∙ omega (arith, parts)
@@ -149,7 +149,7 @@ module _ (rows : List Row) where
     pub row_within : cursor.row < length rows
     row_within =
         let all = ap length split in
-        let parts = length-append (joined at.before ++ at.front) (at.here ∷ (at.later ++ joined at.after)) in
+        let parts = length-append (joined_rows at.before ++ at.front) (at.here ∷ (at.later ++ joined_rows at.after)) in
         let here = ahead in
         omega (arith, all, parts, here)
 
@@ -158,9 +158,9 @@ module _ (rows : List Row) where
     rest_none : at.later ≡ [] → at.after ≡ [] → cursor.row + 1 ≡ length rows
     rest_none none last =
         let all = ap length split in
-        let parts = length-append (joined at.before ++ at.front) (at.here ∷ (at.later ++ joined at.after)) in
-        let few = ap length (ap (λ xs. xs ++ joined at.after) none) in
-        let end = ap (λ bs. length (joined bs)) last in
+        let parts = length-append (joined_rows at.before ++ at.front) (at.here ∷ (at.later ++ joined_rows at.after)) in
+        let few = ap length (ap (λ xs. xs ++ joined_rows at.after) none) in
+        let end = ap (λ bs. length (joined_rows bs)) last in
         let here = ahead in
         omega (arith, all, parts, here, few, end)
 
@@ -200,7 +200,7 @@ module _ (rows : List Row) where
           let front = length-append at.front (at.here ∷ []) in
           let ended = length-append (at.front ++ at.here ∷ []) [] in
           let all_rows = ap length (joined-append at.before ((at.front ++ at.here ∷ []) ∷ [])) in
-          let parts = length-append (joined at.before) ((at.front ++ at.here ∷ []) ++ []) in
+          let parts = length-append (joined_rows at.before) ((at.front ++ at.here ∷ []) ++ []) in
           let number = at.block in
           let row = at.row in
           first_stands before block after (closed none block after is) (here_some before block after (closed none block after is) (length before) refl) _
@@ -221,12 +221,12 @@ module _ (rows : List Row) where
       pub next_new : cursor.row + 1 ≡ rows_before (cursor.block + 1) rows → IsCursor rows (record { block = cursor.block + 1; row = cursor.row + 1; place = place })
       next_new last = (omega (arith, row_within), λ more. by at.later refl more)
         where
-          behind : at.later ≡ [] → (after : List (List Row)) → at.after ≡ after → cursor.row + 1 < length rows → StandsAt rows (record { block = cursor.block + 1; row = cursor.row + 1; place = place })
-          behind none [] is more = let end = rest_none none is in absurd (omega (arith, end, more))
-          behind none (block ∷ after) is more = next_block none block after is
+          bytes_after : at.later ≡ [] → (after : List (List Row)) → at.after ≡ after → cursor.row + 1 < length rows → StandsAt rows (record { block = cursor.block + 1; row = cursor.row + 1; place = place })
+          bytes_after none [] is more = let end = rest_none none is in absurd (omega (arith, end, more))
+          bytes_after none (block ∷ after) is more = next_block none block after is
 
           by : (later : List Row) → at.later ≡ later → cursor.row + 1 < length rows → StandsAt rows (record { block = cursor.block + 1; row = cursor.row + 1; place = place })
-          by [] none more = behind none at.after refl more
+          by [] none more = bytes_after none at.after refl more
           by (r ∷ later) is more =
               let end = end_row in
               let many = ap length is in
@@ -234,24 +234,24 @@ module _ (rows : List Row) where
               absurd (omega (arith, end, many, row, last))
 
 -- The start of a block is within the bytes.
-pub start_within : (rows told : List Row) (bytes : List ℕ) (places : List BlockPlace) (block count : ℕ) (p d : BlockPlace) → told ≡ rows → bytes ≡ table_bytes told → places ≡ places_from 0 0 (blocks_of_rows 0 rows) → block < length places → p ≡ slice_index_or places block d
+pub start_within : (rows held : List Row) (bytes : List ℕ) (places : List BlockPlace) (block count : ℕ) (p d : BlockPlace) → held ≡ rows → bytes ≡ table_bytes held → places ≡ places_from 0 0 (blocks_of_rows 0 rows) → block < length places → p ≡ slice_index_or places block d
     → count ≡ length places → 8 + 10 * count + p.place < length bytes
-start_within rows told bytes places block count p d same spelt are within is counted =
+start_within rows held bytes places block count p d same spelt are within is counted =
     let at = start_stands rows places block count p d are within is counted in
     let place = place_within rows (key_after at.front) at.here _ (table_bytes rows) _ at.place in
     let all = ap length (spelt ∙ ap table_bytes same) in
     omega (arith, place, all)
 
 -- What follows the row at a cursor.
-abbrev pub behind : (rows : List Row) (cursor : Cursor) → StandsAt rows cursor → List ℕ
-behind rows cursor at = flat_map (row_bytes (key_after (at.front ++ at.here ∷ []))) at.later ++ flat_map rows_bytes at.after
+abbrev pub bytes_after : (rows : List Row) (cursor : Cursor) → StandsAt rows cursor → List ℕ
+bytes_after rows cursor at = flat_map (row_bytes (key_after (at.front ++ at.here ∷ []))) at.later ++ flat_map rows_bytes at.after
 
-pub read_there : (rows told : List Row) (bytes first : List ℕ) (cursor : Cursor) (at : StandsAt rows cursor) → told ≡ rows → bytes ≡ table_bytes told → first ≡ key_after at.front → drop cursor.place bytes ≡ row_bytes first at.here ++ behind rows cursor at
-read_there rows told bytes first cursor at same spelt named =
-    ap (drop cursor.place) (spelt ∙ ap table_bytes same) ∙ at.place ∙ ap (λ (k : List ℕ). row_bytes k at.here ++ behind rows cursor at) (sym named)
+pub read_there : (rows held : List Row) (bytes first : List ℕ) (cursor : Cursor) (at : StandsAt rows cursor) → held ≡ rows → bytes ≡ table_bytes held → first ≡ key_after at.front → drop cursor.place bytes ≡ row_bytes first at.here ++ bytes_after rows cursor at
+read_there rows held bytes first cursor at same spelt named =
+    ap (drop cursor.place) (spelt ∙ ap table_bytes same) ∙ at.place ∙ ap (λ (k : List ℕ). row_bytes k at.here ++ bytes_after rows cursor at) (sym named)
 
-pub read_on : (rows told : List Row) (bytes others : List ℕ) (place : ℕ) → told ≡ rows → bytes ≡ table_bytes told → drop place bytes ≡ others → drop place (table_bytes rows) ≡ others
-read_on rows told bytes others place same spelt e = ap (drop place) (sym (spelt ∙ ap table_bytes same)) ∙ e
+pub read_on : (rows held : List Row) (bytes others : List ℕ) (place : ℕ) → held ≡ rows → bytes ≡ table_bytes held → drop place bytes ≡ others → drop place (table_bytes rows) ≡ others
+read_on rows held bytes others place same spelt e = ap (drop place) (sym (spelt ∙ ap table_bytes same)) ∙ e
 
 -- ---- the index
 
@@ -259,7 +259,7 @@ index_key : (offset : ℕ) (before : List (List Row)) (r : Row) (block : List Ro
     → option_map (λ (b : Block). b.first_key) (slice_get (index_from offset (before ++ (r ∷ block) ∷ after)) (length before)) ≡ Some r.key
 index_key offset [] r block after some = refl
 index_key offset ([] ∷ before) r block after some = absurd (some.0 refl)
-index_key offset ((q ∷ b) ∷ before) r block after some = index_key (saturated (offset + sum_by estimated_size (q ∷ b))) before r block after some.1
+index_key offset ((q ∷ b) ∷ before) r block after some = index_key (saturated_sum (offset + sum_by estimated_size (q ∷ b))) before r block after some.1
 
 all_before : {A : Type 0} (P : A → Type 0) (xs ys : List A) → AllByRecursion P (xs ++ ys) → AllByRecursion P xs
 all_before P [] ys h = tt
@@ -269,9 +269,9 @@ named : (listed : List BlockMeta) (block : ℕ) (meta : BlockMeta) → slice_get
 named listed block meta got = ap (option_map (λ (b : Block). b.first_key)) (slice_get-map block_of listed block ∙ ap (option_map block_of) got)
 
 -- The index has the key of the first row of each block.
-pub index_names : (rows told : List Row) (listed : List BlockMeta) (before : List (List Row)) (r : Row) (here : List Row) (after : List (List Row)) (block : ℕ) (meta : BlockMeta)
-    → told ≡ rows → blocks_of listed ≡ blocks told → blocks_of_rows 0 rows ≡ before ++ (r ∷ here) ∷ after → block ≡ length before → slice_get listed block ≡ Some meta → meta.first_key ≡ r.key
-index_names rows told listed before r here after block meta same index all at got =
+pub index_names : (rows held : List Row) (listed : List BlockMeta) (before : List (List Row)) (r : Row) (here : List Row) (after : List (List Row)) (block : ℕ) (meta : BlockMeta)
+    → held ≡ rows → blocks_of listed ≡ blocks held → blocks_of_rows 0 rows ≡ before ++ (r ∷ here) ∷ after → block ≡ length before → slice_get listed block ≡ Some meta → meta.first_key ≡ r.key
+index_names rows held listed before r here after block meta same index all at got =
     let cut = rows_are_cut_into_blocks rows in
     let some = all_before (λ (b : List Row). b ≢ []) before ((r ∷ here) ∷ after) (subst (AllByRecursion (λ (b : List Row). b ≢ [])) all cut.filled) in
     let one : Some meta.first_key ≡ Some r.key =
@@ -281,9 +281,9 @@ index_names rows told listed before r here after block meta same index all at go
     ∙ index_key 0 before r here after some in
     cc one
 
-pub index_there : (rows told : List Row) (listed : List BlockMeta) (before : List (List Row)) (r : Row) (here : List Row) (after : List (List Row)) (block : ℕ)
-    → told ≡ rows → blocks_of listed ≡ blocks told → blocks_of_rows 0 rows ≡ before ++ (r ∷ here) ∷ after → block ≡ length before → slice_get listed block ≡ None → ⊥
-index_there rows told listed before r here after block same index all at got =
+pub index_there : (rows held : List Row) (listed : List BlockMeta) (before : List (List Row)) (r : Row) (here : List Row) (after : List (List Row)) (block : ℕ)
+    → held ≡ rows → blocks_of listed ≡ blocks held → blocks_of_rows 0 rows ≡ before ++ (r ∷ here) ∷ after → block ≡ length before → slice_get listed block ≡ None → ⊥
+index_there rows held listed before r here after block same index all at got =
     let cut = rows_are_cut_into_blocks rows in
     let some = all_before (λ (b : List Row). b ≢ []) before ((r ∷ here) ∷ after) (subst (AllByRecursion (λ (b : List Row). b ≢ [])) all cut.filled) in
     let one : None ≡ Some r.key =
@@ -293,7 +293,7 @@ index_there rows told listed before r here after block same index all at got =
     ∙ index_key 0 before r here after some in
     cc one
 
-module _ (rows told : List Row) (listed : List BlockMeta) (cursor : Cursor) (at : StandsAt rows cursor) (same : told ≡ rows) (index : blocks_of listed ≡ blocks told) (apart : cursor.row ≡ rows_before cursor.block rows → ⊥) where
+module _ (rows held : List Row) (listed : List BlockMeta) (cursor : Cursor) (at : StandsAt rows cursor) (same : held ≡ rows) (index : blocks_of listed ≡ blocks held) (apart : cursor.row ≡ rows_before cursor.block rows → ⊥) where
   not_first : at.front ≡ [] → ⊥
   not_first none =
       let few = ap length none in
@@ -307,7 +307,7 @@ module _ (rows told : List Row) (listed : List BlockMeta) (cursor : Cursor) (at 
       by : (front : List Row) → at.front ≡ front → ⊥
       by [] none = not_first none
       by (q ∷ front) is =
-          index_there rows told listed at.before q (front ++ at.here ∷ at.later) at.after cursor.block same index (at.all ∙ ap (λ xs. at.before ++ (xs ++ at.here ∷ at.later) ∷ at.after) is) at.block got
+          index_there rows held listed at.before q (front ++ at.here ∷ at.later) at.after cursor.block same index (at.all ∙ ap (λ xs. at.before ++ (xs ++ at.here ∷ at.later) ∷ at.after) is) at.block got
 
   pub key_is : (meta : BlockMeta) → Some meta ≡ slice_get listed cursor.block → meta.first_key ≡ key_after at.front
   key_is meta got = by at.front refl
@@ -315,11 +315,11 @@ module _ (rows told : List Row) (listed : List BlockMeta) (cursor : Cursor) (at 
       by : (front : List Row) → at.front ≡ front → meta.first_key ≡ key_after at.front
       by [] none = absurd (not_first none)
       by (q ∷ front) is =
-          index_names rows told listed at.before q (front ++ at.here ∷ at.later) at.after cursor.block meta same index (at.all ∙ ap (λ xs. at.before ++ (xs ++ at.here ∷ at.later) ∷ at.after) is) at.block (sym got)
+          index_names rows held listed at.before q (front ++ at.here ∷ at.later) at.after cursor.block meta same index (at.all ∙ ap (λ xs. at.before ++ (xs ++ at.here ∷ at.later) ∷ at.after) is) at.block (sym got)
           ∙ sym (ap key_after is)
 
 pub before_within : (rows : List Row) (block : ℕ) → rows_before block rows ≤ length rows
 before_within rows block =
     let cut = blocks_of_rows 0 rows in
-    let all = ap length (sym (joined_blocks 0 rows) ∙ ap joined (sym (take-append-drop block cut)) ∙ joined-append (take block cut) (drop block cut)) in
-    omega (arith, all, length-append (joined (take block cut)) (joined (drop block cut)))
+    let all = ap length (sym (joined_blocks 0 rows) ∙ ap joined_rows (sym (take-append-drop block cut)) ∙ joined-append (take block cut) (drop block cut)) in
+    omega (arith, all, length-append (joined_rows (take block cut)) (joined_rows (drop block cut)))

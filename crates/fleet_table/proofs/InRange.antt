@@ -9,9 +9,9 @@ use Rattle.row_model.specs.Ranges.{Bound, Range, Unbounded, Included, Excluded, 
 use Rattle.row_laws.proofs.ApartRows.{below_too}
 use Rattle.std.proofs.lemmas.Cmp.{nat_list_cmp_total}
 use Rattle.row_laws.proofs.KeyRows.{up_to, up_to_too}
-use Rattle.fleet_table.specs.Order.{is_before_range, is_not_behind_range}
+use Rattle.fleet_table.specs.Order.{is_before_range, is_not_after_range}
 
--- ---- an earlier row passes the tests is_before_range and is_not_behind_range where a later one does
+-- ---- an earlier row passes the tests is_before_range and is_not_after_range where a later one does
 
 not_reversed : (o : Ordering) → not (is_lt (ordering_reverse o)) ≡ not (is_gt o)
 not_reversed Less = refl
@@ -42,8 +42,8 @@ before_end_too (Excluded k) r q before h = below_too k r q before h
 pub before_range_too : (range : Range) (r q : Row) → row_cmp r q ≡ Less → is_before_range range q ≡ true → is_before_range range r ≡ true
 before_range_too range = before_start_too range.from
 
-pub not_behind_too : (range : Range) (r q : Row) → row_cmp r q ≡ Less → is_not_behind_range range q ≡ true → is_not_behind_range range r ≡ true
-not_behind_too range = before_end_too range.to
+pub not_after_too : (range : Range) (r q : Row) → row_cmp r q ≡ Less → is_not_after_range range q ≡ true → is_not_after_range range r ≡ true
+not_after_too range = before_end_too range.to
 
 -- ---- two filters in turn are one filter by both tests
 
@@ -55,8 +55,8 @@ filter_twice : (p q : Row → Bool) (rows : List Row) → filter q (filter p row
 filter_twice p q [] = refl
 filter_twice p q (r ∷ rows) = both (p r) (q r) r (filter p rows) q refl ∙ ap (λ rs. cond (p r && q r) (r ∷ rs) rs) (filter_twice p q rows)
 
-pub in_range_is : (range : Range) (rows : List Row) → filter (is_not_behind_range range) (filter (λ r. is_after_start range.from r.key) rows) ≡ rows_in range rows
-in_range_is range rows = filter_twice (λ r. is_after_start range.from r.key) (is_not_behind_range range) rows
+pub in_range_is : (range : Range) (rows : List Row) → filter (is_not_after_range range) (filter (λ r. is_after_start range.from r.key) rows) ≡ rows_in range rows
+in_range_is range rows = filter_twice (λ r. is_after_start range.from r.key) (is_not_after_range range) rows
 
 not_not : (b : Bool) → not (not b) ≡ b
 not_not true = refl

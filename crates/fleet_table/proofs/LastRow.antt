@@ -27,8 +27,8 @@ seq_from : (seq : ℕ) (r : RowEntry) (rows : List RowEntry) (d : RowEntry) → 
 seq_from seq r [] d = refl
 seq_from seq r (q ∷ rows) d = ap (λ x. x.seq) (at_next r q rows d) ∙ seq_from r.seq q rows d
 
-behind : (r : RowEntry) (rows : List RowEntry) (last : RowEntry) → last ≡ slice_index_or (r ∷ rows) (length (r ∷ rows) - 1) last → last ≡ slice_index_or (r ∷ rows) (length rows) last
-behind r rows last is =
+afterwards : (r : RowEntry) (rows : List RowEntry) (last : RowEntry) → last ≡ slice_index_or (r ∷ rows) (length (r ∷ rows) - 1) last → last ≡ slice_index_or (r ∷ rows) (length rows) last
+afterwards r rows last is =
     let place : length (r ∷ rows) - 1 ≡ length rows = omega arith in
     is ∙ ap (λ i. slice_index_or (r ∷ rows) i last) place
 
@@ -38,11 +38,11 @@ first_at (r ∷ rows) first some is = ap (λ x. x.key) is
 
 pub key_at : (rows : List RowEntry) (last : RowEntry) → rows ≢ [] → last ≡ slice_index_or rows (length rows - 1) last → last.key ≡ last_key [] (rows_of rows)
 key_at [] last some is = absurd (some refl)
-key_at (r ∷ rows) last some is = ap (λ x. x.key) (behind r rows last is) ∙ key_from [] r rows last
+key_at (r ∷ rows) last some is = ap (λ x. x.key) (afterwards r rows last is) ∙ key_from [] r rows last
 
 pub seq_at : (rows : List RowEntry) (last : RowEntry) → rows ≢ [] → last ≡ slice_index_or rows (length rows - 1) last → last.seq ≡ seq_of_last 0 (rows_of rows)
 seq_at [] last some is = absurd (some refl)
-seq_at (r ∷ rows) last some is = ap (λ x. x.seq) (behind r rows last is) ∙ seq_from 0 r rows last
+seq_at (r ∷ rows) last some is = ap (λ x. x.seq) (afterwards r rows last is) ∙ seq_from 0 r rows last
 
 not_above : (r q : Row) → row_cmp r q ≡ Less → is_le (key_cmp r.key q.key) ≡ true
 not_above r q = by (key_cmp r.key q.key)

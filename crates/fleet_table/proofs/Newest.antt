@@ -34,14 +34,14 @@ other key r o is apart = false_or (bytes_eq key r.key) (λ same.
     apart (sym is ∙ alike))
 
 -- No row of the key comes after a row of a greater key.
-others_behind : (key : List ℕ) (r : Row) (rows : List Row) → key_cmp r.key key ≡ Greater → AllByRecursion (λ q. row_cmp r q ≡ Less) rows → Keys (IsOther key) rows
-others_behind key r [] high after = tt
-others_behind key r (q ∷ rows) high after = (
+others_after : (key : List ℕ) (r : Row) (rows : List Row) → key_cmp r.key key ≡ Greater → AllByRecursion (λ q. row_cmp r q ≡ Less) rows → Keys (IsOther key) rows
+others_after key r [] high after = tt
+others_after key r (q ∷ rows) high after = (
   false_or (bytes_eq key q.key) (λ same.
       let alike : key ≡ q.key = (bytes_eq-Decides key q.key).0 same in
       let greater = ap (λ o. ordering_then o (nat_cmp q.seq r.seq)) (ap (key_cmp r.key) (sym alike) ∙ high) in
       let clash : Greater ≡ Less = sym greater ∙ after.0 in cc clash),
-  others_behind key r rows high after.1,
+  others_after key r rows high after.1,
 )
 
 next : (r : Row) (rows : List Row) (n : ℕ) → slice_get (r ∷ rows) (1 + n) ≡ slice_get rows n
@@ -65,8 +65,8 @@ module _ (key : List ℕ) (seq : ℕ) (r : Row) (rows : List Row) (rest : newest
   skipped : newest key seq rows ≡ if_of_key key (slice_get (r ∷ rows) (1 + prefix_len (is_before key seq) rows))
   skipped = rest ∙ sym (ap (if_of_key key) (next r rows (prefix_len (is_before key seq) rows)))
 
-  none_behind : rows_of_key key rows ≡ [] → bytes_eq key r.key ≡ false → newest key seq rows ≡ if_of_key key (Some r)
-  none_behind empty apart = ap (λ rs. slice_get (seen_at seq rs) 0) empty ∙ sym (ap (λ b. cond b (Some r) None) apart)
+  none_after : rows_of_key key rows ≡ [] → bytes_eq key r.key ≡ false → newest key seq rows ≡ if_of_key key (Some r)
+  none_after empty apart = ap (λ rs. slice_get (seen_at seq rs) 0) empty ∙ sym (ap (λ b. cond b (Some r) None) apart)
 
   by_seq : (o : Ordering) → nat_cmp seq r.seq ≡ o → bytes_eq key r.key ≡ true → stepped true (nat_le r.seq seq) (is_lt o)
   by_seq Less e same = ap (λ b. slice_get (cond b (r ∷ seen_at seq (rows_of_key key rows)) (seen_at seq (rows_of_key key rows))) 0) (newer_unseen seq r.seq e) ∙ skipped
@@ -84,7 +84,7 @@ module _ (key : List ℕ) (seq : ℕ) (r : Row) (rows : List Row) (rest : newest
       subst (λ b. stepped b (nat_le r.seq seq) (is_lt (nat_cmp seq r.seq))) (sym same) (by_seq (nat_cmp seq r.seq) refl same)
   by_key Greater e empty =
       let apart : bytes_eq key r.key ≡ false = other key r Greater e (λ h. cc h) in
-      subst (λ b. stepped b (nat_le r.seq seq) false) (sym apart) (none_behind (empty refl) apart)
+      subst (λ b. stepped b (nat_le r.seq seq) false) (sym apart) (none_after (empty refl) apart)
 
 seen_first : (key : List ℕ) (seq : ℕ) (r : Row) (rows : List Row) (that : Bool)
     → seen_at seq (cond that (r ∷ rows_of_key key rows) (rows_of_key key rows))
@@ -98,23 +98,23 @@ newest_is key seq [] ordered = refl
 newest_is key seq (r ∷ rows) ordered =
     ap (λ rs. slice_get rs 0) (seen_first key seq r rows (bytes_eq key r.key))
     ∙ by_key key seq r rows (newest_is key seq rows ordered.1) (key_cmp r.key key) refl
-    (λ high. of_key-others key rows (others_behind key r rows high ordered.0))
+    (λ high. of_key-others key rows (others_after key r rows high ordered.0))
 
--- The row behind the newer rows, if it has the key, is the newest row of the key up to the sequence.
+-- The row after the newer rows, if it has the key, is the newest row of the key up to the sequence.
 pub newest_found : (key : List ℕ) (seq : ℕ) (rows : List Row) (i : ℕ) (got : Option Row) → IsStrictlyOrdered rows → i ≡ prefix_len (is_before_spot key (Newer seq)) rows → slice_get rows i ≡ got → if_of_key key got ≡ newest key seq rows
 newest_found key seq rows i got ordered at is =
     sym (newest_is key seq rows ordered
     ∙ ap (λ n. if_of_key key (slice_get rows n)) (sym (at ∙ prefix_same (is_before_spot key (Newer seq)) (is_before key seq) (newer_is key seq) rows))
     ∙ ap (if_of_key key) is)
 
--- ---- keys before the first row or behind the last one
+-- ---- keys before the first row or after the last one
 
 pub none_before : (key : List ℕ) (rows : List Row) → rows ≢ [] → IsStrictlyOrdered rows → is_lt (key_cmp key (first_key rows)) ≡ true → rows_of_key key rows ≡ []
 unfolding IsStrictlySortedBy
 none_before key [] some ordered low = refl
 none_before key (r ∷ rows) some ordered low =
     let high : key_cmp r.key key ≡ Greater = nat_list_cmp_total.antisymm r.key key ∙ ap ordering_reverse (lt_is (key_cmp key r.key) low) in
-    of_key-others key (r ∷ rows) (other key r Greater high (λ h. cc h), others_behind key r rows high ordered.0)
+    of_key-others key (r ∷ rows) (other key r Greater high (λ h. cc h), others_after key r rows high ordered.0)
 
 clash : (o : Ordering) → is_le o ≡ true → is_gt o ≡ true → ⊥
 clash Less h g = cc g
@@ -131,5 +131,5 @@ above_all key start (r ∷ rows) ordered high = (
   above_all key r.key rows ordered.1 high,
 )
 
-pub none_behind_last : (key : List ℕ) (rows : List Row) → IsStrictlyOrdered rows → is_gt (key_cmp key (last_key [] rows)) ≡ true → rows_of_key key rows ≡ []
-none_behind_last key rows ordered high = of_key-others key rows (above_all key [] rows ordered high)
+pub none_after_last : (key : List ℕ) (rows : List Row) → IsStrictlyOrdered rows → is_gt (key_cmp key (last_key [] rows)) ≡ true → rows_of_key key rows ≡ []
+none_after_last key rows ordered high = of_key-others key rows (above_all key [] rows ordered high)

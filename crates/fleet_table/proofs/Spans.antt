@@ -12,22 +12,22 @@ use Rattle.fleet_iter.specs.Iteration.{from_key}
 use Rattle.fleet_range.specs.Keys.{model_bound, range_of}
 use Rattle.fleet_range.specs.Ranges.{Ends}
 use Rattle.fleet_table.specs.Cursors.{is_before_spot, rows_between}
-use Rattle.fleet_table.specs.declared.cursor.Ties.TheVariants.{Behind, Before}
-use Rattle.fleet_table.specs.Order.{is_before_range, is_not_behind_range}
-use Rattle.fleet_table.proofs.InRange.{before_excluded, before_included, before_range_too, in_range_is, not_before, not_behind_too}
-use Rattle.fleet_table.proofs.Spots.{before_is, behind_is, failing_rows, passing_rows, prefix_behind, prefix_same}
+use Rattle.fleet_table.specs.declared.cursor.Ties.TheVariants.{After, Before}
+use Rattle.fleet_table.specs.Order.{is_before_range, is_not_after_range}
+use Rattle.fleet_table.proofs.InRange.{before_excluded, before_included, before_range_too, in_range_is, not_before, not_after_too}
+use Rattle.fleet_table.proofs.Spots.{before_is, after_is, failing_rows, passing_rows, prefix_after, prefix_same}
 
 -- ---- the rows of a range
 
-pub range_between : (range : Range) (rows : List Row) (start end : ℕ) → IsStrictlyOrdered rows → start ≡ prefix_len (is_before_range range) rows → end ≡ prefix_len (is_not_behind_range range) rows → rows_between start end rows ≡ rows_in range rows
+pub range_between : (range : Range) (rows : List Row) (start end : ℕ) → IsStrictlyOrdered rows → start ≡ prefix_len (is_before_range range) rows → end ≡ prefix_len (is_not_after_range range) rows → rows_between start end rows ≡ rows_in range rows
 range_between range rows start end ordered from to =
     let p = is_before_range range in
-    let q = is_not_behind_range range in
+    let q = is_not_after_range range in
     let kept : filter (λ r. not (p r)) rows ≡ drop start rows = failing_rows p (before_range_too range) rows ordered ∙ ap (λ n. drop n rows) (sym from) in
-    let many : prefix_len q (drop start rows) ≡ end - start = prefix_behind q (not_behind_too range) rows ordered start ∙ ap (λ n. n - start) (sym to) in
+    let many : prefix_len q (drop start rows) ≡ end - start = prefix_after q (not_after_too range) rows ordered start ∙ ap (λ n. n - start) (sym to) in
     ap (λ n. take n (drop start rows)) (sym many)
     ∙ ap (λ rs. take (prefix_len q rs) rs) (sym kept)
-    ∙ sym (passing_rows q (not_behind_too range) (filter (λ r. not (p r)) rows) (ordered_filter (λ r. not (p r)) rows ordered))
+    ∙ sym (passing_rows q (not_after_too range) (filter (λ r. not (p r)) rows) (ordered_filter (λ r. not (p r)) rows ordered))
     ∙ ap (filter q) (not_before range rows)
     ∙ in_range_is range rows
 
@@ -84,9 +84,9 @@ module _ (key : List ℕ) (rows : List Row) (ordered : IsStrictlyOrdered rows) (
   dropped =
       from_key_drops key (rows_between start end rows)
       ∙ ap (λ n. drop n (rows_between start end rows))
-      (prefix_take (is_below key) (end - start) (drop start rows) ∙ ap (min (end - start)) (prefix_behind (is_below key) (below_too key) rows ordered start ∙ ap (λ n. n - start) (sym at)))
+      (prefix_take (is_below key) (end - start) (drop start rows) ∙ ap (min (end - start)) (prefix_after (is_below key) (below_too key) rows ordered start ∙ ap (λ n. n - start) (sym at)))
 
-  -- The first row of the key is behind the start, so the rows before it are dropped.
+  -- The first row of the key is after the start, so the rows before it are dropped.
   pub skipped_between : start < there → rows_between there end rows ≡ from_key key (rows_between start end rows)
   skipped_between ahead = by (end - there) refl
     where
@@ -105,7 +105,7 @@ module _ (key : List ℕ) (rows : List Row) (ordered : IsStrictlyOrdered rows) (
           ∙ drop-take k (end - there) (drop start rows)
           ∙ ap (take (end - there)) (drop-drop k start rows ∙ ap (λ m. drop m rows) place))
 
-  -- The first row of the key is not behind the start, so no row is dropped.
+  -- The first row of the key is not after the start, so no row is dropped.
   pub stayed_between : there ≤ start → rows_between start end rows ≡ from_key key (rows_between start end rows)
   stayed_between here = let none : min (end - start) (there - start) ≡ 0 = omega (arith, here) in sym (dropped ∙ ap (λ n. drop n (rows_between start end rows)) none)
 
@@ -120,25 +120,25 @@ none_passes [] = refl
 none_passes (r ∷ rows) = refl
 
 module _ (ends : Ends (List ℕ)) (rows : List Row) where
-  pub end_open : Unbounded ≡ ends.1 → length rows ≡ prefix_len (is_not_behind_range (range_of ends)) rows
-  end_open open_end = sym (prefix_same (is_not_behind_range (range_of ends)) (λ r. true) (λ r. ap (λ b. is_before_end (model_bound b) r.key) (sym open_end)) rows ∙ all_pass rows)
+  pub end_open : Unbounded ≡ ends.1 → length rows ≡ prefix_len (is_not_after_range (range_of ends)) rows
+  end_open open_end = sym (prefix_same (is_not_after_range (range_of ends)) (λ r. true) (λ r. ap (λ b. is_before_end (model_bound b) r.key) (sym open_end)) rows ∙ all_pass rows)
 
   pub start_open : Unbounded ≡ ends.0 → prefix_len (is_before_range (range_of ends)) rows ≡ 0
   start_open open_end = prefix_same (is_before_range (range_of ends)) (λ r. false) (λ r. ap (λ b. not (is_after_start (model_bound b) r.key)) (sym open_end)) rows ∙ none_passes rows
 
-  pub start_included : (key : List ℕ) → Included key ≡ ends.0 → prefix_len (is_before_spot key Behind) rows ≡ prefix_len (is_before_range (range_of ends)) rows
-  start_included key is = prefix_same (is_before_spot key Behind) (is_before_range (range_of ends)) (λ r. behind_is key r ∙ sym (before_included key r) ∙ ap (λ b. not (is_after_start (model_bound b) r.key)) is) rows
+  pub start_included : (key : List ℕ) → Included key ≡ ends.0 → prefix_len (is_before_spot key After) rows ≡ prefix_len (is_before_range (range_of ends)) rows
+  start_included key is = prefix_same (is_before_spot key After) (is_before_range (range_of ends)) (λ r. after_is key r ∙ sym (before_included key r) ∙ ap (λ b. not (is_after_start (model_bound b) r.key)) is) rows
 
   pub start_excluded : (key : List ℕ) → Excluded key ≡ ends.0 → prefix_len (is_before_spot key Before) rows ≡ prefix_len (is_before_range (range_of ends)) rows
   start_excluded key is = prefix_same (is_before_spot key Before) (is_before_range (range_of ends)) (λ r. before_is key r ∙ sym (before_excluded key r) ∙ ap (λ b. not (is_after_start (model_bound b) r.key)) is) rows
 
-pub skipped_span : (key : List ℕ) (rows span : List Row) (start end there : ℕ) → IsStrictlyOrdered rows → rows_between start end rows ≡ span → there ≡ prefix_len (is_before_spot key Behind) rows → start < there → rows_between there end rows ≡ from_key key span
+pub skipped_span : (key : List ℕ) (rows span : List Row) (start end there : ℕ) → IsStrictlyOrdered rows → rows_between start end rows ≡ span → there ≡ prefix_len (is_before_spot key After) rows → start < there → rows_between there end rows ≡ from_key key span
 skipped_span key rows span start end there ordered is at ahead =
-    skipped_between key rows ordered start end there (at ∙ prefix_same (is_before_spot key Behind) (is_below key) (behind_is key) rows) ahead ∙ ap (from_key key) is
+    skipped_between key rows ordered start end there (at ∙ prefix_same (is_before_spot key After) (is_below key) (after_is key) rows) ahead ∙ ap (from_key key) is
 
-pub stayed_span : (key : List ℕ) (rows span : List Row) (start end there : ℕ) → IsStrictlyOrdered rows → rows_between start end rows ≡ span → there ≡ prefix_len (is_before_spot key Behind) rows → there ≤ start → span ≡ from_key key span
-stayed_span key rows span start end there ordered is at behind =
-    sym is ∙ stayed_between key rows ordered start end there (at ∙ prefix_same (is_before_spot key Behind) (is_below key) (behind_is key) rows) behind ∙ ap (from_key key) is
+pub stayed_span : (key : List ℕ) (rows span : List Row) (start end there : ℕ) → IsStrictlyOrdered rows → rows_between start end rows ≡ span → there ≡ prefix_len (is_before_spot key After) rows → there ≤ start → span ≡ from_key key span
+stayed_span key rows span start end there ordered is at after =
+    sym is ∙ stayed_between key rows ordered start end there (at ∙ prefix_same (is_before_spot key After) (is_below key) (after_is key) rows) after ∙ ap (from_key key) is
 
 pub all_between : (rows : List Row) (start end : ℕ) → start ≡ 0 → end ≡ length rows → rows_between start end rows ≡ rows
 all_between rows start end begin is =

@@ -15,7 +15,7 @@ use Rattle.row_laws.proofs.Order.{row_total}
 use Rattle.fleet_table.specs.Cursors.{before_by, is_before_spot}
 use Rattle.fleet_table.specs.Order.{is_before}
 use Rattle.fleet_table.specs.declared.cursor.Ties.{Ties}
-use Rattle.fleet_table.specs.declared.cursor.Ties.TheVariants.{Behind, Before, Newer}
+use Rattle.fleet_table.specs.declared.cursor.Ties.TheVariants.{After, Before, Newer}
 
 -- ---- a test that earlier rows pass wherever a later row does
 
@@ -75,11 +75,11 @@ module _ (p : Row → Bool) (closed : (r q : Row) → row_cmp r q ≡ Less → p
       sym (drop_at (filter p rows) (filter (λ r. not (p r)) rows) (prefix_len p rows) (sym (prefix_filter rows ordered)))
       ∙ ap (drop (prefix_len p rows)) (split_by p closed rows ordered)
 
-  pub prefix_behind : (rows : List Row) → IsStrictlyOrdered rows → (s : ℕ) → prefix_len p (drop s rows) ≡ prefix_len p rows - s
+  pub prefix_after : (rows : List Row) → IsStrictlyOrdered rows → (s : ℕ) → prefix_len p (drop s rows) ≡ prefix_len p rows - s
   unfolding IsStrictlySortedBy
-  prefix_behind rows ordered zero = omega arith
-  prefix_behind [] ordered (suc s) = omega arith
-  prefix_behind (r ∷ rows) ordered (suc s) = by (p r) refl (prefix_behind rows ordered.1 s)
+  prefix_after rows ordered zero = omega arith
+  prefix_after [] ordered (suc s) = omega arith
+  prefix_after (r ∷ rows) ordered (suc s) = by (p r) refl (prefix_after rows ordered.1 s)
     where
       by : (b : Bool) → p r ≡ b → prefix_len p (drop s rows) ≡ prefix_len p rows - s → prefix_len p (drop s rows) ≡ cond b (1 + prefix_len p rows) 0 - suc s
       by true e rest = omega (arith, rest)
@@ -94,10 +94,10 @@ prefix_same p q same (r ∷ rows) = ap (λ b. cond b (1 + prefix_len p rows) 0) 
 newer : (most seq : ℕ) → nat_lt most seq ≡ is_lt (nat_cmp most seq)
 newer most seq = grind arith
 
-pub behind_is : (key : List ℕ) (r : Row) → is_before_spot key Behind r ≡ is_below key r
-behind_is key r = by (key_cmp r.key key)
+pub after_is : (key : List ℕ) (r : Row) → is_before_spot key After r ≡ is_below key r
+after_is key r = by (key_cmp r.key key)
   where
-    by : (o : Ordering) → before_by o Behind r.seq ≡ is_lt o
+    by : (o : Ordering) → before_by o After r.seq ≡ is_lt o
     by Less = refl
     by Equal = refl
     by Greater = refl
@@ -126,7 +126,7 @@ before_too key seq r q before h = ap is_lt (row_total.trans r q (place_row key s
 
 -- If a later row is before a spot, so is each earlier row.
 pub spot_too : (key : List ℕ) (ties : Ties) (r q : Row) → row_cmp r q ≡ Less → is_before_spot key ties q ≡ true → is_before_spot key ties r ≡ true
-spot_too key Behind r q before h = behind_is key r ∙ below_too key r q before (sym (behind_is key q) ∙ h)
+spot_too key After r q before h = after_is key r ∙ below_too key r q before (sym (after_is key q) ∙ h)
 spot_too key Before r q before h = before_is key r ∙ up_to_too key r q before (sym (before_is key q) ∙ h)
 spot_too key (Newer most) r q before h = newer_is key most r ∙ before_too key most r q before (sym (newer_is key most q) ∙ h)
 
@@ -137,5 +137,5 @@ is_true false h = absurd (search rules)
 pub is_ahead : (key : List ℕ) (ties : Ties) (rows : List Row) → IsStrictlyOrdered rows → (i : ℕ) (r : Row) (b : Bool) → slice_get rows i ≡ Some r → b ≡ is_before_spot key ties r → IsTrue b → i < prefix_len (is_before_spot key ties) rows
 is_ahead key ties rows ordered i r b got is holds = passing (is_before_spot key ties) (spot_too key ties) rows ordered i r got (sym is ∙ is_true b holds)
 
-pub is_behind : (key : List ℕ) (ties : Ties) (rows : List Row) (i : ℕ) (r : Row) (b : Bool) → slice_get rows i ≡ Some r → b ≡ is_before_spot key ties r → b ≡ false → prefix_len (is_before_spot key ties) rows ≤ i
-is_behind key ties rows i r b got is fails = failing (is_before_spot key ties) (spot_too key ties) rows i r got (sym is ∙ fails)
+pub is_after : (key : List ℕ) (ties : Ties) (rows : List Row) (i : ℕ) (r : Row) (b : Bool) → slice_get rows i ≡ Some r → b ≡ is_before_spot key ties r → b ≡ false → prefix_len (is_before_spot key ties) rows ≤ i
+is_after key ties rows i r b got is fails = failing (is_before_spot key ties) (spot_too key ties) rows i r got (sym is ∙ fails)

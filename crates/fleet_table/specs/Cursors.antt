@@ -7,15 +7,15 @@ use Rattle.row_model.specs.Rows.{Row, key_cmp}
 use Rattle.row_model.specs.TableBytes.{blocks_of_rows, row_bytes, rows_bytes, table_bytes}
 use Rattle.fleet_rows.specs.Row.{row_of}
 use Rattle.fleet_rows.specs.declared.row.RowEntry.{RowEntry}
-use Rattle.fleet_block.specs.Finds.{joined}
+use Rattle.fleet_block.specs.Finds.{joined_rows}
 use Rattle.fleet_table.specs.declared.cursor.Cursor.{Cursor}
 use Rattle.fleet_table.specs.declared.cursor.Ties.{Ties}
-use Rattle.fleet_table.specs.declared.cursor.Ties.TheVariants.{Behind, Before, Newer}
+use Rattle.fleet_table.specs.declared.cursor.Ties.TheVariants.{After, Before, Newer}
 
 -- ---- places among rows
 
 abbrev pub passes_tie : Ties → ℕ → Bool
-passes_tie Behind seq = false
+passes_tie After seq = false
 passes_tie Before seq = true
 passes_tie (Newer most) seq = nat_lt most seq
 
@@ -33,7 +33,7 @@ is_before_spot key ties r = before_by (key_cmp r.key key) ties r.seq
 
 -- The number of rows in the blocks before this one.
 abbrev pub rows_before : ℕ → List Row → ℕ
-rows_before block rows = length (joined (take block (blocks_of_rows 0 rows)))
+rows_before block rows = length (joined_rows (take block (blocks_of_rows 0 rows)))
 
 -- The key after which the next row of a block is written, if these rows of the block are before it.
 abbrev pub key_after : List Row → List ℕ
@@ -41,7 +41,7 @@ key_after [] = []
 key_after (r ∷ rows) = r.key
 
 -- A row, where it stands among the blocks, and what stands at the cursor: the row, the later rows of its
--- block, and the blocks behind it.
+-- block, and the blocks after it.
 pub record StandsAt (rows : List Row) (cursor : Cursor) : Type 0 where
   pub before : List (List Row)
   pub front : List Row
@@ -50,10 +50,10 @@ pub record StandsAt (rows : List Row) (cursor : Cursor) : Type 0 where
   pub after : List (List Row)
   pub all : blocks_of_rows 0 rows ≡ before ++ (front ++ here ∷ later) ∷ after
   pub block : cursor.block ≡ length before
-  pub row : cursor.row ≡ length (joined before) + length front
+  pub row : cursor.row ≡ length (joined_rows before) + length front
   pub place : drop cursor.place (table_bytes rows) ≡ row_bytes (key_after front) here ++ (flat_map (row_bytes (key_after (front ++ here ∷ []))) later ++ flat_map rows_bytes after)
 
--- The cursor is at a row, or behind all rows.
+-- The cursor is at a row, or after all rows.
 abbrev pub IsCursor : List Row → Cursor → Type 0
 IsCursor rows cursor = (cursor.row ≤ length rows) × (cursor.row < length rows → StandsAt rows cursor)
 

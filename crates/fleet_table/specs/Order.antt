@@ -13,5 +13,5 @@ abbrev pub is_before_range : Range → Row → Bool
 is_before_range range r = not (is_after_start range.from r.key)
 
 -- The row's key is not after the end of the range.
-abbrev pub is_not_behind_range : Range → Row → Bool
-is_not_behind_range range r = is_before_end range.to r.key
+abbrev pub is_not_after_range : Range → Row → Bool
+is_not_after_range range r = is_before_end range.to r.key

@@ -13,7 +13,7 @@ use Rattle.fleet_tree.specs.Handles.{blocks_of}
 use Rattle.fleet_tree.specs.declared.block.BlockMeta.{BlockMeta}
 
 -- The rows of a table: at least one row, strictly ordered, each row in bounds.
-pub record IsTable (rows : List Row) : Type 0 where
+pub record IsTableRows (rows : List Row) : Type 0 where
   pub some : rows ≢ []
   pub ordered : IsStrictlyOrdered rows
   pub in_bounds : AllByRecursion IsInBounds rows
@@ -21,7 +21,7 @@ pub record IsTable (rows : List Row) : Type 0 where
 -- A table of these rows has these bytes. It has this size, these blocks, which begin at these places, so many
 -- rows, and this sequence of its last row.
 pub record IsKept (rows : List Row) (bytes : List ℕ) (places : List BlockPlace) (listed : List BlockMeta) (measured count seq : ℕ) : Type 0 where
-  pub table : IsTable rows
+  pub table : IsTableRows rows
   pub writable : AllByRecursion IsWritable rows
   pub spelt : bytes ≡ table_bytes rows
   pub placed : places ≡ places_from 0 0 (blocks_of_rows 0 rows)

@@ -20,7 +20,7 @@ pub(crate) struct Cursor {
 #[derive(Clone, Copy, Debug)]
 pub(crate) enum Ties {
     /// No row of the key is before the spot.
-    Behind,
+    After,
     /// All rows of the key are before the spot.
     Before,
     /// The rows of the key with a greater sequence are before the spot.
@@ -36,7 +36,7 @@ pub(crate) fn is_before_spot(order: Ordering, seq: u64, ties: Ties) -> bool
         Ordering::Less => true,
         Ordering::Greater => false,
         Ordering::Equal => match ties {
-            Ties::Behind => false,
+            Ties::After => false,
             Ties::Before => true,
             Ties::Newer(most) => most < seq,
         },

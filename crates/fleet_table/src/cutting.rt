@@ -3,7 +3,7 @@
 ghost use Rattle.std.specs.Prelude.{◌≡◌, ◌<◌, ◌+◌, ◌++◌, [], IfOk, IsOkUnless, OnOk};
 ghost use Rattle.std.specs.List.{AllByRecursion};
 ghost use Rattle.row_model.specs.Bounds.{IsInBounds};
-ghost use Rattle.row_model.specs.Sizes.{block_at, block_bytes, blocks, estimated_size, or_full, saturated, table_size};
+ghost use Rattle.row_model.specs.Sizes.{block_at, block_bytes, blocks, estimated_size, or_full, saturated_sum, table_size};
 ghost use Rattle.fleet_rows.specs.Row.{row_of, rows_of};
 ghost use Rattle.fleet_tree.specs.Handles.{blocks_of};
 
@@ -54,7 +54,7 @@ fn take_row(alloc: Global, builder: &mut BlockBuilder, row: &RowEntry) -> Result
     ensures blocks { OnOk result (blocks_of builder.new.blocks ≡ blocks_of builder.old.blocks
         ++ block_at builder.old.offset builder.old.filled (row_of row.now) []) }
     ensures offset { OnOk result
-        (builder.new.offset ≡ saturated (builder.old.offset + estimated_size (row_of row.now))) }
+        (builder.new.offset ≡ saturated_sum (builder.old.offset + estimated_size (row_of row.now))) }
     ensures filled { OnOk result
         (builder.new.filled ≡ or_full (builder.old.filled + estimated_size (row_of row.now))) }
     ensures memory { IsOkUnless result SlateDBError.Memory }

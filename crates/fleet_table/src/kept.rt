@@ -11,7 +11,7 @@ ghost use Rattle.fleet_model.specs.Handles.{describe};
 ghost use Rattle.fleet_rows.specs.Row.{row_of, rows_of};
 ghost use Rattle.fleet_table.specs.Cursors.{is_before_spot, key_after, rows_before, IsCursor, StandsAt};
 ghost use Rattle.fleet_tree.specs.Handles.{handle_of};
-ghost use Rattle.fleet_table.specs.Table.{AreEndKeys, IsTable};
+ghost use Rattle.fleet_table.specs.Table.{AreEndKeys, IsTableRows};
 
 use crate::cursor::{Cursor, Ties, is_before_spot};
 use crate::cutting::cut_blocks;
@@ -46,14 +46,14 @@ pub(crate) struct Kept {
 impl Model for Kept {
     ghost use Rattle.std.specs.Prelude.{List};
     ghost use Rattle.row_model.specs.Rows.{Row};
-    ghost use Rattle.fleet_block.specs.Decoded.{decoded};
+    ghost use Rattle.fleet_block.specs.Decoded.{decoded_rows};
     ghost use Rattle.fleet_table.specs.Table.{IsKept};
 
     ghost Value = { List Row };
 
-    ghost view = { λ t. decoded t.bytes };
+    ghost view = { λ t. decoded_rows t.bytes };
 
-    ghost invariant = { λ t. IsKept (decoded t.bytes) t.bytes t.places.items t.blocks t.size t.count
+    ghost invariant = { λ t. IsKept (decoded_rows t.bytes) t.bytes t.places.items t.blocks t.size t.count
         t.last_seq };
 }
 
@@ -83,7 +83,7 @@ impl Kept {
 
     /// A table has at least one row, and its rows are in order and in bounds.
     pub(crate) fn know_table(&self)
-        ensures { IsTable self.now }
+        ensures { IsTableRows self.now }
     {
         let _count = self.count;
     }
@@ -219,7 +219,7 @@ impl Kept {
         requires stands { IsCursor self.now cursor }
         ensures before { IsTrue result.0
             → cursor.row < prefix_len (is_before_spot key.now ties) self.now }
-        ensures behind { result.0 ≡ false
+        ensures after { result.0 ≡ false
             → prefix_len (is_before_spot key.now ties) self.now ≤ cursor.row }
         ensures row { result.1.row ≡ cursor.row + 1 }
         ensures stands { IsCursor self.now result.1 }

@@ -6,7 +6,7 @@ ghost use Rattle.row_model.specs.Ranges.{rows_in};
 ghost use Rattle.fleet_iter.specs.Iteration.{from_key};
 ghost use Rattle.fleet_range.specs.Keys.{range_of};
 ghost use Rattle.fleet_table.specs.Cursors.{IsCursor, Takes};
-ghost use Rattle.fleet_table.specs.Order.{is_before_range, is_not_behind_range};
+ghost use Rattle.fleet_table.specs.Order.{is_before_range, is_not_after_range};
 
 use crate::cursor::{Cursor, Ties};
 use crate::kept::Kept;
@@ -16,7 +16,7 @@ use std::alloc::Global;
 use std::marker::Model;
 use std::ops::Bound;
 
-/// Rows of a table that stand one behind another. Each is decoded when it is taken. Contracts see
+/// Rows of a table that stand one after another. Each is decoded when it is taken. Contracts see
 /// the rows.
 #[derive(Debug, Drop)]
 pub(crate) struct Span<'a> {
@@ -90,7 +90,7 @@ impl Span<'_> {
         ensures { self.new ≡ from_key key.now self.old }
     {
         self.table.know_table();
-        let cursor = self.table.find(key, Ties::Behind);
+        let cursor = self.table.find(key, Ties::After);
         if self.cursor.row < cursor.row {
             self.cursor = cursor;
         }
@@ -104,20 +104,20 @@ fn start_of(table: &Kept, range: &BytesRange) -> Cursor
 {
     table.know_table();
     match ByteRangeBounds::start_bound(range) {
-        Bound::Included(start) => table.find(start, Ties::Behind),
+        Bound::Included(start) => table.find(start, Ties::After),
         Bound::Excluded(start) => table.find(start, Ties::Before),
         Bound::Unbounded => table.block_start(0),
     }
 }
 
-// The number of rows that are not behind the range.
+// The number of rows that are not after the range.
 fn end_of(table: &Kept, range: &BytesRange) -> usize
-    ensures value { result ≡ prefix_len (is_not_behind_range (range_of range.now)) table.now }
+    ensures value { result ≡ prefix_len (is_not_after_range (range_of range.now)) table.now }
     ensures within { result ≤ length table.now }
 {
     match ByteRangeBounds::end_bound(range) {
         Bound::Included(end) => table.find(end, Ties::Before).row,
-        Bound::Excluded(end) => table.find(end, Ties::Behind).row,
+        Bound::Excluded(end) => table.find(end, Ties::After).row,
         Bound::Unbounded => table.count(),
     }
 }

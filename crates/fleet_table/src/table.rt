@@ -15,7 +15,7 @@ ghost use Rattle.fleet_block.specs.Finds.{Reads};
 ghost use Rattle.fleet_range.specs.Keys.{range_of};
 ghost use Rattle.fleet_rows.specs.Row.{row_of, rows_of};
 ghost use Rattle.fleet_tree.specs.Handles.{blocks_of, handle_of};
-ghost use Rattle.fleet_table.specs.Table.{AreEndKeys, IsTable};
+ghost use Rattle.fleet_table.specs.Table.{AreEndKeys, IsTableRows};
 
 use crate::TableIterator;
 use crate::kept::Kept;
@@ -33,7 +33,7 @@ use std::sync::Arc;
 /// A table. It has at least one row. Contracts see its rows.
 #[derive(Debug, Drop)]
 pub struct TableData {
-    // The keys of the first and the last row stand here, so that a key outside the table is told
+    // The keys of the first and the last row stand here, so that a key outside the table is found
     // without a look at what is kept.
     first_key: Bytes,
     last_key: Bytes,
@@ -92,7 +92,7 @@ impl TableData {
 
     /// A table has at least one row, and its rows are strictly ordered and in bounds.
     pub fn know_table(&self)
-        ensures { IsTable self.now }
+        ensures { IsTableRows self.now }
     {
         self.kept.know_table();
     }
@@ -152,7 +152,7 @@ impl TableData {
             .describe(id, self.first_key.clone()?, self.last_key.clone()?)
     }
 
-    /// Whether the key is before the first key or behind the last one, so that the table has no row
+    /// Whether the key is before the first key or after the last one, so that the table has no row
     /// of it.
     pub fn is_outside(&self, key: &[u8]) -> bool
         ensures value { result ≡ (is_lt (key_cmp key.now (first_key self.now))
@@ -164,7 +164,7 @@ impl TableData {
     }
 
     /// The newest row of a key with a sequence of at most `seq`. Only that row is decoded. A key
-    /// that is before the first or behind the last key of the table costs two comparisons.
+    /// that is before the first or after the last key of the table costs two comparisons.
     pub fn newest_at(&self, key: &[u8], seq: u64) -> Result<Option<RowEntry>, SlateDBError>
         ensures row { IfOk result (λ row. option_map row_of row
             ≡ slice_get (seen_at seq (rows_of_key key.now self.now)) 0) }
@@ -203,7 +203,7 @@ impl Copies for TableData {
     }
 }
 
-// The keys of the first and the last row, one behind the other in memory of their own.
+// The keys of the first and the last row, one after the other in memory of their own.
 fn end_keys(alloc: Global, rows: &[RowEntry]) -> Result<(Bytes, Bytes), SlateDBError>
     requires { rows.now ≢ [] }
     ensures keys { IfOk result (λ keys. AreEndKeys (rows_of rows.now) keys.0 keys.1) }

@@ -1,7 +1,7 @@
 // Iterators of several kinds in boxes.
 ghost use Rattle.fleet_iter.specs.Iteration.{IsAlive};
 
-use crate::told::{are_told, given, list, merge};
+use crate::spelt::{are_spelt, given, list, merge};
 use fleet_fold::{AppendOperator, MergeOperatorIterator, RetentionIterator};
 use fleet_iter::{MergeIterator, PeekingIterator, RowEntryIterator, TrackedRowEntryIterator};
 use fleet_rows::{RowEntry, Settings, SlateDBError};
@@ -44,7 +44,7 @@ fn merges_boxed_kinds(rt: HostRuntime) {
     let merge: Box<dyn RowEntryIterator> = Box::new(rt.alloc(), merge).expect(&rt, "memory");
     let merged = merged_three(rt.alloc(), older, newer, merge);
     let wanted = "a:t:-:3,b:m:3:7,b:m:2:4,b:v:1:1,c:t:-:5";
-    assert!(rt; are_told(rt.alloc(), merged, wanted));
+    assert!(rt; are_spelt(rt.alloc(), merged, wanted));
 }
 
 // The rows that an iterator gives, and the bytes that it counted.
@@ -66,7 +66,7 @@ fn counts_in_a_box(rt: HostRuntime) {
     let merge: Box<dyn TrackedRowEntryIterator> = Box::new(rt.alloc(), merge).expect(&rt, "memory");
     let (rows, bytes) = counted(rt.alloc(), merge).expect(&rt, "rows");
     assert!(rt; bytes == 7);
-    assert!(rt; are_told(rt.alloc(), Ok(rows), "a:v:12:3,b:m:2:4"));
+    assert!(rt; are_spelt(rt.alloc(), Ok(rows), "a:v:12:3,b:m:2:4"));
 }
 
 #[test]
@@ -75,7 +75,7 @@ fn folds_rows_of_a_box(rt: HostRuntime) {
     let boxed: Box<dyn RowEntryIterator> = Box::new(rt.alloc(), list).expect(&rt, "memory");
     let mut folding = MergeOperatorIterator::new(&AppendOperator, boxed, true, None);
     folding.init(rt.alloc()).expect(&rt, "a start");
-    assert!(rt; are_told(rt.alloc(), given(rt.alloc(), &mut folding), "k:v:12:2"));
+    assert!(rt; are_spelt(rt.alloc(), given(rt.alloc(), &mut folding), "k:v:12:2"));
 }
 
 #[test]
@@ -90,5 +90,5 @@ fn keeps_rows_of_a_box(rt: HostRuntime) {
     };
     let mut kept = RetentionIterator::new(rt.alloc(), boxed, settings);
     kept.init(rt.alloc()).expect(&rt, "a start");
-    assert!(rt; are_told(rt.alloc(), given(rt.alloc(), &mut kept), "a:t:-:4,a:v:v1:2"));
+    assert!(rt; are_spelt(rt.alloc(), given(rt.alloc(), &mut kept), "a:t:-:4,a:v:v1:2"));
 }

@@ -3,7 +3,7 @@ ghost use Rattle.std.specs.Prelude.{◌≡◌, ⊤, true, false, reverse, IfOk};
 ghost use Rattle.fleet_rows.specs.Row.{rows_of};
 ghost use Rattle.fleet_iter.specs.Iteration.{AreRising};
 
-use crate::told::rows;
+use crate::spelt::rows;
 use fleet_iter::{RowEntryIterator, are_rising};
 use fleet_rows::{RowEntry, SlateDBError};
 use std::alloc::Global;
@@ -62,11 +62,11 @@ impl RowEntryIterator for FailingIterator {
 
 /// An iterator that gives the rows of a text, and then fails. It is an error if their keys do not
 /// rise.
-pub(crate) fn failing(alloc: Global, told: &str) -> Result<FailingIterator, SlateDBError>
+pub(crate) fn failing(alloc: Global, text: &str) -> Result<FailingIterator, SlateDBError>
     ensures alive { IfOk result (λ iterator. iterator.failed ≡ false) }
     ensures rising { IfOk result (λ iterator. AreRising (rows_of (reverse iterator.rows.items))) }
 {
-    let mut rows = rows(alloc, told)?;
+    let mut rows = rows(alloc, text)?;
     if !are_rising(&rows) {
         return Err(SlateDBError::InvalidDBState);
     }

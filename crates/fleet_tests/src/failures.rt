@@ -1,7 +1,7 @@
 // An iterator over other rows passes on their fault in the call in which it comes. After that it
 // says that it has failed.
 use crate::failing::{before_fault, failing};
-use crate::told::are_told;
+use crate::spelt::are_spelt;
 use fleet_fold::{
     AppendOperator, CompactionFilter, CompactionFilterDecision, CompactionFilterIterator,
     MergeOperatorIterator, MergeOperatorRequiredIterator, RetentionIterator,
@@ -10,40 +10,40 @@ use fleet_iter::{MergeIterator, PeekingIterator, ResumingIterator};
 use fleet_rows::{CompactionFilterError, RowEntry, Settings, SlateDBError};
 use std::alloc::Global;
 
-const TOLD: &str = "a:m:-:3,a:v:-:2,b:v:-:1";
+const SPELT: &str = "a:m:-:3,a:v:-:2,b:v:-:1";
 
 #[test]
 fn a_list_fails(rt: HostRuntime) {
-    let list = failing(rt.alloc(), TOLD).expect(&rt, "rows");
-    assert!(rt; are_told(rt.alloc(), before_fault(rt.alloc(), list), TOLD));
+    let list = failing(rt.alloc(), SPELT).expect(&rt, "rows");
+    assert!(rt; are_spelt(rt.alloc(), before_fault(rt.alloc(), list), SPELT));
 }
 
 #[test]
 fn peeking_fails_as_its_rows(rt: HostRuntime) {
-    let peeking = PeekingIterator::new(failing(rt.alloc(), TOLD).expect(&rt, "rows"));
-    assert!(rt; are_told(rt.alloc(), before_fault(rt.alloc(), peeking), TOLD));
+    let peeking = PeekingIterator::new(failing(rt.alloc(), SPELT).expect(&rt, "rows"));
+    assert!(rt; are_spelt(rt.alloc(), before_fault(rt.alloc(), peeking), SPELT));
 }
 
 #[test]
 fn resuming_fails_as_its_rows(rt: HostRuntime) {
-    let list = failing(rt.alloc(), TOLD).expect(&rt, "rows");
+    let list = failing(rt.alloc(), SPELT).expect(&rt, "rows");
     let resuming = ResumingIterator::new(rt.alloc(), list, None).expect(&rt, "a start");
-    assert!(rt; are_told(rt.alloc(), before_fault(rt.alloc(), resuming), TOLD));
+    assert!(rt; are_spelt(rt.alloc(), before_fault(rt.alloc(), resuming), SPELT));
 }
 
 #[test]
 fn a_merge_fails_as_its_sources(rt: HostRuntime) {
-    let one = failing(rt.alloc(), TOLD).expect(&rt, "rows");
+    let one = failing(rt.alloc(), SPELT).expect(&rt, "rows");
     let other = failing(rt.alloc(), "b:v:-:7,c:v:-:8,d:v:-:9").expect(&rt, "rows");
     let sources = vec![in rt.alloc(); one, other].expect(&rt, "memory");
     let merge = MergeIterator::new(rt.alloc(), sources);
     let given = before_fault(rt.alloc(), merge);
-    assert!(rt; are_told(rt.alloc(), given, "a:m:-:3,a:v:-:2"));
+    assert!(rt; are_spelt(rt.alloc(), given, "a:m:-:3,a:v:-:2"));
 }
 
 // The rows that folding gives before the fault.
-fn folded(alloc: Global, told: &str) -> Result<Vec<RowEntry>, SlateDBError> {
-    let rows = failing(alloc, told)?;
+fn folded(alloc: Global, text: &str) -> Result<Vec<RowEntry>, SlateDBError> {
+    let rows = failing(alloc, text)?;
     before_fault(
         alloc,
         MergeOperatorIterator::new(&AppendOperator, rows, true, None),
@@ -60,9 +60,9 @@ fn folding_fails_as_its_rows(rt: HostRuntime) {
         ("j:m:2:2,k:v:1:1", "j:m:2:2,k:v:1:1"),
         ("j:m:2:2,k:m:1:1", "j:m:2:2"),
     ];
-    for (told, wanted) in cases {
-        let given = folded(rt.alloc(), told);
-        assert!(rt; are_told(rt.alloc(), given, wanted), "{told}");
+    for (text, wanted) in cases {
+        let given = folded(rt.alloc(), text);
+        assert!(rt; are_spelt(rt.alloc(), given, wanted), "{text}");
     }
 }
 
@@ -76,7 +76,7 @@ fn retention_fails_as_its_rows(rt: HostRuntime) {
     };
     let list = failing(rt.alloc(), "a:v:1:3,b:v:2:2,b:v:3:1").expect(&rt, "rows");
     let kept = RetentionIterator::new(rt.alloc(), list, settings);
-    assert!(rt; are_told(rt.alloc(), before_fault(rt.alloc(), kept), "a:v:1:3"));
+    assert!(rt; are_spelt(rt.alloc(), before_fault(rt.alloc(), kept), "a:v:1:3"));
 }
 
 #[test]
@@ -84,7 +84,7 @@ fn required_rows_fail_as_the_rows(rt: HostRuntime) {
     let list = failing(rt.alloc(), "a:v:1:3,b:t:-:2").expect(&rt, "rows");
     let plain = MergeOperatorRequiredIterator::new(list);
     assert!(rt;
-        are_told(
+        are_spelt(
             rt.alloc(),
             before_fault(rt.alloc(), plain),
             "a:v:1:3,b:t:-:2"
@@ -131,5 +131,5 @@ impl CompactionFilter for WithoutDeleted {
 fn a_filter_fails_as_its_rows(rt: HostRuntime) {
     let list = failing(rt.alloc(), "a:t:-:3,b:v:2:2").expect(&rt, "rows");
     let left = CompactionFilterIterator::new(list, WithoutDeleted { closed: false });
-    assert!(rt; are_told(rt.alloc(), before_fault(rt.alloc(), left), "b:v:2:2"));
+    assert!(rt; are_spelt(rt.alloc(), before_fault(rt.alloc(), left), "b:v:2:2"));
 }

@@ -4,8 +4,8 @@ ghost use Rattle.row_model.specs.Rows.{Row};
 ghost use Rattle.fleet_model.specs.Exchanges.{Plain, PutsTable};
 ghost use Rattle.fleet_model.specs.History as model;
 ghost use Rattle.step_model.specs.LawfulTables.{DeletionFits};
-ghost use Rattle.step_model.specs.Past.{fresh_told};
-ghost use Rattle.step_model.specs.Rivals.{told_by};
+ghost use Rattle.step_model.specs.Past.{fresh_world};
+ghost use Rattle.step_model.specs.Rivals.{after_call};
 
 use crate::stores::{ends_with, put_manifest, put_records, start};
 use bytes::Bytes;
@@ -30,7 +30,7 @@ fn id() -> Ulid
 
 // A fresh store, whose get or put with this number is struck.
 fn store(rt: &impl Abort, alloc: Global, k: u32, stands: bool) -> MemStore
-    ensures { result.told ≡ fresh_told }
+    ensures { result.world ≡ fresh_world }
 {
     let mut store = MemStore::new(alloc).expect(rt, "memory");
     store.set_fault(k, stands);
@@ -141,8 +141,8 @@ fn the_last_fault_counts(rt: HostRuntime) {
 
 // Notes that the writer comes.
 fn note_writer(store: &mut MemStore) -> Result<(), SlateDBError>
-    ensures { OnOk result (store.new.told
-        ≡ told_by 0 model.Writer (Plain (model.Start model.Writer)) None store.old.told) }
+    ensures { OnOk result (store.new.world
+        ≡ after_call 0 model.Writer (Plain (model.Start model.Writer)) None store.old.world) }
 {
     store.set_actor(0, Party::Writer);
     let mut under = store.under(&AppendOperator);
@@ -171,9 +171,9 @@ fn table(alloc: Global) -> Result<TableData, SlateDBError> {
 
 // Puts a table into a fresh store, as the writer.
 fn put_table(store: &mut MemStore, alloc: Global) -> Result<(), SlateDBError>
-    requires { store.old.told ≡ fresh_told }
-    ensures { OnOk result ((rows : List Row) × (store.new.told
-        ≡ told_by 0 model.Writer (PutsTable 1 rows) None fresh_told)) }
+    requires { store.old.world ≡ fresh_world }
+    ensures { OnOk result ((rows : List Row) × (store.new.world
+        ≡ after_call 0 model.Writer (PutsTable 1 rows) None fresh_world)) }
 {
     let table = table(alloc)?;
     table.know_table();
@@ -200,8 +200,8 @@ fn a_put_of_a_table_is_struck(rt: HostRuntime) {
 // Puts a table that a sweep may delete into a fresh store: the writer, which put it, goes on without
 // a flush.
 fn put_loose_table(store: &mut MemStore, alloc: Global) -> Result<(), SlateDBError>
-    requires { store.old.told ≡ fresh_told }
-    ensures { OnOk result (DeletionFits model.Sweeper store.new.told.store 1) }
+    requires { store.old.world ≡ fresh_world }
+    ensures { OnOk result (DeletionFits model.Sweeper store.new.world.store 1) }
 {
     put_table(store, alloc)?;
     note_writer(store)

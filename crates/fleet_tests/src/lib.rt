@@ -27,6 +27,8 @@ mod rivals;
 #[cfg(test)]
 mod scripts;
 #[cfg(test)]
+mod spelt;
+#[cfg(test)]
 mod stores;
 #[cfg(test)]
 mod streams;
@@ -34,7 +36,5 @@ mod streams;
 mod tables;
 #[cfg(test)]
 mod texts;
-#[cfg(test)]
-mod told;
 #[cfg(test)]
 mod values;

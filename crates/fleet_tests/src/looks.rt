@@ -1,5 +1,5 @@
 // Looking ahead, calls that come too early, and iterators without rows.
-use crate::told::{are_told, given, list, merge};
+use crate::spelt::{are_spelt, given, list, merge};
 use fleet_fold::{AppendOperator, MERGE_OPERATOR_OPERANDS, MergeOperatorIterator};
 use fleet_iter::{
     EmptyIterator, ListIterator, PeekingIterator, ResumingIterator, RowEntryIterator,
@@ -24,7 +24,7 @@ fn taken(alloc: Global, list: &mut PeekingIterator<ListIterator>) -> Option<u64>
 }
 
 #[test]
-fn a_peek_keeps_the_rows_behind(rt: HostRuntime) {
+fn a_peek_keeps_the_rows_after(rt: HostRuntime) {
     let list = list(rt.alloc(), "a:v:-:4,a:v:-:3").expect(&rt, "rows");
     let mut list = PeekingIterator::new(list);
     assert!(rt; looked(rt.alloc(), &mut list) == Some(4));
@@ -46,7 +46,7 @@ fn folding_is_made_ready_first(rt: HostRuntime) {
     assert!(rt; is_unready(folding.seek(rt.alloc(), b"l".as_slice())));
     assert!(rt; is_unready(folding.next(rt.alloc())));
     folding.init(rt.alloc()).expect(&rt, "a start");
-    assert!(rt; are_told(rt.alloc(), given(rt.alloc(), &mut folding), "k:v:12:2"));
+    assert!(rt; are_spelt(rt.alloc(), given(rt.alloc(), &mut folding), "k:v:12:2"));
     assert!(rt; MERGE_OPERATOR_OPERANDS == "slatedb.merge_operator_operands");
 }
 

@@ -46,7 +46,7 @@ struct ShortSink {
 }
 
 impl Sink for ShortSink {
-    ghost told = { λ s. record { written = None; taken = s.taken; faults = 0 } };
+    ghost view = { λ s. record { written = None; taken = s.taken; faults = 0 } };
 
     fn write(&mut self, from: &[u8]) -> Result<usize, Failed> {
         let taken = self.taken.saturating_add(from.len() as u64);

@@ -105,9 +105,9 @@ fn printed(rt: HostRuntime) {
 }
 
 #[test]
-fn a_range_behind_a_prefix(rt: HostRuntime) {
+fn a_range_after_a_prefix(rt: HostRuntime) {
     let above = range(rt.alloc(), b"xa", b"*").expect(&rt, "a range");
-    let behind = BytesRange::from_prefix_and_subrange(rt.alloc(), b"p", above);
+    let after = BytesRange::from_prefix_and_subrange(rt.alloc(), b"p", above);
     let wanted = range(rt.alloc(), b"xpa", b"xq").expect(&rt, "a range");
-    assert!(rt; behind.expect(&rt, "memory") == Some(wanted));
+    assert!(rt; after.expect(&rt, "memory") == Some(wanted));
 }

@@ -54,7 +54,7 @@ struct SlowSink<'a> {
 impl Sink for SlowSink<'_> {
     ghost use Rattle.fleet_run.specs.Memory.{sink_view};
 
-    ghost told = { λ s. sink_view s.inner };
+    ghost view = { λ s. sink_view s.inner };
 
     fn write(&mut self, from: &[u8]) -> Result<usize, Failed> {
         self.inner.write(&from[..from.len().min(1)])

@@ -88,7 +88,7 @@ pub(crate) fn ends_with(store: &MemStore, answer: Answer) -> bool {
     }
 }
 
-// The answer that a put was told.
+// The answer that a put gave.
 fn answer_of(put: Result<u64, SlateDBError>) -> Answer {
     match put {
         Ok(version) => Answer::Done(version),
@@ -97,8 +97,8 @@ fn answer_of(put: Result<u64, SlateDBError>) -> Answer {
     }
 }
 
-// Whether a put was told this answer, and its entry has it.
-fn is_told(put: Result<u64, SlateDBError>, store: &MemStore, answer: Answer) -> bool {
+// Whether a put gave this answer, and its entry has it.
+fn is_answered(put: Result<u64, SlateDBError>, store: &MemStore, answer: Answer) -> bool {
     answer_of(put) == answer && ends_with(store, answer)
 }
 
@@ -112,7 +112,7 @@ fn an_old_version_of_the_manifest_is_refused(rt: HostRuntime) {
         (3, Answer::Done(4)),
     ] {
         let put = put_manifest(&mut store, rt.alloc(), version);
-        assert!(rt; is_told(put, &store, answer), "at {version}");
+        assert!(rt; is_answered(put, &store, answer), "at {version}");
     }
     assert_eq!(rt; store.manifest().id, 4);
 }
@@ -121,11 +121,11 @@ fn an_old_version_of_the_manifest_is_refused(rt: HostRuntime) {
 fn an_old_version_of_the_records_is_refused(rt: HostRuntime) {
     let mut store = MemStore::new(rt.alloc()).expect(&rt, "memory");
     let put = put_over_none(&mut store, rt.alloc(), 1);
-    assert!(rt; is_told(put, &store, Answer::Conflict(0)));
+    assert!(rt; is_answered(put, &store, Answer::Conflict(0)));
     let put = start(&mut store, rt.alloc());
-    assert!(rt; is_told(put, &store, Answer::Done(1)));
+    assert!(rt; is_answered(put, &store, Answer::Done(1)));
     for (version, answer) in [(0, Answer::Conflict(1)), (1, Answer::Done(2))] {
         let put = put_records(&mut store, rt.alloc(), version);
-        assert!(rt; is_told(put, &store, answer), "at {version}");
+        assert!(rt; is_answered(put, &store, answer), "at {version}");
     }
 }

@@ -15,17 +15,17 @@ use std::alloc::Global;
 // A row: its key, the length of its value, and its sequence.
 type Row = (&'static [u8], usize, u64);
 
-fn row(alloc: Global, told: Row) -> Result<RowEntry, SlateDBError> {
-    let (key, len, seq) = told;
+fn row(alloc: Global, spelt: Row) -> Result<RowEntry, SlateDBError> {
+    let (key, len, seq) = spelt;
     let value = Bytes::from_vec(vec![in alloc; b'v'; len]?)?;
     let key = Bytes::copy_from_slice(alloc, key)?;
     Ok(RowEntry::new(key, ValueDeletable::Value(value), seq, None, None))
 }
 
-fn table(alloc: Global, told: &[Row]) -> Result<TableData, SlateDBError> {
+fn table(alloc: Global, spelt: &[Row]) -> Result<TableData, SlateDBError> {
     let mut rows = Vec::new(alloc);
-    'rows: for told in told {
-        rows.push(row(alloc, *told)?)?;
+    'rows: for spelt in spelt {
+        rows.push(row(alloc, *spelt)?)?;
     }
     if rows.is_empty() || !are_strictly_ordered(&rows) || !are_in_bounds(&rows) {
         return Err(SlateDBError::InvalidDBState);
@@ -33,14 +33,14 @@ fn table(alloc: Global, told: &[Row]) -> Result<TableData, SlateDBError> {
     Ok(TableData::from_rows(alloc, rows)?)
 }
 
-fn described(alloc: Global, told: &[Row], id: u64) -> Result<SsTableHandle, SlateDBError>
+fn described(alloc: Global, spelt: &[Row], id: u64) -> Result<SsTableHandle, SlateDBError>
     ensures { IfOk result (λ handle. is_le (key_cmp handle.first_key handle.last_key) ≡ true) }
 {
-    Ok(table(alloc, told)?.describe(Ulid::from_parts(0, id as u128))?)
+    Ok(table(alloc, spelt)?.describe(Ulid::from_parts(0, id as u128))?)
 }
 
-fn view(alloc: Global, id: u64, told: &[Row]) -> Result<SsTableView, SlateDBError> {
-    Ok(SsTableView::identity(described(alloc, told, id)?)?)
+fn view(alloc: Global, id: u64, spelt: &[Row]) -> Result<SsTableView, SlateDBError> {
+    Ok(SsTableView::identity(described(alloc, spelt, id)?)?)
 }
 
 static VERSIONS: [Row; 5] = [

@@ -168,7 +168,7 @@ fn reads_the_same_again(rt: HostRuntime) {
     assert!(rt; again.as_slice() == lines.as_slice());
 }
 
-// Appends the jobs, the names of the tables with their numbers, and a space behind each.
+// Appends the jobs, the names of the tables with their numbers, and a space after each.
 fn print_jobs(reply: &mut Reply, jobs: &JobList) -> Result<(), SlateDBError> {
     reply.jobs(jobs)?;
     reply.word(" ")?;
@@ -191,7 +191,7 @@ fn jobs_and_tables(rt: HostRuntime) {
     assert!(rt; reply == reply);
 }
 
-// Appends the rules, the places, and a space behind each.
+// Appends the rules, the places, and a space after each.
 fn print_rules(
     reply: &mut Reply,
     rules: &RuleList,
@@ -238,7 +238,7 @@ fn value(rt: &impl Abort, alloc: Global) -> ValueDeletable {
     ValueDeletable::Value(Bytes::copy_from_slice(alloc, b"z").expect(rt, "a value"))
 }
 
-// Appends rows, and a space behind them.
+// Appends rows, and a space after them.
 fn print_rows(reply: &mut Reply, rows: &[RowEntry]) -> Result<(), SlateDBError> {
     reply.rows(rows)?;
     reply.word(" ")

@@ -5,7 +5,7 @@ use Rattle.std.specs.List.{AllByRecursion, list_any}
 use Rattle.std.proofs.lemmas.List.{length-map}
 use Rattle.std.proofs.lemmas.List.Folds.{list_any-append}
 use Rattle.std.proofs.Math.Bool.{or-false}
-use Rattle.script_model.specs.Script.{spelt, script_text, AreLines, IsScript, IsBadAt, StartCoordinator, StartWorker}
+use Rattle.script_model.specs.Script.{spelt_line, script_text, AreLines, IsScript, IsBadAt, StartCoordinator, StartWorker}
 use Rattle.script_model.specs.Script as model
 use Rattle.script_model.specs.Grammars.{job_grammar, starts_coordinator, starts_worker, IsNoSecondStart}
 use Rattle.script_laws.proofs.Pieces.{lacks_all, same_front, no_front, not_nothing}
@@ -25,9 +25,9 @@ pub map-push : {X Y : Type 0} (f : X → Y) (xs : List X) (y : X) → map f (xs 
 map-push f [] y = refl
 map-push f (x ∷ xs) y = ap (λ l. f x ∷ l) (map-push f xs y)
 
-script_text-push : (lines : List model.Line) (line : model.Line) → script_text (lines ++ line ∷ []) ≡ script_text lines ++ spelt line
-script_text-push [] line = append-nil (spelt line)
-script_text-push (l ∷ lines) line = ap (λ t. spelt l ++ t) (script_text-push lines line) ∙ sym (append_assoc (spelt l) (script_text lines) (spelt line))
+script_text-push : (lines : List model.Line) (line : model.Line) → script_text (lines ++ line ∷ []) ≡ script_text lines ++ spelt_line line
+script_text-push [] line = append-nil (spelt_line line)
+script_text-push (l ∷ lines) line = ap (λ t. spelt_line l ++ t) (script_text-push lines line) ∙ sym (append_assoc (spelt_line l) (script_text lines) (spelt_line line))
 
 AreLines-push : (grammar : model.Grammar) (before lines : List model.Line) (line : model.Line) → AreLines grammar before lines → grammar (before ++ lines) line → AreLines grammar before (lines ++ line ∷ [])
 AreLines-push grammar before [] line h g = (subst (λ b. grammar b line) (append-nil before) g, tt)
@@ -66,9 +66,9 @@ pub record ReadsLines (text : List ℕ) (lines : List Line) (started : Started) 
 pub reads_none : (text : List ℕ) (started : Started) → started.coordinator ≡ false → started.worker ≡ false → ReadsLines text [] started text
 reads_none text started c w = record { each = tt; starts = record { coordinator = c; worker = w }; whole = refl }
 
-pub reads_more : (text : List ℕ) (lines : List Line) (started after : Started) (rest front behind : List ℕ) (line : Line) → ReadsLines text lines started rest → rest ≡ front ++ 10 ∷ behind → MayFollow started (line_of line) × (front ≡ line_text (line_of line))
-    → after.coordinator ≡ (started.coordinator || starts_coordinator (line_of line)) → after.worker ≡ (started.worker || starts_worker (line_of line)) → ReadsLines text (lines ++ line ∷ []) after behind
-reads_more text lines started after rest front behind line r cut read c w =
+pub reads_more : (text : List ℕ) (lines : List Line) (started after : Started) (rest front afterwards : List ℕ) (line : Line) → ReadsLines text lines started rest → rest ≡ front ++ 10 ∷ afterwards → MayFollow started (line_of line) × (front ≡ line_text (line_of line))
+    → after.coordinator ≡ (started.coordinator || starts_coordinator (line_of line)) → after.worker ≡ (started.worker || starts_worker (line_of line)) → ReadsLines text (lines ++ line ∷ []) after afterwards
+reads_more text lines started after rest front afterwards line r cut read c w =
     let ls = lines_of lines in
     let l = line_of line in
     let one : lines_of (lines ++ line ∷ []) ≡ ls ++ l ∷ [] = map-push line_of lines line in
@@ -76,8 +76,8 @@ reads_more text lines started after rest front behind line r cut read c w =
       each = rw one (AreLines-push job_grammar [] ls l r.each (follows ls started l r.starts read.0));
       starts = rw one (record { coordinator = one_more starts_coordinator ls l _ _ r.starts.coordinator c; worker = one_more starts_worker ls l _ _ r.starts.worker w });
       whole =
-          r.whole ∙ ap (λ t. script_text ls ++ t) (cut ∙ ap (λ t. t ++ 10 ∷ behind) read.1 ∙ sym (with_newline (line_text l) behind))
-          ∙ sym (append_assoc (script_text ls) (spelt l) behind) ∙ ap (λ t. t ++ behind) (sym (script_text-push ls l)) ∙ ap (λ t. script_text t ++ behind) (sym one);
+          r.whole ∙ ap (λ t. script_text ls ++ t) (cut ∙ ap (λ t. t ++ 10 ∷ afterwards) read.1 ∙ sym (with_newline (line_text l) afterwards))
+          ∙ sym (append_assoc (script_text ls) (spelt_line l) afterwards) ∙ ap (λ t. t ++ afterwards) (sym (script_text-push ls l)) ∙ ap (λ t. script_text t ++ afterwards) (sym one);
     }
 
 pub reads_all : (text : List ℕ) (lines : List Line) (started : Started) (rest : List ℕ) → ReadsLines text lines started rest → length rest ≡ 0 → IsScript job_grammar text (lines_of lines)
@@ -88,16 +88,16 @@ bad_number : (lines : List Line) (n : ℕ) → length lines + 1 ≡ n → length
 bad_number lines n e = let len = length-map lines line_of in omega (arith, e, len)
 
 -- The front of the rest, up to its newline, is no line, so the line after those read is bad.
-pub bad_front : (text : List ℕ) (lines : List Line) (started : Started) (rest front behind : List ℕ) (n : ℕ) → ReadsLines text lines started rest → All (λ b. b ≢ 10) front → rest ≡ front ++ 10 ∷ behind → ((line : model.Line) → MayFollow started line → front ≢ line_text line)
+pub bad_front : (text : List ℕ) (lines : List Line) (started : Started) (rest front afterwards : List ℕ) (n : ℕ) → ReadsLines text lines started rest → All (λ b. b ≢ 10) front → rest ≡ front ++ 10 ∷ afterwards → ((line : model.Line) → MayFollow started line → front ≢ line_text line)
     → length lines + 1 ≡ n → IsBadAt job_grammar text n
-bad_front text lines started rest front behind n r lacks cut none number = record {
+bad_front text lines started rest front afterwards n r lacks cut none number = record {
   before = lines_of lines;
   rest = rest;
   whole = r.whole;
   each = r.each;
   number = bad_number lines n number;
-  something = λ e. not_nothing 10 front behind (sym cut ∙ e);
-  none = λ line more fits e. none line (may_follow (lines_of lines) started line r.starts fits) (same_front 10 front behind (line_text line) more (lacks_all 10 front lacks) (line_lacks line fits.0) (sym cut ∙ e ∙ with_newline (line_text line) more)).0;
+  something = λ e. not_nothing 10 front afterwards (sym cut ∙ e);
+  none = λ line more fits e. none line (may_follow (lines_of lines) started line r.starts fits) (same_front 10 front afterwards (line_text line) more (lacks_all 10 front lacks) (line_lacks line fits.0) (sym cut ∙ e ∙ with_newline (line_text line) more)).0;
 }
 
 -- The rest is not empty and has no newline, so the line after those read is bad.

@@ -16,7 +16,7 @@ pub enum NodeName {
 }
 
 // The bytes after this letter, or None if the word does not begin with it.
-fn behind(word: &[u8], letter: u8) -> Option<&[u8]>
+fn after(word: &[u8], letter: u8) -> Option<&[u8]>
     ensures { MatchOption result
         ((rest : List ℕ) → word.now ≢ letter ∷ rest) (λ rest. word.now ≡ letter ∷ rest.now) }
 {
@@ -30,14 +30,14 @@ fn behind(word: &[u8], letter: u8) -> Option<&[u8]>
 pub fn source_of(word: &[u8]) -> Option<u64>
     ensures { Reads (λ name. codes "l" ++ decimal name) IsName word.now result }
 {
-    name_of(behind(word, b'l')?)
+    name_of(after(word, b'l')?)
 }
 
 /// Reads a node: a flush, or a sorted run spelt as `r` and a number below 2^32.
 pub fn node_at(word: &[u8]) -> Option<NodeName>
     ensures { ReadsAs node_of node_text IsNode word.now result }
 {
-    if let Some(id) = behind(word, b'r') {
+    if let Some(id) = after(word, b'r') {
         return Some(NodeName::Run(run_of(id)?));
     }
     Some(NodeName::L0(source_of(word)?))

@@ -40,13 +40,13 @@ fn read_lines(alloc: Global, text: &[u8]) -> Result<LineList, TextError>
         worker: false,
     };
     let mut rest = text;
-    'lines: while let Some((front, behind)) = cut(rest, b'\n') {
+    'lines: while let Some((front, after)) = cut(rest, b'\n') {
         let Some(line) = line_after(alloc, front, started)? else {
             return Err(bad_after(&lines));
         };
         started = started.with(&line);
         lines.push(line)?;
-        rest = behind;
+        rest = after;
     }
     if !rest.is_empty() {
         return Err(bad_after(&lines));

@@ -10,7 +10,7 @@ use Rattle.std.proofs.lemmas.Cmp.{nat_list_cmp_total}
 use Rattle.row_model.specs.Rows.{key_cmp}
 use Rattle.row_laws.proofs.ApartRows.{false_or}
 use Rattle.row_laws.proofs.KeyRows.{exact, key_alike}
-use Rattle.fleet_tree.specs.Trees.{flushed, flushed_on, tree_or_empty, empty_tree}
+use Rattle.fleet_tree.specs.Trees.{flushed_segments, flushed_on, tree_or_empty, empty_tree}
 use Rattle.fleet_tree.specs.Views.{View}
 use Rattle.fleet_tree.specs.declared.tree.LsmTreeState.{LsmTreeState}
 
@@ -34,19 +34,19 @@ module _ (prefix : List ℕ) (view : View) (seq : ℕ) where
       let alike = ap (λ k. key_cmp k prefix) (sym ((bytes_eq-Decides prefix s.0).0 same)) ∙ key_alike prefix in
       apart (sym is ∙ alike))
 
-  behind : (there : Bool) (tree : LsmTreeState) (s : List ℕ × LsmTreeState) (xs : Segments) (n : ℕ) → put_found (1 + n) (there, tree) (s ∷ xs) ≡ s ∷ put_found n (there, tree) xs
-  behind there tree s xs n = next there
+  after : (there : Bool) (tree : LsmTreeState) (s : List ℕ × LsmTreeState) (xs : Segments) (n : ℕ) → put_found (1 + n) (there, tree) (s ∷ xs) ≡ s ∷ put_found n (there, tree) xs
+  after there tree s xs n = next there
     where
       next : (b : Bool) → put_found (1 + n) (b, tree) (s ∷ xs) ≡ s ∷ put_found n (b, tree) xs
       next true = let e : 1 + n ≡ suc n = omega arith in ap (λ m. slice_set (s ∷ xs) m (prefix, flushed_on view seq tree)) e
       next false = let e : 1 + n ≡ suc n = omega arith in ap (λ m. take m (s ∷ xs) ++ (prefix, flushed_on view seq tree) ∷ drop m (s ∷ xs)) e
 
-  got_behind : (s : List ℕ × LsmTreeState) (xs : Segments) (n : ℕ) → slice_get (s ∷ xs) (1 + n) ≡ slice_get xs n
-  got_behind s xs n = let e : 1 + n ≡ suc n = omega arith in ap (slice_get (s ∷ xs)) e
+  got_after : (s : List ℕ × LsmTreeState) (xs : Segments) (n : ℕ) → slice_get (s ∷ xs) (1 + n) ≡ slice_get xs n
+  got_after s xs n = let e : 1 + n ≡ suc n = omega arith in ap (slice_get (s ∷ xs)) e
 
-  -- What `flushed` makes of `s ∷ xs`, given the answers of its two tests.
+  -- What `flushed_segments` makes of `s ∷ xs`, given the answers of its two tests.
   abbrev chosen : Bool → Bool → List ℕ × LsmTreeState → Segments → Segments
-  chosen same lower s xs = cond same ((prefix, flushed_on view seq s.1) ∷ xs) (cond lower ((prefix, flushed_on view seq empty_tree) ∷ s ∷ xs) (s ∷ flushed prefix view seq xs))
+  chosen same lower s xs = cond same ((prefix, flushed_on view seq s.1) ∷ xs) (cond lower ((prefix, flushed_on view seq empty_tree) ∷ s ∷ xs) (s ∷ flushed_segments prefix view seq xs))
 
   chosen_by : (same lower b c : Bool) (s : List ℕ × LsmTreeState) (xs : Segments) → same ≡ b → lower ≡ c → chosen b c s xs ≡ chosen same lower s xs
   chosen_by same lower b c s xs e f = sym (ap (λ x. chosen x lower s xs) e ∙ ap (λ x. chosen b x s xs) f)
@@ -57,16 +57,16 @@ module _ (prefix : List ℕ) (view : View) (seq : ℕ) where
   abbrev here : Bool → List ℕ × LsmTreeState → Bool × LsmTreeState
   here same s = cond same (true, s.1) (false, empty_tree)
 
-  pub flushed_at : (xs : Segments) → put_found (place_in xs) (tree_or_empty prefix (slice_get xs (place_in xs))) xs ≡ flushed prefix view seq xs
+  pub flushed_at : (xs : Segments) → put_found (place_in xs) (tree_or_empty prefix (slice_get xs (place_in xs))) xs ≡ flushed_segments prefix view seq xs
   flushed_at [] = refl
   flushed_at (s ∷ xs) = by (key_cmp s.0 prefix) refl (flushed_at xs)
     where
-      by : (o : Ordering) → key_cmp s.0 prefix ≡ o → put_found (place_in xs) (tree_or_empty prefix (slice_get xs (place_in xs))) xs ≡ flushed prefix view seq xs
-          → put_found (cond (is_lt o) (1 + place_in xs) 0) (tree_or_empty prefix (slice_get (s ∷ xs) (cond (is_lt o) (1 + place_in xs) 0))) (s ∷ xs) ≡ flushed prefix view seq (s ∷ xs)
+      by : (o : Ordering) → key_cmp s.0 prefix ≡ o → put_found (place_in xs) (tree_or_empty prefix (slice_get xs (place_in xs))) xs ≡ flushed_segments prefix view seq xs
+          → put_found (cond (is_lt o) (1 + place_in xs) 0) (tree_or_empty prefix (slice_get (s ∷ xs) (cond (is_lt o) (1 + place_in xs) 0))) (s ∷ xs) ≡ flushed_segments prefix view seq (s ∷ xs)
       by Less e rest =
           let found = tree_or_empty prefix (slice_get xs (place_in xs)) in
-          ap (λ got. put_found (1 + place_in xs) (tree_or_empty prefix got) (s ∷ xs)) (got_behind s xs (place_in xs))
-          ∙ behind found.0 found.1 s xs (place_in xs)
+          ap (λ got. put_found (1 + place_in xs) (tree_or_empty prefix got) (s ∷ xs)) (got_after s xs (place_in xs))
+          ∙ after found.0 found.1 s xs (place_in xs)
           ∙ ap (λ trees. s ∷ trees) rest
           ∙ chosen_by (bytes_eq prefix s.0) (is_lt (key_cmp prefix s.0)) false false s xs (other_prefix s Less e (λ h. cc h)) (lower_is s Less e)
       by Equal e rest =
@@ -76,10 +76,10 @@ module _ (prefix : List ℕ) (view : View) (seq : ℕ) where
           let other = other_prefix s Greater e (λ h. cc h) in
           ap (λ b. put_found 0 (here b s) (s ∷ xs)) other ∙ chosen_by (bytes_eq prefix s.0) (is_lt (key_cmp prefix s.0)) false true s xs other (lower_is s Greater e)
 
-  -- Putting the segment with the flush at the place that was looked up makes what `flushed` makes.
+  -- Putting the segment with the flush at the place that was looked up makes what `flushed_segments` makes.
   pub put_is : (xs : Segments) (place : ℕ) (there : Bool) (tree made : LsmTreeState) (got : Option (List ℕ × LsmTreeState)) (key : List ℕ)
       → place ≡ place_in xs → got ≡ slice_get xs place → (there, tree) ≡ tree_or_empty prefix got → made ≡ flushed_on view seq tree → key ≡ prefix
-      → put_at there place (key, made) xs ≡ flushed prefix view seq xs
+      → put_at there place (key, made) xs ≡ flushed_segments prefix view seq xs
   put_is xs place there tree made got key at looked found with_flush same =
       ap (λ k. put_at there place (k, made) xs) same
       ∙ ap (λ t. put_at there place (prefix, t) xs) with_flush
@@ -88,7 +88,7 @@ module _ (prefix : List ℕ) (view : View) (seq : ℕ) where
       ∙ ap (λ n. put_found n (tree_or_empty prefix (slice_get xs n)) xs) at
       ∙ flushed_at xs
 
-  pub root_first : (s : List ℕ × LsmTreeState) (xs : Segments) → s.0 ≡ [] → prefix ≢ [] → s ∷ flushed prefix view seq xs ≡ flushed prefix view seq (s ∷ xs)
+  pub root_first : (s : List ℕ × LsmTreeState) (xs : Segments) → s.0 ≡ [] → prefix ≢ [] → s ∷ flushed_segments prefix view seq xs ≡ flushed_segments prefix view seq (s ∷ xs)
   root_first s xs root some =
       chosen_by (bytes_eq prefix s.0) (is_lt (key_cmp prefix s.0)) false false s xs
       (false_or (bytes_eq prefix s.0) (λ same. some ((bytes_eq-Decides prefix s.0).0 same ∙ root)))
@@ -98,7 +98,7 @@ module _ (prefix : List ℕ) (view : View) (seq : ℕ) where
       none_lower [] = refl
       none_lower (b ∷ key) = refl
 
-pub root_flushed : (prefix : List ℕ) (view : View) (seq : ℕ) (s : List ℕ × LsmTreeState) (xs : Segments) → s.0 ≡ [] → prefix ≡ [] → ([], flushed_on view seq s.1) ∷ xs ≡ flushed prefix view seq (s ∷ xs)
+pub root_flushed : (prefix : List ℕ) (view : View) (seq : ℕ) (s : List ℕ × LsmTreeState) (xs : Segments) → s.0 ≡ [] → prefix ≡ [] → ([], flushed_on view seq s.1) ∷ xs ≡ flushed_segments prefix view seq (s ∷ xs)
 root_flushed prefix view seq s xs root none =
     let same : bytes_eq prefix s.0 ≡ true = (bytes_eq-Decides prefix s.0).1 (none ∙ sym root) in
     ap (λ k. (k, flushed_on view seq s.1) ∷ xs) (sym none) ∙ chosen_by prefix view seq (bytes_eq prefix s.0) (is_lt (key_cmp prefix s.0)) true (is_lt (key_cmp prefix s.0)) s xs same refl

@@ -38,11 +38,11 @@ flushed_on view seq t = record t { l0 = view ∷ t.l0; last_seq = Some seq }
 
 -- The trees after a flush is put in front of its segment's tree. If the segment is not among them, it is
 -- inserted by rising prefix, with a tree of this flush alone.
-abbrev pub flushed : List ℕ → View → ℕ → List (List ℕ × LsmTreeState) → List (List ℕ × LsmTreeState)
-flushed prefix view seq [] = (prefix, flushed_on view seq empty_tree) ∷ []
-flushed prefix view seq (s ∷ trees) =
+abbrev pub flushed_segments : List ℕ → View → ℕ → List (List ℕ × LsmTreeState) → List (List ℕ × LsmTreeState)
+flushed_segments prefix view seq [] = (prefix, flushed_on view seq empty_tree) ∷ []
+flushed_segments prefix view seq (s ∷ trees) =
     if bytes_eq prefix s.0 then (prefix, flushed_on view seq s.1) ∷ trees
-    else (if is_lt (key_cmp prefix s.0) then (prefix, flushed_on view seq empty_tree) ∷ s ∷ trees else s ∷ flushed prefix view seq trees)
+    else (if is_lt (key_cmp prefix s.0) then (prefix, flushed_on view seq empty_tree) ∷ s ∷ trees else s ∷ flushed_segments prefix view seq trees)
 
 -- Whether this segment has this prefix, and its tree if it does. Without such a segment the tree is empty.
 abbrev pub tree_or_empty : List ℕ → Option (List ℕ × LsmTreeState) → Bool × LsmTreeState

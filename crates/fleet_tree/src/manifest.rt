@@ -7,7 +7,7 @@ ghost use Rattle.std.specs.Ordering.{is_lt};
 ghost use Rattle.fleet_model.specs.Tracker.{tracked_after};
 ghost use Rattle.row_model.specs.Rows.{key_cmp};
 ghost use Rattle.fleet_tree.specs.Manifests.{cut_of, tracker_of};
-ghost use Rattle.fleet_tree.specs.Trees.{flushed, tree_or_empty, trees_with_prefix};
+ghost use Rattle.fleet_tree.specs.Trees.{flushed_segments, tree_or_empty, trees_with_prefix};
 
 use crate::tracker::{cut_before, tracked_after};
 use crate::{LsmTreeState, SegmentList, SsTableView, TrackerList, Trees, TreesWithPrefix};
@@ -78,7 +78,7 @@ impl ManifestCore {
         retention_ms: u64,
     ) -> Result<(), SlateDBError>
         ensures trees { OnOk result (trees_with_prefix self.new
-            ≡ flushed segment.now view last_seq (trees_with_prefix self.old)) }
+            ≡ flushed_segments segment.now view last_seq (trees_with_prefix self.old)) }
         ensures floor { OnOk result (self.new.recent_snapshot_min_seq ≡ floor) }
         ensures tick { OnOk result (self.new.last_l0_clock_tick ≡ tick) }
         ensures tracker { OnOk result (tracker_of self.new.tracker
@@ -146,7 +146,7 @@ fn flush_tree(
     last_seq: u64,
 ) -> Result<(), SlateDBError>
     ensures ok { OnOk result (([], root.new) ∷ segments.new
-        ≡ flushed prefix.now view last_seq (([], root.old) ∷ segments.old)) }
+        ≡ flushed_segments prefix.now view last_seq (([], root.old) ∷ segments.old)) }
     ensures root { OnErr result (root.new ≡ root.old) }
     ensures segments { OnErr result (segments.new ≡ segments.old) }
     ensures memory { IsOkUnless result SlateDBError.Memory }
@@ -166,7 +166,7 @@ fn flush_segment(
     view: SsTableView,
     last_seq: u64,
 ) -> Result<(), SlateDBError>
-    ensures ok { OnOk result (segments.new ≡ flushed prefix.now view last_seq segments.old) }
+    ensures ok { OnOk result (segments.new ≡ flushed_segments prefix.now view last_seq segments.old) }
     ensures err { OnErr result (segments.new ≡ segments.old) }
     ensures memory { IsOkUnless result SlateDBError.Memory }
 {

@@ -1,7 +1,7 @@
 //! Sorted runs.
 
 ghost use Rattle.std.specs.Prelude.{◌≡◌, ◌+◌, fold, IfOk, IsOkUnless};
-ghost use Rattle.row_model.specs.Sizes.{saturated};
+ghost use Rattle.row_model.specs.Sizes.{saturated_sum};
 ghost use Rattle.fleet_tree.specs.Sizes.{run_size};
 
 use crate::{SsTableView, ViewList};
@@ -54,13 +54,13 @@ impl Copies for SortedRun {
 
 // The sum of the tables' sizes, in bytes.
 fn size_of(views: &[SsTableView]) -> u64
-    ensures { result ≡ fold (λ size view. saturated (size + view.sst.size)) 0 views.now }
+    ensures { result ≡ fold (λ size view. saturated_sum (size + view.sst.size)) 0 views.now }
 {
     views.iter().fold(0, with_view)
 }
 
 fn with_view(size: u64, view: &SsTableView) -> u64
-    ensures { result ≡ saturated (size + view.now.sst.size) }
+    ensures { result ≡ saturated_sum (size + view.now.sst.size) }
 {
     size.saturating_add(view.estimate_size())
 }

@@ -18,7 +18,7 @@ use Rattle.script_model.specs.LineSteps.{OneCourse}
 use Rattle.script_model.specs.WorkLines.{worker_options, running, worker_line, claim_line}
 use Rattle.script_model.specs.Settles.{is_ok}
 use Rattle.line_laws.specs.ClaimLines.{begun_in, ClaimRan, ClaimsTake}
-use Rattle.line_laws.proofs.Lines.{caller_of, told_of}
+use Rattle.line_laws.proofs.Lines.{caller_of, world_of}
 use Rattle.line_laws.proofs.WorkerLines.{is_worker}
 use Rattle.line_laws.proofs.Reports.{step_reported}
 use Rattle.line_laws.proofs.ClaimRuns.{claim_took}
@@ -43,8 +43,8 @@ claims_take inputs old new n answer c ok = by (worker_with n old.parties) refl (
         let who : Caller = caller_of inputs.merge c.number (Worker w.number) in
         let step = claim (worker_options old.options) old.moment w in
         let r = step_reported inputs.merge c.number old (Worker w.number) step (λ (r : Claimed). claim_reply r.begun r.stopped) (λ (r : Claimed). running w old r.attempts) (running w old w.attempts) (without_worker w.number old.parties) c.keeps answer new is c.had_room ok in
-        let lawful = claims_are_lawful who (told_of inputs.merge old c.keeps) (worker_options old.options) old.moment w (calls_keep inputs.merge c.lawful) c.keeps.fleet.store refl in
-        let t = claim_took who (worker_options old.options) old.moment w (told_of inputs.merge old c.keeps) r.left r.report (calls_keep inputs.merge c.lawful) refl (record { kept = c.keeps.fleet.store; lawful = lawful; run = r.run }) in
+        let lawful = claims_are_lawful who (world_of inputs.merge old c.keeps) (worker_options old.options) old.moment w (calls_keep inputs.merge c.lawful) c.keeps.fleet.store refl in
+        let t = claim_took who (worker_options old.options) old.moment w (world_of inputs.merge old c.keeps) r.left r.report (calls_keep inputs.merge c.lawful) refl (record { kept = c.keeps.fleet.store; lawful = lawful; run = r.run }) in
         record {
           worker = w;
           live = live;

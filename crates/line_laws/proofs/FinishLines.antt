@@ -15,10 +15,10 @@ use Rattle.script_model.specs.Refusals.{FinishMay}
 use Rattle.script_model.specs.LineRuns.{run_line, no_such_party, if_some, LineCourse}
 use Rattle.script_model.specs.LineCourses.{course_of, job_at}
 use Rattle.script_model.specs.LineSteps.{OneCourse}
-use Rattle.script_model.specs.WorkLines.{worker_options, running, dropped, finish_line}
+use Rattle.script_model.specs.WorkLines.{worker_options, running, without_attempt, finish_line}
 use Rattle.script_model.specs.Settles.{is_ok}
 use Rattle.line_laws.specs.FinishLines.{FinishRan, FinishesEnd}
-use Rattle.line_laws.proofs.Lines.{caller_of, told_of}
+use Rattle.line_laws.proofs.Lines.{caller_of, world_of}
 use Rattle.line_laws.proofs.WorkerLines.{is_attempt, whole_unless}
 use Rattle.line_laws.proofs.Reports.{step_reported}
 use Rattle.line_laws.proofs.ClaimLines.{found_worker}
@@ -35,8 +35,8 @@ finish_is inputs number old new n job answer one = ap (run_line number old) (sym
 pub finishes_end : FinishesEnd
 finishes_end inputs old new n job answer c ok = by c.course.does.refusal (job_at old n job) refl c.course.does.may (finish_is inputs c.number old new n job answer c.course)
   where
-    told : FinishedJob → List ℕ
-    told r = reply (codes "ok" ∷ ranges_text r.outputs ∷ [])
+    spell : FinishedJob → List ℕ
+    spell r = reply (codes "ok" ∷ ranges_text r.outputs ∷ [])
 
     by : (refusal : Option (List ℕ)) (o : Option (LiveWorker × Attempt)) → job_at old n job ≡ o → FinishMay inputs old o refusal → run_line c.number old (finishing inputs old refusal o) ≡ (answer, new) → FinishRan n job old answer new
     by refusal None there may is = let same = ap (λ (p : List ℕ × State). p.0) is in absurd (cc (ap is_ok same ∙ ok))
@@ -46,10 +46,10 @@ finishes_end inputs old new n job answer c ok = by c.course.does.refusal (job_at
         let who : Caller = caller_of inputs.merge c.number (Worker w.number) in
         let at = is_attempt inputs.merge old c.keeps n job p there in
         let step = finish inputs.merge old.store.tables (worker_options old.options) old.moment w a refusal in
-        let r = step_reported inputs.merge c.number old (Worker w.number) step told (λ (r : FinishedJob). running w old r.attempts) (running w old (dropped w a)) (without_worker w.number old.parties) c.keeps answer new is c.had_room ok in
+        let r = step_reported inputs.merge c.number old (Worker w.number) step spell (λ (r : FinishedJob). running w old r.attempts) (running w old (without_attempt w a)) (without_worker w.number old.parties) c.keeps answer new is c.had_room ok in
         let keep = calls_keep inputs.merge c.lawful in
-        let lawful = finishes_are_lawful who (told_of inputs.merge old c.keeps) (worker_options old.options) old.moment w a refusal keep c.lawful refl c.keeps.fleet.store at.holds at.runs (whole_unless inputs old w a refusal may) in
-        let f = finish_did who old.store.tables (worker_options old.options) old.moment w a refusal (told_of inputs.merge old c.keeps) r.left r.report keep refl (record { kept = c.keeps.fleet.store; lawful = lawful; run = r.run }) in
+        let lawful = finishes_are_lawful who (world_of inputs.merge old c.keeps) (worker_options old.options) old.moment w a refusal keep c.lawful refl c.keeps.fleet.store at.holds at.runs (whole_unless inputs old w a refusal may) in
+        let f = finish_did who old.store.tables (worker_options old.options) old.moment w a refusal (world_of inputs.merge old c.keeps) r.left r.report keep refl (record { kept = c.keeps.fleet.store; lawful = lawful; run = r.run }) in
         record {
           worker = w;
           attempt = a;

@@ -6,75 +6,75 @@ use Rattle.row_model.specs.Rows.{Row}
 use Rattle.row_model.specs.Ranges.{Range}
 use Rattle.row_model.specs.Tables.{cut_tables}
 use Rattle.fleet_model.specs.Nodes.{Tables}
-use Rattle.fleet_model.specs.Jobs.{changed, trimmed}
+use Rattle.fleet_model.specs.Jobs.{changed_jobs, trimmed_jobs}
 use Rattle.fleet_model.specs.History.{Event, GetRecords, Finish, Release}
 use Rattle.fleet_model.specs.Attempts.{rows_left, finish_cut}
 use Rattle.fleet_model.specs.Store.{Records, Store, stored_jobs, jobs_in}
 use Rattle.fleet_model.specs.Records.{Unrecorded, no_contexts, jobs_after}
-use Rattle.fleet_model.specs.Parties.{Attempt, LiveWorker, named, without_attempts, is_live}
-use Rattle.fleet_model.specs.Exchanges.{Plain, DrawsTable, PutsTable, PutsRecords, records_version, next_table_id, performed}
-use Rattle.step_model.specs.Past.{Told}
-use Rattle.step_model.specs.Rivals.{Caller, told_by}
+use Rattle.fleet_model.specs.Parties.{Attempt, LiveWorker, named_attempts, without_attempts, is_live}
+use Rattle.fleet_model.specs.Exchanges.{Plain, DrawsTable, PutsTable, PutsRecords, records_version, next_table_id, after_exchange}
+use Rattle.step_model.specs.Past.{World}
+use Rattle.step_model.specs.Rivals.{Caller, after_call}
 use Rattle.step_model.specs.Course.{Course, Ends, Calls, calls_each, puts_tables, puts_ranges}
 use Rattle.step_model.specs.StepEnds.{StepEnd, Reports, OperatorRefuses, most_refused}
 use Rattle.step_model.specs.ClaimSteps.{WorkerOptions, at_moment}
-use Rattle.step_model.specs.BeatSteps.{release_of, release_by, releases_from}
+use Rattle.step_model.specs.BeatSteps.{release_live, release_by, releases_from}
 use Rattle.step_model.specs.OutputSteps.{gets_tables, FinishedJob, all_outputs, ends_job, ends_job_by, ends_from, end_job, finish_or_give_back, finish}
 use Rattle.step_laws.specs.Runs.{CallsKeep}
-use Rattle.line_laws.specs.FinishLines.{ended}
+use Rattle.line_laws.specs.FinishLines.{ended_job}
 use Rattle.line_laws.proofs.PollRuns.{Going, alone_next, RecordsPut, records_put}
 
 -- ---- gets and puts of tables
 
 -- The run goes on with this course from a store with the same manifest and the same records.
-record On {A : Type 0} (who : Caller) (course : Course A) (told new : Told) (answer : A) : Type 0 where
-  pub mid : Told
-  pub manifest : mid.store.manifest ≡ told.store.manifest
-  pub records : mid.store.records ≡ told.store.records
+record On {A : Type 0} (who : Caller) (course : Course A) (world new : World) (answer : A) : Type 0 where
+  pub mid : World
+  pub manifest : mid.store.manifest ≡ world.store.manifest
+  pub records : mid.store.records ≡ world.store.records
   pub going : Going who course mid new answer
 
-gets_done : {A : Type 0} (who : Caller) (events : List Event) (next : Course A) (told new : Told) (answer : A) → CallsKeep who.merge → who.alone ≡ true → Going who (calls_each events next) told new answer → On who next told new answer
-gets_done who [] next told new answer keep alone going = record { mid = told; manifest = refl; records = refl; going = going }
-gets_done {A} who (event ∷ events) next told new answer keep alone going =
-    further (gets_done who events next (told_by who.line who.party (Plain event) None told) new answer keep alone (alone_next who (Plain event) (λ met. calls_each events next) told new answer keep alone going).going)
+gets_done : {A : Type 0} (who : Caller) (events : List Event) (next : Course A) (world new : World) (answer : A) → CallsKeep who.merge → who.alone ≡ true → Going who (calls_each events next) world new answer → On who next world new answer
+gets_done who [] next world new answer keep alone going = record { mid = world; manifest = refl; records = refl; going = going }
+gets_done {A} who (event ∷ events) next world new answer keep alone going =
+    further (gets_done who events next (after_call who.line who.party (Plain event) None world) new answer keep alone (alone_next who (Plain event) (λ met. calls_each events next) world new answer keep alone going).going)
   where
-    further : On who next (told_by who.line who.party (Plain event) None told) new answer → On who next told new answer
+    further : On who next (after_call who.line who.party (Plain event) None world) new answer → On who next world new answer
     further on = record { mid = on.mid; manifest = on.manifest; records = on.records; going = on.going }
 
--- The run goes on behind puts of tables with these ids.
-record Made {A B : Type 0} (who : Caller) (next : List B → Course A) (told new : Told) (answer : A) : Type 0 where
+-- The run goes on after puts of tables with these ids.
+record Made {A B : Type 0} (who : Caller) (next : List B → Course A) (world new : World) (answer : A) : Type 0 where
   pub made : List B
-  pub on : On who (next made) told new answer
+  pub on : On who (next made) world new answer
 
-tables_made : {A : Type 0} (who : Caller) (moment : ℕ) (tables : List (List Row)) (next : List ℕ → Course A) (told new : Told) (answer : A) → CallsKeep who.merge → who.alone ≡ true → Going who (puts_tables moment tables next) told new answer
-    → Made who next told new answer
-tables_made who moment [] next told new answer keep alone going = record { made = []; on = record { mid = told; manifest = refl; records = refl; going = going } }
-tables_made {A} who moment (rows ∷ tables) next told new answer keep alone going =
-    let table = next_table_id moment told.store in
-    let drew = told_by who.line who.party (DrawsTable moment) None told in
+tables_made : {A : Type 0} (who : Caller) (moment : ℕ) (tables : List (List Row)) (next : List ℕ → Course A) (world new : World) (answer : A) → CallsKeep who.merge → who.alone ≡ true → Going who (puts_tables moment tables next) world new answer
+    → Made who next world new answer
+tables_made who moment [] next world new answer keep alone going = record { made = []; on = record { mid = world; manifest = refl; records = refl; going = going } }
+tables_made {A} who moment (rows ∷ tables) next world new answer keep alone going =
+    let table = next_table_id moment world.store in
+    let drew = after_call who.line who.party (DrawsTable moment) None world in
     let rest : ℕ → Course A = λ table. puts_tables moment tables (λ ids. next (table ∷ ids)) in
-    let one = alone_next who (DrawsTable moment) (λ met. let table = next_table_id moment met in Calls (PutsTable table rows) (λ after. rest table)) told new answer keep alone going in
+    let one = alone_next who (DrawsTable moment) (λ met. let table = next_table_id moment met in Calls (PutsTable table rows) (λ after. rest table)) world new answer keep alone going in
     let two = alone_next who (PutsTable table rows) (λ after. rest table) drew new answer keep alone one.going in
-    further table (tables_made who moment tables (λ ids. next (table ∷ ids)) (told_by who.line who.party (PutsTable table rows) None drew) new answer keep alone two.going)
+    further table (tables_made who moment tables (λ ids. next (table ∷ ids)) (after_call who.line who.party (PutsTable table rows) None drew) new answer keep alone two.going)
   where
-    further : (table : ℕ) → Made who (λ ids. next (table ∷ ids)) (told_by who.line who.party (PutsTable table rows) None (told_by who.line who.party (DrawsTable moment) None told)) new answer → Made who next told new answer
+    further : (table : ℕ) → Made who (λ ids. next (table ∷ ids)) (after_call who.line who.party (PutsTable table rows) None (after_call who.line who.party (DrawsTable moment) None world)) new answer → Made who next world new answer
     further table m = record { made = table ∷ m.made; on = record { mid = m.on.mid; manifest = m.on.manifest; records = m.on.records; going = m.on.going } }
 
-ranges_made : {A : Type 0} (who : Caller) (moment : ℕ) (ranges : List (List (List Row))) (next : List (List ℕ) → Course A) (told new : Told) (answer : A) → CallsKeep who.merge → who.alone ≡ true → Going who (puts_ranges moment ranges next) told new answer
-    → Made who next told new answer
-ranges_made who moment [] next told new answer keep alone going = record { made = []; on = record { mid = told; manifest = refl; records = refl; going = going } }
-ranges_made who moment (tables ∷ ranges) next told new answer keep alone going =
-    let m = tables_made who moment tables (λ ids. puts_ranges moment ranges (λ others. next (ids ∷ others))) told new answer keep alone going in
+ranges_made : {A : Type 0} (who : Caller) (moment : ℕ) (ranges : List (List (List Row))) (next : List (List ℕ) → Course A) (world new : World) (answer : A) → CallsKeep who.merge → who.alone ≡ true → Going who (puts_ranges moment ranges next) world new answer
+    → Made who next world new answer
+ranges_made who moment [] next world new answer keep alone going = record { made = []; on = record { mid = world; manifest = refl; records = refl; going = going } }
+ranges_made who moment (tables ∷ ranges) next world new answer keep alone going =
+    let m = tables_made who moment tables (λ ids. puts_ranges moment ranges (λ others. next (ids ∷ others))) world new answer keep alone going in
     let r = ranges_made who moment ranges (λ others. next (m.made ∷ others)) m.on.mid new answer keep alone m.on.going in
     record { made = m.made ∷ r.made; on = record { mid = r.on.mid; manifest = r.on.manifest ∙ m.on.manifest; records = r.on.records ∙ m.on.records; going = r.on.going } }
 
 -- ---- a finish that the operator refuses
 
-back_no_report : (who : Caller) (w : LiveWorker) (a : Attempt) (message : List ℕ) (left seen : ℕ) (told new : Told) (report : FinishedJob) → CallsKeep who.merge → who.alone ≡ true
-    → Going who (releases_from w (a ∷ []) (λ released. Ends (OperatorRefuses message)) left seen) told new (Reports report) → ⊥
-back_no_report who w a message zero seen told new report keep alone going = absurd (cc (going.run.1))
-back_no_report who w a message (suc left) seen told new report keep alone going =
-    by (λ seen behind going. back_no_report who w a message left seen behind new report keep alone going) told.store.records (alone_next who (Plain GetRecords) (λ met. release_by w (a ∷ []) met.records refuses again) told new (Reports report) keep alone going).going
+back_no_report : (who : Caller) (w : LiveWorker) (a : Attempt) (message : List ℕ) (left seen : ℕ) (world new : World) (report : FinishedJob) → CallsKeep who.merge → who.alone ≡ true
+    → Going who (releases_from w (a ∷ []) (λ released. Ends (OperatorRefuses message)) left seen) world new (Reports report) → ⊥
+back_no_report who w a message zero seen world new report keep alone going = absurd (cc (going.run.1))
+back_no_report who w a message (suc left) seen world new report keep alone going =
+    by (λ seen afterwards going. back_no_report who w a message left seen afterwards new report keep alone going) world.store.records (alone_next who (Plain GetRecords) (λ met. release_by w (a ∷ []) met.records refuses again) world new (Reports report) keep alone going).going
   where
     refuses : List ℕ → Course (StepEnd FinishedJob)
     refuses released = Ends (OperatorRefuses message)
@@ -82,23 +82,23 @@ back_no_report who w a message (suc left) seen told new report keep alone going 
     again : ℕ → Course (StepEnd FinishedJob)
     again = releases_from w (a ∷ []) refuses left
 
-    got_now : Told
-    got_now = told_by who.line who.party (Plain GetRecords) None told
+    got_now : World
+    got_now = after_call who.line who.party (Plain GetRecords) None world
 
     Never : Type 0
-    Never = (seen : ℕ) (behind : Told) → Going who (again seen) behind new (Reports report) → ⊥
+    Never = (seen : ℕ) (afterwards : World) → Going who (again seen) afterwards new (Reports report) → ⊥
 
-    put : Never → (b : Bool) (seen : ℕ) (behind : Told) → Going who (cond b (Ends (OperatorRefuses message)) (again seen)) behind new (Reports report) → ⊥
-    put never true seen behind going = absurd (cc (going.run.1))
-    put never false seen behind going = never seen behind going
+    put : Never → (b : Bool) (seen : ℕ) (afterwards : World) → Going who (cond b (Ends (OperatorRefuses message)) (again seen)) afterwards new (Reports report) → ⊥
+    put never true seen afterwards going = absurd (cc (going.run.1))
+    put never false seen afterwards going = never seen afterwards going
 
-    of : Never → (got : Records) (live : List Attempt) → Going who (release_of w got live refuses again) got_now new (Reports report) → ⊥
+    of : Never → (got : Records) (live : List Attempt) → Going who (release_live w got live refuses again) got_now new (Reports report) → ⊥
     of never got [] going = absurd (cc (going.run.1))
     of never got (b ∷ live) going =
-        let change = Release w.number (named (b ∷ live)) in
+        let change = Release w.number (named_attempts (b ∷ live)) in
         let x = PutsRecords got.version change got.epoch (jobs_after (at_moment 0) change got.jobs) in
         let next : Store → Course (StepEnd FinishedJob) = λ met. cond (got.version == records_version met.records) (Ends (OperatorRefuses message)) (again (records_version met.records)) in
-        put never (got.version == records_version got_now.store.records) (records_version got_now.store.records) (told_by who.line who.party x None got_now) (alone_next who x next got_now new (Reports report) keep alone going).going
+        put never (got.version == records_version got_now.store.records) (records_version got_now.store.records) (after_call who.line who.party x None got_now) (alone_next who x next got_now new (Reports report) keep alone going).going
 
     by : Never → (o : Option Records) → Going who (release_by w (a ∷ []) o refuses again) got_now new (Reports report) → ⊥
     by never None going = absurd (cc (going.run.1))
@@ -111,51 +111,51 @@ pub record Ended (moment : ℕ) (w : LiveWorker) (a : Attempt) (outputs : List (
   pub outputs_are : report.outputs ≡ outputs
   pub attempts : report.attempts ≡ without_attempts (a.job ∷ []) w.attempts
   pub live : is_live (stored_jobs old) w.number a ≡ true
-  pub jobs : stored_jobs new ≡ trimmed (changed (ended moment w a outputs) (a.job ∷ []) (stored_jobs old))
+  pub jobs : stored_jobs new ≡ trimmed_jobs (changed_jobs (ended_job moment w a outputs) (a.job ∷ []) (stored_jobs old))
   pub manifest : new.manifest ≡ old.manifest
 
-ends_do : (who : Caller) (moment : ℕ) (w : LiveWorker) (a : Attempt) (outputs : List (List ℕ)) (left seen : ℕ) (told new : Told) (report : FinishedJob) → CallsKeep who.merge → who.alone ≡ true
-    → Going who (ends_from moment w a outputs left seen) told new (Reports report) → Ended moment w a outputs told.store new.store report
-ends_do who moment w a outputs zero seen told new report keep alone going = absurd (cc (going.run.1))
-ends_do who moment w a outputs (suc left) seen told new report keep alone going =
-    by told.store.records refl (alone_next who (Plain GetRecords) (λ met. ends_job_by moment w a outputs met.records again) told new (Reports report) keep alone going).going
+ends_do : (who : Caller) (moment : ℕ) (w : LiveWorker) (a : Attempt) (outputs : List (List ℕ)) (left seen : ℕ) (world new : World) (report : FinishedJob) → CallsKeep who.merge → who.alone ≡ true
+    → Going who (ends_from moment w a outputs left seen) world new (Reports report) → Ended moment w a outputs world.store new.store report
+ends_do who moment w a outputs zero seen world new report keep alone going = absurd (cc (going.run.1))
+ends_do who moment w a outputs (suc left) seen world new report keep alone going =
+    by world.store.records refl (alone_next who (Plain GetRecords) (λ met. ends_job_by moment w a outputs met.records again) world new (Reports report) keep alone going).going
   where
     again : ℕ → Course (StepEnd FinishedJob)
     again = ends_from moment w a outputs left
 
-    got_now : Told
-    got_now = told_by who.line who.party (Plain GetRecords) None told
+    got_now : World
+    got_now = after_call who.line who.party (Plain GetRecords) None world
 
     report_is : FinishedJob
     report_is = record { outputs = outputs; attempts = without_attempts (a.job ∷ []) w.attempts }
 
-    put : (got : Records) → told.store.records ≡ Some got → is_live got.jobs w.number a ≡ true → Going who (ends_job moment w a outputs got true again) got_now new (Reports report) → Ended moment w a outputs told.store new.store report
+    put : (got : Records) → world.store.records ≡ Some got → is_live got.jobs w.number a ≡ true → Going who (ends_job moment w a outputs got true again) got_now new (Reports report) → Ended moment w a outputs world.store new.store report
     put got e live going =
         let change = Finish w.number a.job a.number outputs in
         let unrecorded : Unrecorded = record { moment = moment; published = no_contexts; kept_cut = finish_cut w.release a.context; tables_of = λ spec. [] } in
         let jobs = jobs_after unrecorded change got.jobs in
         let x = PutsRecords got.version change got.epoch jobs in
         let version : records_version got_now.store.records ≡ got.version = ap records_version e in
-        let behind = told_by who.line who.party x None got_now in
+        let afterwards = after_call who.line who.party x None got_now in
         let next : Store → Course (StepEnd FinishedJob) = λ met. cond (got.version == records_version met.records) (Ends (Reports report_is)) (again (records_version met.records)) in
         let one = alone_next who x next got_now new (Reports report) keep alone going in
-        let two = subst (λ (b : Bool). Going who (cond b (Ends (Reports report_is)) (again (records_version got_now.store.records))) behind new (Reports report)) ((Decides-eqb got.version (records_version got_now.store.records)).1 (sym version)) one.going in
-        let stored = subst (λ (v : ℕ). RecordsPut got_now.store (performed (PutsRecords v change got.epoch jobs) got_now.store) got.epoch jobs) version (records_put change got.epoch jobs got_now.store) in
+        let two = subst (λ (b : Bool). Going who (cond b (Ends (Reports report_is)) (again (records_version got_now.store.records))) afterwards new (Reports report)) ((Decides-eqb got.version (records_version got_now.store.records)).1 (sym version)) one.going in
+        let stored = subst (λ (v : ℕ). RecordsPut got_now.store (after_exchange (PutsRecords v change got.epoch jobs) got_now.store) got.epoch jobs) version (records_put change got.epoch jobs got_now.store) in
         let last = two.run.0 in
         let is : report_is ≡ report = cc (two.run.1) in
         record {
           outputs_are = ap (λ (r : FinishedJob). r.outputs) (sym is);
           attempts = ap (λ (r : FinishedJob). r.attempts) (sym is);
           live = ap (λ (o : Option Records). is_live (jobs_in o) w.number a) e ∙ live;
-          jobs = ap (λ (t : Told). stored_jobs t.store) (sym last) ∙ ap jobs_in stored.records ∙ ap (λ (o : Option Records). trimmed (changed (ended moment w a outputs) (a.job ∷ []) (jobs_in o))) (sym e);
-          manifest = ap (λ (t : Told). t.store.manifest) (sym last) ∙ stored.manifest;
+          jobs = ap (λ (t : World). stored_jobs t.store) (sym last) ∙ ap jobs_in stored.records ∙ ap (λ (o : Option Records). trimmed_jobs (changed_jobs (ended_job moment w a outputs) (a.job ∷ []) (jobs_in o))) (sym e);
+          manifest = ap (λ (t : World). t.store.manifest) (sym last) ∙ stored.manifest;
         }
 
-    of : (got : Records) → told.store.records ≡ Some got → (b : Bool) → is_live got.jobs w.number a ≡ b → Going who (ends_job moment w a outputs got b again) got_now new (Reports report) → Ended moment w a outputs told.store new.store report
+    of : (got : Records) → world.store.records ≡ Some got → (b : Bool) → is_live got.jobs w.number a ≡ b → Going who (ends_job moment w a outputs got b again) got_now new (Reports report) → Ended moment w a outputs world.store new.store report
     of got e true live going = put got e live going
     of got e false live going = absurd (cc (going.run.1))
 
-    by : (o : Option Records) → told.store.records ≡ o → Going who (ends_job_by moment w a outputs o again) got_now new (Reports report) → Ended moment w a outputs told.store new.store report
+    by : (o : Option Records) → world.store.records ≡ o → Going who (ends_job_by moment w a outputs o again) got_now new (Reports report) → Ended moment w a outputs world.store new.store report
     by None e going = absurd (cc (going.run.1))
     by (Some got) e going = of got e (is_live got.jobs w.number a) refl going
 
@@ -165,7 +165,7 @@ ended_before moment w a outputs old mid new report manifest records end = record
   outputs_are = end.outputs_are;
   attempts = end.attempts;
   live = ap (λ (o : Option Records). is_live (jobs_in o) w.number a) (sym records) ∙ end.live;
-  jobs = end.jobs ∙ ap (λ (o : Option Records). trimmed (changed (ended moment w a outputs) (a.job ∷ []) (jobs_in o))) records;
+  jobs = end.jobs ∙ ap (λ (o : Option Records). trimmed_jobs (changed_jobs (ended_job moment w a outputs) (a.job ∷ []) (jobs_in o))) records;
   manifest = end.manifest ∙ manifest;
 }
 
@@ -176,12 +176,12 @@ pub record Finished (moment : ℕ) (w : LiveWorker) (a : Attempt) (old new : Sto
   pub made : List (List ℕ)
   pub end : Ended moment w a (all_outputs a.context.ranges made) old new report
 
-pub finish_did : (who : Caller) (tables : Tables) (options : WorkerOptions) (moment : ℕ) (w : LiveWorker) (a : Attempt) (refusal : Option (List ℕ)) (told new : Told) (report : FinishedJob) → CallsKeep who.merge → who.alone ≡ true
-    → Going who (finish who.merge tables options moment w a refusal) told new (Reports report) → Finished moment w a told.store new.store report
+pub finish_did : (who : Caller) (tables : Tables) (options : WorkerOptions) (moment : ℕ) (w : LiveWorker) (a : Attempt) (refusal : Option (List ℕ)) (world new : World) (report : FinishedJob) → CallsKeep who.merge → who.alone ≡ true
+    → Going who (finish who.merge tables options moment w a refusal) world new (Reports report) → Finished moment w a world.store new.store report
 unfolding finish end_job
-finish_did who tables options moment w a refusal told new report keep alone going = by refusal (gets_done who (gets_tables a.sources) (finish_or_give_back who.merge options moment w a refusal tables) told new (Reports report) keep alone going)
+finish_did who tables options moment w a refusal world new report keep alone going = by refusal (gets_done who (gets_tables a.sources) (finish_or_give_back who.merge options moment w a refusal tables) world new (Reports report) keep alone going)
   where
-    by : (refusal : Option (List ℕ)) → On who (finish_or_give_back who.merge options moment w a refusal tables) told new (Reports report) → Finished moment w a told.store new.store report
+    by : (refusal : Option (List ℕ)) → On who (finish_or_give_back who.merge options moment w a refusal tables) world new (Reports report) → Finished moment w a world.store new.store report
     by (Some message) on = absurd (back_no_report who w a message most_refused 0 on.mid new report keep alone on.going)
     by None on =
         let ranges = map (λ (range : Range × List ℕ). cut_tables options.table_size (rows_left who.merge tables a.context.settings a.sources range).rows) a.context.ranges in
@@ -189,5 +189,5 @@ finish_did who tables options moment w a refusal told new report keep alone goin
         let outputs = all_outputs a.context.ranges m.made in
         record {
           made = m.made;
-          end = ended_before moment w a outputs told.store m.on.mid.store new.store report (m.on.manifest ∙ on.manifest) (m.on.records ∙ on.records) (ends_do who moment w a outputs most_refused 0 m.on.mid new report keep alone m.on.going);
+          end = ended_before moment w a outputs world.store m.on.mid.store new.store report (m.on.manifest ∙ on.manifest) (m.on.records ∙ on.records) (ends_do who moment w a outputs most_refused 0 m.on.mid new report keep alone m.on.going);
         }

@@ -4,9 +4,9 @@ use Rattle.std.specs.Prelude.{◌==◌, ◌&&◌, ⊤}
 use Rattle.fleet_model.specs.History.{Party, Writer, Event, PutTable, Flush, Entry, Answer, Lost, Stands, Conflict}
 use Rattle.fleet_model.specs.Store.{Manifest, Store}
 use Rattle.fleet_model.specs.Exchanges.{Exchange, Plain, PutsTable, event_of, answer_of, stands_or_lost}
-use Rattle.step_model.specs.Past.{Told}
-use Rattle.step_model.specs.Entries.{party_eq, last_from, is_pending_in, puts_table}
-use Rattle.step_model.specs.Rivals.{Caller, Strike, told_by}
+use Rattle.step_model.specs.Past.{World}
+use Rattle.step_model.specs.Entries.{party_eq, last_from, is_pending_in, is_put_of}
+use Rattle.step_model.specs.Rivals.{Caller, Strike, after_call}
 use Rattle.step_model.specs.Course.{Course, Ends, Calls, then_course, puts_manifest}
 use Rattle.step_model.specs.CourseRuns.{End, Gives, MeetsFault, LacksMemory, Runs}
 use Rattle.step_model.specs.StepEnds.{StepEnd, Reports, FlushFault, most_refused}
@@ -23,18 +23,18 @@ last_own party (first ∷ history) entry last own = last_own party history entry
 
 -- ---- entries that are not pending
 
-other_event : (line : ℕ) (party : Party) (event : Event) (answer : Answer) (table : ℕ) → puts_table table event ≡ false → is_pending_in table (Some (record { line = line; party = party; event = event; answer = answer })) ≡ false
+other_event : (line : ℕ) (party : Party) (event : Event) (answer : Answer) (table : ℕ) → is_put_of table event ≡ false → is_pending_in table (Some (record { line = line; party = party; event = event; answer = answer })) ≡ false
 other_event line party event answer table e = rw e refl
 
 lost_event : (line : ℕ) (party : Party) (event : Event) (table : ℕ) → is_pending_in table (Some (record { line = line; party = party; event = event; answer = Lost })) ≡ false
-lost_event line party event table = by (puts_table table event)
+lost_event line party event table = by (is_put_of table event)
   where
     by : (b : Bool) → (b && false) ≡ false
     by true = refl
     by false = refl
 
 stood_event : (line : ℕ) (party : Party) (event : Event) (table : ℕ) → is_pending_in table (Some (record { line = line; party = party; event = event; answer = Stands })) ≡ false
-stood_event line party event table = by (puts_table table event)
+stood_event line party event table = by (is_put_of table event)
   where
     by : (b : Bool) → (b && false) ≡ false
     by true = refl
@@ -50,7 +50,7 @@ is_table_put (Plain (PutTable table rows)) = true
 is_table_put (PutsTable table rows) = true
 is_table_put x = false
 
-puts_none : (x : Exchange) (store : Store) (table : ℕ) → is_table_put x ≡ false → puts_table table (event_of x store) ≡ false
+puts_none : (x : Exchange) (store : Store) (table : ℕ) → is_table_put x ≡ false → is_put_of table (event_of x store) ≡ false
 puts_none (Plain (PutTable other rows)) store table e = absurd (cc e)
 puts_none (PutsTable other rows) store table e = absurd (cc e)
 puts_none x store table e = refl
@@ -61,24 +61,24 @@ not_pending x line party (Some true) store table none = struck_event line party 
 not_pending x line party (Some false) store table none = lost_event line party (event_of x store) table
 
 -- The writer's own call leaves no flush pending, if it puts no table or is struck.
-own_call : (who : Caller) (x : Exchange) (strike : Strike) (told : Told) → party_eq Writer who.party ≡ true → (strike ≡ None → is_table_put x ≡ false) → NonePending (told_by who.line who.party x strike told).store
-own_call who x strike told own none = λ table.
-    ap (is_pending_in table) (ap (λ (history : List Entry). last_from None Writer history) (call_history who.line who.party x strike told.store) ∙ last_own Writer told.store.history (entry_by who.line who.party x strike told.store) None own)
-    ∙ not_pending x who.line who.party strike told.store table none
+own_call : (who : Caller) (x : Exchange) (strike : Strike) (world : World) → party_eq Writer who.party ≡ true → (strike ≡ None → is_table_put x ≡ false) → NonePending (after_call who.line who.party x strike world).store
+own_call who x strike world own none = λ table.
+    ap (is_pending_in table) (ap (λ (history : List Entry). last_from None Writer history) (call_history who.line who.party x strike world.store) ∙ last_own Writer world.store.history (entry_by who.line who.party x strike world.store) None own)
+    ∙ not_pending x who.line who.party strike world.store table none
 
 -- ---- courses of the writer
 
--- Behind each put of a table the course makes another call. The flag says that the last call put one.
+-- After each put of a table the course makes another call. The flag says that the last call put one.
 abbrev Rests : {A : Type 0} → Bool → Course A → Type 0
 Rests put (Ends answer) = put ≡ false
 Rests put (Calls x next) = (met : Store) → Rests (is_table_put x) (next met)
 
-rests : {A : Type 0} (who : Caller) (put : Bool) (course : Course A) → who.alone ≡ true → party_eq Writer who.party ≡ true → Rests put course → (old new : Told) (end : End A) → HasEnded end → (put ≡ false → NonePending old.store) → Runs who course old new end
+rests : {A : Type 0} (who : Caller) (put : Bool) (course : Course A) → who.alone ≡ true → party_eq Writer who.party ≡ true → Rests put course → (old new : World) (end : End A) → HasEnded end → (put ≡ false → NonePending old.store) → Runs who course old new end
     → NonePending new.store
-rests who put (Ends answer) alone own rest old new end whole none run = subst (λ (told : Told). NonePending told.store) run.0 (none rest)
+rests who put (Ends answer) alone own rest old new end whole none run = subst (λ (world : World). NonePending world.store) run.0 (none rest)
 rests who put (Calls x next) alone own rest old new (Gives answer) whole none (met, (rivals, inl stops)) = absurd stops
 rests who put (Calls x next) alone own rest old new MeetsFault whole none (met, (rivals, inl stops)) =
-    subst (λ (told : Told). NonePending told.store) (sym stops.1.1) (own_call who x (Some stops.1.0) met own (λ never. absurd (cc never)))
+    subst (λ (world : World). NonePending world.store) (sym stops.1.1) (own_call who x (Some stops.1.0) met own (λ never. absurd (cc never)))
 rests who put (Calls x next) alone own rest old new LacksMemory whole none (met, (rivals, inl stops)) = absurd whole
 rests who put (Calls x next) alone own rest old new end whole none (met, (rivals, inr (room, run))) =
     rests who (is_table_put x) (next met.store) alone own (rest met.store) _ new end whole (λ no_put. own_call who x None met own (λ same. no_put)) run
@@ -110,7 +110,7 @@ rests_then : {A B : Type 0} (put : Bool) (step : Course A) (ends : A → B) → 
 rests_then put (Ends answer) ends rest = rest
 rests_then put (Calls x next) ends rest = λ met. rests_then (is_table_put x) (next met) ends (rest met)
 
-pub flush_none : {B : Type 0} (who : Caller) (moment retention last : ℕ) (ask : FlushAsk) (ends : StepEnd ⊤ → B) (old new : Told) (end : End B) → who.alone ≡ true → party_eq Writer who.party ≡ true → HasEnded end → NonePending old.store
+pub flush_none : {B : Type 0} (who : Caller) (moment retention last : ℕ) (ask : FlushAsk) (ends : StepEnd ⊤ → B) (old new : World) (end : End B) → who.alone ≡ true → party_eq Writer who.party ≡ true → HasEnded end → NonePending old.store
     → Runs who (then_course (flush moment retention last ask) (λ answer. Ends (ends answer))) old new end → NonePending new.store
 unfolding flush
 flush_none who moment retention last ask ends old new end alone own whole none run =

@@ -12,16 +12,16 @@ use Rattle.fleet_model.specs.Parties.{LiveCoordinator, coordinator_with, without
 use Rattle.fleet_model.specs.Replay.{outputs_in}
 use Rattle.fleet_model.specs.Trees.{stepped_in, stepped_all, job_of}
 use Rattle.fleet_model.specs.PollStates.{PollState}
-use Rattle.step_model.specs.Past.{Told}
+use Rattle.step_model.specs.Past.{World}
 use Rattle.step_model.specs.Rivals.{Caller}
 use Rattle.step_model.specs.Fits.{CoordinatorHolds}
 use Rattle.step_model.specs.LawfulManifests.{IsKnownTo, StepFits, StepsFit, joined_after}
 use Rattle.step_model.specs.CourseRuns.{IsLawfulCourse}
 use Rattle.step_model.specs.PollSteps.{poll}
 use Rattle.step_laws.proofs.Elements.{all_at, all_front}
-use Rattle.commit_laws.specs.Behind.{joined_by}
+use Rattle.commit_laws.specs.After.{joined_by}
 use Rattle.commit_laws.proofs.AllCalls.{calls_keep}
-use Rattle.poll_laws.proofs.Course.{polls_are_lawful}
+use Rattle.coordinator_laws.proofs.Course.{polls_are_lawful}
 use Rattle.commit_laws.proofs.StepForms.{joins_replace}
 use Rattle.script_model.specs.Script.{Poll, CommitOnly}
 use Rattle.script_model.specs.States.{Inputs, State}
@@ -34,28 +34,28 @@ use Rattle.script_model.specs.Settles.{is_ok}
 use Rattle.line_laws.specs.Alone.{HadRoom}
 use Rattle.line_laws.specs.States.{StateKeeps}
 use Rattle.line_laws.specs.PollRuns.{CommitPut}
-use Rattle.line_laws.specs.PollLines.{told_by_poll, PollSays, CommitsRight, PollRan, PollsCommit}
+use Rattle.line_laws.specs.PollLines.{spell_poll, PollSays, CommitsRight, PollRan, PollsCommit}
 use Rattle.line_laws.proofs.Parties.{found}
-use Rattle.line_laws.proofs.Lines.{caller_of, told_of}
+use Rattle.line_laws.proofs.Lines.{caller_of, world_of}
 use Rattle.line_laws.proofs.Reports.{StepReported, step_reported}
 use Rattle.line_laws.proofs.PollRuns.{poll_did}
 use Rattle.line_laws.proofs.PollSays.{poll_says}
 
 -- ---- the steps of a commit
 
--- The steps of a commit that come first fit, and so does the one behind them.
-record FitsAt (told : Told) (specs : ℕ → JobSpec) (trees : Trees) (joined : List ℕ) (first : List Step) (step : Step) (at : Trees) : Type 0 where
-  pub front : StepsFit told specs trees joined first
-  pub here : StepFits told at (joined_by first joined) (specs (job_of step)) step
+-- The steps of a commit that come first fit, and so does the one after them.
+record FitsAt (world : World) (specs : ℕ → JobSpec) (trees : Trees) (joined : List ℕ) (first : List Step) (step : Step) (at : Trees) : Type 0 where
+  pub front : StepsFit world specs trees joined first
+  pub here : StepFits world at (joined_by first joined) (specs (job_of step)) step
 
--- The trees behind the first steps, from any trees on.
-abbrev behind_from : Told → (ℕ → JobSpec) → List Step → Trees → Trees
-behind_from told specs first trees = stepped_all told.store.tables (λ id. (specs id, outputs_in told.store.records id)) first trees
+-- The trees after the first steps, from any trees on.
+abbrev after_from : World → (ℕ → JobSpec) → List Step → Trees → Trees
+after_from world specs first trees = stepped_all world.store.tables (λ id. (specs id, outputs_in world.store.records id)) first trees
 
-fits_at : (told : Told) (specs : ℕ → JobSpec) (trees : Trees) (joined : List ℕ) (first rest : List Step) (step : Step) → StepsFit told specs trees joined (first ++ step ∷ rest) → FitsAt told specs trees joined first step (behind_from told specs first trees)
-fits_at told specs trees joined [] rest step fits = record { front = tt; here = fits.0 }
-fits_at told specs trees joined (s ∷ first) rest step fits =
-    let r = fits_at told specs (stepped_in told.store.tables s (specs (job_of s)) (outputs_in told.store.records (job_of s)) trees) (joined_after s joined) first rest step fits.1 in
+fits_at : (world : World) (specs : ℕ → JobSpec) (trees : Trees) (joined : List ℕ) (first rest : List Step) (step : Step) → StepsFit world specs trees joined (first ++ step ∷ rest) → FitsAt world specs trees joined first step (after_from world specs first trees)
+fits_at world specs trees joined [] rest step fits = record { front = tt; here = fits.0 }
+fits_at world specs trees joined (s ∷ first) rest step fits =
+    let r = fits_at world specs (stepped_in world.store.tables s (specs (job_of s)) (outputs_in world.store.records (job_of s)) trees) (joined_after s joined) first rest step fits.1 in
     record { front = (fits.0, r.front); here = r.here }
 
 map_append : (first rest : List ℕ) → map Join (first ++ rest) ≡ map Join first ++ map Join rest
@@ -82,38 +82,38 @@ commits_right merge party old p others lawful steps put = record {
 -- ---- the line
 
 -- The line's poll reported this, from the store of the old state to that of the new one.
-record Reported (inputs : Inputs) (number : ℕ) (commits_only : Bool) (told : PollState → List ℕ) (n : ℕ) (old : State) (k : StateKeeps inputs.merge old) (answer : List ℕ) (new : State) : Type 0 where
+record Reported (inputs : Inputs) (number : ℕ) (commits_only : Bool) (spell : PollState → List ℕ) (n : ℕ) (old : State) (k : StateKeeps inputs.merge old) (answer : List ℕ) (new : State) : Type 0 where
   pub coordinator : LiveCoordinator
   pub live : coordinator_with n old.parties ≡ Some coordinator
-  pub step : StepReported (caller_of inputs.merge number (Coordinator n)) (poll (poll_ask inputs old coordinator commits_only)) told (λ reached. old.parties) (told_of inputs.merge old k) answer new
+  pub step : StepReported (caller_of inputs.merge number (Coordinator n)) (poll (poll_ask inputs old coordinator commits_only)) spell (λ reached. old.parties) (world_of inputs.merge old k) answer new
 
-reported : (inputs : Inputs) (number : ℕ) (commits_only : Bool) (told : PollState → List ℕ) (n : ℕ) (old : State) (k : StateKeeps inputs.merge old) (answer : List ℕ) (new : State)
-    → run_line number old (polls commits_only told inputs n old) ≡ (answer, new) → HadRoom new.store → is_ok answer ≡ true → Reported inputs number commits_only told n old k answer new
-reported inputs number commits_only told n old k answer new is room ok = by (coordinator_with n old.parties) refl is
+reported : (inputs : Inputs) (number : ℕ) (commits_only : Bool) (spell : PollState → List ℕ) (n : ℕ) (old : State) (k : StateKeeps inputs.merge old) (answer : List ℕ) (new : State)
+    → run_line number old (polls commits_only spell inputs n old) ≡ (answer, new) → HadRoom new.store → is_ok answer ≡ true → Reported inputs number commits_only spell n old k answer new
+reported inputs number commits_only spell n old k answer new is room ok = by (coordinator_with n old.parties) refl is
   where
     line : Option LiveCoordinator → LineCourse
     line o = if_some o (no_such_party old) (λ c.
         let gone = without_coordinator n old.parties in
-        step_line (Coordinator n) (poll (poll_ask inputs old c commits_only)) (line_end told (λ reached. old.parties) gone) gone)
+        step_line (Coordinator n) (poll (poll_ask inputs old c commits_only)) (line_end spell (λ reached. old.parties) gone) gone)
 
-    by : (o : Option LiveCoordinator) → coordinator_with n old.parties ≡ o → run_line number old (line o) ≡ (answer, new) → Reported inputs number commits_only told n old k answer new
+    by : (o : Option LiveCoordinator) → coordinator_with n old.parties ≡ o → run_line number old (line o) ≡ (answer, new) → Reported inputs number commits_only spell n old k answer new
     by None live is = let same = ap (λ (p : List ℕ × State). p.0) is in absurd (cc (ap is_ok same ∙ ok))
     by (Some c) live is =
         let gone = without_coordinator n old.parties in
-        record { coordinator = c; live = live; step = step_reported inputs.merge number old (Coordinator n) (poll (poll_ask inputs old c commits_only)) told (λ reached. old.parties) gone gone k answer new is room ok }
+        record { coordinator = c; live = live; step = step_reported inputs.merge number old (Coordinator n) (poll (poll_ask inputs old c commits_only)) spell (λ reached. old.parties) gone gone k answer new is room ok }
 
 -- ---- the law
 
 ran : (inputs : Inputs) (number : ℕ) (commits_only : Bool) (n : ℕ) (old : State) (k : StateKeeps inputs.merge old) (answer : List ℕ) (new : State) → IsLawful inputs.merge
-    → Reported inputs number commits_only (told_by_poll commits_only) n old k answer new → PollRan inputs commits_only n old answer new
+    → Reported inputs number commits_only (spell_poll commits_only) n old k answer new → PollRan inputs commits_only n old answer new
 ran inputs number commits_only n old k answer new lawful r =
     let who : Caller = caller_of inputs.merge number (Coordinator n) in
-    let told = told_of inputs.merge old k in
+    let world = world_of inputs.merge old k in
     let ask = poll_ask inputs old r.coordinator commits_only in
     let f = found (λ (c : LiveCoordinator). n == c.number) old.parties.coordinators r.coordinator r.live in
-    let is : IsLawfulCourse who told (poll ask) = polls_are_lawful who told r.coordinator.number ask None lawful (ap Coordinator ((Decides-eqb n r.coordinator.number).0 f.passes)) k.fleet.store
-    (all_at (λ (c : LiveCoordinator). CoordinatorHolds told c None) old.parties.coordinators r.coordinator k.fleet.coordinators f.there) in
-    let d = poll_did who ask told r.step.left r.step.report (calls_keep inputs.merge lawful) refl (record { kept = k.fleet.store; lawful = is; run = r.step.run }) in
+    let is : IsLawfulCourse who world (poll ask) = polls_are_lawful who world r.coordinator.number ask None lawful (ap Coordinator ((Decides-eqb n r.coordinator.number).0 f.passes)) k.fleet.store
+    (all_at (λ (c : LiveCoordinator). CoordinatorHolds world c None) old.parties.coordinators r.coordinator k.fleet.coordinators f.there) in
+    let d = poll_did who ask world r.step.left r.step.report (calls_keep inputs.merge lawful) refl (record { kept = k.fleet.store; lawful = is; run = r.step.run }) in
     let says = subst (PollSays ask old.store d.did.drawn) (sym d.did.is) (poll_says ask old.store d.did.drawn k.fleet.store.stored.sound.job_ids) in
     record {
       coordinator = r.coordinator;

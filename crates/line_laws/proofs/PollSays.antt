@@ -3,19 +3,19 @@ use Rattle.std.proofs.Common.{◌≡◌, refl, sym, ◌∙◌, ap, subst, ℕ, �
 use Rattle.std.specs.Prelude.{map, filter, flat_map}
 use Rattle.std.specs.List.{AllByRecursion, list_any}
 use Rattle.row_model.specs.Lists.{Pairs}
-use Rattle.fleet_model.specs.Jobs.{JobSpec, is_drain, Job, Jobs, Submitted, Compacted, has_status, ids, contains, changed, is_stale}
+use Rattle.fleet_model.specs.Jobs.{JobSpec, is_drain, Job, Jobs, Submitted, Compacted, has_status, ids, contains, changed_jobs, is_stale}
 use Rattle.fleet_model.specs.History.{Step, Join, Move, Drain}
 use Rattle.fleet_model.specs.Store.{Records, Store, stored_jobs, jobs_in}
 use Rattle.fleet_model.specs.Records.{to_waiting}
 use Rattle.fleet_model.specs.Gates.{commit_gate, submit_gate}
 use Rattle.fleet_model.specs.Scheduler.{Scheduler}
-use Rattle.fleet_model.specs.PollStates.{PollOptions, PollInput, PollState, begun, accepts}
-use Rattle.fleet_model.specs.Polls.{free_stale, commit_by, commit_job, each, commit_finished, clashes, add_by, add_drawn, lost_to_scheduler, can_move, drain_job, move_job, schedule_job, open_by, open_job, open_submitted, committed}
+use Rattle.fleet_model.specs.PollStates.{PollOptions, PollInput, PollState, poll_begun, accepts}
+use Rattle.fleet_model.specs.Polls.{free_stale, commit_by, commit_job, each, commit_finished, clashes, add_by, add_drawn, lost_to_scheduler, can_move, drain_job, move_job, schedule_job, open_by, open_job, open_submitted, committed_poll}
 use Rattle.step_model.specs.PollSteps.{PollAsk, records_or_none}
 use Rattle.step_laws.proofs.Elements.{pairs_map, all_append}
 use Rattle.course_laws.proofs.Calls.{pairs_filter}
-use Rattle.line_laws.specs.PollRuns.{input_at, reached}
-use Rattle.line_laws.specs.PollLines.{verdicts, passed, failed, Fate, fate_by, fates, opened, moved, drained, refused, IsAtOnce, PollSays}
+use Rattle.line_laws.specs.PollRuns.{input_at, reached_state}
+use Rattle.line_laws.specs.PollLines.{verdicts, passed_in, failed_in, Fate, fate_by, fates, opened_in, moved_in, drained_in, refused_in, IsAtOnce, PollSays}
 
 -- ---- what was opened
 
@@ -47,10 +47,10 @@ adds_open_none place (d ∷ drawn) p = by (list_any (clashes d.1) p.jobs) (adds_
 
 -- What jobs with these fates add to what was opened.
 record Opened (f : List (ℕ × Fate)) (p q : PollState) : Type 0 where
-  pub opens : q.opened ≡ p.opened ++ flat_map opened f
-  pub moves : q.moved ≡ p.moved ++ flat_map moved f
-  pub drains : q.drained ≡ p.drained ++ flat_map drained f
-  pub refuses : q.refused ≡ p.refused ++ flat_map refused f
+  pub opens : q.opened ≡ p.opened ++ flat_map opened_in f
+  pub moves : q.moved ≡ p.moved ++ flat_map moved_in f
+  pub drains : q.drained ≡ p.drained ++ flat_map drained_in f
+  pub refuses : q.refused ≡ p.refused ++ flat_map refused_in f
 
 opens_do : (input : PollInput) (jobs : Jobs) (p : PollState) → Opened (fates input jobs p) p (each (open_job input) jobs p)
 opens_do input [] p = record { opens = sym (append-nil p.opened); moves = sym (append-nil p.moved); drains = sym (append-nil p.drained); refuses = sym (append-nil p.refused) }
@@ -75,9 +75,9 @@ opens_do input (job ∷ jobs) p = by (submit_gate p.trees p.jobs (lost_to_schedu
 -- What commits of jobs with these verdicts leave.
 record Committed (v : List (ℕ × Option ℕ)) (p q : PollState) : Type 0 where
   pub freed : q.freed ≡ p.freed
-  pub done : q.done ≡ p.done ++ flat_map passed v
-  pub lost : q.lost ≡ p.lost ++ flat_map failed v
-  pub steps : q.steps ≡ p.steps ++ map Join (flat_map passed v)
+  pub done : q.done ≡ p.done ++ flat_map passed_in v
+  pub lost : q.lost ≡ p.lost ++ flat_map failed_in v
+  pub steps : q.steps ≡ p.steps ++ map Join (flat_map passed_in v)
 
 commits_leave : (input : PollInput) (jobs : Jobs) (p : PollState) → Committed (verdicts input jobs p) p (each (commit_job input) jobs p)
 commits_leave input [] p = record { freed = refl; done = sym (append-nil p.done); lost = sym (append-nil p.lost); steps = sym (append-nil p.steps) }
@@ -88,19 +88,19 @@ commits_leave input (job ∷ jobs) p = by (commit_gate p.trees (accepts input p)
     by (Some rule) c = record { freed = c.freed; done = c.done; lost = c.lost ∙ append_assoc p.lost ((job.id, rule) ∷ []) _; steps = c.steps }
     by None c = record { freed = c.freed; done = c.done ∙ append_assoc p.done (job.id ∷ []) _; lost = c.lost; steps = c.steps ∙ append_assoc p.steps (Join job.id ∷ []) _ }
 
-passed_all : (P : ℕ → Type 0) (input : PollInput) (jobs : Jobs) (p : PollState) → AllByRecursion (λ (job : Job). P job.id) jobs → AllByRecursion P (flat_map passed (verdicts input jobs p))
+passed_all : (P : ℕ → Type 0) (input : PollInput) (jobs : Jobs) (p : PollState) → AllByRecursion (λ (job : Job). P job.id) jobs → AllByRecursion P (flat_map passed_in (verdicts input jobs p))
 passed_all P input [] p all = tt
 passed_all P input (job ∷ jobs) p all = by (commit_gate p.trees (accepts input p) job) (passed_all P input jobs (commit_job input job p) all.1)
   where
-    by : (rule : Option ℕ) → AllByRecursion P (flat_map passed (verdicts input jobs (commit_by input job rule p))) → AllByRecursion P (flat_map passed ((job.id, rule) ∷ verdicts input jobs (commit_by input job rule p)))
+    by : (rule : Option ℕ) → AllByRecursion P (flat_map passed_in (verdicts input jobs (commit_by input job rule p))) → AllByRecursion P (flat_map passed_in ((job.id, rule) ∷ verdicts input jobs (commit_by input job rule p)))
     by (Some rule) rest = rest
     by None rest = (all.0, rest)
 
-passed_rise : (input : PollInput) (jobs : Jobs) (p : PollState) → Pairs (λ (a b : Job). a.id < b.id) jobs → Pairs (λ a b. a < b) (flat_map passed (verdicts input jobs p))
+passed_rise : (input : PollInput) (jobs : Jobs) (p : PollState) → Pairs (λ (a b : Job). a.id < b.id) jobs → Pairs (λ a b. a < b) (flat_map passed_in (verdicts input jobs p))
 passed_rise input [] p rise = tt
 passed_rise input (job ∷ jobs) p rise = by (commit_gate p.trees (accepts input p) job) (passed_rise input jobs (commit_job input job p) rise.1)
   where
-    by : (rule : Option ℕ) → Pairs (λ a b. a < b) (flat_map passed (verdicts input jobs (commit_by input job rule p))) → Pairs (λ a b. a < b) (flat_map passed ((job.id, rule) ∷ verdicts input jobs (commit_by input job rule p)))
+    by : (rule : Option ℕ) → Pairs (λ a b. a < b) (flat_map passed_in (verdicts input jobs (commit_by input job rule p))) → Pairs (λ a b. a < b) (flat_map passed_in ((job.id, rule) ∷ verdicts input jobs (commit_by input job rule p)))
     by (Some rule) rest = rest
     by None rest = (passed_all (λ id. job.id < id) input jobs (commit_by input job None p) rise.0, rest)
 
@@ -161,7 +161,7 @@ got_jobs None = refl
 got_jobs (Some records) = refl
 
 -- Jobs that are freed keep their ids.
-freed_rise : (these : List ℕ) (jobs : Jobs) → Pairs (λ (a b : Job). a.id < b.id) jobs → Pairs (λ (a b : Job). a.id < b.id) (changed to_waiting these jobs)
+freed_rise : (these : List ℕ) (jobs : Jobs) → Pairs (λ (a b : Job). a.id < b.id) jobs → Pairs (λ (a b : Job). a.id < b.id) (changed_jobs to_waiting these jobs)
 freed_rise these jobs rise = pairs_map (λ (a b : Job). a.id < b.id) (λ (a b : Job). a.id < b.id) (λ (job : Job). cond (contains these job.id) (to_waiting job) job) jobs
     (λ x y one other low. subst (λ (n : ℕ). n < (cond (contains these y.id) (to_waiting y) y).id) (sym (same x (contains these x.id))) (subst (λ (n : ℕ). x.id < n) (sym (same y (contains these y.id))) low)) rise
   where
@@ -170,12 +170,12 @@ freed_rise these jobs rise = pairs_map (λ (a b : Job). a.id < b.id) (λ (a b : 
     same job false = refl
 
 says_by : (epoch : ℕ) (options : PollOptions) (scheduler : Scheduler) (moment : ℕ) (commits_only : Bool) (store : Store) (drawn : List (ℕ × JobSpec)) → Pairs (λ (a b : Job). a.id < b.id) (stored_jobs store)
-    → let ask : PollAsk = record { epoch = epoch; options = options; scheduler = scheduler; moment = moment; commits_only = commits_only } in PollSays ask store drawn (reached ask store drawn)
-unfolding committed
+    → let ask : PollAsk = record { epoch = epoch; options = options; scheduler = scheduler; moment = moment; commits_only = commits_only } in PollSays ask store drawn (reached_state ask store drawn)
+unfolding committed_poll
 says_by epoch options scheduler moment true store drawn rise =
     let ask : PollAsk = record { epoch = epoch; options = options; scheduler = scheduler; moment = moment; commits_only = true } in
     let input = input_at ask store in
-    let start = begun input.manifest.trees input.manifest.horizon input.records.jobs in
+    let start = poll_begun input.manifest.trees input.manifest.horizon input.records.jobs in
     let jobs = filter (has_status Compacted) start.jobs in
     let c = commits_leave input jobs start in
     let o = commits_open_none input jobs start in
@@ -196,7 +196,7 @@ says_by epoch options scheduler moment true store drawn rise =
 says_by epoch options scheduler moment false store drawn rise =
     let ask : PollAsk = record { epoch = epoch; options = options; scheduler = scheduler; moment = moment; commits_only = false } in
     let input = input_at ask store in
-    let first = begun input.manifest.trees input.manifest.horizon input.records.jobs in
+    let first = poll_begun input.manifest.trees input.manifest.horizon input.records.jobs in
     let start = free_stale input first in
     let jobs = filter (has_status Compacted) start.jobs in
     let c = commits_leave input jobs start in
@@ -218,11 +218,11 @@ says_by epoch options scheduler moment false store drawn rise =
       others = l.more;
       steps = l.steps ∙ ap (λ (steps : List Step). steps ++ l.more) (c.steps ∙ ap (map Join) (sym done));
       at_once = l.at_once;
-      opens = f.opens ∙ ap (λ (ids : List ℕ). ids ++ flat_map opened fate) (a.opens ∙ o.opens);
-      moves = f.moves ∙ ap (λ (ids : List ℕ). ids ++ flat_map moved fate) (a.moves ∙ o.moves);
-      drains = f.drains ∙ ap (λ (ids : List ℕ). ids ++ flat_map drained fate) (a.drains ∙ o.drains);
-      refuses = f.refuses ∙ ap (λ (ids : List (ℕ × ℕ)). ids ++ flat_map refused fate) (a.refuses ∙ o.refuses);
+      opens = f.opens ∙ ap (λ (ids : List ℕ). ids ++ flat_map opened_in fate) (a.opens ∙ o.opens);
+      moves = f.moves ∙ ap (λ (ids : List ℕ). ids ++ flat_map moved_in fate) (a.moves ∙ o.moves);
+      drains = f.drains ∙ ap (λ (ids : List ℕ). ids ++ flat_map drained_in fate) (a.drains ∙ o.drains);
+      refuses = f.refuses ∙ ap (λ (ids : List (ℕ × ℕ)). ids ++ flat_map refused_in fate) (a.refuses ∙ o.refuses);
     }
 
-pub poll_says : (ask : PollAsk) (store : Store) (drawn : List (ℕ × JobSpec)) → Pairs (λ (a b : Job). a.id < b.id) (stored_jobs store) → PollSays ask store drawn (reached ask store drawn)
+pub poll_says : (ask : PollAsk) (store : Store) (drawn : List (ℕ × JobSpec)) → Pairs (λ (a b : Job). a.id < b.id) (stored_jobs store) → PollSays ask store drawn (reached_state ask store drawn)
 poll_says ask store drawn rise = says_by ask.epoch ask.options ask.scheduler ask.moment ask.commits_only store drawn rise

@@ -37,10 +37,10 @@ reads_answer inputs old new segment key seq now answer ran =
     let is = read_is inputs ran.number old new segment key seq now answer ran.course in
     let m = old.store.manifest in
     let printed = λ (b : Bool). cond b (not_retained m.horizon m.tick) (read_reply (flushed_read inputs.merge old.store segment key seq now)) in
-    let told : printed (is_not_retained m seq now) ≡ answer = ap (λ (p : List ℕ × State). p.0) is in
+    let printed_is : printed (is_not_retained m seq now) ≡ answer = ap (λ (p : List ℕ × State). p.0) is in
     record {
-      refused = λ e. sym told ∙ ap printed e;
-      printed = λ e. sym told ∙ ap printed e;
+      refused = λ e. sym printed_is ∙ ap printed e;
+      printed = λ e. sym printed_is ∙ ap printed e;
       stored = λ e. let r = is_retained m seq now e in stores_answer_reads inputs.merge old.store ran.keeps.fleet.store.stored segment key seq now r.horizon r.tick;
       same = sym (ap (λ (p : List ℕ × State). p.1) is);
     }

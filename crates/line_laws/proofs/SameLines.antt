@@ -1,4 +1,4 @@
--- The lines behind which the same parties are live, if no poll is refused: flushes, submissions, sweeps and polls.
+-- The lines after which the same parties are live, if no poll is refused: flushes, submissions, sweeps and polls.
 use Rattle.std.proofs.Common.{◌≡◌, ◌≢◌, refl, ap, subst, ℕ, ◌<◌, List, [], ◌∷◌, Bool, true, false, Option, Some, None, length, arith}
 use Rattle.std.specs.Prelude.{codes, ◌^◌, ℤ, IsTrue, not, ◌&&◌, ◌==◌, filter}
 use Rattle.std.specs.List.{AllByRecursion}
@@ -16,7 +16,7 @@ use Rattle.fleet_model.specs.Parties.{LiveWorker, LiveCoordinator, Parties, coor
 use Rattle.fleet_model.specs.PollStates.{PollState}
 use Rattle.fleet_model.specs.Sweeps.{worker_tables, pinned_tables, swept_tables}
 use Rattle.fleet_laws.proofs.Sweeps.{sweep_is_exact}
-use Rattle.step_model.specs.Past.{Told}
+use Rattle.step_model.specs.Past.{World}
 use Rattle.step_model.specs.Entries.{last_name}
 use Rattle.step_model.specs.Rivals.{Caller}
 use Rattle.step_model.specs.Course.{Course, Ends, then_course}
@@ -30,11 +30,11 @@ use Rattle.step_model.specs.Fits.{CoordinatorHolds}
 use Rattle.step_laws.proofs.Elements.{IsIn, contains_in, in_contains, all_at, all_from}
 use Rattle.step_laws.proofs.Deletions.{in_flat}
 use Rattle.commit_laws.proofs.AllCalls.{calls_keep}
-use Rattle.fit_laws.specs.FitLaws.{SparesTables}
+use Rattle.rival_laws.specs.FitLaws.{SparesTables}
 use Rattle.course_laws.specs.Flushes.{MayAsk}
 use Rattle.course_laws.proofs.Flushes.{flushes_are_lawful}
 use Rattle.course_laws.proofs.Submits.{submits_are_lawful}
-use Rattle.poll_laws.proofs.Course.{polls_are_lawful}
+use Rattle.coordinator_laws.proofs.Course.{polls_are_lawful}
 use Rattle.course_laws.proofs.Sweeps.{NonePending, sweeps_are_lawful}
 use Rattle.script_model.specs.States.{Inputs, State}
 use Rattle.script_model.specs.Replies.{ok, reply, jobs_text}
@@ -48,7 +48,7 @@ use Rattle.line_laws.specs.Alone.{HadRoom}
 use Rattle.line_laws.specs.States.{FleetKeeps, StateKeeps}
 use Rattle.line_laws.proofs.Courses.{AllCalls}
 use Rattle.line_laws.proofs.Parties.{found}
-use Rattle.line_laws.proofs.Lines.{caller_of, told_of, Left, line_keeps, all_stay, coordinator_gone}
+use Rattle.line_laws.proofs.Lines.{caller_of, world_of, Left, line_keeps, all_stay, coordinator_gone}
 use Rattle.line_laws.proofs.Steps.{none_comes, step_ended, step_lawful, stays_line}
 use Rattle.line_laws.proofs.Flushes.{flush_none}
 
@@ -84,27 +84,27 @@ flush_keeps merge number name segment floor tick rows s k lawful is room =
     let ask : FlushAsk = record { name = name; segment = segment; floor = floor; tick = tick; rows = rows } in
     let who : Caller = caller_of merge number Writer in
     stays_line merge number s Writer (flush s.moment s.options.retention (last_name s.store.history) ask) (λ done. ok) k lawful (λ w same. absurd (cc same))
-    (flushes_are_lawful who (told_of merge s k) s.moment s.options.retention (last_name s.store.history) ask (calls_keep merge lawful) k.fleet.store refl (may_ask name segment floor tick rows is) (omega arith)) (λ course. tt)
-    (λ new end run whole. flush_none who s.moment s.options.retention (last_name s.store.history) ask (line_end (λ done. ok) (λ done. s.parties) s.parties) (told_of merge s k) new end refl refl whole k.fleet.none_pending run) room
+    (flushes_are_lawful who (world_of merge s k) s.moment s.options.retention (last_name s.store.history) ask (calls_keep merge lawful) k.fleet.store refl (may_ask name segment floor tick rows is) (omega arith)) (λ course. tt)
+    (λ new end run whole. flush_none who s.moment s.options.retention (last_name s.store.history) ask (line_end (λ done. ok) (λ done. s.parties) s.parties) (world_of merge s k) new end refl refl whole k.fleet.none_pending run) room
 
 -- ---- submissions
 
-submits_keep : (merge : Operator) (number : ℕ) (word : List ℕ) (step : Course (StepEnd (List ℕ))) (s : State) (k : StateKeeps merge s) → IsLawful merge → IsLawfulCourse (caller_of merge number Submitter) (told_of merge s k) step
+submits_keep : (merge : Operator) (number : ℕ) (word : List ℕ) (step : Course (StepEnd (List ℕ))) (s : State) (k : StateKeeps merge s) → IsLawful merge → IsLawfulCourse (caller_of merge number Submitter) (world_of merge s k) step
     → HadRoom (run_line number s (submits s word step)).1.store → StateKeeps merge (run_line number s (submits s word step)).1
 submits_keep merge number word step s k lawful step_is room =
     let who : Caller = caller_of merge number Submitter in
     stays_line merge number s Submitter step (λ jobs. reply (codes "ok" ∷ word ∷ jobs_text jobs ∷ [])) k lawful (λ w same. absurd (cc same)) step_is (λ course. tt)
-    (λ new end run whole. none_comes who (then_course step _) (told_of merge s k) new end lawful refl refl k.fleet.store (step_lawful who step _ (told_of merge s k) step_is) k.fleet.none_pending run) room
+    (λ new end run whole. none_comes who (then_course step _) (world_of merge s k) new end lawful refl refl k.fleet.store (step_lawful who step _ (world_of merge s k) step_is) k.fleet.none_pending run) room
 
 pub submit_keeps : (merge : Operator) (number : ℕ) (spec : JobSpec) (s : State) → StateKeeps merge s → IsLawful merge → HadRoom (run_line number s (submit_line spec s)).1.store → StateKeeps merge (run_line number s (submit_line spec s)).1
 submit_keeps merge number spec s k lawful room =
-    submits_keep merge number (codes "job") (submit s.moment (spec ∷ [])) s k lawful ((submits_are_lawful (caller_of merge number Submitter) (told_of merge s k)).submits s.moment (spec ∷ []) (calls_keep merge lawful) k.fleet.store refl) room
+    submits_keep merge number (codes "job") (submit s.moment (spec ∷ [])) s k lawful ((submits_are_lawful (caller_of merge number Submitter) (world_of merge s k)).submits s.moment (spec ∷ []) (calls_keep merge lawful) k.fleet.store refl) room
 
 pub full_keeps : (inputs : Inputs) (number : ℕ) (segment : Option (List ℕ)) (s : State) → StateKeeps inputs.merge s → IsLawful inputs.merge → HadRoom (run_line number s (full_line inputs segment s)).1.store
     → StateKeeps inputs.merge (run_line number s (full_line inputs segment s)).1
 full_keeps inputs number segment s k lawful room =
     submits_keep inputs.merge number (codes "jobs") (submit_request s.moment inputs.scheduler (request_of segment)) s k lawful
-    ((submits_are_lawful (caller_of inputs.merge number Submitter) (told_of inputs.merge s k)).requests s.moment inputs.scheduler (request_of segment) (calls_keep inputs.merge lawful) k.fleet.store refl) room
+    ((submits_are_lawful (caller_of inputs.merge number Submitter) (world_of inputs.merge s k)).requests s.moment inputs.scheduler (request_of segment) (calls_keep inputs.merge lawful) k.fleet.store refl) room
 
 -- ---- sweeps
 
@@ -148,20 +148,20 @@ pub sweep_keeps : (merge : Operator) (number : ℕ) (s : State) (k : StateKeeps 
 sweep_keeps merge number s k lawful room =
     let who : Caller = caller_of merge number Sweeper in
     let c : LineCourse = sweep_line s in
-    let is : IsLawfulCourse who (told_of merge s k) c.course = step_lawful who (sweep (pinned_tables s.parties)) _ (told_of merge s k) (sweeps_are_lawful who (told_of merge s k) (pinned_tables s.parties) refl refl k.fleet.store k.fleet.none_pending) in
+    let is : IsLawfulCourse who (world_of merge s k) c.course = step_lawful who (sweep (pinned_tables s.parties)) _ (world_of merge s k) (sweeps_are_lawful who (world_of merge s k) (pinned_tables s.parties) refl refl k.fleet.store k.fleet.none_pending) in
     line_keeps merge number s c k lawful is (λ w there. sweep_spares s.parties w _ there) (record {
-      struck = λ new run left. all_stay merge number Sweeper (told_of merge s k) new s.parties (λ w same. absurd (cc same)) k.fleet left (none_comes who c.course (told_of merge s k) new MeetsFault lawful refl refl k.fleet.store is k.fleet.none_pending run);
+      struck = λ new run left. all_stay merge number Sweeper (world_of merge s k) new s.parties (λ w same. absurd (cc same)) k.fleet left (none_comes who c.course (world_of merge s k) new MeetsFault lawful refl refl k.fleet.store is k.fleet.none_pending run);
       gives = λ new end run left.
-          let ended = step_ended who (sweep (pinned_tables s.parties)) _ (told_of merge s k) new end run in
+          let ended = step_ended who (sweep (pinned_tables s.parties)) _ (world_of merge s k) new end run in
           subst (FleetKeeps merge new) (ap (λ (e : LineEnd). e.parties) ended.is)
-          (all_stay merge number Sweeper (told_of merge s k) new s.parties (λ w same. absurd (cc same)) k.fleet left (none_comes who c.course (told_of merge s k) new (Gives end) lawful refl refl k.fleet.store is k.fleet.none_pending run));
+          (all_stay merge number Sweeper (world_of merge s k) new s.parties (λ w same. absurd (cc same)) k.fleet left (none_comes who c.course (world_of merge s k) new (Gives end) lawful refl refl k.fleet.store is k.fleet.none_pending run));
     }) room
 
 -- ---- polls
 
-pub polls_keep : (inputs : Inputs) (number : ℕ) (commits_only : Bool) (told : PollState → List ℕ) (n : ℕ) (s : State) (k : StateKeeps inputs.merge s) → IsLawful inputs.merge → HadRoom (run_line number s (polls commits_only told inputs n s)).1.store
-    → StateKeeps inputs.merge (run_line number s (polls commits_only told inputs n s)).1
-polls_keep inputs number commits_only told n s k lawful room = by (coordinator_with n s.parties) refl room
+pub polls_keep : (inputs : Inputs) (number : ℕ) (commits_only : Bool) (spell : PollState → List ℕ) (n : ℕ) (s : State) (k : StateKeeps inputs.merge s) → IsLawful inputs.merge → HadRoom (run_line number s (polls commits_only spell inputs n s)).1.store
+    → StateKeeps inputs.merge (run_line number s (polls commits_only spell inputs n s)).1
+polls_keep inputs number commits_only spell n s k lawful room = by (coordinator_with n s.parties) refl room
   where
     who : Caller
     who = caller_of inputs.merge number (Coordinator n)
@@ -169,11 +169,11 @@ polls_keep inputs number commits_only told n s k lawful room = by (coordinator_w
     line : Option LiveCoordinator → LineCourse
     line o = if_some o (no_such_party s) (λ c.
         let gone = without_coordinator n s.parties in
-        step_line (Coordinator n) (poll (poll_ask inputs s c commits_only)) (line_end told (λ reached. s.parties) gone) gone)
+        step_line (Coordinator n) (poll (poll_ask inputs s c commits_only)) (line_end spell (λ reached. s.parties) gone) gone)
 
-    ends : (new : Told) (end : StepEnd PollState) → Left who s.parties new → NonePending new.store → FleetKeeps inputs.merge new (step_parties (λ (reached : PollState). s.parties) (without_coordinator n s.parties) end)
-    ends new (Reports reached) left none = all_stay inputs.merge number (Coordinator n) (told_of inputs.merge s k) new s.parties (λ w same. absurd (cc same)) k.fleet left none
-    ends new end left none = coordinator_gone inputs.merge number n (told_of inputs.merge s k) new s.parties k.fleet left none
+    ends : (new : World) (end : StepEnd PollState) → Left who s.parties new → NonePending new.store → FleetKeeps inputs.merge new (step_parties (λ (reached : PollState). s.parties) (without_coordinator n s.parties) end)
+    ends new (Reports reached) left none = all_stay inputs.merge number (Coordinator n) (world_of inputs.merge s k) new s.parties (λ w same. absurd (cc same)) k.fleet left none
+    ends new end left none = coordinator_gone inputs.merge number n (world_of inputs.merge s k) new s.parties k.fleet left none
 
     by : (o : Option LiveCoordinator) → coordinator_with n s.parties ≡ o → HadRoom (run_line number s (line o)).1.store → StateKeeps inputs.merge (run_line number s (line o)).1
     by None e room = no_party_keeps inputs.merge number s k
@@ -182,13 +182,13 @@ polls_keep inputs number commits_only told n s k lawful room = by (coordinator_w
         let same : n ≡ c.number = (Decides-eqb n c.number).0 f.passes in
         let step = poll (poll_ask inputs s c commits_only) in
         let gone = without_coordinator n s.parties in
-        let is : IsLawfulCourse who (told_of inputs.merge s k) (line (Some c)).course = step_lawful who step (line_end told (λ reached. s.parties) gone) (told_of inputs.merge s k)
-        (polls_are_lawful who (told_of inputs.merge s k) c.number (poll_ask inputs s c commits_only) None lawful (ap Coordinator same) k.fleet.store
-        (all_at (λ (c : LiveCoordinator). CoordinatorHolds (told_of inputs.merge s k) c None) s.parties.coordinators c k.fleet.coordinators f.there)) in
+        let is : IsLawfulCourse who (world_of inputs.merge s k) (line (Some c)).course = step_lawful who step (line_end spell (λ reached. s.parties) gone) (world_of inputs.merge s k)
+        (polls_are_lawful who (world_of inputs.merge s k) c.number (poll_ask inputs s c commits_only) None lawful (ap Coordinator same) k.fleet.store
+        (all_at (λ (c : LiveCoordinator). CoordinatorHolds (world_of inputs.merge s k) c None) s.parties.coordinators c k.fleet.coordinators f.there)) in
         line_keeps inputs.merge number s (line (Some c)) k lawful is tt (record {
-          struck = λ new run left. coordinator_gone inputs.merge number n (told_of inputs.merge s k) new s.parties k.fleet left (none_comes who (line (Some c)).course (told_of inputs.merge s k) new MeetsFault lawful refl refl k.fleet.store is k.fleet.none_pending run);
+          struck = λ new run left. coordinator_gone inputs.merge number n (world_of inputs.merge s k) new s.parties k.fleet left (none_comes who (line (Some c)).course (world_of inputs.merge s k) new MeetsFault lawful refl refl k.fleet.store is k.fleet.none_pending run);
           gives = λ new end run left.
-              let ended = step_ended who step (line_end told (λ reached. s.parties) gone) (told_of inputs.merge s k) new end run in
+              let ended = step_ended who step (line_end spell (λ reached. s.parties) gone) (world_of inputs.merge s k) new end run in
               subst (FleetKeeps inputs.merge new) (ap (λ (e : LineEnd). e.parties) ended.is)
-              (ends new ended.answer left (none_comes who (line (Some c)).course (told_of inputs.merge s k) new (Gives end) lawful refl refl k.fleet.store is k.fleet.none_pending run));
+              (ends new ended.answer left (none_comes who (line (Some c)).course (world_of inputs.merge s k) new (Gives end) lawful refl refl k.fleet.store is k.fleet.none_pending run));
         }) room

@@ -3,16 +3,16 @@ use Rattle.std.proofs.Common.{◌≡◌, refl, sym, ◌∙◌, ap, subst, ℕ, z
 use Rattle.std.specs.Prelude.{⊤}
 use Rattle.std.specs.List.{AllByRecursion}
 use Rattle.row_model.specs.Fold.{Operator, IsLawful}
-use Rattle.step_model.specs.Past.{fresh_told}
+use Rattle.step_model.specs.Past.{fresh_world}
 use Rattle.step_laws.proofs.Elements.{all_front, all_back}
 use Rattle.step_laws.proofs.Fresh.{fresh_keeps}
 use Rattle.script_model.specs.Script.{Line, Options, Clock, StartCoordinator, StartWorker, KillCoordinator, KillWorker, StopCoordinator, StopWorker, FlushRows, ReadKey, SubmitJob, SubmitDrain, SubmitFull, Poll, CommitOnly, ClaimJobs, Heartbeat, Output, FinishJob, SetFault, ShowTrees, ShowJobs, ShowTables, Dump, Sweep, Scan, Settle, IsInBounds}
 use Rattle.script_model.specs.Replies.{poll_reply, commit_reply}
 use Rattle.script_model.specs.States.{Inputs, State, FleetOptions, fresh_state}
 use Rattle.script_model.specs.LineRuns.{run_line}
-use Rattle.script_model.specs.LineCourses.{prepared, course_of}
+use Rattle.script_model.specs.LineCourses.{prepared_state, course_of}
 use Rattle.script_model.specs.LineSteps.{MayRefuse, OneCourse}
-use Rattle.script_model.specs.Settles.{is_ok, are_live, has_active, has_added, jobs_run, EndsOr, Step, Finishes, BehindPoll, Rounds}
+use Rattle.script_model.specs.Settles.{is_ok, are_live, has_active, has_added, jobs_run, EndsOr, Step, FinishesInTurn, AfterPoll, Rounds}
 use Rattle.script_model.specs.Follows.{SettleStep, LineStep, ScriptRun}
 use Rattle.line_laws.specs.Alone.{HadRoom}
 use Rattle.line_laws.specs.States.{StateKeeps}
@@ -36,7 +36,7 @@ asked_well (FlushRows name segment floor tick rows) is = is
 asked_well (Output n job place rows) is = is.3
 asked_well line is = tt
 
-prepared_keeps : (merge : Operator) (line : Line) (s : State) → StateKeeps merge s → StateKeeps merge (prepared line s)
+prepared_keeps : (merge : Operator) (line : Line) (s : State) → StateKeeps merge s → StateKeeps merge (prepared_state line s)
 prepared_keeps merge (Options timeout concurrent slots ranges table_size moves retention) s k = record { past = k.past; fleet = k.fleet }
 prepared_keeps merge (Clock moment) s k = record { past = k.past; fleet = k.fleet }
 prepared_keeps merge (SetFault n stands) s k = record { past = k.past; fleet = k.fleet }
@@ -89,7 +89,7 @@ leads_on merge old mid new first second =
     let high = second.grows in
     record { grows = omega (arith, low, high); keeps = λ room k. second.keeps room (first.keeps (omega (arith, high, room)) k) }
 
-prepared_history : (line : Line) (s : State) → (prepared line s).store ≡ s.store
+prepared_history : (line : Line) (s : State) → (prepared_state line s).store ≡ s.store
 prepared_history (Options timeout concurrent slots ranges table_size moves retention) s = refl
 prepared_history (Clock moment) s = refl
 prepared_history (SetFault n stands) s = refl
@@ -97,7 +97,7 @@ prepared_history line s = refl
 
 pub course_leads : (inputs : Inputs) (number : ℕ) (old : State) (line : Line) (answer : List ℕ) (new : State) → IsLawful inputs.merge → IsAskedWell line → OneCourse inputs number old line answer new → Leads inputs.merge old new
 course_leads inputs number old line answer new lawful well one =
-    let s = prepared line old in
+    let s = prepared_state line old in
     let refusal = one.does.refusal in
     let is : run_line number s (course_of inputs line refusal s) ≡ (answer, new) = ap (run_line number s) (sym one.does.is) ∙ one.ends in
     let there : (run_line number s (course_of inputs line refusal s)).1 ≡ new = ap (λ (p : List ℕ × State). p.1) is in
@@ -114,7 +114,7 @@ course_leads inputs number old line answer new lawful well one =
 -- Each of these steps took the state that the one before it left on by one course, all in the line of this number.
 abbrev pub StepsRun : Inputs → ℕ → State → List Line → List ℕ → State → Type 0
 StepsRun inputs number old [] answer new = new ≡ old
-StepsRun inputs number old (step ∷ others) answer new = (told : List ℕ) × (mid : State) × OneCourse inputs number old step told mid × StopsIfRefused told others answer × StepsRun inputs number mid others answer new
+StepsRun inputs number old (step ∷ others) answer new = (replied : List ℕ) × (mid : State) × OneCourse inputs number old step replied mid × StopsIfRefused replied others answer × StepsRun inputs number mid others answer new
 
 -- The steps of a settle line, from this state on.
 pub record Steps (inputs : Inputs) (number coordinator worker : ℕ) (old : State) (answer : List ℕ) (new : State) : Type 0 where
@@ -126,38 +126,38 @@ abbrev no_steps : (inputs : Inputs) (number coordinator worker : ℕ) (old : Sta
 no_steps inputs number coordinator worker old answer new same = record { steps = []; each = tt; run = same }
 
 step_steps : (inputs : Inputs) (number coordinator worker : ℕ) (line : Line) (old : State) (answer : List ℕ) (new : State) (Rest : State → Type 0) → IsStepOf coordinator worker line
-    → ((behind : State) → Rest behind → Steps inputs number coordinator worker behind answer new) → Step inputs number line old answer new Rest → Steps inputs number coordinator worker old answer new
-step_steps inputs number coordinator worker line old answer new Rest is next step = by (is_ok step.told) refl step.rest
+    → ((after : State) → Rest after → Steps inputs number coordinator worker after answer new) → Step inputs number line old answer new Rest → Steps inputs number coordinator worker old answer new
+step_steps inputs number coordinator worker line old answer new Rest is next step = by (is_ok step.replied) refl step.rest
   where
-    first : (more : Steps inputs number coordinator worker step.behind answer new) → StopsIfRefused step.told more.steps answer → Steps inputs number coordinator worker old answer new
-    first more stops = record { steps = line ∷ more.steps; each = (is, more.each); run = (step.told, step.behind, step.does, stops, more.run) }
+    first : (more : Steps inputs number coordinator worker step.after answer new) → StopsIfRefused step.replied more.steps answer → Steps inputs number coordinator worker old answer new
+    first more stops = record { steps = line ∷ more.steps; each = (is, more.each); run = (step.replied, step.after, step.does, stops, more.run) }
 
-    by : (ok : Bool) → is_ok step.told ≡ ok → EndsOr ok step.told step.behind answer new (Rest step.behind) → Steps inputs number coordinator worker old answer new
-    by true e rest = first (next step.behind rest) (λ refused. absurd (cc (e, refused)))
-    by false e rest = first (no_steps inputs number coordinator worker step.behind answer new rest.1) (λ refused. (refl, rest.0))
+    by : (ok : Bool) → is_ok step.replied ≡ ok → EndsOr ok step.replied step.after answer new (Rest step.after) → Steps inputs number coordinator worker old answer new
+    by true e rest = first (next step.after rest) (λ refused. absurd (cc (e, refused)))
+    by false e rest = first (no_steps inputs number coordinator worker step.after answer new rest.1) (λ refused. (refl, rest.0))
 
-finishes_steps : (inputs : Inputs) (number coordinator worker : ℕ) (jobs : List ℕ) (s : State) (answer : List ℕ) (new : State) (Rest : State → Type 0) → ((behind : State) → Rest behind → Steps inputs number coordinator worker behind answer new)
-    → Finishes inputs number worker jobs s answer new Rest → Steps inputs number coordinator worker s answer new
+finishes_steps : (inputs : Inputs) (number coordinator worker : ℕ) (jobs : List ℕ) (s : State) (answer : List ℕ) (new : State) (Rest : State → Type 0) → ((after : State) → Rest after → Steps inputs number coordinator worker after answer new)
+    → FinishesInTurn inputs number worker jobs s answer new Rest → Steps inputs number coordinator worker s answer new
 finishes_steps inputs number coordinator worker [] s answer new Rest next rest = next s rest
 finishes_steps inputs number coordinator worker (job ∷ jobs) s answer new Rest next step =
-    step_steps inputs number coordinator worker (FinishJob worker job) s answer new (λ behind. Finishes inputs number worker jobs behind answer new Rest) refl
-    (λ behind rest. finishes_steps inputs number coordinator worker jobs behind answer new Rest next rest) step
+    step_steps inputs number coordinator worker (FinishJob worker job) s answer new (λ after. FinishesInTurn inputs number worker jobs after answer new Rest) refl
+    (λ after rest. finishes_steps inputs number coordinator worker jobs after answer new Rest next rest) step
 
-behind_poll_steps : (active added : Bool) (inputs : Inputs) (number coordinator worker round : ℕ) (s : State) (answer : List ℕ) (new : State) (Next : State → Type 0) → ((behind : State) → Next behind → Steps inputs number coordinator worker behind answer new)
-    → BehindPoll active added inputs number worker round s answer new Next → Steps inputs number coordinator worker s answer new
-behind_poll_steps true added inputs number coordinator worker round s answer new Next next step =
-    step_steps inputs number coordinator worker (ClaimJobs worker) s answer new (λ claimed. Finishes inputs number worker (jobs_run worker claimed) claimed answer new Next) refl
+after_poll_steps : (active added : Bool) (inputs : Inputs) (number coordinator worker round : ℕ) (s : State) (answer : List ℕ) (new : State) (Next : State → Type 0) → ((after : State) → Next after → Steps inputs number coordinator worker after answer new)
+    → AfterPoll active added inputs number worker round s answer new Next → Steps inputs number coordinator worker s answer new
+after_poll_steps true added inputs number coordinator worker round s answer new Next next step =
+    step_steps inputs number coordinator worker (ClaimJobs worker) s answer new (λ claimed. FinishesInTurn inputs number worker (jobs_run worker claimed) claimed answer new Next) refl
     (λ claimed rest. finishes_steps inputs number coordinator worker (jobs_run worker claimed) claimed answer new Next next rest) step
-behind_poll_steps false true inputs number coordinator worker round s answer new Next next rest = next s rest
-behind_poll_steps false false inputs number coordinator worker round s answer new Next next rest = no_steps inputs number coordinator worker s answer new rest.1
+after_poll_steps false true inputs number coordinator worker round s answer new Next next rest = next s rest
+after_poll_steps false false inputs number coordinator worker round s answer new Next next rest = no_steps inputs number coordinator worker s answer new rest.1
 
 rounds_steps : (inputs : Inputs) (number coordinator worker left taken : ℕ) (s : State) (answer : List ℕ) (new : State) → Rounds inputs number coordinator worker left taken s answer new → Steps inputs number coordinator worker s answer new
 rounds_steps inputs number coordinator worker zero taken s answer new rest = no_steps inputs number coordinator worker s answer new rest.1
 rounds_steps inputs number coordinator worker (suc left) taken s answer new step =
     step_steps inputs number coordinator worker (Poll coordinator) s answer new
-    (λ behind. BehindPoll (has_active behind) (has_added coordinator behind) inputs number worker (taken + 1) behind answer new (λ next. Rounds inputs number coordinator worker left (taken + 1) next answer new)) refl
-    (λ behind rest.
-    behind_poll_steps (has_active behind) (has_added coordinator behind) inputs number coordinator worker (taken + 1) behind answer new (λ next. Rounds inputs number coordinator worker left (taken + 1) next answer new)
+    (λ after. AfterPoll (has_active after) (has_added coordinator after) inputs number worker (taken + 1) after answer new (λ next. Rounds inputs number coordinator worker left (taken + 1) next answer new)) refl
+    (λ after rest.
+    after_poll_steps (has_active after) (has_added coordinator after) inputs number coordinator worker (taken + 1) after answer new (λ next. Rounds inputs number coordinator worker left (taken + 1) next answer new)
     (λ next more. rounds_steps inputs number coordinator worker left (taken + 1) next answer new more) rest) step
 
 -- A settle line whose parties are not both live changes nothing.
@@ -184,8 +184,8 @@ pub record StepsLead (inputs : Inputs) (old : State) (steps : List Line) (answer
 pub steps_lead : (inputs : Inputs) (number coordinator worker : ℕ) (old : State) (steps : List Line) (answer : List ℕ) (new : State) → IsLawful inputs.merge → AllByRecursion (IsStepOf coordinator worker) steps → StepsRun inputs number old steps answer new
     → StepsLead inputs old steps answer new
 steps_lead inputs number coordinator worker old [] answer new lawful each same = record { leads = leads_nowhere inputs.merge old new same; ran = λ room k. same }
-steps_lead inputs number coordinator worker old (step ∷ others) answer new lawful each (told, mid, one, stops, more) =
-    further (course_leads inputs number old step told mid lawful (step_asked_well coordinator worker step each.0) one) (steps_lead inputs number coordinator worker mid others answer new lawful each.1 more)
+steps_lead inputs number coordinator worker old (step ∷ others) answer new lawful each (replied, mid, one, stops, more) =
+    further (course_leads inputs number old step replied mid lawful (step_asked_well coordinator worker step each.0) one) (steps_lead inputs number coordinator worker mid others answer new lawful each.1 more)
   where
     further : Leads inputs.merge old mid → StepsLead inputs mid others answer new → StepsLead inputs old (step ∷ others) answer new
     further first rest = record {
@@ -193,7 +193,7 @@ steps_lead inputs number coordinator worker old (step ∷ others) answer new law
       ran = λ room k.
           let grows = rest.leads.grows in
           let mid_room : HadRoom mid.store = omega (arith, grows, room) in
-          (told, mid, record { lawful = lawful; keeps = k; number = number; course = one; had_room = mid_room }, stops, rest.ran room (first.keeps mid_room k));
+          (replied, mid, record { lawful = lawful; keeps = k; number = number; course = one; had_room = mid_room }, stops, rest.ran room (first.keeps mid_room k));
     }
 
 settle_leads : (inputs : Inputs) (number coordinator worker : ℕ) (old : State) (answer : List ℕ) (new : State) → IsLawful inputs.merge → Steps inputs number coordinator worker old answer new → Leads inputs.merge old new
@@ -214,7 +214,7 @@ run_leads inputs number old (line ∷ lines) [] new lawful is run = absurd run
 
 fresh_state_keeps : (merge : Operator) (options : FleetOptions) → StateKeeps merge (fresh_state options)
 fresh_state_keeps merge options = record {
-  past = fresh_told.past;
+  past = fresh_world.past;
   fleet = record { store = fresh_keeps merge; workers = tt; coordinators = tt; workers_differ = tt; coordinators_differ = tt; none_pending = λ table. refl };
 }
 

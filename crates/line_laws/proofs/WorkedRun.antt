@@ -4,9 +4,9 @@ use Rattle.std.specs.Prelude.{codes}
 use Rattle.std.specs.Fmt.{digits}
 use Rattle.hex.specs.Hex.{encode_with}
 use Rattle.row_model.specs.Append.{append}
-use Rattle.row_model.specs.Plan.{planned}
+use Rattle.row_model.specs.Plan.{planned_ranges}
 use Rattle.row_laws.proofs.Lawful.{append_is_lawful}
-use Rattle.fleet_model.specs.Polls.{committed}
+use Rattle.fleet_model.specs.Polls.{committed_poll}
 use Rattle.step_model.specs.PollSteps.{start, poll}
 use Rattle.step_model.specs.ClaimSteps.{claim}
 use Rattle.step_model.specs.BeatSteps.{heartbeat, release_all}
@@ -37,7 +37,7 @@ worked_replies =
     ∷ []
 
 pub worked_runs : WorkedRuns
-unfolding digits encode_with planned committed start poll claim heartbeat release_all output end_job finish submit submit_request flush sweep course_of worked_replies
+unfolding digits encode_with planned_ranges committed_poll start poll claim heartbeat release_all output end_job finish submit submit_request flush sweep course_of worked_replies
 worked_runs = record {
   last = last_state (with_quiet_scheduler append) 1 (fresh_state default_options) worked_lines;
   run = record {

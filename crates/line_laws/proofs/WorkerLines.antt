@@ -7,7 +7,7 @@ use Rattle.row_model.specs.Ranges.{Range}
 use Rattle.fleet_model.specs.Jobs.{number_of}
 use Rattle.fleet_model.specs.History.{Worker, Kill, Event}
 use Rattle.fleet_model.specs.Parties.{Attempt, LiveWorker, worker_with, without_worker}
-use Rattle.step_model.specs.Past.{Told}
+use Rattle.step_model.specs.Past.{World}
 use Rattle.step_model.specs.Rivals.{Caller}
 use Rattle.step_model.specs.Fits.{WorkerHolds}
 use Rattle.step_model.specs.Course.{Course, Ends, calls_each, then_course}
@@ -26,23 +26,23 @@ use Rattle.course_laws.proofs.Beats.{found_attempt, beats_are_lawful}
 use Rattle.course_laws.proofs.Outputs.{outputs_are_lawful}
 use Rattle.course_laws.proofs.Finishes.{finishes_are_lawful}
 use Rattle.course_laws.proofs.Releases.{releases_are_lawful}
-use Rattle.after_laws.specs.Behind.{FitsBehind, FitsAfter}
-use Rattle.after_laws.proofs.Beats.{beats_keep_fit}
-use Rattle.after_laws.proofs.Claims.{claims_keep_fit}
-use Rattle.after_laws.proofs.Outputs.{outputs_keep_fit}
-use Rattle.after_laws.proofs.Fewer.{fewer_attempts_fit}
-use Rattle.after_laws.proofs.Finishes.{finishes_keep_fit}
+use Rattle.worker_laws.specs.After.{FitsAfterwards, FitsAfter}
+use Rattle.worker_laws.proofs.Beats.{beats_keep_fit}
+use Rattle.worker_laws.proofs.Claims.{claims_keep_fit}
+use Rattle.worker_laws.proofs.Outputs.{outputs_keep_fit}
+use Rattle.worker_laws.proofs.Fewer.{fewer_attempts_fit}
+use Rattle.worker_laws.proofs.Finishes.{finishes_keep_fit}
 use Rattle.script_model.specs.States.{Inputs, State}
 use Rattle.script_model.specs.Replies.{reply, jobs_text, claim_reply, beat_reply, output_reply, ranges_text}
 use Rattle.script_model.specs.LineRuns.{LineEnd, LineCourse, run_line, line_end, step_parties, no_such_party, if_some}
-use Rattle.script_model.specs.WorkLines.{worker_options, running, worker_line, claim_line, heartbeat_line, stop_worker, dropped, output_line, finish_line}
+use Rattle.script_model.specs.WorkLines.{worker_options, running, worker_line, claim_line, heartbeat_line, stop_worker, without_attempt, output_line, finish_line}
 use Rattle.script_model.specs.LineCourses.{attempt_numbered, job_at, range_at}
 use Rattle.script_model.specs.Refusals.{left_in, FinishMay}
 use Rattle.line_laws.specs.Alone.{HadRoom}
 use Rattle.line_laws.specs.States.{FleetKeeps, StateKeeps}
 use Rattle.line_laws.proofs.Courses.{Split, split, then_lawful}
 use Rattle.line_laws.proofs.Parties.{found}
-use Rattle.line_laws.proofs.Lines.{caller_of, told_of, Left, line_keeps, worker_gone, worker_stays}
+use Rattle.line_laws.proofs.Lines.{caller_of, world_of, Left, line_keeps, worker_gone, worker_stays}
 use Rattle.line_laws.proofs.Steps.{none_comes, StepEnded, step_ended, step_lawful}
 use Rattle.line_laws.proofs.SameLines.{no_party_keeps}
 use Rattle.line_laws.proofs.PartyLines.{own_lawful, notes_end}
@@ -52,28 +52,28 @@ use Rattle.line_laws.proofs.PartyLines.{own_lawful, notes_end}
 -- A worker that is live fits the store.
 pub record IsWorker (merge : Operator) (s : State) (k : StateKeeps merge s) (n : ℕ) (w : LiveWorker) : Type 0 where
   pub number : n ≡ w.number
-  pub holds : WorkerHolds merge (told_of merge s k) w
+  pub holds : WorkerHolds merge (world_of merge s k) w
 
 pub is_worker : (merge : Operator) (s : State) (k : StateKeeps merge s) (n : ℕ) (w : LiveWorker) → worker_with n s.parties ≡ Some w → IsWorker merge s k n w
 is_worker merge s k n w e =
     let f = found (λ (w : LiveWorker). n == w.number) s.parties.workers w e in
-    record { number = (Decides-eqb n w.number).0 f.passes; holds = all_at (WorkerHolds merge (told_of merge s k)) s.parties.workers w k.fleet.workers f.there }
+    record { number = (Decides-eqb n w.number).0 f.passes; holds = all_at (WorkerHolds merge (world_of merge s k)) s.parties.workers w k.fleet.workers f.there }
 
 -- ---- a line of one step
 
--- The worker that runs these attempts behind the step is live and fits.
-ends_fit : {A : Type 0} (merge : Operator) (number : ℕ) (s : State) (k : StateKeeps merge s) (w : LiveWorker) (reported : A → List Attempt) (refused : List Attempt) (new : Told) (end : StepEnd A)
+-- The worker that runs these attempts after the step is live and fits.
+ends_fit : {A : Type 0} (merge : Operator) (number : ℕ) (s : State) (k : StateKeeps merge s) (w : LiveWorker) (reported : A → List Attempt) (refused : List Attempt) (new : World) (end : StepEnd A)
     → Left (caller_of merge number (Worker w.number)) s.parties new → NonePending new.store → (WorkerHolds merge new w → WorkerHolds merge new (record w { attempts = refused }))
-    → FitsBehind merge w reported new (Gives end) → FleetKeeps merge new (step_parties (λ (report : A). running w s (reported report)) (running w s refused) end)
-ends_fit merge number s k w reported refused new (Reports report) left none fewer holds = worker_stays merge number (told_of merge s k) new s.parties (record w { attempts = reported report }) k.fleet left none holds
-ends_fit merge number s k w reported refused new end left none fewer holds = worker_stays merge number (told_of merge s k) new s.parties (record w { attempts = refused }) k.fleet left none (fewer holds)
+    → FitsAfterwards merge w reported new (Gives end) → FleetKeeps merge new (step_parties (λ (report : A). running w s (reported report)) (running w s refused) end)
+ends_fit merge number s k w reported refused new (Reports report) left none fewer holds = worker_stays merge number (world_of merge s k) new s.parties (record w { attempts = reported report }) k.fleet left none holds
+ends_fit merge number s k w reported refused new end left none fewer holds = worker_stays merge number (world_of merge s k) new s.parties (record w { attempts = refused }) k.fleet left none (fewer holds)
 
--- A worker that does a lawful step, and fits behind it, leaves a state that keeps the invariant.
-work_keeps : {A : Type 0} (merge : Operator) (number : ℕ) (s : State) (k : StateKeeps merge s) (w : LiveWorker) (step : Course (StepEnd A)) (told : A → List ℕ) (reported : A → List Attempt) (refused : List Attempt) → IsLawful merge
-    → WorkerHolds merge (told_of merge s k) w → ((t : Told) → WorkerHolds merge t w → WorkerHolds merge t (record w { attempts = refused }))
-    → IsLawfulCourse (caller_of merge number (Worker w.number)) (told_of merge s k) step → FitsAfter (caller_of merge number (Worker w.number)) w reported (told_of merge s k) step
-    → HadRoom (run_line number s (worker_line w s step told reported refused)).1.store → StateKeeps merge (run_line number s (worker_line w s step told reported refused)).1
-work_keeps {A} merge number s k w step told reported refused lawful holds fewer step_is fits room =
+-- A worker that does a lawful step, and fits after it, leaves a state that keeps the invariant.
+work_keeps : {A : Type 0} (merge : Operator) (number : ℕ) (s : State) (k : StateKeeps merge s) (w : LiveWorker) (step : Course (StepEnd A)) (spell : A → List ℕ) (reported : A → List Attempt) (refused : List Attempt) → IsLawful merge
+    → WorkerHolds merge (world_of merge s k) w → ((t : World) → WorkerHolds merge t w → WorkerHolds merge t (record w { attempts = refused }))
+    → IsLawfulCourse (caller_of merge number (Worker w.number)) (world_of merge s k) step → FitsAfter (caller_of merge number (Worker w.number)) w reported (world_of merge s k) step
+    → HadRoom (run_line number s (worker_line w s step spell reported refused)).1.store → StateKeeps merge (run_line number s (worker_line w s step spell reported refused)).1
+work_keeps {A} merge number s k w step spell reported refused lawful holds fewer step_is fits room =
     line_keeps merge number s c k lawful is tt (record {
       struck = λ new run left. worker_gone merge number w.number old new s.parties k.fleet left (none new MeetsFault run);
       gives = λ new end run left. gave new end (none new (Gives end) run) left (step_ended who step ends old new end run);
@@ -82,22 +82,22 @@ work_keeps {A} merge number s k w step told reported refused lawful holds fewer 
     who : Caller
     who = caller_of merge number (Worker w.number)
 
-    old : Told
-    old = told_of merge s k
+    old : World
+    old = world_of merge s k
 
     c : LineCourse
-    c = worker_line w s step told reported refused
+    c = worker_line w s step spell reported refused
 
     ends : StepEnd A → LineEnd
-    ends = line_end told (λ report. running w s (reported report)) (running w s refused)
+    ends = line_end spell (λ report. running w s (reported report)) (running w s refused)
 
     is : IsLawfulCourse who old c.course
     is = step_lawful who step ends old step_is
 
-    none : (new : Told) (end : End LineEnd) → Runs who c.course old new end → NonePending new.store
+    none : (new : World) (end : End LineEnd) → Runs who c.course old new end → NonePending new.store
     none new end run = none_comes who c.course old new end lawful refl refl k.fleet.store is k.fleet.none_pending run
 
-    gave : (new : Told) (end : LineEnd) → NonePending new.store → Left who s.parties new → StepEnded who step ends old new end → FleetKeeps merge new end.parties
+    gave : (new : World) (end : LineEnd) → NonePending new.store → Left who s.parties new → StepEnded who step ends old new end → FleetKeeps merge new end.parties
     gave new end quiet left ended =
         subst (FleetKeeps merge new) (ap (λ (e : LineEnd). e.parties) ended.is)
         (ends_fit merge number s k w reported refused new ended.answer left quiet (fewer new) (fits new (Gives ended.answer) ended.run))
@@ -114,7 +114,7 @@ claim_keeps merge number n s k lawful room = by (worker_with n s.parties) refl r
         let is = is_worker merge s k n w e in
         let who : Caller = caller_of merge number (Worker w.number) in
         work_keeps merge number s k w (claim (worker_options s.options) s.moment w) (λ r. claim_reply r.begun r.stopped) (λ r. r.attempts) w.attempts lawful is.holds (λ t h. h)
-        (claims_are_lawful who (told_of merge s k) (worker_options s.options) s.moment w (calls_keep merge lawful) k.fleet.store refl) (claims_keep_fit who (told_of merge s k) (worker_options s.options) s.moment w (calls_keep merge lawful) refl k.fleet.store is.holds).0 room
+        (claims_are_lawful who (world_of merge s k) (worker_options s.options) s.moment w (calls_keep merge lawful) k.fleet.store refl) (claims_keep_fit who (world_of merge s k) (worker_options s.options) s.moment w (calls_keep merge lawful) refl k.fleet.store is.holds).0 room
 
 pub heartbeat_keeps : (merge : Operator) (number n : ℕ) (s : State) (k : StateKeeps merge s) → IsLawful merge → HadRoom (run_line number s (heartbeat_line n s)).1.store → StateKeeps merge (run_line number s (heartbeat_line n s)).1
 heartbeat_keeps merge number n s k lawful room = by (worker_with n s.parties) refl room
@@ -128,14 +128,14 @@ heartbeat_keeps merge number n s k lawful room = by (worker_with n s.parties) re
         let is = is_worker merge s k n w e in
         let who : Caller = caller_of merge number (Worker w.number) in
         work_keeps merge number s k w (heartbeat s.moment w) (λ r. beat_reply r.beat r.not_owner) (λ r. r.attempts) w.attempts lawful is.holds (λ t h. h)
-        (beats_are_lawful who (told_of merge s k) s.moment w (calls_keep merge lawful) refl k.fleet.store is.holds) (beats_keep_fit who (told_of merge s k) s.moment w (calls_keep merge lawful) refl k.fleet.store is.holds).0 room
+        (beats_are_lawful who (world_of merge s k) s.moment w (calls_keep merge lawful) refl k.fleet.store is.holds) (beats_keep_fit who (world_of merge s k) s.moment w (calls_keep merge lawful) refl k.fleet.store is.holds).0 room
 
 -- ---- outputs and finishes
 
 -- The worker and its attempt at the job that a line names.
 pub record IsAttempt (merge : Operator) (s : State) (k : StateKeeps merge s) (n : ℕ) (w : LiveWorker) (a : Attempt) : Type 0 where
   pub number : n ≡ w.number
-  pub holds : WorkerHolds merge (told_of merge s k) w
+  pub holds : WorkerHolds merge (world_of merge s k) w
   pub runs : DoesRun w a
 
 pub is_attempt : (merge : Operator) (s : State) (k : StateKeeps merge s) (n job : ℕ) (p : LiveWorker × Attempt) → job_at s n job ≡ Some p → IsAttempt merge s k n p.0 p.1
@@ -170,9 +170,9 @@ finish_keeps inputs number n job refusal s k lawful may room = by (job_at s n jo
         let is = is_attempt inputs.merge s k n job p e in
         let who : Caller = caller_of inputs.merge number (Worker w.number) in
         let step = finish inputs.merge s.store.tables (worker_options s.options) s.moment w a refusal in
-        work_keeps inputs.merge number s k w step (λ r. reply (codes "ok" ∷ ranges_text r.outputs ∷ [])) (λ r. r.attempts) (dropped w a) lawful is.holds (λ t h. fewer_attempts_fit inputs.merge t w _ h)
-        (finishes_are_lawful who (told_of inputs.merge s k) (worker_options s.options) s.moment w a refusal (calls_keep inputs.merge lawful) lawful refl k.fleet.store is.holds is.runs (whole_unless inputs s w a refusal may))
-        (finishes_keep_fit who (told_of inputs.merge s k) (worker_options s.options) s.moment w a refusal (calls_keep inputs.merge lawful) lawful refl k.fleet.store is.holds is.runs (whole_unless inputs s w a refusal may)).0 room
+        work_keeps inputs.merge number s k w step (λ r. reply (codes "ok" ∷ ranges_text r.outputs ∷ [])) (λ r. r.attempts) (without_attempt w a) lawful is.holds (λ t h. fewer_attempts_fit inputs.merge t w _ h)
+        (finishes_are_lawful who (world_of inputs.merge s k) (worker_options s.options) s.moment w a refusal (calls_keep inputs.merge lawful) lawful refl k.fleet.store is.holds is.runs (whole_unless inputs s w a refusal may))
+        (finishes_keep_fit who (world_of inputs.merge s k) (worker_options s.options) s.moment w a refusal (calls_keep inputs.merge lawful) lawful refl k.fleet.store is.holds is.runs (whole_unless inputs s w a refusal may)).0 room
 
 pub output_keeps : (inputs : Inputs) (number n job place rows : ℕ) (refusal : Option (List ℕ)) (s : State) (k : StateKeeps inputs.merge s) → IsLawful inputs.merge → 1 ≤ place
     → let c = if_some (range_at s n job place) (no_such_party s) (λ found. output_line inputs s found.0 found.1 place found.2 rows refusal) in HadRoom (run_line number s c).1.store → StateKeeps inputs.merge (run_line number s c).1
@@ -191,9 +191,9 @@ output_keeps inputs number n job place rows refusal s k lawful counted room = at
         let w = p.0 in
         let a = p.1 in
         let who : Caller = caller_of inputs.merge number (Worker w.number) in
-        work_keeps inputs.merge number s k w (output inputs.merge s.store.tables s.moment w a place range rows refusal) (λ r. output_reply r.table) (λ r. r.attempts) (dropped w a) lawful is.holds (λ t h. fewer_attempts_fit inputs.merge t w _ h)
-        (outputs_are_lawful who (told_of inputs.merge s k) s.moment w a place range rows refusal (calls_keep inputs.merge lawful) lawful refl k.fleet.store is.holds is.runs)
-        (outputs_keep_fit who (told_of inputs.merge s k) s.moment w a place range rows refusal (calls_keep inputs.merge lawful) lawful refl k.fleet.store is.holds is.runs (record { counted = omega (arith, counted); there = e })) room
+        work_keeps inputs.merge number s k w (output inputs.merge s.store.tables s.moment w a place range rows refusal) (λ r. output_reply r.table) (λ r. r.attempts) (without_attempt w a) lawful is.holds (λ t h. fewer_attempts_fit inputs.merge t w _ h)
+        (outputs_are_lawful who (world_of inputs.merge s k) s.moment w a place range rows refusal (calls_keep inputs.merge lawful) lawful refl k.fleet.store is.holds is.runs)
+        (outputs_keep_fit who (world_of inputs.merge s k) s.moment w a place range rows refusal (calls_keep inputs.merge lawful) lawful refl k.fleet.store is.holds is.runs (record { counted = omega (arith, counted); there = e })) room
 
     at : (o : Option (LiveWorker × Attempt)) → job_at s n job ≡ o
         → let r = if_some {B = Option (LiveWorker × Attempt × (Range × List ℕ))} o None (λ found. in_range found (slice_get found.1.context.ranges (place - 1))) in HadRoom (run_line number s (line r)).1.store → StateKeeps inputs.merge (run_line number s (line r)).1
@@ -208,8 +208,8 @@ stop_keeps merge number n s k lawful room = by (worker_with n s.parties) refl ro
     who : Caller
     who = caller_of merge number (Worker n)
 
-    old : Told
-    old = told_of merge s k
+    old : World
+    old = world_of merge s k
 
     ends : StepEnd (List ℕ) → LineEnd
     ends = line_end (λ jobs. reply (codes "ok" ∷ codes "released" ∷ jobs_text jobs ∷ [])) (λ jobs. without_worker n s.parties) (without_worker n s.parties)
@@ -224,7 +224,7 @@ stop_keeps merge number n s k lawful room = by (worker_with n s.parties) refl ro
     line : Option LiveWorker → LineCourse
     line o = if_some o (no_such_party s) (λ w. record { party = Worker n; course = then_course (release_all w) (λ end. calls_each kills (Ends (ends end))); struck = without_worker n s.parties })
 
-    gave : (w : LiveWorker) (new : Told) (end : LineEnd) → Left who s.parties new → NonePending new.store → Split who (release_all w) (λ end. calls_each kills (Ends (ends end))) old new end → FleetKeeps merge new end.parties
+    gave : (w : LiveWorker) (new : World) (end : LineEnd) → Left who s.parties new → NonePending new.store → Split who (release_all w) (λ end. calls_each kills (Ends (ends end))) old new end → FleetKeeps merge new end.parties
     gave w new end left quiet parts =
         subst (FleetKeeps merge new) (sym (same_parties parts.answer) ∙ ap (λ (e : LineEnd). e.parties) (notes_end who kills (ends parts.answer) parts.mid new end parts.second)) (worker_gone merge number n old new s.parties k.fleet left quiet)
 
@@ -234,7 +234,7 @@ stop_keeps merge number n s k lawful room = by (worker_with n s.parties) refl ro
         let c = line (Some w) in
         let is : IsLawfulCourse who old c.course = then_lawful who (release_all w) (λ end. calls_each kills (Ends (ends end))) old (releases_are_lawful who old w (ap Worker (is_worker merge s k n w e).number))
         (λ end new. own_lawful who kills (Ends (ends end)) new (record { fits = λ store. refl; unstruck = refl }, tt) (λ last. tt)) in
-        let none : (new : Told) (end : End LineEnd) → Runs who c.course old new end → NonePending new.store = λ new end run. none_comes who c.course old new end lawful refl refl k.fleet.store is k.fleet.none_pending run in
+        let none : (new : World) (end : End LineEnd) → Runs who c.course old new end → NonePending new.store = λ new end run. none_comes who c.course old new end lawful refl refl k.fleet.store is k.fleet.none_pending run in
         line_keeps merge number s c k lawful is tt (record {
           struck = λ new run left. worker_gone merge number n old new s.parties k.fleet left (none new MeetsFault run);
           gives = λ new end run left. gave w new end left (none new (Gives end) run) (split who (release_all w) (λ end. calls_each kills (Ends (ends end))) old new end run);

@@ -3,7 +3,7 @@ use Rattle.std.specs.Prelude.{◌≡◌, ◌<◌, length, Option, Some, None}
 use Rattle.fleet_model.specs.Jobs.{drawn_base}
 use Rattle.fleet_model.specs.Store.{Store}
 use Rattle.fleet_model.specs.Exchanges.{Fault}
-use Rattle.step_model.specs.Past.{Told}
+use Rattle.step_model.specs.Past.{World}
 use Rattle.step_model.specs.Rivals.{Caller}
 use Rattle.step_model.specs.Course.{Course}
 use Rattle.step_model.specs.CourseRuns.{End, Gives, MeetsFault, Runs}
@@ -20,13 +20,13 @@ end_of (Some answer) = Gives answer
 abbrev pub HadRoom : Store → Type 0
 HadRoom store = length store.history < drawn_base
 
--- The run that is alone leads from what is told before it to this store, as a run of the course.
-pub record IsRun {A : Type 0} (who : Caller) (course : Course A) (told : Told) (alone : AloneEnd A) : Type 0 where
-  pub new : Told
+-- The run that is alone leads from what is world before it to this store, as a run of the course.
+pub record IsRun {A : Type 0} (who : Caller) (course : Course A) (world : World) (alone : AloneEnd A) : Type 0 where
+  pub new : World
   pub left : new.store ≡ alone.store
-  pub run : Runs who course told new (end_of alone.answer)
+  pub run : Runs who course world new (end_of alone.answer)
 
 -- A course that runs alone over a store runs as courses do, if the history had room for its draws.
 abbrev pub AloneRuns : Type 0
-AloneRuns = (who : Caller) (course : Course LineEnd) (told : Told) (fault : Option Fault) → HadRoom (run_alone who.line who.party course fault told.store).store
-    → IsRun who course told (run_alone who.line who.party course fault told.store)
+AloneRuns = (who : Caller) (course : Course LineEnd) (world : World) (fault : Option Fault) → HadRoom (run_alone who.line who.party course fault world.store).store
+    → IsRun who course world (run_alone who.line who.party course fault world.store)

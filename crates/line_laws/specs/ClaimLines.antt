@@ -32,11 +32,11 @@ begun_in s w = map (claimed_attempt (record {
   tables = s.store.tables;
 })) (taken_in s w)
 
--- The stored jobs behind a claim of these jobs: each of them runs with the worker at its next attempt.
+-- The stored jobs after a claim of these jobs: each of them runs with the worker at its next attempt.
 abbrev pub with_claimed : ℕ → LiveWorker → Jobs → Jobs → Jobs
 with_claimed moment w these jobs = if is_nonempty these then jobs_after (at_moment moment) (Claim w.number (map (λ job. (job.id, job.attempt + 1)) these)) jobs else jobs
 
--- A live worker claims and stops exactly the jobs of its rule, and the reply has them. Behind the claim
+-- A live worker claims and stops exactly the jobs of its rule, and the reply has them. After the claim
 -- it runs what it ran and did not stop, and the attempts that it began.
 pub record ClaimRan (n : ℕ) (old : State) (answer : List ℕ) (new : State) : Type 0 where
   pub worker : LiveWorker

@@ -1,6 +1,6 @@
 -- The law on finishes: what a finish does that is not refused, be it a line of its own or a step of a settle line.
 use Rattle.std.specs.Prelude.{◌≡◌, ℕ, true, List, [], ◌∷◌, Some, None, codes}
-use Rattle.fleet_model.specs.Jobs.{Job, Compacted, changed, trimmed}
+use Rattle.fleet_model.specs.Jobs.{Job, Compacted, changed_jobs, trimmed_jobs}
 use Rattle.fleet_model.specs.Store.{stored_jobs}
 use Rattle.fleet_model.specs.Attempts.{finish_cut}
 use Rattle.fleet_model.specs.Parties.{Attempt, LiveWorker, worker_with, without_attempts, is_live}
@@ -12,9 +12,9 @@ use Rattle.script_model.specs.Replies.{reply, ranges_text}
 use Rattle.script_model.specs.Settles.{is_ok}
 use Rattle.line_laws.specs.Ran.{CourseRan}
 
--- The job behind the end of an attempt: it waits for its commit, with these outputs.
-abbrev pub ended : ℕ → LiveWorker → Attempt → List (List ℕ) → Job → Job
-ended moment w a outputs job = record job {
+-- The job after the end of an attempt: it waits for its commit, with these outputs.
+abbrev pub ended_job : ℕ → LiveWorker → Attempt → List (List ℕ) → Job → Job
+ended_job moment w a outputs job = record job {
   status = Compacted;
   lease = Some (record { worker = w.number; heartbeat = moment });
   context = None;
@@ -33,7 +33,7 @@ pub record FinishRan (n job : ℕ) (old : State) (answer : List ℕ) (new : Stat
   pub live : is_live (stored_jobs old.store) worker.number attempt ≡ true
   pub made : List (List ℕ)
   pub printed : answer ≡ reply (codes "ok" ∷ ranges_text (all_outputs attempt.context.ranges made) ∷ [])
-  pub jobs : stored_jobs new.store ≡ trimmed (changed (ended old.moment worker attempt (all_outputs attempt.context.ranges made)) (attempt.job ∷ []) (stored_jobs old.store))
+  pub jobs : stored_jobs new.store ≡ trimmed_jobs (changed_jobs (ended_job old.moment worker attempt (all_outputs attempt.context.ranges made)) (attempt.job ∷ []) (stored_jobs old.store))
   pub manifest : new.store.manifest ≡ old.store.manifest
   pub runs : worker_with n new.parties ≡ Some (record worker { attempts = without_attempts (attempt.job ∷ []) worker.attempts })
 

@@ -11,11 +11,11 @@ use Rattle.fleet_model.specs.Parties.{LiveCoordinator, coordinator_with}
 use Rattle.fleet_model.specs.Trees.{stepped_in}
 use Rattle.fleet_model.specs.Gates.{commit_gate, submit_gate}
 use Rattle.fleet_model.specs.JobsFit.{was_joined}
-use Rattle.fleet_model.specs.PollStates.{PollInput, PollState, begun, accepts}
+use Rattle.fleet_model.specs.PollStates.{PollInput, PollState, poll_begun, accepts}
 use Rattle.fleet_model.specs.Polls.{free_stale, commit_job, commit_finished, add_drawn, lost_to_scheduler, can_move, open_job, change_of, is_nothing}
-use Rattle.step_model.specs.Past.{Told}
+use Rattle.step_model.specs.Past.{World}
 use Rattle.step_model.specs.PollSteps.{PollAsk, is_unchanged}
-use Rattle.commit_laws.specs.Behind.{trees_behind}
+use Rattle.commit_laws.specs.After.{trees_after}
 use Rattle.commit_laws.specs.StepForms.{JoinReplaces}
 use Rattle.script_model.specs.Script.{Line, Poll, CommitOnly}
 use Rattle.script_model.specs.States.{Inputs, State}
@@ -29,7 +29,7 @@ use Rattle.line_laws.specs.PollRuns.{input_at, PollDid, CommitPut, JobsPut}
 
 -- The state of a poll as its commits begin. A whole poll has freed the stale jobs by then.
 abbrev pub before_commits : PollAsk → PollInput → PollState
-before_commits ask input = let p = begun input.manifest.trees input.manifest.horizon input.records.jobs in if ask.commits_only then p else free_stale input p
+before_commits ask input = let p = poll_begun input.manifest.trees input.manifest.horizon input.records.jobs in if ask.commits_only then p else free_stale input p
 
 -- The verdicts on these finished jobs, one after the other: the id of each, and the rule of the gate that
 -- fails, if one does, on the trees that the commits before it left.
@@ -42,14 +42,14 @@ abbrev pub all_verdicts : PollAsk → PollInput → List (ℕ × Option ℕ)
 all_verdicts ask input = let p = before_commits ask input in verdicts input (filter (has_status Compacted) p.jobs) p
 
 -- The job of a verdict, if the job passed the gate.
-abbrev pub passed : ℕ × Option ℕ → List ℕ
-passed (id, None) = id ∷ []
-passed (id, Some rule) = []
+abbrev pub passed_in : ℕ × Option ℕ → List ℕ
+passed_in (id, None) = id ∷ []
+passed_in (id, Some rule) = []
 
 -- The job of a verdict with the rule that it failed, if it failed one.
-abbrev pub failed : ℕ × Option ℕ → List (ℕ × ℕ)
-failed (id, None) = []
-failed (id, Some rule) = (id, rule) ∷ []
+abbrev pub failed_in : ℕ × Option ℕ → List (ℕ × ℕ)
+failed_in (id, None) = []
+failed_in (id, Some rule) = (id, rule) ∷ []
 
 -- What a poll makes of a submitted job: it fails by a rule of the gate, or it is drained, moved or opened.
 pub data Fate : Type 0 where
@@ -84,22 +84,22 @@ abbrev pub all_fates : PollAsk → PollInput → List (ℕ × JobSpec) → List 
 all_fates ask input drawn = if ask.commits_only then [] else (let p = before_opening ask input drawn in fates input (filter (has_status Submitted) p.jobs) p)
 
 -- The job, if it is opened, moved or drained.
-abbrev pub opened : ℕ × Fate → List ℕ
-opened (id, IsOpened) = id ∷ []
-opened (id, fate) = []
+abbrev pub opened_in : ℕ × Fate → List ℕ
+opened_in (id, IsOpened) = id ∷ []
+opened_in (id, fate) = []
 
-abbrev pub moved : ℕ × Fate → List ℕ
-moved (id, IsMoved) = id ∷ []
-moved (id, fate) = []
+abbrev pub moved_in : ℕ × Fate → List ℕ
+moved_in (id, IsMoved) = id ∷ []
+moved_in (id, fate) = []
 
-abbrev pub drained : ℕ × Fate → List ℕ
-drained (id, IsDrained) = id ∷ []
-drained (id, fate) = []
+abbrev pub drained_in : ℕ × Fate → List ℕ
+drained_in (id, IsDrained) = id ∷ []
+drained_in (id, fate) = []
 
 -- The job with the rule that it fails, if it fails one.
-abbrev pub refused : ℕ × Fate → List (ℕ × ℕ)
-refused (id, Fails rule) = (id, rule) ∷ []
-refused (id, fate) = []
+abbrev pub refused_in : ℕ × Fate → List (ℕ × ℕ)
+refused_in (id, Fails rule) = (id, rule) ∷ []
+refused_in (id, fate) = []
 
 -- The step is a move or a drain, which a poll takes as it opens a job.
 abbrev pub IsAtOnce : Step → Type 0
@@ -113,33 +113,33 @@ IsAtOnce (Drain id) = ⊤
 -- exactly the submitted jobs that pass their gate, and each other one fails with its rule.
 pub record PollSays (ask : PollAsk) (store : Store) (drawn : List (ℕ × JobSpec)) (p : PollState) : Type 0 where
   pub frees : p.freed ≡ (if ask.commits_only then [] else ids (filter (is_stale ask.options.timeout ask.moment) (stored_jobs store)))
-  pub commits : p.done ≡ flat_map passed (all_verdicts ask (input_at ask store))
-  pub loses : p.lost ≡ flat_map failed (all_verdicts ask (input_at ask store))
+  pub commits : p.done ≡ flat_map passed_in (all_verdicts ask (input_at ask store))
+  pub loses : p.lost ≡ flat_map failed_in (all_verdicts ask (input_at ask store))
   pub in_order : Pairs (λ a b. a < b) p.done
   pub others : List Step
   pub steps : p.steps ≡ map Join p.done ++ others
   pub at_once : AllByRecursion IsAtOnce others
-  pub opens : p.opened ≡ flat_map opened (all_fates ask (input_at ask store) drawn)
-  pub moves : p.moved ≡ flat_map moved (all_fates ask (input_at ask store) drawn)
-  pub drains : p.drained ≡ flat_map drained (all_fates ask (input_at ask store) drawn)
-  pub refuses : p.refused ≡ flat_map refused (all_fates ask (input_at ask store) drawn)
+  pub opens : p.opened ≡ flat_map opened_in (all_fates ask (input_at ask store) drawn)
+  pub moves : p.moved ≡ flat_map moved_in (all_fates ask (input_at ask store) drawn)
+  pub drains : p.drained ≡ flat_map drained_in (all_fates ask (input_at ask store) drawn)
+  pub refuses : p.refused ≡ flat_map refused_in (all_fates ask (input_at ask store) drawn)
 
 -- ---- what its commits do to the trees
 
 -- The commit of a finished job over these trees. The first join of the job puts one run of the job's rows
 -- in place of its sources, and all other nodes stay. A later join changes no tree.
-pub record JoinDone (merge : Operator) (at : Told) (trees : Trees) (id : ℕ) : Type 0 where
+pub record JoinDone (merge : Operator) (at : World) (trees : Trees) (id : ℕ) : Type 0 where
   pub job : Job
   pub stored : job_with id (stored_jobs at.store) ≡ Some job
   pub first_time : was_joined at.store.history id ≡ false → JoinReplaces merge at trees job
   pub again : IsTrue (was_joined at.store.history id) → stepped_in at.store.tables (Join id) job.spec (concat job.outputs) trees ≡ trees
 
--- A poll that changed the trees or the horizon put one manifest. Its trees are those behind all steps of
+-- A poll that changed the trees or the horizon put one manifest. Its trees are those after all steps of
 -- the poll, and each committed job was joined over the trees that the joins before it left.
 pub record CommitsRight (merge : Operator) (party : Party) (old : Store) (p : PollState) : Type 0 where
   pub put : CommitPut merge party old p
-  pub trees : p.trees ≡ trees_behind put.at put.fits.specs p.steps
-  pub joins : (first : List ℕ) (id : ℕ) (rest : List ℕ) → first ++ id ∷ rest ≡ p.done → JoinDone merge put.at (trees_behind put.at put.fits.specs (map Join first)) id
+  pub trees : p.trees ≡ trees_after put.at put.fits.specs p.steps
+  pub joins : (first : List ℕ) (id : ℕ) (rest : List ℕ) → first ++ id ∷ rest ≡ p.done → JoinDone merge put.at (trees_after put.at put.fits.specs (map Join first)) id
 
 -- ---- the line
 
@@ -149,16 +149,16 @@ poll_of true n = CommitOnly n
 poll_of false n = Poll n
 
 -- The reply to a poll that reached this state.
-abbrev pub told_by_poll : Bool → PollState → List ℕ
-told_by_poll true p = commit_reply p
-told_by_poll false p = poll_reply p
+abbrev pub spell_poll : Bool → PollState → List ℕ
+spell_poll true p = commit_reply p
+spell_poll false p = poll_reply p
 
 -- A live coordinator polled, the reply has the state that it reached, and the store has what it put.
 pub record PollRan (inputs : Inputs) (commits_only : Bool) (n : ℕ) (old : State) (answer : List ℕ) (new : State) : Type 0 where
   pub coordinator : LiveCoordinator
   pub live : coordinator_with n old.parties ≡ Some coordinator
   pub p : PollState
-  pub printed : answer ≡ told_by_poll commits_only p
+  pub printed : answer ≡ spell_poll commits_only p
   pub did : PollDid (poll_ask inputs old coordinator commits_only) old.store new.store p
   pub says : PollSays (poll_ask inputs old coordinator commits_only) old.store did.drawn p
   pub jobs : is_nothing (change_of p) ≡ false → JobsPut old.store p

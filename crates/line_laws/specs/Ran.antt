@@ -30,13 +30,13 @@ pub record CourseRan (inputs : Inputs) (old : State) (line : Line) (answer : Lis
 
 -- A step that is refused is the last one, and the line replies as the step does.
 abbrev pub StopsIfRefused : List ℕ → List Line → List ℕ → Type 0
-StopsIfRefused told others answer = is_ok told ≡ false → (others ≡ []) × (answer ≡ told)
+StopsIfRefused replied others answer = is_ok replied ≡ false → (others ≡ []) × (answer ≡ replied)
 
 -- One course of each of these steps, one after the other, took the old state to the new one. The line
 -- whose steps they are has this reply.
 abbrev pub StepsRan : Inputs → State → List Line → List ℕ → State → Type 0
 StepsRan inputs old [] answer new = new ≡ old
-StepsRan inputs old (step ∷ others) answer new = (told : List ℕ) × (mid : State) × CourseRan inputs old step told mid × StopsIfRefused told others answer × StepsRan inputs mid others answer new
+StepsRan inputs old (step ∷ others) answer new = (replied : List ℕ) × (mid : State) × CourseRan inputs old step replied mid × StopsIfRefused replied others answer × StepsRan inputs mid others answer new
 
 -- The step is a poll of this coordinator, or a claim or a finish of this worker.
 abbrev pub IsStepOf : (coordinator worker : ℕ) → Line → Type 0

@@ -26,10 +26,10 @@ pub record RanFirst (inputs : Inputs) (first others : List Line) (last : State) 
   pub rest : ScriptRun inputs (length first + 1) mid others answers last
 
 -- Lines that ran may be cut in two anywhere. So what is said of the last state of a run is said of the
--- state behind each of its lines.
+-- state after each of its lines.
 abbrev pub FirstLinesRun : Type 0
 FirstLinesRun = (inputs : Inputs) (first others : List Line) (last : State) → HasRun inputs (first ++ others) last → RanFirst inputs first others last
 
--- The state behind each line of a script keeps the invariant, and each live party fits.
+-- The state after each line of a script keeps the invariant, and each live party fits.
 abbrev pub ScriptsKeep : Type 0
 ScriptsKeep = (inputs : Inputs) (lines : List Line) (last : State) → HasRun inputs lines last → StateKeeps inputs.merge last

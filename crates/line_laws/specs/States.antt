@@ -5,7 +5,7 @@ use Rattle.row_model.specs.Lists.{Pairs}
 use Rattle.row_model.specs.Fold.{Operator}
 use Rattle.fleet_model.specs.Store.{Manifest}
 use Rattle.fleet_model.specs.Parties.{Parties, LiveWorker, LiveCoordinator}
-use Rattle.step_model.specs.Past.{Told}
+use Rattle.step_model.specs.Past.{World}
 use Rattle.step_model.specs.Entries.{is_pending}
 use Rattle.step_model.specs.Keeps.{Keeps}
 use Rattle.step_model.specs.Fits.{WorkerHolds, CoordinatorHolds}
@@ -14,13 +14,13 @@ use Rattle.script_model.specs.States.{State}
 -- The store keeps what lawful calls keep. Each live party fits it, and no two parties of a kind have
 -- the same number. A coordinator holds no local state between lines, since a poll in a script takes the
 -- objects that it gets. And no flush is about to bring a table to a tree.
-pub record FleetKeeps (merge : Operator) (told : Told) (parties : Parties) : Type 0 where
-  pub store : Keeps merge told
-  pub workers : AllByRecursion (WorkerHolds merge told) parties.workers
-  pub coordinators : AllByRecursion (λ c. CoordinatorHolds told c None) parties.coordinators
+pub record FleetKeeps (merge : Operator) (world : World) (parties : Parties) : Type 0 where
+  pub store : Keeps merge world
+  pub workers : AllByRecursion (WorkerHolds merge world) parties.workers
+  pub coordinators : AllByRecursion (λ c. CoordinatorHolds world c None) parties.coordinators
   pub workers_differ : Pairs (λ (v w : LiveWorker). v.number ≢ w.number) parties.workers
   pub coordinators_differ : Pairs (λ (c d : LiveCoordinator). c.number ≢ d.number) parties.coordinators
-  pub none_pending : (table : ℕ) → is_pending told.store.history table ≡ false
+  pub none_pending : (table : ℕ) → is_pending world.store.history table ≡ false
 
 -- The state keeps all of it with some past. The state itself has no past, because a history keeps no
 -- manifests.

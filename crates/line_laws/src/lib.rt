@@ -20,14 +20,14 @@ pub fn alone_runs()
     ensures { AloneRuns }
 {}
 
-/// The state behind each line keeps the invariant, and each live party fits it, whatever parties
+/// The state after each line keeps the invariant, and each live party fits it, whatever parties
 /// are killed and whatever faults strike.
 pub fn scripts_keep()
     ensures { ScriptsKeep }
 {}
 
 /// The lines of a run may be cut in two anywhere: the first ones ran too. So what the other laws
-/// say of the last state of a run, they say of the state behind each of its lines.
+/// say of the last state of a run, they say of the state after each of its lines.
 pub fn first_lines_run()
     ensures { FirstLinesRun }
 {}
@@ -75,7 +75,7 @@ pub fn finishes_end()
     ensures { FinishesEnd }
 {}
 
-/// In each state that keeps the invariant, and so behind each line and each step of a settle line, a
+/// In each state that keeps the invariant, and so after each line and each step of a settle line, a
 /// job that finished and waits for its commit has outputs that hold all rows that one merge of its
 /// source tables makes under the settings of one claim, however often the job was taken over.
 pub fn outputs_are_whole()

@@ -30,5 +30,5 @@ abbrev pub key_answer : Operator → ℕ → ℤ → List Row → List ℕ → O
 key_answer merge seq now rows key = option_map (λ answer. (key, answer)) (read merge key seq now (sorted_rows (rows_of_key key rows)))
 
 -- The answers of a scan: each key of the range that has an answer, with its answer. The keys rise.
-abbrev pub scanned : Operator → Range → ℕ → ℤ → List Row → List (List ℕ × Outcome)
-scanned merge range seq now rows = filter_map (key_answer merge seq now rows) (keys_of (rows_in range rows))
+abbrev pub scanned_pairs : Operator → Range → ℕ → ℤ → List Row → List (List ℕ × Outcome)
+scanned_pairs merge range seq now rows = filter_map (key_answer merge seq now rows) (keys_of (rows_in range rows))

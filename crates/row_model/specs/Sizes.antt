@@ -25,11 +25,11 @@ abbrev pub encoded_size : Row → ℕ → ℕ
 encoded_size r prefix = 13 + (length r.key - prefix) + stamp_size r.created + stamp_size r.expires + written_value_size r.content
 
 -- A sum of sizes, or the greatest unsigned 64-bit number if the sum is greater.
-abbrev pub saturated : ℕ → ℕ
-saturated size = min size (2 ^ 64 - 1)
+abbrev pub saturated_sum : ℕ → ℕ
+saturated_sum size = min size (2 ^ 64 - 1)
 
 abbrev pub table_size : List Row → ℕ
-table_size rows = saturated (sum_by estimated_size rows)
+table_size rows = saturated_sum (sum_by estimated_size rows)
 
 abbrev pub block_bytes : ℕ
 block_bytes = 4096
@@ -50,7 +50,7 @@ block_at offset filled r later = if filled == 0 then record { first_key = r.key;
 
 abbrev pub blocks_from : ℕ → ℕ → List Row → List Block
 blocks_from offset filled [] = []
-blocks_from offset filled (r ∷ rows) = block_at offset filled r (blocks_from (saturated (offset + estimated_size r)) (or_full (filled + estimated_size r)) rows)
+blocks_from offset filled (r ∷ rows) = block_at offset filled r (blocks_from (saturated_sum (offset + estimated_size r)) (or_full (filled + estimated_size r)) rows)
 
 abbrev pub blocks : List Row → List Block
 blocks rows = blocks_from 0 0 rows

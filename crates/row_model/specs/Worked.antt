@@ -160,7 +160,7 @@ pub record KeysAreCut : Type 0 where
   pub even : select_boundaries (anchor 0 100 ∷ anchor 10 100 ∷ anchor 20 100 ∷ anchor 30 100 ∷ []) 4 1 ≡ below 10 ∷ between 10 20 ∷ between 20 30 ∷ from 30 ∷ []
   pub one_key_thrice : select_boundaries (anchor 0 400 ∷ anchor 0 400 ∷ anchor 0 400 ∷ anchor 10 400 ∷ anchor 20 400 ∷ []) 4 1 ≡ below 10 ∷ between 10 20 ∷ from 20 ∷ []
   pub heavy_first : select_boundaries (anchor 0 1000 ∷ anchor 10 10 ∷ anchor 20 10 ∷ anchor 30 10 ∷ anchor 40 10 ∷ []) 2 1 ≡ below 10 ∷ from 10 ∷ []
-  pub small_behind_heavy : select_boundaries (anchor 0 1000 ∷ anchor 10 10 ∷ anchor 20 10 ∷ []) 3 100 ≡ below 10 ∷ between 10 20 ∷ from 20 ∷ []
+  pub small_after_heavy : select_boundaries (anchor 0 1000 ∷ anchor 10 10 ∷ anchor 20 10 ∷ []) 3 100 ≡ below 10 ∷ between 10 20 ∷ from 20 ∷ []
   pub too_small : select_boundaries (anchor 0 100 ∷ anchor 10 100 ∷ []) 4 1000 ≡ all_keys ∷ []
   pub huge : select_boundaries (anchor 0 (2 ^ 63) ∷ anchor 10 (2 ^ 63) ∷ anchor 20 (2 ^ 63) ∷ []) 2 1 ≡ below 10 ∷ from 10 ∷ []
 

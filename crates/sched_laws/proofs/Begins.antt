@@ -12,7 +12,7 @@ use Rattle.fleet_model.specs.Scheduler.{View}
 use Rattle.fleet_model.specs.Sources.{all_run_ids, is_lowest_or_above, older_nodes, reaches_oldest, run_ids}
 use Rattle.sched_model.specs.Picks.{Planned}
 use Rattle.sched_model.specs.Sizes.{SizedTree, sized_trees}
-use Rattle.sched_model.specs.SizeTiered.{by_flushes, nodes_used, put_by_flushes, unplanned}
+use Rattle.sched_model.specs.SizeTiered.{by_flushes, nodes_used, put_by_flushes, unplanned_tree}
 use Rattle.sched_laws.specs.Views.{ViewStands}
 use Rattle.sched_laws.proofs.Holding.{Holds, IsFresh}
 use Rattle.sched_laws.proofs.Lists.{all_join, all_weaken, both_true}
@@ -112,15 +112,15 @@ all_used (job ∷ jobs) segment = by (bytes_eq segment job.spec.segment) refl (a
     )
     by false e later = (λ here. absurd (let itself = subst (λ p. bytes_eq segment p ≡ true) (sym here) (same_prefix segment) in cc (itself, e)), later)
 
-all_ready : (trees : Trees) (jobs : Jobs) (sized : List SizedTree) → AllByRecursion (StandsIn trees) sized → AllByRecursion (IsReady trees jobs []) (map (unplanned jobs) sized)
+all_ready : (trees : Trees) (jobs : Jobs) (sized : List SizedTree) → AllByRecursion (StandsIn trees) sized → AllByRecursion (IsReady trees jobs []) (map (unplanned_tree jobs) sized)
 all_ready trees jobs [] stand = tt
 all_ready trees jobs (t ∷ sized) stand = (record { stand = stand.0; used_by_jobs = all_used jobs t.segment; used_by_picks = tt }, all_ready trees jobs sized stand.1)
 
-all_away : (jobs : Jobs) (t : SizedTree) (sized : List SizedTree) → AllByRecursion (λ p. t.segment ≢ p) (map (λ s. s.segment) sized) → AllByRecursion (Differ (unplanned jobs t)) (map (unplanned jobs) sized)
+all_away : (jobs : Jobs) (t : SizedTree) (sized : List SizedTree) → AllByRecursion (λ p. t.segment ≢ p) (map (λ s. s.segment) sized) → AllByRecursion (Differ (unplanned_tree jobs t)) (map (unplanned_tree jobs) sized)
 all_away jobs t [] away = tt
 all_away jobs t (s ∷ sized) away = (away.0, all_away jobs t sized away.1)
 
-all_differ : (jobs : Jobs) (sized : List SizedTree) → Pairs (λ a b. a ≢ b) (map (λ s. s.segment) sized) → Pairs Differ (map (unplanned jobs) sized)
+all_differ : (jobs : Jobs) (sized : List SizedTree) → Pairs (λ a b. a ≢ b) (map (λ s. s.segment) sized) → Pairs Differ (map (unplanned_tree jobs) sized)
 all_differ jobs [] differ = tt
 all_differ jobs (t ∷ sized) differ = (all_away jobs t sized differ.0, all_differ jobs sized differ.1)
 
@@ -154,16 +154,16 @@ sorted_differ (t ∷ trees) differ = put_differ t (by_flushes trees) (sorted_all
 
 -- The trees before the first pass.
 abbrev pub looked_at : View → List Planned
-looked_at view = by_flushes (map (unplanned view.jobs) (sized_trees view.handles view.manifest.trees))
+looked_at view = by_flushes (map (unplanned_tree view.jobs) (sized_trees view.handles view.manifest.trees))
 
 pub ready_begins : (view : View) → ViewStands view → AllByRecursion (IsReady view.manifest.trees view.jobs []) (looked_at view)
 ready_begins view stands =
     let trees = view.manifest.trees in
     let stand = all_stand trees view.handles trees (all_at_prefixes trees stands.prefixes) stands.in_order stands.named_once in
-    sorted_all (IsReady trees view.jobs []) (map (unplanned view.jobs) (sized_trees view.handles trees)) (all_ready trees view.jobs (sized_trees view.handles trees) stand)
+    sorted_all (IsReady trees view.jobs []) (map (unplanned_tree view.jobs) (sized_trees view.handles trees)) (all_ready trees view.jobs (sized_trees view.handles trees) stand)
 
 pub differ_begins : (view : View) → ViewStands view → Pairs Differ (looked_at view)
 differ_begins view stands =
     let sized = sized_trees view.handles view.manifest.trees in
     let prefixes = prefixes_differ (map (λ s. s.prefix) view.manifest.trees) stands.prefixes in
-    sorted_differ (map (unplanned view.jobs) sized) (all_differ view.jobs sized (subst (Pairs (λ a b. a ≢ b)) (sym (same_prefixes view.handles view.manifest.trees)) prefixes))
+    sorted_differ (map (unplanned_tree view.jobs) sized) (all_differ view.jobs sized (subst (Pairs (λ a b. a ≢ b)) (sym (same_prefixes view.handles view.manifest.trees)) prefixes))

@@ -9,9 +9,9 @@ use Rattle.fleet_model.specs.Gates.{are_distinct}
 use Rattle.fleet_model.specs.History.{Entry, Event, PutManifest, PutRecords, ManifestChange, ManifestEpoch, Flush, Commit, Step, Join, Move, Drain, stood}
 use Rattle.fleet_model.specs.Jobs.{JobSpec}
 use Rattle.fleet_model.specs.Nodes.{Node, NodeName, L0, Run, Tables, Tree, Trees, flushed_node_rows, is_among, names, names_contain, node_rows, rows_or_none, table_rows}
-use Rattle.fleet_model.specs.Replay.{IsReplayed, Objects, after_entry, after_event, after_manifest_change, outputs_in, plain_objects, replayed}
+use Rattle.fleet_model.specs.Replay.{IsReplayed, Objects, after_entry, after_event, after_manifest_change, outputs_in, plain_objects, replayed_objects}
 use Rattle.fleet_model.specs.Store.{Store, WerePut, fresh_store}
-use Rattle.fleet_model.specs.Trees.{empty_segment, flushed, flushed_on, is_run_below, job_of, put_run, stepped, stepped_all, stepped_in, to_run, watermark_after, with_run_for, without}
+use Rattle.fleet_model.specs.Trees.{empty_segment, flushed_trees, flushed_on, is_run_below, job_of, put_run, stepped_tree, stepped_all, stepped_in, to_run, watermark_after, with_run_for, without_nodes}
 use Rattle.fleet_model.specs.TreesFit.{IsNewer, IsTable, StandsBefore, node_and_flushed_rows}
 use Rattle.sched_laws.proofs.Lists.{all_back, all_weaken, both_true}
 use Rattle.sched_laws.proofs.Names.{In, distinct_from, in_cases}
@@ -47,9 +47,9 @@ own_with_run id run (node ∷ tree) first own = by (is_run_below id node.name) (
 
 own_joined : (sources : List NodeName) (destination : Option ℕ) (pieces : List ℕ) (tree : Tree) → AllByRecursion IsOwn tree → AllByRecursion IsOwn (to_run (λ id. with_run_for sources id pieces) destination tree)
 own_joined sources None pieces tree own = own
-own_joined sources (Some id) pieces tree own = own_with_run id _ (without sources tree) tt (own_filtered (λ node. not (names_contain sources node.name)) tree own)
+own_joined sources (Some id) pieces tree own = own_with_run id _ (without_nodes sources tree) tt (own_filtered (λ node. not (names_contain sources node.name)) tree own)
 
-own_stepped : (tables : Tables) (step : Step) (spec : JobSpec) (outputs : List ℕ) (tree : Tree) → AllByRecursion IsOwn tree → AllByRecursion IsOwn (stepped tables step spec outputs tree)
+own_stepped : (tables : Tables) (step : Step) (spec : JobSpec) (outputs : List ℕ) (tree : Tree) → AllByRecursion IsOwn tree → AllByRecursion IsOwn (stepped_tree tables step spec outputs tree)
 own_stepped tables (Join job) spec outputs tree own = own_joined spec.sources spec.destination outputs tree own
 own_stepped tables (Move job) spec outputs tree own = own_joined spec.sources spec.destination _ tree own
 own_stepped tables (Drain job) spec outputs tree own = own_filtered (λ node. not (names_contain spec.sources node.name)) tree own
@@ -58,7 +58,7 @@ own_stepped_in : (tables : Tables) (step : Step) (spec : JobSpec) (outputs : Lis
 own_stepped_in tables step spec outputs [] own = tt
 own_stepped_in tables step spec outputs (s ∷ trees) own = (by (bytes_eq spec.segment s.prefix), own_stepped_in tables step spec outputs trees own.1)
   where
-    by : (b : Bool) → AllByRecursion IsOwn (cond b (record s { tree = stepped tables step spec outputs s.tree; watermark = watermark_after spec.sources s.tree s.watermark }) s).tree
+    by : (b : Bool) → AllByRecursion IsOwn (cond b (record s { tree = stepped_tree tables step spec outputs s.tree; watermark = watermark_after spec.sources s.tree s.watermark }) s).tree
     by true = own_stepped tables step spec outputs s.tree own.0
     by false = own.0
 
@@ -67,12 +67,12 @@ own_stepped_all tables jobs [] trees own = own
 own_stepped_all tables jobs (step ∷ steps) trees own =
     own_stepped_all tables jobs steps _ (own_stepped_in tables step (jobs (job_of step)).0 (jobs (job_of step)).1 trees own)
 
-own_flushed : (prefix : List ℕ) (name : ℕ) (rows : List Row) (trees : Trees) → AreOwn trees → AreOwn (flushed prefix name rows trees)
+own_flushed : (prefix : List ℕ) (name : ℕ) (rows : List Row) (trees : Trees) → AreOwn trees → AreOwn (flushed_trees prefix name rows trees)
 own_flushed prefix name rows [] own = ((refl, tt), tt)
 own_flushed prefix name rows (s ∷ trees) own = by (bytes_eq prefix s.prefix) (is_lt (key_cmp prefix s.prefix)) (own_flushed prefix name rows trees own.1)
   where
-    by : (a b : Bool) → AreOwn (flushed prefix name rows trees)
-        → AreOwn (cond a (flushed_on name rows s ∷ trees) (cond b (flushed_on name rows (empty_segment prefix) ∷ s ∷ trees) (s ∷ flushed prefix name rows trees)))
+    by : (a b : Bool) → AreOwn (flushed_trees prefix name rows trees)
+        → AreOwn (cond a (flushed_on name rows s ∷ trees) (cond b (flushed_on name rows (empty_segment prefix) ∷ s ∷ trees) (s ∷ flushed_trees prefix name rows trees)))
     by true b later = ((refl, own.0), own.1)
     by false true later = ((refl, tt), own)
     by false false later = (own.0, later)
@@ -87,7 +87,7 @@ own_after tables specs (PutManifest change) objects own = own_changed tables spe
 own_after tables specs (PutRecords change) objects own = own
 own_after tables specs _ objects own = own
 
-own_replayed : (tables : Tables) (specs : ℕ → JobSpec) (history : List Entry) (objects : Objects) → AreOwn objects.manifest.trees → AreOwn (replayed tables specs history objects).manifest.trees
+own_replayed : (tables : Tables) (specs : ℕ → JobSpec) (history : List Entry) (objects : Objects) → AreOwn objects.manifest.trees → AreOwn (replayed_objects tables specs history objects).manifest.trees
 own_replayed tables specs [] objects own = own
 own_replayed tables specs (entry ∷ history) objects own = own_replayed tables specs history (after_entry tables specs entry objects) (by (stood entry.answer))
   where

@@ -12,7 +12,7 @@ use Rattle.fleet_model.specs.Scheduler.{View, last_of}
 use Rattle.sched_model.specs.Picks.{Planned, Picking, flush_pick, into_last, run_pick, next_pick, picked_in, pass, passes}
 use Rattle.sched_model.specs.Series.{TieredOptions, are_tiered, first_series, is_allowed, oldest}
 use Rattle.sched_model.specs.Sizes.{Sized, flush_names, sized_trees, total_size}
-use Rattle.sched_model.specs.SizeTiered.{by_flushes, free_slots, tiered_proposals, unplanned}
+use Rattle.sched_model.specs.SizeTiered.{by_flushes, free_slots, tiered_proposals, unplanned_tree}
 use Rattle.sched_laws.specs.Proposals.{MakesRun}
 use Rattle.sched_laws.proofs.Lists.{all_append, both_true}
 use Rattle.sched_laws.proofs.Passes.{passed}
@@ -60,7 +60,7 @@ module _ (o : TieredOptions) (slots : ℕ) where
 pub few : (o : TieredOptions) (most : ℕ) (view : View) → length (tiered_proposals o most view) ≤ free_slots most view.jobs
 unfolding tiered_proposals
 few o most view =
-    within_all o (free_slots most view.jobs) (free_slots most view.jobs) (by_flushes (map (unplanned view.jobs) (sized_trees view.handles view.manifest.trees)))
+    within_all o (free_slots most view.jobs) (free_slots most view.jobs) (by_flushes (map (unplanned_tree view.jobs) (sized_trees view.handles view.manifest.trees)))
     (record { fresh = fresh_run_id view; picks = [] }) (omega arith)
 
 flushes_make : (segment : List ℕ) (fresh : ℕ) (chosen : List Sized) → 1 ≤ length chosen → MakesRun (record { segment = segment; sources = flush_names chosen; destination = Some fresh })
@@ -114,5 +114,5 @@ pick_makes o tiered fresh t spec e = by (flush_pick o fresh t) refl e
 pub make_runs : (o : TieredOptions) → are_tiered o ≡ true → (most : ℕ) (view : View) → AllByRecursion MakesRun (tiered_proposals o most view)
 unfolding tiered_proposals
 make_runs o tiered most view =
-    passes_all o (free_slots most view.jobs) MakesRun (pick_makes o tiered) (free_slots most view.jobs) (by_flushes (map (unplanned view.jobs) (sized_trees view.handles view.manifest.trees)))
+    passes_all o (free_slots most view.jobs) MakesRun (pick_makes o tiered) (free_slots most view.jobs) (by_flushes (map (unplanned_tree view.jobs) (sized_trees view.handles view.manifest.trees)))
     (record { fresh = fresh_run_id view; picks = [] }) tt

@@ -6,7 +6,7 @@ use Rattle.fleet_model.specs.Gates.{submit_gate}
 use Rattle.fleet_model.specs.Invariant.{StoreInvariant}
 use Rattle.fleet_model.specs.Jobs.{Compacted, Job, Jobs, JobSpec, has_status}
 use Rattle.fleet_model.specs.JobsFit.{SourcesStand}
-use Rattle.fleet_model.specs.Scheduler.{View, shown}
+use Rattle.fleet_model.specs.Scheduler.{View, shown_view}
 use Rattle.fleet_model.specs.Store.{Records, Store}
 use Rattle.sched_model.specs.Series.{TieredOptions, are_tiered}
 use Rattle.sched_model.specs.SizeTiered.{tiered_proposals, tiered_validate}
@@ -15,7 +15,7 @@ use Rattle.sched_laws.specs.Views.{ViewStands}
 
 -- The view of a store with these records.
 abbrev pub store_view : Store → Records → View
-store_view store records = shown store.tables store.manifest records records.jobs
+store_view store records = shown_view store.tables store.manifest records records.jobs
 
 -- The store meets its invariant and has these records. The sources of each Compacted job are as
 -- `SourcesStand` says. The invariant alone allows a Compacted job whose sources are gone, since its join

@@ -16,8 +16,8 @@ abbrev pub nodes_used : Jobs → List ℕ → List NodeName
 nodes_used jobs segment = flat_map (λ job. nodes_of job.spec) (filter (λ job. bytes_eq segment job.spec.segment) jobs)
 
 -- The tree before the first pick. The jobs use their nodes.
-abbrev pub unplanned : Jobs → SizedTree → Planned
-unplanned jobs tree = record { tree = tree; used = nodes_used jobs tree.segment }
+abbrev pub unplanned_tree : Jobs → SizedTree → Planned
+unplanned_tree jobs tree = record { tree = tree; used = nodes_used jobs tree.segment }
 
 -- Inserts a tree in front of the first tree with at most as many flushes.
 abbrev pub put_by_flushes : Planned → List Planned → List Planned
@@ -38,7 +38,7 @@ free_slots most jobs = most - count_by is_under_way jobs
 unfoldable pub tiered_proposals : TieredOptions → ℕ → View → List JobSpec
 tiered_proposals o most view =
     let slots = free_slots most view.jobs in
-    passes o slots slots (by_flushes (map (unplanned view.jobs) (sized_trees view.handles view.manifest.trees))) (record { fresh = fresh_run_id view; picks = [] })
+    passes o slots slots (by_flushes (map (unplanned_tree view.jobs) (sized_trees view.handles view.manifest.trees))) (record { fresh = fresh_run_id view; picks = [] })
 
 -- The lower of an id, if there is one, and another id.
 abbrev pub lower : Option ℕ → ℕ → Option ℕ

@@ -1,7 +1,7 @@
 -- What the size-tiered scheduler looks at in a view: the nodes of each tree with their sizes.
 use Rattle.std.specs.Prelude.{ℕ, List, [], ◌∷◌, drop, length, map, sum_by, take, Option, Some, None}
 use Rattle.std.specs.List.{filter_map}
-use Rattle.row_model.specs.Sizes.{saturated}
+use Rattle.row_model.specs.Sizes.{saturated_sum}
 use Rattle.fleet_model.specs.Nodes.{NodeName, L0, Run, Tree, Trees}
 use Rattle.fleet_model.specs.Handles.{Handle, tree_tables}
 
@@ -26,11 +26,11 @@ run_names runs = map (λ run. Run run.id) runs
 
 -- The sum of the sizes, or the greatest unsigned 64-bit number if the sum is greater.
 abbrev pub total_size : List Sized → ℕ
-total_size nodes = saturated (sum_by (λ node. node.size) nodes)
+total_size nodes = saturated_sum (sum_by (λ node. node.size) nodes)
 
 -- The size of the tables with these handles.
 abbrev pub tables_size : List Handle → ℕ
-tables_size handles = saturated (sum_by (λ handle. handle.size) handles)
+tables_size handles = saturated_sum (sum_by (λ handle. handle.size) handles)
 
 -- The nodes of a tree with their sizes. The handles of the nodes' tables come first in the list, node by
 -- node.

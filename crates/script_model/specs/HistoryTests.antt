@@ -4,13 +4,13 @@ use Rattle.std.specs.Prelude.{ℕ, ◌+◌, Bool, true, false, not, nat_lt, nat_
 use Rattle.std.specs.List.{list_any, list_all, concat}
 use Rattle.std.specs.Cmp.Lexicographic.{pointwise}
 use Rattle.fleet_model.specs.Nodes.{is_among, NodeName, L0, Run, Node, Trees, Segment, names, names_contain}
-use Rattle.fleet_model.specs.Jobs.{JobSpec, Job, Jobs, Submitted, Scheduled, Compacted, has_status, status_eq, is_active, is_finished, ids, trimmed, number_of, contains, drawn_base}
+use Rattle.fleet_model.specs.Jobs.{JobSpec, Job, Jobs, Submitted, Scheduled, Compacted, has_status, status_eq, is_active, is_finished, ids, trimmed_jobs, number_of, contains, drawn_base}
 use Rattle.fleet_model.specs.History.{Entry, stood}
 use Rattle.fleet_model.specs.Store.{Manifest, Records, Store, fresh_store, stored_jobs, jobs_in, records_epoch}
 use Rattle.fleet_model.specs.Handles.{tree_tables, job_tables}
 use Rattle.fleet_model.specs.Parties.{is_leased_to}
 use Rattle.fleet_model.specs.Records.{firsts}
-use Rattle.fleet_model.specs.Replay.{Objects, named_specs, replayed, plain_objects}
+use Rattle.fleet_model.specs.Replay.{Objects, named_specs, replayed_objects, plain_objects}
 use Rattle.fleet_model.specs.AttemptsFit.{was_beaten}
 use Rattle.fleet_model.specs.JobsFit.{was_joined}
 use Rattle.fleet_model.specs.Exchanges.{records_version}
@@ -39,7 +39,7 @@ same_job a b = (a.id == b.id) && status_eq a.status b.status && (a.attempt == b.
 -- The versions, the epochs, the trees and the jobs are those that the history gives.
 abbrev pub is_replayed : Store → Bool
 is_replayed store =
-    let objects = replayed store.tables (specs_in store.history) store.history (plain_objects fresh_store) in
+    let objects = replayed_objects store.tables (specs_in store.history) store.history (plain_objects fresh_store) in
     (store.manifest.version == objects.manifest.version)
     && (store.manifest.epoch == objects.manifest.epoch)
     && pointwise same_segment store.manifest.trees objects.manifest.trees
@@ -64,7 +64,7 @@ abbrev pub are_names : Store → Bool
 are_names store =
     list_all (λ entry. list_all (contains (drawn_jobs store.history)) (mentioned_in entry)) store.history
     && list_all (λ job. was_named store.history job.id) (stored_jobs store)
-    && bytes_eq (ids (trimmed (stored_jobs store))) (ids (stored_jobs store))
+    && bytes_eq (ids (trimmed_jobs (stored_jobs store))) (ids (stored_jobs store))
 
 -- No attempt is claimed twice. A Submitted job was never beaten, and a job that waits has no worker.
 abbrev pub are_attempts : Store → Bool

@@ -23,12 +23,12 @@ number_or otherwise (Some n) = n
 
 -- The state in which the line's course runs. Options, Clock and SetFault set the options, the
 -- moment or the fault that waits. Other lines change nothing here.
-abbrev pub prepared : Line → State → State
-prepared (Options timeout concurrent slots ranges table_size moves retention) s =
+abbrev pub prepared_state : Line → State → State
+prepared_state (Options timeout concurrent slots ranges table_size moves retention) s =
     record s { options = record { timeout = timeout; concurrent = concurrent; slots = slots; ranges = ranges; table_size = table_size; moves = moves; retention = number_or 0 retention } }
-prepared (Clock moment) s = record s { moment = moment }
-prepared (SetFault k stands) s = record s { fault = Some (record { k = k; stands = stands }) }
-prepared _ s = s
+prepared_state (Clock moment) s = record s { moment = moment }
+prepared_state (SetFault k stands) s = record s { fault = Some (record { k = k; stands = stands }) }
+prepared_state _ s = s
 
 -- The attempt at the job of this number. A script names a job by the number of its id, which no two
 -- jobs share.

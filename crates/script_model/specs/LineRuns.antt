@@ -65,18 +65,18 @@ flush_fault_text BadSequence = codes "sequence"
 flush_fault_text BadFloor = codes "floor"
 flush_fault_text BadTick = codes "tick"
 
--- The reply to a line whose step ends so. `told` prints a report. No put is refused while no other
+-- The reply to a line whose step ends so. `spell` prints a report. No put is refused while no other
 -- party calls the store, so no step gives up, and the reply of GivesUp is never printed.
 abbrev pub step_reply : {A : Type 0} → (A → List ℕ) → StepEnd A → List ℕ
-step_reply told (Reports report) = told report
-step_reply told (GivesUp seen) = reply (codes "conflict" ∷ decimal seen ∷ [])
-step_reply told (Fenced stored) = reply (codes "fenced" ∷ decimal stored ∷ [])
-step_reply told NotOwner = reply (codes "notowner" ∷ [])
-step_reply told NoRecords = reply (codes "invaliddbstate" ∷ [])
-step_reply told Invalid = reply (codes "invalidcompaction" ∷ [])
-step_reply told (Declined message) = reply (codes "generate" ∷ bytes_text message ∷ [])
-step_reply told (OperatorRefuses message) = reply (codes "callback" ∷ bytes_text message ∷ [])
-step_reply told (BadFlush fault) = reply (codes "badflush" ∷ flush_fault_text fault ∷ [])
+step_reply spell (Reports report) = spell report
+step_reply spell (GivesUp seen) = reply (codes "conflict" ∷ decimal seen ∷ [])
+step_reply spell (Fenced stored) = reply (codes "fenced" ∷ decimal stored ∷ [])
+step_reply spell NotOwner = reply (codes "notowner" ∷ [])
+step_reply spell NoRecords = reply (codes "invaliddbstate" ∷ [])
+step_reply spell Invalid = reply (codes "invalidcompaction" ∷ [])
+step_reply spell (Declined message) = reply (codes "generate" ∷ bytes_text message ∷ [])
+step_reply spell (OperatorRefuses message) = reply (codes "callback" ∷ bytes_text message ∷ [])
+step_reply spell (BadFlush fault) = reply (codes "badflush" ∷ flush_fault_text fault ∷ [])
 
 -- The parties that are live after a step: those that a report gives, or the other ones after a
 -- refusal.
@@ -86,7 +86,7 @@ step_parties reported refused _ = refused
 
 -- The end of a line whose step ends so: its reply, and the parties that are live.
 abbrev pub line_end : {A : Type 0} → (A → List ℕ) → (A → Parties) → Parties → StepEnd A → LineEnd
-line_end told reported refused end = record { reply = step_reply told end; parties = step_parties reported refused end }
+line_end spell reported refused end = record { reply = step_reply spell end; parties = step_parties reported refused end }
 
 -- A line that does one step of its party and then makes these notes.
 abbrev pub noted_line : {A : Type 0} → Party → Course (StepEnd A) → (StepEnd A → List Event) → (StepEnd A → LineEnd) → Parties → LineCourse

@@ -3,7 +3,7 @@ use Rattle.std.specs.Prelude.{◌≡◌, ℕ, List, Option, None}
 use Rattle.script_model.specs.Script.{Line, Output, FinishJob}
 use Rattle.script_model.specs.States.{Inputs, State}
 use Rattle.script_model.specs.LineRuns.{LineCourse, run_line}
-use Rattle.script_model.specs.LineCourses.{prepared, course_of, job_at, range_at}
+use Rattle.script_model.specs.LineCourses.{prepared_state, course_of, job_at, range_at}
 use Rattle.script_model.specs.Refusals.{OutputMay, FinishMay}
 
 -- The line may have this refusal of the operator, or none. Only an output and a finish leave a
@@ -23,5 +23,5 @@ pub record Does (inputs : Inputs) (line : Line) (s : State) (course : LineCourse
 -- may have. `number` is the line's number, from 1.
 pub record OneCourse (inputs : Inputs) (number : ℕ) (old : State) (line : Line) (answer : List ℕ) (new : State) : Type 0 where
   pub course : LineCourse
-  pub does : Does inputs line (prepared line old) course
-  pub ends : run_line number (prepared line old) course ≡ (answer, new)
+  pub does : Does inputs line (prepared_state line old) course
+  pub ends : run_line number (prepared_state line old) course ≡ (answer, new)

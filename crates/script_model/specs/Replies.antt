@@ -82,13 +82,13 @@ abbrev pub commit_reply : PollState → List ℕ
 commit_reply p = reply (codes "ok" ∷ codes "done" ∷ jobs_text p.done ∷ codes "lost" ∷ rules_text p.lost ∷ [])
 
 -- The tables of a context, range by range.
-abbrev pub context_tables : Context → List (List ℕ)
-context_tables context = map (λ r. r.1) context.ranges
+abbrev pub tables_by_range : Context → List (List ℕ)
+tables_by_range context = map (λ r. r.1) context.ranges
 
 -- The text of an attempt: its job, its number, and the tables of its context, which a claim takes
 -- over.
 abbrev pub attempt_text : Attempt → List ℕ
-attempt_text a = decimal (number_of a.job) ++ codes "." ++ decimal a.number ++ codes ":" ++ ranges_text (context_tables a.context)
+attempt_text a = decimal (number_of a.job) ++ codes "." ++ decimal a.number ++ codes ":" ++ ranges_text (tables_by_range a.context)
 
 -- The byte of a semicolon.
 abbrev pub semicolon : ℕ
@@ -139,7 +139,7 @@ cut_text false cut = codes "-"
 abbrev pub context_text : Option Context → List ℕ
 context_text None = codes "-"
 context_text (Some c) =
-    join_with_byte 47 (decimal c.settings.floor ∷ signed_decimal c.settings.tick ∷ flag_text c.settings.last_run ∷ cut_text c.has_cut c.settings.cut ∷ ranges_text (context_tables c) ∷ [])
+    join_with_byte 47 (decimal c.settings.floor ∷ signed_decimal c.settings.tick ∷ flag_text c.settings.last_run ∷ cut_text c.has_cut c.settings.cut ∷ ranges_text (tables_by_range c) ∷ [])
 
 -- The text of a job: its number, status, attempt, worker and context, with a colon between each
 -- two.
@@ -151,8 +151,8 @@ abbrev pub jobs_reply : Jobs → List ℕ
 jobs_reply jobs = reply (codes "ok" ∷ list_text semicolon (map job_text jobs) ∷ [])
 
 -- The reply if the node or the records are not there.
-abbrev pub absent : List ℕ
-absent = reply (codes "ok" ∷ codes "absent" ∷ [])
+abbrev pub absent_reply : List ℕ
+absent_reply = reply (codes "ok" ∷ codes "absent" ∷ [])
 
 -- The text of a table with the number of its rows.
 abbrev pub held_text : Tables → ℕ → List ℕ
@@ -160,5 +160,5 @@ held_text tables table = table_text table ++ codes ":" ++ decimal (length (table
 
 -- The reply that shows the tables of a node, or `ok absent` if there is no such node.
 abbrev pub tables_reply : Tables → Option Node → List ℕ
-tables_reply tables None = absent
+tables_reply tables None = absent_reply
 tables_reply tables (Some node) = reply (codes "ok" ∷ list_text comma (map (held_text tables) node.pieces) ∷ [])

@@ -42,8 +42,8 @@ abbrev pub jobs_run : ℕ → State → List ℕ
 jobs_run worker s = if_some (worker_with worker s.parties) [] (λ w. map number_of (attempt_jobs w.attempts))
 
 -- The reply of a settle line that settled in this round.
-abbrev pub settled : ℕ → List ℕ
-settled round = reply (codes "ok" ∷ codes "settled" ∷ decimal round ∷ [])
+abbrev pub settled_reply : ℕ → List ℕ
+settled_reply round = reply (codes "ok" ∷ codes "settled" ∷ decimal round ∷ [])
 
 -- The reply of a settle line that took all its rounds without settling.
 abbrev pub all_taken : ℕ → List ℕ
@@ -53,34 +53,34 @@ all_taken rounds = reply (codes "ok" ∷ codes "rounds" ∷ decimal rounds ∷ [
 -- Otherwise the step's reply is that of the line, and the state after the step is the state after
 -- the line.
 abbrev pub EndsOr : Bool → List ℕ → State → List ℕ → State → Type 0 → Type 0
-EndsOr true told behind answer new rest = rest
-EndsOr false told behind answer new rest = (answer ≡ told) × (new ≡ behind)
+EndsOr true replied after answer new rest = rest
+EndsOr false replied after answer new rest = (answer ≡ replied) × (new ≡ after)
 
 -- One step of a settle line: it does what this line alone would do, and `Rest` goes on from the
 -- state after it.
 pub record Step (inputs : Inputs) (number : ℕ) (line : Line) (old : State) (answer : List ℕ) (new : State) (Rest : State → Type 0) : Type 0 where
-  pub told : List ℕ
-  pub behind : State
-  pub does : OneCourse inputs number old line told behind
-  pub rest : EndsOr (is_ok told) told behind answer new (Rest behind)
+  pub replied : List ℕ
+  pub after : State
+  pub does : OneCourse inputs number old line replied after
+  pub rest : EndsOr (is_ok replied) replied after answer new (Rest after)
 
 -- The worker finishes these jobs in order. Then `Rest` goes on.
-abbrev pub Finishes : Inputs → ℕ → ℕ → List ℕ → State → List ℕ → State → (State → Type 0) → Type 0
-Finishes inputs number worker [] s answer new Rest = Rest s
-Finishes inputs number worker (job ∷ jobs) s answer new Rest = Step inputs number (FinishJob worker job) s answer new (λ behind. Finishes inputs number worker jobs behind answer new Rest)
+abbrev pub FinishesInTurn : Inputs → ℕ → ℕ → List ℕ → State → List ℕ → State → (State → Type 0) → Type 0
+FinishesInTurn inputs number worker [] s answer new Rest = Rest s
+FinishesInTurn inputs number worker (job ∷ jobs) s answer new Rest = Step inputs number (FinishJob worker job) s answer new (λ after. FinishesInTurn inputs number worker jobs after answer new Rest)
 
 -- What follows the poll of a round. If a stored job is active, the worker claims jobs and finishes
 -- all that it runs, and the next round follows. If none is active but the poll added a job, the
 -- next round follows. Otherwise the line has settled.
-abbrev pub BehindPoll : (active added : Bool) → Inputs → ℕ → ℕ → ℕ → State → List ℕ → State → (State → Type 0) → Type 0
-BehindPoll true added inputs number worker round s answer new Next = Step inputs number (ClaimJobs worker) s answer new (λ claimed. Finishes inputs number worker (jobs_run worker claimed) claimed answer new Next)
-BehindPoll false true inputs number worker round s answer new Next = Next s
-BehindPoll false false inputs number worker round s answer new Next = (answer ≡ settled round) × (new ≡ s)
+abbrev pub AfterPoll : (active added : Bool) → Inputs → ℕ → ℕ → ℕ → State → List ℕ → State → (State → Type 0) → Type 0
+AfterPoll true added inputs number worker round s answer new Next = Step inputs number (ClaimJobs worker) s answer new (λ claimed. FinishesInTurn inputs number worker (jobs_run worker claimed) claimed answer new Next)
+AfterPoll false true inputs number worker round s answer new Next = Next s
+AfterPoll false false inputs number worker round s answer new Next = (answer ≡ settled_reply round) × (new ≡ s)
 
 -- The rounds of a settle line, where `taken` rounds are over and `left` may follow. If no more may
 -- follow, the reply says how many were taken.
 abbrev pub Rounds : Inputs → ℕ → ℕ → ℕ → (left taken : ℕ) → State → List ℕ → State → Type 0
 Rounds inputs number coordinator worker zero taken s answer new = (answer ≡ all_taken taken) × (new ≡ s)
 Rounds inputs number coordinator worker (suc left) taken s answer new =
-    Step inputs number (Poll coordinator) s answer new (λ behind.
-    BehindPoll (has_active behind) (has_added coordinator behind) inputs number worker (taken + 1) behind answer new (λ next. Rounds inputs number coordinator worker left (taken + 1) next answer new))
+    Step inputs number (Poll coordinator) s answer new (λ after.
+    AfterPoll (has_active after) (has_added coordinator after) inputs number worker (taken + 1) after answer new (λ next. Rounds inputs number coordinator worker left (taken + 1) next answer new))

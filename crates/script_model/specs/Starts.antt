@@ -35,15 +35,15 @@ only_notes party notes s parties = record { party = party; course = calls_each n
 
 -- The release of a worker that a line starts: the first for 1, and the second for another number or
 -- none.
-abbrev pub release_of : Option ℕ → Release
-release_of None = Two
-release_of (Some release) = if release == 1 then One else Two
+abbrev pub release_named : Option ℕ → Release
+release_named None = Two
+release_named (Some release) = if release == 1 then One else Two
 
 -- The line that starts a worker with no attempts. A live worker of this number is killed first.
 abbrev pub start_worker : ℕ → Option ℕ → State → LineCourse
 start_worker n release s =
     only_notes (Worker n) (killed_first (is_some (worker_with n s.parties)) (Worker n) ++ Start (Worker n) ∷ []) s
-    (with_worker (record { number = n; release = release_of release; attempts = [] }) s.parties)
+    (with_worker (record { number = n; release = release_named release; attempts = [] }) s.parties)
 
 -- The line that kills or stops a coordinator. The stored objects stay as they are.
 abbrev pub end_coordinator : ℕ → State → LineCourse

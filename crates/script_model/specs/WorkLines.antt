@@ -29,7 +29,7 @@ running w s attempts = with_worker (record w { attempts = attempts }) s.parties
 -- reports. After a refusal it runs the attempts of `refused`. If a fault strikes a call, the worker
 -- is no longer live.
 abbrev pub worker_line : {A : Type 0} → LiveWorker → State → Course (StepEnd A) → (A → List ℕ) → (A → List Attempt) → List Attempt → LineCourse
-worker_line w s step told reported refused = step_line (Worker w.number) step (line_end told (λ report. running w s (reported report)) (running w s refused)) (without_worker w.number s.parties)
+worker_line w s step spell reported refused = step_line (Worker w.number) step (line_end spell (λ report. running w s (reported report)) (running w s refused)) (without_worker w.number s.parties)
 
 -- The worker claims jobs.
 abbrev pub claim_line : ℕ → State → LineCourse
@@ -46,17 +46,17 @@ stop_worker n s = at_worker n s (λ w.
     noted_line (Worker n) (release_all w) (λ end. Kill (Worker n) ∷ []) (line_end (λ jobs. reply (codes "ok" ∷ codes "released" ∷ jobs_text jobs ∷ [])) (λ jobs. others) others) others)
 
 -- The worker's attempts without those at the job of this attempt.
-abbrev pub dropped : LiveWorker → Attempt → List Attempt
-dropped w a = without_attempts (a.job ∷ []) w.attempts
+abbrev pub without_attempt : LiveWorker → Attempt → List Attempt
+without_attempt w a = without_attempts (a.job ∷ []) w.attempts
 
 -- The worker writes the next rows of a range of its attempt. If a message is given, the operator
 -- refuses with it.
 abbrev pub output_line : Inputs → State → LiveWorker → Attempt → ℕ → Range × List ℕ → ℕ → Option (List ℕ) → LineCourse
 output_line inputs s w a place range rows refusal =
-    worker_line w s (output inputs.merge s.store.tables s.moment w a place range rows refusal) (λ r. output_reply r.table) (λ r. r.attempts) (dropped w a)
+    worker_line w s (output inputs.merge s.store.tables s.moment w a place range rows refusal) (λ r. output_reply r.table) (λ r. r.attempts) (without_attempt w a)
 
 -- The worker writes all rows that are left of each range and ends the job. If a message is given,
 -- the operator refuses with it.
 abbrev pub finish_line : Inputs → State → LiveWorker → Attempt → Option (List ℕ) → LineCourse
 finish_line inputs s w a refusal =
-    worker_line w s (finish inputs.merge s.store.tables (worker_options s.options) s.moment w a refusal) (λ r. reply (codes "ok" ∷ ranges_text r.outputs ∷ [])) (λ r. r.attempts) (dropped w a)
+    worker_line w s (finish inputs.merge s.store.tables (worker_options s.options) s.moment w a refusal) (λ r. reply (codes "ok" ∷ ranges_text r.outputs ∷ [])) (λ r. r.attempts) (without_attempt w a)

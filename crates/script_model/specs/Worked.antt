@@ -17,8 +17,8 @@ abbrev pub newline : List ℕ → List ℕ
 newline text = text ++ 10 ∷ []
 
 -- The text of the script: all lines in order, each with its newline.
-abbrev pub typed : Conversation → List ℕ
-typed conversation = concat (map (λ said. newline said.0) conversation)
+abbrev pub typed_text : Conversation → List ℕ
+typed_text conversation = concat (map (λ said. newline said.0) conversation)
 
 -- The replies in order, each with its newline.
 abbrev pub replies : Conversation → List (List ℕ)
@@ -28,7 +28,7 @@ replies conversation = map (λ said. newline said.1) conversation
 -- line leaves a state that passes the tests of `Passing`.
 pub record MayReply (inputs : Inputs) (conversation : Conversation) : Type 0 where
   pub lines : List Line
-  pub script : IsScript full_grammar (typed conversation) lines
+  pub script : IsScript full_grammar (typed_text conversation) lines
   pub last : State
   pub run : ScriptRun inputs 1 (fresh_state default_options) lines (replies conversation) last
   pub passes : PassesAlong inputs 1 (fresh_state default_options) lines (replies conversation) last run

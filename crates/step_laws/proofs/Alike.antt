@@ -6,10 +6,10 @@ use Rattle.fleet_model.specs.Nodes.{Tables}
 use Rattle.fleet_model.specs.Jobs.{JobSpec}
 use Rattle.fleet_model.specs.History.{Event, Entry, PutManifest, PutRecords, ManifestEpoch, Flush, Commit, stood}
 use Rattle.fleet_model.specs.Store.{fresh_store}
-use Rattle.fleet_model.specs.Replay.{Objects, after_event, after_entry, replayed, plain_objects, plain_manifest}
+use Rattle.fleet_model.specs.Replay.{Objects, after_event, after_entry, replayed_objects, plain_objects, plain_manifest}
 use Rattle.fleet_model.specs.Attempts.{claim_settings}
-use Rattle.fleet_model.specs.Claimed.{is_worker, got, objects_at_get, from_claim, claims_in, objects_at_claim, settings_of, origin}
-use Rattle.step_model.specs.Past.{Told, manifest_with}
+use Rattle.fleet_model.specs.Claimed.{is_worker, objects_found, objects_at_get, from_claim, claimant_in, objects_at_claim, settings_of, origin}
+use Rattle.step_model.specs.Past.{World, manifest_with}
 use Rattle.step_model.specs.Faithful.{Faithful}
 use Rattle.step_laws.proofs.Replays.{replayed_push, replay_version}
 
@@ -17,7 +17,7 @@ use Rattle.step_laws.proofs.Replays.{replayed_push, replay_version}
 
 -- Two replays of a history, each from its own objects, are the same at each place.
 abbrev pub SameReplays : Tables → (ℕ → JobSpec) → Tables → (ℕ → JobSpec) → List Entry → Objects → Objects → Type 0
-SameReplays tables one more other history o p = (front back : List Entry) → front ++ back ≡ history → replayed tables one front o ≡ replayed more other front p
+SameReplays tables one more other history o p = (front back : List Entry) → front ++ back ≡ history → replayed_objects tables one front o ≡ replayed_objects more other front p
 
 records_by : (tables : Tables) (one other : ℕ → JobSpec) (took : Bool) (event : Event) (o : Objects)
     → (cond took (after_event tables one event o) o).records ≡ (cond took (after_event tables other event o) o).records
@@ -31,42 +31,42 @@ records_by tables one other true event o = refl
 same_some : {A : Type 0} (x : Option A) (a b : A) → x ≡ Some a → x ≡ Some b → a ≡ b
 same_some x a b p q = cc (p, q)
 
--- The objects that a replay by these specs gives behind the first entries.
-abbrev pub replay_by : Told → (ℕ → JobSpec) → List Entry → Objects
-replay_by told specs front = replayed told.store.tables specs front (plain_objects fresh_store)
+-- The objects that a replay by these specs gives after the first entries.
+abbrev pub replay_by : World → (ℕ → JobSpec) → List Entry → Objects
+replay_by world specs front = replayed_objects world.store.tables specs front (plain_objects fresh_store)
 
-manifests_alike : (told : Told) (one other : ℕ → JobSpec) → Faithful told one → Faithful told other → (front back : List Entry) → front ++ back ≡ told.store.history
-    → (replay_by told one front).manifest ≡ (replay_by told other front).manifest
-manifests_alike told one other f g front back e =
-    let p = replay_version told.store.tables one front (plain_objects fresh_store) in
-    let q = replay_version told.store.tables other front (plain_objects fresh_store) in
-    same_some (option_map plain_manifest (manifest_with (replay_by told other front).manifest.version told.past)) _ _
-    (subst (λ version. option_map plain_manifest (manifest_with version told.past) ≡ Some (replay_by told one front).manifest) (p ∙ sym q) (f.manifests front back e))
+manifests_alike : (world : World) (one other : ℕ → JobSpec) → Faithful world one → Faithful world other → (front back : List Entry) → front ++ back ≡ world.store.history
+    → (replay_by world one front).manifest ≡ (replay_by world other front).manifest
+manifests_alike world one other f g front back e =
+    let p = replay_version world.store.tables one front (plain_objects fresh_store) in
+    let q = replay_version world.store.tables other front (plain_objects fresh_store) in
+    same_some (option_map plain_manifest (manifest_with (replay_by world other front).manifest.version world.past)) _ _
+    (subst (λ version. option_map plain_manifest (manifest_with version world.past) ≡ Some (replay_by world one front).manifest) (p ∙ sym q) (f.manifests front back e))
     (g.manifests front back e)
 
--- Faithful replays that are the same before an entry are the same behind it.
-step_alike : (told : Told) (one other : ℕ → JobSpec) → Faithful told one → Faithful told other → (front : List Entry) (entry : Entry) (back : List Entry) → (front ++ entry ∷ []) ++ back ≡ told.store.history
-    → replay_by told one front ≡ replay_by told other front → replay_by told one (front ++ entry ∷ []) ≡ replay_by told other (front ++ entry ∷ [])
-step_alike told one other f g front entry back e same =
-    let manifests = manifests_alike told one other f g (front ++ entry ∷ []) back e in
-    let records : (replay_by told one (front ++ entry ∷ [])).records ≡ (replay_by told other (front ++ entry ∷ [])).records =
-    ap (λ (o : Objects). o.records) (replayed_push told.store.tables one front entry (plain_objects fresh_store))
-    ∙ records_by told.store.tables one other (stood entry.answer) entry.event (replay_by told one front)
-    ∙ ap (λ (o : Objects). (after_entry told.store.tables other entry o).records) same
-    ∙ sym (ap (λ (o : Objects). o.records) (replayed_push told.store.tables other front entry (plain_objects fresh_store))) in
+-- Faithful replays that are the same before an entry are the same after it.
+step_alike : (world : World) (one other : ℕ → JobSpec) → Faithful world one → Faithful world other → (front : List Entry) (entry : Entry) (back : List Entry) → (front ++ entry ∷ []) ++ back ≡ world.store.history
+    → replay_by world one front ≡ replay_by world other front → replay_by world one (front ++ entry ∷ []) ≡ replay_by world other (front ++ entry ∷ [])
+step_alike world one other f g front entry back e same =
+    let manifests = manifests_alike world one other f g (front ++ entry ∷ []) back e in
+    let records : (replay_by world one (front ++ entry ∷ [])).records ≡ (replay_by world other (front ++ entry ∷ [])).records =
+    ap (λ (o : Objects). o.records) (replayed_push world.store.tables one front entry (plain_objects fresh_store))
+    ∙ records_by world.store.tables one other (stood entry.answer) entry.event (replay_by world one front)
+    ∙ ap (λ (o : Objects). (after_entry world.store.tables other entry o).records) same
+    ∙ sym (ap (λ (o : Objects). o.records) (replayed_push world.store.tables other front entry (plain_objects fresh_store))) in
     λ i. record { manifest = manifests i; records = records i }
 
-alike_from : (told : Told) (one other : ℕ → JobSpec) → Faithful told one → Faithful told other → (done front back : List Entry) → done ++ (front ++ back) ≡ told.store.history
-    → replay_by told one done ≡ replay_by told other done → replay_by told one (done ++ front) ≡ replay_by told other (done ++ front)
-alike_from told one other f g done [] back e same = rw (append-nil done) same
-alike_from told one other f g done (entry ∷ front) back e same =
+alike_from : (world : World) (one other : ℕ → JobSpec) → Faithful world one → Faithful world other → (done front back : List Entry) → done ++ (front ++ back) ≡ world.store.history
+    → replay_by world one done ≡ replay_by world other done → replay_by world one (done ++ front) ≡ replay_by world other (done ++ front)
+alike_from world one other f g done [] back e same = rw (append-nil done) same
+alike_from world one other f g done (entry ∷ front) back e same =
     rw (← append_assoc done (entry ∷ []) front)
-    (alike_from told one other f g (done ++ entry ∷ []) front back (append_assoc done (entry ∷ []) (front ++ back) ∙ e)
-    (step_alike told one other f g done entry (front ++ back) (append_assoc done (entry ∷ []) (front ++ back) ∙ e) same))
+    (alike_from world one other f g (done ++ entry ∷ []) front back (append_assoc done (entry ∷ []) (front ++ back) ∙ e)
+    (step_alike world one other f g done entry (front ++ back) (append_assoc done (entry ∷ []) (front ++ back) ∙ e) same))
 
-pub replays_alike : (told : Told) (one other : ℕ → JobSpec) → Faithful told one → Faithful told other
-    → SameReplays told.store.tables one told.store.tables other told.store.history (plain_objects fresh_store) (plain_objects fresh_store)
-replays_alike told one other f g front back e = alike_from told one other f g [] front back e refl
+pub replays_alike : (world : World) (one other : ℕ → JobSpec) → Faithful world one → Faithful world other
+    → SameReplays world.store.tables one world.store.tables other world.store.history (plain_objects fresh_store) (plain_objects fresh_store)
+replays_alike world one other f g front back e = alike_from world one other f g [] front back e refl
 
 -- ---- settings
 
@@ -76,7 +76,7 @@ get_same tables more one other worker [] o p same = refl
 get_same tables more one other worker (entry ∷ history) o p same =
     let start : o ≡ p = same [] (entry ∷ history) refl in
     let further = get_same tables more one other worker history (after_entry tables one entry o) (after_entry more other entry p) (λ front back e. same (entry ∷ front) back (ap (λ es. entry ∷ es) e)) in
-    λ i. cond (is_worker worker entry.party) (got entry.event entry.answer (start i)) (further i)
+    λ i. cond (is_worker worker entry.party) (objects_found entry.event entry.answer (start i)) (further i)
 
 pub claim_same : (tables more : Tables) (one other : ℕ → JobSpec) (job attempt : ℕ) (history : List Entry) (o p : Objects) → SameReplays tables one more other history o p
     → objects_at_claim tables one job attempt history o ≡ objects_at_claim more other job attempt history p
@@ -84,7 +84,7 @@ claim_same tables more one other job attempt [] o p same = refl
 claim_same tables more one other job attempt (entry ∷ history) o p same =
     let next = λ (front back : List Entry) (e : front ++ back ≡ history). same (entry ∷ front) back (ap (λ es. entry ∷ es) e) in
     let further = claim_same tables more one other job attempt history (after_entry tables one entry o) (after_entry more other entry p) next in
-    λ i. from_claim (cond (stood entry.answer) (claims_in job attempt entry.event) None)
+    λ i. from_claim (cond (stood entry.answer) (claimant_in job attempt entry.event) None)
     (λ worker. get_same tables more one other worker history (after_entry tables one entry o) (after_entry more other entry p) next i)
     (further i)
 

@@ -7,10 +7,10 @@ use Rattle.row_model.specs.Fold.{Operator}
 use Rattle.fleet_model.specs.Jobs.{JobSpec, Job, Context, contains}
 use Rattle.fleet_model.specs.History.{Entry, Event, PutRecords, Beat, stood}
 use Rattle.fleet_model.specs.Records.{firsts}
-use Rattle.fleet_model.specs.Claimed.{number_in, attempt_of, beaten_in, or_else, first_beaten, if_earlier, origin, IsClaimed}
+use Rattle.fleet_model.specs.Claimed.{number_in, attempt_number_at, beaten_in, or_else, first_beaten, if_earlier, origin, IsClaimed}
 use Rattle.fleet_model.specs.AttemptsFit.{beats, was_beaten}
 use Rattle.fleet_model.specs.Store.{Store, stored_jobs}
-use Rattle.step_model.specs.Past.{Told}
+use Rattle.step_model.specs.Past.{World}
 use Rattle.step_model.specs.Entries.{attempts_in}
 use Rattle.step_model.specs.NamesKept.{IsUpTo}
 use Rattle.step_laws.proofs.Elements.{IsIn, all_at}
@@ -19,15 +19,15 @@ use Rattle.step_laws.proofs.Changed.{found_job}
 
 -- ---- the attempt that a heartbeat names
 
-pub named_attempt : (job : ℕ) (attempts : List (ℕ × ℕ)) → IsTrue (contains (firsts attempts) job) → (n : ℕ) × (attempt_of job attempts ≡ Some n)
+pub named_attempt : (job : ℕ) (attempts : List (ℕ × ℕ)) → IsTrue (contains (firsts attempts) job) → (n : ℕ) × (attempt_number_at job attempts ≡ Some n)
 named_attempt job [] h = absurd (cc h)
 named_attempt job (a ∷ attempts) h = by (a.0 == job) (named_attempt job attempts) h
   where
-    by : (b : Bool) → (IsTrue (contains (firsts attempts) job) → (n : ℕ) × (attempt_of job attempts ≡ Some n)) → IsTrue (cond b true (contains (firsts attempts) job)) → (n : ℕ) × (number_in (cond b (Some a) (find (λ attempt. attempt.0 == job) attempts)) ≡ Some n)
+    by : (b : Bool) → (IsTrue (contains (firsts attempts) job) → (n : ℕ) × (attempt_number_at job attempts ≡ Some n)) → IsTrue (cond b true (contains (firsts attempts) job)) → (n : ℕ) × (number_in (cond b (Some a) (find (λ attempt. attempt.0 == job) attempts)) ≡ Some n)
     by true rest h = (a.1, refl)
     by false rest h = rest h
 
-pub attempt_named : (job n : ℕ) (attempts : List (ℕ × ℕ)) → attempt_of job attempts ≡ Some n → IsIn (job, n) attempts
+pub attempt_named : (job n : ℕ) (attempts : List (ℕ × ℕ)) → attempt_number_at job attempts ≡ Some n → IsIn (job, n) attempts
 attempt_named job n [] e = absurd (cc e)
 attempt_named job n (a ∷ attempts) e = by (a.0 == job) refl (attempt_named job n attempts) e
   where
@@ -37,7 +37,7 @@ attempt_named job n (a ∷ attempts) e = by (a.0 == job) refl (attempt_named job
     number : Some a.1 ≡ Some n → a.1 ≡ n
     number e = cc e
 
-    by : (b : Bool) → (a.0 == job) ≡ b → (attempt_of job attempts ≡ Some n → IsIn (job, n) attempts) → number_in (cond b (Some a) (find (λ attempt. attempt.0 == job) attempts)) ≡ Some n → IsIn (job, n) (a ∷ attempts)
+    by : (b : Bool) → (a.0 == job) ≡ b → (attempt_number_at job attempts ≡ Some n → IsIn (job, n) attempts) → number_in (cond b (Some a) (find (λ attempt. attempt.0 == job) attempts)) ≡ Some n → IsIn (job, n) (a ∷ attempts)
     by true f rest e = inl (pair ((Decides-eqb a.0 job).0 f) (number e))
     by false f rest e = inr (rest e)
 
@@ -86,10 +86,10 @@ first_beat job (entry ∷ history) h = by (if stood entry.answer then beaten_in 
 
 -- ---- what it means for a stored job
 
-pub first_beat_low : (merge : Operator) (told : Told) (specs : ℕ → JobSpec) (b : Body merge told specs) (job : Job) → IsIn job (stored_jobs told.store) → (n : ℕ) → Beats job.id n told.store.history → n ≤ job.attempt
-first_beat_low merge told specs b job there n beat =
-    let up = all_at (IsUpTo told.store.history (stored_jobs told.store)) (attempts_in beat.entry.event) (job.id, n) (all_at _ told.store.history beat.entry b.up_to beat.there beat.took) beat.named in
-    subst (λ o. IfSome o (λ (j : Job). n ≤ j.attempt)) (found_job (stored_jobs told.store) job b.sound.job_ids there) up.1
+pub first_beat_low : (merge : Operator) (world : World) (specs : ℕ → JobSpec) (b : Body merge world specs) (job : Job) → IsIn job (stored_jobs world.store) → (n : ℕ) → Beats job.id n world.store.history → n ≤ job.attempt
+first_beat_low merge world specs b job there n beat =
+    let up = all_at (IsUpTo world.store.history (stored_jobs world.store)) (attempts_in beat.entry.event) (job.id, n) (all_at _ world.store.history beat.entry b.up_to beat.there beat.took) beat.named in
+    subst (λ o. IfSome o (λ (j : Job). n ≤ j.attempt)) (found_job (stored_jobs world.store) job b.sound.job_ids there) up.1
 
 pub earlier : (n attempt : ℕ) → n ≤ attempt → if_earlier attempt (Some n) ≡ n
 earlier n attempt low = by (nat_lt n attempt) refl

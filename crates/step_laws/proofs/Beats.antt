@@ -13,15 +13,15 @@ use Rattle.fleet_model.specs.Store.{Records, stored_jobs, records_epoch, is_held
 use Rattle.fleet_model.specs.Replay.{epoch_after}
 use Rattle.fleet_model.specs.Handles.{job_tables, context_tables}
 use Rattle.fleet_model.specs.JobsFit.{SourcesStand, was_joined}
-use Rattle.fleet_model.specs.Claimed.{beaten_in, attempt_of, number_in, first_beaten, or_else, if_earlier, origin}
+use Rattle.fleet_model.specs.Claimed.{beaten_in, attempt_number_at, number_in, first_beaten, or_else, if_earlier, origin}
 use Rattle.fleet_model.specs.AttemptsFit.{ContextFits, beats}
-use Rattle.step_model.specs.Past.{Told}
+use Rattle.step_model.specs.Past.{World}
 use Rattle.step_model.specs.LawfulTables.{MayUse}
 use Rattle.step_model.specs.LawfulRecords.{IsStoredAs, IsLiveAt, OfSome, Publishes, PublishedApart}
 use Rattle.step_model.specs.TablesKept.{AreApart, is_unjoined}
 use Rattle.step_laws.proofs.Elements.{IsIn, all_at, all_from, all_to, all_append, all_back, all_true_front, all_true_from, any_push_yes, contains_in, in_contains, in_append, in_back}
 use Rattle.step_laws.proofs.Mute.{IsQuietFor}
-use Rattle.step_laws.proofs.Told.{settings_stay_at, ranges_stay_at}
+use Rattle.step_laws.proofs.Worlds.{settings_stay_at, ranges_stay_at}
 use Rattle.step_laws.proofs.Grown.{named_grows, source_grows, drawn_table_grows, joined_stays}
 use Rattle.step_laws.proofs.Beaten.{named_attempt, attempt_named, earlier}
 use Rattle.step_laws.proofs.Bodies.{Body, JobKept, whole_of}
@@ -42,20 +42,20 @@ pub record NamedFor (attempts : List (ℕ × ℕ)) (P : ℕ × ℕ → Job → T
   pub same : attempt.0 ≡ job.id
   pub so : P attempt job
 
-named_for : (merge : Operator) (told : Told) (specs : ℕ → JobSpec) (attempts : List (ℕ × ℕ)) (P : ℕ × ℕ → Job → Type 0) → Body merge told specs → AllByRecursion (λ a. IsStoredAs told a.0 (P a)) attempts
-    → (job : Job) → IsIn job (stored_jobs told.store) → IsTrue (contains (firsts attempts) job.id) → NamedFor attempts P job
-named_for merge told specs attempts P b each job there named = find_in attempts each (contains_in (firsts attempts) job.id named)
+named_for : (merge : Operator) (world : World) (specs : ℕ → JobSpec) (attempts : List (ℕ × ℕ)) (P : ℕ × ℕ → Job → Type 0) → Body merge world specs → AllByRecursion (λ a. IsStoredAs world a.0 (P a)) attempts
+    → (job : Job) → IsIn job (stored_jobs world.store) → IsTrue (contains (firsts attempts) job.id) → NamedFor attempts P job
+named_for merge world specs attempts P b each job there named = find_in attempts each (contains_in (firsts attempts) job.id named)
   where
     further : (a : ℕ × ℕ) (list : List (ℕ × ℕ)) → NamedFor list P job → NamedFor (a ∷ list) P job
     further a list found = record { attempt = found.attempt; there = inr found.there; same = found.same; so = found.so }
 
-    find_in : (list : List (ℕ × ℕ)) → AllByRecursion (λ a. IsStoredAs told a.0 (P a)) list → IsIn job.id (firsts list) → NamedFor list P job
+    find_in : (list : List (ℕ × ℕ)) → AllByRecursion (λ a. IsStoredAs world a.0 (P a)) list → IsIn job.id (firsts list) → NamedFor list P job
     find_in [] all one = absurd one
     find_in (a ∷ list) all (inl same) = record {
       attempt = a;
       there = inl refl;
       same = same;
-      so = subst (OfSome (P a)) (ap (λ id. job_with id (stored_jobs told.store)) same ∙ found_job (stored_jobs told.store) job b.sound.job_ids there) all.0;
+      so = subst (OfSome (P a)) (ap (λ id. job_with id (stored_jobs world.store)) same ∙ found_job (stored_jobs world.store) job b.sound.job_ids there) all.0;
     }
     find_in (a ∷ list) all (inr one) = further a list (find_in list all.1 one)
 
@@ -91,11 +91,11 @@ origin_beaten history entry job attempt e = by (first_beaten job history) refl
 
 -- ---- quiet for others
 
-unnamed_attempt : (job : ℕ) (attempts : List (ℕ × ℕ)) → contains (firsts attempts) job ≡ false → attempt_of job attempts ≡ None
+unnamed_attempt : (job : ℕ) (attempts : List (ℕ × ℕ)) → contains (firsts attempts) job ≡ false → attempt_number_at job attempts ≡ None
 unnamed_attempt job [] e = refl
 unnamed_attempt job (a ∷ attempts) e = by (a.0 == job) (unnamed_attempt job attempts) e
   where
-    by : (c : Bool) → (contains (firsts attempts) job ≡ false → attempt_of job attempts ≡ None) → cond c true (contains (firsts attempts) job) ≡ false → number_in (cond c (Some a) (find (λ attempt. attempt.0 == job) attempts)) ≡ None
+    by : (c : Bool) → (contains (firsts attempts) job ≡ false → attempt_number_at job attempts ≡ None) → cond c true (contains (firsts attempts) job) ≡ false → number_in (cond c (Some a) (find (λ attempt. attempt.0 == job) attempts)) ≡ None
     by true rest e = absurd (cc e)
     by false rest e = rest e
 
@@ -114,77 +114,77 @@ running_leased Completed lease h waits = absurd (cc h)
 running_leased Failed lease h waits = absurd (cc h)
 
 -- What a heartbeat has to say of a job.
-pub record IsBeaten (merge : Operator) (told : Told) (party : Party) (u : Unrecorded) (worker : ℕ) (entry : Entry) (job : Job) : Type 0 where
+pub record IsBeaten (merge : Operator) (world : World) (party : Party) (u : Unrecorded) (worker : ℕ) (entry : Entry) (job : Job) : Type 0 where
   pub live : IsLiveAt worker job.attempt job
   pub context : Context
   pub published : u.published job.id ≡ Some context
-  pub publishes : Publishes merge party told job context
+  pub publishes : Publishes merge party world job context
   pub beats : (beats job.id entry.event && stood entry.answer) ≡ true
   pub beaten : (if stood entry.answer then beaten_in job.id entry.event else None) ≡ Some job.attempt
-  pub joins : was_joined (told.store.history ++ entry ∷ []) job.id ≡ was_joined told.store.history job.id
+  pub joins : was_joined (world.store.history ++ entry ∷ []) job.id ≡ was_joined world.store.history job.id
 
 -- The tables that the job names from now on.
-beaten_tables : (merge : Operator) (told : Told) (party : Party) (u : Unrecorded) (worker : ℕ) (entry : Entry) (job : Job) (t : ℕ) → IsBeaten merge told party u worker entry job → IsIn t (job_tables (beaten_by worker u job))
-    → IsNamedBy party told (λ id. context_tables (u.published id)) job t
-beaten_tables merge told party u worker entry job t h there = by (in_append t (context_tables (u.published job.id)) (concat job.outputs) there)
+beaten_tables : (merge : Operator) (world : World) (party : Party) (u : Unrecorded) (worker : ℕ) (entry : Entry) (job : Job) (t : ℕ) → IsBeaten merge world party u worker entry job → IsIn t (job_tables (beaten_by worker u job))
+    → IsNamedBy party world (λ id. context_tables (u.published id)) job t
+beaten_tables merge world party u worker entry job t h there = by (in_append t (context_tables (u.published job.id)) (concat job.outputs) there)
   where
-    own : IsIn t (context_tables (u.published job.id)) → MayUse party told job t → IsNamedBy party told (λ id. context_tables (u.published id)) job t
+    own : IsIn t (context_tables (u.published job.id)) → MayUse party world job t → IsNamedBy party world (λ id. context_tables (u.published id)) job t
     own one (inl old) = inl old
     own one (inr new) = inr (new, one)
 
-    by : IsIn t (context_tables (u.published job.id)) ⊎ IsIn t (concat job.outputs) → IsNamedBy party told (λ id. context_tables (u.published id)) job t
+    by : IsIn t (context_tables (u.published job.id)) ⊎ IsIn t (concat job.outputs) → IsNamedBy party world (λ id. context_tables (u.published id)) job t
     by (inl new) = own new (all_at _ (context_tables (Some h.context)) t h.publishes.own (subst (λ o. IsIn t (context_tables o)) h.published new))
     by (inr old) = inl (in_contains (job_tables job) t (in_back t (context_tables job.context) (concat job.outputs) old))
 
-beaten_kept : (merge : Operator) (told : Told) (specs : ℕ → JobSpec) (party : Party) (u : Unrecorded) (worker : ℕ) (records : Records) (entry : Entry) (job : Job) → Body merge told specs → IsBeaten merge told party u worker entry job
-    → JobKept merge told specs job → JobKept merge (with_records told records entry) specs (beaten_by worker u job)
-beaten_kept merge told specs party u worker records entry job b h kept = record {
+beaten_kept : (merge : Operator) (world : World) (specs : ℕ → JobSpec) (party : Party) (u : Unrecorded) (worker : ℕ) (records : Records) (entry : Entry) (job : Job) → Body merge world specs → IsBeaten merge world party u worker entry job
+    → JobKept merge world specs job → JobKept merge (with_records world records entry) specs (beaten_by worker u job)
+beaten_kept merge world specs party u worker records entry job b h kept = record {
   fits = record {
     sources = ((λ waits. stand (kept.fits.sources.0 was)), λ compacted. absurd (open_not_compacted job.status was compacted));
     context = record {
-      there = ((λ some. (was, any_push_yes (λ (e : Entry). beats job.id e.event && stood e.answer) told.store.history entry h.beats)), λ both. ap is_some h.published);
+      there = ((λ some. (was, any_push_yes (λ (e : Entry). beats job.id e.event && stood e.answer) world.store.history entry h.beats)), λ both. ap is_some h.published);
       fits = context (u.published job.id) h.published;
     };
     outputs = λ compacted. absurd (open_not_compacted job.status was compacted);
     tables = λ active. record { named = held; sources = (kept.fits.tables (active_if_open job was)).sources };
   };
   facts = record {
-    named = named_grows told.store.history entry job.id kept.facts.named;
+    named = named_grows world.store.history entry job.id kept.facts.named;
     unbeaten = λ submitted. absurd (open_not_submitted job.status was submitted);
     unleased = λ waits. running_leased job.status (Some (record { worker = worker; heartbeat = u.moment })) (first_of_three (has_status Running job) (is_leased_to worker job.lease) (job.attempt == job.attempt) h.live) waits;
-    flushed = λ holds. all_to _ _ job.spec.sources (λ name there old. source_grows told.store.history entry name old) (kept.facts.flushed holds);
-    drawn = λ active. all_from _ (job_tables (beaten_by worker u job)) (λ t there. drawn_table_grows told.store.history entry t
-        (named_drawn party told (λ id. context_tables (u.published id)) job t (kept.facts.drawn active) (beaten_tables merge told party u worker entry job t h there)));
-    unused = λ unjoined. all_from _ (job_tables (beaten_by worker u job)) (λ t there. named_unused party told (λ id. context_tables (u.published id)) job t (kept.facts.unused (unjoined_before unjoined)) (beaten_tables merge told party u worker entry job t h there));
+    flushed = λ holds. all_to _ _ job.spec.sources (λ name there old. source_grows world.store.history entry name old) (kept.facts.flushed holds);
+    drawn = λ active. all_from _ (job_tables (beaten_by worker u job)) (λ t there. drawn_table_grows world.store.history entry t
+        (named_drawn party world (λ id. context_tables (u.published id)) job t (kept.facts.drawn active) (beaten_tables merge world party u worker entry job t h there)));
+    unused = λ unjoined. all_from _ (job_tables (beaten_by worker u job)) (λ t there. named_unused party world (λ id. context_tables (u.published id)) job t (kept.facts.unused (unjoined_before unjoined)) (beaten_tables merge world party u worker entry job t h there));
     late = λ joined. absurd (open_not_late job.status was (kept.facts.late (subst (λ c. IsTrue c) h.joins joined)));
     stand = λ compacted joined. absurd (open_not_compacted job.status was compacted);
   };
-  spec = λ others faithful. kept.spec others (faithful_before_records told others records entry faithful);
+  spec = λ others faithful. kept.spec others (faithful_before_records world others records entry faithful);
 }
   where
     was : IsTrue (is_open job.status)
     was = live_open worker job.attempt job h.live
 
-    stand : SourcesStand told.store.manifest.trees job → SourcesStand told.store.manifest.trees (beaten_by worker u job)
+    stand : SourcesStand world.store.manifest.trees job → SourcesStand world.store.manifest.trees (beaten_by worker u job)
     stand s = record { some = s.some; stretch = s.stretch; source_tables = s.source_tables; destination = s.destination }
 
-    unjoined_before : IsTrue (is_unjoined (told.store.history ++ entry ∷ []) (beaten_by worker u job)) → IsTrue (is_unjoined told.store.history job)
+    unjoined_before : IsTrue (is_unjoined (world.store.history ++ entry ∷ []) (beaten_by worker u job)) → IsTrue (is_unjoined world.store.history job)
     unjoined_before unjoined = subst (λ c. IsTrue (is_active job && not c)) h.joins unjoined
 
-    held : AreHeld told.store (context_tables (u.published job.id) ++ concat job.outputs)
-    held = all_true_from (is_held told.store) _ (all_append _ (context_tables (u.published job.id)) (concat job.outputs)
-        (all_true_front (is_held told.store) _ (subst (λ o. AreHeld told.store (context_tables o)) (sym h.published) h.publishes.held))
-        (all_back _ (context_tables job.context) (concat job.outputs) (all_true_front (is_held told.store) (job_tables job) (kept.fits.tables (active_if_open job was)).named)))
+    held : AreHeld world.store (context_tables (u.published job.id) ++ concat job.outputs)
+    held = all_true_from (is_held world.store) _ (all_append _ (context_tables (u.published job.id)) (concat job.outputs)
+        (all_true_front (is_held world.store) _ (subst (λ o. AreHeld world.store (context_tables o)) (sym h.published) h.publishes.held))
+        (all_back _ (context_tables job.context) (concat job.outputs) (all_true_front (is_held world.store) (job_tables job) (kept.fits.tables (active_if_open job was)).named)))
 
-    context : (o : Option Context) → o ≡ Some h.context → IfSome o (ContextFits merge (with_records told records entry).store specs (beaten_by worker u job))
+    context : (o : Option Context) → o ≡ Some h.context → IfSome o (ContextFits merge (with_records world records entry).store specs (beaten_by worker u job))
     context None e = tt
     context (Some c) e =
-        let fits = subst (ContextFits merge told.store specs job) (sym (same c e)) (h.publishes.fits specs b.faithful) in
-        let origin = origin_beaten told.store.history entry job.id job.attempt h.beaten in
+        let fits = subst (ContextFits merge world.store specs job) (sym (same c e)) (h.publishes.fits specs b.faithful) in
+        let origin = origin_beaten world.store.history entry job.id job.attempt h.beaten in
         record {
           claimed = record {
-            settings = settings_stay_at told.store.tables specs told.store.history entry job.id job.attempt _ origin fits.claimed.settings;
-            ranges = ranges_stay_at told.store.history entry job.id job.attempt _ origin fits.claimed.ranges;
+            settings = settings_stay_at world.store.tables specs world.store.history entry job.id job.attempt _ origin fits.claimed.settings;
+            ranges = ranges_stay_at world.store.history entry job.id job.attempt _ origin fits.claimed.ranges;
           };
           settings = fits.settings;
           cut = fits.cut;
@@ -205,26 +205,26 @@ kept_epoch worker attempts None = refl
 kept_epoch worker attempts (Some records) = refl
 
 -- What is asked of each attempt.
-abbrev Live : Operator → Party → Told → Unrecorded → ℕ → ℕ × ℕ → Job → Type 0
-Live merge party told u worker a job = IsLiveAt worker a.1 job × OfSome (Publishes merge party told job) (u.published a.0)
+abbrev Live : Operator → Party → World → Unrecorded → ℕ → ℕ × ℕ → Job → Type 0
+Live merge party world u worker a job = IsLiveAt worker a.1 job × OfSome (Publishes merge party world job) (u.published a.0)
 
-is_beaten : (merge : Operator) (told : Told) (specs : ℕ → JobSpec) (party : Party) (u : Unrecorded) (worker : ℕ) (attempts : List (ℕ × ℕ)) (line : ℕ) (answer : Answer) → stood answer ≡ true → Body merge told specs
-    → AllByRecursion (λ a. IsStoredAs told a.0 (Live merge party told u worker a)) attempts → (job : Job) → IsIn job (stored_jobs told.store) → IsTrue (contains (firsts attempts) job.id)
-    → IsBeaten merge told party u worker (record { line = line; party = party; event = PutRecords (Beat worker attempts); answer = answer }) job
-is_beaten merge told specs party u worker attempts line answer took b each job there named =
-    let found = named_for merge told specs attempts (Live merge party told u worker) b each job there named in
-    by (u.published job.id) refl (subst (λ id. OfSome (Publishes merge party told job) (u.published id)) found.same found.so.1)
+is_beaten : (merge : Operator) (world : World) (specs : ℕ → JobSpec) (party : Party) (u : Unrecorded) (worker : ℕ) (attempts : List (ℕ × ℕ)) (line : ℕ) (answer : Answer) → stood answer ≡ true → Body merge world specs
+    → AllByRecursion (λ a. IsStoredAs world a.0 (Live merge party world u worker a)) attempts → (job : Job) → IsIn job (stored_jobs world.store) → IsTrue (contains (firsts attempts) job.id)
+    → IsBeaten merge world party u worker (record { line = line; party = party; event = PutRecords (Beat worker attempts); answer = answer }) job
+is_beaten merge world specs party u worker attempts line answer took b each job there named =
+    let found = named_for merge world specs attempts (Live merge party world u worker) b each job there named in
+    by (u.published job.id) refl (subst (λ id. OfSome (Publishes merge party world job) (u.published id)) found.same found.so.1)
     (subst (λ n. IsLiveAt worker n job) (live_attempt worker found.attempt.1 job found.so.0) found.so.0)
   where
-    its_attempt : (n : ℕ) → attempt_of job.id attempts ≡ Some n → n ≡ job.attempt
+    its_attempt : (n : ℕ) → attempt_number_at job.id attempts ≡ Some n → n ≡ job.attempt
     its_attempt n e =
-        let found = stored_as told (Live merge party told u worker (job.id, n)) job.id (all_at (λ a. IsStoredAs told a.0 (Live merge party told u worker a)) attempts (job.id, n) each (attempt_named job.id n attempts e)) in
-        live_attempt worker n found.job found.so.0 ∙ ap (λ (j : Job). j.attempt) (the_job found.job (sym found.stored ∙ found_job (stored_jobs told.store) job b.sound.job_ids there))
+        let found = stored_as world (Live merge party world u worker (job.id, n)) job.id (all_at (λ a. IsStoredAs world a.0 (Live merge party world u worker a)) attempts (job.id, n) each (attempt_named job.id n attempts e)) in
+        live_attempt worker n found.job found.so.0 ∙ ap (λ (j : Job). j.attempt) (the_job found.job (sym found.stored ∙ found_job (stored_jobs world.store) job b.sound.job_ids there))
       where
         the_job : (j : Job) → Some j ≡ Some job → j ≡ job
         the_job j e = cc e
 
-    by : (o : Option Context) → u.published job.id ≡ o → OfSome (Publishes merge party told job) o → IsLiveAt worker job.attempt job → IsBeaten merge told party u worker (record { line = line; party = party; event = PutRecords (Beat worker attempts); answer = answer }) job
+    by : (o : Option Context) → u.published job.id ≡ o → OfSome (Publishes merge party world job) o → IsLiveAt worker job.attempt job → IsBeaten merge world party u worker (record { line = line; party = party; event = PutRecords (Beat worker attempts); answer = answer }) job
     by None e never live = absurd never
     by (Some c) e publishes live =
         let n = named_attempt job.id attempts named in
@@ -235,7 +235,7 @@ is_beaten merge told specs party u worker attempts line answer took b each job t
           publishes = publishes;
           beats = rw (named, took) refl;
           beaten = rw took (n.1 ∙ ap Some (its_attempt n.0 n.1));
-          joins = joined_stays told.store.history (record { line = line; party = party; event = PutRecords (Beat worker attempts); answer = answer }) job.id refl;
+          joins = joined_stays world.store.history (record { line = line; party = party; event = PutRecords (Beat worker attempts); answer = answer }) job.id refl;
         }
 
 in_firsts : (id : ℕ) (attempts : List (ℕ × ℕ)) → IsIn id (firsts attempts) → (n : ℕ) × IsIn (id, n) attempts
@@ -256,30 +256,30 @@ apart_published u attempts apart one other first second differs t in_one in_othe
     by (inr h) = apart_at _ _ t h in_other in_one
 
 pub beats_keep : (merge : Operator) (worker : ℕ) (attempts : List (ℕ × ℕ)) → StandingPutKeeps merge (Beat worker attempts)
-beats_keep merge worker attempts line party answer told epoch jobs took k names fits =
+beats_keep merge worker attempts line party answer world epoch jobs took k names fits =
     let entry : Entry = record { line = line; party = party; event = PutRecords (Beat worker attempts); answer = answer } in
-    let b = (whole_of merge told k).body in
+    let b = (whole_of merge world k).body in
     let specs = k.stored.replay.specs in
     let these = firsts attempts in
     let u = fits.unrecorded in
     let f = beaten_by worker u in
-    let beaten = is_beaten merge told specs party u worker attempts line answer took b fits.fits.each in
-    worker_put_keeps merge told u f these (Beat worker attempts) line party answer epoch jobs took k
-    (record { after = refl; unnamed = refl; tables = tt; epoch = kept_epoch worker attempts told.store.records }) fits.makes_jobs fits.makes_epoch
+    let beaten = is_beaten merge world specs party u worker attempts line answer took b fits.fits.each in
+    worker_put_keeps merge world u f these (Beat worker attempts) line party answer epoch jobs took k
+    (record { after = refl; unnamed = refl; tables = tt; epoch = kept_epoch worker attempts world.store.records }) fits.makes_jobs fits.makes_epoch
     (record {
       is = beat_change worker u;
       holds = λ job there named holds. holds;
-      apart = names_stay_apart merge told specs party (λ id. context_tables (u.published id)) f these b (record {
-        tables = λ job there named t one. beaten_tables merge told party u worker entry job t (beaten job there named) one;
+      apart = names_stay_apart merge world specs party (λ id. context_tables (u.published id)) f these b (record {
+        tables = λ job there named t one. beaten_tables merge world party u worker entry job t (beaten job there named) one;
         active = λ job there named. active_if_open job (live_open worker job.attempt job (beaten job there named).live);
         fresh = λ x y one other differs t first second. apart_published u attempts fits.fits.apart x.id y.id one other differs t first second;
       });
       own = all_from _ attempts (λ a there.
-          let found = stored_as told (Live merge party told u worker a) a.0 (all_at (λ a. IsStoredAs told a.0 (Live merge party told u worker a)) attempts a fits.fits.each there) in
+          let found = stored_as world (Live merge party world u worker a) a.0 (all_at (λ a. IsStoredAs world a.0 (Live merge party world u worker a)) attempts a fits.fits.each there) in
           let same = live_attempt worker a.1 found.job found.so.0 in
-          own_on told.store.history entry f these (stored_jobs told.store) found.job a b.sound.job_ids (beat_change worker u) (stored_named merge told specs b found.job a.0 found.stored) (named_in a attempts there) found.stored (omega (arith, same)));
+          own_on world.store.history entry f these (stored_jobs world.store) found.job a b.sound.job_ids (beat_change worker u) (stored_named merge world specs b found.job a.0 found.stored) (named_in a attempts there) found.stored (omega (arith, same)));
       once = rw append-nil b.once;
-      each = λ job there named kept. beaten_kept merge told specs party u worker (worker_records told f these) entry job b (beaten job there named) kept;
+      each = λ job there named kept. beaten_kept merge world specs party u worker (worker_records world f these) entry job b (beaten job there named) kept;
       quiet = λ job other. quiet_beat (stood answer) worker attempts job.id other;
       brought = tt;
     })

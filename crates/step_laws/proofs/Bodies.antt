@@ -5,10 +5,10 @@ use Rattle.std.specs.List.{AllByRecursion}
 use Rattle.row_model.specs.Lists.{Pairs}
 use Rattle.row_model.specs.Fold.{Operator}
 use Rattle.fleet_model.specs.Nodes.{Trees}
-use Rattle.fleet_model.specs.Jobs.{JobSpec, Job, Submitted, Scheduled, Compacted, has_status, is_active, is_finished, contains, trimmed}
+use Rattle.fleet_model.specs.Jobs.{JobSpec, Job, Submitted, Scheduled, Compacted, has_status, is_active, is_finished, contains, trimmed_jobs}
 use Rattle.fleet_model.specs.History.{Entry, stood}
 use Rattle.fleet_model.specs.Store.{Manifest, Store, stored_jobs, fresh_store, AreHeld, WerePut}
-use Rattle.fleet_model.specs.Replay.{plain_objects, replayed}
+use Rattle.fleet_model.specs.Replay.{plain_objects, replayed_objects}
 use Rattle.fleet_model.specs.TreesFit.{IsSound, AreTrees}
 use Rattle.fleet_model.specs.JobsFit.{NodesHeldOnce, OpenedStands, OutputsFit, was_joined}
 use Rattle.fleet_model.specs.AttemptsFit.{JobContext, was_beaten}
@@ -16,7 +16,7 @@ use Rattle.fleet_model.specs.ReadsFit.{TreeKeepsReads}
 use Rattle.fleet_model.specs.Gates.{reserves_nodes}
 use Rattle.fleet_model.specs.Handles.{job_tables}
 use Rattle.fleet_model.specs.Invariant.{StoreInvariant, JobTablesHeld}
-use Rattle.step_model.specs.Past.{Told}
+use Rattle.step_model.specs.Past.{World}
 use Rattle.step_model.specs.Entries.{drawn_jobs, drawn_tables, mentioned_in, was_named, attempts_in, planned_attempts, claimed_attempts}
 use Rattle.step_model.specs.Faithful.{Faithful}
 use Rattle.step_model.specs.LawfulTables.{was_piece}
@@ -48,43 +48,43 @@ pub record JobFits (merge : Operator) (store : Store) (specs : ℕ → JobSpec) 
   pub tables : IsTrue (is_active job) → JobTablesHeld store job
 
 -- Both, and the spec that each faithful replay has for the job.
-pub record JobKept (merge : Operator) (told : Told) (specs : ℕ → JobSpec) (job : Job) : Type 0 where
-  pub fits : JobFits merge told.store specs job
-  pub facts : JobFacts told.store.history told.past told.store.manifest.trees job
-  pub spec : (others : ℕ → JobSpec) → Faithful told others → others job.id ≡ job.spec
+pub record JobKept (merge : Operator) (world : World) (specs : ℕ → JobSpec) (job : Job) : Type 0 where
+  pub fits : JobFits merge world.store specs job
+  pub facts : JobFacts world.store.history world.past world.store.manifest.trees job
+  pub spec : (others : ℕ → JobSpec) → Faithful world others → others job.id ≡ job.spec
 
 -- ---- the whole
 
 -- Everything but the facts on draws and on puts of tables.
-pub record Body (merge : Operator) (told : Told) (specs : ℕ → JobSpec) : Type 0 where
-  pub sound : IsSound told.store
-  pub trees : AreTrees told.store
-  pub held_once : NodesHeldOnce (stored_jobs told.store)
-  pub pieces : AllByRecursion (λ s. AllByRecursion (λ node. AreHeld told.store node.pieces) s.tree) told.store.manifest.trees
-  pub flushes : AllByRecursion (λ s. AllByRecursion (λ node. WerePut told.store node.flushes) s.tree) told.store.manifest.trees
-  pub reads : AllByRecursion (λ s. TreeKeepsReads merge told.store s.tree) told.store.manifest.trees
-  pub objects : plain_objects told.store ≡ replayed told.store.tables specs told.store.history (plain_objects fresh_store)
-  pub faithful : Faithful told specs
-  pub mentioned : AllByRecursion (λ entry. AllByRecursion (λ id. IsTrue (contains (drawn_jobs told.store.history) id)) (mentioned_in entry)) told.store.history
-  pub trimmed_already : trimmed (stored_jobs told.store) ≡ stored_jobs told.store
-  pub up_to : AllByRecursion (λ entry. IsTrue (stood entry.answer) → AllByRecursion (IsUpTo told.store.history (stored_jobs told.store)) (attempts_in entry.event)) told.store.history
-  pub planned : AllByRecursion (λ entry. AllByRecursion (IsUpTo told.store.history (stored_jobs told.store)) (planned_attempts entry.event)) told.store.history
-  pub once : Pairs (λ a b. a ≢ b) (claimed_attempts told.store.history)
-  pub nodes : PiecesKept told.store.history told.past told.store.manifest.trees
-  pub name_apart : Pairs NameApart (stored_jobs told.store)
-  pub joined : AllByRecursion (λ entry. IsTrue (stood entry.answer) → AllByRecursion (λ id. IsTrue (was_named told.store.history id)) (joins_in entry.event)) told.store.history
-  pub epochs : EpochsKept told.store.manifest.epoch told.store.history
-  pub past : PastKept told.store.manifest told.past
-  pub jobs : AllByRecursion (JobKept merge told specs) (stored_jobs told.store)
+pub record Body (merge : Operator) (world : World) (specs : ℕ → JobSpec) : Type 0 where
+  pub sound : IsSound world.store
+  pub trees : AreTrees world.store
+  pub held_once : NodesHeldOnce (stored_jobs world.store)
+  pub pieces : AllByRecursion (λ s. AllByRecursion (λ node. AreHeld world.store node.pieces) s.tree) world.store.manifest.trees
+  pub flushes : AllByRecursion (λ s. AllByRecursion (λ node. WerePut world.store node.flushes) s.tree) world.store.manifest.trees
+  pub reads : AllByRecursion (λ s. TreeKeepsReads merge world.store s.tree) world.store.manifest.trees
+  pub objects : plain_objects world.store ≡ replayed_objects world.store.tables specs world.store.history (plain_objects fresh_store)
+  pub faithful : Faithful world specs
+  pub mentioned : AllByRecursion (λ entry. AllByRecursion (λ id. IsTrue (contains (drawn_jobs world.store.history) id)) (mentioned_in entry)) world.store.history
+  pub trimmed_already : trimmed_jobs (stored_jobs world.store) ≡ stored_jobs world.store
+  pub up_to : AllByRecursion (λ entry. IsTrue (stood entry.answer) → AllByRecursion (IsUpTo world.store.history (stored_jobs world.store)) (attempts_in entry.event)) world.store.history
+  pub planned : AllByRecursion (λ entry. AllByRecursion (IsUpTo world.store.history (stored_jobs world.store)) (planned_attempts entry.event)) world.store.history
+  pub once : Pairs (λ a b. a ≢ b) (claimed_attempts world.store.history)
+  pub nodes : PiecesKept world.store.history world.past world.store.manifest.trees
+  pub name_apart : Pairs NameApart (stored_jobs world.store)
+  pub joined : AllByRecursion (λ entry. IsTrue (stood entry.answer) → AllByRecursion (λ id. IsTrue (was_named world.store.history id)) (joins_in entry.event)) world.store.history
+  pub epochs : EpochsKept world.store.manifest.epoch world.store.history
+  pub past : PastKept world.store.manifest world.past
+  pub jobs : AllByRecursion (JobKept merge world specs) (stored_jobs world.store)
 
 -- Everything, by the specs of the replay.
-pub record Whole (merge : Operator) (told : Told) (specs : ℕ → JobSpec) : Type 0 where
-  pub body : Body merge told specs
-  pub draws : DrawsKept told.store.jobs_drawn told.store.tables_drawn told.store.history
-  pub puts : PutsKept told.store.history told.store.tables
+pub record Whole (merge : Operator) (world : World) (specs : ℕ → JobSpec) : Type 0 where
+  pub body : Body merge world specs
+  pub draws : DrawsKept world.store.jobs_drawn world.store.tables_drawn world.store.history
+  pub puts : PutsKept world.store.history world.store.tables
 
-pub whole_of : (merge : Operator) (told : Told) (k : Keeps merge told) → Whole merge told k.stored.replay.specs
-whole_of merge told k =
+pub whole_of : (merge : Operator) (world : World) (k : Keeps merge world) → Whole merge world k.stored.replay.specs
+whole_of merge world k =
     let s = k.stored in
     let f = k.facts in
     record {
@@ -107,7 +107,7 @@ whole_of merge told k =
         joined = f.joins.named;
         epochs = f.epochs;
         past = f.past;
-        jobs = all_from _ (stored_jobs told.store) (λ job there. record {
+        jobs = all_from _ (stored_jobs world.store) (λ job there. record {
           fits = record {
             sources = all_at _ _ job s.sources there;
             context = all_at _ _ job s.contexts there;
@@ -132,11 +132,11 @@ whole_of merge told k =
     }
 
 -- A property of each job, out of what is kept of it.
-each : {merge : Operator} {told : Told} {specs : ℕ → JobSpec} (P : Job → Type 0) (b : Body merge told specs) → ((job : Job) → JobKept merge told specs job → P job) → AllByRecursion P (stored_jobs told.store)
-each {merge} {told} {specs} P b f = all_to (JobKept merge told specs) P (stored_jobs told.store) (λ job there kept. f job kept) b.jobs
+each : {merge : Operator} {world : World} {specs : ℕ → JobSpec} (P : Job → Type 0) (b : Body merge world specs) → ((job : Job) → JobKept merge world specs job → P job) → AllByRecursion P (stored_jobs world.store)
+each {merge} {world} {specs} P b f = all_to (JobKept merge world specs) P (stored_jobs world.store) (λ job there kept. f job kept) b.jobs
 
-stored : (merge : Operator) (told : Told) (specs : ℕ → JobSpec) → Body merge told specs → StoreInvariant merge told.store
-stored merge told specs b = record {
+stored : (merge : Operator) (world : World) (specs : ℕ → JobSpec) → Body merge world specs → StoreInvariant merge world.store
+stored merge world specs b = record {
   sound = b.sound;
   replay = record { specs = specs; agrees = b.faithful.agrees; objects = b.objects };
   trees = b.trees;
@@ -148,12 +148,12 @@ stored merge told specs b = record {
   reads = b.reads;
 }
 
-pub keeps_of : (merge : Operator) (told : Told) (specs : ℕ → JobSpec) → Whole merge told specs → Keeps merge told
+pub keeps_of : (merge : Operator) (world : World) (specs : ℕ → JobSpec) → Whole merge world specs → Keeps merge world
 unfolding stored
-keeps_of merge told specs w =
+keeps_of merge world specs w =
     let b = w.body in
     record {
-      stored = stored merge told specs b;
+      stored = stored merge world specs b;
       faithful = b.faithful;
       facts = record {
         draws = w.draws;

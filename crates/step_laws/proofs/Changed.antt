@@ -5,14 +5,14 @@ use Rattle.std.specs.List.{AllByRecursion}
 use Rattle.std.proofs.lemmas.Bool.Decides.{Decides-eqb}
 use Rattle.row_model.specs.Lists.{Pairs}
 use Rattle.row_model.specs.Fold.{Operator}
-use Rattle.fleet_model.specs.Jobs.{JobSpec, Job, Jobs, contains, changed, trimmed, is_active, finished_later, job_with}
+use Rattle.fleet_model.specs.Jobs.{JobSpec, Job, Jobs, contains, changed_jobs, trimmed_jobs, is_active, finished_later, job_with}
 use Rattle.fleet_model.specs.History.{Entry, stood}
 use Rattle.fleet_model.specs.Store.{Manifest, Records, stored_jobs, records_epoch}
 use Rattle.fleet_model.specs.Gates.{reserves_nodes}
 use Rattle.fleet_model.specs.Handles.{job_tables}
 use Rattle.fleet_model.specs.JobsFit.{HoldApart, NodesHeldOnce}
 use Rattle.fleet_model.specs.TreesFit.{EpochFits}
-use Rattle.step_model.specs.Past.{Told}
+use Rattle.step_model.specs.Past.{World}
 use Rattle.step_model.specs.Entries.{was_named}
 use Rattle.step_model.specs.NamesKept.{IsUpTo}
 use Rattle.step_model.specs.TablesKept.{NameApart}
@@ -26,17 +26,17 @@ use Rattle.step_laws.proofs.TableReplays.{all_trimmed}
 
 -- ---- jobs that a put keeps
 
-pub pairs_trimmed : (R : Job → Job → Type 0) (jobs : Jobs) → Pairs R jobs → Pairs R (trimmed jobs)
+pub pairs_trimmed : (R : Job → Job → Type 0) (jobs : Jobs) → Pairs R jobs → Pairs R (trimmed_jobs jobs)
 pairs_trimmed R [] h = tt
 pairs_trimmed R (job ∷ jobs) h = by (is_active job) (finished_later jobs) (all_trimmed (R job) jobs h.0) (pairs_trimmed R jobs h.1)
   where
-    by : (active later : Bool) → AllByRecursion (R job) (trimmed jobs) → Pairs R (trimmed jobs) → Pairs R (cond active (job ∷ trimmed jobs) (cond later (trimmed jobs) (job ∷ trimmed jobs)))
+    by : (active later : Bool) → AllByRecursion (R job) (trimmed_jobs jobs) → Pairs R (trimmed_jobs jobs) → Pairs R (cond active (job ∷ trimmed_jobs jobs) (cond later (trimmed_jobs jobs) (job ∷ trimmed_jobs jobs)))
     by true later first rest = (first, rest)
     by false true first rest = rest
     by false false first rest = (first, rest)
 
-pub in_trimmed : (jobs : Jobs) (job : Job) → IsIn job (trimmed jobs) → IsIn job jobs
-in_trimmed jobs job there = all_at (λ other. IsIn other jobs) (trimmed jobs) job (all_trimmed (λ other. IsIn other jobs) jobs (all_from _ jobs (λ other one. one))) there
+pub in_trimmed : (jobs : Jobs) (job : Job) → IsIn job (trimmed_jobs jobs) → IsIn job jobs
+in_trimmed jobs job there = all_at (λ other. IsIn other jobs) (trimmed_jobs jobs) job (all_trimmed (λ other. IsIn other jobs) jobs (all_from _ jobs (λ other one. one))) there
 
 -- ---- a job is found by its id
 
@@ -78,7 +78,7 @@ by_these P f these job named other = by (contains these job.id) refl
     by true e = named e
     by false e = other e
 
-pub all_on_these : (P : Job → Type 0) (f : Job → Job) (these : List ℕ) (jobs : Jobs) → ((job : Job) → IsIn job jobs → P (on_these f these job)) → AllByRecursion P (changed f these jobs)
+pub all_on_these : (P : Job → Type 0) (f : Job → Job) (these : List ℕ) (jobs : Jobs) → ((job : Job) → IsIn job jobs → P (on_these f these job)) → AllByRecursion P (changed_jobs f these jobs)
 all_on_these P f these [] h = tt
 all_on_these P f these (job ∷ jobs) h = (h job (inl refl), all_on_these P f these jobs (λ other there. h other (inr there)))
 
@@ -91,13 +91,13 @@ pub record IsWorkerChange (f : Job → Job) : Type 0 where
 id_on : (f : Job → Job) (these : List ℕ) (job : Job) → IsWorkerChange f → (on_these f these job).id ≡ job.id
 id_on f these job is = by_these (λ (j : Job). j.id ≡ job.id) f these job (λ named. is.ids job) (λ other. refl)
 
-pub ids_rise : (f : Job → Job) (these : List ℕ) (jobs : Jobs) → IsWorkerChange f → Pairs (λ a b. a.id < b.id) jobs → Pairs (λ a b. a.id < b.id) (changed f these jobs)
+pub ids_rise : (f : Job → Job) (these : List ℕ) (jobs : Jobs) → IsWorkerChange f → Pairs (λ a b. a.id < b.id) jobs → Pairs (λ a b. a.id < b.id) (changed_jobs f these jobs)
 ids_rise f these jobs is h = pairs_map (λ (a b : Job). a.id < b.id) (λ (a b : Job). a.id < b.id) (on_these f these) jobs
     (λ x y one other low. let first = id_on f these x is in let second = id_on f these y is in omega (arith, low, first, second)) h
 
 -- Changed jobs hold no more nodes.
 pub held_once_on : (f : Job → Job) (these : List ℕ) (jobs : Jobs) → IsWorkerChange f → ((job : Job) → IsIn job jobs → IsTrue (contains these job.id) → IsTrue (reserves_nodes (f job)) → IsTrue (reserves_nodes job))
-    → NodesHeldOnce jobs → NodesHeldOnce (changed f these jobs)
+    → NodesHeldOnce jobs → NodesHeldOnce (changed_jobs f these jobs)
 held_once_on f these jobs is holds h = pairs_map HoldApart HoldApart (on_these f these) jobs (λ x y one other apart first second.
     rw (spec x, spec y) (apart (held x one first) (held y other second))) h
   where
@@ -109,7 +109,7 @@ held_once_on f these jobs is holds h = pairs_map HoldApart HoldApart (on_these f
 
 -- Changed jobs name the same tables, and are active only if they were.
 pub name_apart_on : (f : Job → Job) (these : List ℕ) (jobs : Jobs) → ((job : Job) → IsIn job jobs → IsTrue (contains these job.id) → (job_tables (f job) ≡ job_tables job) × (IsTrue (is_active (f job)) → IsTrue (is_active job)))
-    → Pairs NameApart jobs → Pairs NameApart (changed f these jobs)
+    → Pairs NameApart jobs → Pairs NameApart (changed_jobs f these jobs)
 name_apart_on f these jobs same h = pairs_map NameApart NameApart (on_these f these) jobs (λ x y one other apart first second.
     rw (names x one, names y other) (apart (active x one first) (active y other second))) h
   where
@@ -123,8 +123,8 @@ name_apart_on f these jobs same h = pairs_map NameApart NameApart (on_these f th
 
 -- The attempt that an entry names is still at most the stored one.
 pub later_on : (history : List Entry) (entry : Entry) (f : Job → Job) (these : List ℕ) (jobs : Jobs) → Pairs (λ a b. a.id < b.id) jobs → IsWorkerChange f → (a : ℕ × ℕ) → IsUpTo history jobs a
-    → IsUpTo (history ++ entry ∷ []) (trimmed (changed f these jobs)) a
-later_on history entry f these jobs rise is a h = (named_grows history entry a.0 h.0, by (job_with a.0 (trimmed (changed f these jobs))) refl)
+    → IsUpTo (history ++ entry ∷ []) (trimmed_jobs (changed_jobs f these jobs)) a
+later_on history entry f these jobs rise is a h = (named_grows history entry a.0 h.0, by (job_with a.0 (trimmed_jobs (changed_jobs f these jobs))) refl)
   where
     old : (job : Job) → IsIn job jobs → job.id ≡ a.0 → a.1 ≤ job.attempt
     old job there same = subst (λ o. IfSome o (λ (j : Job). a.1 ≤ j.attempt)) (ap (λ id. job_with id jobs) (sym same) ∙ found_job jobs job rise there) h.1
@@ -134,16 +134,16 @@ later_on history entry f these jobs rise is a h = (named_grows history entry a.0
         (λ named same. let low = old job there (sym (is.ids job) ∙ same) in let up = is.attempts job in omega (arith, low, up))
         (λ other same. old job there same)
 
-    by : (o : Option Job) → job_with a.0 (trimmed (changed f these jobs)) ≡ o → IfSome o (λ (j : Job). a.1 ≤ j.attempt)
+    by : (o : Option Job) → job_with a.0 (trimmed_jobs (changed_jobs f these jobs)) ≡ o → IfSome o (λ (j : Job). a.1 ≤ j.attempt)
     by None e = tt
     by (Some job) e =
-        let found = job_found a.0 (trimmed (changed f these jobs)) job e in
-        all_at (λ (j : Job). j.id ≡ a.0 → a.1 ≤ j.attempt) (changed f these jobs) job (all_on_these _ f these jobs each) (in_trimmed (changed f these jobs) job found.there) found.same
+        let found = job_found a.0 (trimmed_jobs (changed_jobs f these jobs)) job e in
+        all_at (λ (j : Job). j.id ≡ a.0 → a.1 ≤ j.attempt) (changed_jobs f these jobs) job (all_on_these _ f these jobs each) (in_trimmed (changed_jobs f these jobs) job found.there) found.same
 
 -- An attempt that the entry itself names, at a job that is one of these.
 pub own_on : (history : List Entry) (entry : Entry) (f : Job → Job) (these : List ℕ) (jobs : Jobs) (job : Job) (a : ℕ × ℕ) → Pairs (λ a b. a.id < b.id) jobs → IsWorkerChange f → IsTrue (was_named history a.0)
-    → IsTrue (contains these a.0) → job_with a.0 jobs ≡ Some job → a.1 ≤ (f job).attempt → IsUpTo (history ++ entry ∷ []) (trimmed (changed f these jobs)) a
-own_on history entry f these jobs job a rise is named these_has stored low = (named_grows history entry a.0 named, by (job_with a.0 (trimmed (changed f these jobs))) refl)
+    → IsTrue (contains these a.0) → job_with a.0 jobs ≡ Some job → a.1 ≤ (f job).attempt → IsUpTo (history ++ entry ∷ []) (trimmed_jobs (changed_jobs f these jobs)) a
+own_on history entry f these jobs job a rise is named these_has stored low = (named_grows history entry a.0 named, by (job_with a.0 (trimmed_jobs (changed_jobs f these jobs))) refl)
   where
     each : (j : Job) → IsIn j jobs → (on_these f these j).id ≡ a.0 → a.1 ≤ (on_these f these j).attempt
     each j there = by_these (λ (x : Job). x.id ≡ a.0 → a.1 ≤ x.attempt) f these j
@@ -160,11 +160,11 @@ own_on history entry f these jobs job a rise is named these_has stored low = (na
         refused true e h = absurd (cc e)
         refused false e h = absurd (cc h)
 
-    by : (o : Option Job) → job_with a.0 (trimmed (changed f these jobs)) ≡ o → IfSome o (λ (j : Job). a.1 ≤ j.attempt)
+    by : (o : Option Job) → job_with a.0 (trimmed_jobs (changed_jobs f these jobs)) ≡ o → IfSome o (λ (j : Job). a.1 ≤ j.attempt)
     by None e = tt
     by (Some j) e =
-        let found = job_found a.0 (trimmed (changed f these jobs)) j e in
-        all_at (λ (x : Job). x.id ≡ a.0 → a.1 ≤ x.attempt) (changed f these jobs) j (all_on_these _ f these jobs each) (in_trimmed (changed f these jobs) j found.there) found.same
+        let found = job_found a.0 (trimmed_jobs (changed_jobs f these jobs)) j e in
+        all_at (λ (x : Job). x.id ≡ a.0 → a.1 ≤ x.attempt) (changed_jobs f these jobs) j (all_on_these _ f these jobs each) (in_trimmed (changed_jobs f these jobs) j found.there) found.same
 
 -- ---- the epoch of the records
 
@@ -175,11 +175,11 @@ same_epoch_fits manifest (Some records) version jobs h = h
 
 -- ---- jobs that the entry says nothing of
 
-pub kept_quiet : (merge : Operator) (told : Told) (specs : ℕ → JobSpec) (records : Records) (entry : Entry) (job : Job) → Body merge told specs → IsQuietFor (stood entry.answer) entry.event job.id → IsIn job (stored_jobs told.store) → JobKept merge told specs job
-    → JobKept merge (with_records told records entry) specs job
-kept_quiet merge told specs records entry job b quiet there kept = record {
-  fits = fits_with_records merge (record told.store { history = told.store.history ++ entry ∷ [] }) specs (Some records) job
-      (fits_quiet merge told specs told.store.deleted told.store.jobs_drawn told.store.tables_drawn entry job quiet (spares_all merge told specs b) there kept.fits);
-  facts = facts_quiet told.store.history entry told.past told.store.manifest.trees job quiet kept.facts;
-  spec = λ others faithful. kept.spec others (faithful_before_records told others records entry faithful);
+pub kept_quiet : (merge : Operator) (world : World) (specs : ℕ → JobSpec) (records : Records) (entry : Entry) (job : Job) → Body merge world specs → IsQuietFor (stood entry.answer) entry.event job.id → IsIn job (stored_jobs world.store) → JobKept merge world specs job
+    → JobKept merge (with_records world records entry) specs job
+kept_quiet merge world specs records entry job b quiet there kept = record {
+  fits = fits_with_records merge (record world.store { history = world.store.history ++ entry ∷ [] }) specs (Some records) job
+      (fits_quiet merge world specs world.store.deleted world.store.jobs_drawn world.store.tables_drawn entry job quiet (spares_all merge world specs b) there kept.fits);
+  facts = facts_quiet world.store.history entry world.past world.store.manifest.trees job quiet kept.facts;
+  spec = λ others faithful. kept.spec others (faithful_before_records world others records entry faithful);
 }

@@ -14,7 +14,7 @@ use Rattle.step_laws.proofs.Elements.{all_to, all_push, pairs_push, flat_push, f
 use Rattle.step_laws.proofs.Mute.{mute_event}
 use Rattle.step_laws.proofs.Bodies.{whole_of, keeps_of}
 use Rattle.step_laws.proofs.MuteBodies.{entered, spares_all, body_mute}
-use Rattle.step_laws.proofs.Quiet.{told_entered, puts_mute}
+use Rattle.step_laws.proofs.Quiet.{world_entered, puts_mute}
 
 number : (moment n : ℕ) → n < 2 ^ 80 → number_of (id_of moment n) ≡ n
 number moment n small = mod-mul-add (moment % 2 ^ 48) (2 ^ 80) n small
@@ -54,33 +54,33 @@ table_draws jobs_drawn tables_drawn history entry moment is short h =
     }
 
 jobs : (merge : Operator) (moment : ℕ) → CallKeeps merge (DrawsJob moment)
-jobs merge moment line party None told k lawful may =
-    let entry : Entry = record { line = line; party = party; event = DrawJob (next_job_id moment told.store); answer = Done 0 } in
-    let w = whole_of merge told k in
+jobs merge moment line party None world k lawful may =
+    let entry : Entry = record { line = line; party = party; event = DrawJob (next_job_id moment world.store); answer = Done 0 } in
+    let w = whole_of merge world k in
     let specs = k.stored.replay.specs in
-    subst (Keeps merge) (sym (told_entered told told.store.deleted (told.store.jobs_drawn + 1) told.store.tables_drawn entry))
-    (keeps_of merge (entered told told.store.deleted (told.store.jobs_drawn + 1) told.store.tables_drawn entry) specs (record {
-      body = body_mute merge told specs told.store.deleted (told.store.jobs_drawn + 1) told.store.tables_drawn entry (mute_event true entry.event refl) tt (spares_all merge told specs w.body) (record { mentioned = tt; planned = tt }) w.body;
-      draws = job_draws told.store.jobs_drawn told.store.tables_drawn told.store.history entry moment refl lawful w.draws;
-      puts = puts_mute told.store.history entry told.store.tables (mute_event true entry.event refl) refl w.puts;
+    subst (Keeps merge) (sym (world_entered world world.store.deleted (world.store.jobs_drawn + 1) world.store.tables_drawn entry))
+    (keeps_of merge (entered world world.store.deleted (world.store.jobs_drawn + 1) world.store.tables_drawn entry) specs (record {
+      body = body_mute merge world specs world.store.deleted (world.store.jobs_drawn + 1) world.store.tables_drawn entry (mute_event true entry.event refl) tt (spares_all merge world specs w.body) (record { mentioned = tt; planned = tt }) w.body;
+      draws = job_draws world.store.jobs_drawn world.store.tables_drawn world.store.history entry moment refl lawful w.draws;
+      puts = puts_mute world.store.history entry world.store.tables (mute_event true entry.event refl) refl w.puts;
     }))
-jobs merge moment line party (Some stands) told k lawful may = absurd (cc may)
+jobs merge moment line party (Some stands) world k lawful may = absurd (cc may)
 
 tables : (merge : Operator) (moment : ℕ) → CallKeeps merge (DrawsTable moment)
-tables merge moment line party None told k lawful may =
-    let entry : Entry = record { line = line; party = party; event = DrawTable (next_table_id moment told.store); answer = Done 0 } in
-    let w = whole_of merge told k in
+tables merge moment line party None world k lawful may =
+    let entry : Entry = record { line = line; party = party; event = DrawTable (next_table_id moment world.store); answer = Done 0 } in
+    let w = whole_of merge world k in
     let specs = k.stored.replay.specs in
-    subst (Keeps merge) (sym (told_entered told told.store.deleted told.store.jobs_drawn (told.store.tables_drawn + 1) entry))
-    (keeps_of merge (entered told told.store.deleted told.store.jobs_drawn (told.store.tables_drawn + 1) entry) specs (record {
-      body = body_mute merge told specs told.store.deleted told.store.jobs_drawn (told.store.tables_drawn + 1) entry (mute_event true entry.event refl) tt (spares_all merge told specs w.body) (record { mentioned = tt; planned = tt }) w.body;
-      draws = table_draws told.store.jobs_drawn told.store.tables_drawn told.store.history entry moment refl lawful w.draws;
-      puts = puts_mute told.store.history entry told.store.tables (mute_event true entry.event refl) refl w.puts;
+    subst (Keeps merge) (sym (world_entered world world.store.deleted world.store.jobs_drawn (world.store.tables_drawn + 1) entry))
+    (keeps_of merge (entered world world.store.deleted world.store.jobs_drawn (world.store.tables_drawn + 1) entry) specs (record {
+      body = body_mute merge world specs world.store.deleted world.store.jobs_drawn (world.store.tables_drawn + 1) entry (mute_event true entry.event refl) tt (spares_all merge world specs w.body) (record { mentioned = tt; planned = tt }) w.body;
+      draws = table_draws world.store.jobs_drawn world.store.tables_drawn world.store.history entry moment refl lawful w.draws;
+      puts = puts_mute world.store.history entry world.store.tables (mute_event true entry.event refl) refl w.puts;
     }))
-tables merge moment line party (Some stands) told k lawful may = absurd (cc may)
+tables merge moment line party (Some stands) world k lawful may = absurd (cc may)
 
 pub draws_keep : (merge : Operator) → DrawsKeep merge
 draws_keep merge = record {
-  jobs = λ moment line party strike told k lawful may. jobs merge moment line party strike told k lawful may;
-  tables = λ moment line party strike told k lawful may. tables merge moment line party strike told k lawful may;
+  jobs = λ moment line party strike world k lawful may. jobs merge moment line party strike world k lawful may;
+  tables = λ moment line party strike world k lawful may. tables merge moment line party strike world k lawful may;
 }

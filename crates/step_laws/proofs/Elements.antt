@@ -199,7 +199,7 @@ found_front p (y ∷ xs) ys x e = by (p y) (found_front p xs ys x) e
     by true rest e = e
     by false rest e = rest e
 
--- Where a list that grew by one is cut in two: behind the new element, or before it.
+-- Where a list that grew by one is cut in two: after the new element, or before it.
 pub data Cut {A : Type 0} (front back old : List A) (last : A) : Type 0 where
   Whole : front ≡ old ++ last ∷ [] → Cut front back old last
   Before : (rest : List A) → front ++ rest ≡ old → Cut front back old last

@@ -13,7 +13,7 @@ use Rattle.fleet_model.specs.Nodes.{Tables, table_rows, NodeName, L0, Run, Node,
 use Rattle.fleet_model.specs.Jobs.{Job}
 use Rattle.fleet_model.specs.Store.{Manifest, Store}
 use Rattle.fleet_model.specs.Gates.{is_nonempty}
-use Rattle.fleet_model.specs.Trees.{flushed, flushed_on, greater_seq, greatest_seq}
+use Rattle.fleet_model.specs.Trees.{flushed_trees, flushed_on, greater_seq, greatest_seq}
 use Rattle.fleet_model.specs.Sources.{run_ids, all_run_ids, older_nodes}
 use Rattle.fleet_model.specs.TreesFit.{IsTree, IsAtMost, StandsBefore, node_and_flushed_rows}
 use Rattle.fleet_model.specs.JobsFit.{SourcesStand, DestinationFits}
@@ -35,32 +35,32 @@ destination_on trees others tree other sources (Some id) all runs h = rw (runs, 
 no_sources : (trees : Trees) (job : Job) → job.spec.sources ≡ [] → IsTrue (is_nonempty job.spec.sources) → ⊥
 no_sources trees job none some = absurd (cc (rw none at some))
 
-pub stand_on : (prefix : List ℕ) (name : ℕ) (rows : List Row) (trees : Trees) (job : Job) → Rising trees → Differ name job.spec.sources → SourcesStand trees job → SourcesStand (flushed prefix name rows trees) job
+pub stand_on : (prefix : List ℕ) (name : ℕ) (rows : List Row) (trees : Trees) (job : Job) → Rising trees → Differ name job.spec.sources → SourcesStand trees job → SourcesStand (flushed_trees prefix name rows trees) job
 stand_on prefix name rows trees job rise differ h = by job.spec.sources refl differ
   where
-    with_same : SameSources job.spec.sources (tree_at job.spec.segment (flushed prefix name rows trees)) (tree_at job.spec.segment trees) → SourcesStand (flushed prefix name rows trees) job
+    with_same : SameSources job.spec.sources (tree_at job.spec.segment (flushed_trees prefix name rows trees)) (tree_at job.spec.segment trees) → SourcesStand (flushed_trees prefix name rows trees) job
     with_same same = record {
       some = h.some;
       stretch = rw same.older h.stretch;
       source_tables = ap (flat_map (λ (node : Node). node.pieces)) same.nodes ∙ h.source_tables;
-      destination = destination_on trees (flushed prefix name rows trees) (tree_at job.spec.segment trees) (tree_at job.spec.segment (flushed prefix name rows trees)) job.spec.sources job.spec.destination (runs_flushed prefix name rows trees) same.runs h.destination;
+      destination = destination_on trees (flushed_trees prefix name rows trees) (tree_at job.spec.segment trees) (tree_at job.spec.segment (flushed_trees prefix name rows trees)) job.spec.sources job.spec.destination (runs_flushed prefix name rows trees) same.runs h.destination;
     }
 
-    by : (sources : List NodeName) → job.spec.sources ≡ sources → Differ name sources → SourcesStand (flushed prefix name rows trees) job
+    by : (sources : List NodeName) → job.spec.sources ≡ sources → Differ name sources → SourcesStand (flushed_trees prefix name rows trees) job
     by [] e d = absurd (no_sources trees job e h.some)
-    by (x ∷ xs) e d = with_same (subst (λ sources. SameSources sources (tree_at job.spec.segment (flushed prefix name rows trees)) (tree_at job.spec.segment trees)) (sym e) (same_sources job.spec.segment prefix name rows trees x xs rise d))
+    by (x ∷ xs) e d = with_same (subst (λ sources. SameSources sources (tree_at job.spec.segment (flushed_trees prefix name rows trees)) (tree_at job.spec.segment trees)) (sym e) (same_sources job.spec.segment prefix name rows trees x xs rise d))
 
 pub oldest_on : (prefix : List ℕ) (name : ℕ) (rows : List Row) (trees : Trees) (job : Job) → Rising trees → Differ name job.spec.sources → IsTrue (is_nonempty job.spec.sources)
-    → older_nodes job.spec.sources (names (tree_at job.spec.segment trees)) ≡ Some [] → older_nodes job.spec.sources (names (tree_at job.spec.segment (flushed prefix name rows trees))) ≡ Some []
+    → older_nodes job.spec.sources (names (tree_at job.spec.segment trees)) ≡ Some [] → older_nodes job.spec.sources (names (tree_at job.spec.segment (flushed_trees prefix name rows trees))) ≡ Some []
 oldest_on prefix name rows trees job rise differ some h = by job.spec.sources refl differ
   where
-    by : (sources : List NodeName) → job.spec.sources ≡ sources → Differ name sources → older_nodes job.spec.sources (names (tree_at job.spec.segment (flushed prefix name rows trees))) ≡ Some []
+    by : (sources : List NodeName) → job.spec.sources ≡ sources → Differ name sources → older_nodes job.spec.sources (names (tree_at job.spec.segment (flushed_trees prefix name rows trees))) ≡ Some []
     by [] e d = absurd (no_sources trees job e some)
-    by (x ∷ xs) e d = (subst (λ sources. SameSources sources (tree_at job.spec.segment (flushed prefix name rows trees)) (tree_at job.spec.segment trees)) (sym e) (same_sources job.spec.segment prefix name rows trees x xs rise d)).older ∙ h
+    by (x ∷ xs) e d = (subst (λ sources. SameSources sources (tree_at job.spec.segment (flushed_trees prefix name rows trees)) (tree_at job.spec.segment trees)) (sym e) (same_sources job.spec.segment prefix name rows trees x xs rise d)).older ∙ h
 
 -- ---- joins
 
-run_node : (p prefix : List ℕ) (name run : ℕ) (rows : List Row) (trees : Trees) → Rising trees → node_named (Run run) (tree_at p (flushed prefix name rows trees)) ≡ node_named (Run run) (tree_at p trees)
+run_node : (p prefix : List ℕ) (name run : ℕ) (rows : List Row) (trees : Trees) → Rising trees → node_named (Run run) (tree_at p (flushed_trees prefix name rows trees)) ≡ node_named (Run run) (tree_at p trees)
 run_node p prefix name run rows trees rise = ap (node_named (Run run)) (tree_flushed p prefix name rows trees rise) ∙ by (bytes_eq p prefix)
   where
     by : (b : Bool) → node_named (Run run) (cond b (new_node name ∷ tree_at p trees) (tree_at p trees)) ≡ node_named (Run run) (tree_at p trees)
@@ -68,7 +68,7 @@ run_node p prefix name run rows trees rise = ap (node_named (Run run)) (tree_flu
     by false = refl
 
 pub joined_flushed : (past : List Manifest) (new : Manifest) (prefix : List ℕ) (name : ℕ) (rows : List Row) (trees : Trees) (job : Job) → Rising trees → ((t : ℕ) → IsTrue (was_piece past t) → name ≡ t → ⊥)
-    → JoinStands past trees job → JoinStands (past ++ new ∷ []) (flushed prefix name rows trees) job
+    → JoinStands past trees job → JoinStands (past ++ new ∷ []) (flushed_trees prefix name rows trees) job
 joined_flushed past new prefix name rows trees job rise differs (Gone table there gone) = Gone table there (piece_stays past new table gone.0, not_in_flushed prefix name rows trees table (differs table gone.0) gone.1)
 joined_flushed past new prefix name rows trees job rise differs (NotEmpty run there other none some) =
     NotEmpty run there other none (rw (run_node job.spec.segment prefix name run rows trees rise) some)

@@ -10,7 +10,7 @@ use Rattle.fleet_model.specs.Nodes.{NodeName, L0, Run, name_eq, Tree, Segment, T
 use Rattle.fleet_model.specs.Jobs.{number_of, drawn_base, contains}
 use Rattle.fleet_model.specs.History.{Entry}
 use Rattle.fleet_model.specs.Handles.{tree_tables}
-use Rattle.fleet_model.specs.Trees.{flushed, flushed_on, empty_segment, source_nodes}
+use Rattle.fleet_model.specs.Trees.{flushed_trees, flushed_on, empty_segment, source_nodes}
 use Rattle.fleet_model.specs.Sources.{run_ids, all_run_ids, after_front, or_later, older_nodes}
 use Rattle.step_model.specs.Entries.{was_flushed, drawn_tables}
 use Rattle.step_model.specs.NamesKept.{DrawsKept}
@@ -37,7 +37,7 @@ known_differs jobs_drawn tables_drawn history name id draws low once (inl drawn)
     let number = small_number name low in
     let equal = ap number_of same in
     absurd (omega (arith, high, number, equal, low))
-known_differs jobs_drawn tables_drawn history name id draws low once (inr flushed) same = refused (was_flushed history name) once (subst (λ n. IsTrue (was_flushed history n)) (sym same) flushed)
+known_differs jobs_drawn tables_drawn history name id draws low once (inr flushed_trees) same = refused (was_flushed history name) once (subst (λ n. IsTrue (was_flushed history n)) (sym same) flushed_trees)
 
 -- A source that was flushed is not the new node.
 pub source_differs : (history : List Entry) (name : ℕ) (x : NodeName) → was_flushed history name ≡ false → IsFlushed history x → name_eq x (L0 name) ≡ false
@@ -48,10 +48,10 @@ source_differs history name (L0 flush) once h = by (name_eq (L0 flush) (L0 name)
     by true e = absurd (refused (was_flushed history name) once (subst (λ n. IsTrue (was_flushed history n)) ((Decides-eqb flush name).0 e) h))
     by false e = refl
 
--- No tree behind the flush holds a table that none held, but for the flush's own.
-pub not_in_flushed : (prefix : List ℕ) (name : ℕ) (rows : List Row) (trees : Trees) (t : ℕ) → (name ≡ t → ⊥) → contains (flat_map tree_tables trees) t ≡ false → contains (flat_map tree_tables (flushed prefix name rows trees)) t ≡ false
+-- No tree after the flush holds a table that none held, but for the flush's own.
+pub not_in_flushed : (prefix : List ℕ) (name : ℕ) (rows : List Row) (trees : Trees) (t : ℕ) → (name ≡ t → ⊥) → contains (flat_map tree_tables trees) t ≡ false → contains (flat_map tree_tables (flushed_trees prefix name rows trees)) t ≡ false
 not_in_flushed prefix name rows trees t differs none =
-    contains_no (flat_map tree_tables (flushed prefix name rows trees)) t (λ there. at (flushed prefix name rows trees) there
+    contains_no (flat_map tree_tables (flushed_trees prefix name rows trees)) t (λ there. at (flushed_trees prefix name rows trees) there
     (each_flushed (λ s. IsIn t (tree_tables s) → ⊥) (λ s. IsIn t (tree_tables s) → ⊥) prefix name rows trees (λ s there p. p) (λ s there same p one. grown s p one) (λ one. only one) (old trees (λ there. refused (contains (flat_map tree_tables trees) t) none (has (flat_map tree_tables trees) there)))))
   where
     has : (xs : List ℕ) → IsIn t xs → IsTrue (contains xs t)
@@ -72,7 +72,7 @@ not_in_flushed prefix name rows trees t differs none =
     at : (us : Trees) → IsIn t (flat_map tree_tables us) → AllByRecursion (λ s. IsIn t (tree_tables s) → ⊥) us → ⊥
     at us one k = all_at (λ n. n ≡ t → ⊥) (flat_map tree_tables us) t (all_flat _ tree_tables us (all_to _ _ us (λ s there p. all_from _ (tree_tables s) (λ n in_s same. p (subst (λ m. IsIn m (tree_tables s)) same in_s))) k)) one refl
 
--- ---- sources behind a flush
+-- ---- sources after a flush
 
 -- All sources are others than the new node.
 abbrev pub Differ : ℕ → List NodeName → Type 0
@@ -88,12 +88,12 @@ pieces_on name (x ∷ xs) tree h =
     let rest = pieces_on name xs tree h.1 in
     λ i. cons_option (first i) (rest i)
 
-pub runs_flushed : (prefix : List ℕ) (name : ℕ) (rows : List Row) (trees : Trees) → all_run_ids (flushed prefix name rows trees) ≡ all_run_ids trees
+pub runs_flushed : (prefix : List ℕ) (name : ℕ) (rows : List Row) (trees : Trees) → all_run_ids (flushed_trees prefix name rows trees) ≡ all_run_ids trees
 runs_flushed prefix name rows [] = refl
 runs_flushed prefix name rows (s ∷ trees) = by (bytes_eq prefix s.prefix) (is_lt (key_cmp prefix s.prefix)) (runs_flushed prefix name rows trees)
   where
-    by : (same below : Bool) → all_run_ids (flushed prefix name rows trees) ≡ all_run_ids trees
-        → all_run_ids (cond same (flushed_on name rows s ∷ trees) (cond below (flushed_on name rows (empty_segment prefix) ∷ s ∷ trees) (s ∷ flushed prefix name rows trees))) ≡ all_run_ids (s ∷ trees)
+    by : (same below : Bool) → all_run_ids (flushed_trees prefix name rows trees) ≡ all_run_ids trees
+        → all_run_ids (cond same (flushed_on name rows s ∷ trees) (cond below (flushed_on name rows (empty_segment prefix) ∷ s ∷ trees) (s ∷ flushed_trees prefix name rows trees))) ≡ all_run_ids (s ∷ trees)
     by true below rest = refl
     by false true rest = refl
     by false false rest = ap (λ ids. run_ids (names s.tree) ++ ids) rest
@@ -104,7 +104,7 @@ pub record SameSources (sources : List NodeName) (new old : Tree) : Type 0 where
   pub nodes : source_nodes sources new ≡ source_nodes sources old
   pub runs : run_ids (names new) ≡ run_ids (names old)
 
-pub same_sources : (p prefix : List ℕ) (name : ℕ) (rows : List Row) (trees : Trees) (x : NodeName) (xs : List NodeName) → Rising trees → Differ name (x ∷ xs) → SameSources (x ∷ xs) (tree_at p (flushed prefix name rows trees)) (tree_at p trees)
+pub same_sources : (p prefix : List ℕ) (name : ℕ) (rows : List Row) (trees : Trees) (x : NodeName) (xs : List NodeName) → Rising trees → Differ name (x ∷ xs) → SameSources (x ∷ xs) (tree_at p (flushed_trees prefix name rows trees)) (tree_at p trees)
 same_sources p prefix name rows trees x xs rise h = subst (λ tree. SameSources (x ∷ xs) tree (tree_at p trees)) (sym (tree_flushed p prefix name rows trees rise)) (by (bytes_eq p prefix))
   where
     by : (b : Bool) → SameSources (x ∷ xs) (cond b (new_node name ∷ tree_at p trees) (tree_at p trees)) (tree_at p trees)

@@ -1,4 +1,4 @@
--- Trees behind a flush: one tree has a node more in front, and all else stays.
+-- Trees after a flush: one tree has a node more in front, and all else stays.
 use Rattle.std.proofs.Common.{◌≡◌, refl, sym, ◌∙◌, ap, subst, ℕ, List, [], ◌∷◌, cond, Bool, true, false, inl, inr, Some, None}
 use Rattle.std.specs.Prelude.{bytes_eq, map}
 use Rattle.std.specs.Ordering.{is_lt, ordering_reverse}
@@ -12,7 +12,7 @@ use Rattle.row_model.specs.Lists.{Pairs}
 use Rattle.row_model.specs.Rows.{Row, key_cmp}
 use Rattle.row_laws.proofs.KeyRows.{exact, key_alike}
 use Rattle.fleet_model.specs.Nodes.{L0, Node, Segment, Trees, segment_at, tree_at, tree_or_empty}
-use Rattle.fleet_model.specs.Trees.{flushed, flushed_on, empty_segment}
+use Rattle.fleet_model.specs.Trees.{flushed_trees, flushed_on, empty_segment}
 use Rattle.fleet_model.specs.TreesFit.{RootIsFirst}
 use Rattle.step_laws.proofs.Elements.{IsIn, all_from, all_to}
 
@@ -56,7 +56,7 @@ above p q differs not_below = by (key_cmp p q) refl (nat_list_cmp_total.antisymm
 -- ---- each tree, and every two
 
 flush_on_each : (P Q : Segment → Type 0) (prefix : List ℕ) (name : ℕ) (rows : List Row) (trees : Trees) → ((s : Segment) → IsIn s trees → P s → Q s) → ((s : Segment) → IsIn s trees → prefix ≡ s.prefix → P s → Q (flushed_on name rows s))
-    → Q (flushed_on name rows (empty_segment prefix)) → AllByRecursion P trees → AllByRecursion Q (flushed prefix name rows trees)
+    → Q (flushed_on name rows (empty_segment prefix)) → AllByRecursion P trees → AllByRecursion Q (flushed_trees prefix name rows trees)
 flush_on_each P Q prefix name rows [] keep grow new h = (new, tt)
 flush_on_each P Q prefix name rows (s ∷ trees) keep grow new h =
     by (bytes_eq prefix s.prefix) refl (is_lt (key_cmp prefix s.prefix)) (flush_on_each P Q prefix name rows trees (λ t there. keep t (inr there)) (λ t there. grow t (inr there)) new h.1)
@@ -64,14 +64,14 @@ flush_on_each P Q prefix name rows (s ∷ trees) keep grow new h =
     rest : AllByRecursion Q trees
     rest = all_to P Q trees (λ t there p. keep t (inr there) p) h.1
 
-    by : (same : Bool) → bytes_eq prefix s.prefix ≡ same → (below : Bool) → AllByRecursion Q (flushed prefix name rows trees)
-        → AllByRecursion Q (cond same (flushed_on name rows s ∷ trees) (cond below (flushed_on name rows (empty_segment prefix) ∷ s ∷ trees) (s ∷ flushed prefix name rows trees)))
+    by : (same : Bool) → bytes_eq prefix s.prefix ≡ same → (below : Bool) → AllByRecursion Q (flushed_trees prefix name rows trees)
+        → AllByRecursion Q (cond same (flushed_on name rows s ∷ trees) (cond below (flushed_on name rows (empty_segment prefix) ∷ s ∷ trees) (s ∷ flushed_trees prefix name rows trees)))
     by true e below further = (grow s (inl refl) ((bytes_eq-Decides prefix s.prefix).0 e) h.0, rest)
     by false e true further = (new, (keep s (inl refl) h.0, rest))
     by false e false further = (keep s (inl refl) h.0, further)
 
 pub each_flushed : (P Q : Segment → Type 0) (prefix : List ℕ) (name : ℕ) (rows : List Row) (trees : Trees) → ((s : Segment) → IsIn s trees → P s → Q s) → ((s : Segment) → IsIn s trees → prefix ≡ s.prefix → P s → Q (flushed_on name rows s))
-    → Q (flushed_on name rows (empty_segment prefix)) → AllByRecursion P trees → AllByRecursion Q (flushed prefix name rows trees)
+    → Q (flushed_on name rows (empty_segment prefix)) → AllByRecursion P trees → AllByRecursion Q (flushed_trees prefix name rows trees)
 each_flushed P Q prefix name rows trees keep grow new h = flush_on_each P Q prefix name rows trees keep grow new h
 
 -- How a relation between every two segments goes over.
@@ -87,28 +87,28 @@ tail_over R prefix name rows s trees g = record {
   new = λ b there. g.new b (inr there);
 }
 
-pub pairs_flushed : (R : Segment → Segment → Type 0) (prefix : List ℕ) (name : ℕ) (rows : List Row) (trees : Trees) → GoesOver R prefix name rows trees → Pairs R trees → Pairs R (flushed prefix name rows trees)
+pub pairs_flushed : (R : Segment → Segment → Type 0) (prefix : List ℕ) (name : ℕ) (rows : List Row) (trees : Trees) → GoesOver R prefix name rows trees → Pairs R trees → Pairs R (flushed_trees prefix name rows trees)
 pairs_flushed R prefix name rows [] g h = (tt, tt)
 pairs_flushed R prefix name rows (s ∷ trees) g h =
     by (bytes_eq prefix s.prefix) (is_lt (key_cmp prefix s.prefix)) (pairs_flushed R prefix name rows trees (tail_over R prefix name rows s trees g) h.1)
   where
-    by : (same below : Bool) → Pairs R (flushed prefix name rows trees)
-        → Pairs R (cond same (flushed_on name rows s ∷ trees) (cond below (flushed_on name rows (empty_segment prefix) ∷ s ∷ trees) (s ∷ flushed prefix name rows trees)))
+    by : (same below : Bool) → Pairs R (flushed_trees prefix name rows trees)
+        → Pairs R (cond same (flushed_on name rows s ∷ trees) (cond below (flushed_on name rows (empty_segment prefix) ∷ s ∷ trees) (s ∷ flushed_trees prefix name rows trees)))
     by true below further = (all_to _ _ trees (λ b there r. g.first s b (inl refl) (inr there) r) h.0, h.1)
     by false true further = (all_from _ (s ∷ trees) (λ b there. (g.new b there).0), h)
     by false false further = (each_flushed (R s) (R s) prefix name rows trees (λ b there r. r) (λ b there same r. g.second s b (inl refl) (inr there) r) (g.new s (inl refl)).1 h.0, further)
 
--- ---- prefixes behind a flush
+-- ---- prefixes after a flush
 
-less_on : (k prefix : List ℕ) (name : ℕ) (rows : List Row) (trees : Trees) → key_cmp k prefix ≡ Less → AllByRecursion (λ s. key_cmp k s.prefix ≡ Less) trees → AllByRecursion (λ s. key_cmp k s.prefix ≡ Less) (flushed prefix name rows trees)
+less_on : (k prefix : List ℕ) (name : ℕ) (rows : List Row) (trees : Trees) → key_cmp k prefix ≡ Less → AllByRecursion (λ s. key_cmp k s.prefix ≡ Less) trees → AllByRecursion (λ s. key_cmp k s.prefix ≡ Less) (flushed_trees prefix name rows trees)
 less_on k prefix name rows trees low h = each_flushed (λ s. key_cmp k s.prefix ≡ Less) (λ s. key_cmp k s.prefix ≡ Less) prefix name rows trees (λ s there p. p) (λ s there same p. p) low h
 
-pub rising_flushed : (prefix : List ℕ) (name : ℕ) (rows : List Row) (trees : Trees) → Rising trees → Rising (flushed prefix name rows trees)
+pub rising_flushed : (prefix : List ℕ) (name : ℕ) (rows : List Row) (trees : Trees) → Rising trees → Rising (flushed_trees prefix name rows trees)
 rising_flushed prefix name rows [] h = (tt, tt)
 rising_flushed prefix name rows (s ∷ trees) h = by (bytes_eq prefix s.prefix) refl (is_lt (key_cmp prefix s.prefix)) refl (rising_flushed prefix name rows trees h.1)
   where
-    by : (same : Bool) → bytes_eq prefix s.prefix ≡ same → (below : Bool) → is_lt (key_cmp prefix s.prefix) ≡ below → Rising (flushed prefix name rows trees)
-        → Rising (cond same (flushed_on name rows s ∷ trees) (cond below (flushed_on name rows (empty_segment prefix) ∷ s ∷ trees) (s ∷ flushed prefix name rows trees)))
+    by : (same : Bool) → bytes_eq prefix s.prefix ≡ same → (below : Bool) → is_lt (key_cmp prefix s.prefix) ≡ below → Rising (flushed_trees prefix name rows trees)
+        → Rising (cond same (flushed_on name rows s ∷ trees) (cond below (flushed_on name rows (empty_segment prefix) ∷ s ∷ trees) (s ∷ flushed_trees prefix name rows trees)))
     by true e below f rest = (h.0, h.1)
     by false e true f rest = let low = lt_less (key_cmp prefix s.prefix) f in ((low, all_to _ _ trees (λ t there p. nat_list_cmp_total.trans prefix s.prefix t.prefix low p) h.0), h)
     by false e false f rest = (less_on s.prefix prefix name rows trees (above prefix s.prefix e f) h.0, rest)
@@ -117,16 +117,16 @@ not_below_empty : (p : List ℕ) → is_lt (key_cmp p []) ≡ false
 not_below_empty [] = refl
 not_below_empty (x ∷ p) = refl
 
-pub root_flushed : (prefix : List ℕ) (name : ℕ) (rows : List Row) (trees : Trees) → RootIsFirst trees → RootIsFirst (flushed prefix name rows trees)
+pub root_flushed : (prefix : List ℕ) (name : ℕ) (rows : List Row) (trees : Trees) → RootIsFirst trees → RootIsFirst (flushed_trees prefix name rows trees)
 root_flushed prefix name rows [] h = absurd h
 root_flushed prefix name rows (s ∷ trees) h = by (bytes_eq prefix s.prefix) (is_lt (key_cmp prefix s.prefix)) (ap (λ q. is_lt (key_cmp prefix q)) h ∙ not_below_empty prefix)
   where
-    by : (same below : Bool) → below ≡ false → RootIsFirst (cond same (flushed_on name rows s ∷ trees) (cond below (flushed_on name rows (empty_segment prefix) ∷ s ∷ trees) (s ∷ flushed prefix name rows trees)))
+    by : (same below : Bool) → below ≡ false → RootIsFirst (cond same (flushed_on name rows s ∷ trees) (cond below (flushed_on name rows (empty_segment prefix) ∷ s ∷ trees) (s ∷ flushed_trees prefix name rows trees)))
     by true below e = h
     by false true e = absurd (cc e)
     by false false e = h
 
--- ---- the tree of a segment behind a flush
+-- ---- the tree of a segment after a flush
 
 abbrev pub new_node : ℕ → Node
 new_node name = record { name = L0 name; flushes = name ∷ []; pieces = name ∷ [] }
@@ -142,7 +142,7 @@ none_above p (s ∷ trees) h = by (bytes_eq p s.prefix) refl (none_above p trees
         clash a b = absurd (cc (a, b))
     by false e rest = rest
 
-pub tree_flushed : (p prefix : List ℕ) (name : ℕ) (rows : List Row) (trees : Trees) → Rising trees → tree_at p (flushed prefix name rows trees) ≡ cond (bytes_eq p prefix) (new_node name ∷ tree_at p trees) (tree_at p trees)
+pub tree_flushed : (p prefix : List ℕ) (name : ℕ) (rows : List Row) (trees : Trees) → Rising trees → tree_at p (flushed_trees prefix name rows trees) ≡ cond (bytes_eq p prefix) (new_node name ∷ tree_at p trees) (tree_at p trees)
 tree_flushed p prefix name rows [] h = by (bytes_eq p prefix)
   where
     by : (b : Bool) → tree_or_empty (cond b (Some (flushed_on name rows (empty_segment prefix))) None) ≡ cond b (new_node name ∷ []) []
@@ -162,17 +162,17 @@ tree_flushed p prefix name rows (s ∷ trees) h = by (bytes_eq prefix s.prefix) 
         ap (λ o. new_node name ∷ tree_or_empty o) (sym (ap (λ q. segment_at q (s ∷ trees)) same ∙ none))
     front low false e = refl
 
-    behind : bytes_eq prefix s.prefix ≡ false → (b : Bool) → bytes_eq p s.prefix ≡ b → tree_at p (flushed prefix name rows trees) ≡ cond (bytes_eq p prefix) (new_node name ∷ tree_at p trees) (tree_at p trees)
-        → tree_or_empty (cond b (Some s) (segment_at p (flushed prefix name rows trees))) ≡ cond (bytes_eq p prefix) (new_node name ∷ tree_or_empty (cond b (Some s) (segment_at p trees))) (tree_or_empty (cond b (Some s) (segment_at p trees)))
-    behind differs true e rest = sym (ap (λ c. cond c (new_node name ∷ s.tree) s.tree) (apart (bytes_eq p prefix) refl))
+    after : bytes_eq prefix s.prefix ≡ false → (b : Bool) → bytes_eq p s.prefix ≡ b → tree_at p (flushed_trees prefix name rows trees) ≡ cond (bytes_eq p prefix) (new_node name ∷ tree_at p trees) (tree_at p trees)
+        → tree_or_empty (cond b (Some s) (segment_at p (flushed_trees prefix name rows trees))) ≡ cond (bytes_eq p prefix) (new_node name ∷ tree_or_empty (cond b (Some s) (segment_at p trees))) (tree_or_empty (cond b (Some s) (segment_at p trees)))
+    after differs true e rest = sym (ap (λ c. cond c (new_node name ∷ s.tree) s.tree) (apart (bytes_eq p prefix) refl))
       where
         apart : (c : Bool) → bytes_eq p prefix ≡ c → c ≡ false
         apart true f = absurd (cc (differs, (bytes_eq-Decides prefix s.prefix).1 (sym ((bytes_eq-Decides p prefix).0 f) ∙ (bytes_eq-Decides p s.prefix).0 e)))
         apart false f = refl
-    behind differs false e rest = rest
+    after differs false e rest = rest
 
-    by : (same : Bool) → bytes_eq prefix s.prefix ≡ same → (below : Bool) → is_lt (key_cmp prefix s.prefix) ≡ below → tree_at p (flushed prefix name rows trees) ≡ cond (bytes_eq p prefix) (new_node name ∷ tree_at p trees) (tree_at p trees)
-        → tree_at p (cond same (flushed_on name rows s ∷ trees) (cond below (flushed_on name rows (empty_segment prefix) ∷ s ∷ trees) (s ∷ flushed prefix name rows trees))) ≡ cond (bytes_eq p prefix) (new_node name ∷ tree_at p (s ∷ trees)) (tree_at p (s ∷ trees))
+    by : (same : Bool) → bytes_eq prefix s.prefix ≡ same → (below : Bool) → is_lt (key_cmp prefix s.prefix) ≡ below → tree_at p (flushed_trees prefix name rows trees) ≡ cond (bytes_eq p prefix) (new_node name ∷ tree_at p trees) (tree_at p trees)
+        → tree_at p (cond same (flushed_on name rows s ∷ trees) (cond below (flushed_on name rows (empty_segment prefix) ∷ s ∷ trees) (s ∷ flushed_trees prefix name rows trees))) ≡ cond (bytes_eq p prefix) (new_node name ∷ tree_at p (s ∷ trees)) (tree_at p (s ∷ trees))
     by true e below f rest = here ((bytes_eq-Decides prefix s.prefix).0 e) (bytes_eq p s.prefix) refl
     by false e true f rest = front (lt_less (key_cmp prefix s.prefix) f) (bytes_eq p prefix) refl
-    by false e false f rest = behind e (bytes_eq p s.prefix) refl rest
+    by false e false f rest = after e (bytes_eq p s.prefix) refl rest

@@ -10,13 +10,13 @@ use Rattle.fleet_model.specs.Jobs.{JobSpec, Job, contains}
 use Rattle.fleet_model.specs.History.{Party, PutManifest, Flush, Answer, Entry, stood}
 use Rattle.fleet_model.specs.Store.{Manifest, is_held, AreHeld, WerePut}
 use Rattle.fleet_model.specs.Handles.{tree_tables, job_tables}
-use Rattle.fleet_model.specs.Trees.{flushed, flushed_on, empty_segment}
+use Rattle.fleet_model.specs.Trees.{flushed_trees, flushed_on, empty_segment}
 use Rattle.fleet_model.specs.Tracker.{Tracked, tracked_after, least_seq_of}
 use Rattle.fleet_model.specs.TreesFit.{IsTable, IsTree, NoneShared}
 use Rattle.fleet_model.specs.JobsFit.{SourcesStand}
 use Rattle.fleet_model.specs.ReadsFit.{TreeKeepsReads}
-use Rattle.step_model.specs.Past.{Told}
-use Rattle.step_model.specs.Entries.{was_flushed, flushes, epoch_in}
+use Rattle.step_model.specs.Past.{World}
+use Rattle.step_model.specs.Entries.{was_flushed, is_flush_of, epoch_in}
 use Rattle.step_model.specs.LawfulManifests.{IsAbove}
 use Rattle.step_model.specs.LawfulTables.{was_piece}
 use Rattle.step_model.specs.TablesKept.{IsKnownPiece, IsFlush, IsPassed, AreApart}
@@ -112,62 +112,62 @@ none_shared_empty (x ∷ xs) = none_shared_empty xs
 -- ---- the law
 
 -- What the flush brings, out of what is kept and asked.
-pub record FlushCase (merge : Operator) (told : Told) (specs : ℕ → JobSpec) (name : ℕ) (segment : List ℕ) (floor : ℕ) (tick : ℤ) : Type 0 where
-  pub body : Body merge told specs
-  pub put : IsTrue (is_among told.store.tables name)
-  pub held : IsTrue (is_held told.store name)
-  pub once : was_flushed told.store.history name ≡ false
-  pub differs : (id : ℕ) → IsKnownPiece told.store.history id → name ≡ id → ⊥
-  pub newer : AllByRecursion (λ r. IsAbove (last_seq_of (segment_at segment told.store.manifest.trees)) r.seq) (table_rows told.store.tables name)
-  pub floor_stays : told.store.manifest.floor ≤ floor
-  pub tick_stays : IsTrue (int_le told.store.manifest.tick tick)
+pub record FlushCase (merge : Operator) (world : World) (specs : ℕ → JobSpec) (name : ℕ) (segment : List ℕ) (floor : ℕ) (tick : ℤ) : Type 0 where
+  pub body : Body merge world specs
+  pub put : IsTrue (is_among world.store.tables name)
+  pub held : IsTrue (is_held world.store name)
+  pub once : was_flushed world.store.history name ≡ false
+  pub differs : (id : ℕ) → IsKnownPiece world.store.history id → name ≡ id → ⊥
+  pub newer : AllByRecursion (λ r. IsAbove (last_seq_of (segment_at segment world.store.manifest.trees)) r.seq) (table_rows world.store.tables name)
+  pub floor_stays : world.store.manifest.floor ≤ floor
+  pub tick_stays : IsTrue (int_le world.store.manifest.tick tick)
 
 -- A table that a node holds or held is known.
-piece_known : (merge : Operator) (told : Told) (specs : ℕ → JobSpec) (t : ℕ) → Body merge told specs → IsTrue (was_piece told.past t) → IsKnownPiece told.store.history t
-piece_known merge told specs t b was =
-    let found = any_element (λ (m : Manifest). contains (flat_map tree_tables m.trees) t) told.past was in
-    all_at _ (flat_map tree_tables found.element.trees) t (all_at (λ (m : Manifest). AllByRecursion (IsKnownPiece told.store.history) (flat_map tree_tables m.trees)) told.past found.element b.nodes.pieces found.there) (contains_in _ t found.passes)
+piece_known : (merge : Operator) (world : World) (specs : ℕ → JobSpec) (t : ℕ) → Body merge world specs → IsTrue (was_piece world.past t) → IsKnownPiece world.store.history t
+piece_known merge world specs t b was =
+    let found = any_element (λ (m : Manifest). contains (flat_map tree_tables m.trees) t) world.past was in
+    all_at _ (flat_map tree_tables found.element.trees) t (all_at (λ (m : Manifest). AllByRecursion (IsKnownPiece world.store.history) (flat_map tree_tables m.trees)) world.past found.element b.nodes.pieces found.there) (contains_in _ t found.passes)
 
 -- The sources of a job that stand in their tree are others than the new node.
-differ_on : (merge : Operator) (told : Told) (specs : ℕ → JobSpec) (name : ℕ) (segment : List ℕ) (floor : ℕ) (tick : ℤ) (job : Job) → FlushCase merge told specs name segment floor tick → SourcesStand told.store.manifest.trees job → Differ name job.spec.sources
-differ_on merge told specs name segment floor tick job c stand = all_to _ _ job.spec.sources (λ x there named. source_differs told.store.history name x c.once
-    (node_flushed told.store.history (tree_at job.spec.segment told.store.manifest.trees) x
-    (tree_has (λ tree. AllByRecursion (λ node. IsFlush told.store.history node node.name) tree) job.spec.segment told.store.manifest.trees tt c.body.nodes.flushes) named))
-    (stretch_in (tree_at job.spec.segment told.store.manifest.trees) job.spec.sources stand.stretch)
+differ_on : (merge : Operator) (world : World) (specs : ℕ → JobSpec) (name : ℕ) (segment : List ℕ) (floor : ℕ) (tick : ℤ) (job : Job) → FlushCase merge world specs name segment floor tick → SourcesStand world.store.manifest.trees job → Differ name job.spec.sources
+differ_on merge world specs name segment floor tick job c stand = all_to _ _ job.spec.sources (λ x there named. source_differs world.store.history name x c.once
+    (node_flushed world.store.history (tree_at job.spec.segment world.store.manifest.trees) x
+    (tree_has (λ tree. AllByRecursion (λ node. IsFlush world.store.history node node.name) tree) job.spec.segment world.store.manifest.trees tt c.body.nodes.flushes) named))
+    (stretch_in (tree_at job.spec.segment world.store.manifest.trees) job.spec.sources stand.stretch)
 
--- The manifest behind a flush.
-abbrev pub flush_manifest : Told → ℕ → List ℕ → ℕ → ℤ → List Tracked → Manifest
-flush_manifest told name segment floor tick tracker = record told.store.manifest {
-  version = told.store.manifest.version + 1;
-  trees = flushed segment name (table_rows told.store.tables name) told.store.manifest.trees;
+-- The manifest after a flush.
+abbrev pub flush_manifest : World → ℕ → List ℕ → ℕ → ℤ → List Tracked → Manifest
+flush_manifest world name segment floor tick tracker = record world.store.manifest {
+  version = world.store.manifest.version + 1;
+  trees = flushed_trees segment name (table_rows world.store.tables name) world.store.manifest.trees;
   floor = floor;
   tick = tick;
   tracker = tracker;
 }
 
-job_follows : (merge : Operator) (told : Told) (specs : ℕ → JobSpec) (name : ℕ) (segment : List ℕ) (floor : ℕ) (tick : ℤ) (tracker : List Tracked) (job : Job) → FlushCase merge told specs name segment floor tick
-    → JobKept merge told specs job → JobFollows told (flush_manifest told name segment floor tick tracker) job
-job_follows merge told specs name segment floor tick tracker job c kept =
-    let trees = told.store.manifest.trees in
+job_follows : (merge : Operator) (world : World) (specs : ℕ → JobSpec) (name : ℕ) (segment : List ℕ) (floor : ℕ) (tick : ℤ) (tracker : List Tracked) (job : Job) → FlushCase merge world specs name segment floor tick
+    → JobKept merge world specs job → JobFollows world (flush_manifest world name segment floor tick tracker) job
+job_follows merge world specs name segment floor tick tracker job c kept =
+    let trees = world.store.manifest.trees in
     let rise = rising_from trees c.body.sound.prefixes in
     record {
-      stand = λ stand. stand_on segment name (table_rows told.store.tables name) trees job rise (differ_on merge told specs name segment floor tick job c stand) stand;
+      stand = λ stand. stand_on segment name (table_rows world.store.tables name) trees job rise (differ_on merge world specs name segment floor tick job c stand) stand;
       fit = λ settings holds stand fit. record {
         floor = let low = fit.floor in let stays = c.floor_stays in omega (arith, low, stays);
         cut = fit.cut;
-        tick = int_le_trans settings.tick told.store.manifest.tick tick fit.tick c.tick_stays;
-        last_run = λ is. oldest_on segment name (table_rows told.store.tables name) trees job rise (differ_on merge told specs name segment floor tick job c stand) stand.some (fit.last_run is);
+        tick = int_le_trans settings.tick world.store.manifest.tick tick fit.tick c.tick_stays;
+        last_run = λ is. oldest_on segment name (table_rows world.store.tables name) trees job rise (differ_on merge world specs name segment floor tick job c stand) stand.some (fit.last_run is);
       };
       floor = c.floor_stays;
-      unused = λ table none active in_job. no_new_piece told.past (flush_manifest told name segment floor tick tracker) table
-          (not_in_flushed segment name (table_rows told.store.tables name) trees table (c.differs table (inl (all_at _ (job_tables job) table (kept.facts.drawn active) in_job))) (not_stored told.store.manifest told.past table c.body.past none)) none;
-      joined = λ stand. joined_flushed told.past (flush_manifest told name segment floor tick tracker) segment name (table_rows told.store.tables name) trees job rise (λ t was. c.differs t (piece_known merge told specs t c.body was)) stand;
+      unused = λ table none active in_job. no_new_piece world.past (flush_manifest world name segment floor tick tracker) table
+          (not_in_flushed segment name (table_rows world.store.tables name) trees table (c.differs table (inl (all_at _ (job_tables job) table (kept.facts.drawn active) in_job))) (not_stored world.store.manifest world.past table c.body.past none)) none;
+      joined = λ stand. joined_flushed world.past (flush_manifest world name segment floor tick tracker) segment name (table_rows world.store.tables name) trees job rise (λ t was. c.differs t (piece_known merge world specs t c.body was)) stand;
     }
 
 -- ---- the trees
 
 -- What is so of each node stays so, and is so of the new node.
-nodes_flushed : (P : Node → Type 0) (segment : List ℕ) (name : ℕ) (rows : List Row) (trees : Trees) → P (new_node name) → AllByRecursion (λ s. AllByRecursion P s.tree) trees → AllByRecursion (λ s. AllByRecursion P s.tree) (flushed segment name rows trees)
+nodes_flushed : (P : Node → Type 0) (segment : List ℕ) (name : ℕ) (rows : List Row) (trees : Trees) → P (new_node name) → AllByRecursion (λ s. AllByRecursion P s.tree) trees → AllByRecursion (λ s. AllByRecursion P s.tree) (flushed_trees segment name rows trees)
 nodes_flushed P segment name rows trees new h = each_flushed (λ s. AllByRecursion P s.tree) (λ s. AllByRecursion P s.tree) segment name rows trees (λ s there p. p) (λ s there same p. (new, p)) (new, tt) h
 
 passed_on : (history : List Entry) (name : ℕ) (ns : List NodeName) (mark : Option ℕ) (entry : Entry) → was_flushed history name ≡ false → IsPassed history ns mark → IsPassed (history ++ entry ∷ []) (L0 name ∷ ns) mark
@@ -201,95 +201,95 @@ tables_none [] = refl
 tables_none (x ∷ a) = tables_none a
 
 -- No stored tree holds the new table.
-not_held : (merge : Operator) (told : Told) (specs : ℕ → JobSpec) (name : ℕ) (segment : List ℕ) (floor : ℕ) (tick : ℤ) (s : Segment) → FlushCase merge told specs name segment floor tick → IsIn s told.store.manifest.trees → IsIn name (tree_tables s) → ⊥
-not_held merge told specs name segment floor tick s c there held =
-    c.differs name (all_at _ (flat_map tree_tables told.store.manifest.trees) name
-    (all_at (λ (m : Manifest). AllByRecursion (IsKnownPiece told.store.history) (flat_map tree_tables m.trees)) told.past told.store.manifest c.body.nodes.pieces (stored_in_past told.store.manifest told.past c.body.past))
-    (in_flat tree_tables told.store.manifest.trees s name there held)) refl
+not_held : (merge : Operator) (world : World) (specs : ℕ → JobSpec) (name : ℕ) (segment : List ℕ) (floor : ℕ) (tick : ℤ) (s : Segment) → FlushCase merge world specs name segment floor tick → IsIn s world.store.manifest.trees → IsIn name (tree_tables s) → ⊥
+not_held merge world specs name segment floor tick s c there held =
+    c.differs name (all_at _ (flat_map tree_tables world.store.manifest.trees) name
+    (all_at (λ (m : Manifest). AllByRecursion (IsKnownPiece world.store.history) (flat_map tree_tables m.trees)) world.past world.store.manifest c.body.nodes.pieces (stored_in_past world.store.manifest world.past c.body.past))
+    (in_flat tree_tables world.store.manifest.trees s name there held)) refl
 
-flush_follows : (merge : Operator) (told : Told) (specs : ℕ → JobSpec) (name : ℕ) (segment : List ℕ) (floor : ℕ) (tick : ℤ) (tracker : List Tracked) (line : ℕ) (party : Party) (answer : Answer) → stood answer ≡ true → FlushCase merge told specs name segment floor tick
-    → Follows merge told specs (flush_manifest told name segment floor tick tracker) (record { line = line; party = party; event = PutManifest (Flush name segment floor tick); answer = answer })
-flush_follows merge told specs name segment floor tick tracker line party answer took c =
+flush_follows : (merge : Operator) (world : World) (specs : ℕ → JobSpec) (name : ℕ) (segment : List ℕ) (floor : ℕ) (tick : ℤ) (tracker : List Tracked) (line : ℕ) (party : Party) (answer : Answer) → stood answer ≡ true → FlushCase merge world specs name segment floor tick
+    → Follows merge world specs (flush_manifest world name segment floor tick tracker) (record { line = line; party = party; event = PutManifest (Flush name segment floor tick); answer = answer })
+flush_follows merge world specs name segment floor tick tracker line party answer took c =
     let entry : Entry = record { line = line; party = party; event = PutManifest (Flush name segment floor tick); answer = answer } in
     let b = c.body in
-    let trees = told.store.manifest.trees in
-    let rows = table_rows told.store.tables name in
-    let manifest = flush_manifest told name segment floor tick tracker in
+    let trees = world.store.manifest.trees in
+    let rows = table_rows world.store.tables name in
+    let manifest = flush_manifest world name segment floor tick tracker in
     let rise = rising_from trees b.sound.prefixes in
-    let table = table_of told.store.tables name b.sound.tables c.put in
-    let flushed_now : IsTrue (was_flushed (told.store.history ++ entry ∷ []) name) = any_push_yes (λ (e : Entry). flushes name e.event && stood e.answer) told.store.history entry (rw (is_itself name, took) refl) in
-    let grown = pieces_grow told.store.history entry told.past trees b.nodes in
+    let table = table_of world.store.tables name b.sound.tables c.put in
+    let flushed_now : IsTrue (was_flushed (world.store.history ++ entry ∷ []) name) = any_push_yes (λ (e : Entry). is_flush_of name e.event && stood e.answer) world.store.history entry (rw (is_itself name, took) refl) in
+    let grown = pieces_grow world.store.history entry world.past trees b.nodes in
     record {
       next = refl;
       objects = rw took refl;
       root = root_flushed segment name rows trees b.sound.root;
-      prefixes = rising_to (flushed segment name rows trees) (rising_flushed segment name rows trees rise);
+      prefixes = rising_to (flushed_trees segment name rows trees) (rising_flushed segment name rows trees rise);
       trees = record {
-        each = each_flushed (IsTree told.store.tables) (IsTree told.store.tables) segment name rows trees (λ s there tree. tree)
-            (λ s there same tree. tree_on told.store.tables name s (subst (λ o. AllByRecursion (λ (r : Row). IsAbove (last_seq_of o) r.seq) rows) (found_segment segment trees s rise there same) c.newer) table.ordered tree)
-            (tree_on told.store.tables name (empty_segment segment) (all_from _ rows (λ r there. tt)) table.ordered (record { names_in_order = tt; newest_first = tt; at_most_last = tt; ordered = tt })) b.trees.each;
+        each = each_flushed (IsTree world.store.tables) (IsTree world.store.tables) segment name rows trees (λ s there tree. tree)
+            (λ s there same tree. tree_on world.store.tables name s (subst (λ o. AllByRecursion (λ (r : Row). IsAbove (last_seq_of o) r.seq) rows) (found_segment segment trees s rise there same) c.newer) table.ordered tree)
+            (tree_on world.store.tables name (empty_segment segment) (all_from _ rows (λ r there. tt)) table.ordered (record { names_in_order = tt; newest_first = tt; at_most_last = tt; ordered = tt })) b.trees.each;
         apart = pairs_flushed NoneShared segment name rows trees (record {
-          first = λ x y one other shared. shared_first x y name rows (no_name told.store.history name y.tree c.once (all_at _ trees y b.nodes.flushes other)) shared;
-          second = λ x y one other shared. shared_second x y name rows (no_name told.store.history name x.tree c.once (all_at _ trees x b.nodes.flushes one)) shared;
+          first = λ x y one other shared. shared_first x y name rows (no_name world.store.history name y.tree c.once (all_at _ trees y b.nodes.flushes other)) shared;
+          second = λ x y one other shared. shared_second x y name rows (no_name world.store.history name x.tree c.once (all_at _ trees x b.nodes.flushes one)) shared;
           new = λ y there. (
-            shared_first (empty_segment segment) y name rows (no_name told.store.history name y.tree c.once (all_at _ trees y b.nodes.flushes there)) refl,
-            shared_second y (empty_segment segment) name rows (no_name told.store.history name y.tree c.once (all_at _ trees y b.nodes.flushes there)) (none_shared_empty (names y.tree)),
+            shared_first (empty_segment segment) y name rows (no_name world.store.history name y.tree c.once (all_at _ trees y b.nodes.flushes there)) refl,
+            shared_second y (empty_segment segment) name rows (no_name world.store.history name y.tree c.once (all_at _ trees y b.nodes.flushes there)) (none_shared_empty (names y.tree)),
           );
         }) b.trees.apart;
-        epochs = epoch_rises told.store.manifest told.store.records manifest (omega arith) b.trees.epochs;
+        epochs = epoch_rises world.store.manifest world.store.records manifest (omega arith) b.trees.epochs;
       };
-      pieces = nodes_flushed (λ node. AreHeld told.store node.pieces) segment name rows trees (rw c.held refl) b.pieces;
-      flushes = nodes_flushed (λ node. WerePut told.store node.flushes) segment name rows trees (rw c.put refl) b.flushes;
-      reads = each_flushed (λ s. TreeKeepsReads merge told.store s.tree) (λ s. TreeKeepsReads merge (record told.store { manifest = manifest }) s.tree) segment name rows trees
-          (λ s there reads. reads_fewer merge told.store manifest s.tree refl c.tick_stays reads)
-          (λ s there same reads. reads_new merge (record told.store { manifest = manifest }) name s.tree (reads_fewer merge told.store manifest s.tree refl c.tick_stays reads))
-          (reads_new merge (record told.store { manifest = manifest }) name [] tt) b.reads;
+      pieces = nodes_flushed (λ node. AreHeld world.store node.pieces) segment name rows trees (rw c.held refl) b.pieces;
+      flushes = nodes_flushed (λ node. WerePut world.store node.flushes) segment name rows trees (rw c.put refl) b.flushes;
+      reads = each_flushed (λ s. TreeKeepsReads merge world.store s.tree) (λ s. TreeKeepsReads merge (record world.store { manifest = manifest }) s.tree) segment name rows trees
+          (λ s there reads. reads_fewer merge world.store manifest s.tree refl c.tick_stays reads)
+          (λ s there same reads. reads_new merge (record world.store { manifest = manifest }) name s.tree (reads_fewer merge world.store manifest s.tree refl c.tick_stays reads))
+          (reads_new merge (record world.store { manifest = manifest }) name [] tt) b.reads;
       nodes = record {
-        pieces = all_push _ told.past manifest grown.pieces (all_flat _ tree_tables (flushed segment name rows trees)
-            (each_flushed (λ s. AllByRecursion (IsKnownPiece (told.store.history ++ entry ∷ [])) (tree_tables s)) (λ s. AllByRecursion (IsKnownPiece (told.store.history ++ entry ∷ [])) (tree_tables s)) segment name rows trees
+        pieces = all_push _ world.past manifest grown.pieces (all_flat _ tree_tables (flushed_trees segment name rows trees)
+            (each_flushed (λ s. AllByRecursion (IsKnownPiece (world.store.history ++ entry ∷ [])) (tree_tables s)) (λ s. AllByRecursion (IsKnownPiece (world.store.history ++ entry ∷ [])) (tree_tables s)) segment name rows trees
             (λ s there known. known) (λ s there same known. (inr flushed_now, known)) (inr flushed_now, tt)
-            (all_unflat _ tree_tables trees (all_at (λ (m : Manifest). AllByRecursion (IsKnownPiece (told.store.history ++ entry ∷ [])) (flat_map tree_tables m.trees)) told.past told.store.manifest grown.pieces (stored_in_past told.store.manifest told.past b.past)))));
-        flushes = nodes_flushed (λ node. IsFlush (told.store.history ++ entry ∷ []) node node.name) segment name rows trees (flushed_now, refl, refl) grown.flushes;
-        watermarks = each_flushed (λ s. IsPassed told.store.history (names s.tree) s.watermark) (λ s. IsPassed (told.store.history ++ entry ∷ []) (names s.tree) s.watermark) segment name rows trees
-            (λ s there passed. passed_stays told.store.history (names s.tree) s.watermark entry passed) (λ s there same passed. passed_on told.store.history name (names s.tree) s.watermark entry c.once passed) tt b.nodes.watermarks;
+            (all_unflat _ tree_tables trees (all_at (λ (m : Manifest). AllByRecursion (IsKnownPiece (world.store.history ++ entry ∷ [])) (flat_map tree_tables m.trees)) world.past world.store.manifest grown.pieces (stored_in_past world.store.manifest world.past b.past)))));
+        flushes = nodes_flushed (λ node. IsFlush (world.store.history ++ entry ∷ []) node node.name) segment name rows trees (flushed_now, refl, refl) grown.flushes;
+        watermarks = each_flushed (λ s. IsPassed world.store.history (names s.tree) s.watermark) (λ s. IsPassed (world.store.history ++ entry ∷ []) (names s.tree) s.watermark) segment name rows trees
+            (λ s there passed. passed_stays world.store.history (names s.tree) s.watermark entry passed) (λ s there same passed. passed_on world.store.history name (names s.tree) s.watermark entry c.once passed) tt b.nodes.watermarks;
         apart = pairs_flushed (λ x y. AreApart (tree_tables x) (tree_tables y)) segment name rows trees (record {
-          first = λ x y one other apart. tables_first x y name rows (not_held merge told specs name segment floor tick y c other) apart;
-          second = λ x y one other apart. tables_second x y name rows (not_held merge told specs name segment floor tick x c one) apart;
+          first = λ x y one other apart. tables_first x y name rows (not_held merge world specs name segment floor tick y c other) apart;
+          second = λ x y one other apart. tables_second x y name rows (not_held merge world specs name segment floor tick x c one) apart;
           new = λ y there. (
-            tables_first (empty_segment segment) y name rows (not_held merge told specs name segment floor tick y c there) refl,
-            tables_second y (empty_segment segment) name rows (not_held merge told specs name segment floor tick y c there) (tables_none (tree_tables y)),
+            tables_first (empty_segment segment) y name rows (not_held merge world specs name segment floor tick y c there) refl,
+            tables_second y (empty_segment segment) name rows (not_held merge world specs name segment floor tick y c there) (tables_none (tree_tables y)),
           );
         }) b.nodes.apart;
       };
-      epochs = let same = flat_push_none (λ (e : Entry). epoch_in (stood e.answer) e.event) told.store.history entry (rw took refl) in record { up_to = rw same b.epochs.up_to; rise = rw same b.epochs.rise };
+      epochs = let same = flat_push_none (λ (e : Entry). epoch_in (stood e.answer) e.event) world.store.history entry (rw took refl) in record { up_to = rw same b.epochs.up_to; rise = rw same b.epochs.rise };
     }
 
 -- ---- the law
 
-flush_by : (merge : Operator) (name : ℕ) (segment : List ℕ) (floor : ℕ) (tick : ℤ) (tracker : List Tracked) (line : ℕ) (party : Party) (answer : Answer) (told : Told) → stood answer ≡ true → (k : Keeps merge told) → FlushCase merge told k.stored.replay.specs name segment floor tick
-    → Keeps merge (with_manifest told (flush_manifest told name segment floor tick tracker) (record { line = line; party = party; event = PutManifest (Flush name segment floor tick); answer = answer }))
-flush_by merge name segment floor tick tracker line party answer told took k c =
+flush_by : (merge : Operator) (name : ℕ) (segment : List ℕ) (floor : ℕ) (tick : ℤ) (tracker : List Tracked) (line : ℕ) (party : Party) (answer : Answer) (world : World) → stood answer ≡ true → (k : Keeps merge world) → FlushCase merge world k.stored.replay.specs name segment floor tick
+    → Keeps merge (with_manifest world (flush_manifest world name segment floor tick tracker) (record { line = line; party = party; event = PutManifest (Flush name segment floor tick); answer = answer }))
+flush_by merge name segment floor tick tracker line party answer world took k c =
     let entry : Entry = record { line = line; party = party; event = PutManifest (Flush name segment floor tick); answer = answer } in
-    let manifest = flush_manifest told name segment floor tick tracker in
-    let w = whole_of merge told k in
+    let manifest = flush_manifest world name segment floor tick tracker in
+    let w = whole_of merge world k in
     let specs = k.stored.replay.specs in
-    keeps_of merge (with_manifest told manifest entry) specs (record {
-      body = body_with_manifest merge told specs manifest entry (record { quiet = quiet_flush (stood answer) name segment floor tick; unnamed = refl; unplanned = refl })
-          (flush_follows merge told specs name segment floor tick tracker line party answer took c) (λ job there kept. job_follows merge told specs name segment floor tick tracker job c kept) w.body;
-      draws = draws_mute told.store.jobs_drawn told.store.tables_drawn told.store.history entry refl refl w.draws;
-      puts = puts_kept told.store.history entry told.store.tables (table_none (stood answer) entry.event refl) (rw took (c.put, tt)) w.puts;
+    keeps_of merge (with_manifest world manifest entry) specs (record {
+      body = body_with_manifest merge world specs manifest entry (record { quiet = quiet_flush (stood answer) name segment floor tick; unnamed = refl; unplanned = refl })
+          (flush_follows merge world specs name segment floor tick tracker line party answer took c) (λ job there kept. job_follows merge world specs name segment floor tick tracker job c kept) w.body;
+      draws = draws_mute world.store.jobs_drawn world.store.tables_drawn world.store.history entry refl refl w.draws;
+      puts = puts_kept world.store.history entry world.store.tables (table_none (stood answer) entry.event refl) (rw took (c.put, tt)) w.puts;
     })
 
 pub flushes_keep : (merge : Operator) (name : ℕ) (segment : List ℕ) (floor : ℕ) (tick : ℤ) → StandingPutKeeps merge (Flush name segment floor tick)
-flushes_keep merge name segment floor tick line party answer told value took k fits =
-    let w = whole_of merge told k in
-    subst (λ (v : Manifest). Keeps merge (with_manifest told (record v { version = told.store.manifest.version + 1 }) (record { line = line; party = party; event = PutManifest (Flush name segment floor tick); answer = answer }))) (sym fits.makes)
-    (flush_by merge name segment floor tick (tracked_after fits.moment fits.retention (least_seq_of (table_rows told.store.tables name)) told.store.manifest.tracker) line party answer told took k (record {
+flushes_keep merge name segment floor tick line party answer world value took k fits =
+    let w = whole_of merge world k in
+    subst (λ (v : Manifest). Keeps merge (with_manifest world (record v { version = world.store.manifest.version + 1 }) (record { line = line; party = party; event = PutManifest (Flush name segment floor tick); answer = answer }))) (sym fits.makes)
+    (flush_by merge name segment floor tick (tracked_after fits.moment fits.retention (least_seq_of (table_rows world.store.tables name)) world.store.manifest.tracker) line party answer world took k (record {
       body = w.body;
-      put = held_put told.store name fits.held;
+      put = held_put world.store name fits.held;
       held = fits.held;
       once = fits.once;
-      differs = λ id known same. known_differs told.store.jobs_drawn told.store.tables_drawn told.store.history name id w.draws fits.is_name fits.once known same;
+      differs = λ id known same. known_differs world.store.jobs_drawn world.store.tables_drawn world.store.history name id w.draws fits.is_name fits.once known same;
       newer = fits.newer;
       floor_stays = fits.floor_stays;
       tick_stays = fits.tick_stays;

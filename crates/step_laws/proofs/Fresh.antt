@@ -4,18 +4,18 @@ use Rattle.std.specs.Prelude.{option_map}
 use Rattle.row_model.specs.Fold.{Operator}
 use Rattle.fleet_model.specs.History.{Entry}
 use Rattle.fleet_model.specs.Store.{fresh_store}
-use Rattle.fleet_model.specs.Replay.{Objects, replayed, plain_objects, plain_manifest}
+use Rattle.fleet_model.specs.Replay.{Objects, replayed_objects, plain_objects, plain_manifest}
 use Rattle.fleet_model.specs.Jobs.{JobSpec}
 use Rattle.fleet_model.specs.Invariant.{StoreInvariant}
 use Rattle.fleet_model.proofs.Begins.{fresh_stored}
-use Rattle.step_model.specs.Past.{fresh_told, manifest_with}
+use Rattle.step_model.specs.Past.{fresh_world, manifest_with}
 use Rattle.step_model.specs.Keeps.{Keeps}
 
 no_specs : ℕ → JobSpec
 no_specs job = record { segment = []; sources = []; destination = None }
 
 manifests : (front back : List Entry) → front ++ back ≡ []
-    → let objects : Objects = replayed [] no_specs front (plain_objects fresh_store) in option_map plain_manifest (manifest_with objects.manifest.version (fresh_store.manifest ∷ [])) ≡ Some objects.manifest
+    → let objects : Objects = replayed_objects [] no_specs front (plain_objects fresh_store) in option_map plain_manifest (manifest_with objects.manifest.version (fresh_store.manifest ∷ [])) ≡ Some objects.manifest
 manifests [] back none = refl
 manifests (x ∷ front) back none = absurd (cc none)
 
@@ -32,7 +32,7 @@ stored merge = record {
   reads = (fresh_stored merge).reads;
 }
 
-pub fresh_keeps : (merge : Operator) → Keeps merge fresh_told
+pub fresh_keeps : (merge : Operator) → Keeps merge fresh_world
 unfolding stored
 fresh_keeps merge = record {
   stored = stored merge;

@@ -9,7 +9,7 @@ use Rattle.fleet_model.specs.AttemptsFit.{was_beaten, beats}
 use Rattle.fleet_model.specs.Replay.{named_specs}
 use Rattle.fleet_model.specs.Records.{firsts}
 use Rattle.fleet_model.specs.Store.{Manifest}
-use Rattle.step_model.specs.Entries.{was_named, was_flushed, flushes, drawn_tables, table_drawn_in, drawn_jobs, job_drawn_in, last_name}
+use Rattle.step_model.specs.Entries.{was_named, was_flushed, is_flush_of, drawn_tables, table_drawn_in, drawn_jobs, job_drawn_in, last_name}
 use Rattle.step_model.specs.NamesKept.{IsUpTo}
 use Rattle.step_model.specs.TablesKept.{IsKnownPiece, IsKnownTable, IsFlush, IsPassed, IsFlushed, PiecesKept}
 use Rattle.step_laws.proofs.Elements.{all_to, any_front, any_push_no, contains_front, flat_push}
@@ -22,7 +22,7 @@ pub named_grows : (history : List Entry) (entry : Entry) (id : ℕ) → IsTrue (
 named_grows history entry id h = any_front (λ (e : Entry). contains (firsts (named_specs e.event)) id && stood e.answer) history (entry ∷ []) h
 
 pub flushed_grows : (history : List Entry) (entry : Entry) (name : ℕ) → IsTrue (was_flushed history name) → IsTrue (was_flushed (history ++ entry ∷ []) name)
-flushed_grows history entry name h = any_front (λ (e : Entry). flushes name e.event && stood e.answer) history (entry ∷ []) h
+flushed_grows history entry name h = any_front (λ (e : Entry). is_flush_of name e.event && stood e.answer) history (entry ∷ []) h
 
 pub joined_grows : (history : List Entry) (entry : Entry) (id : ℕ) → IsTrue (was_joined history id) → IsTrue (was_joined (history ++ entry ∷ []) id)
 joined_grows history entry id h = any_front (λ (e : Entry). joins id e.event && stood e.answer) history (entry ∷ []) h

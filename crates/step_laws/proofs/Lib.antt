@@ -1,6 +1,6 @@
 pub mod Elements
 pub mod Mute
-pub mod Told
+pub mod Worlds
 pub mod Replays
 pub mod Alike
 pub mod Bodies

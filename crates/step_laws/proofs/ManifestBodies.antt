@@ -11,15 +11,15 @@ use Rattle.row_model.specs.Fold.{Operator}
 use Rattle.fleet_model.specs.Jobs.{JobSpec, Job, Context, Compacted, has_status, is_active}
 use Rattle.fleet_model.specs.History.{Entry, stood}
 use Rattle.fleet_model.specs.Store.{Manifest, stored_jobs, fresh_store, AreHeld, WerePut}
-use Rattle.fleet_model.specs.Replay.{Objects, after_entry, replayed, plain_objects, plain_manifest, named_specs}
+use Rattle.fleet_model.specs.Replay.{Objects, after_entry, replayed_objects, plain_objects, plain_manifest, named_specs}
 use Rattle.fleet_model.specs.Gates.{reserves_nodes}
 use Rattle.fleet_model.specs.Handles.{job_tables}
 use Rattle.fleet_model.specs.TreesFit.{AreTrees, RootIsFirst}
 use Rattle.fleet_model.specs.JobsFit.{OutputsFit, SettingsFit, SourcesStand, was_joined}
 use Rattle.fleet_model.specs.AttemptsFit.{ContextFits}
 use Rattle.fleet_model.specs.ReadsFit.{TreeKeepsReads}
-use Rattle.step_model.specs.Past.{Told, manifest_with, past_after, told_after}
-use Rattle.step_model.specs.Entries.{mentioned_in, planned_attempts, attempts_in, claims_in}
+use Rattle.step_model.specs.Past.{World, manifest_with, past_after, world_after}
+use Rattle.step_model.specs.Entries.{mentioned_in, planned_attempts, attempts_in, attempts_claimed_in}
 use Rattle.step_model.specs.Faithful.{Faithful}
 use Rattle.step_model.specs.LawfulTables.{was_piece}
 use Rattle.step_model.specs.TablesKept.{PiecesKept}
@@ -32,11 +32,11 @@ use Rattle.step_laws.proofs.Grown.{named_grows, drawn_job_grows, up_to_grows, fa
 use Rattle.step_laws.proofs.Bodies.{JobFacts, JobFits, JobKept, Body}
 use Rattle.step_laws.proofs.MuteBodies.{Matches, fits_quiet, spares_all}
 
--- What is told when a manifest was put.
-abbrev pub with_manifest : Told → Manifest → Entry → Told
-with_manifest told manifest entry = record {
-  store = record told.store { manifest = manifest; history = told.store.history ++ entry ∷ [] };
-  past = told.past ++ manifest ∷ [];
+-- What is world when a manifest was put.
+abbrev pub with_manifest : World → Manifest → Entry → World
+with_manifest world manifest entry = record {
+  store = record world.store { manifest = manifest; history = world.store.history ++ entry ∷ [] };
+  past = world.past ++ manifest ∷ [];
 }
 
 next_differs : (n m : ℕ) → m ≡ n + 1 → (n == m) ≡ false
@@ -46,10 +46,10 @@ next_differs n m next = by (n == m) refl
     by true e = let same = (Decides-eqb n m).0 e in absurd (omega (arith, same, next))
     by false e = refl
 
-pub told_with_manifest : (told : Told) (manifest : Manifest) (entry : Entry) → manifest.version ≡ told.store.manifest.version + 1 → told_after told (with_manifest told manifest entry).store ≡ with_manifest told manifest entry
-told_with_manifest told manifest entry next =
-    let grows : past_after told.store (with_manifest told manifest entry).store told.past ≡ told.past ++ manifest ∷ [] = ap (λ b. cond b told.past (told.past ++ manifest ∷ [])) (next_differs told.store.manifest.version manifest.version next) in
-    λ i. record { store = (with_manifest told manifest entry).store; past = grows i }
+pub world_with_manifest : (world : World) (manifest : Manifest) (entry : Entry) → manifest.version ≡ world.store.manifest.version + 1 → world_after world (with_manifest world manifest entry).store ≡ with_manifest world manifest entry
+world_with_manifest world manifest entry next =
+    let grows : past_after world.store (with_manifest world manifest entry).store world.past ≡ world.past ++ manifest ∷ [] = ap (λ b. cond b world.past (world.past ++ manifest ∷ [])) (next_differs world.store.manifest.version manifest.version next) in
+    λ i. record { store = (with_manifest world manifest entry).store; past = grows i }
 
 -- ---- the past
 
@@ -84,25 +84,25 @@ pub record IsManifestEntry (entry : Entry) : Type 0 where
   pub unplanned : planned_attempts entry.event ≡ []
 
 -- The new manifest follows the stored one, with what is said of its trees and reads.
-pub record Follows (merge : Operator) (told : Told) (specs : ℕ → JobSpec) (manifest : Manifest) (entry : Entry) : Type 0 where
-  pub next : manifest.version ≡ told.store.manifest.version + 1
-  pub objects : after_entry told.store.tables specs entry (plain_objects told.store) ≡ plain_objects (with_manifest told manifest entry).store
+pub record Follows (merge : Operator) (world : World) (specs : ℕ → JobSpec) (manifest : Manifest) (entry : Entry) : Type 0 where
+  pub next : manifest.version ≡ world.store.manifest.version + 1
+  pub objects : after_entry world.store.tables specs entry (plain_objects world.store) ≡ plain_objects (with_manifest world manifest entry).store
   pub root : RootIsFirst manifest.trees
   pub prefixes : IsStrictlySortedBy key_cmp (map (λ s. s.prefix) manifest.trees)
-  pub trees : AreTrees (with_manifest told manifest entry).store
-  pub pieces : AllByRecursion (λ s. AllByRecursion (λ node. AreHeld told.store node.pieces) s.tree) manifest.trees
-  pub flushes : AllByRecursion (λ s. AllByRecursion (λ node. WerePut told.store node.flushes) s.tree) manifest.trees
-  pub reads : AllByRecursion (λ s. TreeKeepsReads merge (with_manifest told manifest entry).store s.tree) manifest.trees
-  pub nodes : PiecesKept (told.store.history ++ entry ∷ []) (told.past ++ manifest ∷ []) manifest.trees
-  pub epochs : EpochsKept manifest.epoch (told.store.history ++ entry ∷ [])
+  pub trees : AreTrees (with_manifest world manifest entry).store
+  pub pieces : AllByRecursion (λ s. AllByRecursion (λ node. AreHeld world.store node.pieces) s.tree) manifest.trees
+  pub flushes : AllByRecursion (λ s. AllByRecursion (λ node. WerePut world.store node.flushes) s.tree) manifest.trees
+  pub reads : AllByRecursion (λ s. TreeKeepsReads merge (with_manifest world manifest entry).store s.tree) manifest.trees
+  pub nodes : PiecesKept (world.store.history ++ entry ∷ []) (world.past ++ manifest ∷ []) manifest.trees
+  pub epochs : EpochsKept manifest.epoch (world.store.history ++ entry ∷ [])
 
 -- And what is said of each stored job.
-pub record JobFollows (told : Told) (manifest : Manifest) (job : Job) : Type 0 where
-  pub stand : SourcesStand told.store.manifest.trees job → SourcesStand manifest.trees job
-  pub fit : (settings : Settings) → IsTrue (reserves_nodes job) → SourcesStand told.store.manifest.trees job → SettingsFit told.store.manifest job.spec settings → SettingsFit manifest job.spec settings
-  pub floor : told.store.manifest.floor ≤ manifest.floor
-  pub unused : (table : ℕ) → was_piece told.past table ≡ false → IsTrue (is_active job) → IsIn table (job_tables job) → was_piece (told.past ++ manifest ∷ []) table ≡ false
-  pub joined : JoinStands told.past told.store.manifest.trees job → JoinStands (told.past ++ manifest ∷ []) manifest.trees job
+pub record JobFollows (world : World) (manifest : Manifest) (job : Job) : Type 0 where
+  pub stand : SourcesStand world.store.manifest.trees job → SourcesStand manifest.trees job
+  pub fit : (settings : Settings) → IsTrue (reserves_nodes job) → SourcesStand world.store.manifest.trees job → SettingsFit world.store.manifest job.spec settings → SettingsFit manifest job.spec settings
+  pub floor : world.store.manifest.floor ≤ manifest.floor
+  pub unused : (table : ℕ) → was_piece world.past table ≡ false → IsTrue (is_active job) → IsIn table (job_tables job) → was_piece (world.past ++ manifest ∷ []) table ≡ false
+  pub joined : JoinStands world.past world.store.manifest.trees job → JoinStands (world.past ++ manifest ∷ []) manifest.trees job
 
 -- ---- faithful specs
 
@@ -113,36 +113,36 @@ matches_stay past manifest o h = by (manifest_with o.manifest.version past) refl
     by None e h = absurd (cc h)
     by (Some m) e h = ap (option_map plain_manifest) (found_front (λ (other : Manifest). o.manifest.version == other.version) past (manifest ∷ []) m e) ∙ h
 
-pub faithful_with_manifest : (merge : Operator) (told : Told) (specs : ℕ → JobSpec) (manifest : Manifest) (entry : Entry) → Body merge told specs → IsManifestEntry entry → Follows merge told specs manifest entry
-    → Faithful (with_manifest told manifest entry) specs
-faithful_with_manifest merge told specs manifest entry b is f = record {
-  agrees = all_push _ told.store.history entry b.faithful.agrees (rw is.unnamed tt);
-  manifests = λ front back e. by front (cut_where front back told.store.history entry e);
+pub faithful_with_manifest : (merge : Operator) (world : World) (specs : ℕ → JobSpec) (manifest : Manifest) (entry : Entry) → Body merge world specs → IsManifestEntry entry → Follows merge world specs manifest entry
+    → Faithful (with_manifest world manifest entry) specs
+faithful_with_manifest merge world specs manifest entry b is f = record {
+  agrees = all_push _ world.store.history entry b.faithful.agrees (rw is.unnamed tt);
+  manifests = λ front back e. by front (cut_where front back world.store.history entry e);
 }
   where
-    behind : replayed told.store.tables specs (told.store.history ++ entry ∷ []) (plain_objects fresh_store) ≡ plain_objects (with_manifest told manifest entry).store
-    behind = replayed_push told.store.tables specs told.store.history entry (plain_objects fresh_store) ∙ ap (after_entry told.store.tables specs entry) (sym b.objects) ∙ f.objects
+    after : replayed_objects world.store.tables specs (world.store.history ++ entry ∷ []) (plain_objects fresh_store) ≡ plain_objects (with_manifest world manifest entry).store
+    after = replayed_push world.store.tables specs world.store.history entry (plain_objects fresh_store) ∙ ap (after_entry world.store.tables specs entry) (sym b.objects) ∙ f.objects
 
-    by : (front : List Entry) → {back : List Entry} → Cut front back told.store.history entry → Matches (told.past ++ manifest ∷ []) (replayed told.store.tables specs front (plain_objects fresh_store))
+    by : (front : List Entry) → {back : List Entry} → Cut front back world.store.history entry → Matches (world.past ++ manifest ∷ []) (replayed_objects world.store.tables specs front (plain_objects fresh_store))
     by front (Whole all) =
-        subst (Matches (told.past ++ manifest ∷ [])) (sym (ap (λ h. replayed told.store.tables specs h (plain_objects fresh_store)) all ∙ behind))
-        (ap (option_map plain_manifest) (past_grows told.store.manifest manifest told.past f.next b.past).last)
-    by front (Before rest part) = matches_stay told.past manifest (replayed told.store.tables specs front (plain_objects fresh_store)) (b.faithful.manifests front rest part)
+        subst (Matches (world.past ++ manifest ∷ [])) (sym (ap (λ h. replayed_objects world.store.tables specs h (plain_objects fresh_store)) all ∙ after))
+        (ap (option_map plain_manifest) (past_grows world.store.manifest manifest world.past f.next b.past).last)
+    by front (Before rest part) = matches_stay world.past manifest (replayed_objects world.store.tables specs front (plain_objects fresh_store)) (b.faithful.manifests front rest part)
 
-pub faithful_before_manifest : (merge : Operator) (told : Told) (specs others : ℕ → JobSpec) (manifest : Manifest) (entry : Entry) → Body merge told specs → manifest.version ≡ told.store.manifest.version + 1
-    → Faithful (with_manifest told manifest entry) others → Faithful told others
-faithful_before_manifest merge told specs others manifest entry b next f = record {
-  agrees = all_front _ told.store.history (entry ∷ []) f.agrees;
+pub faithful_before_manifest : (merge : Operator) (world : World) (specs others : ℕ → JobSpec) (manifest : Manifest) (entry : Entry) → Body merge world specs → manifest.version ≡ world.store.manifest.version + 1
+    → Faithful (with_manifest world manifest entry) others → Faithful world others
+faithful_before_manifest merge world specs others manifest entry b next f = record {
+  agrees = all_front _ world.store.history (entry ∷ []) f.agrees;
   manifests = λ front back e. by front back e (f.manifests front (back ++ entry ∷ []) (sym (append_assoc front back (entry ∷ [])) ∙ ap (λ h. h ++ entry ∷ []) e));
 }
   where
-    by : (front back : List Entry) → front ++ back ≡ told.store.history → Matches (told.past ++ manifest ∷ []) (replayed told.store.tables others front (plain_objects fresh_store)) → Matches told.past (replayed told.store.tables others front (plain_objects fresh_store))
+    by : (front back : List Entry) → front ++ back ≡ world.store.history → Matches (world.past ++ manifest ∷ []) (replayed_objects world.store.tables others front (plain_objects fresh_store)) → Matches world.past (replayed_objects world.store.tables others front (plain_objects fresh_store))
     by front back e h =
-        let objects : (replayed told.store.tables specs (front ++ back) (plain_objects fresh_store)).manifest.version ≡ told.store.manifest.version =
-        ap (λ history. (replayed told.store.tables specs history (plain_objects fresh_store)).manifest.version) e ∙ sym (ap (λ (o : Objects). o.manifest.version) b.objects) in
-        let low = part_version told.store.tables told.store.tables others specs front back (plain_objects fresh_store) in
-        let small : (replayed told.store.tables others front (plain_objects fresh_store)).manifest.version < manifest.version = omega (arith, objects, low, next) in
-        sym (ap (option_map plain_manifest) (find_not_last (λ (m : Manifest). (replayed told.store.tables others front (plain_objects fresh_store)).manifest.version == m.version) told.past manifest (below _ _ small))) ∙ h
+        let objects : (replayed_objects world.store.tables specs (front ++ back) (plain_objects fresh_store)).manifest.version ≡ world.store.manifest.version =
+        ap (λ history. (replayed_objects world.store.tables specs history (plain_objects fresh_store)).manifest.version) e ∙ sym (ap (λ (o : Objects). o.manifest.version) b.objects) in
+        let low = part_version world.store.tables world.store.tables others specs front back (plain_objects fresh_store) in
+        let small : (replayed_objects world.store.tables others front (plain_objects fresh_store)).manifest.version < manifest.version = omega (arith, objects, low, next) in
+        sym (ap (option_map plain_manifest) (find_not_last (λ (m : Manifest). (replayed_objects world.store.tables others front (plain_objects fresh_store)).manifest.version == m.version) world.past manifest (below _ _ small))) ∙ h
       where
         below : (n m : ℕ) → n < m → (n == m) ≡ false
         below n m small = test (n == m) refl
@@ -161,20 +161,20 @@ or_right : (a b : Bool) → IsTrue b → IsTrue (a || b)
 or_right true b h = refl
 or_right false b h = h
 
-fits_with_manifest : (merge : Operator) (told : Told) (specs : ℕ → JobSpec) (manifest : Manifest) (history : List Entry) (job : Job) → JobFollows told manifest job
-    → JobFits merge (record told.store { history = history }) specs job → JobFits merge (record told.store { manifest = manifest; history = history }) specs job
-fits_with_manifest merge told specs manifest history job follows h = record {
+fits_with_manifest : (merge : Operator) (world : World) (specs : ℕ → JobSpec) (manifest : Manifest) (history : List Entry) (job : Job) → JobFollows world manifest job
+    → JobFits merge (record world.store { history = history }) specs job → JobFits merge (record world.store { manifest = manifest; history = history }) specs job
+fits_with_manifest merge world specs manifest history job follows h = record {
   sources = ((λ waits. follows.stand (h.sources.0 waits)), λ compacted. moved (h.sources.1 compacted));
   context = record { there = h.context.there; fits = context job.context refl h.context.fits };
   outputs = λ compacted. outputs compacted (h.sources.1 compacted) (h.outputs compacted);
   tables = λ active. record { named = (h.tables active).named; sources = (h.tables active).sources };
 }
   where
-    moved : {A : Type 0} → A ⊎ SourcesStand told.store.manifest.trees job → A ⊎ SourcesStand manifest.trees job
+    moved : {A : Type 0} → A ⊎ SourcesStand world.store.manifest.trees job → A ⊎ SourcesStand manifest.trees job
     moved (inl was) = inl was
     moved (inr stand) = inr (follows.stand stand)
 
-    context : (o : Option Context) → job.context ≡ o → IfSome o (ContextFits merge (record told.store { history = history }) specs job) → IfSome o (ContextFits merge (record told.store { manifest = manifest; history = history }) specs job)
+    context : (o : Option Context) → job.context ≡ o → IfSome o (ContextFits merge (record world.store { history = history }) specs job) → IfSome o (ContextFits merge (record world.store { manifest = manifest; history = history }) specs job)
     context None is f = tt
     context (Some c) is f =
         let waits = (h.context.there.0 (ap is_some is)).0 in
@@ -186,8 +186,8 @@ fits_with_manifest merge told specs manifest history job follows h = record {
           tables = f.tables;
         }
 
-    outputs : IsTrue (has_status Compacted job) → IsTrue (was_joined history job.id) ⊎ SourcesStand told.store.manifest.trees job → OutputsFit merge (record told.store { history = history }) specs job
-        → OutputsFit merge (record told.store { manifest = manifest; history = history }) specs job
+    outputs : IsTrue (has_status Compacted job) → IsTrue (was_joined history job.id) ⊎ SourcesStand world.store.manifest.trees job → OutputsFit merge (record world.store { history = history }) specs job
+        → OutputsFit merge (record world.store { manifest = manifest; history = history }) specs job
     outputs compacted stands f = record {
       settings = f.settings;
       claimed = f.claimed;
@@ -197,14 +197,14 @@ fits_with_manifest merge told specs manifest history job follows h = record {
       rows = f.rows;
     }
       where
-        by : IsTrue (was_joined history job.id) ⊎ SourcesStand told.store.manifest.trees job → IsTrue (was_joined history job.id) ⊎ SettingsFit told.store.manifest job.spec f.settings
+        by : IsTrue (was_joined history job.id) ⊎ SourcesStand world.store.manifest.trees job → IsTrue (was_joined history job.id) ⊎ SettingsFit world.store.manifest job.spec f.settings
             → IsTrue (was_joined history job.id) ⊎ SettingsFit manifest job.spec f.settings
         by (inl was) fit = inl was
         by (inr stand) (inl was) = inl was
         by (inr stand) (inr fit) = inr (follows.fit f.settings (or_right _ _ compacted) stand fit)
 
-facts_with_manifest : (told : Told) (manifest : Manifest) (history : List Entry) (job : Job) → JobFollows told manifest job → JobFacts history told.past told.store.manifest.trees job → JobFacts history (told.past ++ manifest ∷ []) manifest.trees job
-facts_with_manifest told manifest history job follows h = record {
+facts_with_manifest : (world : World) (manifest : Manifest) (history : List Entry) (job : Job) → JobFollows world manifest job → JobFacts history world.past world.store.manifest.trees job → JobFacts history (world.past ++ manifest ∷ []) manifest.trees job
+facts_with_manifest world manifest history job follows h = record {
   named = h.named;
   unbeaten = h.unbeaten;
   unleased = h.unleased;
@@ -221,39 +221,39 @@ facts_with_manifest told manifest history job follows h = record {
 
 -- ---- the whole
 
-pub body_with_manifest : (merge : Operator) (told : Told) (specs : ℕ → JobSpec) (manifest : Manifest) (entry : Entry) → IsManifestEntry entry → Follows merge told specs manifest entry
-    → ((job : Job) → IsIn job (stored_jobs told.store) → JobKept merge told specs job → JobFollows told manifest job) → Body merge told specs → Body merge (with_manifest told manifest entry) specs
-body_with_manifest merge told specs manifest entry is f each b = record {
+pub body_with_manifest : (merge : Operator) (world : World) (specs : ℕ → JobSpec) (manifest : Manifest) (entry : Entry) → IsManifestEntry entry → Follows merge world specs manifest entry
+    → ((job : Job) → IsIn job (stored_jobs world.store) → JobKept merge world specs job → JobFollows world manifest job) → Body merge world specs → Body merge (with_manifest world manifest entry) specs
+body_with_manifest merge world specs manifest entry is f each b = record {
   sound = record { tables = b.sound.tables; table_ids = b.sound.table_ids; deleted = b.sound.deleted; root = f.root; prefixes = f.prefixes; job_ids = b.sound.job_ids };
   trees = f.trees;
   held_once = b.held_once;
   pieces = f.pieces;
   flushes = f.flushes;
   reads = f.reads;
-  objects = sym (replayed_push told.store.tables specs told.store.history entry (plain_objects fresh_store) ∙ ap (after_entry told.store.tables specs entry) (sym b.objects) ∙ f.objects);
-  faithful = faithful_with_manifest merge told specs manifest entry b is f;
-  mentioned = all_push _ told.store.history entry
-      (all_to _ _ told.store.history (λ e there old. all_to _ _ (mentioned_in e) (λ id one drawn. drawn_job_grows told.store.history entry id drawn) old) b.mentioned)
+  objects = sym (replayed_push world.store.tables specs world.store.history entry (plain_objects fresh_store) ∙ ap (after_entry world.store.tables specs entry) (sym b.objects) ∙ f.objects);
+  faithful = faithful_with_manifest merge world specs manifest entry b is f;
+  mentioned = all_push _ world.store.history entry
+      (all_to _ _ world.store.history (λ e there old. all_to _ _ (mentioned_in e) (λ id one drawn. drawn_job_grows world.store.history entry id drawn) old) b.mentioned)
       (rw (is.unnamed, is.quiet.steps) tt);
   trimmed_already = b.trimmed_already;
-  up_to = all_push _ told.store.history entry
-      (all_to _ _ told.store.history (λ e there old took. all_to _ _ (attempts_in e.event) (λ a one up. up_to_grows told.store.history entry (stored_jobs told.store) a up) (old took)) b.up_to)
+  up_to = all_push _ world.store.history entry
+      (all_to _ _ world.store.history (λ e there old took. all_to _ _ (attempts_in e.event) (λ a one up. up_to_grows world.store.history entry (stored_jobs world.store) a up) (old took)) b.up_to)
       (λ took. rw (is.quiet.attempts took) tt);
-  planned = all_push _ told.store.history entry
-      (all_to _ _ told.store.history (λ e there old. all_to _ _ (planned_attempts e.event) (λ a one up. up_to_grows told.store.history entry (stored_jobs told.store) a up) old) b.planned)
+  planned = all_push _ world.store.history entry
+      (all_to _ _ world.store.history (λ e there old. all_to _ _ (planned_attempts e.event) (λ a one up. up_to_grows world.store.history entry (stored_jobs world.store) a up) old) b.planned)
       (rw is.unplanned tt);
-  once = rw (flat_push_none (λ (e : Entry). claims_in (stood e.answer) e.event) told.store.history entry is.quiet.claims) b.once;
+  once = rw (flat_push_none (λ (e : Entry). attempts_claimed_in (stood e.answer) e.event) world.store.history entry is.quiet.claims) b.once;
   nodes = f.nodes;
   name_apart = b.name_apart;
-  joined = all_push _ told.store.history entry
-      (all_to _ _ told.store.history (λ e there old took. all_to _ _ _ (λ id one named. named_grows told.store.history entry id named) (old took)) b.joined)
+  joined = all_push _ world.store.history entry
+      (all_to _ _ world.store.history (λ e there old took. all_to _ _ _ (λ id one named. named_grows world.store.history entry id named) (old took)) b.joined)
       (λ took. rw (is.quiet.joined took) tt);
   epochs = f.epochs;
-  past = past_grows told.store.manifest manifest told.past f.next b.past;
-  jobs = all_to (JobKept merge told specs) (JobKept merge (with_manifest told manifest entry) specs) (stored_jobs told.store) (λ job there kept. record {
-    fits = fits_with_manifest merge told specs manifest (told.store.history ++ entry ∷ []) job (each job there kept)
-        (fits_quiet merge told specs told.store.deleted told.store.jobs_drawn told.store.tables_drawn entry job (quiet_for _ _ job.id is.quiet) (spares_all merge told specs b) there kept.fits);
-    facts = facts_with_manifest told manifest (told.store.history ++ entry ∷ []) job (each job there kept) (facts_quiet told.store.history entry told.past told.store.manifest.trees job (quiet_for _ _ job.id is.quiet) kept.facts);
-    spec = λ others faithful. kept.spec others (faithful_before_manifest merge told specs others manifest entry b f.next faithful);
+  past = past_grows world.store.manifest manifest world.past f.next b.past;
+  jobs = all_to (JobKept merge world specs) (JobKept merge (with_manifest world manifest entry) specs) (stored_jobs world.store) (λ job there kept. record {
+    fits = fits_with_manifest merge world specs manifest (world.store.history ++ entry ∷ []) job (each job there kept)
+        (fits_quiet merge world specs world.store.deleted world.store.jobs_drawn world.store.tables_drawn entry job (quiet_for _ _ job.id is.quiet) (spares_all merge world specs b) there kept.fits);
+    facts = facts_with_manifest world manifest (world.store.history ++ entry ∷ []) job (each job there kept) (facts_quiet world.store.history entry world.past world.store.manifest.trees job (quiet_for _ _ job.id is.quiet) kept.facts);
+    spec = λ others faithful. kept.spec others (faithful_before_manifest merge world specs others manifest entry b f.next faithful);
   }) b.jobs;
 }

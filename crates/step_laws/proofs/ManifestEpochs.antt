@@ -9,7 +9,7 @@ use Rattle.fleet_model.specs.History.{Party, PutManifest, ManifestEpoch, Answer,
 use Rattle.fleet_model.specs.Store.{Manifest, Records}
 use Rattle.fleet_model.specs.Handles.{tree_tables}
 use Rattle.fleet_model.specs.TreesFit.{EpochFits}
-use Rattle.step_model.specs.Past.{Told}
+use Rattle.step_model.specs.Past.{World}
 use Rattle.step_model.specs.Entries.{put_epochs, epoch_in}
 use Rattle.step_model.specs.LawfulTables.{was_piece}
 use Rattle.step_model.specs.TablesKept.{IsKnownPiece}
@@ -82,46 +82,46 @@ epochs_push old epoch history entry is took above h =
       rise = rw puts (pairs_push _ (put_epochs history) epoch h.rise (all_to _ _ (put_epochs history) (λ put there low. omega (arith, low, above)) h.up_to));
     }
 
-epoch_by : (merge : Operator) (epoch line : ℕ) (party : Party) (answer : Answer) (told : Told) → stood answer ≡ true → Keeps merge told → told.store.manifest.epoch < epoch
-    → Keeps merge (with_manifest told (record told.store.manifest { version = told.store.manifest.version + 1; epoch = epoch }) (record { line = line; party = party; event = PutManifest (ManifestEpoch epoch); answer = answer }))
-epoch_by merge epoch line party answer told took k above =
+epoch_by : (merge : Operator) (epoch line : ℕ) (party : Party) (answer : Answer) (world : World) → stood answer ≡ true → Keeps merge world → world.store.manifest.epoch < epoch
+    → Keeps merge (with_manifest world (record world.store.manifest { version = world.store.manifest.version + 1; epoch = epoch }) (record { line = line; party = party; event = PutManifest (ManifestEpoch epoch); answer = answer }))
+epoch_by merge epoch line party answer world took k above =
     let entry : Entry = record { line = line; party = party; event = PutManifest (ManifestEpoch epoch); answer = answer } in
-    let manifest : Manifest = record told.store.manifest { version = told.store.manifest.version + 1; epoch = epoch } in
-    let w = whole_of merge told k in
+    let manifest : Manifest = record world.store.manifest { version = world.store.manifest.version + 1; epoch = epoch } in
+    let w = whole_of merge world k in
     let b = w.body in
     let specs = k.stored.replay.specs in
-    let nodes = pieces_grow told.store.history entry told.past told.store.manifest.trees b.nodes in
-    keeps_of merge (with_manifest told manifest entry) specs (record {
-      body = body_with_manifest merge told specs manifest entry (record { quiet = quiet_epoch (stood answer) epoch; unnamed = refl; unplanned = refl })
+    let nodes = pieces_grow world.store.history entry world.past world.store.manifest.trees b.nodes in
+    keeps_of merge (with_manifest world manifest entry) specs (record {
+      body = body_with_manifest merge world specs manifest entry (record { quiet = quiet_epoch (stood answer) epoch; unnamed = refl; unplanned = refl })
           (record {
             next = refl;
             objects = rw took refl;
             root = b.sound.root;
             prefixes = b.sound.prefixes;
-            trees = record { each = b.trees.each; apart = b.trees.apart; epochs = epoch_rises told.store.manifest told.store.records manifest (omega (arith, above)) b.trees.epochs };
+            trees = record { each = b.trees.each; apart = b.trees.apart; epochs = epoch_rises world.store.manifest world.store.records manifest (omega (arith, above)) b.trees.epochs };
             pieces = b.pieces;
             flushes = b.flushes;
             reads = b.reads;
             nodes = record {
-              pieces = all_push _ told.past manifest nodes.pieces (all_at (λ (m : Manifest). AllByRecursion (IsKnownPiece (told.store.history ++ entry ∷ [])) (flat_map tree_tables m.trees)) told.past told.store.manifest nodes.pieces (stored_in_past told.store.manifest told.past b.past));
+              pieces = all_push _ world.past manifest nodes.pieces (all_at (λ (m : Manifest). AllByRecursion (IsKnownPiece (world.store.history ++ entry ∷ [])) (flat_map tree_tables m.trees)) world.past world.store.manifest nodes.pieces (stored_in_past world.store.manifest world.past b.past));
               flushes = nodes.flushes;
               watermarks = nodes.watermarks;
               apart = nodes.apart;
             };
-            epochs = epochs_push told.store.manifest.epoch epoch told.store.history entry refl took above b.epochs;
+            epochs = epochs_push world.store.manifest.epoch epoch world.store.history entry refl took above b.epochs;
           })
           (λ job there kept. record {
             stand = λ stand. stand;
             fit = λ settings holds stand fit. record { floor = fit.floor; cut = fit.cut; tick = fit.tick; last_run = fit.last_run };
             floor = omega arith;
-            unused = λ table none active in_job. no_new_piece told.past manifest table (not_stored told.store.manifest told.past table b.past none) none;
-            joined = λ stand. joined_on told.past manifest told.store.manifest.trees job stand;
+            unused = λ table none active in_job. no_new_piece world.past manifest table (not_stored world.store.manifest world.past table b.past none) none;
+            joined = λ stand. joined_on world.past manifest world.store.manifest.trees job stand;
           }) b;
-      draws = draws_mute told.store.jobs_drawn told.store.tables_drawn told.store.history entry refl refl w.draws;
-      puts = puts_kept told.store.history entry told.store.tables (table_none (stood answer) entry.event refl) (rw took tt) w.puts;
+      draws = draws_mute world.store.jobs_drawn world.store.tables_drawn world.store.history entry refl refl w.draws;
+      puts = puts_kept world.store.history entry world.store.tables (table_none (stood answer) entry.event refl) (rw took tt) w.puts;
     })
 
 pub epochs_keep : (merge : Operator) (epoch : ℕ) → StandingPutKeeps merge (ManifestEpoch epoch)
-epochs_keep merge epoch line party answer told value took k fits =
-    subst (λ (v : Manifest). Keeps merge (with_manifest told (record v { version = told.store.manifest.version + 1 }) (record { line = line; party = party; event = PutManifest (ManifestEpoch epoch); answer = answer }))) (sym fits.makes)
-    (epoch_by merge epoch line party answer told took k fits.above)
+epochs_keep merge epoch line party answer world value took k fits =
+    subst (λ (v : Manifest). Keeps merge (with_manifest world (record v { version = world.store.manifest.version + 1 }) (record { line = line; party = party; event = PutManifest (ManifestEpoch epoch); answer = answer }))) (sym fits.makes)
+    (epoch_by merge epoch line party answer world took k fits.above)

@@ -8,8 +8,8 @@ use Rattle.fleet_model.specs.Nodes.{is_among, Tables}
 use Rattle.fleet_model.specs.Jobs.{JobSpec, Job, contains, job_with}
 use Rattle.fleet_model.specs.History.{Entry, stood}
 use Rattle.fleet_model.specs.Store.{Manifest, fresh_store}
-use Rattle.fleet_model.specs.Replay.{Objects, after_entry, replayed, plain_objects, plain_manifest}
-use Rattle.step_model.specs.Past.{Told, manifest_with}
+use Rattle.fleet_model.specs.Replay.{Objects, after_entry, replayed_objects, plain_objects, plain_manifest}
+use Rattle.step_model.specs.Past.{World, manifest_with}
 use Rattle.step_model.specs.Entries.{drawn_jobs, mentioned_in, was_named, attempts_in, planned_attempts, tables_brought_in}
 use Rattle.step_model.specs.Faithful.{Faithful}
 use Rattle.step_model.specs.NamesKept.{DrawsKept, NamesKept, AttemptsKept, IsUpTo}
@@ -17,7 +17,7 @@ use Rattle.step_model.specs.TablesKept.{PutsKept, PiecesKept, JobTablesKept}
 use Rattle.step_model.specs.JoinsKept.{JoinsKept, Gone, joins_in}
 use Rattle.step_model.specs.Facts.{EpochsKept, PastKept, StoreFacts}
 use Rattle.step_model.specs.Keeps.{Keeps}
-use Rattle.step_laws.specs.Midway.{spec_of, midway_told, tables, jobs, joined_manifest, past, history}
+use Rattle.step_laws.specs.Midway.{spec_of, midway_world, tables, jobs, joined_manifest, past, history}
 use Rattle.step_laws.proofs.Elements.{all_to}
 use Rattle.step_laws.proofs.MidwayStored.{differ, agrees, keeps_by}
 
@@ -48,7 +48,7 @@ abbrev pub Throughout : (Objects → Type 0) → Tables → (ℕ → JobSpec) �
 Throughout P put specs [] o = P o
 Throughout P put specs (entry ∷ history) o = P o × Throughout P put specs history (after_entry put specs entry o)
 
-at_front : (P : Objects → Type 0) (put : Tables) (specs : ℕ → JobSpec) (front back : List Entry) (o : Objects) → Throughout P put specs (front ++ back) o → P (replayed put specs front o)
+at_front : (P : Objects → Type 0) (put : Tables) (specs : ℕ → JobSpec) (front back : List Entry) (o : Objects) → Throughout P put specs (front ++ back) o → P (replayed_objects put specs front o)
 at_front P put specs [] [] o h = h
 at_front P put specs [] (entry ∷ back) o h = h.0
 at_front P put specs (entry ∷ front) back o h = at_front P put specs front back (after_entry put specs entry o) h.1
@@ -58,16 +58,16 @@ abbrev pub IsPast : List Manifest → Objects → Type 0
 IsPast manifests o = option_map plain_manifest (manifest_with o.manifest.version manifests) ≡ Some o.manifest
 
 -- The replay of each part of a history gives a past manifest, if that is so of each part in turn.
-pub parts_are_past : (told : Told) (specs : ℕ → JobSpec) → Throughout (IsPast told.past) told.store.tables specs told.store.history (plain_objects fresh_store)
-    → (front back : List Entry) → front ++ back ≡ told.store.history → IsPast told.past (replayed told.store.tables specs front (plain_objects fresh_store))
-parts_are_past told specs h front back parts =
-    at_front (IsPast told.past) told.store.tables specs front back (plain_objects fresh_store) (subst (λ entries. Throughout (IsPast told.past) told.store.tables specs entries (plain_objects fresh_store)) (sym parts) h)
+pub parts_are_past : (world : World) (specs : ℕ → JobSpec) → Throughout (IsPast world.past) world.store.tables specs world.store.history (plain_objects fresh_store)
+    → (front back : List Entry) → front ++ back ≡ world.store.history → IsPast world.past (replayed_objects world.store.tables specs front (plain_objects fresh_store))
+parts_are_past world specs h front back parts =
+    at_front (IsPast world.past) world.store.tables specs front back (plain_objects fresh_store) (subst (λ entries. Throughout (IsPast world.past) world.store.tables specs entries (plain_objects fresh_store)) (sym parts) h)
 
 throughout : Throughout (IsPast past) tables spec_of history (plain_objects fresh_store)
 throughout = (refl, (refl, (refl, (refl, (refl, (refl, (refl, (refl, (refl, (refl, (refl, (refl, (refl, (refl, (refl, (refl, (refl, (refl, (refl, (refl, (refl, (refl, (refl, (refl, (refl, (refl, (refl, (refl, (refl, refl)))))))))))))))))))))))))))))
 
-faithful : Faithful midway_told spec_of
-faithful = record { agrees = agrees; manifests = parts_are_past midway_told spec_of throughout }
+faithful : Faithful midway_world spec_of
+faithful = record { agrees = agrees; manifests = parts_are_past midway_world spec_of throughout }
 
 -- ---- draws, names and attempts
 
@@ -80,7 +80,7 @@ draws = record {
   few = lit≤ tt;
 }
 
-names : NamesKept midway_told
+names : NamesKept midway_world
 names = record {
   drawn = tested (λ id. IsTrue (contains (drawn_jobs history) id)) (contains (drawn_jobs history)) (λ id h. h) mentioned_in refl;
   named = (refl, (refl, tt));
@@ -165,7 +165,7 @@ past_kept = record {
   );
 }
 
-facts : StoreFacts midway_told
+facts : StoreFacts midway_world
 facts = record {
   draws = draws;
   names = names;
@@ -178,5 +178,5 @@ facts = record {
   past = past_kept;
 }
 
-pub midway : (merge : Operator) → Keeps merge midway_told
+pub midway : (merge : Operator) → Keeps merge midway_world
 midway merge = keeps_by merge faithful facts

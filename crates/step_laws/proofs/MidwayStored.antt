@@ -10,7 +10,7 @@ use Rattle.std.specs.List.Sorted.{IsStrictlySortedBy}
 use Rattle.std.proofs.lemmas.Bool.Decides.{Decides-eqb}
 use Rattle.row_model.specs.Bounds.{IsInBounds}
 use Rattle.row_model.specs.Fold.{Operator, fold_bytes}
-use Rattle.row_model.specs.Plan.{planned}
+use Rattle.row_model.specs.Plan.{planned_ranges}
 use Rattle.fleet_model.specs.Invariant.{StoreInvariant}
 use Rattle.fleet_model.specs.TreesFit.{AreTrees, IsSound}
 use Rattle.fleet_model.specs.JobsFit.{NodesHeldOnce, OpenedStands, OutputsFit}
@@ -20,7 +20,7 @@ use Rattle.fleet_model.specs.Replay.{IsReplayed}
 use Rattle.step_model.specs.Faithful.{AgreesWith, Faithful}
 use Rattle.step_model.specs.Facts.{StoreFacts}
 use Rattle.step_model.specs.Keeps.{Keeps}
-use Rattle.step_laws.specs.Midway.{row, run, context, spec_of, running, compacted, history, midway_told}
+use Rattle.step_laws.specs.Midway.{row, run_node, context, spec_of, running, compacted_job, history, midway_world}
 
 pub differ : (a b : ℕ) → (a == b) ≡ false → a ≢ b
 differ a b e same = let yes = (Decides-eqb a b).1 same in absurd (cc (e, yes))
@@ -29,7 +29,7 @@ differ a b e same = let yes = (Decides-eqb a b).1 same in absurd (cc (e, yes))
 older : AllByRecursion (λ r. r.seq < 5) (row (0x61 ∷ []) 4 ∷ row (0x61 ∷ []) 4 ∷ row (0x61 ∷ []) 3 ∷ [])
 older = (lit≤ tt, (lit≤ tt, (lit≤ tt, tt)))
 
-trees : AreTrees midway_told.store
+trees : AreTrees midway_world.store
 unfolding IsStrictlySortedBy
 trees = record {
   each = (
@@ -56,7 +56,7 @@ trees = record {
 pub agrees : AllByRecursion (λ entry. AgreesWith spec_of entry.event) history
 agrees = (tt, (tt, (tt, (tt, (tt, (tt, (tt, (tt, ((refl, (refl, tt)), (tt, (tt, (tt, (tt, (tt, (tt, (tt, (tt, (tt, (tt, (tt, (tt, (tt, (tt, (tt, (tt, (tt, (tt, (tt, (tt, tt)))))))))))))))))))))))))))))
 
-replay : IsReplayed midway_told.store
+replay : IsReplayed midway_world.store
 replay = record { specs = spec_of; agrees = agrees; objects = refl }
 
 in_bounds : (byte other seq : ℕ) → IsInBounds (row (byte ∷ other ∷ []) seq)
@@ -65,7 +65,7 @@ in_bounds byte other seq = record { key = lit≤ tt; content = lit≤ tt }
 short_in_bounds : (byte seq : ℕ) → IsInBounds (row (byte ∷ []) seq)
 short_in_bounds byte seq = record { key = lit≤ tt; content = lit≤ tt }
 
-pub sound : IsSound midway_told.store
+pub sound : IsSound midway_world.store
 unfolding IsStrictlySortedBy
 sound = record {
   tables = (
@@ -91,11 +91,11 @@ sound = record {
   job_ids = ((lit≤ tt, tt), (tt, tt));
 }
 
-claimed : IsClaimed midway_told.store spec_of 1 2 context
+claimed : IsClaimed midway_world.store spec_of 1 2 context
 claimed = record { settings = refl; ranges = refl }
 
-fits : (merge : Operator) → ContextFits merge midway_told.store spec_of running context
-unfolding planned
+fits : (merge : Operator) → ContextFits merge midway_world.store spec_of running context
+unfolding planned_ranges
 fits merge = record {
   claimed = claimed;
   settings = record { floor = lit≤ tt; cut = lit≤ tt; tick = refl; last_run = λ last. refl };
@@ -104,13 +104,13 @@ fits merge = record {
   tables = ((row (0x62 ∷ 0x32 ∷ []) 2 ∷ [], refl), tt);
 }
 
-contexts : (merge : Operator) → AllByRecursion (JobContext merge midway_told.store spec_of) (running ∷ compacted ∷ [])
+contexts : (merge : Operator) → AllByRecursion (JobContext merge midway_world.store spec_of) (running ∷ compacted_job ∷ [])
 contexts merge = (
   record { there = (λ h. (refl, refl), λ h. refl); fits = fits merge },
   (record { there = (λ some. absurd (cc some), λ waits. let never = waits.0 in absurd (cc never)); fits = tt }, tt),
 )
 
-outputs : (merge : Operator) → OutputsFit merge midway_told.store spec_of compacted
+outputs : (merge : Operator) → OutputsFit merge midway_world.store spec_of compacted_job
 outputs merge = record {
   settings = context.settings;
   claimed = refl;
@@ -120,13 +120,13 @@ outputs merge = record {
   rows = λ held. refl;
 }
 
-sources : AllByRecursion (OpenedStands midway_told.store) (running ∷ compacted ∷ [])
+sources : AllByRecursion (OpenedStands midway_world.store) (running ∷ compacted_job ∷ [])
 sources = (
   (λ waits. record { some = refl; stretch = refl; source_tables = refl; destination = (refl, λ none. refl) }, λ finished. absurd (cc finished)),
   ((λ waits. absurd (cc waits), λ waits. inl refl), tt),
 )
 
-held_once : NodesHeldOnce (running ∷ compacted ∷ [])
+held_once : NodesHeldOnce (running ∷ compacted_job ∷ [])
 held_once = ((λ one other. refl, tt), (tt, tt))
 
 -- ---- reads
@@ -156,7 +156,7 @@ same_operands s now key seq (r ∷ above) rest other seen = by (nat_le r.seq s) 
     by false same = same
 
 -- The node that is the run of job 2. It has only the newer one of the two rows that were flushed.
-run_reads : (merge : Operator) → NodeKeepsReads merge midway_told.store true run
+run_reads : (merge : Operator) → NodeKeepsReads merge midway_world.store true run_node
 run_reads merge key s now above below low later last = by (bytes_eq key (0x61 ∷ []))
   where
     newer : Row
@@ -175,7 +175,7 @@ run_reads merge key s now above below low later last = by (bytes_eq key (0x61 �
         ∙ ap (λ found. fold_bytes merge key (base now (seen_at s (above ++ newer ∷ below))) found) two
     by false = refl
 
-stored : (merge : Operator) → StoreInvariant merge midway_told.store
+stored : (merge : Operator) → StoreInvariant merge midway_world.store
 unfolding replay
 stored merge = record {
   sound = sound;
@@ -193,6 +193,6 @@ stored merge = record {
   reads = ((λ key s now above below low later last. refl, run_reads merge), (λ key s now above below low later last. refl, tt));
 }
 
-pub keeps_by : (merge : Operator) → Faithful midway_told spec_of → StoreFacts midway_told → Keeps merge midway_told
+pub keeps_by : (merge : Operator) → Faithful midway_world spec_of → StoreFacts midway_world → Keeps merge midway_world
 unfolding replay stored
 keeps_by merge faithful facts = record { stored = stored merge; faithful = faithful; facts = facts }

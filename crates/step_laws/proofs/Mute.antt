@@ -8,14 +8,14 @@ use Rattle.fleet_model.specs.Replay.{Objects, after_event}
 use Rattle.fleet_model.specs.Claimed.{beaten_in}
 use Rattle.fleet_model.specs.JobsFit.{joins}
 use Rattle.fleet_model.specs.AttemptsFit.{beats}
-use Rattle.step_model.specs.Entries.{steps_in, attempts_in, claims_in, epoch_in, tables_brought_in}
+use Rattle.step_model.specs.Entries.{steps_in, attempts_in, attempts_claimed_in, epoch_in, tables_brought_in}
 use Rattle.step_model.specs.JoinsKept.{joins_in}
 
 -- The entry of an event says nothing of jobs and attempts. The flag says that the event took effect.
 pub record IsQuiet (took : Bool) (event : Event) : Type 0 where
   pub steps : (if took then steps_in event else []) ≡ []
   pub attempts : IsTrue took → attempts_in event ≡ []
-  pub claims : claims_in took event ≡ []
+  pub claims : attempts_claimed_in took event ≡ []
   pub beats : (job : ℕ) → (beats job event && took) ≡ false
   pub beaten : (job : ℕ) → (if took then beaten_in job event else None) ≡ None
   pub joins : (job : ℕ) → (joins job event && took) ≡ false

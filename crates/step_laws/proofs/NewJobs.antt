@@ -13,7 +13,7 @@ use Rattle.fleet_model.specs.Replay.{named_specs}
 use Rattle.fleet_model.specs.Store.{Records, stored_jobs}
 use Rattle.fleet_model.specs.JobsFit.{HoldApart, NodesHeldOnce, was_joined, joins, is_join_of}
 use Rattle.fleet_model.specs.AttemptsFit.{was_beaten}
-use Rattle.step_model.specs.Past.{Told}
+use Rattle.step_model.specs.Past.{World}
 use Rattle.step_model.specs.Entries.{was_named, attempts_in}
 use Rattle.step_model.specs.Faithful.{AgreesWith}
 use Rattle.step_model.specs.LawfulRecords.{AreNew}
@@ -124,14 +124,14 @@ refused : (b : Bool) → b ≡ false → IsTrue b → ⊥
 refused true e h = absurd (cc e)
 refused false e h = absurd (cc h)
 
-not_beaten : (merge : Operator) (told : Told) (specs : ℕ → JobSpec) → Body merge told specs → (id : ℕ) → was_named told.store.history id ≡ false → was_beaten told.store.history id ≡ false
-not_beaten merge told specs b id unnamed = by (was_beaten told.store.history id) refl
+not_beaten : (merge : Operator) (world : World) (specs : ℕ → JobSpec) → Body merge world specs → (id : ℕ) → was_named world.store.history id ≡ false → was_beaten world.store.history id ≡ false
+not_beaten merge world specs b id unnamed = by (was_beaten world.store.history id) refl
   where
-    by : (c : Bool) → was_beaten told.store.history id ≡ c → c ≡ false
+    by : (c : Bool) → was_beaten world.store.history id ≡ c → c ≡ false
     by true e =
-        let beat = first_beat id told.store.history e in
-        let up = all_at (IsUpTo told.store.history (stored_jobs told.store)) (attempts_in beat.1.entry.event) (id, beat.0) (all_at _ told.store.history beat.1.entry b.up_to beat.1.there beat.1.took) beat.1.named in
-        absurd (refused (was_named told.store.history id) unnamed up.0)
+        let beat = first_beat id world.store.history e in
+        let up = all_at (IsUpTo world.store.history (stored_jobs world.store)) (attempts_in beat.1.entry.event) (id, beat.0) (all_at _ world.store.history beat.1.entry b.up_to beat.1.there beat.1.took) beat.1.named in
+        absurd (refused (was_named world.store.history id) unnamed up.0)
     by false e = refl
 
 join_listed : (id : ℕ) (steps : List Step) → IsTrue (list_any (is_join_of id) steps) → IsIn id (flat_map join_of steps)
@@ -144,10 +144,10 @@ join_listed id (Join other ∷ steps) h = by (id == other) refl (join_listed id 
 join_listed id (Move other ∷ steps) h = join_listed id steps h
 join_listed id (Drain other ∷ steps) h = join_listed id steps h
 
-not_joined : (merge : Operator) (told : Told) (specs : ℕ → JobSpec) → Body merge told specs → (id : ℕ) → was_named told.store.history id ≡ false → IsTrue (was_joined told.store.history id) → ⊥
-not_joined merge told specs b id unnamed joined = at (any_element (λ (e : Entry). joins id e.event && stood e.answer) told.store.history joined)
+not_joined : (merge : Operator) (world : World) (specs : ℕ → JobSpec) → Body merge world specs → (id : ℕ) → was_named world.store.history id ≡ false → IsTrue (was_joined world.store.history id) → ⊥
+not_joined merge world specs b id unnamed joined = at (any_element (λ (e : Entry). joins id e.event && stood e.answer) world.store.history joined)
   where
-    join : (event : Event) (took : Bool) → (joins id event && took) ≡ true → (IsTrue took → AllByRecursion (λ n. IsTrue (was_named told.store.history n)) (joins_in event)) → IsTrue (was_named told.store.history id)
+    join : (event : Event) (took : Bool) → (joins id event && took) ≡ true → (IsTrue took → AllByRecursion (λ n. IsTrue (was_named world.store.history n)) (joins_in event)) → IsTrue (was_named world.store.history id)
     join (PutManifest (Commit steps)) true e all = all_at _ (flat_map join_of steps) id (all refl) (join_listed id steps (front _ e))
       where
         front : (c : Bool) → (c && true) ≡ true → IsTrue c
@@ -160,14 +160,14 @@ not_joined merge told specs b id unnamed joined = at (any_element (λ (e : Entry
         never false e = absurd (cc e)
     join event took e all = absurd (cc e)
 
-    at : Passes (λ (e : Entry). joins id e.event && stood e.answer) told.store.history → ⊥
-    at found = refused (was_named told.store.history id) unnamed (join found.element.event (stood found.element.answer) found.passes (all_at _ told.store.history found.element b.joined found.there))
+    at : Passes (λ (e : Entry). joins id e.event && stood e.answer) world.store.history → ⊥
+    at found = refused (was_named world.store.history id) unnamed (join found.element.event (stood found.element.answer) found.passes (all_at _ world.store.history found.element b.joined found.there))
 
--- A new job is kept behind the put that names it.
-pub new_kept : (merge : Operator) (told : Told) (specs : ℕ → JobSpec) (records : Records) (line : ℕ) (party : Party) (change : RecordChange) (answer : Answer) (p : ℕ × JobSpec) → stood answer ≡ true → Body merge told specs
-    → IsQuietFor (stood answer) (PutRecords change) p.0 → IsIn p (named_specs (PutRecords change)) → was_named told.store.history p.0 ≡ false
-    → JobKept merge (with_records told records (record { line = line; party = party; event = PutRecords change; answer = answer })) specs (new_job p)
-new_kept merge told specs records line party change answer p took b quiet there unnamed = record {
+-- A new job is kept after the put that names it.
+pub new_kept : (merge : Operator) (world : World) (specs : ℕ → JobSpec) (records : Records) (line : ℕ) (party : Party) (change : RecordChange) (answer : Answer) (p : ℕ × JobSpec) → stood answer ≡ true → Body merge world specs
+    → IsQuietFor (stood answer) (PutRecords change) p.0 → IsIn p (named_specs (PutRecords change)) → was_named world.store.history p.0 ≡ false
+    → JobKept merge (with_records world records (record { line = line; party = party; event = PutRecords change; answer = answer })) specs (new_job p)
+new_kept merge world specs records line party change answer p took b quiet there unnamed = record {
   fits = record {
     sources = ((λ waits. absurd (cc waits)), λ compacted. absurd (cc compacted));
     context = record { there = ((λ some. absurd (cc some)), λ both. absurd (never both.0)); fits = tt };
@@ -175,44 +175,44 @@ new_kept merge told specs records line party change answer p took b quiet there 
     tables = λ active. record { named = refl; sources = refl };
   };
   facts = record {
-    named = any_push_yes (λ (e : Entry). contains (firsts (named_specs e.event)) p.0 && stood e.answer) told.store.history (record { line = line; party = party; event = PutRecords change; answer = answer }) (rw (named_in p (named_specs (PutRecords change)) there, took) refl);
-    unbeaten = λ submitted. beaten_stays_so told.store.history (record { line = line; party = party; event = PutRecords change; answer = answer }) p.0 quiet.beats ∙ not_beaten merge told specs b p.0 unnamed;
+    named = any_push_yes (λ (e : Entry). contains (firsts (named_specs e.event)) p.0 && stood e.answer) world.store.history (record { line = line; party = party; event = PutRecords change; answer = answer }) (rw (named_in p (named_specs (PutRecords change)) there, took) refl);
+    unbeaten = λ submitted. beaten_stays_so world.store.history (record { line = line; party = party; event = PutRecords change; answer = answer }) p.0 quiet.beats ∙ not_beaten merge world specs b p.0 unnamed;
     unleased = λ waits. refl;
     flushed = λ holds. absurd (cc holds);
     drawn = λ active. tt;
     unused = λ unjoined. tt;
-    late = λ joined. absurd (not_joined merge told specs b p.0 unnamed (subst (λ c. IsTrue c) (joined_stays told.store.history (record { line = line; party = party; event = PutRecords change; answer = answer }) p.0 quiet.joins) joined));
+    late = λ joined. absurd (not_joined merge world specs b p.0 unnamed (subst (λ c. IsTrue c) (joined_stays world.store.history (record { line = line; party = party; event = PutRecords change; answer = answer }) p.0 quiet.joins) joined));
     stand = λ compacted joined. absurd (cc compacted);
   };
   spec = λ others faithful. all_at (λ q. others q.0 ≡ q.1) (named_specs (PutRecords change)) p
-      (all_back (λ (e : Entry). AgreesWith others e.event) told.store.history (record { line = line; party = party; event = PutRecords change; answer = answer } ∷ []) faithful.agrees).0 there;
+      (all_back (λ (e : Entry). AgreesWith others e.event) world.store.history (record { line = line; party = party; event = PutRecords change; answer = answer } ∷ []) faithful.agrees).0 there;
 }
   where
     never : IsTrue false → ⊥
     never h = absurd (cc h)
 
 -- All jobs are kept, old and new.
-pub all_kept_new : (merge : Operator) (told : Told) (specs : ℕ → JobSpec) (records : Records) (line : ℕ) (party : Party) (change : RecordChange) (answer : Answer) → stood answer ≡ true → Body merge told specs
-    → ((id : ℕ) → IsQuietFor (stood answer) (PutRecords change) id) → AreNew told (named_specs (PutRecords change)) → (job : Job) → IsIn job (with_new (named_specs (PutRecords change)) (stored_jobs told.store))
-    → JobKept merge (with_records told records (record { line = line; party = party; event = PutRecords change; answer = answer })) specs job
-all_kept_new merge told specs records line party change answer took b quiet new job there = by (in_new (named_specs (PutRecords change)) (stored_jobs told.store) job there)
+pub all_kept_new : (merge : Operator) (world : World) (specs : ℕ → JobSpec) (records : Records) (line : ℕ) (party : Party) (change : RecordChange) (answer : Answer) → stood answer ≡ true → Body merge world specs
+    → ((id : ℕ) → IsQuietFor (stood answer) (PutRecords change) id) → AreNew world (named_specs (PutRecords change)) → (job : Job) → IsIn job (with_new (named_specs (PutRecords change)) (stored_jobs world.store))
+    → JobKept merge (with_records world records (record { line = line; party = party; event = PutRecords change; answer = answer })) specs job
+all_kept_new merge world specs records line party change answer took b quiet new job there = by (in_new (named_specs (PutRecords change)) (stored_jobs world.store) job there)
   where
-    by : ((p : ℕ × JobSpec) × (IsIn p (named_specs (PutRecords change)) × (new_job p ≡ job))) ⊎ IsIn job (stored_jobs told.store)
-        → JobKept merge (with_records told records (record { line = line; party = party; event = PutRecords change; answer = answer })) specs job
-    by (inl found) = subst (JobKept merge (with_records told records (record { line = line; party = party; event = PutRecords change; answer = answer })) specs) found.1.1
-        (new_kept merge told specs records line party change answer found.0 took b (quiet found.0.0) found.1.0 (all_at _ (named_specs (PutRecords change)) found.0 new found.1.0))
-    by (inr old) = kept_quiet merge told specs records (record { line = line; party = party; event = PutRecords change; answer = answer }) job b (quiet job.id) old (all_at _ (stored_jobs told.store) job b.jobs old)
+    by : ((p : ℕ × JobSpec) × (IsIn p (named_specs (PutRecords change)) × (new_job p ≡ job))) ⊎ IsIn job (stored_jobs world.store)
+        → JobKept merge (with_records world records (record { line = line; party = party; event = PutRecords change; answer = answer })) specs job
+    by (inl found) = subst (JobKept merge (with_records world records (record { line = line; party = party; event = PutRecords change; answer = answer })) specs) found.1.1
+        (new_kept merge world specs records line party change answer found.0 took b (quiet found.0.0) found.1.0 (all_at _ (named_specs (PutRecords change)) found.0 new found.1.0))
+    by (inr old) = kept_quiet merge world specs records (record { line = line; party = party; event = PutRecords change; answer = answer }) job b (quiet job.id) old (all_at _ (stored_jobs world.store) job b.jobs old)
 
 -- No new id is that of a stored job.
-pub new_ids : (merge : Operator) (told : Told) (specs : ℕ → JobSpec) (named : List (ℕ × JobSpec)) → Body merge told specs → AreNew told named → (p : ℕ × JobSpec) (job : Job) → IsIn p named → IsIn job (stored_jobs told.store) → p.0 ≡ job.id → ⊥
-new_ids merge told specs named b new p job there one same =
-    refused (was_named told.store.history p.0) (all_at _ named p new there) (subst (λ id. IsTrue (was_named told.store.history id)) (sym same) (all_at _ (stored_jobs told.store) job b.jobs one).facts.named)
+pub new_ids : (merge : Operator) (world : World) (specs : ℕ → JobSpec) (named : List (ℕ × JobSpec)) → Body merge world specs → AreNew world named → (p : ℕ × JobSpec) (job : Job) → IsIn p named → IsIn job (stored_jobs world.store) → p.0 ≡ job.id → ⊥
+new_ids merge world specs named b new p job there one same =
+    refused (was_named world.store.history p.0) (all_at _ named p new there) (subst (λ id. IsTrue (was_named world.store.history id)) (sym same) (all_at _ (stored_jobs world.store) job b.jobs one).facts.named)
 
 -- An attempt that an entry names is still at most the stored one.
-pub later_new : (merge : Operator) (told : Told) (specs : ℕ → JobSpec) (named : List (ℕ × JobSpec)) (a : ℕ × ℕ) (job : Job) → Body merge told specs → AreNew told named → IsUpTo told.store.history (stored_jobs told.store) a
-    → IsIn job (with_new named (stored_jobs told.store)) → job.id ≡ a.0 → a.1 ≤ job.attempt
-later_new merge told specs named a job b new up there same = by (in_new named (stored_jobs told.store) job there)
+pub later_new : (merge : Operator) (world : World) (specs : ℕ → JobSpec) (named : List (ℕ × JobSpec)) (a : ℕ × ℕ) (job : Job) → Body merge world specs → AreNew world named → IsUpTo world.store.history (stored_jobs world.store) a
+    → IsIn job (with_new named (stored_jobs world.store)) → job.id ≡ a.0 → a.1 ≤ job.attempt
+later_new merge world specs named a job b new up there same = by (in_new named (stored_jobs world.store) job there)
   where
-    by : ((p : ℕ × JobSpec) × (IsIn p named × (new_job p ≡ job))) ⊎ IsIn job (stored_jobs told.store) → a.1 ≤ job.attempt
-    by (inl found) = absurd (refused (was_named told.store.history found.0.0) (all_at _ named found.0 new found.1.0) (subst (λ id. IsTrue (was_named told.store.history id)) (sym same ∙ sym (ap (λ (j : Job). j.id) found.1.1)) up.0))
-    by (inr old) = subst (λ o. IfSome o (λ (j : Job). a.1 ≤ j.attempt)) (ap (λ id. job_with id (stored_jobs told.store)) (sym same) ∙ found_job (stored_jobs told.store) job b.sound.job_ids old) up.1
+    by : ((p : ℕ × JobSpec) × (IsIn p named × (new_job p ≡ job))) ⊎ IsIn job (stored_jobs world.store) → a.1 ≤ job.attempt
+    by (inl found) = absurd (refused (was_named world.store.history found.0.0) (all_at _ named found.0 new found.1.0) (subst (λ id. IsTrue (was_named world.store.history id)) (sym same ∙ sym (ap (λ (j : Job). j.id) found.1.1)) up.0))
+    by (inr old) = subst (λ o. IfSome o (λ (j : Job). a.1 ≤ j.attempt)) (ap (λ id. job_with id (stored_jobs world.store)) (sym same) ∙ found_job (stored_jobs world.store) job b.sound.job_ids old) up.1

@@ -4,7 +4,7 @@ use Rattle.std.specs.Prelude.{IfSome}
 use Rattle.std.proofs.lemmas.List.{append-nil}
 use Rattle.row_model.specs.Lists.{Pairs}
 use Rattle.row_model.specs.Fold.{Operator}
-use Rattle.fleet_model.specs.Jobs.{JobSpec, Job, Jobs, trimmed, job_with}
+use Rattle.fleet_model.specs.Jobs.{JobSpec, Job, Jobs, trimmed_jobs, job_with}
 use Rattle.fleet_model.specs.History.{Party, PutRecords, RecordChange, Submit, Entry, Answer, stood}
 use Rattle.fleet_model.specs.Records.{Unrecorded, with_new, after_change, jobs_after}
 use Rattle.fleet_model.specs.Trees.{tables_now}
@@ -13,8 +13,8 @@ use Rattle.fleet_model.specs.Store.{Records, stored_jobs, records_epoch}
 use Rattle.fleet_model.specs.Exchanges.{records_version}
 use Rattle.fleet_model.specs.Handles.{job_tables}
 use Rattle.fleet_model.specs.JobsFit.{NodesHeldOnce}
-use Rattle.step_model.specs.Past.{Told}
-use Rattle.step_model.specs.Entries.{attempts_in, claims_in, tables_brought_in}
+use Rattle.step_model.specs.Past.{World}
+use Rattle.step_model.specs.Entries.{attempts_in, attempts_claimed_in, tables_brought_in}
 use Rattle.step_model.specs.Faithful.{with_specs}
 use Rattle.step_model.specs.LawfulRecords.{NamesFit}
 use Rattle.step_model.specs.NamesKept.{IsUpTo}
@@ -34,73 +34,73 @@ use Rattle.step_laws.proofs.RecordsPuts.{StandingPutKeeps}
 use Rattle.step_laws.proofs.Changed.{job_found, in_trimmed, pairs_trimmed, same_epoch_fits}
 use Rattle.step_laws.proofs.NewJobs.{rise_new, pairs_new, held_once_new, all_kept_new, new_ids, later_new}
 
--- The records behind a put that makes these jobs.
-abbrev pub new_records : Told → Jobs → Records
-new_records told after = record { version = records_version told.store.records + 1; epoch = records_epoch told.store.records; jobs = trimmed after }
+-- The records after a put that makes these jobs.
+abbrev pub new_records : World → Jobs → Records
+new_records world after = record { version = records_version world.store.records + 1; epoch = records_epoch world.store.records; jobs = trimmed_jobs after }
 
 -- What the jobs that a put makes have to be.
-pub record NewPut (merge : Operator) (told : Told) (specs : ℕ → JobSpec) (after : Jobs) (entry : Entry) : Type 0 where
+pub record NewPut (merge : Operator) (world : World) (specs : ℕ → JobSpec) (after : Jobs) (entry : Entry) : Type 0 where
   pub rise : Pairs (λ a b. a.id < b.id) after
-  pub held_once : NodesHeldOnce (trimmed after)
+  pub held_once : NodesHeldOnce (trimmed_jobs after)
   pub apart : Pairs NameApart after
-  pub later : (a : ℕ × ℕ) → IsUpTo told.store.history (stored_jobs told.store) a → (job : Job) → IsIn job after → job.id ≡ a.0 → a.1 ≤ job.attempt
-  pub kept : (job : Job) → IsIn job after → JobKept merge (with_records told (new_records told after) entry) specs job
+  pub later : (a : ℕ × ℕ) → IsUpTo world.store.history (stored_jobs world.store) a → (job : Job) → IsIn job after → job.id ≡ a.0 → a.1 ≤ job.attempt
+  pub kept : (job : Job) → IsIn job after → JobKept merge (with_records world (new_records world after) entry) specs job
 
 -- How the change is made.
-pub record MakesNew (told : Told) (u : Unrecorded) (change : RecordChange) (after : Jobs) : Type 0 where
-  pub makes : after_change u change (stored_jobs told.store) ≡ after
-  pub tables : SameTables u (tables_now told.store.manifest.trees) change (stored_jobs told.store)
-  pub epoch : epoch_after change told.store.records ≡ records_epoch told.store.records
+pub record MakesNew (world : World) (u : Unrecorded) (change : RecordChange) (after : Jobs) : Type 0 where
+  pub makes : after_change u change (stored_jobs world.store) ≡ after
+  pub tables : SameTables u (tables_now world.store.manifest.trees) change (stored_jobs world.store)
+  pub epoch : epoch_after change world.store.records ≡ records_epoch world.store.records
   pub attempts : attempts_in (PutRecords change) ≡ []
-  pub claims : claims_in true (PutRecords change) ≡ []
+  pub claims : attempts_claimed_in true (PutRecords change) ≡ []
   pub brought : tables_brought_in true (PutRecords change) ≡ []
 
--- The specs by which the history is replayed behind the put.
+-- The specs by which the history is replayed after the put.
 abbrev pub new_specs : RecordChange → (ℕ → JobSpec) → ℕ → JobSpec
 new_specs change specs = with_specs (named_specs (PutRecords change)) specs
 
-keeps_new : (merge : Operator) (told : Told) (u : Unrecorded) (change : RecordChange) (after : Jobs) (line : ℕ) (party : Party) (answer : Answer) → stood answer ≡ true → (k : Keeps merge told) → NamesFit party told (named_specs (PutRecords change))
-    → MakesNew told u change after → NewPut merge told (new_specs change k.stored.replay.specs) after (record { line = line; party = party; event = PutRecords change; answer = answer })
-    → Keeps merge (with_records told (new_records told after) (record { line = line; party = party; event = PutRecords change; answer = answer }))
-keeps_new merge told u change after line party answer took k names made put =
+keeps_new : (merge : Operator) (world : World) (u : Unrecorded) (change : RecordChange) (after : Jobs) (line : ℕ) (party : Party) (answer : Answer) → stood answer ≡ true → (k : Keeps merge world) → NamesFit party world (named_specs (PutRecords change))
+    → MakesNew world u change after → NewPut merge world (new_specs change k.stored.replay.specs) after (record { line = line; party = party; event = PutRecords change; answer = answer })
+    → Keeps merge (with_records world (new_records world after) (record { line = line; party = party; event = PutRecords change; answer = answer }))
+keeps_new merge world u change after line party answer took k names made put =
     let entry : Entry = record { line = line; party = party; event = PutRecords change; answer = answer } in
-    let w = whole_of merge told k in
+    let w = whole_of merge world k in
     let specs = new_specs change k.stored.replay.specs in
-    let b = body_by merge told k.stored.replay.specs specs w.body (names.replays k.stored.replay.specs k.faithful) in
-    let records = new_records told after in
-    keeps_of merge (with_records told records entry) specs (record {
-      body = body_with_records merge told specs records line party change answer took (record {
-        objects = objects_after told specs line party change answer u (records_version told.store.records) (records_epoch told.store.records) (trimmed after) took refl (sym (ap trimmed made.makes)) (sym made.epoch) made.tables;
+    let b = body_by merge world k.stored.replay.specs specs w.body (names.replays k.stored.replay.specs k.faithful) in
+    let records = new_records world after in
+    keeps_of merge (with_records world records entry) specs (record {
+      body = body_with_records merge world specs records line party change answer took (record {
+        objects = objects_after world specs line party change answer u (records_version world.store.records) (records_epoch world.store.records) (trimmed_jobs after) took refl (sym (ap trimmed_jobs made.makes)) (sym made.epoch) made.tables;
         job_ids = pairs_trimmed _ after put.rise;
-        epochs = same_epoch_fits told.store.manifest told.store.records (records_version told.store.records + 1) (trimmed after) b.trees.epochs;
+        epochs = same_epoch_fits world.store.manifest world.store.records (records_version world.store.records + 1) (trimmed_jobs after) b.trees.epochs;
         held_once = put.held_once;
         name_apart = pairs_trimmed _ after put.apart;
         trimmed_already = trimmed_once after;
         agrees = named_agree (named_specs (PutRecords change)) k.stored.replay.specs names.once;
-        drawn = all_firsts _ (named_specs (PutRecords change)) (named_drawn party told (named_specs (PutRecords change)) names);
-        later = λ a up. (named_grows told.store.history entry a.0 up.0, found a up (job_with a.0 (trimmed after)) refl);
+        drawn = all_firsts _ (named_specs (PutRecords change)) (named_drawn party world (named_specs (PutRecords change)) names);
+        later = λ a up. (named_grows world.store.history entry a.0 up.0, found a up (job_with a.0 (trimmed_jobs after)) refl);
         own = rw made.attempts tt;
         once = rw (made.claims, append-nil) b.once;
         jobs = all_trimmed _ after (all_from _ after put.kept);
       }) b;
-      draws = draws_mute told.store.jobs_drawn told.store.tables_drawn told.store.history entry refl refl w.draws;
-      puts = puts_kept told.store.history entry told.store.tables (table_none (stood answer) entry.event refl) (rw (took, made.brought) tt) w.puts;
+      draws = draws_mute world.store.jobs_drawn world.store.tables_drawn world.store.history entry refl refl w.draws;
+      puts = puts_kept world.store.history entry world.store.tables (table_none (stood answer) entry.event refl) (rw (took, made.brought) tt) w.puts;
     })
   where
-    found : (a : ℕ × ℕ) → IsUpTo told.store.history (stored_jobs told.store) a → (o : Option Job) → job_with a.0 (trimmed after) ≡ o → IfSome o (λ (j : Job). a.1 ≤ j.attempt)
+    found : (a : ℕ × ℕ) → IsUpTo world.store.history (stored_jobs world.store) a → (o : Option Job) → job_with a.0 (trimmed_jobs after) ≡ o → IfSome o (λ (j : Job). a.1 ≤ j.attempt)
     found a up None e = tt
-    found a up (Some job) e = let it = job_found a.0 (trimmed after) job e in put.later a up job (in_trimmed after job it.there) it.same
+    found a up (Some job) e = let it = job_found a.0 (trimmed_jobs after) job e in put.later a up job (in_trimmed after job it.there) it.same
 
-pub new_put_keeps : (merge : Operator) (told : Told) (u : Unrecorded) (change : RecordChange) (after : Jobs) (line : ℕ) (party : Party) (answer : Answer) (epoch : ℕ) (jobs : Jobs) → stood answer ≡ true → (k : Keeps merge told) → NamesFit party told (named_specs (PutRecords change))
-    → MakesNew told u change after → jobs ≡ jobs_after u change (stored_jobs told.store) → epoch ≡ epoch_after change told.store.records
-    → NewPut merge told (new_specs change k.stored.replay.specs) after (record { line = line; party = party; event = PutRecords change; answer = answer })
-    → Keeps merge (with_records told (record { version = records_version told.store.records + 1; epoch = epoch; jobs = jobs }) (record { line = line; party = party; event = PutRecords change; answer = answer }))
-new_put_keeps merge told u change after line party answer epoch jobs took k names made makes_jobs makes_epoch put =
-    let same_jobs = makes_jobs ∙ ap trimmed made.makes in
+pub new_put_keeps : (merge : Operator) (world : World) (u : Unrecorded) (change : RecordChange) (after : Jobs) (line : ℕ) (party : Party) (answer : Answer) (epoch : ℕ) (jobs : Jobs) → stood answer ≡ true → (k : Keeps merge world) → NamesFit party world (named_specs (PutRecords change))
+    → MakesNew world u change after → jobs ≡ jobs_after u change (stored_jobs world.store) → epoch ≡ epoch_after change world.store.records
+    → NewPut merge world (new_specs change k.stored.replay.specs) after (record { line = line; party = party; event = PutRecords change; answer = answer })
+    → Keeps merge (with_records world (record { version = records_version world.store.records + 1; epoch = epoch; jobs = jobs }) (record { line = line; party = party; event = PutRecords change; answer = answer }))
+new_put_keeps merge world u change after line party answer epoch jobs took k names made makes_jobs makes_epoch put =
+    let same_jobs = makes_jobs ∙ ap trimmed_jobs made.makes in
     let same_epoch = makes_epoch ∙ made.epoch in
-    subst (λ (r : Records). Keeps merge (with_records told r (record { line = line; party = party; event = PutRecords change; answer = answer })))
-    (λ i. record { version = records_version told.store.records + 1; epoch = sym same_epoch i; jobs = sym same_jobs i })
-    (keeps_new merge told u change after line party answer took k names made put)
+    subst (λ (r : Records). Keeps merge (with_records world r (record { line = line; party = party; event = PutRecords change; answer = answer })))
+    (λ i. record { version = records_version world.store.records + 1; epoch = sym same_epoch i; jobs = sym same_jobs i })
+    (keeps_new merge world u change after line party answer took k names made put)
 
 -- ---- submits
 
@@ -121,16 +121,16 @@ kept_epoch named None = refl
 kept_epoch named (Some records) = refl
 
 pub submits_keep : (merge : Operator) (named : List (ℕ × JobSpec)) → StandingPutKeeps merge (Submit named)
-submits_keep merge named line party answer told epoch jobs took k names fits =
+submits_keep merge named line party answer world epoch jobs took k names fits =
     let specs = new_specs (Submit named) k.stored.replay.specs in
-    let b = body_by merge told k.stored.replay.specs specs (whole_of merge told k).body (names.replays k.stored.replay.specs k.faithful) in
-    let after = with_new named (stored_jobs told.store) in
-    new_put_keeps merge told fits.unrecorded (Submit named) after line party answer epoch jobs took k names
-    (record { makes = refl; tables = tt; epoch = kept_epoch named told.store.records; attempts = refl; claims = refl; brought = refl }) fits.makes_jobs fits.makes_epoch
+    let b = body_by merge world k.stored.replay.specs specs (whole_of merge world k).body (names.replays k.stored.replay.specs k.faithful) in
+    let after = with_new named (stored_jobs world.store) in
+    new_put_keeps merge world fits.unrecorded (Submit named) after line party answer epoch jobs took k names
+    (record { makes = refl; tables = tt; epoch = kept_epoch named world.store.records; attempts = refl; claims = refl; brought = refl }) fits.makes_jobs fits.makes_epoch
     (record {
-      rise = rise_new named (stored_jobs told.store) names.once (new_ids merge told specs named b fits.fits.new) b.sound.job_ids;
-      held_once = pairs_trimmed _ after (held_once_new named (stored_jobs told.store) b.held_once);
-      apart = names_new named (stored_jobs told.store) b.name_apart;
-      later = λ a up job there same. later_new merge told specs named a job b fits.fits.new up there same;
-      kept = all_kept_new merge told specs (new_records told after) line party (Submit named) answer took b (quiet_submit (stood answer) named) fits.fits.new;
+      rise = rise_new named (stored_jobs world.store) names.once (new_ids merge world specs named b fits.fits.new) b.sound.job_ids;
+      held_once = pairs_trimmed _ after (held_once_new named (stored_jobs world.store) b.held_once);
+      apart = names_new named (stored_jobs world.store) b.name_apart;
+      later = λ a up job there same. later_new merge world specs named a job b fits.fits.new up there same;
+      kept = all_kept_new merge world specs (new_records world after) line party (Submit named) answer took b (quiet_submit (stood answer) named) fits.fits.new;
     })

@@ -6,7 +6,7 @@ use Rattle.fleet_model.specs.Jobs.{JobSpec, Job, Status, Submitted, Scheduled, R
 use Rattle.fleet_model.specs.JobsFit.{SourcesStand, was_joined}
 use Rattle.fleet_model.specs.AttemptsFit.{ContextFits}
 use Rattle.fleet_model.specs.Claimed.{IsClaimed}
-use Rattle.step_model.specs.Past.{Told}
+use Rattle.step_model.specs.Past.{World}
 use Rattle.step_model.specs.TablesKept.{is_unjoined}
 use Rattle.step_laws.proofs.Bodies.{JobKept}
 use Rattle.step_laws.proofs.TableBodies.{active_if_open}
@@ -63,10 +63,10 @@ no_lease Failed lease h leased waits = absurd (cc h)
 abbrev pub with_state : Status → Option Lease → ℕ → Job → Job
 with_state status lease attempt job = record job { status = status; lease = lease; attempt = attempt }
 
-pub kept_open : (merge : Operator) (told : Told) (specs : ℕ → JobSpec) (status : Status) (lease : Option Lease) (attempt : ℕ) (job : Job) → IsTrue (is_open job.status) → IsTrue (is_open status) → IsLeased status lease
-    → ((c : Context) → job.context ≡ Some c → IsClaimed told.store specs job.id job.attempt c → IsClaimed told.store specs job.id attempt c)
-    → JobKept merge told specs job → JobKept merge told specs (with_state status lease attempt job)
-kept_open merge told specs status lease attempt job was is leased claims kept = record {
+pub kept_open : (merge : Operator) (world : World) (specs : ℕ → JobSpec) (status : Status) (lease : Option Lease) (attempt : ℕ) (job : Job) → IsTrue (is_open job.status) → IsTrue (is_open status) → IsLeased status lease
+    → ((c : Context) → job.context ≡ Some c → IsClaimed world.store specs job.id job.attempt c → IsClaimed world.store specs job.id attempt c)
+    → JobKept merge world specs job → JobKept merge world specs (with_state status lease attempt job)
+kept_open merge world specs status lease attempt job was is leased claims kept = record {
   fits = record {
     sources = ((λ waits. stand (kept.fits.sources.0 was)), λ compacted. absurd (open_not_compacted status is compacted));
     context = record {
@@ -89,15 +89,15 @@ kept_open merge told specs status lease attempt job was is leased claims kept = 
   spec = kept.spec;
 }
   where
-    stand : SourcesStand told.store.manifest.trees job → SourcesStand told.store.manifest.trees (with_state status lease attempt job)
+    stand : SourcesStand world.store.manifest.trees job → SourcesStand world.store.manifest.trees (with_state status lease attempt job)
     stand s = record { some = s.some; stretch = s.stretch; source_tables = s.source_tables; destination = s.destination }
 
-    context : (o : Option Context) → job.context ≡ o → IfSome o (ContextFits merge told.store specs job) → IfSome o (ContextFits merge told.store specs (with_state status lease attempt job))
+    context : (o : Option Context) → job.context ≡ o → IfSome o (ContextFits merge world.store specs job) → IfSome o (ContextFits merge world.store specs (with_state status lease attempt job))
     context None e fits = tt
     context (Some c) e fits = record { claimed = claims c e fits.claimed; settings = fits.settings; cut = fits.cut; ranges = fits.ranges; tables = fits.tables }
 
-    unjoined_before : IsTrue (is_unjoined told.store.history (with_state status lease attempt job)) → IsTrue (is_unjoined told.store.history job)
-    unjoined_before unjoined = both (is_active job) (not (was_joined told.store.history job.id)) (active_if_open job was) (second (is_active (with_state status lease attempt job)) (not (was_joined told.store.history job.id)) unjoined)
+    unjoined_before : IsTrue (is_unjoined world.store.history (with_state status lease attempt job)) → IsTrue (is_unjoined world.store.history job)
+    unjoined_before unjoined = both (is_active job) (not (was_joined world.store.history job.id)) (active_if_open job was) (second (is_active (with_state status lease attempt job)) (not (was_joined world.store.history job.id)) unjoined)
       where
         second : (a b : Bool) → IsTrue (a && b) → IsTrue b
         second true b h = h

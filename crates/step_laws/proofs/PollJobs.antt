@@ -14,7 +14,7 @@ use Rattle.fleet_model.specs.Sources.{after_front, or_later, older_nodes, reache
 use Rattle.fleet_model.specs.Store.{is_held, WerePut}
 use Rattle.fleet_model.specs.JobsFit.{SourcesStand, was_joined}
 use Rattle.fleet_model.specs.AttemptsFit.{ContextFits, was_beaten}
-use Rattle.step_model.specs.Past.{Told}
+use Rattle.step_model.specs.Past.{World}
 use Rattle.step_model.specs.Entries.{was_flushed}
 use Rattle.step_model.specs.TablesKept.{IsFlush, IsFlushed}
 use Rattle.step_laws.proofs.Elements.{all_to, all_back, all_true_front, all_true_from}
@@ -137,8 +137,8 @@ second false b h = absurd (cc h)
 abbrev pub with_end : Status → Option Context → List ℕ → Job → Job
 with_end status context tables job = record job { status = status; source_tables = tables; context = context }
 
-pub kept_over : (merge : Operator) (told : Told) (specs : ℕ → JobSpec) (status : Status) (context : Option Context) (tables : List ℕ) (job : Job) → IsTrue (is_finished status) → context ≡ None → JobKept merge told specs job → JobKept merge told specs (with_end status context tables job)
-kept_over merge told specs status context tables job over none kept = record {
+pub kept_over : (merge : Operator) (world : World) (specs : ℕ → JobSpec) (status : Status) (context : Option Context) (tables : List ℕ) (job : Job) → IsTrue (is_finished status) → context ≡ None → JobKept merge world specs job → JobKept merge world specs (with_end status context tables job)
+kept_over merge world specs status context tables job over none kept = record {
   fits = record {
     sources = ((λ waits. absurd (over_not_open status over waits)), λ compacted. absurd (over_not_compacted status over compacted));
     context = record { there = ((λ some. absurd (no_context context none some)), λ h. absurd (over_not_open status over h.0)); fits = fits context none };
@@ -151,7 +151,7 @@ kept_over merge told specs status context tables job over none kept = record {
     unleased = λ waits. absurd (over_not_early status over waits);
     flushed = λ holds. absurd (over_holds_none status over holds);
     drawn = λ active. absurd (over_not_active status over active);
-    unused = λ unjoined. absurd (over_not_active status over (first (is_active (with_end status context tables job)) (not (was_joined told.store.history job.id)) unjoined));
+    unused = λ unjoined. absurd (over_not_active status over (first (is_active (with_end status context tables job)) (not (was_joined world.store.history job.id)) unjoined));
     late = λ joined. over_late status over;
     stand = λ compacted joined. absurd (over_not_compacted status over compacted);
   };
@@ -162,7 +162,7 @@ kept_over merge told specs status context tables job over none kept = record {
     no_context None e some = absurd (cc some)
     no_context (Some c) e some = absurd (cc e)
 
-    fits : (o : Option Context) → o ≡ None → IfSome o (ContextFits merge told.store specs (with_end status context tables job))
+    fits : (o : Option Context) → o ≡ None → IfSome o (ContextFits merge world.store specs (with_end status context tables job))
     fits None e = tt
     fits (Some c) e = absurd (cc e)
 
@@ -239,28 +239,28 @@ tree_has P prefix trees empty all = by (segment_at prefix trees) refl
     by None e = empty
     by (Some s) e = all_found_at (λ (t : Segment). P t.tree) _ trees s all e
 
-pub kept_scheduled : (merge : Operator) (told : Told) (specs : ℕ → JobSpec) (tables_of : JobSpec → List ℕ) (job : Job) → IsTrue (has_status Submitted job) → tables_of job.spec ≡ tables_now told.store.manifest.trees job.spec
-    → AllByRecursion (λ s. AllByRecursion (λ node. WerePut told.store node.pieces) s.tree) told.store.manifest.trees → AllByRecursion (λ s. AllByRecursion (λ node. IsFlush told.store.history node node.name) s.tree) told.store.manifest.trees
-    → SourcesStand told.store.manifest.trees (to_scheduled tables_of job) → JobKept merge told specs job → JobKept merge told specs (to_scheduled tables_of job)
-kept_scheduled merge told specs tables_of job submitted tables put flushes stand kept = record {
+pub kept_scheduled : (merge : Operator) (world : World) (specs : ℕ → JobSpec) (tables_of : JobSpec → List ℕ) (job : Job) → IsTrue (has_status Submitted job) → tables_of job.spec ≡ tables_now world.store.manifest.trees job.spec
+    → AllByRecursion (λ s. AllByRecursion (λ node. WerePut world.store node.pieces) s.tree) world.store.manifest.trees → AllByRecursion (λ s. AllByRecursion (λ node. IsFlush world.store.history node node.name) s.tree) world.store.manifest.trees
+    → SourcesStand world.store.manifest.trees (to_scheduled tables_of job) → JobKept merge world specs job → JobKept merge world specs (to_scheduled tables_of job)
+kept_scheduled merge world specs tables_of job submitted tables put flushes stand kept = record {
   fits = record {
     sources = ((λ waits. stand), λ compacted. absurd (cc compacted));
-    context = record { there = ((λ some. absurd (cc some)), λ h. absurd (refused (was_beaten told.store.history job.id) (kept.facts.unbeaten submitted) h.1)); fits = tt };
+    context = record { there = ((λ some. absurd (cc some)), λ h. absurd (refused (was_beaten world.store.history job.id) (kept.facts.unbeaten submitted) h.1)); fits = tt };
     outputs = λ compacted. absurd (cc compacted);
     tables = λ active. record {
-      named = all_true_from (is_held told.store) (concat job.outputs) (all_back _ (context_tables job.context) (concat job.outputs) (all_true_front (is_held told.store) (job_tables job) (kept.fits.tables was).named));
-      sources = all_true_from (is_among told.store.tables) (tables_of job.spec) (rw tables (sources_all (IsPut told.store.tables) job.spec.sources (tree_at job.spec.segment told.store.manifest.trees)
-          (tree_has (TreeAll (IsPut told.store.tables)) job.spec.segment told.store.manifest.trees tt (all_to _ _ told.store.manifest.trees (λ s there old. all_to _ _ s.tree (λ node one is. all_true_front (is_among told.store.tables) node.pieces is) old) put))));
+      named = all_true_from (is_held world.store) (concat job.outputs) (all_back _ (context_tables job.context) (concat job.outputs) (all_true_front (is_held world.store) (job_tables job) (kept.fits.tables was).named));
+      sources = all_true_from (is_among world.store.tables) (tables_of job.spec) (rw tables (sources_all (IsPut world.store.tables) job.spec.sources (tree_at job.spec.segment world.store.manifest.trees)
+          (tree_has (TreeAll (IsPut world.store.tables)) job.spec.segment world.store.manifest.trees tt (all_to _ _ world.store.manifest.trees (λ s there old. all_to _ _ s.tree (λ node one is. all_true_front (is_among world.store.tables) node.pieces is) old) put))));
     };
   };
   facts = record {
     named = kept.facts.named;
     unbeaten = λ never. absurd (cc never);
     unleased = λ waits. kept.facts.unleased (submitted_early job.status submitted);
-    flushed = λ holds. all_to _ _ job.spec.sources (λ name there named. node_flushed told.store.history (tree_at job.spec.segment told.store.manifest.trees) name
-        (tree_has (λ tree. AllByRecursion (λ node. IsFlush told.store.history node node.name) tree) job.spec.segment told.store.manifest.trees tt flushes) named) (stretch_in (tree_at job.spec.segment told.store.manifest.trees) job.spec.sources stand.stretch);
+    flushed = λ holds. all_to _ _ job.spec.sources (λ name there named. node_flushed world.store.history (tree_at job.spec.segment world.store.manifest.trees) name
+        (tree_has (λ tree. AllByRecursion (λ node. IsFlush world.store.history node node.name) tree) job.spec.segment world.store.manifest.trees tt flushes) named) (stretch_in (tree_at job.spec.segment world.store.manifest.trees) job.spec.sources stand.stretch);
     drawn = λ active. all_back _ (context_tables job.context) (concat job.outputs) (kept.facts.drawn was);
-    unused = λ unjoined. all_back _ (context_tables job.context) (concat job.outputs) (kept.facts.unused (both (is_active job) (not (was_joined told.store.history job.id)) was unjoined));
+    unused = λ unjoined. all_back _ (context_tables job.context) (concat job.outputs) (kept.facts.unused (both (is_active job) (not (was_joined world.store.history job.id)) was unjoined));
     late = λ joined. absurd (submitted_not_late job.status submitted (kept.facts.late joined));
     stand = λ compacted joined. absurd (cc compacted);
   };

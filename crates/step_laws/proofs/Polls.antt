@@ -4,7 +4,7 @@ use Rattle.std.specs.Prelude.{IsTrue, ◌&&◌, ◌||◌, is_some, map}
 use Rattle.std.specs.List.{AllByRecursion, concat}
 use Rattle.row_model.specs.Lists.{Pairs}
 use Rattle.row_model.specs.Fold.{Operator}
-use Rattle.fleet_model.specs.Jobs.{JobSpec, Job, Jobs, Context, Status, Submitted, Scheduled, Running, Compacted, Completed, Failed, status_eq, has_status, is_finished, is_active, contains, changed, trimmed, finished_later, job_with}
+use Rattle.fleet_model.specs.Jobs.{JobSpec, Job, Jobs, Context, Status, Submitted, Scheduled, Running, Compacted, Completed, Failed, status_eq, has_status, is_finished, is_active, contains, changed_jobs, trimmed_jobs, finished_later, job_with}
 use Rattle.fleet_model.specs.History.{Party, PutRecords, Polled, PollChange, Entry, Answer, stood}
 use Rattle.fleet_model.specs.Records.{Unrecorded, with_new, new_job, to_waiting, to_scheduled, to_completed, to_failed}
 use Rattle.fleet_model.specs.Handles.{job_tables, context_tables}
@@ -12,7 +12,7 @@ use Rattle.fleet_model.specs.Trees.{tables_now}
 use Rattle.fleet_model.specs.Replay.{epoch_after}
 use Rattle.fleet_model.specs.Store.{Records, stored_jobs, records_epoch, WerePut}
 use Rattle.fleet_model.specs.JobsFit.{SourcesStand, NodesHeldOnce}
-use Rattle.step_model.specs.Past.{Told}
+use Rattle.step_model.specs.Past.{World}
 use Rattle.step_model.specs.LawfulRecords.{OfSome, may_end, PollFits}
 use Rattle.step_model.specs.NamesKept.{IsUpTo}
 use Rattle.step_model.specs.TablesKept.{NameApart, IsFlush}
@@ -40,7 +40,7 @@ abbrev pub poll_on : Unrecorded → PollChange → Job → Job
 poll_on u change job = on_these to_failed change.failed (on_these to_completed change.completed (on_these (to_scheduled u.tables_of) change.scheduled (on_these to_waiting change.freed job)))
 
 pub poll_map : (u : Unrecorded) (change : PollChange) (jobs : Jobs)
-    → changed to_failed change.failed (changed to_completed change.completed (changed (to_scheduled u.tables_of) change.scheduled (changed to_waiting change.freed jobs))) ≡ map (poll_on u change) jobs
+    → changed_jobs to_failed change.failed (changed_jobs to_completed change.completed (changed_jobs (to_scheduled u.tables_of) change.scheduled (changed_jobs to_waiting change.freed jobs))) ≡ map (poll_on u change) jobs
 poll_map u change [] = refl
 poll_map u change (job ∷ jobs) = ap (λ js. poll_on u change job ∷ js) (poll_map u change jobs)
 
@@ -189,7 +189,7 @@ from_map f (x ∷ xs) y (inl same) = (x, (inl refl, same))
 from_map f (x ∷ xs) y (inr there) = let found = from_map f xs y there in (found.0, (inr found.1.0, found.1.1))
 
 -- A put keeps each active job.
-active_in : (jobs : Jobs) (job : Job) → IsIn job jobs → IsTrue (is_active job) → IsIn job (trimmed jobs)
+active_in : (jobs : Jobs) (job : Job) → IsIn job jobs → IsTrue (is_active job) → IsIn job (trimmed_jobs jobs)
 active_in [] job there active = absurd there
 active_in (j ∷ jobs) job there active = by (is_active j) refl (finished_later jobs) there (λ one. active_in jobs job one active)
   where
@@ -197,15 +197,15 @@ active_in (j ∷ jobs) job there active = by (is_active j) refl (finished_later 
     refused true e h = absurd (cc e)
     refused false e h = absurd (cc h)
 
-    at : (k : List Job) → (j ≡ job) ⊎ IsIn job jobs → (IsIn job jobs → IsIn job (trimmed jobs)) → IsIn job (j ∷ trimmed jobs)
+    at : (k : List Job) → (j ≡ job) ⊎ IsIn job jobs → (IsIn job jobs → IsIn job (trimmed_jobs jobs)) → IsIn job (j ∷ trimmed_jobs jobs)
     at k (inl same) rest = inl same
     at k (inr one) rest = inr (rest one)
 
-    gone : is_active j ≡ false → (j ≡ job) ⊎ IsIn job jobs → (IsIn job jobs → IsIn job (trimmed jobs)) → IsIn job (trimmed jobs)
+    gone : is_active j ≡ false → (j ≡ job) ⊎ IsIn job jobs → (IsIn job jobs → IsIn job (trimmed_jobs jobs)) → IsIn job (trimmed_jobs jobs)
     gone e (inl same) rest = absurd (refused (is_active job) (ap is_active (sym same) ∙ e) active)
     gone e (inr one) rest = rest one
 
-    by : (a : Bool) → is_active j ≡ a → (later : Bool) → (j ≡ job) ⊎ IsIn job jobs → (IsIn job jobs → IsIn job (trimmed jobs)) → IsIn job (cond a (j ∷ trimmed jobs) (cond later (trimmed jobs) (j ∷ trimmed jobs)))
+    by : (a : Bool) → is_active j ≡ a → (later : Bool) → (j ≡ job) ⊎ IsIn job jobs → (IsIn job jobs → IsIn job (trimmed_jobs jobs)) → IsIn job (cond a (j ∷ trimmed_jobs jobs) (cond later (trimmed_jobs jobs) (j ∷ trimmed_jobs jobs)))
     by true e later there rest = at jobs there rest
     by false e true there rest = gone e there rest
     by false e false there rest = at jobs there rest
@@ -225,18 +225,18 @@ none_there None h = refl
 none_there (Some c) h = absurd (h refl)
 
 -- What is asked of a poll, of each job by itself.
-may_do : (merge : Operator) (told : Told) (specs : ℕ → JobSpec) (party : Party) (u : Unrecorded) (change : PollChange) (jobs : Jobs) (t : Told) → Body merge told specs → PollFits party told u change jobs → Pairs (λ a b. a.id < b.id) (with_new change.added (stored_jobs told.store))
-    → (job : Job) → IsIn job (with_new change.added (stored_jobs told.store)) → JobKept merge t specs job → MayDo u (tables_now told.store.manifest.trees job.spec) change job
-may_do merge told specs party u change jobs t b fits rise job there kept = record {
-  freed = λ named. stored (in_new change.added (stored_jobs told.store) job there) (stored_as told (λ j. IsTrue (has_status Running j)) job.id (all_at _ change.freed job.id fits.freed (contains_in change.freed job.id named)));
-  opened = λ named. subst (OfSome (λ j. IsTrue (has_status Submitted j) × (u.tables_of j.spec ≡ tables_now told.store.manifest.trees j.spec))) found (all_at _ change.scheduled job.id fits.opened (contains_in change.scheduled job.id named));
+may_do : (merge : Operator) (world : World) (specs : ℕ → JobSpec) (party : Party) (u : Unrecorded) (change : PollChange) (jobs : Jobs) (t : World) → Body merge world specs → PollFits party world u change jobs → Pairs (λ a b. a.id < b.id) (with_new change.added (stored_jobs world.store))
+    → (job : Job) → IsIn job (with_new change.added (stored_jobs world.store)) → JobKept merge t specs job → MayDo u (tables_now world.store.manifest.trees job.spec) change job
+may_do merge world specs party u change jobs t b fits rise job there kept = record {
+  freed = λ named. stored (in_new change.added (stored_jobs world.store) job there) (stored_as world (λ j. IsTrue (has_status Running j)) job.id (all_at _ change.freed job.id fits.freed (contains_in change.freed job.id named)));
+  opened = λ named. subst (OfSome (λ j. IsTrue (has_status Submitted j) × (u.tables_of j.spec ≡ tables_now world.store.manifest.trees j.spec))) found (all_at _ change.scheduled job.id fits.opened (contains_in change.scheduled job.id named));
   completed = λ named. ends (in_ended_front (contains_in change.completed job.id named));
   failed = λ named. ends (in_back job.id change.completed change.failed (contains_in change.failed job.id named));
   context = λ may. none_there job.context (λ some. ended_not_open job.status may (kept.fits.context.there.0 some).0);
 }
   where
-    found : job_with job.id (with_new change.added (stored_jobs told.store)) ≡ Some job
-    found = found_job (with_new change.added (stored_jobs told.store)) job rise there
+    found : job_with job.id (with_new change.added (stored_jobs world.store)) ≡ Some job
+    found = found_job (with_new change.added (stored_jobs world.store)) job rise there
 
     in_ended_front : IsIn job.id change.completed → IsIn job.id (change.completed ++ change.failed)
     in_ended_front one = front change.completed one
@@ -252,14 +252,14 @@ may_do merge told specs party u change jobs t b fits rise job there kept = recor
     the_job : (j : Job) → Some j ≡ Some job → j ≡ job
     the_job j e = cc e
 
-    stored : ((p : ℕ × JobSpec) × (IsIn p change.added × (new_job p ≡ job))) ⊎ IsIn job (stored_jobs told.store) → Named told (λ j. IsTrue (has_status Running j)) job.id → IsTrue (has_status Running job)
+    stored : ((p : ℕ × JobSpec) × (IsIn p change.added × (new_job p ≡ job))) ⊎ IsIn job (stored_jobs world.store) → Named world (λ j. IsTrue (has_status Running j)) job.id → IsTrue (has_status Running job)
     stored (inl new) it =
-        let old = job_found job.id (stored_jobs told.store) it.job it.stored in
-        absurd (new_ids merge told specs change.added b fits.new new.0 it.job new.1.0 old.there (ap (λ (j : Job). j.id) new.1.1 ∙ sym old.same))
-    stored (inr old) it = subst (λ (j : Job). IsTrue (has_status Running j)) (the_job it.job (sym it.stored ∙ found_job (stored_jobs told.store) job b.sound.job_ids old)) it.so
+        let old = job_found job.id (stored_jobs world.store) it.job it.stored in
+        absurd (new_ids merge world specs change.added b fits.new new.0 it.job new.1.0 old.there (ap (λ (j : Job). j.id) new.1.1 ∙ sym old.same))
+    stored (inr old) it = subst (λ (j : Job). IsTrue (has_status Running j)) (the_job it.job (sym it.stored ∙ found_job (stored_jobs world.store) job b.sound.job_ids old)) it.so
 
 -- The outcome of a poll is kept.
-outcome_kept : (merge : Operator) (t : Told) (specs : ℕ → JobSpec) (u : Unrecorded) (change : PollChange) (job : Job) → AllByRecursion (λ s. AllByRecursion (λ node. WerePut t.store node.pieces) s.tree) t.store.manifest.trees
+outcome_kept : (merge : Operator) (t : World) (specs : ℕ → JobSpec) (u : Unrecorded) (change : PollChange) (job : Job) → AllByRecursion (λ s. AllByRecursion (λ node. WerePut t.store node.pieces) s.tree) t.store.manifest.trees
     → AllByRecursion (λ s. AllByRecursion (λ node. IsFlush t.store.history node node.name) s.tree) t.store.manifest.trees
     → (IsTrue (contains change.scheduled job.id) → poll_on u change job ≡ to_scheduled u.tables_of job → SourcesStand t.store.manifest.trees (to_scheduled u.tables_of job))
     → JobKept merge t specs job → Outcome u (tables_now t.store.manifest.trees job.spec) change job → JobKept merge t specs (poll_on u change job)
@@ -270,99 +270,99 @@ outcome_kept merge t specs u change job put flushes stand kept (Ends status cont
 outcome_kept merge t specs u change job put flushes stand kept (Stays e) = subst (JobKept merge t specs) (sym e) kept
 
 -- What a poll starts from: lawful names and change, over what is kept.
-pub record PollCase (merge : Operator) (told : Told) (specs : ℕ → JobSpec) (line : ℕ) (party : Party) (answer : Answer) (u : Unrecorded) (change : PollChange) (jobs : Jobs) : Type 0 where
+pub record PollCase (merge : Operator) (world : World) (specs : ℕ → JobSpec) (line : ℕ) (party : Party) (answer : Answer) (u : Unrecorded) (change : PollChange) (jobs : Jobs) : Type 0 where
   pub took : stood answer ≡ true
-  pub body : Body merge told specs
-  pub rise : Pairs (λ a b. a.id < b.id) (with_new change.added (stored_jobs told.store))
-  pub fits : PollFits party told u change jobs
-  pub made : jobs ≡ trimmed (map (poll_on u change) (with_new change.added (stored_jobs told.store)))
+  pub body : Body merge world specs
+  pub rise : Pairs (λ a b. a.id < b.id) (with_new change.added (stored_jobs world.store))
+  pub fits : PollFits party world u change jobs
+  pub made : jobs ≡ trimmed_jobs (map (poll_on u change) (with_new change.added (stored_jobs world.store)))
 
--- What is told behind the poll.
-abbrev behind : Told → ℕ → Party → Answer → Unrecorded → PollChange → Told
-behind told line party answer u change =
-    with_records told (new_records told (map (poll_on u change) (with_new change.added (stored_jobs told.store)))) (record { line = line; party = party; event = PutRecords (Polled change); answer = answer })
+-- What is world after the poll.
+abbrev afterwards : World → ℕ → Party → Answer → Unrecorded → PollChange → World
+afterwards world line party answer u change =
+    with_records world (new_records world (map (poll_on u change) (with_new change.added (stored_jobs world.store)))) (record { line = line; party = party; event = PutRecords (Polled change); answer = answer })
 
-kept_before : (merge : Operator) (told : Told) (specs : ℕ → JobSpec) (line : ℕ) (party : Party) (answer : Answer) (u : Unrecorded) (change : PollChange) (jobs : Jobs) → PollCase merge told specs line party answer u change jobs
-    → (job : Job) → IsIn job (with_new change.added (stored_jobs told.store)) → JobKept merge (behind told line party answer u change) specs job
-kept_before merge told specs line party answer u change jobs p job there =
-    all_kept_new merge told specs (new_records told (map (poll_on u change) (with_new change.added (stored_jobs told.store)))) line party (Polled change) answer p.took p.body (quiet_poll (stood answer) change) p.fits.new job there
+kept_before : (merge : Operator) (world : World) (specs : ℕ → JobSpec) (line : ℕ) (party : Party) (answer : Answer) (u : Unrecorded) (change : PollChange) (jobs : Jobs) → PollCase merge world specs line party answer u change jobs
+    → (job : Job) → IsIn job (with_new change.added (stored_jobs world.store)) → JobKept merge (afterwards world line party answer u change) specs job
+kept_before merge world specs line party answer u change jobs p job there =
+    all_kept_new merge world specs (new_records world (map (poll_on u change) (with_new change.added (stored_jobs world.store)))) line party (Polled change) answer p.took p.body (quiet_poll (stood answer) change) p.fits.new job there
 
-out : (merge : Operator) (told : Told) (specs : ℕ → JobSpec) (line : ℕ) (party : Party) (answer : Answer) (u : Unrecorded) (change : PollChange) (jobs : Jobs) → PollCase merge told specs line party answer u change jobs
-    → (job : Job) → IsIn job (with_new change.added (stored_jobs told.store)) → Outcome u (tables_now told.store.manifest.trees job.spec) change job
-out merge told specs line party answer u change jobs p job there =
-    outcome u (tables_now told.store.manifest.trees job.spec) change job (may_do merge told specs party u change jobs (behind told line party answer u change) p.body p.fits p.rise job there (kept_before merge told specs line party answer u change jobs p job there))
+out : (merge : Operator) (world : World) (specs : ℕ → JobSpec) (line : ℕ) (party : Party) (answer : Answer) (u : Unrecorded) (change : PollChange) (jobs : Jobs) → PollCase merge world specs line party answer u change jobs
+    → (job : Job) → IsIn job (with_new change.added (stored_jobs world.store)) → Outcome u (tables_now world.store.manifest.trees job.spec) change job
+out merge world specs line party answer u change jobs p job there =
+    outcome u (tables_now world.store.manifest.trees job.spec) change job (may_do merge world specs party u change jobs (afterwards world line party answer u change) p.body p.fits p.rise job there (kept_before merge world specs line party answer u change jobs p job there))
 
-kept_after : (merge : Operator) (told : Told) (specs : ℕ → JobSpec) (line : ℕ) (party : Party) (answer : Answer) (u : Unrecorded) (change : PollChange) (jobs : Jobs) → PollCase merge told specs line party answer u change jobs
-    → (job : Job) → IsIn job (with_new change.added (stored_jobs told.store)) → JobKept merge (behind told line party answer u change) specs (poll_on u change job)
-kept_after merge told specs line party answer u change jobs p job there =
+kept_after : (merge : Operator) (world : World) (specs : ℕ → JobSpec) (line : ℕ) (party : Party) (answer : Answer) (u : Unrecorded) (change : PollChange) (jobs : Jobs) → PollCase merge world specs line party answer u change jobs
+    → (job : Job) → IsIn job (with_new change.added (stored_jobs world.store)) → JobKept merge (afterwards world line party answer u change) specs (poll_on u change job)
+kept_after merge world specs line party answer u change jobs p job there =
     let entry : Entry = record { line = line; party = party; event = PutRecords (Polled change); answer = answer } in
-    outcome_kept merge (behind told line party answer u change) specs u change job
-    (all_to _ _ told.store.manifest.trees (λ s one old. all_to _ _ s.tree (λ node in_tree held. are_put told.store node.pieces held) old) p.body.pieces)
-    (pieces_grow told.store.history entry told.past told.store.manifest.trees p.body.nodes).flushes
-    stand (kept_before merge told specs line party answer u change jobs p job there) (out merge told specs line party answer u change jobs p job there)
+    outcome_kept merge (afterwards world line party answer u change) specs u change job
+    (all_to _ _ world.store.manifest.trees (λ s one old. all_to _ _ s.tree (λ node in_tree held. are_put world.store node.pieces held) old) p.body.pieces)
+    (pieces_grow world.store.history entry world.past world.store.manifest.trees p.body.nodes).flushes
+    stand (kept_before merge world specs line party answer u change jobs p job there) (out merge world specs line party answer u change jobs p job there)
   where
-    stand : IsTrue (contains change.scheduled job.id) → poll_on u change job ≡ to_scheduled u.tables_of job → SourcesStand told.store.manifest.trees (to_scheduled u.tables_of job)
+    stand : IsTrue (contains change.scheduled job.id) → poll_on u change job ≡ to_scheduled u.tables_of job → SourcesStand world.store.manifest.trees (to_scheduled u.tables_of job)
     stand named e =
-        let among : IsIn (poll_on u change job) (map (poll_on u change) (with_new change.added (stored_jobs told.store))) = in_map (poll_on u change) (with_new change.added (stored_jobs told.store)) job there in
+        let among : IsIn (poll_on u change job) (map (poll_on u change) (with_new change.added (stored_jobs world.store))) = in_map (poll_on u change) (with_new change.added (stored_jobs world.store)) job there in
         let put : IsIn (poll_on u change job) jobs = subst (λ (js : Jobs). IsIn (poll_on u change job) js) (sym p.made)
-        (active_in (map (poll_on u change) (with_new change.added (stored_jobs told.store))) (poll_on u change job) among (subst (λ (j : Job). IsTrue (is_active j)) (sym e) refl)) in
-        subst (λ (j : Job). IsTrue (contains change.scheduled j.id && has_status Scheduled j) → SourcesStand told.store.manifest.trees j) e
-        (all_at (λ (j : Job). IsTrue (contains change.scheduled j.id && has_status Scheduled j) → SourcesStand told.store.manifest.trees j) jobs (poll_on u change job) p.fits.stand put) (both (contains change.scheduled job.id) named)
+        (active_in (map (poll_on u change) (with_new change.added (stored_jobs world.store))) (poll_on u change job) among (subst (λ (j : Job). IsTrue (is_active j)) (sym e) refl)) in
+        subst (λ (j : Job). IsTrue (contains change.scheduled j.id && has_status Scheduled j) → SourcesStand world.store.manifest.trees j) e
+        (all_at (λ (j : Job). IsTrue (contains change.scheduled j.id && has_status Scheduled j) → SourcesStand world.store.manifest.trees j) jobs (poll_on u change job) p.fits.stand put) (both (contains change.scheduled job.id) named)
       where
         both : (c : Bool) → IsTrue c → IsTrue (c && true)
         both true h = refl
         both false h = absurd (cc h)
 
-tables_same : (merge : Operator) (told : Told) (specs : ℕ → JobSpec) (line : ℕ) (party : Party) (answer : Answer) (u : Unrecorded) (change : PollChange) (jobs : Jobs) → PollCase merge told specs line party answer u change jobs
-    → (job : Job) → IsIn job (opened_among change (stored_jobs told.store)) → IsTrue (contains change.scheduled job.id) → u.tables_of job.spec ≡ tables_now told.store.manifest.trees job.spec
-tables_same merge told specs line party answer u change jobs p job there named =
-    at (from_map (on_these to_waiting change.freed) (with_new change.added (stored_jobs told.store)) job there)
+tables_same : (merge : Operator) (world : World) (specs : ℕ → JobSpec) (line : ℕ) (party : Party) (answer : Answer) (u : Unrecorded) (change : PollChange) (jobs : Jobs) → PollCase merge world specs line party answer u change jobs
+    → (job : Job) → IsIn job (opened_among change (stored_jobs world.store)) → IsTrue (contains change.scheduled job.id) → u.tables_of job.spec ≡ tables_now world.store.manifest.trees job.spec
+tables_same merge world specs line party answer u change jobs p job there named =
+    at (from_map (on_these to_waiting change.freed) (with_new change.added (stored_jobs world.store)) job there)
   where
-    at : (j : Job) × (IsIn j (with_new change.added (stored_jobs told.store)) × (on_these to_waiting change.freed j ≡ job)) → u.tables_of job.spec ≡ tables_now told.store.manifest.trees job.spec
+    at : (j : Job) × (IsIn j (with_new change.added (stored_jobs world.store)) × (on_these to_waiting change.freed j ≡ job)) → u.tables_of job.spec ≡ tables_now world.store.manifest.trees job.spec
     at found =
         let j = found.0 in
-        let may = may_do merge told specs party u change jobs (behind told line party answer u change) p.body p.fits p.rise j found.1.0 (kept_before merge told specs line party answer u change jobs p j found.1.0) in
+        let may = may_do merge world specs party u change jobs (afterwards world line party answer u change) p.body p.fits p.rise j found.1.0 (kept_before merge world specs line party answer u change jobs p j found.1.0) in
         let ids : (on_these to_waiting change.freed j).id ≡ j.id = by_these (λ (x : Job). x.id ≡ j.id) to_waiting change.freed j (λ h. refl) (λ h. refl) in
         let specs_same : (on_these to_waiting change.freed j).spec ≡ j.spec = by_these (λ (x : Job). x.spec ≡ j.spec) to_waiting change.freed j (λ h. refl) (λ h. refl) in
         let same : j.spec ≡ job.spec = sym specs_same ∙ ap (λ (x : Job). x.spec) found.1.1 in
         let id : job.id ≡ j.id = sym (ap (λ (x : Job). x.id) found.1.1) ∙ ids in
-        subst (λ spec. u.tables_of spec ≡ tables_now told.store.manifest.trees spec) same (may.opened (subst (λ n. IsTrue (contains change.scheduled n)) id named)).1
+        subst (λ spec. u.tables_of spec ≡ tables_now world.store.manifest.trees spec) same (may.opened (subst (λ n. IsTrue (contains change.scheduled n)) id named)).1
 
-later_after : (merge : Operator) (told : Told) (specs : ℕ → JobSpec) (line : ℕ) (party : Party) (answer : Answer) (u : Unrecorded) (change : PollChange) (jobs : Jobs) → PollCase merge told specs line party answer u change jobs
-    → (a : ℕ × ℕ) → IsUpTo told.store.history (stored_jobs told.store) a → (job : Job) → IsIn job (with_new change.added (stored_jobs told.store)) → (poll_on u change job).id ≡ a.0 → a.1 ≤ (poll_on u change job).attempt
-later_after merge told specs line party answer u change jobs p a up job there same =
-    let o = out merge told specs line party answer u change jobs p job there in
+later_after : (merge : Operator) (world : World) (specs : ℕ → JobSpec) (line : ℕ) (party : Party) (answer : Answer) (u : Unrecorded) (change : PollChange) (jobs : Jobs) → PollCase merge world specs line party answer u change jobs
+    → (a : ℕ × ℕ) → IsUpTo world.store.history (stored_jobs world.store) a → (job : Job) → IsIn job (with_new change.added (stored_jobs world.store)) → (poll_on u change job).id ≡ a.0 → a.1 ≤ (poll_on u change job).attempt
+later_after merge world specs line party answer u change jobs p a up job there same =
+    let o = out merge world specs line party answer u change jobs p job there in
     let attempts = attempt_same u _ change job o in
-    let low = later_new merge told specs change.added a job p.body p.fits.new up there (sym (id_same u _ change job o) ∙ same) in
+    let low = later_new merge world specs change.added a job p.body p.fits.new up there (sym (id_same u _ change job o) ∙ same) in
     omega (arith, attempts, low)
 
-apart_after : (merge : Operator) (told : Told) (specs : ℕ → JobSpec) (line : ℕ) (party : Party) (answer : Answer) (u : Unrecorded) (change : PollChange) (jobs : Jobs) → PollCase merge told specs line party answer u change jobs
-    → (x y : Job) → IsIn x (with_new change.added (stored_jobs told.store)) → IsIn y (with_new change.added (stored_jobs told.store)) → NameApart x y → NameApart (poll_on u change x) (poll_on u change y)
-apart_after merge told specs line party answer u change jobs p x y one other old first second =
-    let a = shrinks u _ change x (out merge told specs line party answer u change jobs p x one) first in
-    let b = shrinks u _ change y (out merge told specs line party answer u change jobs p y other) second in
+apart_after : (merge : Operator) (world : World) (specs : ℕ → JobSpec) (line : ℕ) (party : Party) (answer : Answer) (u : Unrecorded) (change : PollChange) (jobs : Jobs) → PollCase merge world specs line party answer u change jobs
+    → (x y : Job) → IsIn x (with_new change.added (stored_jobs world.store)) → IsIn y (with_new change.added (stored_jobs world.store)) → NameApart x y → NameApart (poll_on u change x) (poll_on u change y)
+apart_after merge world specs line party answer u change jobs p x y one other old first second =
+    let a = shrinks u _ change x (out merge world specs line party answer u change jobs p x one) first in
+    let b = shrinks u _ change y (out merge world specs line party answer u change jobs p y other) second in
     apart_from (job_tables (poll_on u change x)) (job_tables (poll_on u change y)) (λ t in_x in_y. apart_at (job_tables x) (job_tables y) t (old a.active b.active) (a.tables t in_x) (b.tables t in_y))
 
 mapped : {A B : Type 0} (P : B → Type 0) (f : A → B) (xs : List A) → ((x : A) → IsIn x xs → P (f x)) → (y : B) → IsIn y (map f xs) → P y
 mapped P f xs h y there = let found = from_map f xs y there in subst P found.1.1 (h found.0 found.1.0)
 
 pub polls_keep : (merge : Operator) (change : PollChange) → StandingPutKeeps merge (Polled change)
-polls_keep merge change line party answer told epoch jobs took k names fits =
+polls_keep merge change line party answer world epoch jobs took k names fits =
     let u = fits.unrecorded in
     let specs = new_specs (Polled change) k.stored.replay.specs in
-    let b = body_by merge told k.stored.replay.specs specs (whole_of merge told k).body (names.replays k.stored.replay.specs k.faithful) in
-    let base = with_new change.added (stored_jobs told.store) in
+    let b = body_by merge world k.stored.replay.specs specs (whole_of merge world k).body (names.replays k.stored.replay.specs k.faithful) in
+    let base = with_new change.added (stored_jobs world.store) in
     let after = map (poll_on u change) base in
-    let rise = rise_new change.added (stored_jobs told.store) names.once (new_ids merge told specs change.added b fits.fits.new) b.sound.job_ids in
-    let p : PollCase merge told specs line party answer u change jobs = record { took = took; body = b; rise = rise; fits = fits.fits; made = fits.makes_jobs ∙ ap trimmed (poll_map u change base) } in
-    new_put_keeps merge told u (Polled change) after line party answer epoch jobs took k names
-    (record { makes = poll_map u change base; tables = λ job there named. tables_same merge told specs line party answer u change jobs p job there named; epoch = kept_epoch change told.store.records; attempts = refl; claims = refl; brought = refl }) fits.makes_jobs fits.makes_epoch
+    let rise = rise_new change.added (stored_jobs world.store) names.once (new_ids merge world specs change.added b fits.fits.new) b.sound.job_ids in
+    let p : PollCase merge world specs line party answer u change jobs = record { took = took; body = b; rise = rise; fits = fits.fits; made = fits.makes_jobs ∙ ap trimmed_jobs (poll_map u change base) } in
+    new_put_keeps merge world u (Polled change) after line party answer epoch jobs took k names
+    (record { makes = poll_map u change base; tables = λ job there named. tables_same merge world specs line party answer u change jobs p job there named; epoch = kept_epoch change world.store.records; attempts = refl; claims = refl; brought = refl }) fits.makes_jobs fits.makes_epoch
     (record {
       rise = pairs_map (λ (x y : Job). x.id < y.id) (λ (x y : Job). x.id < y.id) (poll_on u change) base (λ x y one other low.
-          let first = id_same u _ change x (out merge told specs line party answer u change jobs p x one) in
-          let second = id_same u _ change y (out merge told specs line party answer u change jobs p y other) in omega (arith, low, first, second)) rise;
+          let first = id_same u _ change x (out merge world specs line party answer u change jobs p x one) in
+          let second = id_same u _ change y (out merge world specs line party answer u change jobs p y other) in omega (arith, low, first, second)) rise;
       held_once = subst NodesHeldOnce p.made fits.fits.apart;
-      apart = pairs_map NameApart NameApart (poll_on u change) base (λ x y one other old first second. apart_after merge told specs line party answer u change jobs p x y one other old first second) (names_new change.added (stored_jobs told.store) b.name_apart);
-      later = λ a up job there same. mapped (λ (j : Job). j.id ≡ a.0 → a.1 ≤ j.attempt) (poll_on u change) base (λ x one is. later_after merge told specs line party answer u change jobs p a up x one is) job there same;
-      kept = λ job there. mapped (JobKept merge (behind told line party answer u change) specs) (poll_on u change) base (λ x one. kept_after merge told specs line party answer u change jobs p x one) job there;
+      apart = pairs_map NameApart NameApart (poll_on u change) base (λ x y one other old first second. apart_after merge world specs line party answer u change jobs p x y one other old first second) (names_new change.added (stored_jobs world.store) b.name_apart);
+      later = λ a up job there same. mapped (λ (j : Job). j.id ≡ a.0 → a.1 ≤ j.attempt) (poll_on u change) base (λ x one is. later_after merge world specs line party answer u change jobs p a up x one is) job there same;
+      kept = λ job there. mapped (JobKept merge (afterwards world line party answer u change) specs) (poll_on u change) base (λ x one. kept_after merge world specs line party answer u change jobs p x one) job there;
     })

@@ -10,9 +10,9 @@ use Rattle.fleet_model.specs.Jobs.{JobSpec}
 use Rattle.fleet_model.specs.History.{Party, Event, GetManifest, GetRecords, GetTable, PutTable, PutRecords, Plan, Start, Kill, ListTables, Claim, Answer, Lost, Entry, stood}
 use Rattle.fleet_model.specs.Store.{stored_jobs}
 use Rattle.fleet_model.specs.Replay.{named_specs}
-use Rattle.fleet_model.specs.Exchanges.{Plain, ListsTables, answer_of, stands_or_lost, logged}
-use Rattle.step_model.specs.Past.{Told, told_after}
-use Rattle.step_model.specs.Entries.{job_drawn_in, table_drawn_in, table_put_in, tables_brought_in, planned_attempts, was_claimed, claims, is_in, attempts_in}
+use Rattle.fleet_model.specs.Exchanges.{Plain, ListsTables, answer_of, stands_or_lost, with_entry}
+use Rattle.step_model.specs.Past.{World, world_after}
+use Rattle.step_model.specs.Entries.{job_drawn_in, table_drawn_in, table_put_in, tables_brought_in, planned_attempts, was_claimed, is_claim_of, is_in, attempts_in}
 use Rattle.step_model.specs.LawfulTables.{PlainFits}
 use Rattle.step_model.specs.NamesKept.{DrawsKept, IsUpTo}
 use Rattle.step_model.specs.TablesKept.{PutsKept}
@@ -24,7 +24,7 @@ use Rattle.step_laws.proofs.Grown.{table_grows}
 use Rattle.step_laws.proofs.Bodies.{Body, whole_of, keeps_of}
 use Rattle.step_laws.proofs.MuteBodies.{entered, spares_all, body_mute}
 
--- ---- what is told
+-- ---- what is world
 
 same_past : {A : Type 0} (n : ℕ) (xs ys : A) → (if n == n then xs else ys) ≡ xs
 same_past {A} n xs ys = by (n == n) (is_itself n)
@@ -33,11 +33,11 @@ same_past {A} n xs ys = by (n == n) (is_itself n)
     by true e = refl
     by false e = absurd (cc e)
 
-pub told_entered : (told : Told) (deleted : List ℕ) (jobs_drawn tables_drawn : ℕ) (entry : Entry)
-    → told_after told (entered told deleted jobs_drawn tables_drawn entry).store ≡ entered told deleted jobs_drawn tables_drawn entry
-told_entered told deleted jobs_drawn tables_drawn entry =
-    let same = same_past told.store.manifest.version told.past (told.past ++ told.store.manifest ∷ []) in
-    λ i. record { store = (entered told deleted jobs_drawn tables_drawn entry).store; past = same i }
+pub world_entered : (world : World) (deleted : List ℕ) (jobs_drawn tables_drawn : ℕ) (entry : Entry)
+    → world_after world (entered world deleted jobs_drawn tables_drawn entry).store ≡ entered world deleted jobs_drawn tables_drawn entry
+world_entered world deleted jobs_drawn tables_drawn entry =
+    let same = same_past world.store.manifest.version world.past (world.past ++ world.store.manifest ∷ []) in
+    λ i. record { store = (entered world deleted jobs_drawn tables_drawn entry).store; past = same i }
 
 -- ---- facts on draws and puts
 
@@ -81,77 +81,77 @@ table_none true event h = refl
 
 -- ---- a mute entry
 
-pub keeps_mute : (merge : Operator) (told : Told) (entry : Entry) → IsMute (stood entry.answer) entry.event → named_specs entry.event ≡ [] → job_drawn_in entry.event ≡ [] → table_drawn_in entry.event ≡ []
-    → table_put_in (stood entry.answer) entry.event ≡ [] → AllByRecursion (IsUpTo told.store.history (stored_jobs told.store)) (planned_attempts entry.event)
-    → Keeps merge told → Keeps merge (told_after told (record told.store { history = told.store.history ++ entry ∷ [] }))
-keeps_mute merge told entry mute unnamed no_job no_table no_put planned k =
-    let w = whole_of merge told k in
+pub keeps_mute : (merge : Operator) (world : World) (entry : Entry) → IsMute (stood entry.answer) entry.event → named_specs entry.event ≡ [] → job_drawn_in entry.event ≡ [] → table_drawn_in entry.event ≡ []
+    → table_put_in (stood entry.answer) entry.event ≡ [] → AllByRecursion (IsUpTo world.store.history (stored_jobs world.store)) (planned_attempts entry.event)
+    → Keeps merge world → Keeps merge (world_after world (record world.store { history = world.store.history ++ entry ∷ [] }))
+keeps_mute merge world entry mute unnamed no_job no_table no_put planned k =
+    let w = whole_of merge world k in
     let specs = k.stored.replay.specs in
-    subst (Keeps merge) (sym (told_entered told told.store.deleted told.store.jobs_drawn told.store.tables_drawn entry))
-    (keeps_of merge (entered told told.store.deleted told.store.jobs_drawn told.store.tables_drawn entry) specs (record {
-      body = body_mute merge told specs told.store.deleted told.store.jobs_drawn told.store.tables_drawn entry mute (rw unnamed tt) (spares_all merge told specs w.body)
+    subst (Keeps merge) (sym (world_entered world world.store.deleted world.store.jobs_drawn world.store.tables_drawn entry))
+    (keeps_of merge (entered world world.store.deleted world.store.jobs_drawn world.store.tables_drawn entry) specs (record {
+      body = body_mute merge world specs world.store.deleted world.store.jobs_drawn world.store.tables_drawn entry mute (rw unnamed tt) (spares_all merge world specs w.body)
           (record { mentioned = rw (unnamed, mute.quiet.steps) tt; planned = planned }) w.body;
-      draws = draws_mute told.store.jobs_drawn told.store.tables_drawn told.store.history entry no_job no_table w.draws;
-      puts = puts_mute told.store.history entry told.store.tables mute no_put w.puts;
+      draws = draws_mute world.store.jobs_drawn world.store.tables_drawn world.store.history entry no_job no_table w.draws;
+      puts = puts_mute world.store.history entry world.store.tables mute no_put w.puts;
     }))
 
 -- ---- gets and notes
 
-claimed_up_to : (merge : Operator) (told : Told) (specs : ℕ → JobSpec) → Body merge told specs → (worker job attempt : ℕ) → IsTrue (was_claimed told.store.history worker job attempt) → IsUpTo told.store.history (stored_jobs told.store) (job, attempt)
-claimed_up_to merge told specs b worker job attempt h = at (any_element (λ (e : Entry). claims worker job attempt e.event && stood e.answer) told.store.history h)
+claimed_up_to : (merge : Operator) (world : World) (specs : ℕ → JobSpec) → Body merge world specs → (worker job attempt : ℕ) → IsTrue (was_claimed world.store.history worker job attempt) → IsUpTo world.store.history (stored_jobs world.store) (job, attempt)
+claimed_up_to merge world specs b worker job attempt h = at (any_element (λ (e : Entry). is_claim_of worker job attempt e.event && stood e.answer) world.store.history h)
   where
-    same : (x : ℕ × ℕ) → (job == x.0 && attempt == x.1) ≡ true → IsUpTo told.store.history (stored_jobs told.store) x → IsUpTo told.store.history (stored_jobs told.store) (job, attempt)
+    same : (x : ℕ × ℕ) → (job == x.0 && attempt == x.1) ≡ true → IsUpTo world.store.history (stored_jobs world.store) x → IsUpTo world.store.history (stored_jobs world.store) (job, attempt)
     same x e up = by (job == x.0) (attempt == x.1) refl refl e
       where
-        by : (p q : Bool) → (job == x.0) ≡ p → (attempt == x.1) ≡ q → (p && q) ≡ true → IsUpTo told.store.history (stored_jobs told.store) (job, attempt)
+        by : (p q : Bool) → (job == x.0) ≡ p → (attempt == x.1) ≡ q → (p && q) ≡ true → IsUpTo world.store.history (stored_jobs world.store) (job, attempt)
         by true true one other e = rw ((Decides-eqb job x.0).0 one, (Decides-eqb attempt x.1).0 other) up
         by true false one other e = absurd (cc e)
         by false q one other e = absurd (cc e)
 
-    listed : (attempts : List (ℕ × ℕ)) → IsTrue (is_in job attempt attempts) → AllByRecursion (IsUpTo told.store.history (stored_jobs told.store)) attempts → IsUpTo told.store.history (stored_jobs told.store) (job, attempt)
+    listed : (attempts : List (ℕ × ℕ)) → IsTrue (is_in job attempt attempts) → AllByRecursion (IsUpTo world.store.history (stored_jobs world.store)) attempts → IsUpTo world.store.history (stored_jobs world.store) (job, attempt)
     listed attempts there all =
         let found = any_element (λ (a : ℕ × ℕ). job == a.0 && attempt == a.1) attempts there in
         same found.element found.passes (all_at _ attempts found.element all found.there)
 
-    claim : (event : Event) (took : Bool) → (claims worker job attempt event && took) ≡ true → (IsTrue took → AllByRecursion (IsUpTo told.store.history (stored_jobs told.store)) (attempts_in event))
-        → IsUpTo told.store.history (stored_jobs told.store) (job, attempt)
+    claim : (event : Event) (took : Bool) → (is_claim_of worker job attempt event && took) ≡ true → (IsTrue took → AllByRecursion (IsUpTo world.store.history (stored_jobs world.store)) (attempts_in event))
+        → IsUpTo world.store.history (stored_jobs world.store) (job, attempt)
     claim (PutRecords (Claim other attempts)) took e all = by (worker == other) (is_in job attempt attempts) took refl e all
       where
-        by : (own there took : Bool) → is_in job attempt attempts ≡ there → ((own && there) && took) ≡ true → (IsTrue took → AllByRecursion (IsUpTo told.store.history (stored_jobs told.store)) attempts) → IsUpTo told.store.history (stored_jobs told.store) (job, attempt)
+        by : (own there took : Bool) → is_in job attempt attempts ≡ there → ((own && there) && took) ≡ true → (IsTrue took → AllByRecursion (IsUpTo world.store.history (stored_jobs world.store)) attempts) → IsUpTo world.store.history (stored_jobs world.store) (job, attempt)
         by true true true is e all = listed attempts is (all refl)
         by true true false is e all = absurd (cc e)
         by true false took is e all = absurd (cc e)
         by false there took is e all = absurd (cc e)
     claim event took e all = absurd (cc e)
 
-    at : Passes (λ (e : Entry). claims worker job attempt e.event && stood e.answer) told.store.history → IsUpTo told.store.history (stored_jobs told.store) (job, attempt)
-    at found = claim found.element.event (stood found.element.answer) found.passes (all_at _ told.store.history found.element b.up_to found.there)
+    at : Passes (λ (e : Entry). is_claim_of worker job attempt e.event && stood e.answer) world.store.history → IsUpTo world.store.history (stored_jobs world.store) (job, attempt)
+    at found = claim found.element.event (stood found.element.answer) found.passes (all_at _ world.store.history found.element b.up_to found.there)
 
-plain_entry : (merge : Operator) (event : Event) (line : ℕ) (party : Party) (answer : Answer) (told : Told) → Keeps merge told → PlainFits party told.store event
-    → Keeps merge (told_after told (logged line party event answer told.store))
-plain_entry merge GetManifest line party answer told k fits = keeps_mute merge told (record { line = line; party = party; event = GetManifest; answer = answer }) (mute_event (stood answer) GetManifest refl) refl refl refl (table_none (stood answer) GetManifest refl) tt k
-plain_entry merge GetRecords line party answer told k fits = keeps_mute merge told (record { line = line; party = party; event = GetRecords; answer = answer }) (mute_event (stood answer) GetRecords refl) refl refl refl (table_none (stood answer) GetRecords refl) tt k
-plain_entry merge (GetTable table) line party answer told k fits = keeps_mute merge told (record { line = line; party = party; event = GetTable table; answer = answer }) (mute_event (stood answer) (GetTable table) refl) refl refl refl (table_none (stood answer) (GetTable table) refl) tt k
-plain_entry merge (Start other) line party answer told k fits = keeps_mute merge told (record { line = line; party = party; event = Start other; answer = answer }) (mute_event (stood answer) (Start other) refl) refl refl refl (table_none (stood answer) (Start other) refl) tt k
-plain_entry merge (Kill other) line party answer told k fits = keeps_mute merge told (record { line = line; party = party; event = Kill other; answer = answer }) (mute_event (stood answer) (Kill other) refl) refl refl refl (table_none (stood answer) (Kill other) refl) tt k
-plain_entry merge (Plan job attempt ranges) line party answer told k fits =
-    keeps_mute merge told (record { line = line; party = party; event = Plan job attempt ranges; answer = answer }) (mute_event (stood answer) (Plan job attempt ranges) refl) refl refl refl (table_none (stood answer) (Plan job attempt ranges) refl)
-    (claimed_up_to merge told k.stored.replay.specs (whole_of merge told k).body fits.worker job attempt fits.claimed, tt) k
-plain_entry merge event line party answer told k fits = absurd fits
+plain_entry : (merge : Operator) (event : Event) (line : ℕ) (party : Party) (answer : Answer) (world : World) → Keeps merge world → PlainFits party world.store event
+    → Keeps merge (world_after world (with_entry line party event answer world.store))
+plain_entry merge GetManifest line party answer world k fits = keeps_mute merge world (record { line = line; party = party; event = GetManifest; answer = answer }) (mute_event (stood answer) GetManifest refl) refl refl refl (table_none (stood answer) GetManifest refl) tt k
+plain_entry merge GetRecords line party answer world k fits = keeps_mute merge world (record { line = line; party = party; event = GetRecords; answer = answer }) (mute_event (stood answer) GetRecords refl) refl refl refl (table_none (stood answer) GetRecords refl) tt k
+plain_entry merge (GetTable table) line party answer world k fits = keeps_mute merge world (record { line = line; party = party; event = GetTable table; answer = answer }) (mute_event (stood answer) (GetTable table) refl) refl refl refl (table_none (stood answer) (GetTable table) refl) tt k
+plain_entry merge (Start other) line party answer world k fits = keeps_mute merge world (record { line = line; party = party; event = Start other; answer = answer }) (mute_event (stood answer) (Start other) refl) refl refl refl (table_none (stood answer) (Start other) refl) tt k
+plain_entry merge (Kill other) line party answer world k fits = keeps_mute merge world (record { line = line; party = party; event = Kill other; answer = answer }) (mute_event (stood answer) (Kill other) refl) refl refl refl (table_none (stood answer) (Kill other) refl) tt k
+plain_entry merge (Plan job attempt ranges) line party answer world k fits =
+    keeps_mute merge world (record { line = line; party = party; event = Plan job attempt ranges; answer = answer }) (mute_event (stood answer) (Plan job attempt ranges) refl) refl refl refl (table_none (stood answer) (Plan job attempt ranges) refl)
+    (claimed_up_to merge world k.stored.replay.specs (whole_of merge world k).body fits.worker job attempt fits.claimed, tt) k
+plain_entry merge event line party answer world k fits = absurd fits
 
 plain_keeps : (merge : Operator) (event : Event) → CallKeeps merge (Plain event)
-plain_keeps merge event line party None told k lawful may = plain_entry merge event line party (answer_of (Plain event) told.store) told k lawful
-plain_keeps merge event line party (Some true) told k lawful may = plain_entry merge event line party (stands_or_lost (answer_of (Plain event) told.store)) told k lawful
-plain_keeps merge event line party (Some false) told k lawful may = plain_entry merge event line party Lost told k lawful
+plain_keeps merge event line party None world k lawful may = plain_entry merge event line party (answer_of (Plain event) world.store) world k lawful
+plain_keeps merge event line party (Some true) world k lawful may = plain_entry merge event line party (stands_or_lost (answer_of (Plain event) world.store)) world k lawful
+plain_keeps merge event line party (Some false) world k lawful may = plain_entry merge event line party Lost world k lawful
 
-list_entry : (merge : Operator) (count line : ℕ) (party : Party) (answer : Answer) (told : Told) → Keeps merge told → Keeps merge (told_after told (logged line party (ListTables count) answer told.store))
-list_entry merge count line party answer told k =
-    keeps_mute merge told (record { line = line; party = party; event = ListTables count; answer = answer }) (mute_event (stood answer) (ListTables count) refl) refl refl refl (table_none (stood answer) (ListTables count) refl) tt k
+list_entry : (merge : Operator) (count line : ℕ) (party : Party) (answer : Answer) (world : World) → Keeps merge world → Keeps merge (world_after world (with_entry line party (ListTables count) answer world.store))
+list_entry merge count line party answer world k =
+    keeps_mute merge world (record { line = line; party = party; event = ListTables count; answer = answer }) (mute_event (stood answer) (ListTables count) refl) refl refl refl (table_none (stood answer) (ListTables count) refl) tt k
 
 lists_keep : (merge : Operator) → CallKeeps merge ListsTables
-lists_keep merge line party None told k lawful may = list_entry merge _ line party (answer_of ListsTables told.store) told k
-lists_keep merge line party (Some true) told k lawful may = list_entry merge _ line party (stands_or_lost (answer_of ListsTables told.store)) told k
-lists_keep merge line party (Some false) told k lawful may = list_entry merge _ line party Lost told k
+lists_keep merge line party None world k lawful may = list_entry merge _ line party (answer_of ListsTables world.store) world k
+lists_keep merge line party (Some true) world k lawful may = list_entry merge _ line party (stands_or_lost (answer_of ListsTables world.store)) world k
+lists_keep merge line party (Some false) world k lawful may = list_entry merge _ line party Lost world k
 
 pub looks_keep : (merge : Operator) → LooksKeep merge
-looks_keep merge = record { plain = λ event line party strike told k lawful may. plain_keeps merge event line party strike told k lawful may; lists = λ line party strike told k lawful may. lists_keep merge line party strike told k lawful may }
+looks_keep merge = record { plain = λ event line party strike world k lawful may. plain_keeps merge event line party strike world k lawful may; lists = λ line party strike world k lawful may. lists_keep merge line party strike world k lawful may }

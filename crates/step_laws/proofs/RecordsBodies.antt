@@ -5,18 +5,18 @@ use Rattle.std.specs.List.{AllByRecursion}
 use Rattle.std.proofs.lemmas.List.{append_assoc, append-nil}
 use Rattle.row_model.specs.Lists.{Pairs}
 use Rattle.row_model.specs.Fold.{Operator}
-use Rattle.fleet_model.specs.Jobs.{JobSpec, Job, Jobs, Context, contains, trimmed}
+use Rattle.fleet_model.specs.Jobs.{JobSpec, Job, Jobs, Context, contains, trimmed_jobs}
 use Rattle.fleet_model.specs.History.{Party, Entry, PutRecords, RecordChange, RecordsEpoch, Submit, Claim, Beat, Finish, Release, Polled, Answer, stood}
 use Rattle.fleet_model.specs.Store.{Records, Store, stored_jobs, jobs_in, fresh_store}
-use Rattle.fleet_model.specs.Replay.{after_entry, replayed, plain_objects, plain_manifest, plain_records, plain_job, named_specs, next_version, epoch_after}
+use Rattle.fleet_model.specs.Replay.{after_entry, replayed_objects, plain_objects, plain_manifest, plain_records, plain_job, named_specs, next_version, epoch_after}
 use Rattle.fleet_model.specs.Records.{Unrecorded, firsts, jobs_after}
 use Rattle.fleet_model.specs.Trees.{tables_now}
 use Rattle.fleet_model.specs.Exchanges.{records_version}
 use Rattle.fleet_model.specs.TreesFit.{EpochFits}
 use Rattle.fleet_model.specs.JobsFit.{NodesHeldOnce, OutputsFit}
 use Rattle.fleet_model.specs.AttemptsFit.{ContextFits}
-use Rattle.step_model.specs.Past.{Told, told_after}
-use Rattle.step_model.specs.Entries.{drawn_jobs, mentioned_in, planned_attempts, attempts_in, claimed_attempts, claims_in, epoch_in}
+use Rattle.step_model.specs.Past.{World, world_after}
+use Rattle.step_model.specs.Entries.{drawn_jobs, mentioned_in, planned_attempts, attempts_in, claimed_attempts, attempts_claimed_in, epoch_in}
 use Rattle.step_model.specs.Faithful.{Faithful, AgreesWith}
 use Rattle.step_model.specs.NamesKept.{IsUpTo}
 use Rattle.step_model.specs.TablesKept.{NameApart}
@@ -27,16 +27,16 @@ use Rattle.step_laws.proofs.Bodies.{JobFits, JobKept, Body}
 use Rattle.step_laws.proofs.MuteBodies.{Matches, if_some_to}
 use Rattle.step_laws.proofs.Plain.{SameTables, plain_jobs_after}
 
--- What is told when the records were put.
-abbrev pub with_records : Told → Records → Entry → Told
-with_records told records entry = record { store = record told.store { records = Some records; history = told.store.history ++ entry ∷ [] }; past = told.past }
+-- What is world when the records were put.
+abbrev pub with_records : World → Records → Entry → World
+with_records world records entry = record { store = record world.store { records = Some records; history = world.store.history ++ entry ∷ [] }; past = world.past }
 
-pub told_with_records : (told : Told) (records : Records) (entry : Entry) → told_after told (with_records told records entry).store ≡ with_records told records entry
-told_with_records told records entry =
-    let same = by (told.store.manifest.version == told.store.manifest.version) (is_itself told.store.manifest.version) in
-    λ i. record { store = (with_records told records entry).store; past = same i }
+pub world_with_records : (world : World) (records : Records) (entry : Entry) → world_after world (with_records world records entry).store ≡ with_records world records entry
+world_with_records world records entry =
+    let same = by (world.store.manifest.version == world.store.manifest.version) (is_itself world.store.manifest.version) in
+    λ i. record { store = (with_records world records entry).store; past = same i }
   where
-    by : (b : Bool) → b ≡ true → cond b told.past (told.past ++ told.store.manifest ∷ []) ≡ told.past
+    by : (b : Bool) → b ≡ true → cond b world.past (world.past ++ world.store.manifest ∷ []) ≡ world.past
     by true e = refl
     by false e = absurd (cc e)
 
@@ -66,54 +66,54 @@ jobs_plain None = refl
 jobs_plain (Some records) = refl
 
 -- The objects that a put makes are those of a replay of its entry.
-pub objects_after : (told : Told) (specs : ℕ → JobSpec) (line : ℕ) (party : Party) (change : RecordChange) (answer : Answer) (u : Unrecorded) (version epoch : ℕ) (jobs : Jobs) → stood answer ≡ true
-    → version ≡ records_version told.store.records → jobs ≡ jobs_after u change (stored_jobs told.store) → epoch ≡ epoch_after change told.store.records → SameTables u (tables_now told.store.manifest.trees) change (stored_jobs told.store)
-    → after_entry told.store.tables specs (record { line = line; party = party; event = PutRecords change; answer = answer }) (plain_objects told.store)
-    ≡ plain_objects (with_records told (record { version = version + 1; epoch = epoch; jobs = jobs }) (record { line = line; party = party; event = PutRecords change; answer = answer })).store
-objects_after told specs line party change answer u version epoch jobs took same makes made tables =
-    let versions = version_plain version told.store.records same in
-    let epochs = made ∙ epoch_plain change told.store.records in
-    let plain = ap (map plain_job) makes ∙ plain_jobs_after u (tables_now told.store.manifest.trees) change (stored_jobs told.store) tables
-    ∙ ap (λ js. map plain_job (jobs_after (record { moment = 0; published = λ job. None; kept_cut = None; tables_of = tables_now told.store.manifest.trees }) change js)) (jobs_plain told.store.records) in
-    rw took (λ i. record { manifest = plain_manifest told.store.manifest; records = Some (record { version = sym versions i; epoch = sym epochs i; jobs = sym plain i }) })
+pub objects_after : (world : World) (specs : ℕ → JobSpec) (line : ℕ) (party : Party) (change : RecordChange) (answer : Answer) (u : Unrecorded) (version epoch : ℕ) (jobs : Jobs) → stood answer ≡ true
+    → version ≡ records_version world.store.records → jobs ≡ jobs_after u change (stored_jobs world.store) → epoch ≡ epoch_after change world.store.records → SameTables u (tables_now world.store.manifest.trees) change (stored_jobs world.store)
+    → after_entry world.store.tables specs (record { line = line; party = party; event = PutRecords change; answer = answer }) (plain_objects world.store)
+    ≡ plain_objects (with_records world (record { version = version + 1; epoch = epoch; jobs = jobs }) (record { line = line; party = party; event = PutRecords change; answer = answer })).store
+objects_after world specs line party change answer u version epoch jobs took same makes made tables =
+    let versions = version_plain version world.store.records same in
+    let epochs = made ∙ epoch_plain change world.store.records in
+    let plain = ap (map plain_job) makes ∙ plain_jobs_after u (tables_now world.store.manifest.trees) change (stored_jobs world.store) tables
+    ∙ ap (λ js. map plain_job (jobs_after (record { moment = 0; published = λ job. None; kept_cut = None; tables_of = tables_now world.store.manifest.trees }) change js)) (jobs_plain world.store.records) in
+    rw took (λ i. record { manifest = plain_manifest world.store.manifest; records = Some (record { version = sym versions i; epoch = sym epochs i; jobs = sym plain i }) })
 
 -- ---- what new jobs have to be
 
-pub record RecordsFollow (merge : Operator) (told : Told) (specs : ℕ → JobSpec) (records : Records) (entry : Entry) : Type 0 where
-  pub objects : after_entry told.store.tables specs entry (plain_objects told.store) ≡ plain_objects (with_records told records entry).store
+pub record RecordsFollow (merge : Operator) (world : World) (specs : ℕ → JobSpec) (records : Records) (entry : Entry) : Type 0 where
+  pub objects : after_entry world.store.tables specs entry (plain_objects world.store) ≡ plain_objects (with_records world records entry).store
   pub job_ids : Pairs (λ a b. a.id < b.id) records.jobs
-  pub epochs : EpochFits told.store.manifest (Some records)
+  pub epochs : EpochFits world.store.manifest (Some records)
   pub held_once : NodesHeldOnce records.jobs
   pub name_apart : Pairs NameApart records.jobs
-  pub trimmed_already : trimmed records.jobs ≡ records.jobs
+  pub trimmed_already : trimmed_jobs records.jobs ≡ records.jobs
   pub agrees : AgreesWith specs entry.event
-  pub drawn : AllByRecursion (λ id. IsTrue (contains (drawn_jobs told.store.history) id)) (firsts (named_specs entry.event))
-  pub later : (a : ℕ × ℕ) → IsUpTo told.store.history (stored_jobs told.store) a → IsUpTo (told.store.history ++ entry ∷ []) records.jobs a
-  pub own : AllByRecursion (IsUpTo (told.store.history ++ entry ∷ []) records.jobs) (attempts_in entry.event)
-  pub once : Pairs (λ a b. a ≢ b) (claimed_attempts told.store.history ++ claims_in true entry.event)
-  pub jobs : AllByRecursion (JobKept merge (with_records told records entry) specs) records.jobs
+  pub drawn : AllByRecursion (λ id. IsTrue (contains (drawn_jobs world.store.history) id)) (firsts (named_specs entry.event))
+  pub later : (a : ℕ × ℕ) → IsUpTo world.store.history (stored_jobs world.store) a → IsUpTo (world.store.history ++ entry ∷ []) records.jobs a
+  pub own : AllByRecursion (IsUpTo (world.store.history ++ entry ∷ []) records.jobs) (attempts_in entry.event)
+  pub once : Pairs (λ a b. a ≢ b) (claimed_attempts world.store.history ++ attempts_claimed_in true entry.event)
+  pub jobs : AllByRecursion (JobKept merge (with_records world records entry) specs) records.jobs
 
 -- ---- faithful specs
 
-faithful_with_records : (merge : Operator) (told : Told) (specs : ℕ → JobSpec) (records : Records) (entry : Entry) → Body merge told specs → RecordsFollow merge told specs records entry → Faithful (with_records told records entry) specs
-faithful_with_records merge told specs records entry b f = record {
-  agrees = all_push _ told.store.history entry b.faithful.agrees f.agrees;
-  manifests = λ front back e. by front (cut_where front back told.store.history entry e);
+faithful_with_records : (merge : Operator) (world : World) (specs : ℕ → JobSpec) (records : Records) (entry : Entry) → Body merge world specs → RecordsFollow merge world specs records entry → Faithful (with_records world records entry) specs
+faithful_with_records merge world specs records entry b f = record {
+  agrees = all_push _ world.store.history entry b.faithful.agrees f.agrees;
+  manifests = λ front back e. by front (cut_where front back world.store.history entry e);
 }
   where
-    behind : replayed told.store.tables specs (told.store.history ++ entry ∷ []) (plain_objects fresh_store) ≡ plain_objects (with_records told records entry).store
-    behind = replayed_push told.store.tables specs told.store.history entry (plain_objects fresh_store) ∙ ap (after_entry told.store.tables specs entry) (sym b.objects) ∙ f.objects
+    after : replayed_objects world.store.tables specs (world.store.history ++ entry ∷ []) (plain_objects fresh_store) ≡ plain_objects (with_records world records entry).store
+    after = replayed_push world.store.tables specs world.store.history entry (plain_objects fresh_store) ∙ ap (after_entry world.store.tables specs entry) (sym b.objects) ∙ f.objects
 
-    stored : Matches told.past (plain_objects told.store)
-    stored = subst (Matches told.past) (sym b.objects) (b.faithful.manifests told.store.history [] (append-nil told.store.history))
+    stored : Matches world.past (plain_objects world.store)
+    stored = subst (Matches world.past) (sym b.objects) (b.faithful.manifests world.store.history [] (append-nil world.store.history))
 
-    by : (front : List Entry) → {back : List Entry} → Cut front back told.store.history entry → Matches told.past (replayed told.store.tables specs front (plain_objects fresh_store))
-    by front (Whole all) = subst (Matches told.past) (sym (ap (λ h. replayed told.store.tables specs h (plain_objects fresh_store)) all ∙ behind)) stored
+    by : (front : List Entry) → {back : List Entry} → Cut front back world.store.history entry → Matches world.past (replayed_objects world.store.tables specs front (plain_objects fresh_store))
+    by front (Whole all) = subst (Matches world.past) (sym (ap (λ h. replayed_objects world.store.tables specs h (plain_objects fresh_store)) all ∙ after)) stored
     by front (Before rest part) = b.faithful.manifests front rest part
 
-pub faithful_before_records : (told : Told) (specs : ℕ → JobSpec) (records : Records) (entry : Entry) → Faithful (with_records told records entry) specs → Faithful told specs
-faithful_before_records told specs records entry f = record {
-  agrees = all_front _ told.store.history (entry ∷ []) f.agrees;
+pub faithful_before_records : (world : World) (specs : ℕ → JobSpec) (records : Records) (entry : Entry) → Faithful (with_records world records entry) specs → Faithful world specs
+faithful_before_records world specs records entry f = record {
+  agrees = all_front _ world.store.history (entry ∷ []) f.agrees;
   manifests = λ front back e. f.manifests front (back ++ entry ∷ []) (sym (append_assoc front back (entry ∷ [])) ∙ ap (λ h. h ++ entry ∷ []) e);
 }
 
@@ -136,10 +136,10 @@ fits_with_records merge store specs records job h = record {
 
 -- ---- the whole
 
-pub body_with_records : (merge : Operator) (told : Told) (specs : ℕ → JobSpec) (records : Records) (line : ℕ) (party : Party) (change : RecordChange) (answer : Answer) → stood answer ≡ true
-    → RecordsFollow merge told specs records (record { line = line; party = party; event = PutRecords change; answer = answer }) → Body merge told specs
-    → Body merge (with_records told records (record { line = line; party = party; event = PutRecords change; answer = answer })) specs
-body_with_records merge told specs records line party change answer took f b =
+pub body_with_records : (merge : Operator) (world : World) (specs : ℕ → JobSpec) (records : Records) (line : ℕ) (party : Party) (change : RecordChange) (answer : Answer) → stood answer ≡ true
+    → RecordsFollow merge world specs records (record { line = line; party = party; event = PutRecords change; answer = answer }) → Body merge world specs
+    → Body merge (with_records world records (record { line = line; party = party; event = PutRecords change; answer = answer })) specs
+body_with_records merge world specs records line party change answer took f b =
     let entry : Entry = record { line = line; party = party; event = PutRecords change; answer = answer } in
     record {
       sound = record { tables = b.sound.tables; table_ids = b.sound.table_ids; deleted = b.sound.deleted; root = b.sound.root; prefixes = b.sound.prefixes; job_ids = f.job_ids };
@@ -148,24 +148,24 @@ body_with_records merge told specs records line party change answer took f b =
       pieces = b.pieces;
       flushes = b.flushes;
       reads = b.reads;
-      objects = sym (replayed_push told.store.tables specs told.store.history entry (plain_objects fresh_store) ∙ ap (after_entry told.store.tables specs entry) (sym b.objects) ∙ f.objects);
-      faithful = faithful_with_records merge told specs records entry b f;
-      mentioned = all_push _ told.store.history entry
-          (all_to _ _ told.store.history (λ e there old. all_to _ _ (mentioned_in e) (λ id one drawn. drawn_job_grows told.store.history entry id drawn) old) b.mentioned)
-          (all_append _ (firsts (named_specs entry.event)) _ (all_to _ _ _ (λ id one drawn. drawn_job_grows told.store.history entry id drawn) f.drawn) (rw took tt));
+      objects = sym (replayed_push world.store.tables specs world.store.history entry (plain_objects fresh_store) ∙ ap (after_entry world.store.tables specs entry) (sym b.objects) ∙ f.objects);
+      faithful = faithful_with_records merge world specs records entry b f;
+      mentioned = all_push _ world.store.history entry
+          (all_to _ _ world.store.history (λ e there old. all_to _ _ (mentioned_in e) (λ id one drawn. drawn_job_grows world.store.history entry id drawn) old) b.mentioned)
+          (all_append _ (firsts (named_specs entry.event)) _ (all_to _ _ _ (λ id one drawn. drawn_job_grows world.store.history entry id drawn) f.drawn) (rw took tt));
       trimmed_already = f.trimmed_already;
-      up_to = all_push _ told.store.history entry
-          (all_to _ _ told.store.history (λ e there old stands. all_to _ _ (attempts_in e.event) (λ a one up. f.later a up) (old stands)) b.up_to)
+      up_to = all_push _ world.store.history entry
+          (all_to _ _ world.store.history (λ e there old stands. all_to _ _ (attempts_in e.event) (λ a one up. f.later a up) (old stands)) b.up_to)
           (λ stands. f.own);
-      planned = all_push _ told.store.history entry
-          (all_to _ _ told.store.history (λ e there old. all_to _ _ (planned_attempts e.event) (λ a one up. f.later a up) old) b.planned) tt;
-      once = rw (flat_push (λ (e : Entry). claims_in (stood e.answer) e.event) told.store.history entry, took) f.once;
-      nodes = pieces_grow told.store.history entry told.past told.store.manifest.trees b.nodes;
+      planned = all_push _ world.store.history entry
+          (all_to _ _ world.store.history (λ e there old. all_to _ _ (planned_attempts e.event) (λ a one up. f.later a up) old) b.planned) tt;
+      once = rw (flat_push (λ (e : Entry). attempts_claimed_in (stood e.answer) e.event) world.store.history entry, took) f.once;
+      nodes = pieces_grow world.store.history entry world.past world.store.manifest.trees b.nodes;
       name_apart = f.name_apart;
-      joined = all_push _ told.store.history entry
-          (all_to _ _ told.store.history (λ e there old stands. all_to _ _ _ (λ id one named. named_grows told.store.history entry id named) (old stands)) b.joined)
+      joined = all_push _ world.store.history entry
+          (all_to _ _ world.store.history (λ e there old stands. all_to _ _ _ (λ id one named. named_grows world.store.history entry id named) (old stands)) b.joined)
           (λ stands. tt);
-      epochs = let same = flat_push_none (λ (e : Entry). epoch_in (stood e.answer) e.event) told.store.history entry (rw took refl) in record { up_to = rw same b.epochs.up_to; rise = rw same b.epochs.rise };
+      epochs = let same = flat_push_none (λ (e : Entry). epoch_in (stood e.answer) e.event) world.store.history entry (rw took refl) in record { up_to = rw same b.epochs.up_to; rise = rw same b.epochs.rise };
       past = b.past;
       jobs = f.jobs;
     }

@@ -9,7 +9,7 @@ use Rattle.fleet_model.specs.History.{PutRecords, Release, Entry, stood}
 use Rattle.fleet_model.specs.Records.{firsts, to_waiting}
 use Rattle.fleet_model.specs.Store.{Records, stored_jobs, records_epoch}
 use Rattle.fleet_model.specs.Replay.{epoch_after}
-use Rattle.step_model.specs.Past.{Told}
+use Rattle.step_model.specs.Past.{World}
 use Rattle.step_model.specs.LawfulRecords.{IsStoredAs, IsLiveAt}
 use Rattle.step_laws.proofs.Elements.{all_at, all_from, all_to}
 use Rattle.step_laws.proofs.Mute.{IsQuietFor}
@@ -32,29 +32,29 @@ kept_epoch : (worker : ℕ) (attempts : List (ℕ × ℕ)) (records : Option Rec
 kept_epoch worker attempts None = refl
 kept_epoch worker attempts (Some records) = refl
 
-all_live : (told : Told) (worker : ℕ) (attempts : List (ℕ × ℕ)) → AllByRecursion (λ a. IsStoredAs told a.0 (IsLiveAt worker a.1)) attempts → AllByRecursion (λ a. IsStoredAs told a.0 (λ job. IsTrue (is_open job.status))) attempts
-all_live told worker attempts each = all_to _ _ attempts (λ a there live. stored_to told (IsLiveAt worker a.1) (λ job. IsTrue (is_open job.status)) a.0 (λ job one. live_open worker a.1 job one) live) each
+all_live : (world : World) (worker : ℕ) (attempts : List (ℕ × ℕ)) → AllByRecursion (λ a. IsStoredAs world a.0 (IsLiveAt worker a.1)) attempts → AllByRecursion (λ a. IsStoredAs world a.0 (λ job. IsTrue (is_open job.status))) attempts
+all_live world worker attempts each = all_to _ _ attempts (λ a there live. stored_to world (IsLiveAt worker a.1) (λ job. IsTrue (is_open job.status)) a.0 (λ job one. live_open worker a.1 job one) live) each
 
 pub releases_keep : (merge : Operator) (worker : ℕ) (attempts : List (ℕ × ℕ)) → StandingPutKeeps merge (Release worker attempts)
-releases_keep merge worker attempts line party answer told epoch jobs took k names fits =
+releases_keep merge worker attempts line party answer world epoch jobs took k names fits =
     let entry : Entry = record { line = line; party = party; event = PutRecords (Release worker attempts); answer = answer } in
-    let b = (whole_of merge told k).body in
+    let b = (whole_of merge world k).body in
     let specs = k.stored.replay.specs in
     let these = firsts attempts in
-    let is_live = each_named told specs merge (λ job. IsTrue (is_open job.status)) attempts b (all_live told worker attempts fits.fits.each) in
-    worker_put_keeps merge told fits.unrecorded to_waiting these (Release worker attempts) line party answer epoch jobs took k
-    (record { after = refl; unnamed = refl; tables = tt; epoch = kept_epoch worker attempts told.store.records }) fits.makes_jobs fits.makes_epoch
+    let is_live = each_named world specs merge (λ job. IsTrue (is_open job.status)) attempts b (all_live world worker attempts fits.fits.each) in
+    worker_put_keeps merge world fits.unrecorded to_waiting these (Release worker attempts) line party answer epoch jobs took k
+    (record { after = refl; unnamed = refl; tables = tt; epoch = kept_epoch worker attempts world.store.records }) fits.makes_jobs fits.makes_epoch
     (record {
       is = waiting_change;
       holds = λ job there named holds. open_reserves job.status (is_live job there named);
-      apart = name_apart_on to_waiting these (stored_jobs told.store) (λ job there named. (refl, λ active. active_if_open job (is_live job there named))) b.name_apart;
+      apart = name_apart_on to_waiting these (stored_jobs world.store) (λ job there named. (refl, λ active. active_if_open job (is_live job there named))) b.name_apart;
       own = all_from _ attempts (λ a there.
-          let found = stored_as told _ a.0 (all_at _ attempts a fits.fits.each there) in
+          let found = stored_as world _ a.0 (all_at _ attempts a fits.fits.each there) in
           let same = live_attempt worker a.1 found.job found.so in
-          own_on told.store.history entry to_waiting these (stored_jobs told.store) found.job a b.sound.job_ids waiting_change (stored_named merge told specs b found.job a.0 found.stored) (named_in a attempts there) found.stored (omega (arith, same)));
+          own_on world.store.history entry to_waiting these (stored_jobs world.store) found.job a b.sound.job_ids waiting_change (stored_named merge world specs b found.job a.0 found.stored) (named_in a attempts there) found.stored (omega (arith, same)));
       once = rw append-nil b.once;
-      each = λ job there named kept. kept_open merge (with_records told (worker_records told to_waiting these) entry) specs Scheduled None job.attempt job (is_live job there named) refl (λ waits. refl) (λ c e claimed. claimed)
-          (kept_quiet merge told specs (worker_records told to_waiting these) entry job b (quiet_release (stood answer) worker attempts job.id) there kept);
+      each = λ job there named kept. kept_open merge (with_records world (worker_records world to_waiting these) entry) specs Scheduled None job.attempt job (is_live job there named) refl (λ waits. refl) (λ c e claimed. claimed)
+          (kept_quiet merge world specs (worker_records world to_waiting these) entry job b (quiet_release (stood answer) worker attempts job.id) there kept);
       quiet = λ job other. quiet_release (stood answer) worker attempts job.id;
       brought = tt;
     })

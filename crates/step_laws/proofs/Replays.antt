@@ -3,13 +3,13 @@ use Rattle.std.proofs.Common.{◌≡◌, refl, ℕ, ◌+◌, ◌≤◌, List, []
 use Rattle.fleet_model.specs.Nodes.{Tables}
 use Rattle.fleet_model.specs.Jobs.{JobSpec}
 use Rattle.fleet_model.specs.History.{Event, Entry, PutManifest, PutRecords, ManifestEpoch, Flush, Commit, stood}
-use Rattle.fleet_model.specs.Replay.{Objects, after_event, after_entry, replayed}
+use Rattle.fleet_model.specs.Replay.{Objects, after_event, after_entry, replayed_objects}
 use Rattle.fleet_model.proofs.Begins.{replayed-append}
 
 -- ---- one entry more
 
 pub replayed_push : (tables : Tables) (specs : ℕ → JobSpec) (history : List Entry) (entry : Entry) (o : Objects)
-    → replayed tables specs (history ++ entry ∷ []) o ≡ after_entry tables specs entry (replayed tables specs history o)
+    → replayed_objects tables specs (history ++ entry ∷ []) o ≡ after_entry tables specs entry (replayed_objects tables specs history o)
 replayed_push tables specs history entry o = replayed-append tables specs history (entry ∷ []) o
 
 -- ---- the version of a replay
@@ -33,7 +33,7 @@ version_by tables specs true (PutRecords change) o = omega arith
 version_by tables specs true event o = omega arith
 
 pub replay_version : (tables : Tables) (specs : ℕ → JobSpec) (history : List Entry) (o : Objects)
-    → (replayed tables specs history o).manifest.version ≡ o.manifest.version + manifest_puts history
+    → (replayed_objects tables specs history o).manifest.version ≡ o.manifest.version + manifest_puts history
 replay_version tables specs [] o = omega arith
 replay_version tables specs (entry ∷ history) o =
     let further = replay_version tables specs history (after_entry tables specs entry o) in
@@ -46,7 +46,7 @@ puts_front (entry ∷ front) back = let further = puts_front front back in omega
 
 -- No replay of a part of the history has a version above that of the whole, whatever the specs are.
 pub part_version : (tables more : Tables) (specs others : ℕ → JobSpec) (front back : List Entry) (o : Objects)
-    → (replayed tables specs front o).manifest.version ≤ (replayed more others (front ++ back) o).manifest.version
+    → (replayed_objects tables specs front o).manifest.version ≤ (replayed_objects more others (front ++ back) o).manifest.version
 part_version tables more specs others front back o =
     let part = replay_version tables specs front o in
     let whole = replay_version more others (front ++ back) o in

@@ -13,8 +13,8 @@ use Rattle.fleet_model.specs.Replay.{plain_objects}
 use Rattle.fleet_model.specs.Records.{firsts}
 use Rattle.fleet_model.specs.JobsFit.{OutputsFit}
 use Rattle.fleet_model.specs.AttemptsFit.{ContextFits}
-use Rattle.step_model.specs.Past.{Told}
-use Rattle.step_model.specs.Entries.{drawn_jobs, job_drawn_in, draws_job, drew_job, party_eq}
+use Rattle.step_model.specs.Past.{World}
+use Rattle.step_model.specs.Entries.{drawn_jobs, job_drawn_in, is_draw_of, drew_job, party_eq}
 use Rattle.step_model.specs.Faithful.{Faithful, with_specs, spec_or}
 use Rattle.step_laws.proofs.Elements.{IsIn, all_at, all_from, all_to, Passes, any_element, is_itself, in_contains, in_front, in_back}
 use Rattle.step_laws.proofs.Alike.{SameReplays, replays_alike, settings_same}
@@ -49,9 +49,9 @@ fits_by merge store one other job same spec h = record {
       rows = fits.rows;
     }
 
-pub body_by : (merge : Operator) (told : Told) (one other : ℕ → JobSpec) → Body merge told one → Faithful told other → Body merge told other
-body_by merge told one other b f =
-    let same = replays_alike told one other b.faithful f in
+pub body_by : (merge : Operator) (world : World) (one other : ℕ → JobSpec) → Body merge world one → Faithful world other → Body merge world other
+body_by merge world one other b f =
+    let same = replays_alike world one other b.faithful f in
     record {
       sound = b.sound;
       trees = b.trees;
@@ -59,7 +59,7 @@ body_by merge told one other b f =
       pieces = b.pieces;
       flushes = b.flushes;
       reads = b.reads;
-      objects = b.objects ∙ same told.store.history [] (append-nil told.store.history);
+      objects = b.objects ∙ same world.store.history [] (append-nil world.store.history);
       faithful = f;
       mentioned = b.mentioned;
       trimmed_already = b.trimmed_already;
@@ -71,8 +71,8 @@ body_by merge told one other b f =
       joined = b.joined;
       epochs = b.epochs;
       past = b.past;
-      jobs = all_to (JobKept merge told one) (JobKept merge told other) (stored_jobs told.store) (λ job there kept. record {
-        fits = fits_by merge told.store one other job same (kept.spec one b.faithful ∙ sym (kept.spec other f)) kept.fits;
+      jobs = all_to (JobKept merge world one) (JobKept merge world other) (stored_jobs world.store) (λ job there kept. record {
+        fits = fits_by merge world.store one other job same (kept.spec one b.faithful ∙ sym (kept.spec other f)) kept.fits;
         facts = kept.facts;
         spec = kept.spec;
       }) b.jobs;
@@ -97,20 +97,20 @@ named_agree named specs once = all_from _ named (λ p there. ap (spec_or (specs 
 -- ---- draws that parties made
 
 drawn_by : (party : Party) (history : List Entry) (id : ℕ) → IsTrue (drew_job party history id) → IsIn id (drawn_jobs history)
-drawn_by party history id h = at history (any_element (λ (e : Entry). party_eq party e.party && draws_job id e.event) history h)
+drawn_by party history id h = at history (any_element (λ (e : Entry). party_eq party e.party && is_draw_of id e.event) history h)
   where
-    draw : (own : Bool) (event : Event) → (own && draws_job id event) ≡ true → IsIn id (job_drawn_in event)
+    draw : (own : Bool) (event : Event) → (own && is_draw_of id event) ≡ true → IsIn id (job_drawn_in event)
     draw true (DrawJob other) e = inl (sym ((Decides-eqb id other).0 e))
     draw false event e = absurd (cc e)
     draw true event e = absurd (cc e)
 
-    behind : (es : List Entry) (x : Entry) → IsIn x es → IsIn id (job_drawn_in x.event) → IsIn id (drawn_jobs es)
-    behind [] x there one = absurd there
-    behind (y ∷ es) x (inl same) one = in_front id (job_drawn_in y.event) (drawn_jobs es) (rw same one)
-    behind (y ∷ es) x (inr there) one = in_back id (job_drawn_in y.event) (drawn_jobs es) (behind es x there one)
+    after : (es : List Entry) (x : Entry) → IsIn x es → IsIn id (job_drawn_in x.event) → IsIn id (drawn_jobs es)
+    after [] x there one = absurd there
+    after (y ∷ es) x (inl same) one = in_front id (job_drawn_in y.event) (drawn_jobs es) (rw same one)
+    after (y ∷ es) x (inr there) one = in_back id (job_drawn_in y.event) (drawn_jobs es) (after es x there one)
 
-    at : (es : List Entry) → Passes (λ (e : Entry). party_eq party e.party && draws_job id e.event) es → IsIn id (drawn_jobs es)
-    at es found = behind es found.element found.there (draw (party_eq party found.element.party) found.element.event found.passes)
+    at : (es : List Entry) → Passes (λ (e : Entry). party_eq party e.party && is_draw_of id e.event) es → IsIn id (drawn_jobs es)
+    at es found = after es found.element found.there (draw (party_eq party found.element.party) found.element.event found.passes)
 
 pub drew_drawn : (party : Party) (history : List Entry) (id : ℕ) → IsTrue (drew_job party history id) → IsTrue (contains (drawn_jobs history) id)
 drew_drawn party history id h = in_contains (drawn_jobs history) id (drawn_by party history id h)

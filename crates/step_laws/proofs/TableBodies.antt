@@ -1,4 +1,4 @@
--- A table that is put under a new id leaves what is told of all other tables.
+-- A table that is put under a new id leaves what is world of all other tables.
 use Rattle.std.proofs.Common.{◌≡◌, ◌≢◌, refl, sym, ◌∙◌, ap, subst, ℕ, List, [], ◌∷◌, ◌++◌, cond, Bool, true, false, inl, inr, Option, Some, None}
 use Rattle.std.specs.Prelude.{IsTrue, IfSome, is_some, ◌==◌, ◌||◌, map}
 use Rattle.std.specs.List.{AllByRecursion, list_all, concat}
@@ -7,7 +7,7 @@ use Rattle.std.proofs.lemmas.Bool.Decides.{Decides-eqb}
 use Rattle.row_model.specs.Lists.{Pairs, IsPrefixOf}
 use Rattle.row_model.specs.Rows.{Row, IsStrictlyOrdered, sorted_rows}
 use Rattle.row_model.specs.Ranges.{Range}
-use Rattle.row_model.specs.Plan.{planned}
+use Rattle.row_model.specs.Plan.{planned_ranges}
 use Rattle.row_model.specs.Fold.{Operator}
 use Rattle.fleet_model.specs.Nodes.{Tables, is_among, table_rows, Node, Tree, Segment, node_rows, flushed_node_rows}
 use Rattle.fleet_model.specs.Jobs.{JobSpec, Job, Context, Status, Submitted, Scheduled, Running, Compacted, Completed, Failed, status_eq, is_finished, has_status, is_active}
@@ -21,7 +21,7 @@ use Rattle.fleet_model.specs.JobsFit.{OutputsFit}
 use Rattle.fleet_model.specs.AttemptsFit.{ContextFits}
 use Rattle.fleet_model.specs.ReadsFit.{TreeKeepsReads}
 use Rattle.fleet_model.specs.Claimed.{settings_of}
-use Rattle.step_model.specs.Past.{Told}
+use Rattle.step_model.specs.Past.{World}
 use Rattle.step_model.specs.Entries.{tables_brought_in}
 use Rattle.step_model.specs.Faithful.{Faithful}
 use Rattle.step_model.specs.TablesKept.{PutsKept}
@@ -32,29 +32,29 @@ use Rattle.step_laws.proofs.Held.{are_put, among_grows, held_grows, held_shrinks
 use Rattle.step_laws.proofs.MuteBodies.{Matches}
 use Rattle.step_laws.proofs.TableReplays.{IsPut, replay_same}
 
--- What is told of a store with one table more, before the entry of its put.
-abbrev pub with_table : Told → ℕ × List Row → Told
-with_table told new = record { store = record told.store { tables = told.store.tables ++ new ∷ [] }; past = told.past }
+-- What is world of a store with one table more, before the entry of its put.
+abbrev pub with_table : World → ℕ × List Row → World
+with_table world new = record { store = record world.store { tables = world.store.tables ++ new ∷ [] }; past = world.past }
 
 -- ---- replays
 
-pub same_with_table : (told : Told) (new : ℕ × List Row) (specs : ℕ → JobSpec) → PutsKept told.store.history told.store.tables
-    → SameReplays (told.store.tables ++ new ∷ []) specs told.store.tables specs told.store.history (plain_objects fresh_store) (plain_objects fresh_store)
-same_with_table told new specs puts front back e =
-    replay_same told.store.tables new specs front (plain_objects fresh_store)
-    (all_front _ front back (subst (λ h. AllByRecursion (λ (entry : Entry). AllByRecursion (IsPut told.store.tables) (tables_brought_in (stood entry.answer) entry.event)) h) (sym e) puts.brought))
+pub same_with_table : (world : World) (new : ℕ × List Row) (specs : ℕ → JobSpec) → PutsKept world.store.history world.store.tables
+    → SameReplays (world.store.tables ++ new ∷ []) specs world.store.tables specs world.store.history (plain_objects fresh_store) (plain_objects fresh_store)
+same_with_table world new specs puts front back e =
+    replay_same world.store.tables new specs front (plain_objects fresh_store)
+    (all_front _ front back (subst (λ h. AllByRecursion (λ (entry : Entry). AllByRecursion (IsPut world.store.tables) (tables_brought_in (stood entry.answer) entry.event)) h) (sym e) puts.brought))
     (record { trees = (tt, tt); outputs = tt })
 
-faithful_with_table : (told : Told) (new : ℕ × List Row) (specs : ℕ → JobSpec) → PutsKept told.store.history told.store.tables → Faithful told specs → Faithful (with_table told new) specs
-faithful_with_table told new specs puts f = record {
+faithful_with_table : (world : World) (new : ℕ × List Row) (specs : ℕ → JobSpec) → PutsKept world.store.history world.store.tables → Faithful world specs → Faithful (with_table world new) specs
+faithful_with_table world new specs puts f = record {
   agrees = f.agrees;
-  manifests = λ front back e. subst (Matches told.past) (sym (same_with_table told new specs puts front back e)) (f.manifests front back e);
+  manifests = λ front back e. subst (Matches world.past) (sym (same_with_table world new specs puts front back e)) (f.manifests front back e);
 }
 
-faithful_without_table : (told : Told) (new : ℕ × List Row) (specs : ℕ → JobSpec) → PutsKept told.store.history told.store.tables → Faithful (with_table told new) specs → Faithful told specs
-faithful_without_table told new specs puts f = record {
+faithful_without_table : (world : World) (new : ℕ × List Row) (specs : ℕ → JobSpec) → PutsKept world.store.history world.store.tables → Faithful (with_table world new) specs → Faithful world specs
+faithful_without_table world new specs puts f = record {
   agrees = f.agrees;
-  manifests = λ front back e. subst (Matches told.past) (same_with_table told new specs puts front back e) (f.manifests front back e);
+  manifests = λ front back e. subst (Matches world.past) (same_with_table world new specs puts front back e) (f.manifests front back e);
 }
 
 -- ---- rows
@@ -138,61 +138,61 @@ all_parts_put tables xs ys put =
     let all = all_true_front (is_among tables) (xs ++ ys) put in
     (all_true_from (is_among tables) xs (all_front _ xs ys all), all_true_from (is_among tables) ys (all_back _ xs ys all))
 
-fits_with_table : (merge : Operator) (told : Told) (new : ℕ × List Row) (specs : ℕ → JobSpec) (job : Job) → PutsKept told.store.history told.store.tables → JobFits merge told.store specs job → JobFits merge (with_table told new).store specs job
-fits_with_table merge told new specs job puts h = record {
+fits_with_table : (merge : Operator) (world : World) (new : ℕ × List Row) (specs : ℕ → JobSpec) (job : Job) → PutsKept world.store.history world.store.tables → JobFits merge world.store specs job → JobFits merge (with_table world new).store specs job
+fits_with_table merge world new specs job puts h = record {
   sources = h.sources;
   context = record { there = h.context.there; fits = context job.context refl h.context.fits };
   outputs = λ compacted. outputs compacted (h.outputs compacted);
   tables = λ active. record {
-    named = all_true_from (is_held (with_table told new).store) (job_tables job) (all_to _ _ (job_tables job) (λ id there held. held_grows told.store new id held) (all_true_front (is_held told.store) (job_tables job) (h.tables active).named));
-    sources = all_true_from (is_among (told.store.tables ++ new ∷ [])) job.source_tables (all_to _ _ job.source_tables (λ id there put. among_grows told.store.tables new id put) (all_true_front (is_among told.store.tables) job.source_tables (h.tables active).sources));
+    named = all_true_from (is_held (with_table world new).store) (job_tables job) (all_to _ _ (job_tables job) (λ id there held. held_grows world.store new id held) (all_true_front (is_held world.store) (job_tables job) (h.tables active).named));
+    sources = all_true_from (is_among (world.store.tables ++ new ∷ [])) job.source_tables (all_to _ _ job.source_tables (λ id there put. among_grows world.store.tables new id put) (all_true_front (is_among world.store.tables) job.source_tables (h.tables active).sources));
   };
 }
   where
-    claims : (attempt : ℕ) → settings_of (told.store.tables ++ new ∷ []) specs told.store.history job.id attempt ≡ settings_of told.store.tables specs told.store.history job.id attempt
-    claims attempt = settings_same (told.store.tables ++ new ∷ []) told.store.tables specs specs told.store.history job.id attempt (same_with_table told new specs puts) refl
+    claims : (attempt : ℕ) → settings_of (world.store.tables ++ new ∷ []) specs world.store.history job.id attempt ≡ settings_of world.store.tables specs world.store.history job.id attempt
+    claims attempt = settings_same (world.store.tables ++ new ∷ []) world.store.tables specs specs world.store.history job.id attempt (same_with_table world new specs puts) refl
 
-    named_put : IsTrue (is_active job) → IsTrue (list_all (is_among told.store.tables) (job_tables job))
-    named_put active = are_put told.store (job_tables job) (h.tables active).named
+    named_put : IsTrue (is_active job) → IsTrue (list_all (is_among world.store.tables) (job_tables job))
+    named_put active = are_put world.store (job_tables job) (h.tables active).named
 
-    sources_same : IsTrue (is_active job) → source_rows (told.store.tables ++ new ∷ []) job.source_tables ≡ source_rows told.store.tables job.source_tables
-    sources_same active = ap sorted_rows (flat_rows_stay told.store.tables new job.source_tables (h.tables active).sources)
+    sources_same : IsTrue (is_active job) → source_rows (world.store.tables ++ new ∷ []) job.source_tables ≡ source_rows world.store.tables job.source_tables
+    sources_same active = ap sorted_rows (flat_rows_stay world.store.tables new job.source_tables (h.tables active).sources)
 
-    fit : (c : Context) → job.context ≡ Some c → ContextFits merge told.store specs job c → ContextFits merge (with_table told new).store specs job c
+    fit : (c : Context) → job.context ≡ Some c → ContextFits merge world.store specs job c → ContextFits merge (with_table world new).store specs job c
     fit c is f = record {
       claimed = record { settings = claims job.attempt ∙ f.claimed.settings; ranges = f.claimed.ranges };
       settings = f.settings;
       cut = f.cut;
-      ranges = (f.ranges.0, f.ranges.1 ∙ ap (planned f.ranges.0) (sym (maps_stay told.store.tables new job.source_tables (h.tables active).sources)));
+      ranges = (f.ranges.0, f.ranges.1 ∙ ap (planned_ranges f.ranges.0) (sym (maps_stay world.store.tables new job.source_tables (h.tables active).sources)));
       tables = all_to _ _ c.ranges (λ range there one. range_fits range (all_at _ c.ranges range noted there) one) f.tables;
     }
       where
         active : IsTrue (is_active job)
         active = active_if_open job (h.context.there.0 (ap is_some is)).0
 
-        noted : AllByRecursion (λ (range : Range × List ℕ). AllByRecursion (λ id. IsTrue (is_among told.store.tables id)) range.1) c.ranges
+        noted : AllByRecursion (λ (range : Range × List ℕ). AllByRecursion (λ id. IsTrue (is_among world.store.tables id)) range.1) c.ranges
         noted = all_unflat _ (λ (range : Range × List ℕ). range.1) c.ranges
-            (all_true_front (is_among told.store.tables) _ (subst (λ o. IsTrue (list_all (is_among told.store.tables) (context_tables o))) is (all_parts_put told.store.tables (context_tables job.context) (concat job.outputs) (named_put active)).0))
+            (all_true_front (is_among world.store.tables) _ (subst (λ o. IsTrue (list_all (is_among world.store.tables) (context_tables o))) is (all_parts_put world.store.tables (context_tables job.context) (concat job.outputs) (named_put active)).0))
 
-        range_fits : (range : Range × List ℕ) → AllByRecursion (λ id. IsTrue (is_among told.store.tables id)) range.1
-            → IsPrefixOf (noted_rows told.store.tables range.1) (range_rows merge told.store.tables c.settings job.source_tables range.0).rows
-            → IsPrefixOf (noted_rows (told.store.tables ++ new ∷ []) range.1) (range_rows merge (told.store.tables ++ new ∷ []) c.settings job.source_tables range.0).rows
-        range_fits range put one = rw (flat_rows_stay told.store.tables new range.1 (all_true_from (is_among told.store.tables) range.1 put), sources_same active) one
+        range_fits : (range : Range × List ℕ) → AllByRecursion (λ id. IsTrue (is_among world.store.tables id)) range.1
+            → IsPrefixOf (noted_rows world.store.tables range.1) (range_rows merge world.store.tables c.settings job.source_tables range.0).rows
+            → IsPrefixOf (noted_rows (world.store.tables ++ new ∷ []) range.1) (range_rows merge (world.store.tables ++ new ∷ []) c.settings job.source_tables range.0).rows
+        range_fits range put one = rw (flat_rows_stay world.store.tables new range.1 (all_true_from (is_among world.store.tables) range.1 put), sources_same active) one
 
-    context : (o : Option Context) → job.context ≡ o → IfSome o (ContextFits merge told.store specs job) → IfSome o (ContextFits merge (with_table told new).store specs job)
+    context : (o : Option Context) → job.context ≡ o → IfSome o (ContextFits merge world.store specs job) → IfSome o (ContextFits merge (with_table world new).store specs job)
     context None is f = tt
     context (Some c) is f = fit c is f
 
-    outputs : IsTrue (has_status Compacted job) → OutputsFit merge told.store specs job → OutputsFit merge (with_table told new).store specs job
+    outputs : IsTrue (has_status Compacted job) → OutputsFit merge world.store specs job → OutputsFit merge (with_table world new).store specs job
     outputs compacted f = record {
       settings = f.settings;
       claimed = claims job.attempt ∙ f.claimed;
       cut = f.cut;
       at_most_floor = f.at_most_floor;
       fit = f.fit;
-      rows = λ held. rw (sources_same active, flat_rows_stay told.store.tables new (concat job.outputs) (all_parts_put told.store.tables (context_tables job.context) (concat job.outputs) (named_put active)).1)
-          (f.rows (all_true_from (is_held told.store) job.source_tables (all_from _ job.source_tables (λ id there.
-          held_shrinks told.store new id (all_at _ _ id (all_true_front (is_among told.store.tables) job.source_tables (h.tables active).sources) there) (all_at _ _ id (all_true_front (is_held (with_table told new).store) job.source_tables held) there)))));
+      rows = λ held. rw (sources_same active, flat_rows_stay world.store.tables new (concat job.outputs) (all_parts_put world.store.tables (context_tables job.context) (concat job.outputs) (named_put active)).1)
+          (f.rows (all_true_from (is_held world.store) job.source_tables (all_from _ job.source_tables (λ id there.
+          held_shrinks world.store new id (all_at _ _ id (all_true_front (is_among world.store.tables) job.source_tables (h.tables active).sources) there) (all_at _ _ id (all_true_front (is_held (with_table world new).store) job.source_tables held) there)))));
     }
       where
         active : IsTrue (is_active job)
@@ -200,33 +200,33 @@ fits_with_table merge told new specs job puts h = record {
 
 -- ---- the whole
 
-put_nodes : (merge : Operator) (told : Told) (specs : ℕ → JobSpec) → Body merge told specs → AllByRecursion (λ s. AllByRecursion (NodePut told.store.tables) s.tree) told.store.manifest.trees
-put_nodes merge told specs b = all_from _ told.store.manifest.trees (λ s there. all_from _ s.tree (λ node one. record {
-  pieces = are_put told.store node.pieces (all_at _ s.tree node (all_at _ told.store.manifest.trees s b.pieces there) one);
-  flushes = all_at _ s.tree node (all_at _ told.store.manifest.trees s b.flushes there) one;
+put_nodes : (merge : Operator) (world : World) (specs : ℕ → JobSpec) → Body merge world specs → AllByRecursion (λ s. AllByRecursion (NodePut world.store.tables) s.tree) world.store.manifest.trees
+put_nodes merge world specs b = all_from _ world.store.manifest.trees (λ s there. all_from _ s.tree (λ node one. record {
+  pieces = are_put world.store node.pieces (all_at _ s.tree node (all_at _ world.store.manifest.trees s b.pieces there) one);
+  flushes = all_at _ s.tree node (all_at _ world.store.manifest.trees s b.flushes there) one;
 }))
 
-pub body_with_table : (merge : Operator) (told : Told) (specs : ℕ → JobSpec) (new : ℕ × List Row) → IsTable new.1 → is_among told.store.tables new.0 ≡ false → PutsKept told.store.history told.store.tables
-    → Body merge told specs → Body merge (with_table told new) specs
-body_with_table merge told specs new table unused puts b = record {
+pub body_with_table : (merge : Operator) (world : World) (specs : ℕ → JobSpec) (new : ℕ × List Row) → IsTable new.1 → is_among world.store.tables new.0 ≡ false → PutsKept world.store.history world.store.tables
+    → Body merge world specs → Body merge (with_table world new) specs
+body_with_table merge world specs new table unused puts b = record {
   sound = record {
-    tables = all_push _ told.store.tables new b.sound.tables table;
-    table_ids = pairs_push _ told.store.tables new b.sound.table_ids (all_from _ told.store.tables (λ other there. different other there));
-    deleted = all_true_from (is_among (told.store.tables ++ new ∷ [])) told.store.deleted
-        (all_to _ _ told.store.deleted (λ id there put. among_grows told.store.tables new id put) (all_true_front (is_among told.store.tables) told.store.deleted b.sound.deleted));
+    tables = all_push _ world.store.tables new b.sound.tables table;
+    table_ids = pairs_push _ world.store.tables new b.sound.table_ids (all_from _ world.store.tables (λ other there. different other there));
+    deleted = all_true_from (is_among (world.store.tables ++ new ∷ [])) world.store.deleted
+        (all_to _ _ world.store.deleted (λ id there put. among_grows world.store.tables new id put) (all_true_front (is_among world.store.tables) world.store.deleted b.sound.deleted));
     root = b.sound.root;
     prefixes = b.sound.prefixes;
     job_ids = b.sound.job_ids;
   };
-  trees = record { each = all_to _ _ told.store.manifest.trees (λ s there tree. tree_stays told.store.tables new s (all_at _ told.store.manifest.trees s nodes there) tree) b.trees.each; apart = b.trees.apart; epochs = b.trees.epochs };
+  trees = record { each = all_to _ _ world.store.manifest.trees (λ s there tree. tree_stays world.store.tables new s (all_at _ world.store.manifest.trees s nodes there) tree) b.trees.each; apart = b.trees.apart; epochs = b.trees.epochs };
   held_once = b.held_once;
-  pieces = all_to _ _ told.store.manifest.trees (λ s there old. all_to _ _ s.tree (λ node one held. all_true_from (is_held (with_table told new).store) node.pieces
-      (all_to _ _ node.pieces (λ id in_pieces it. held_grows told.store new id it) (all_true_front (is_held told.store) node.pieces held))) old) b.pieces;
-  flushes = all_to _ _ told.store.manifest.trees (λ s there old. all_to _ _ s.tree (λ node one put. all_true_from (is_among (told.store.tables ++ new ∷ [])) node.flushes
-      (all_to _ _ node.flushes (λ id in_flushes it. among_grows told.store.tables new id it) (all_true_front (is_among told.store.tables) node.flushes put))) old) b.flushes;
-  reads = all_to _ _ told.store.manifest.trees (λ s there old. reads_stay merge told.store new s.tree (all_at _ told.store.manifest.trees s nodes there) old) b.reads;
-  objects = b.objects ∙ sym (same_with_table told new specs puts told.store.history [] (append-nil told.store.history));
-  faithful = faithful_with_table told new specs puts b.faithful;
+  pieces = all_to _ _ world.store.manifest.trees (λ s there old. all_to _ _ s.tree (λ node one held. all_true_from (is_held (with_table world new).store) node.pieces
+      (all_to _ _ node.pieces (λ id in_pieces it. held_grows world.store new id it) (all_true_front (is_held world.store) node.pieces held))) old) b.pieces;
+  flushes = all_to _ _ world.store.manifest.trees (λ s there old. all_to _ _ s.tree (λ node one put. all_true_from (is_among (world.store.tables ++ new ∷ [])) node.flushes
+      (all_to _ _ node.flushes (λ id in_flushes it. among_grows world.store.tables new id it) (all_true_front (is_among world.store.tables) node.flushes put))) old) b.flushes;
+  reads = all_to _ _ world.store.manifest.trees (λ s there old. reads_stay merge world.store new s.tree (all_at _ world.store.manifest.trees s nodes there) old) b.reads;
+  objects = b.objects ∙ sym (same_with_table world new specs puts world.store.history [] (append-nil world.store.history));
+  faithful = faithful_with_table world new specs puts b.faithful;
   mentioned = b.mentioned;
   trimmed_already = b.trimmed_already;
   up_to = b.up_to;
@@ -237,18 +237,18 @@ body_with_table merge told specs new table unused puts b = record {
   joined = b.joined;
   epochs = b.epochs;
   past = b.past;
-  jobs = all_to (JobKept merge told specs) (JobKept merge (with_table told new) specs) (stored_jobs told.store) (λ job there kept. record {
-    fits = fits_with_table merge told new specs job puts kept.fits;
+  jobs = all_to (JobKept merge world specs) (JobKept merge (with_table world new) specs) (stored_jobs world.store) (λ job there kept. record {
+    fits = fits_with_table merge world new specs job puts kept.fits;
     facts = kept.facts;
-    spec = λ others f. kept.spec others (faithful_without_table told new others puts f);
+    spec = λ others f. kept.spec others (faithful_without_table world new others puts f);
   }) b.jobs;
 }
   where
-    nodes : AllByRecursion (λ s. AllByRecursion (NodePut told.store.tables) s.tree) told.store.manifest.trees
-    nodes = put_nodes merge told specs b
+    nodes : AllByRecursion (λ s. AllByRecursion (NodePut world.store.tables) s.tree) world.store.manifest.trees
+    nodes = put_nodes merge world specs b
 
-    different : (other : ℕ × List Row) → IsIn other told.store.tables → other.0 ≢ new.0
-    different other there same = refused (is_among told.store.tables new.0) unused (any_of (λ (table : ℕ × List Row). table.0 == new.0) told.store.tables other there ((Decides-eqb other.0 new.0).1 same))
+    different : (other : ℕ × List Row) → IsIn other world.store.tables → other.0 ≢ new.0
+    different other there same = refused (is_among world.store.tables new.0) unused (any_of (λ (table : ℕ × List Row). table.0 == new.0) world.store.tables other there ((Decides-eqb other.0 new.0).1 same))
       where
         refused : (b : Bool) → b ≡ false → b ≡ true → ⊥
         refused true e f = absurd (cc e)

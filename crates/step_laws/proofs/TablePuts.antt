@@ -8,7 +8,7 @@ use Rattle.fleet_model.specs.Nodes.{Tables, is_among}
 use Rattle.fleet_model.specs.Jobs.{contains, drawn_base}
 use Rattle.fleet_model.specs.History.{Party, Event, PutTable, DrawTable, Done, Stands, Answer, Entry, stood}
 use Rattle.fleet_model.specs.Exchanges.{PutsTable}
-use Rattle.step_model.specs.Past.{Told}
+use Rattle.step_model.specs.Past.{World}
 use Rattle.step_model.specs.Entries.{party_eq, last_from, last_event, last_name, name_in, drawn_tables, table_drawn_in, put_tables, table_put_in}
 use Rattle.step_model.specs.LawfulTables.{TableFits, MayName}
 use Rattle.step_model.specs.TablesKept.{PutsKept, IsKnownTable}
@@ -21,7 +21,7 @@ use Rattle.step_laws.proofs.Bodies.{whole_of, keeps_of}
 use Rattle.step_laws.proofs.Held.{among_grows}
 use Rattle.step_laws.proofs.MuteBodies.{entered, spares_all, body_mute}
 use Rattle.step_laws.proofs.TableBodies.{with_table, body_with_table}
-use Rattle.step_laws.proofs.Quiet.{told_entered, draws_mute}
+use Rattle.step_laws.proofs.Quiet.{world_entered, draws_mute}
 use Rattle.step_laws.proofs.Deletions.{deletions_keep}
 use Rattle.step_laws.proofs.Vain.{vain_puts_keep}
 
@@ -98,32 +98,32 @@ puts_with party history tables entry table rows is took mute named unused h =
 
 -- ---- the law
 
-put_by : (merge : Operator) (table : ℕ) (rows : List Row) (line : ℕ) (party : Party) (answer : Answer) (told : Told) → stood answer ≡ true → Keeps merge told → TableFits party told.store table rows
-    → Keeps merge (entered (with_table told (table, rows)) told.store.deleted told.store.jobs_drawn told.store.tables_drawn (record { line = line; party = party; event = PutTable table (length rows); answer = answer }))
-put_by merge table rows line party answer told took k fits =
+put_by : (merge : Operator) (table : ℕ) (rows : List Row) (line : ℕ) (party : Party) (answer : Answer) (world : World) → stood answer ≡ true → Keeps merge world → TableFits party world.store table rows
+    → Keeps merge (entered (with_table world (table, rows)) world.store.deleted world.store.jobs_drawn world.store.tables_drawn (record { line = line; party = party; event = PutTable table (length rows); answer = answer }))
+put_by merge table rows line party answer world took k fits =
     let entry : Entry = record { line = line; party = party; event = PutTable table (length rows); answer = answer } in
-    let w = whole_of merge told k in
+    let w = whole_of merge world k in
     let specs = k.stored.replay.specs in
     let mute = mute_event (stood answer) (PutTable table (length rows)) refl in
-    let body = body_with_table merge told specs (table, rows) fits.sound fits.new w.puts w.body in
-    keeps_of merge (entered (with_table told (table, rows)) told.store.deleted told.store.jobs_drawn told.store.tables_drawn entry) specs (record {
-      body = body_mute merge (with_table told (table, rows)) specs told.store.deleted told.store.jobs_drawn told.store.tables_drawn entry mute tt (spares_all merge (with_table told (table, rows)) specs body)
+    let body = body_with_table merge world specs (table, rows) fits.sound fits.new w.puts w.body in
+    keeps_of merge (entered (with_table world (table, rows)) world.store.deleted world.store.jobs_drawn world.store.tables_drawn entry) specs (record {
+      body = body_mute merge (with_table world (table, rows)) specs world.store.deleted world.store.jobs_drawn world.store.tables_drawn entry mute tt (spares_all merge (with_table world (table, rows)) specs body)
           (record { mentioned = rw mute.quiet.steps tt; planned = tt }) body;
-      draws = draws_mute told.store.jobs_drawn told.store.tables_drawn told.store.history entry refl refl w.draws;
-      puts = puts_with party told.store.history told.store.tables entry table rows refl took mute fits.named fits.new w.puts;
+      draws = draws_mute world.store.jobs_drawn world.store.tables_drawn world.store.history entry refl refl w.draws;
+      puts = puts_with party world.store.history world.store.tables entry table rows refl took mute fits.named fits.new w.puts;
     })
 
 puts_keep : (merge : Operator) (table : ℕ) (rows : List Row) → CallKeeps merge (PutsTable table rows)
-puts_keep merge table rows line party None told k lawful may =
-    subst (Keeps merge) (sym (told_entered (with_table told (table, rows)) told.store.deleted told.store.jobs_drawn told.store.tables_drawn (record { line = line; party = party; event = PutTable table (length rows); answer = Done 0 })))
-    (put_by merge table rows line party (Done 0) told refl k lawful)
-puts_keep merge table rows line party (Some true) told k lawful may =
-    subst (Keeps merge) (sym (told_entered (with_table told (table, rows)) told.store.deleted told.store.jobs_drawn told.store.tables_drawn (record { line = line; party = party; event = PutTable table (length rows); answer = Stands })))
-    (put_by merge table rows line party Stands told refl k lawful)
-puts_keep merge table rows line party (Some false) told k lawful may = (vain_puts_keep merge).lost (PutsTable table rows) line party told k lawful may
+puts_keep merge table rows line party None world k lawful may =
+    subst (Keeps merge) (sym (world_entered (with_table world (table, rows)) world.store.deleted world.store.jobs_drawn world.store.tables_drawn (record { line = line; party = party; event = PutTable table (length rows); answer = Done 0 })))
+    (put_by merge table rows line party (Done 0) world refl k lawful)
+puts_keep merge table rows line party (Some true) world k lawful may =
+    subst (Keeps merge) (sym (world_entered (with_table world (table, rows)) world.store.deleted world.store.jobs_drawn world.store.tables_drawn (record { line = line; party = party; event = PutTable table (length rows); answer = Stands })))
+    (put_by merge table rows line party Stands world refl k lawful)
+puts_keep merge table rows line party (Some false) world k lawful may = (vain_puts_keep merge).lost (PutsTable table rows) line party world k lawful may
 
 pub table_calls_keep : (merge : Operator) → TableCallsKeep merge
 table_calls_keep merge = record {
-  puts = λ table rows line party strike told k lawful may. puts_keep merge table rows line party strike told k lawful may;
-  deletions = λ table line party strike told k lawful may. deletions_keep merge table line party strike told k lawful may;
+  puts = λ table rows line party strike world k lawful may. puts_keep merge table rows line party strike world k lawful may;
+  deletions = λ table line party strike world k lawful may. deletions_keep merge table line party strike world k lawful may;
 }

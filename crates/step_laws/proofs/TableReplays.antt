@@ -5,11 +5,11 @@ use Rattle.std.specs.Ordering.{is_lt}
 use Rattle.std.specs.List.{AllByRecursion, concat, cons_option}
 use Rattle.row_model.specs.Rows.{Row, key_cmp}
 use Rattle.fleet_model.specs.Nodes.{Tables, is_among, table_rows, NodeName, Node, Tree, Trees, node_named}
-use Rattle.fleet_model.specs.Jobs.{JobSpec, Job, Jobs, contains, put_job, trimmed, is_active, finished_later, job_with, changed}
+use Rattle.fleet_model.specs.Jobs.{JobSpec, Job, Jobs, contains, put_job, trimmed_jobs, is_active, finished_later, job_with, changed_jobs}
 use Rattle.fleet_model.specs.History.{Event, Entry, PutManifest, PutRecords, ManifestEpoch, Flush, Commit, RecordChange, RecordsEpoch, Submit, Claim, Beat, Finish, Release, Polled, Step, Join, Move, Drain, stood}
-use Rattle.fleet_model.specs.Trees.{flushed, flushed_on, empty_segment, source_nodes, source_pieces, without, put_run, is_run_below, with_run_for, first_key, put_by_first_key, by_first_key, to_run, stepped, stepped_in, stepped_all, job_of, watermark_after}
+use Rattle.fleet_model.specs.Trees.{flushed_trees, flushed_on, empty_segment, source_nodes, source_pieces, without_nodes, put_run, is_run_below, with_run_for, first_key, put_by_first_key, by_first_key, to_run, stepped_tree, stepped_in, stepped_all, job_of, watermark_after}
 use Rattle.fleet_model.specs.Records.{Unrecorded, firsts, new_job, with_new, claimed_by, beaten_by, finished_by, to_waiting, to_scheduled, to_completed, to_failed, after_change}
-use Rattle.fleet_model.specs.Replay.{Objects, plain_job, outputs_of, outputs_in, after_event, after_entry, replayed}
+use Rattle.fleet_model.specs.Replay.{Objects, plain_job, outputs_of, outputs_in, after_event, after_entry, replayed_objects}
 use Rattle.fleet_model.specs.Store.{jobs_in}
 use Rattle.step_model.specs.Entries.{tables_brought_in}
 use Rattle.step_laws.proofs.Elements.{all_from, all_append}
@@ -60,7 +60,7 @@ put_run_all P id run (node ∷ tree) new h = by (is_run_below id node.name) (put
     by false rest = (h.0, rest)
 
 run_all : (P : ℕ → Type 0) (sources : List NodeName) (id : ℕ) (pieces : List ℕ) (tree : Tree) → AllByRecursion P pieces → TreeAll P tree → TreeAll P (with_run_for sources id pieces tree)
-run_all P sources id pieces tree new h = put_run_all P id _ (without sources tree) new (all_filter _ _ tree h)
+run_all P sources id pieces tree new h = put_run_all P id _ (without_nodes sources tree) new (all_filter _ _ tree h)
 
 put_first_all : (P : ℕ → Type 0) (tables : Tables) (piece : ℕ) (pieces : List ℕ) → P piece → AllByRecursion P pieces → AllByRecursion P (put_by_first_key tables piece pieces)
 put_first_all P tables piece [] p h = (p, tt)
@@ -78,7 +78,7 @@ to_run_all : (P : ℕ → Type 0) (sources : List NodeName) (destination : Optio
 to_run_all P sources None pieces tree new h = h
 to_run_all P sources (Some id) pieces tree new h = run_all P sources id pieces tree new h
 
-stepped_all_so : (P : ℕ → Type 0) (tables : Tables) (step : Step) (spec : JobSpec) (outputs : List ℕ) (tree : Tree) → AllByRecursion P outputs → TreeAll P tree → TreeAll P (stepped tables step spec outputs tree)
+stepped_all_so : (P : ℕ → Type 0) (tables : Tables) (step : Step) (spec : JobSpec) (outputs : List ℕ) (tree : Tree) → AllByRecursion P outputs → TreeAll P tree → TreeAll P (stepped_tree tables step spec outputs tree)
 stepped_all_so P tables (Join job) spec outputs tree new h = to_run_all P spec.sources spec.destination outputs tree new h
 stepped_all_so P tables (Move job) spec outputs tree new h = to_run_all P spec.sources spec.destination _ tree (by_first_all P tables _ (sources_all P spec.sources tree h)) h
 stepped_all_so P tables (Drain job) spec outputs tree new h = all_filter _ _ tree h
@@ -87,16 +87,16 @@ pub step_all : (P : ℕ → Type 0) (tables : Tables) (step : Step) (spec : JobS
 step_all P tables step spec outputs [] new h = tt
 step_all P tables step spec outputs (s ∷ trees) new h = (by (bytes_eq spec.segment s.prefix), step_all P tables step spec outputs trees new h.1)
   where
-    by : (b : Bool) → TreeAll P (cond b (record s { tree = stepped tables step spec outputs s.tree; watermark = watermark_after spec.sources s.tree s.watermark }) s).tree
+    by : (b : Bool) → TreeAll P (cond b (record s { tree = stepped_tree tables step spec outputs s.tree; watermark = watermark_after spec.sources s.tree s.watermark }) s).tree
     by true = stepped_all_so P tables step spec outputs s.tree new h.0
     by false = h.0
 
-pub flush_all : (P : ℕ → Type 0) (prefix : List ℕ) (name : ℕ) (rows : List Row) (trees : Trees) → P name → TreesAll P trees → TreesAll P (flushed prefix name rows trees)
+pub flush_all : (P : ℕ → Type 0) (prefix : List ℕ) (name : ℕ) (rows : List Row) (trees : Trees) → P name → TreesAll P trees → TreesAll P (flushed_trees prefix name rows trees)
 flush_all P prefix name rows [] new h = (((new, tt), tt), tt)
 flush_all P prefix name rows (s ∷ trees) new h = by (bytes_eq prefix s.prefix) (is_lt (key_cmp prefix s.prefix)) (flush_all P prefix name rows trees new h.1)
   where
-    by : (same below : Bool) → TreesAll P (flushed prefix name rows trees)
-        → TreesAll P (cond same (flushed_on name rows s ∷ trees) (cond below (flushed_on name rows (empty_segment prefix) ∷ s ∷ trees) (s ∷ flushed prefix name rows trees)))
+    by : (same below : Bool) → TreesAll P (flushed_trees prefix name rows trees)
+        → TreesAll P (cond same (flushed_on name rows s ∷ trees) (cond below (flushed_on name rows (empty_segment prefix) ∷ s ∷ trees) (s ∷ flushed_trees prefix name rows trees)))
     by true below rest = (((new, tt), h.0), h.1)
     by false true rest = (((new, tt), tt), h)
     by false false rest = (h.0, rest)
@@ -110,16 +110,16 @@ HasOutputs P job = AllByRecursion P (concat job.outputs)
 abbrev pub OutputsAll : (ℕ → Type 0) → Jobs → Type 0
 OutputsAll P jobs = AllByRecursion (HasOutputs P) jobs
 
-pub all_trimmed : (P : Job → Type 0) (jobs : Jobs) → AllByRecursion P jobs → AllByRecursion P (trimmed jobs)
+pub all_trimmed : (P : Job → Type 0) (jobs : Jobs) → AllByRecursion P jobs → AllByRecursion P (trimmed_jobs jobs)
 all_trimmed P [] h = tt
 all_trimmed P (job ∷ jobs) h = by (is_active job) (finished_later jobs) (all_trimmed P jobs h.1)
   where
-    by : (active later : Bool) → AllByRecursion P (trimmed jobs) → AllByRecursion P (cond active (job ∷ trimmed jobs) (cond later (trimmed jobs) (job ∷ trimmed jobs)))
+    by : (active later : Bool) → AllByRecursion P (trimmed_jobs jobs) → AllByRecursion P (cond active (job ∷ trimmed_jobs jobs) (cond later (trimmed_jobs jobs) (job ∷ trimmed_jobs jobs)))
     by true later rest = (h.0, rest)
     by false true rest = rest
     by false false rest = (h.0, rest)
 
-pub all_changed : (P : Job → Type 0) (f : Job → Job) (these : List ℕ) (jobs : Jobs) → ((job : Job) → P job → P (f job)) → AllByRecursion P jobs → AllByRecursion P (changed f these jobs)
+pub all_changed : (P : Job → Type 0) (f : Job → Job) (these : List ℕ) (jobs : Jobs) → ((job : Job) → P job → P (f job)) → AllByRecursion P jobs → AllByRecursion P (changed_jobs f these jobs)
 all_changed P f these [] new h = tt
 all_changed P f these (job ∷ jobs) new h = (by (contains these job.id), all_changed P f these jobs new h.1)
   where
@@ -208,7 +208,7 @@ by_first_same tables new (piece ∷ pieces) h =
     ap (put_by_first_key (tables ++ new ∷ []) piece) (by_first_same tables new pieces h.1)
     ∙ put_first_same tables new piece (by_first_key tables pieces) h.0 (by_first_all (IsPut tables) tables pieces h.1)
 
-stepped_same : (tables : Tables) (new : ℕ × List Row) (step : Step) (spec : JobSpec) (outputs : List ℕ) (tree : Tree) → TreeAll (IsPut tables) tree → stepped (tables ++ new ∷ []) step spec outputs tree ≡ stepped tables step spec outputs tree
+stepped_same : (tables : Tables) (new : ℕ × List Row) (step : Step) (spec : JobSpec) (outputs : List ℕ) (tree : Tree) → TreeAll (IsPut tables) tree → stepped_tree (tables ++ new ∷ []) step spec outputs tree ≡ stepped_tree tables step spec outputs tree
 stepped_same tables new (Join job) spec outputs tree h = refl
 stepped_same tables new (Move job) spec outputs tree h =
     ap (λ pieces. to_run (λ id. with_run_for spec.sources id pieces) spec.destination tree) (by_first_same tables new (source_pieces spec.sources tree) (sources_all (IsPut tables) spec.sources tree h))
@@ -234,7 +234,7 @@ event_same tables new specs false event o put h = refl
 event_same tables new specs true (PutManifest (ManifestEpoch epoch)) o put h = refl
 event_same tables new specs true (PutManifest (Flush name segment floor tick)) o put h =
     let rows = rows_stay tables new name put.0 in
-    λ i. record o { manifest = record o.manifest { version = o.manifest.version + 1; trees = flushed segment name (rows i) o.manifest.trees; floor = floor; tick = tick } }
+    λ i. record o { manifest = record o.manifest { version = o.manifest.version + 1; trees = flushed_trees segment name (rows i) o.manifest.trees; floor = floor; tick = tick } }
 event_same tables new specs true (PutManifest (Commit steps)) o put h =
     let trees = steps_same tables new (λ job. (specs job, outputs_in o.records job)) (outputs_found (IsPut tables) o h) steps o.manifest.trees h.trees in
     λ i. record o { manifest = record o.manifest { version = o.manifest.version + 1; trees = trees i } }
@@ -243,8 +243,8 @@ event_same tables new specs true event o put h = refl
 
 -- The replay of a history whose flushes and finishes brought tables that were put.
 pub replay_same : (tables : Tables) (new : ℕ × List Row) (specs : ℕ → JobSpec) (history : List Entry) (o : Objects) → AllByRecursion (λ entry. AllByRecursion (IsPut tables) (tables_brought_in (stood entry.answer) entry.event)) history
-    → ObjectsAll (IsPut tables) o → replayed (tables ++ new ∷ []) specs history o ≡ replayed tables specs history o
+    → ObjectsAll (IsPut tables) o → replayed_objects (tables ++ new ∷ []) specs history o ≡ replayed_objects tables specs history o
 replay_same tables new specs [] o put h = refl
 replay_same tables new specs (entry ∷ history) o put h =
-    ap (replayed (tables ++ new ∷ []) specs history) (event_same tables new specs (stood entry.answer) entry.event o put.0 h)
+    ap (replayed_objects (tables ++ new ∷ []) specs history) (event_same tables new specs (stood entry.answer) entry.event o put.0 h)
     ∙ replay_same tables new specs history (after_entry tables specs entry o) put.1 (event_all (IsPut tables) tables specs (stood entry.answer) entry.event o put.0 h)

@@ -4,7 +4,7 @@ use Rattle.std.specs.Prelude.{IsTrue, ◌==◌, ◌&&◌}
 use Rattle.std.specs.List.{AllByRecursion}
 use Rattle.std.proofs.lemmas.Bool.Decides.{Decides-eqb}
 use Rattle.row_model.specs.Fold.{Operator}
-use Rattle.fleet_model.specs.Jobs.{JobSpec, Job, Jobs, Status, Submitted, Scheduled, Running, Compacted, Completed, Failed, status_eq, has_status, contains, job_with, changed, trimmed}
+use Rattle.fleet_model.specs.Jobs.{JobSpec, Job, Jobs, Status, Submitted, Scheduled, Running, Compacted, Completed, Failed, status_eq, has_status, contains, job_with, changed_jobs, trimmed_jobs}
 use Rattle.fleet_model.specs.History.{Party, PutRecords, RecordChange, Entry, Answer, stood}
 use Rattle.fleet_model.specs.Records.{Unrecorded, firsts, after_change, jobs_after}
 use Rattle.fleet_model.specs.Trees.{tables_now}
@@ -15,8 +15,8 @@ use Rattle.fleet_model.specs.Gates.{reserves_nodes}
 use Rattle.fleet_model.specs.Store.{Records, stored_jobs, records_epoch}
 use Rattle.fleet_model.specs.Exchanges.{records_version}
 use Rattle.fleet_model.specs.Replay.{epoch_after, named_specs}
-use Rattle.step_model.specs.Past.{Told}
-use Rattle.step_model.specs.Entries.{was_named, attempts_in, claimed_attempts, claims_in, tables_brought_in}
+use Rattle.step_model.specs.Past.{World}
+use Rattle.step_model.specs.Entries.{was_named, attempts_in, claimed_attempts, attempts_claimed_in, tables_brought_in}
 use Rattle.step_model.specs.NamesKept.{IsUpTo}
 use Rattle.step_model.specs.TablesKept.{NameApart}
 use Rattle.step_model.specs.LawfulRecords.{IsStoredAs, IsLiveAt, OfSome}
@@ -34,40 +34,40 @@ use Rattle.step_laws.proofs.Changed.{IsWorkerChange, job_found, found_job, pairs
 -- ---- named attempts
 
 -- The stored job of a named attempt, and what is so of it.
-pub record Named (told : Told) (P : Job → Type 0) (id : ℕ) : Type 0 where
+pub record Named (world : World) (P : Job → Type 0) (id : ℕ) : Type 0 where
   pub job : Job
-  pub stored : job_with id (stored_jobs told.store) ≡ Some job
+  pub stored : job_with id (stored_jobs world.store) ≡ Some job
   pub so : P job
 
-pub stored_as : (told : Told) (P : Job → Type 0) (id : ℕ) → IsStoredAs told id P → Named told P id
-stored_as told P id h = by (job_with id (stored_jobs told.store)) refl h
+pub stored_as : (world : World) (P : Job → Type 0) (id : ℕ) → IsStoredAs world id P → Named world P id
+stored_as world P id h = by (job_with id (stored_jobs world.store)) refl h
   where
-    by : (o : Option Job) → job_with id (stored_jobs told.store) ≡ o → OfSome P o → Named told P id
+    by : (o : Option Job) → job_with id (stored_jobs world.store) ≡ o → OfSome P o → Named world P id
     by None e h = absurd h
     by (Some job) e h = record { job = job; stored = e; so = h }
 
-pub stored_to : (told : Told) (P Q : Job → Type 0) (id : ℕ) → ((job : Job) → P job → Q job) → IsStoredAs told id P → IsStoredAs told id Q
-stored_to told P Q id f h = by (job_with id (stored_jobs told.store)) h
+pub stored_to : (world : World) (P Q : Job → Type 0) (id : ℕ) → ((job : Job) → P job → Q job) → IsStoredAs world id P → IsStoredAs world id Q
+stored_to world P Q id f h = by (job_with id (stored_jobs world.store)) h
   where
     by : (o : Option Job) → OfSome P o → OfSome Q o
     by None h = h
     by (Some job) h = f job h
 
 -- A stored job was named by a put.
-pub stored_named : (merge : Operator) (told : Told) (specs : ℕ → JobSpec) → Body merge told specs → (job : Job) (id : ℕ) → job_with id (stored_jobs told.store) ≡ Some job → IsTrue (was_named told.store.history id)
-stored_named merge told specs b job id stored =
-    let found = job_found id (stored_jobs told.store) job stored in
-    let kept = all_at _ (stored_jobs told.store) job b.jobs found.there in
-    subst (λ n. IsTrue (was_named told.store.history n)) found.same kept.facts.named
+pub stored_named : (merge : Operator) (world : World) (specs : ℕ → JobSpec) → Body merge world specs → (job : Job) (id : ℕ) → job_with id (stored_jobs world.store) ≡ Some job → IsTrue (was_named world.store.history id)
+stored_named merge world specs b job id stored =
+    let found = job_found id (stored_jobs world.store) job stored in
+    let kept = all_at _ (stored_jobs world.store) job b.jobs found.there in
+    subst (λ n. IsTrue (was_named world.store.history n)) found.same kept.facts.named
 
 -- What is so of the stored job of each named attempt is so of each job that is named.
-pub each_named : (told : Told) (specs : ℕ → JobSpec) (merge : Operator) (P : Job → Type 0) (attempts : List (ℕ × ℕ)) → Body merge told specs → AllByRecursion (λ a. IsStoredAs told a.0 P) attempts
-    → (job : Job) → IsIn job (stored_jobs told.store) → IsTrue (contains (firsts attempts) job.id) → P job
-each_named told specs merge P attempts b each job there named = at (contains_in (firsts attempts) job.id named)
+pub each_named : (world : World) (specs : ℕ → JobSpec) (merge : Operator) (P : Job → Type 0) (attempts : List (ℕ × ℕ)) → Body merge world specs → AllByRecursion (λ a. IsStoredAs world a.0 P) attempts
+    → (job : Job) → IsIn job (stored_jobs world.store) → IsTrue (contains (firsts attempts) job.id) → P job
+each_named world specs merge P attempts b each job there named = at (contains_in (firsts attempts) job.id named)
   where
-    found : (list : List (ℕ × ℕ)) → AllByRecursion (λ a. IsStoredAs told a.0 P) list → IsIn job.id (firsts list) → P job
+    found : (list : List (ℕ × ℕ)) → AllByRecursion (λ a. IsStoredAs world a.0 P) list → IsIn job.id (firsts list) → P job
     found [] all there = absurd there
-    found (a ∷ list) all (inl same) = subst (OfSome P) (ap (λ id. job_with id (stored_jobs told.store)) same ∙ found_job (stored_jobs told.store) job b.sound.job_ids there) all.0
+    found (a ∷ list) all (inl same) = subst (OfSome P) (ap (λ id. job_with id (stored_jobs world.store)) same ∙ found_job (stored_jobs world.store) job b.sound.job_ids there) all.0
     found (a ∷ list) all (inr there) = found list all.1 there
 
     at : IsIn job.id (firsts attempts) → P job
@@ -111,68 +111,68 @@ named_in a (b ∷ attempts) (inr there) = by (b.0 == a.0) (named_in a attempts t
 
 -- ---- a put of a worker's change
 
--- The records behind a put of a worker's change of these jobs.
-abbrev pub worker_records : Told → (Job → Job) → List ℕ → Records
-worker_records told f these = record { version = records_version told.store.records + 1; epoch = records_epoch told.store.records; jobs = trimmed (changed f these (stored_jobs told.store)) }
+-- The records after a put of a worker's change of these jobs.
+abbrev pub worker_records : World → (Job → Job) → List ℕ → Records
+worker_records world f these = record { version = records_version world.store.records + 1; epoch = records_epoch world.store.records; jobs = trimmed_jobs (changed_jobs f these (stored_jobs world.store)) }
 
 -- What a worker's change has to keep.
-pub record WorkerPut (merge : Operator) (told : Told) (specs : ℕ → JobSpec) (f : Job → Job) (these : List ℕ) (change : RecordChange) (entry : Entry) : Type 0 where
+pub record WorkerPut (merge : Operator) (world : World) (specs : ℕ → JobSpec) (f : Job → Job) (these : List ℕ) (change : RecordChange) (entry : Entry) : Type 0 where
   pub is : IsWorkerChange f
-  pub holds : (job : Job) → IsIn job (stored_jobs told.store) → IsTrue (contains these job.id) → IsTrue (reserves_nodes (f job)) → IsTrue (reserves_nodes job)
-  pub apart : Pairs NameApart (changed f these (stored_jobs told.store))
-  pub own : AllByRecursion (IsUpTo (told.store.history ++ entry ∷ []) (trimmed (changed f these (stored_jobs told.store)))) (attempts_in (PutRecords change))
-  pub once : Pairs (λ a b. a ≢ b) (claimed_attempts told.store.history ++ claims_in true (PutRecords change))
-  pub each : (job : Job) → IsIn job (stored_jobs told.store) → IsTrue (contains these job.id) → JobKept merge told specs job → JobKept merge (with_records told (worker_records told f these) entry) specs (f job)
+  pub holds : (job : Job) → IsIn job (stored_jobs world.store) → IsTrue (contains these job.id) → IsTrue (reserves_nodes (f job)) → IsTrue (reserves_nodes job)
+  pub apart : Pairs NameApart (changed_jobs f these (stored_jobs world.store))
+  pub own : AllByRecursion (IsUpTo (world.store.history ++ entry ∷ []) (trimmed_jobs (changed_jobs f these (stored_jobs world.store)))) (attempts_in (PutRecords change))
+  pub once : Pairs (λ a b. a ≢ b) (claimed_attempts world.store.history ++ attempts_claimed_in true (PutRecords change))
+  pub each : (job : Job) → IsIn job (stored_jobs world.store) → IsTrue (contains these job.id) → JobKept merge world specs job → JobKept merge (with_records world (worker_records world f these) entry) specs (f job)
   pub quiet : (job : Job) → contains these job.id ≡ false → IsQuietFor (stood entry.answer) (PutRecords change) job.id
-  pub brought : AllByRecursion (λ id. IsTrue (is_among told.store.tables id)) (tables_brought_in true (PutRecords change))
+  pub brought : AllByRecursion (λ id. IsTrue (is_among world.store.tables id)) (tables_brought_in true (PutRecords change))
 
 -- How the change is made.
-pub record IsMade (told : Told) (u : Unrecorded) (f : Job → Job) (these : List ℕ) (change : RecordChange) : Type 0 where
-  pub after : after_change u change (stored_jobs told.store) ≡ changed f these (stored_jobs told.store)
+pub record IsMade (world : World) (u : Unrecorded) (f : Job → Job) (these : List ℕ) (change : RecordChange) : Type 0 where
+  pub after : after_change u change (stored_jobs world.store) ≡ changed_jobs f these (stored_jobs world.store)
   pub unnamed : named_specs (PutRecords change) ≡ []
-  pub tables : SameTables u (tables_now told.store.manifest.trees) change (stored_jobs told.store)
-  pub epoch : epoch_after change told.store.records ≡ records_epoch told.store.records
+  pub tables : SameTables u (tables_now world.store.manifest.trees) change (stored_jobs world.store)
+  pub epoch : epoch_after change world.store.records ≡ records_epoch world.store.records
 
-keeps_worker : (merge : Operator) (told : Told) (u : Unrecorded) (f : Job → Job) (these : List ℕ) (change : RecordChange) (line : ℕ) (party : Party) (answer : Answer) → stood answer ≡ true → (k : Keeps merge told) → IsMade told u f these change
-    → WorkerPut merge told k.stored.replay.specs f these change (record { line = line; party = party; event = PutRecords change; answer = answer })
-    → Keeps merge (with_records told (worker_records told f these) (record { line = line; party = party; event = PutRecords change; answer = answer }))
-keeps_worker merge told u f these change line party answer took k made put =
+keeps_worker : (merge : Operator) (world : World) (u : Unrecorded) (f : Job → Job) (these : List ℕ) (change : RecordChange) (line : ℕ) (party : Party) (answer : Answer) → stood answer ≡ true → (k : Keeps merge world) → IsMade world u f these change
+    → WorkerPut merge world k.stored.replay.specs f these change (record { line = line; party = party; event = PutRecords change; answer = answer })
+    → Keeps merge (with_records world (worker_records world f these) (record { line = line; party = party; event = PutRecords change; answer = answer }))
+keeps_worker merge world u f these change line party answer took k made put =
     let entry : Entry = record { line = line; party = party; event = PutRecords change; answer = answer } in
-    let w = whole_of merge told k in
+    let w = whole_of merge world k in
     let b = w.body in
     let specs = k.stored.replay.specs in
-    let old = stored_jobs told.store in
-    let after = changed f these old in
-    let records = worker_records told f these in
-    keeps_of merge (with_records told records entry) specs (record {
-      body = body_with_records merge told specs records line party change answer took (record {
-        objects = objects_after told specs line party change answer u (records_version told.store.records) (records_epoch told.store.records) (trimmed after) took refl (sym (ap trimmed made.after)) (sym made.epoch) made.tables;
+    let old = stored_jobs world.store in
+    let after = changed_jobs f these old in
+    let records = worker_records world f these in
+    keeps_of merge (with_records world records entry) specs (record {
+      body = body_with_records merge world specs records line party change answer took (record {
+        objects = objects_after world specs line party change answer u (records_version world.store.records) (records_epoch world.store.records) (trimmed_jobs after) took refl (sym (ap trimmed_jobs made.after)) (sym made.epoch) made.tables;
         job_ids = pairs_trimmed _ after (ids_rise f these old put.is b.sound.job_ids);
-        epochs = same_epoch_fits told.store.manifest told.store.records (records_version told.store.records + 1) (trimmed after) b.trees.epochs;
+        epochs = same_epoch_fits world.store.manifest world.store.records (records_version world.store.records + 1) (trimmed_jobs after) b.trees.epochs;
         held_once = pairs_trimmed _ after (held_once_on f these old put.is put.holds b.held_once);
         name_apart = pairs_trimmed _ after put.apart;
         trimmed_already = trimmed_once after;
         agrees = rw made.unnamed tt;
         drawn = rw made.unnamed tt;
-        later = λ a up. later_on told.store.history entry f these old b.sound.job_ids put.is a up;
+        later = λ a up. later_on world.store.history entry f these old b.sound.job_ids put.is a up;
         own = put.own;
         once = put.once;
-        jobs = all_trimmed _ after (all_on_these _ f these old (λ job there. by_these (JobKept merge (with_records told records entry) specs) f these job
+        jobs = all_trimmed _ after (all_on_these _ f these old (λ job there. by_these (JobKept merge (with_records world records entry) specs) f these job
             (λ named. put.each job there named (all_at _ old job b.jobs there))
-            (λ other. kept_quiet merge told specs records entry job b (put.quiet job other) there (all_at _ old job b.jobs there))));
+            (λ other. kept_quiet merge world specs records entry job b (put.quiet job other) there (all_at _ old job b.jobs there))));
       }) b;
-      draws = draws_mute told.store.jobs_drawn told.store.tables_drawn told.store.history entry refl refl w.draws;
-      puts = puts_kept told.store.history entry told.store.tables (table_none (stood answer) entry.event refl) (rw took put.brought) w.puts;
+      draws = draws_mute world.store.jobs_drawn world.store.tables_drawn world.store.history entry refl refl w.draws;
+      puts = puts_kept world.store.history entry world.store.tables (table_none (stood answer) entry.event refl) (rw took put.brought) w.puts;
     })
 
 -- A lawful put of a worker's change.
-pub worker_put_keeps : (merge : Operator) (told : Told) (u : Unrecorded) (f : Job → Job) (these : List ℕ) (change : RecordChange) (line : ℕ) (party : Party) (answer : Answer) (epoch : ℕ) (jobs : Jobs) → stood answer ≡ true → (k : Keeps merge told)
-    → IsMade told u f these change → jobs ≡ jobs_after u change (stored_jobs told.store) → epoch ≡ epoch_after change told.store.records
-    → WorkerPut merge told k.stored.replay.specs f these change (record { line = line; party = party; event = PutRecords change; answer = answer })
-    → Keeps merge (with_records told (record { version = records_version told.store.records + 1; epoch = epoch; jobs = jobs }) (record { line = line; party = party; event = PutRecords change; answer = answer }))
-worker_put_keeps merge told u f these change line party answer epoch jobs took k made makes_jobs makes_epoch put =
-    let same_jobs = makes_jobs ∙ ap trimmed made.after in
+pub worker_put_keeps : (merge : Operator) (world : World) (u : Unrecorded) (f : Job → Job) (these : List ℕ) (change : RecordChange) (line : ℕ) (party : Party) (answer : Answer) (epoch : ℕ) (jobs : Jobs) → stood answer ≡ true → (k : Keeps merge world)
+    → IsMade world u f these change → jobs ≡ jobs_after u change (stored_jobs world.store) → epoch ≡ epoch_after change world.store.records
+    → WorkerPut merge world k.stored.replay.specs f these change (record { line = line; party = party; event = PutRecords change; answer = answer })
+    → Keeps merge (with_records world (record { version = records_version world.store.records + 1; epoch = epoch; jobs = jobs }) (record { line = line; party = party; event = PutRecords change; answer = answer }))
+worker_put_keeps merge world u f these change line party answer epoch jobs took k made makes_jobs makes_epoch put =
+    let same_jobs = makes_jobs ∙ ap trimmed_jobs made.after in
     let same_epoch = makes_epoch ∙ made.epoch in
-    subst (λ (r : Records). Keeps merge (with_records told r (record { line = line; party = party; event = PutRecords change; answer = answer })))
-    (λ i. record { version = records_version told.store.records + 1; epoch = sym same_epoch i; jobs = sym same_jobs i })
-    (keeps_worker merge told u f these change line party answer took k made put)
+    subst (λ (r : Records). Keeps merge (with_records world r (record { line = line; party = party; event = PutRecords change; answer = answer })))
+    (λ i. record { version = records_version world.store.records + 1; epoch = sym same_epoch i; jobs = sym same_jobs i })
+    (keeps_worker merge world u f these change line party answer took k made put)

@@ -6,20 +6,20 @@ use Rattle.fleet_model.specs.History.{Party, Event, ManifestChange, ManifestEpoc
 use Rattle.fleet_model.specs.Store.{Manifest}
 use Rattle.row_model.specs.Rows.{Row}
 use Rattle.fleet_model.specs.Exchanges.{Exchange, Plain, DrawsJob, DrawsTable, PutsTable, PutsManifest, PutsRecords, ListsTables, DeletesTable, records_version}
-use Rattle.step_model.specs.Past.{Told}
+use Rattle.step_model.specs.Past.{World}
 use Rattle.step_model.specs.Lawful.{Lawful}
-use Rattle.step_model.specs.Rivals.{Strike, MayStrike, told_by}
+use Rattle.step_model.specs.Rivals.{Strike, MayStrike, after_call}
 use Rattle.step_model.specs.Keeps.{Keeps}
 
--- A call keeps the invariant and the facts where this condition on its party and on what is told
+-- A call keeps the invariant and the facts where this condition on its party and on what is world
 -- holds, whether a fault strikes the call or not.
-abbrev pub CallKeepsIf : Operator → Exchange → (Party → Told → Type 0) → Type 0
-CallKeepsIf merge x Fits = (line : ℕ) (party : Party) (strike : Strike) (told : Told)
-    → Keeps merge told → Fits party told → MayStrike x told strike → Keeps merge (told_by line party x strike told)
+abbrev pub CallKeepsIf : Operator → Exchange → (Party → World → Type 0) → Type 0
+CallKeepsIf merge x Fits = (line : ℕ) (party : Party) (strike : Strike) (world : World)
+    → Keeps merge world → Fits party world → MayStrike x world strike → Keeps merge (after_call line party x strike world)
 
 -- A call that is lawful where it comes keeps the invariant and the facts.
 abbrev pub CallKeeps : Operator → Exchange → Type 0
-CallKeeps merge x = CallKeepsIf merge x (λ party told. Lawful merge party told x)
+CallKeeps merge x = CallKeepsIf merge x (λ party world. Lawful merge party world x)
 
 -- ---- gets, notes and draws
 
@@ -38,11 +38,11 @@ pub record DrawsKeep (merge : Operator) : Type 0 where
 -- Puts that a fault strikes and that are lost keep the invariant, and so do puts of the manifest and
 -- of the records that are refused because another version is stored.
 pub record VainPutsKeep (merge : Operator) : Type 0 where
-  pub lost : (x : Exchange) (line : ℕ) (party : Party) (told : Told) → Keeps merge told → Lawful merge party told x → MayStrike x told (Some false) → Keeps merge (told_by line party x (Some false) told)
-  pub refused : (line : ℕ) (party : Party) (strike : Strike) (told : Told) (version : ℕ) (change : ManifestChange) (value : Manifest) → Keeps merge told
-      → (version ≡ told.store.manifest.version → ⊥) → Keeps merge (told_by line party (PutsManifest version change value) strike told)
-  pub records_refused : (line : ℕ) (party : Party) (strike : Strike) (told : Told) (version : ℕ) (change : RecordChange) (epoch : ℕ) (jobs : Jobs) → Keeps merge told
-      → Lawful merge party told (PutsRecords version change epoch jobs) → (version ≡ records_version told.store.records → ⊥) → Keeps merge (told_by line party (PutsRecords version change epoch jobs) strike told)
+  pub lost : (x : Exchange) (line : ℕ) (party : Party) (world : World) → Keeps merge world → Lawful merge party world x → MayStrike x world (Some false) → Keeps merge (after_call line party x (Some false) world)
+  pub refused : (line : ℕ) (party : Party) (strike : Strike) (world : World) (version : ℕ) (change : ManifestChange) (value : Manifest) → Keeps merge world
+      → (version ≡ world.store.manifest.version → ⊥) → Keeps merge (after_call line party (PutsManifest version change value) strike world)
+  pub records_refused : (line : ℕ) (party : Party) (strike : Strike) (world : World) (version : ℕ) (change : RecordChange) (epoch : ℕ) (jobs : Jobs) → Keeps merge world
+      → Lawful merge party world (PutsRecords version change epoch jobs) → (version ≡ records_version world.store.records → ⊥) → Keeps merge (after_call line party (PutsRecords version change epoch jobs) strike world)
 
 -- ---- tables
 

@@ -16,7 +16,7 @@ use Rattle.fleet_model.specs.Jobs.{drawn_base, Job, Jobs, Running, Compacted, Co
 use Rattle.fleet_model.specs.History.{Entry, Party, Writer, Submitter, Coordinator, Worker, Event, GetManifest, PutTable, PutManifest, PutRecords, DrawJob, DrawTable, Plan, ManifestEpoch, Flush, Commit, Join, RecordsEpoch, Submit, Polled, PollChange, Claim, Beat, Finish, Answer, Done, Lost}
 use Rattle.fleet_model.specs.Trees.{empty_segment}
 use Rattle.fleet_model.specs.Store.{Manifest, fresh_store}
-use Rattle.step_model.specs.Past.{Told}
+use Rattle.step_model.specs.Past.{World}
 
 -- ---- tables
 
@@ -29,8 +29,8 @@ abbrev pub prefix : List ℕ
 prefix = 0x62 ∷ []
 
 -- The id of the table that worker 1 published for job 1.
-abbrev pub published : ℕ
-published = drawn_base + 1
+abbrev pub published_table : ℕ
+published_table = drawn_base + 1
 
 -- The id of the table that worker 2 made for job 2.
 abbrev pub made : ℕ
@@ -41,7 +41,7 @@ abbrev pub tables : Tables
 tables =
     (1, row (0x62 ∷ 0x31 ∷ []) 1 ∷ row (0x62 ∷ 0x32 ∷ []) 2 ∷ [])
     ∷ (2, row (0x61 ∷ []) 4 ∷ row (0x61 ∷ []) 3 ∷ [])
-    ∷ (published, row (0x62 ∷ 0x31 ∷ []) 1 ∷ [])
+    ∷ (published_table, row (0x62 ∷ 0x31 ∷ []) 1 ∷ [])
     ∷ (made, row (0x61 ∷ []) 4 ∷ [])
     ∷ (3, row (0x61 ∷ []) 5 ∷ [])
     ∷ []
@@ -58,7 +58,7 @@ spec_of id = if id == 1 then spec prefix 1 0 else spec [] 2 1
 
 -- The context that worker 1 published for job 1.
 abbrev pub context : Context
-context = record { settings = record { floor = 4; tick = pos 0; last_run = true; cut = 4 }; has_cut = true; ranges = (all_keys, published ∷ []) ∷ [] }
+context = record { settings = record { floor = 4; tick = pos 0; last_run = true; cut = 4 }; has_cut = true; ranges = (all_keys, published_table ∷ []) ∷ [] }
 
 -- The record of job 1, which runs at its second attempt.
 abbrev pub running : Job
@@ -75,8 +75,8 @@ running = record {
 }
 
 -- The record of job 2, whose join took effect.
-abbrev pub compacted : Job
-compacted = record {
+abbrev pub compacted_job : Job
+compacted_job = record {
   id = 2;
   spec = spec [] 2 1;
   status = Compacted;
@@ -90,7 +90,7 @@ compacted = record {
 
 -- The stored jobs.
 abbrev pub jobs : Jobs
-jobs = running ∷ compacted ∷ []
+jobs = running ∷ compacted_job ∷ []
 
 -- ---- manifests
 
@@ -111,14 +111,14 @@ abbrev pub twice_flushed_root : Segment
 twice_flushed_root = record { prefix = []; tree = flush 3 ∷ flush 2 ∷ []; last_seq = Some 5; watermark = None }
 
 -- The run of job 2. It has one of the two rows of flush 2.
-abbrev pub run : Node
-run = record { name = Run 1; flushes = 2 ∷ []; pieces = made ∷ [] }
+abbrev pub run_node : Node
+run_node = record { name = Run 1; flushes = 2 ∷ []; pieces = made ∷ [] }
 
 -- The root segment after the join. The run has replaced flush 2.
 abbrev pub joined_root : Segment
 joined_root = record {
   prefix = [];
-  tree = flush 3 ∷ run ∷ [];
+  tree = flush 3 ∷ run_node ∷ [];
   last_seq = Some 5;
   watermark = Some 2;
 }
@@ -172,8 +172,8 @@ first_entries =
     ∷ entry 6 (Worker 1) (PutRecords (Claim 1 ((1, 1) ∷ []))) (Done 4)
     ∷ entry 6 (Worker 1) GetManifest (Done 4)
     ∷ entry 6 (Worker 1) (Plan 1 1 (all_keys ∷ [])) (Done 0)
-    ∷ entry 7 (Worker 1) (DrawTable published) (Done 0)
-    ∷ entry 7 (Worker 1) (PutTable published 1) (Done 0)
+    ∷ entry 7 (Worker 1) (DrawTable published_table) (Done 0)
+    ∷ entry 7 (Worker 1) (PutTable published_table 1) (Done 0)
     ∷ entry 8 (Worker 1) (PutRecords (Beat 1 ((1, 1) ∷ []))) (Done 5)
     ∷ []
 
@@ -202,8 +202,8 @@ history = first_entries ++ last_entries
 -- ---- the store
 
 -- The store with its past.
-abbrev pub midway_told : Told
-midway_told = record {
+abbrev pub midway_world : World
+midway_world = record {
   store = record {
     manifest = joined_manifest;
     records = Some (record { version = 9; epoch = 1; jobs = jobs });

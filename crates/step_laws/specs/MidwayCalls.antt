@@ -10,9 +10,9 @@ use Rattle.fleet_model.specs.Store.{fresh_store}
 use Rattle.fleet_model.specs.Trees.{empty_segment}
 use Rattle.fleet_model.specs.Records.{new_job}
 use Rattle.fleet_model.specs.Exchanges.{Exchange, Plain, DrawsJob, DrawsTable, PutsTable, PutsManifest, PutsRecords}
-use Rattle.step_model.specs.Past.{fresh_told}
+use Rattle.step_model.specs.Past.{fresh_world}
 use Rattle.step_model.specs.Rivals.{Caller, RivalCall, RivalsFrom}
-use Rattle.step_laws.specs.Midway.{prefix, published, made, tables, spec, context, running, compacted, jobs, side, flushed_root, twice_flushed_root, joined_root, manifest, poll, midway_told}
+use Rattle.step_laws.specs.Midway.{prefix, published_table, made, tables, spec, context, running, compacted_job, jobs, side, flushed_root, twice_flushed_root, joined_root, manifest, poll, midway_world}
 
 -- ---- the jobs that the calls put
 
@@ -21,38 +21,38 @@ abbrev pub lease : ℕ → ℕ → Option Lease
 lease worker moment = Some (record { worker = worker; heartbeat = moment })
 
 -- Job 1 since it was opened, with this status, lease, attempt and context.
-abbrev pub one : Status → Option Lease → ℕ → Option Context → Job
-one status held attempt noted = record running { status = status; lease = held; attempt = attempt; context = noted }
+abbrev pub one_job : Status → Option Lease → ℕ → Option Context → Job
+one_job status held attempt noted = record running { status = status; lease = held; attempt = attempt; context = noted }
 
 -- Job 2 from its opening to its finish, with this status, lease and attempt.
 abbrev pub two : Status → Option Lease → ℕ → Job
-two status held attempt = record compacted { status = status; lease = held; attempt = attempt; outputs = []; kept_cut = None }
+two status held attempt = record compacted_job { status = status; lease = held; attempt = attempt; outputs = []; kept_cut = None }
 
 -- The jobs after each change.
-abbrev pub submitted : Jobs
-submitted = new_job (1, spec prefix 1 0) ∷ new_job (2, spec [] 2 1) ∷ []
+abbrev pub submitted_jobs : Jobs
+submitted_jobs = new_job (1, spec prefix 1 0) ∷ new_job (2, spec [] 2 1) ∷ []
 
-abbrev pub opened : Jobs
-opened = one Scheduled None 0 None ∷ two Scheduled None 0 ∷ []
+abbrev pub opened_jobs : Jobs
+opened_jobs = one_job Scheduled None 0 None ∷ two Scheduled None 0 ∷ []
 
-abbrev pub claimed : Jobs
-claimed = one Running (lease 1 500) 1 None ∷ two Scheduled None 0 ∷ []
+abbrev pub taken_jobs_now : Jobs
+taken_jobs_now = one_job Running (lease 1 500) 1 None ∷ two Scheduled None 0 ∷ []
 
-abbrev pub beaten : Jobs
-beaten = one Running (lease 1 600) 1 (Some context) ∷ two Scheduled None 0 ∷ []
+abbrev pub beaten_jobs : Jobs
+beaten_jobs = one_job Running (lease 1 600) 1 (Some context) ∷ two Scheduled None 0 ∷ []
 
 abbrev pub both_claimed : Jobs
-both_claimed = one Running (lease 1 600) 1 (Some context) ∷ two Running (lease 2 700) 1 ∷ []
+both_claimed = one_job Running (lease 1 600) 1 (Some context) ∷ two Running (lease 2 700) 1 ∷ []
 
-abbrev pub freed : Jobs
-freed = one Scheduled None 1 (Some context) ∷ two Running (lease 2 700) 1 ∷ []
+abbrev pub freed_jobs : Jobs
+freed_jobs = one_job Scheduled None 1 (Some context) ∷ two Running (lease 2 700) 1 ∷ []
 
-abbrev pub retaken : Jobs
-retaken = running ∷ two Running (lease 2 700) 1 ∷ []
+abbrev pub retaken_jobs : Jobs
+retaken_jobs = running ∷ two Running (lease 2 700) 1 ∷ []
 
 -- The jobs of the put that was lost.
-abbrev pub completed : Jobs
-completed = running ∷ record compacted { status = Completed } ∷ []
+abbrev pub completed_jobs : Jobs
+completed_jobs = running ∷ record compacted_job { status = Completed } ∷ []
 
 -- ---- the calls
 
@@ -80,23 +80,23 @@ first_calls =
 -- Both jobs are submitted and opened.
 abbrev pub opening_calls : List RivalCall
 opening_calls =
-    call 4 Submitter (PutsRecords 1 (Submit ((1, spec prefix 1 0) ∷ (2, spec [] 2 1) ∷ [])) 1 submitted)
-    ∷ call 5 (Coordinator 1) (PutsRecords 2 (Polled (poll [] [] (1 ∷ 2 ∷ []))) 1 opened)
+    call 4 Submitter (PutsRecords 1 (Submit ((1, spec prefix 1 0) ∷ (2, spec [] 2 1) ∷ [])) 1 submitted_jobs)
+    ∷ call 5 (Coordinator 1) (PutsRecords 2 (Polled (poll [] [] (1 ∷ 2 ∷ []))) 1 opened_jobs)
     ∷ []
 
 -- Worker 1 takes job 1 and puts a table.
 abbrev pub claim_calls : List RivalCall
 claim_calls =
-    call 6 (Worker 1) (PutsRecords 3 (Claim 1 ((1, 1) ∷ [])) 1 claimed)
+    call 6 (Worker 1) (PutsRecords 3 (Claim 1 ((1, 1) ∷ [])) 1 taken_jobs_now)
     ∷ call 6 (Worker 1) (Plain GetManifest)
     ∷ call 6 (Worker 1) (Plain (Plan 1 1 (all_keys ∷ [])))
     ∷ call 7 (Worker 1) (DrawsTable 0)
-    ∷ call 7 (Worker 1) (table_put published)
+    ∷ call 7 (Worker 1) (table_put published_table)
     ∷ []
 
 -- Worker 1 publishes its table.
 abbrev pub beat_calls : List RivalCall
-beat_calls = call 8 (Worker 1) (PutsRecords 4 (Beat 1 ((1, 1) ∷ [])) 1 beaten) ∷ []
+beat_calls = call 8 (Worker 1) (PutsRecords 4 (Beat 1 ((1, 1) ∷ [])) 1 beaten_jobs) ∷ []
 
 -- Worker 2 takes job 2. Then job 1 is freed, and worker 2 takes it too, and puts a table for job 2.
 abbrev pub takeover_calls : List RivalCall
@@ -104,8 +104,8 @@ takeover_calls =
     call 9 (Worker 2) (PutsRecords 5 (Claim 2 ((2, 1) ∷ [])) 1 both_claimed)
     ∷ call 9 (Worker 2) (Plain GetManifest)
     ∷ call 9 (Worker 2) (Plain (Plan 2 1 (all_keys ∷ [])))
-    ∷ call 10 (Coordinator 1) (PutsRecords 6 (Polled (poll (1 ∷ []) [] [])) 1 freed)
-    ∷ call 11 (Worker 2) (PutsRecords 7 (Claim 2 ((1, 2) ∷ [])) 1 retaken)
+    ∷ call 10 (Coordinator 1) (PutsRecords 6 (Polled (poll (1 ∷ []) [] [])) 1 freed_jobs)
+    ∷ call 11 (Worker 2) (PutsRecords 7 (Claim 2 ((1, 2) ∷ [])) 1 retaken_jobs)
     ∷ call 11 (Worker 2) (Plain GetManifest)
     ∷ call 12 (Worker 2) (DrawsTable 0)
     ∷ call 12 (Worker 2) (table_put made)
@@ -118,7 +118,7 @@ last_calls =
     ∷ call 14 Writer (table_put 3)
     ∷ call 14 Writer (PutsManifest 4 (Flush 3 [] 5 (pos 0)) (manifest 4 (twice_flushed_root ∷ side ∷ []) 5 0))
     ∷ call 15 (Coordinator 1) (PutsManifest 5 (Commit (Join 2 ∷ [])) (manifest 5 (joined_root ∷ side ∷ []) 5 4))
-    ∷ record { line = 15; party = Coordinator 1; exchange = PutsRecords 9 (Polled (poll [] (2 ∷ []) [])) 1 completed; strike = Some false }
+    ∷ record { line = 15; party = Coordinator 1; exchange = PutsRecords 9 (Polled (poll [] (2 ∷ []) [])) 1 completed_jobs; strike = Some false }
     ∷ []
 
 -- All calls, in their order.
@@ -132,4 +132,4 @@ sweeper merge = record { merge = merge; line = 0; party = Sweeper; alone = false
 -- Each of these calls is lawful where it comes, and together they lead from a fresh store to the
 -- store in the midst of its jobs. To a sweeper they are calls of others.
 abbrev pub MidwayIsReached : Operator → Type 0
-MidwayIsReached merge = RivalsFrom (sweeper merge) midway_calls fresh_told midway_told
+MidwayIsReached merge = RivalsFrom (sweeper merge) midway_calls fresh_world midway_world

@@ -3,11 +3,11 @@ use Rattle.std.specs.Prelude.{◌≡◌, ℕ, List, ◌++◌}
 use Rattle.fleet_model.specs.Jobs.{JobSpec}
 use Rattle.fleet_model.specs.History.{Entry}
 use Rattle.fleet_model.specs.Store.{fresh_store}
-use Rattle.fleet_model.specs.Replay.{replayed, plain_objects}
-use Rattle.step_model.specs.Past.{Told}
+use Rattle.fleet_model.specs.Replay.{replayed_objects, plain_objects}
+use Rattle.step_model.specs.Past.{World}
 use Rattle.step_model.specs.Faithful.{Faithful}
 
 -- Two faithful choices of specs give the same objects after each part of the history.
 abbrev pub FaithfulAlike : Type 0
-FaithfulAlike = (told : Told) (one other : ℕ → JobSpec) → Faithful told one → Faithful told other → (front back : List Entry) → front ++ back ≡ told.store.history
-    → replayed told.store.tables one front (plain_objects fresh_store) ≡ replayed told.store.tables other front (plain_objects fresh_store)
+FaithfulAlike = (world : World) (one other : ℕ → JobSpec) → Faithful world one → Faithful world other → (front back : List Entry) → front ++ back ≡ world.store.history
+    → replayed_objects world.store.tables one front (plain_objects fresh_store) ≡ replayed_objects world.store.tables other front (plain_objects fresh_store)

@@ -4,23 +4,23 @@
 
 ghost use Rattle.row_model.specs.Fold.{Operator};
 ghost use Rattle.step_model.specs.Keeps.{Keeps};
-ghost use Rattle.step_model.specs.Past.{fresh_told};
+ghost use Rattle.step_model.specs.Past.{fresh_world};
 ghost use Rattle.step_laws.specs.CallLaws.{DrawsKeep, EpochsKeep, FlushesKeep, JobPutsKeep, LooksKeep, OtherCallsKeep, TableCallsKeep, VainPutsKeep, WorkerPutsKeep};
-ghost use Rattle.step_laws.specs.Midway.{midway_told};
+ghost use Rattle.step_laws.specs.Midway.{midway_world};
 ghost use Rattle.step_laws.specs.MidwayCalls.{MidwayIsReached};
 ghost use Rattle.step_laws.specs.Replays.{FaithfulAlike};
 ghost use Rattle.step_laws.specs.Runs.{LawfulRunsKeep};
 
 /// A fresh store meets the invariant and the facts that lawful calls keep.
 pub fn fresh_keeps()
-    ensures { (merge : Operator) → Keeps merge fresh_told }
+    ensures { (merge : Operator) → Keeps merge fresh_world }
 {}
 
 /// A store in the midst of two jobs meets them too, under any operator. One job runs at its second
 /// attempt, with the context that another worker published. The other job was joined, and the put
 /// of the records that comes after the join was lost.
 pub fn midway_keeps()
-    ensures { (merge : Operator) → Keeps merge midway_told }
+    ensures { (merge : Operator) → Keeps merge midway_world }
 {}
 
 /// Lawful calls lead from a fresh store to the store of `midway_keeps`, under any operator. So the

@@ -2,7 +2,7 @@
 use Rattle.std.specs.Prelude.{ℕ, if◌then◌else◌, Option, Some, None}
 use Rattle.fleet_model.specs.History.{Party}
 use Rattle.fleet_model.specs.Store.{Store}
-use Rattle.fleet_model.specs.Exchanges.{Fault, event_of, answered, strikes, waiting_after, struck_by, does_stand}
+use Rattle.fleet_model.specs.Exchanges.{Fault, event_of, after_answered, strikes, waiting_after, struck_by, does_stand}
 use Rattle.step_model.specs.Course.{Course, Ends, Calls}
 
 -- The end of a course that ran alone. The answer is None where a fault struck a call. The fault is
@@ -18,4 +18,4 @@ run_alone line party (Ends answer) fault store = record { answer = Some answer; 
 run_alone line party (Calls x next) fault store =
     if strikes (event_of x store) fault
     then record { answer = None; store = struck_by (does_stand fault) line party x store; fault = None }
-    else run_alone line party (next store) (waiting_after (event_of x store) fault) (answered line party x store)
+    else run_alone line party (next store) (waiting_after (event_of x store) fault) (after_answered line party x store)

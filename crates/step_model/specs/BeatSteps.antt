@@ -4,7 +4,7 @@ use Rattle.fleet_model.specs.Jobs.{Context, Jobs}
 use Rattle.fleet_model.specs.History.{Beat, Release}
 use Rattle.fleet_model.specs.Store.{Records}
 use Rattle.fleet_model.specs.Records.{Unrecorded, jobs_after}
-use Rattle.fleet_model.specs.Parties.{Attempt, LiveWorker, attempt_at, attempt_jobs, named, live_attempts, not_owned, is_live}
+use Rattle.fleet_model.specs.Parties.{Attempt, LiveWorker, attempt_at, attempt_jobs, named_attempts, live_attempts, not_owned, is_live}
 use Rattle.fleet_model.specs.Gates.{is_nonempty}
 use Rattle.step_model.specs.Course.{Course, Ends, gets_records, puts_records}
 use Rattle.step_model.specs.StepEnds.{StepEnd, Reports, GivesUp, most_refused}
@@ -37,7 +37,7 @@ beat_report w jobs = record { beat = attempt_jobs (live_attempts jobs w); not_ow
 abbrev pub beat_of : ℕ → LiveWorker → Records → List Attempt → (ℕ → Course (StepEnd Beaten)) → Course (StepEnd Beaten)
 beat_of moment w got [] again = Ends (Reports (beat_report w got.jobs))
 beat_of moment w got (a ∷ live) again =
-    let change = Beat w.number (named (a ∷ live)) in
+    let change = Beat w.number (named_attempts (a ∷ live)) in
     let unrecorded : Unrecorded = record { moment = moment; published = published_by (a ∷ live); kept_cut = None; tables_of = λ spec. [] } in
     puts_records got change got.epoch (jobs_after unrecorded change got.jobs) (Ends (Reports (beat_report w got.jobs))) again
 
@@ -59,17 +59,17 @@ heartbeat moment w = if is_nonempty w.attempts then beats_from moment w most_ref
 
 -- The release of these live attempts. The step puts the records if there is at least one, and then
 -- goes on with the released jobs.
-abbrev pub release_of : {A : Type 0} → LiveWorker → Records → List Attempt → (List ℕ → Course (StepEnd A)) → (ℕ → Course (StepEnd A)) → Course (StepEnd A)
-release_of w got [] next again = next []
-release_of w got (a ∷ live) next again =
-    let change = Release w.number (named (a ∷ live)) in
+abbrev pub release_live : {A : Type 0} → LiveWorker → Records → List Attempt → (List ℕ → Course (StepEnd A)) → (ℕ → Course (StepEnd A)) → Course (StepEnd A)
+release_live w got [] next again = next []
+release_live w got (a ∷ live) next again =
+    let change = Release w.number (named_attempts (a ∷ live)) in
     puts_records got change got.epoch (jobs_after (at_moment 0) change got.jobs) (next (attempt_jobs (a ∷ live))) again
 
 -- A release after its get of the records. It gives back the live ones of these attempts, and none
 -- if there are no records.
 abbrev pub release_by : {A : Type 0} → LiveWorker → List Attempt → Option Records → (List ℕ → Course (StepEnd A)) → (ℕ → Course (StepEnd A)) → Course (StepEnd A)
 release_by w attempts None next again = next []
-release_by w attempts (Some got) next again = release_of w got (filter (is_live got.jobs w.number) attempts) next again
+release_by w attempts (Some got) next again = release_live w got (filter (is_live got.jobs w.number) attempts) next again
 
 -- A release that may put at most `left` more times. `seen` is the version that its last refused put
 -- met.

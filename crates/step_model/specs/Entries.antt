@@ -43,12 +43,12 @@ last_name (entry ∷ history) = max (name_in entry.event) (last_name history)
 -- ---- kinds of entries
 
 -- True if the party made an entry whose event is of this kind, whatever its answer was.
-abbrev pub made : (Event → Bool) → Party → List Entry → Bool
-made is party history = list_any (λ entry. party_eq party entry.party && is entry.event) history
+abbrev pub made_event : (Event → Bool) → Party → List Entry → Bool
+made_event is party history = list_any (λ entry. party_eq party entry.party && is entry.event) history
 
 -- True if the party made a put of this kind that took effect.
-abbrev pub did : (Event → Bool) → Party → List Entry → Bool
-did is party history = list_any (λ entry. party_eq party entry.party && is entry.event && stood entry.answer) history
+abbrev pub did_event : (Event → Bool) → Party → List Entry → Bool
+did_event is party history = list_any (λ entry. party_eq party entry.party && is entry.event && stood entry.answer) history
 
 -- True if a put of this kind took effect, whoever made it.
 abbrev pub was_done : (Event → Bool) → List Entry → Bool
@@ -57,13 +57,13 @@ was_done is history = list_any (λ entry. is entry.event && stood entry.answer) 
 -- ---- draws
 
 -- True if the event draws this id for a job.
-abbrev pub draws_job : ℕ → Event → Bool
-draws_job id (DrawJob other) = id == other
-draws_job id _ = false
+abbrev pub is_draw_of : ℕ → Event → Bool
+is_draw_of id (DrawJob other) = id == other
+is_draw_of id _ = false
 
 -- True if the party drew this id for a job.
 abbrev pub drew_job : Party → List Entry → ℕ → Bool
-drew_job party history id = made (draws_job id) party history
+drew_job party history id = made_event (is_draw_of id) party history
 
 -- The id that the event draws for a job, if it draws one.
 abbrev pub job_drawn_in : Event → List ℕ
@@ -106,14 +106,14 @@ was_named history id = was_done (λ event. contains (firsts (named_specs event))
 -- ---- tables and flushes
 
 -- True if the event puts this table.
-abbrev pub puts_table : ℕ → Event → Bool
-puts_table table (PutTable other rows) = table == other
-puts_table table _ = false
+abbrev pub is_put_of : ℕ → Event → Bool
+is_put_of table (PutTable other rows) = table == other
+is_put_of table _ = false
 
 -- True if the entry puts this table and no fault struck it.
 abbrev pub is_pending_in : ℕ → Option Entry → Bool
 is_pending_in table None = false
-is_pending_in table (Some entry) = puts_table table entry.event && is_done entry.answer
+is_pending_in table (Some entry) = is_put_of table entry.event && is_done entry.answer
   where
     is_done : Answer → Bool
     is_done (Done version) = true
@@ -141,24 +141,24 @@ tables_brought_in true (PutRecords (Finish worker job attempt outputs)) = concat
 tables_brought_in _ _ = []
 
 -- True if the event flushes this table into a tree.
-abbrev pub flushes : ℕ → Event → Bool
-flushes name (PutManifest (Flush other segment floor tick)) = name == other
-flushes name _ = false
+abbrev pub is_flush_of : ℕ → Event → Bool
+is_flush_of name (PutManifest (Flush other segment floor tick)) = name == other
+is_flush_of name _ = false
 
 -- True if a flush of this name took effect.
 abbrev pub was_flushed : List Entry → ℕ → Bool
-was_flushed history name = was_done (flushes name) history
+was_flushed history name = was_done (is_flush_of name) history
 
 -- ---- epochs
 
 -- True if the event puts this epoch into the manifest.
-abbrev pub puts_epoch : ℕ → Event → Bool
-puts_epoch epoch (PutManifest (ManifestEpoch other)) = epoch == other
-puts_epoch epoch _ = false
+abbrev pub is_epoch_put : ℕ → Event → Bool
+is_epoch_put epoch (PutManifest (ManifestEpoch other)) = epoch == other
+is_epoch_put epoch _ = false
 
 -- True if the party put this epoch into the manifest.
 abbrev pub did_put_epoch : Party → List Entry → ℕ → Bool
-did_put_epoch party history epoch = did (puts_epoch epoch) party history
+did_put_epoch party history epoch = did_event (is_epoch_put epoch) party history
 
 -- The epoch that the event puts into the manifest, if the flag says that the event took effect.
 abbrev pub epoch_in : Bool → Event → List ℕ
@@ -184,22 +184,22 @@ abbrev pub is_in : ℕ → ℕ → List (ℕ × ℕ) → Bool
 is_in job attempt attempts = list_any (λ a. (job == a.0) && (attempt == a.1)) attempts
 
 -- True if the event is a claim of this attempt by this worker.
-abbrev pub claims : ℕ → ℕ → ℕ → Event → Bool
-claims worker job attempt (PutRecords (Claim other attempts)) = (worker == other) && is_in job attempt attempts
-claims worker job attempt _ = false
+abbrev pub is_claim_of : ℕ → ℕ → ℕ → Event → Bool
+is_claim_of worker job attempt (PutRecords (Claim other attempts)) = (worker == other) && is_in job attempt attempts
+is_claim_of worker job attempt _ = false
 
 -- True if a claim of this attempt by this worker took effect.
 abbrev pub was_claimed : List Entry → ℕ → ℕ → ℕ → Bool
-was_claimed history worker job attempt = was_done (claims worker job attempt) history
+was_claimed history worker job attempt = was_done (is_claim_of worker job attempt) history
 
 -- The attempts that the event claims, if the flag says that the event took effect.
-abbrev pub claims_in : Bool → Event → List (ℕ × ℕ)
-claims_in true (PutRecords (Claim worker attempts)) = attempts
-claims_in _ _ = []
+abbrev pub attempts_claimed_in : Bool → Event → List (ℕ × ℕ)
+attempts_claimed_in true (PutRecords (Claim worker attempts)) = attempts
+attempts_claimed_in _ _ = []
 
 -- The attempts whose claims took effect, in the order of these claims.
 abbrev pub claimed_attempts : List Entry → List (ℕ × ℕ)
-claimed_attempts history = flat_map (λ entry. claims_in (stood entry.answer) entry.event) history
+claimed_attempts history = flat_map (λ entry. attempts_claimed_in (stood entry.answer) entry.event) history
 
 -- The attempt whose ranges the event notes, if it notes any.
 abbrev pub planned_attempts : Event → List (ℕ × ℕ)

@@ -4,7 +4,7 @@ use Rattle.std.specs.List.{AllByRecursion}
 use Rattle.row_model.specs.Lists.{Pairs}
 use Rattle.fleet_model.specs.History.{Entry}
 use Rattle.fleet_model.specs.Store.{Manifest, stored_jobs}
-use Rattle.step_model.specs.Past.{Told, manifest_with}
+use Rattle.step_model.specs.Past.{World, manifest_with}
 use Rattle.step_model.specs.Entries.{put_epochs}
 use Rattle.step_model.specs.NamesKept.{DrawsKept, NamesKept, AttemptsKept}
 use Rattle.step_model.specs.TablesKept.{PutsKept, PiecesKept, JobTablesKept}
@@ -23,13 +23,13 @@ pub record PastKept (manifest : Manifest) (past : List Manifest) : Type 0 where
   pub rise : Pairs (λ a b. a.version < b.version) past
 
 -- All facts, each over the parts of the store that it reads.
-pub record StoreFacts (told : Told) : Type 0 where
-  pub draws : DrawsKept told.store.jobs_drawn told.store.tables_drawn told.store.history
-  pub names : NamesKept told
-  pub attempts : AttemptsKept told.store.history (stored_jobs told.store)
-  pub puts : PutsKept told.store.history told.store.tables
-  pub pieces : PiecesKept told.store.history told.past told.store.manifest.trees
-  pub tables : JobTablesKept told.store.history told.past (stored_jobs told.store)
-  pub joins : JoinsKept told.store.history told.past told.store.manifest.trees (stored_jobs told.store)
-  pub epochs : EpochsKept told.store.manifest.epoch told.store.history
-  pub past : PastKept told.store.manifest told.past
+pub record StoreFacts (world : World) : Type 0 where
+  pub draws : DrawsKept world.store.jobs_drawn world.store.tables_drawn world.store.history
+  pub names : NamesKept world
+  pub attempts : AttemptsKept world.store.history (stored_jobs world.store)
+  pub puts : PutsKept world.store.history world.store.tables
+  pub pieces : PiecesKept world.store.history world.past world.store.manifest.trees
+  pub tables : JobTablesKept world.store.history world.past (stored_jobs world.store)
+  pub joins : JoinsKept world.store.history world.past world.store.manifest.trees (stored_jobs world.store)
+  pub epochs : EpochsKept world.store.manifest.epoch world.store.history
+  pub past : PastKept world.store.manifest world.past

@@ -12,40 +12,40 @@ use Rattle.fleet_model.specs.Handles.{context_tables}
 use Rattle.fleet_model.specs.Attempts.{source_rows}
 use Rattle.fleet_model.specs.Parties.{Attempt, LiveWorker, LiveCoordinator, live_attempts}
 use Rattle.fleet_model.specs.AttemptsFit.{WorkerFits}
-use Rattle.step_model.specs.Past.{Told}
+use Rattle.step_model.specs.Past.{World}
 use Rattle.step_model.specs.Entries.{was_claimed, did_put_epoch, was_named}
 use Rattle.step_model.specs.Faithful.{Faithful}
 use Rattle.step_model.specs.TablesKept.{AreApart}
 use Rattle.step_model.specs.LawfulTables.{MayUse}
-use Rattle.step_model.specs.Merging.{Local, merged_trees, taken}
+use Rattle.step_model.specs.Merging.{Local, merged_trees, taken_job}
 
 -- ---- a worker
 
 -- The worker claimed the attempt, live or not. Attempts are counted from 1, so the attempt is at no
 -- Submitted job, whose sources are not known before a poll opens it. Its source tables are those of
 -- its job, if the job is stored, and their rows are strictly ordered.
-pub record AttemptHeld (told : Told) (worker : ℕ) (a : Attempt) : Type 0 where
+pub record AttemptHeld (world : World) (worker : ℕ) (a : Attempt) : Type 0 where
   pub counted : 0 < a.number
-  pub claimed : IsTrue (was_claimed told.store.history worker a.job a.number)
-  pub ordered : IsStrictlyOrdered (source_rows told.store.tables a.sources)
-  pub sources : IfSome (job_with a.job (stored_jobs told.store)) (λ job. a.sources ≡ job.source_tables)
+  pub claimed : IsTrue (was_claimed world.store.history worker a.job a.number)
+  pub ordered : IsStrictlyOrdered (source_rows world.store.tables a.sources)
+  pub sources : IfSome (job_with a.job (stored_jobs world.store)) (λ job. a.sources ≡ job.source_tables)
 
 -- The tables that the attempt has noted.
 abbrev pub noted_tables : Attempt → List ℕ
 noted_tables a = context_tables (Some a.context)
 
 -- The worker may name the tables that it has noted for the attempt, if the attempt's job is stored.
-abbrev pub NotesOwn : Told → ℕ → Attempt → Type 0
-NotesOwn told worker a = IfSome (job_with a.job (stored_jobs told.store)) (λ job. AllByRecursion (MayUse (Worker worker) told job) (noted_tables a))
+abbrev pub NotesOwn : World → ℕ → Attempt → Type 0
+NotesOwn world worker a = IfSome (job_with a.job (stored_jobs world.store)) (λ job. AllByRecursion (MayUse (Worker worker) world job) (noted_tables a))
 
 -- A worker holds what fits by every faithful replay. It runs each job once, it may name the tables
 -- that it has noted for its live attempts, and it has noted each of them for one live attempt.
-pub record WorkerHolds (merge : Operator) (told : Told) (w : LiveWorker) : Type 0 where
-  pub fits : (specs : ℕ → JobSpec) → Faithful told specs → WorkerFits merge told.store specs w
-  pub each : AllByRecursion (AttemptHeld told w.number) w.attempts
+pub record WorkerHolds (merge : Operator) (world : World) (w : LiveWorker) : Type 0 where
+  pub fits : (specs : ℕ → JobSpec) → Faithful world specs → WorkerFits merge world.store specs w
+  pub each : AllByRecursion (AttemptHeld world w.number) w.attempts
   pub jobs_rise : Pairs (λ a b. a.job < b.job) w.attempts
-  pub own : AllByRecursion (NotesOwn told w.number) (live_attempts (stored_jobs told.store) w)
-  pub apart : Pairs (λ a b. AreApart (noted_tables a) (noted_tables b)) (live_attempts (stored_jobs told.store) w)
+  pub own : AllByRecursion (NotesOwn world w.number) (live_attempts (stored_jobs world.store) w)
+  pub apart : Pairs (λ a b. AreApart (noted_tables a) (noted_tables b)) (live_attempts (stored_jobs world.store) w)
 
 -- ---- a coordinator
 
@@ -62,7 +62,7 @@ IsStillStored jobs job (Some other) = ⊤
 -- Merging the stored jobs into the local ones gives the stored ones, but for finished local jobs
 -- that are no longer stored.
 pub record JobsMerge (local stored : Jobs) : Type 0 where
-  pub stored_stay : AllByRecursion (λ job. taken (job_with job.id local) job ≡ Some job) stored
+  pub stored_stay : AllByRecursion (λ job. taken_job (job_with job.id local) job ≡ Some job) stored
   pub local_stay : AllByRecursion (λ job. IsStillStored stored job (job_with job.id stored)) local
 
 -- Merging the stored objects into the local state gives the stored ones.
@@ -76,26 +76,26 @@ MergesIfThere None store = ⊤
 MergesIfThere (Some local) store = Merges local store
 
 -- The segment with this prefix is stored.
-abbrev pub IsStoredPrefix : Told → List ℕ → Type 0
-IsStoredPrefix told prefix = IsTrue (is_some (segment_at prefix told.store.manifest.trees))
+abbrev pub IsStoredPrefix : World → List ℕ → Type 0
+IsStoredPrefix world prefix = IsTrue (is_some (segment_at prefix world.store.manifest.trees))
 
 -- Each segment of the local state is stored, and each local job was named by a put that took effect.
 -- So a flush into a new segment meets no local one, and a new job has the id of no local one.
-pub record LocalIsKnown (told : Told) (local : Local) : Type 0 where
-  pub segments : AllByRecursion (λ s. IsStoredPrefix told s.prefix) local.manifest.trees
-  pub jobs : AllByRecursion (λ job. IsTrue (was_named told.store.history job.id)) local.records.jobs
+pub record LocalIsKnown (world : World) (local : Local) : Type 0 where
+  pub segments : AllByRecursion (λ s. IsStoredPrefix world s.prefix) local.manifest.trees
+  pub jobs : AllByRecursion (λ job. IsTrue (was_named world.store.history job.id)) local.records.jobs
 
 -- If there is a local state, its segments and jobs are known.
-abbrev pub KnownIfThere : Told → Option Local → Type 0
-KnownIfThere told None = ⊤
-KnownIfThere told (Some local) = LocalIsKnown told local
+abbrev pub KnownIfThere : World → Option Local → Type 0
+KnownIfThere world None = ⊤
+KnownIfThere world (Some local) = LocalIsKnown world local
 
 -- A coordinator put its epoch into the manifest, and the records have this epoch or a later one.
 -- Epochs are counted from 1, so there are records. If no stored epoch is above its own, its local
 -- state says nothing else than what is stored, and its segments and jobs are known.
-pub record CoordinatorHolds (told : Told) (c : LiveCoordinator) (local : Option Local) : Type 0 where
+pub record CoordinatorHolds (world : World) (c : LiveCoordinator) (local : Option Local) : Type 0 where
   pub counted : 0 < c.epoch
-  pub put : IsTrue (did_put_epoch (Coordinator c.number) told.store.history c.epoch)
-  pub recorded : c.epoch ≤ records_epoch told.store.records
-  pub merges : told.store.manifest.epoch ≤ c.epoch → records_epoch told.store.records ≤ c.epoch → MergesIfThere local told.store
-  pub known : told.store.manifest.epoch ≤ c.epoch → records_epoch told.store.records ≤ c.epoch → KnownIfThere told local
+  pub put : IsTrue (did_put_epoch (Coordinator c.number) world.store.history c.epoch)
+  pub recorded : c.epoch ≤ records_epoch world.store.records
+  pub merges : world.store.manifest.epoch ≤ c.epoch → records_epoch world.store.records ≤ c.epoch → MergesIfThere local world.store
+  pub known : world.store.manifest.epoch ≤ c.epoch → records_epoch world.store.records ≤ c.epoch → KnownIfThere world local

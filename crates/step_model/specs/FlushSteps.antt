@@ -5,7 +5,7 @@ use Rattle.row_model.specs.Rows.{Row, are_ordered}
 use Rattle.fleet_model.specs.Nodes.{segment_at, last_seq_of}
 use Rattle.fleet_model.specs.History.{Flush}
 use Rattle.fleet_model.specs.Store.{Manifest}
-use Rattle.fleet_model.specs.Trees.{flushed}
+use Rattle.fleet_model.specs.Trees.{flushed_trees}
 use Rattle.fleet_model.specs.Tracker.{least_seq_of, tracked_after}
 use Rattle.fleet_model.specs.Exchanges.{PutsTable}
 use Rattle.step_model.specs.Course.{Course, Ends, Calls, gets_manifest, puts_manifest}
@@ -56,7 +56,7 @@ unless_bad (Some fault) next = Ends (BadFlush fault)
 -- empty. Moment and retention are in milliseconds.
 abbrev pub with_flush : (moment retention : ℕ) → FlushAsk → Manifest → Manifest
 with_flush moment retention ask manifest = record manifest {
-  trees = flushed ask.segment ask.name ask.rows manifest.trees;
+  trees = flushed_trees ask.segment ask.name ask.rows manifest.trees;
   floor = ask.floor;
   tick = ask.tick;
   tracker = tracked_after moment retention (least_seq_of ask.rows) manifest.tracker;

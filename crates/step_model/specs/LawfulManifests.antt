@@ -6,23 +6,23 @@ use Rattle.fleet_model.specs.Jobs.{JobSpec, is_drain, Job, Jobs, Submitted, Comp
 use Rattle.fleet_model.specs.History.{Party, Writer, Coordinator, Step, Join, Move, Drain, ManifestChange, ManifestEpoch, Flush, Commit, Entry}
 use Rattle.fleet_model.specs.Store.{Manifest, stored_jobs, records_epoch, is_held}
 use Rattle.fleet_model.specs.Tracker.{tracked_after, least_seq_of}
-use Rattle.fleet_model.specs.Trees.{flushed, stepped_in, stepped_all, horizon_after_all, job_of, source_pieces, by_first_key, are_apart}
+use Rattle.fleet_model.specs.Trees.{flushed_trees, stepped_in, stepped_all, horizon_after_all, job_of, source_pieces, by_first_key, are_apart}
 use Rattle.fleet_model.specs.Records.{new_job}
 use Rattle.fleet_model.specs.Replay.{outputs_in}
 use Rattle.fleet_model.specs.JobsFit.{was_joined}
 use Rattle.fleet_model.specs.Gates.{submit_gate, commit_gate, is_nonempty}
-use Rattle.step_model.specs.Past.{Told}
+use Rattle.step_model.specs.Past.{World}
 use Rattle.step_model.specs.Entries.{drew_job, is_mentioned, was_flushed, did_put_epoch}
 
 -- ---- an epoch
 
 -- A coordinator may raise the manifest's epoch and change nothing else. So the epoch of the records
 -- stays at most that of the manifest, and no epoch is put twice.
-pub record EpochFits (party : Party) (told : Told) (epoch : ℕ) (value : Manifest) : Type 0 where
+pub record ManifestEpochFits (party : Party) (world : World) (epoch : ℕ) (value : Manifest) : Type 0 where
   pub number : ℕ
   pub by : party ≡ Coordinator number
-  pub above : told.store.manifest.epoch < epoch
-  pub makes : value ≡ record told.store.manifest { epoch = epoch }
+  pub above : world.store.manifest.epoch < epoch
+  pub makes : value ≡ record world.store.manifest { epoch = epoch }
 
 -- ---- a flush
 
@@ -34,21 +34,21 @@ IsAbove (Some last) seq = last < seq
 -- The writer may bring a table to a tree if the table is held and was never flushed before, and if
 -- its sequences are above the last one of the tree. The floor and the tick may rise and may not
 -- fall.
-pub record FlushFits (party : Party) (told : Told) (name : ℕ) (segment : List ℕ) (floor : ℕ) (tick : ℤ) (value : Manifest) : Type 0 where
+pub record FlushFits (party : Party) (world : World) (name : ℕ) (segment : List ℕ) (floor : ℕ) (tick : ℤ) (value : Manifest) : Type 0 where
   pub by : party ≡ Writer
-  pub held : IsTrue (is_held told.store name)
+  pub held : IsTrue (is_held world.store name)
   pub is_name : name < drawn_base
-  pub once : was_flushed told.store.history name ≡ false
-  pub newer : AllByRecursion (λ r. IsAbove (last_seq_of (segment_at segment told.store.manifest.trees)) r.seq) (table_rows told.store.tables name)
-  pub floor_stays : told.store.manifest.floor ≤ floor
-  pub tick_stays : IsTrue (int_le told.store.manifest.tick tick)
+  pub once : was_flushed world.store.history name ≡ false
+  pub newer : AllByRecursion (λ r. IsAbove (last_seq_of (segment_at segment world.store.manifest.trees)) r.seq) (table_rows world.store.tables name)
+  pub floor_stays : world.store.manifest.floor ≤ floor
+  pub tick_stays : IsTrue (int_le world.store.manifest.tick tick)
   pub moment : ℕ
   pub retention : ℕ
-  pub makes : value ≡ record told.store.manifest {
-    trees = flushed segment name (table_rows told.store.tables name) told.store.manifest.trees;
+  pub makes : value ≡ record world.store.manifest {
+    trees = flushed_trees segment name (table_rows world.store.tables name) world.store.manifest.trees;
     floor = floor;
     tick = tick;
-    tracker = tracked_after moment retention (least_seq_of (table_rows told.store.tables name)) told.store.manifest.tracker;
+    tracker = tracked_after moment retention (least_seq_of (table_rows world.store.tables name)) world.store.manifest.tracker;
   }
 
 -- ---- a commit
@@ -60,38 +60,38 @@ holding history joined jobs = filter (λ job. not (contains joined job.id || was
 
 -- A commit may join a Compacted job whose sources are in the trees with the tables that they had
 -- when the job was opened. A second join of a job must change no tree.
-pub record JoinFits (told : Told) (trees : Trees) (joined : List ℕ) (id : ℕ) : Type 0 where
+pub record JoinFits (world : World) (trees : Trees) (joined : List ℕ) (id : ℕ) : Type 0 where
   pub job : Job
-  pub stored : job_with id (stored_jobs told.store) ≡ Some job
+  pub stored : job_with id (stored_jobs world.store) ≡ Some job
   pub finished : IsTrue (has_status Compacted job)
   pub gate : commit_gate trees (λ spec. true) job ≡ None
   pub once : contains joined id ≡ false
-  pub again : IsTrue (was_joined told.store.history id) → stepped_in told.store.tables (Join id) job.spec (concat job.outputs) trees ≡ trees
+  pub again : IsTrue (was_joined world.store.history id) → stepped_in world.store.tables (Join id) job.spec (concat job.outputs) trees ≡ trees
 
 -- A commit may do a job at once, without a worker, if the job is Submitted or not stored yet and
 -- passes the rules on nodes.
-pub record AtOnceFits (told : Told) (trees : Trees) (joined : List ℕ) (spec : JobSpec) (id : ℕ) : Type 0 where
-  pub open_yet : IfSome (job_with id (stored_jobs told.store)) (λ job. IsTrue (has_status Submitted job))
-  pub gate : submit_gate trees (holding told.store.history joined (stored_jobs told.store)) [] (λ other. true) (new_job (id, spec)) ≡ None
+pub record AtOnceFits (world : World) (trees : Trees) (joined : List ℕ) (spec : JobSpec) (id : ℕ) : Type 0 where
+  pub open_yet : IfSome (job_with id (stored_jobs world.store)) (λ job. IsTrue (has_status Submitted job))
+  pub gate : submit_gate trees (holding world.store.history joined (stored_jobs world.store)) [] (λ other. true) (new_job (id, spec)) ≡ None
 
 -- A commit may move a job's sources into a run at once if they have tables, which lie apart.
-pub record MoveFits (told : Told) (trees : Trees) (joined : List ℕ) (spec : JobSpec) (id : ℕ) : Type 0 where
-  pub at_once : AtOnceFits told trees joined spec id
+pub record MoveFits (world : World) (trees : Trees) (joined : List ℕ) (spec : JobSpec) (id : ℕ) : Type 0 where
+  pub at_once : AtOnceFits world trees joined spec id
   pub kind : is_drain spec ≡ false
   pub pieces : IsTrue (is_nonempty (source_pieces spec.sources (tree_at spec.segment trees)))
-  pub apart : IsTrue (are_apart told.store.tables (by_first_key told.store.tables (source_pieces spec.sources (tree_at spec.segment trees))))
+  pub apart : IsTrue (are_apart world.store.tables (by_first_key world.store.tables (source_pieces spec.sources (tree_at spec.segment trees))))
 
 -- A commit does a drain at once.
-pub record DrainFits (told : Told) (trees : Trees) (joined : List ℕ) (spec : JobSpec) (id : ℕ) : Type 0 where
-  pub at_once : AtOnceFits told trees joined spec id
+pub record DrainFits (world : World) (trees : Trees) (joined : List ℕ) (spec : JobSpec) (id : ℕ) : Type 0 where
+  pub at_once : AtOnceFits world trees joined spec id
   pub kind : is_drain spec ≡ true
 
 -- A step of a commit fits these trees. `joined` has the jobs that earlier steps of the commit
 -- joined, and the spec is that of the step's job.
-abbrev pub StepFits : Told → Trees → (joined : List ℕ) → JobSpec → Step → Type 0
-StepFits told trees joined spec (Join id) = JoinFits told trees joined id
-StepFits told trees joined spec (Move id) = MoveFits told trees joined spec id
-StepFits told trees joined spec (Drain id) = DrainFits told trees joined spec id
+abbrev pub StepFits : World → Trees → (joined : List ℕ) → JobSpec → Step → Type 0
+StepFits world trees joined spec (Join id) = JoinFits world trees joined id
+StepFits world trees joined spec (Move id) = MoveFits world trees joined spec id
+StepFits world trees joined spec (Drain id) = DrainFits world trees joined spec id
 
 -- The joined jobs after a step.
 abbrev pub joined_after : Step → List ℕ → List ℕ
@@ -100,25 +100,25 @@ joined_after (Move id) joined = joined
 joined_after (Drain id) joined = joined
 
 -- Each step of a commit fits the trees that the steps before it left.
-abbrev pub StepsFit : Told → (ℕ → JobSpec) → Trees → (joined : List ℕ) → List Step → Type 0
-StepsFit told specs trees joined [] = ⊤
-StepsFit told specs trees joined (step ∷ steps) =
-    StepFits told trees joined (specs (job_of step)) step
-    × StepsFit told specs (stepped_in told.store.tables step (specs (job_of step)) (outputs_in told.store.records (job_of step)) trees) (joined_after step joined) steps
+abbrev pub StepsFit : World → (ℕ → JobSpec) → Trees → (joined : List ℕ) → List Step → Type 0
+StepsFit world specs trees joined [] = ⊤
+StepsFit world specs trees joined (step ∷ steps) =
+    StepFits world trees joined (specs (job_of step)) step
+    × StepsFit world specs (stepped_in world.store.tables step (specs (job_of step)) (outputs_in world.store.records (job_of step)) trees) (joined_after step joined) steps
 
 -- Only the coordinator that put the stored epoch may commit a step, and only if the records have
 -- that epoch too. Any party may commit no step.
-abbrev pub MayCommit : Party → Told → List Step → Type 0
-MayCommit party told [] = ⊤
-MayCommit party told (step ∷ steps) = IsTrue (did_put_epoch party told.store.history told.store.manifest.epoch) × (records_epoch told.store.records ≡ told.store.manifest.epoch)
+abbrev pub MayCommit : Party → World → List Step → Type 0
+MayCommit party world [] = ⊤
+MayCommit party world (step ∷ steps) = IsTrue (did_put_epoch party world.store.history world.store.manifest.epoch) × (records_epoch world.store.records ≡ world.store.manifest.epoch)
 
 -- The specs are right for a job that a commit does. A stored job has its own spec. A job that is
 -- not stored has an id that the party drew, and no entry mentions it yet.
-abbrev pub IsKnownTo : Party → Told → (ℕ → JobSpec) → ℕ → Type 0
-IsKnownTo party told specs id = by (job_with id (stored_jobs told.store))
+abbrev pub IsKnownTo : Party → World → (ℕ → JobSpec) → ℕ → Type 0
+IsKnownTo party world specs id = by (job_with id (stored_jobs world.store))
   where
     by : Option Job → Type 0
-    by None = IsTrue (drew_job party told.store.history id) × (is_mentioned told.store.history id ≡ false)
+    by None = IsTrue (drew_job party world.store.history id) × (is_mentioned world.store.history id ≡ false)
     by (Some job) = specs id ≡ job.spec
 
 -- The cut that the job kept, if there is a job and it kept one.
@@ -128,20 +128,20 @@ cut_of (Some job) = job.kept_cut
 
 -- A party may commit steps that fit one after the other. The manifest has the trees and the horizon
 -- that the steps make of the stored ones, and is else the stored one.
-pub record CommitFits (party : Party) (told : Told) (steps : List Step) (value : Manifest) : Type 0 where
-  pub by : MayCommit party told steps
+pub record CommitFits (party : Party) (world : World) (steps : List Step) (value : Manifest) : Type 0 where
+  pub by : MayCommit party world steps
   pub specs : ℕ → JobSpec
-  pub known : AllByRecursion (λ step. IsKnownTo party told specs (job_of step)) steps
-  pub each : StepsFit told specs told.store.manifest.trees [] steps
-  pub makes : value ≡ record told.store.manifest {
-    trees = stepped_all told.store.tables (λ id. (specs id, outputs_in told.store.records id)) steps told.store.manifest.trees;
-    horizon = horizon_after_all told.store.manifest.floor (λ id. cut_of (job_with id (stored_jobs told.store))) steps told.store.manifest.horizon;
+  pub known : AllByRecursion (λ step. IsKnownTo party world specs (job_of step)) steps
+  pub each : StepsFit world specs world.store.manifest.trees [] steps
+  pub makes : value ≡ record world.store.manifest {
+    trees = stepped_all world.store.tables (λ id. (specs id, outputs_in world.store.records id)) steps world.store.manifest.trees;
+    horizon = horizon_after_all world.store.manifest.floor (λ id. cut_of (job_with id (stored_jobs world.store))) steps world.store.manifest.horizon;
   }
 
 -- ---- all changes
 
 -- A manifest may be put for an epoch, a flush or a commit that fits.
-abbrev pub ManifestFits : Party → Told → ManifestChange → Manifest → Type 0
-ManifestFits party told (ManifestEpoch epoch) value = EpochFits party told epoch value
-ManifestFits party told (Flush name segment floor tick) value = FlushFits party told name segment floor tick value
-ManifestFits party told (Commit steps) value = CommitFits party told steps value
+abbrev pub ManifestFits : Party → World → ManifestChange → Manifest → Type 0
+ManifestFits party world (ManifestEpoch epoch) value = ManifestEpochFits party world epoch value
+ManifestFits party world (Flush name segment floor tick) value = FlushFits party world name segment floor tick value
+ManifestFits party world (Commit steps) value = CommitFits party world steps value

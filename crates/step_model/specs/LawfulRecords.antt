@@ -14,7 +14,7 @@ use Rattle.fleet_model.specs.Parties.{runs_attempt}
 use Rattle.fleet_model.specs.Claims.{is_waiting}
 use Rattle.fleet_model.specs.JobsFit.{NodesHeldOnce, SourcesStand, OutputsFit}
 use Rattle.fleet_model.specs.AttemptsFit.{ContextFits, ContextExtends}
-use Rattle.step_model.specs.Past.{Told}
+use Rattle.step_model.specs.Past.{World}
 use Rattle.step_model.specs.Entries.{drew_job, did_put_epoch, was_named}
 use Rattle.step_model.specs.Faithful.{Faithful, with_specs}
 use Rattle.step_model.specs.TablesKept.{AreApart}
@@ -25,14 +25,14 @@ use Rattle.step_model.specs.LawfulTables.{MayUse}
 -- A party may name jobs with their specs if it drew their ids, names each of them once, and if every
 -- replay may have these specs. The entry of a put that is refused or lost names its jobs too, so
 -- this is asked of every put.
-pub record NamesFit (party : Party) (told : Told) (named : List (ℕ × JobSpec)) : Type 0 where
+pub record NamesFit (party : Party) (world : World) (named : List (ℕ × JobSpec)) : Type 0 where
   pub once : Pairs (λ p q. p.0 ≢ q.0) named
-  pub drawn : AllByRecursion (λ p. IsTrue (drew_job party told.store.history p.0)) named
-  pub replays : (specs : ℕ → JobSpec) → Faithful told specs → Faithful told (with_specs named specs)
+  pub drawn : AllByRecursion (λ p. IsTrue (drew_job party world.store.history p.0)) named
+  pub replays : (specs : ℕ → JobSpec) → Faithful world specs → Faithful world (with_specs named specs)
 
 -- The jobs are new: no put that took effect has named them before.
-abbrev pub AreNew : Told → List (ℕ × JobSpec) → Type 0
-AreNew told named = AllByRecursion (λ p. was_named told.store.history p.0 ≡ false) named
+abbrev pub AreNew : World → List (ℕ × JobSpec) → Type 0
+AreNew world named = AllByRecursion (λ p. was_named world.store.history p.0 ≡ false) named
 
 -- ---- jobs
 
@@ -42,8 +42,8 @@ OfSome P None = ⊥
 OfSome P (Some x) = P x
 
 -- A job with this id is stored, and the property holds of it.
-abbrev pub IsStoredAs : Told → ℕ → (Job → Type 0) → Type 0
-IsStoredAs told id P = OfSome P (job_with id (stored_jobs told.store))
+abbrev pub IsStoredAs : World → ℕ → (Job → Type 0) → Type 0
+IsStoredAs world id P = OfSome P (job_with id (stored_jobs world.store))
 
 -- The job is Running with this worker at this attempt.
 abbrev pub IsLiveAt : ℕ → ℕ → Job → Type 0
@@ -52,35 +52,35 @@ IsLiveAt worker attempt job = IsTrue (runs_attempt worker attempt (Some job))
 -- ---- the epoch, and new jobs
 
 -- A coordinator may raise the epoch of the records to one that it put into the manifest before.
-pub record RecordsEpochFits (party : Party) (told : Told) (epoch : ℕ) : Type 0 where
-  pub by : IsTrue (did_put_epoch party told.store.history epoch)
-  pub above : records_epoch told.store.records < epoch
+pub record RecordsEpochFits (party : Party) (world : World) (epoch : ℕ) : Type 0 where
+  pub by : IsTrue (did_put_epoch party world.store.history epoch)
+  pub above : records_epoch world.store.records < epoch
 
 -- A submitter may add new jobs.
-pub record SubmitFits (party : Party) (told : Told) (named : List (ℕ × JobSpec)) : Type 0 where
+pub record SubmitFits (party : Party) (world : World) (named : List (ℕ × JobSpec)) : Type 0 where
   pub by : party ≡ Submitter
-  pub new : AreNew told named
+  pub new : AreNew world named
 
 -- ---- a worker's changes
 
 -- A worker may take jobs that wait for a worker, each at its next attempt.
-pub record ClaimFits (party : Party) (told : Told) (worker : ℕ) (attempts : List (ℕ × ℕ)) : Type 0 where
+pub record ClaimFits (party : Party) (world : World) (worker : ℕ) (attempts : List (ℕ × ℕ)) : Type 0 where
   pub by : party ≡ Worker worker
   pub once : Pairs (λ a b. a.0 ≢ b.0) attempts
-  pub each : AllByRecursion (λ a. IsStoredAs told a.0 (λ job. IsTrue (is_waiting job) × (a.1 ≡ job.attempt + 1))) attempts
+  pub each : AllByRecursion (λ a. IsStoredAs world a.0 (λ job. IsTrue (is_waiting job) × (a.1 ≡ job.attempt + 1))) attempts
 
 -- A worker may give back attempts of its own that are live.
-pub record ReleaseFits (party : Party) (told : Told) (worker : ℕ) (attempts : List (ℕ × ℕ)) : Type 0 where
+pub record ReleaseFits (party : Party) (world : World) (worker : ℕ) (attempts : List (ℕ × ℕ)) : Type 0 where
   pub by : party ≡ Worker worker
-  pub each : AllByRecursion (λ a. IsStoredAs told a.0 (IsLiveAt worker a.1)) attempts
+  pub each : AllByRecursion (λ a. IsStoredAs world a.0 (IsLiveAt worker a.1)) attempts
 
 -- A party may publish a context for a job if the context fits the job by every faithful replay and
 -- extends the published one. Its tables must be held, and the party must be allowed to name them.
-pub record Publishes (merge : Operator) (party : Party) (told : Told) (job : Job) (context : Context) : Type 0 where
-  pub fits : (specs : ℕ → JobSpec) → Faithful told specs → ContextFits merge told.store specs job context
+pub record Publishes (merge : Operator) (party : Party) (world : World) (job : Job) (context : Context) : Type 0 where
+  pub fits : (specs : ℕ → JobSpec) → Faithful world specs → ContextFits merge world.store specs job context
   pub extends : IfSome job.context (λ old. ContextExtends old context)
-  pub held : AreHeld told.store (context_tables (Some context))
-  pub own : AllByRecursion (MayUse party told job) (context_tables (Some context))
+  pub held : AreHeld world.store (context_tables (Some context))
+  pub own : AllByRecursion (MayUse party world job) (context_tables (Some context))
 
 -- The tables of the contexts that are published for two jobs are apart.
 abbrev pub PublishedApart : Unrecorded → ℕ × ℕ → ℕ × ℕ → Type 0
@@ -88,23 +88,23 @@ PublishedApart unrecorded a b = AreApart (context_tables (unrecorded.published a
 
 -- A worker may publish contexts for attempts of its own that are live. No table may be in two of
 -- them: a table that is new to both jobs would get two uses.
-pub record BeatFits (merge : Operator) (party : Party) (told : Told) (unrecorded : Unrecorded) (worker : ℕ) (attempts : List (ℕ × ℕ)) : Type 0 where
+pub record BeatFits (merge : Operator) (party : Party) (world : World) (unrecorded : Unrecorded) (worker : ℕ) (attempts : List (ℕ × ℕ)) : Type 0 where
   pub by : party ≡ Worker worker
-  pub each : AllByRecursion (λ a. IsStoredAs told a.0 (λ job. IsLiveAt worker a.1 job × OfSome (Publishes merge party told job) (unrecorded.published a.0))) attempts
+  pub each : AllByRecursion (λ a. IsStoredAs world a.0 (λ job. IsLiveAt worker a.1 job × OfSome (Publishes merge party world job) (unrecorded.published a.0))) attempts
   pub apart : Pairs (PublishedApart unrecorded) attempts
 
 -- A live attempt may finish with outputs that hold all rows that its settings make of the job's
 -- sources. The outputs must be held, and the party must be allowed to name them.
-pub record Finishes (merge : Operator) (party : Party) (told : Told) (unrecorded : Unrecorded) (worker attempt : ℕ) (outputs : List (List ℕ)) (job : Job) : Type 0 where
+pub record FinishIsWhole (merge : Operator) (party : Party) (world : World) (unrecorded : Unrecorded) (worker attempt : ℕ) (outputs : List (List ℕ)) (job : Job) : Type 0 where
   pub live : IsLiveAt worker attempt job
-  pub fits : (specs : ℕ → JobSpec) → Faithful told specs → OutputsFit merge told.store specs (finished_by worker unrecorded outputs job)
-  pub held : AreHeld told.store (concat outputs)
-  pub own : AllByRecursion (MayUse party told job) (concat outputs)
+  pub fits : (specs : ℕ → JobSpec) → Faithful world specs → OutputsFit merge world.store specs (finished_by worker unrecorded outputs job)
+  pub held : AreHeld world.store (concat outputs)
+  pub own : AllByRecursion (MayUse party world job) (concat outputs)
 
 -- A worker may finish an attempt of its own that is live.
-pub record FinishFits (merge : Operator) (party : Party) (told : Told) (unrecorded : Unrecorded) (worker id attempt : ℕ) (outputs : List (List ℕ)) : Type 0 where
+pub record FinishFits (merge : Operator) (party : Party) (world : World) (unrecorded : Unrecorded) (worker id attempt : ℕ) (outputs : List (List ℕ)) : Type 0 where
   pub by : party ≡ Worker worker
-  pub finishes : IsStoredAs told id (Finishes merge party told unrecorded worker attempt outputs)
+  pub finishes : IsStoredAs world id (FinishIsWhole merge party world unrecorded worker attempt outputs)
 
 -- ---- a coordinator's change
 
@@ -115,39 +115,39 @@ may_end job = has_status Submitted job || has_status Compacted job
 -- The coordinator that put the epoch of the records may free Running jobs, open Submitted ones, and
 -- end Submitted and Compacted ones. The sources of a job that it opens must be in the trees, and
 -- no two jobs may hold the same node afterwards.
-pub record PollFits (party : Party) (told : Told) (unrecorded : Unrecorded) (change : PollChange) (jobs : Jobs) : Type 0 where
-  pub by : IsTrue (did_put_epoch party told.store.history (records_epoch told.store.records))
-  pub new : AreNew told change.added
-  pub freed : AllByRecursion (λ id. IsStoredAs told id (λ job. IsTrue (has_status Running job))) change.freed
+pub record PollFits (party : Party) (world : World) (unrecorded : Unrecorded) (change : PollChange) (jobs : Jobs) : Type 0 where
+  pub by : IsTrue (did_put_epoch party world.store.history (records_epoch world.store.records))
+  pub new : AreNew world change.added
+  pub freed : AllByRecursion (λ id. IsStoredAs world id (λ job. IsTrue (has_status Running job))) change.freed
   pub opened : AllByRecursion (λ id.
-      OfSome (λ job. IsTrue (has_status Submitted job) × (unrecorded.tables_of job.spec ≡ tables_now told.store.manifest.trees job.spec)) (job_with id (with_new change.added (stored_jobs told.store)))) change.scheduled
-  pub ended : AllByRecursion (λ id. OfSome (λ job. IsTrue (may_end job)) (job_with id (with_new change.added (stored_jobs told.store)))) (change.completed ++ change.failed)
-  pub stand : AllByRecursion (λ job. IsTrue (contains change.scheduled job.id && has_status Scheduled job) → SourcesStand told.store.manifest.trees job) jobs
+      OfSome (λ job. IsTrue (has_status Submitted job) × (unrecorded.tables_of job.spec ≡ tables_now world.store.manifest.trees job.spec)) (job_with id (with_new change.added (stored_jobs world.store)))) change.scheduled
+  pub ended : AllByRecursion (λ id. OfSome (λ job. IsTrue (may_end job)) (job_with id (with_new change.added (stored_jobs world.store)))) (change.completed ++ change.failed)
+  pub stand : AllByRecursion (λ job. IsTrue (contains change.scheduled job.id && has_status Scheduled job) → SourcesStand world.store.manifest.trees job) jobs
   pub apart : NodesHeldOnce jobs
 
 -- ---- all changes
 
 -- A change of the records fits, by its kind. `jobs` are the jobs that are put.
-abbrev pub ChangeFits : Operator → Party → Told → Unrecorded → (jobs : Jobs) → RecordChange → Type 0
-ChangeFits merge party told unrecorded jobs (RecordsEpoch epoch) = RecordsEpochFits party told epoch
-ChangeFits merge party told unrecorded jobs (Submit named) = SubmitFits party told named
-ChangeFits merge party told unrecorded jobs (Claim worker attempts) = ClaimFits party told worker attempts
-ChangeFits merge party told unrecorded jobs (Beat worker attempts) = BeatFits merge party told unrecorded worker attempts
-ChangeFits merge party told unrecorded jobs (Finish worker id attempt outputs) = FinishFits merge party told unrecorded worker id attempt outputs
-ChangeFits merge party told unrecorded jobs (Release worker attempts) = ReleaseFits party told worker attempts
-ChangeFits merge party told unrecorded jobs (Polled change) = PollFits party told unrecorded change jobs
+abbrev pub ChangeFits : Operator → Party → World → Unrecorded → (jobs : Jobs) → RecordChange → Type 0
+ChangeFits merge party world unrecorded jobs (RecordsEpoch epoch) = RecordsEpochFits party world epoch
+ChangeFits merge party world unrecorded jobs (Submit named) = SubmitFits party world named
+ChangeFits merge party world unrecorded jobs (Claim worker attempts) = ClaimFits party world worker attempts
+ChangeFits merge party world unrecorded jobs (Beat worker attempts) = BeatFits merge party world unrecorded worker attempts
+ChangeFits merge party world unrecorded jobs (Finish worker id attempt outputs) = FinishFits merge party world unrecorded worker id attempt outputs
+ChangeFits merge party world unrecorded jobs (Release worker attempts) = ReleaseFits party world worker attempts
+ChangeFits merge party world unrecorded jobs (Polled change) = PollFits party world unrecorded change jobs
 
 -- True if this change may be put over the stored records. Only a put for an epoch may be made where
 -- there are none.
-abbrev pub may_make : Told → RecordChange → Bool
-may_make told (RecordsEpoch epoch) = true
-may_make told change = is_some told.store.records
+abbrev pub may_make : World → RecordChange → Bool
+may_make world (RecordsEpoch epoch) = true
+may_make world change = is_some world.store.records
 
 -- A put of the records fits if its jobs and its epoch are what the change makes of the stored ones,
 -- and the change fits.
-pub record RecordsFit (merge : Operator) (party : Party) (told : Told) (change : RecordChange) (epoch : ℕ) (jobs : Jobs) : Type 0 where
-  pub there : IsTrue (may_make told change)
+pub record RecordsFit (merge : Operator) (party : Party) (world : World) (change : RecordChange) (epoch : ℕ) (jobs : Jobs) : Type 0 where
+  pub there : IsTrue (may_make world change)
   pub unrecorded : Unrecorded
-  pub makes_jobs : jobs ≡ jobs_after unrecorded change (stored_jobs told.store)
-  pub makes_epoch : epoch ≡ epoch_after change told.store.records
-  pub fits : ChangeFits merge party told unrecorded jobs change
+  pub makes_jobs : jobs ≡ jobs_after unrecorded change (stored_jobs world.store)
+  pub makes_epoch : epoch ≡ epoch_after change world.store.records
+  pub fits : ChangeFits merge party world unrecorded jobs change

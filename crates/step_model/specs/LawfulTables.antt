@@ -8,8 +8,8 @@ use Rattle.fleet_model.specs.History.{Party, Writer, Worker, Sweeper, Event, Get
 use Rattle.fleet_model.specs.Store.{Manifest, Store, stored_jobs, is_held}
 use Rattle.fleet_model.specs.Handles.{tree_tables, job_tables, named_tables}
 use Rattle.fleet_model.specs.TreesFit.{IsTable}
-use Rattle.step_model.specs.Past.{Told}
-use Rattle.step_model.specs.Entries.{last_event, is_pending, last_name, was_claimed, did, puts_table, drawn_tables}
+use Rattle.step_model.specs.Past.{World}
+use Rattle.step_model.specs.Entries.{last_event, is_pending, last_name, was_claimed, did_event, is_put_of, drawn_tables}
 
 -- ---- gets and notes
 
@@ -73,12 +73,12 @@ other_tables id jobs = flat_map job_tables (filter (λ job. is_active job && not
 
 -- A table is the party's own if the id was drawn, the party put the table, no node ever held it, and
 -- no active job but this one names it.
-pub record IsOwnTable (party : Party) (told : Told) (id table : ℕ) : Type 0 where
-  pub drawn : IsTrue (contains (drawn_tables told.store.history) table)
-  pub put : IsTrue (did (puts_table table) party told.store.history)
-  pub unused : was_piece told.past table ≡ false
-  pub unnamed : contains (other_tables id (stored_jobs told.store)) table ≡ false
+pub record IsOwnTable (party : Party) (world : World) (id table : ℕ) : Type 0 where
+  pub drawn : IsTrue (contains (drawn_tables world.store.history) table)
+  pub put : IsTrue (did_event (is_put_of table) party world.store.history)
+  pub unused : was_piece world.past table ≡ false
+  pub unnamed : contains (other_tables id (stored_jobs world.store)) table ≡ false
 
 -- A party may name a table for a job if the job names it already, or if it is the party's own.
-abbrev pub MayUse : Party → Told → Job → ℕ → Type 0
-MayUse party told job table = IsTrue (contains (job_tables job) table) ⊎ IsOwnTable party told job.id table
+abbrev pub MayUse : Party → World → Job → ℕ → Type 0
+MayUse party world job table = IsTrue (contains (job_tables job) table) ⊎ IsOwnTable party world job.id table

@@ -59,19 +59,19 @@ is_taken_new _ = true
 
 -- What becomes of a stored job, given the local job of its id, if any: the stored job, the local
 -- one, or none.
-abbrev pub taken : Option Job → Job → Option Job
-taken None remote = if is_taken_new remote.status then Some remote else None
-taken (Some local) remote = Some (if adopts local.status remote.status then remote else local)
+abbrev pub taken_job : Option Job → Job → Option Job
+taken_job None remote = if is_taken_new remote.status then Some remote else None
+taken_job (Some local) remote = Some (if adopts local.status remote.status then remote else local)
 
 -- The jobs with the job of this id replaced by the new one.
-abbrev pub replaced : Job → Jobs → Jobs
-replaced new jobs = map (λ job. if new.id == job.id then new else job) jobs
+abbrev pub with_replaced : Job → Jobs → Jobs
+with_replaced new jobs = map (λ job. if new.id == job.id then new else job) jobs
 
 -- The local jobs after one stored job is merged in. The second argument is the local job of its id,
 -- if any.
 abbrev pub take_in : Job → Option Job → Jobs → Jobs
 take_in remote None jobs = if is_taken_new remote.status then put_job remote jobs else jobs
-take_in remote (Some local) jobs = if adopts local.status remote.status then replaced remote jobs else jobs
+take_in remote (Some local) jobs = if adopts local.status remote.status then with_replaced remote jobs else jobs
 
 -- The local jobs after all stored jobs are merged in.
 abbrev pub merged_jobs : Jobs → Jobs → Jobs

@@ -2,11 +2,11 @@
 use Rattle.std.specs.Prelude.{◌≡◌, ◌≢◌, ℕ, ◌+◌, ◌<◌, ◌≤◌, false, ◌||◌, IsTrue, IfSome, List, length, is_none}
 use Rattle.std.specs.List.{AllByRecursion}
 use Rattle.row_model.specs.Lists.{Pairs}
-use Rattle.fleet_model.specs.Jobs.{JobSpec, Jobs, Submitted, Scheduled, has_status, job_with, number_of, contains, trimmed, drawn_base}
+use Rattle.fleet_model.specs.Jobs.{JobSpec, Jobs, Submitted, Scheduled, has_status, job_with, number_of, contains, trimmed_jobs, drawn_base}
 use Rattle.fleet_model.specs.History.{Entry, stood}
 use Rattle.fleet_model.specs.Store.{stored_jobs}
 use Rattle.fleet_model.specs.AttemptsFit.{was_beaten}
-use Rattle.step_model.specs.Past.{Told}
+use Rattle.step_model.specs.Past.{World}
 use Rattle.step_model.specs.Entries.{drawn_jobs, drawn_tables, mentioned_in, was_named, attempts_in, claimed_attempts, planned_attempts}
 use Rattle.step_model.specs.Faithful.{Faithful}
 
@@ -26,11 +26,11 @@ pub record DrawsKept (jobs_drawn tables_drawn : ℕ) (history : List Entry) : Ty
 -- Each job that an entry mentions was drawn. Each stored job was named by a put that took effect,
 -- and every faithful replay has its spec. So an id that was just drawn is new. A put of the records
 -- dropped the finished jobs that a further put would drop.
-pub record NamesKept (told : Told) : Type 0 where
-  pub drawn : AllByRecursion (λ entry. AllByRecursion (λ id. IsTrue (contains (drawn_jobs told.store.history) id)) (mentioned_in entry)) told.store.history
-  pub named : AllByRecursion (λ job. IsTrue (was_named told.store.history job.id)) (stored_jobs told.store)
-  pub specs : (specs : ℕ → JobSpec) → Faithful told specs → AllByRecursion (λ job. specs job.id ≡ job.spec) (stored_jobs told.store)
-  pub trimmed_already : trimmed (stored_jobs told.store) ≡ stored_jobs told.store
+pub record NamesKept (world : World) : Type 0 where
+  pub drawn : AllByRecursion (λ entry. AllByRecursion (λ id. IsTrue (contains (drawn_jobs world.store.history) id)) (mentioned_in entry)) world.store.history
+  pub named : AllByRecursion (λ job. IsTrue (was_named world.store.history job.id)) (stored_jobs world.store)
+  pub specs : (specs : ℕ → JobSpec) → Faithful world specs → AllByRecursion (λ job. specs job.id ≡ job.spec) (stored_jobs world.store)
+  pub trimmed_already : trimmed_jobs (stored_jobs world.store) ≡ stored_jobs world.store
 
 -- ---- attempts
 

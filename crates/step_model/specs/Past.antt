@@ -1,26 +1,26 @@
--- What is told of a store: the store itself, and its past. The past has each manifest that was ever
+-- What is world of a store: the store itself, and its past. The past has each manifest that was ever
 -- stored in it.
 use Rattle.std.specs.Prelude.{ℕ, ◌==◌, if◌then◌else◌, List, [], ◌∷◌, ◌++◌, find, Option}
 use Rattle.fleet_model.specs.Store.{Manifest, Store, fresh_store}
 
--- A store together with its past manifests, by rising version. The past is told beside the store
+-- A store together with its past manifests, by rising version. The past is world beside the store
 -- because the history keeps no manifest: of a commit it has the ids of the jobs alone.
-pub record Told : Type 0 where
+pub record World : Type 0 where
   pub store : Store
   pub past : List Manifest
 
 -- A fresh store has stored one manifest.
-abbrev pub fresh_told : Told
-fresh_told = record { store = fresh_store; past = fresh_store.manifest ∷ [] }
+abbrev pub fresh_world : World
+fresh_world = record { store = fresh_store; past = fresh_store.manifest ∷ [] }
 
 -- The past after a call, given the store before and after it. It grows by the manifest that is
 -- stored now, if that manifest has another version than the one before.
 abbrev pub past_after : Store → Store → List Manifest → List Manifest
 past_after old new past = if old.manifest.version == new.manifest.version then past else past ++ new.manifest ∷ []
 
--- What is told after a call that left this store.
-abbrev pub told_after : Told → Store → Told
-told_after told store = record { store = store; past = past_after told.store store told.past }
+-- What is world after a call that left this store.
+abbrev pub world_after : World → Store → World
+world_after world store = record { store = store; past = past_after world.store store world.past }
 
 -- The manifest of the past with this version, if there is one.
 abbrev pub manifest_with : ℕ → List Manifest → Option Manifest

@@ -2,12 +2,12 @@
 use Rattle.std.specs.Prelude.{ℕ, zero, suc, ◌+◌, ◌==◌, Bool, ◌&&◌, nat_lt, max, if◌then◌else◌, List, [], Option, Some, None, bytes_eq}
 use Rattle.std.specs.Cmp.Lexicographic.{pointwise}
 use Rattle.fleet_model.specs.Nodes.{Node, Segment, Tables, name_eq}
-use Rattle.fleet_model.specs.Jobs.{JobSpec, Jobs, trimmed}
+use Rattle.fleet_model.specs.Jobs.{JobSpec, Jobs, trimmed_jobs}
 use Rattle.fleet_model.specs.History.{GetRecords, ManifestEpoch, Commit, RecordsEpoch, Polled}
 use Rattle.fleet_model.specs.Store.{Manifest, Records, jobs_in, records_epoch}
 use Rattle.fleet_model.specs.Scheduler.{Scheduler}
-use Rattle.fleet_model.specs.PollStates.{PollOptions, PollInput, PollState, begun}
-use Rattle.fleet_model.specs.Polls.{free_stale, commit_finished, proposals, committed, add_drawn, open_submitted, change_of, is_nothing}
+use Rattle.fleet_model.specs.PollStates.{PollOptions, PollInput, PollState, poll_begun}
+use Rattle.fleet_model.specs.Polls.{free_stale, commit_finished, proposals, committed_poll, add_drawn, open_submitted, change_of, is_nothing}
 use Rattle.fleet_model.specs.Exchanges.{Plain, PutsRecords, records_version}
 use Rattle.step_model.specs.Course.{Course, Ends, Calls, gets_manifest, gets_records, draws_jobs, puts_manifest, puts_records}
 use Rattle.step_model.specs.StepEnds.{StepEnd, Reports, GivesUp, Fenced, most_refused}
@@ -38,7 +38,7 @@ records_or_none (Some records) = records
 -- 0.
 abbrev pub puts_epoch : Option Records → ℕ → Course (StepEnd ℕ) → (ℕ → Course (StepEnd ℕ)) → Course (StepEnd ℕ)
 puts_epoch records epoch next again =
-    Calls (PutsRecords (records_version records) (RecordsEpoch epoch) epoch (trimmed (jobs_in records))) (λ met. if records_version records == records_version met.records then next else again (records_version met.records))
+    Calls (PutsRecords (records_version records) (RecordsEpoch epoch) epoch (trimmed_jobs (jobs_in records))) (λ met. if records_version records == records_version met.records then next else again (records_version met.records))
 
 -- A start that gives up after `left` more refused puts, of the manifest and of the records
 -- together. `seen` is the version that the last refused put met.
@@ -81,16 +81,16 @@ input_of ask tables manifest records = record { options = ask.options; scheduler
 
 -- The first two steps of a poll: it frees stale jobs and commits Compacted ones.
 abbrev pub freed_and_committed : PollInput → PollState
-freed_and_committed input = commit_finished input (free_stale input (begun input.manifest.trees input.manifest.horizon input.records.jobs))
+freed_and_committed input = commit_finished input (free_stale input (poll_begun input.manifest.trees input.manifest.horizon input.records.jobs))
 
 -- The steps of a poll before ids are drawn. A poll with `commits_only` commits and frees nothing.
 abbrev pub first_steps : PollAsk → PollInput → PollState
-first_steps ask input = if ask.commits_only then committed input else freed_and_committed input
+first_steps ask input = if ask.commits_only then committed_poll input else freed_and_committed input
 
 -- The proposals of the scheduler that a poll takes, up to its capacity. A poll with `commits_only`
 -- takes none.
-abbrev pub proposed : PollAsk → PollInput → PollState → List JobSpec
-proposed ask input p = if ask.commits_only then [] else proposals input p
+abbrev pub proposed_specs : PollAsk → PollInput → PollState → List JobSpec
+proposed_specs ask input p = if ask.commits_only then [] else proposals input p
 
 -- The steps of a poll after ids are drawn: it adds the proposals and opens submitted jobs. A poll
 -- with `commits_only` does neither.
@@ -110,7 +110,7 @@ abbrev pub puts_polled : ℕ → PollState → Records → ℕ → ℕ → Cours
 puts_polled epoch p got zero seen = Ends (GivesUp seen)
 puts_polled epoch p got (suc left) seen =
     if is_nothing (change_of p) then Ends (Reports p)
-    else puts_records got (Polled (change_of p)) got.epoch (trimmed p.jobs) (Ends (Reports p)) (λ seen.
+    else puts_records got (Polled (change_of p)) got.epoch (trimmed_jobs p.jobs) (Ends (Reports p)) (λ seen.
     if left == 0 then Ends (GivesUp seen) else gets_records (λ newer.
     let got = records_or_none newer in
     unless_fenced epoch got.epoch (puts_polled epoch (merged_into p got.jobs) got left seen)))
@@ -128,7 +128,7 @@ abbrev pub polls_over : PollAsk → Tables → Manifest → Records → ℕ → 
 polls_over ask tables manifest got left seen again =
     let input = input_of ask tables manifest got in
     let p = first_steps ask input in
-    draws_jobs ask.moment (proposed ask input p) (λ drawn. puts_trees ask.epoch (last_steps ask input drawn p) manifest got left seen again)
+    draws_jobs ask.moment (proposed_specs ask input p) (λ drawn. puts_trees ask.epoch (last_steps ask input drawn p) manifest got left seen again)
 
 -- A poll that gives up after `left` more refused puts in a row. `seen` is the version that the last
 -- refused put met.

@@ -3,8 +3,8 @@ use Rattle.std.specs.Prelude.{◌≡◌, ◌≢◌, ℕ, Bool, true, false, IsTr
 use Rattle.row_model.specs.Fold.{Operator}
 use Rattle.fleet_model.specs.History.{Party, is_get_or_put}
 use Rattle.fleet_model.specs.Store.{Store}
-use Rattle.fleet_model.specs.Exchanges.{Exchange, DeletesTable, event_of, answered, struck_by}
-use Rattle.step_model.specs.Past.{Told, told_after}
+use Rattle.fleet_model.specs.Exchanges.{Exchange, DeletesTable, event_of, after_answered, struck_by}
+use Rattle.step_model.specs.Past.{World, world_after}
 use Rattle.step_model.specs.Lawful.{Lawful}
 
 -- ---- one call
@@ -14,17 +14,17 @@ abbrev pub Strike : Type 0
 Strike = Option Bool
 
 -- The store after a call.
-abbrev pub called : ℕ → Party → Exchange → Strike → Store → Store
-called line party x None store = answered line party x store
-called line party x (Some stands) store = struck_by stands line party x store
+abbrev pub store_after_call : ℕ → Party → Exchange → Strike → Store → Store
+store_after_call line party x None store = after_answered line party x store
+store_after_call line party x (Some stands) store = struck_by stands line party x store
 
--- What is told after a call.
-abbrev pub told_by : ℕ → Party → Exchange → Strike → Told → Told
-told_by line party x strike told = told_after told (called line party x strike told.store)
+-- What is world after a call.
+abbrev pub after_call : ℕ → Party → Exchange → Strike → World → World
+after_call line party x strike world = world_after world (store_after_call line party x strike world.store)
 
 -- Only a get or a put may be struck.
-abbrev pub MayStrike : Exchange → Told → Strike → Type 0
-MayStrike x told strike = IfSome strike (λ stands. IsTrue (is_get_or_put (event_of x told.store)))
+abbrev pub MayStrike : Exchange → World → Strike → Type 0
+MayStrike x world strike = IfSome strike (λ stands. IsTrue (is_get_or_put (event_of x world.store)))
 
 -- ---- calls of others
 
@@ -49,23 +49,23 @@ is_deletion (DeletesTable table) = true
 is_deletion _ = false
 
 -- Another party may make this call: it is lawful and deletes nothing.
-pub record IsRival (who : Caller) (told : Told) (call : RivalCall) : Type 0 where
+pub record IsRival (who : Caller) (world : World) (call : RivalCall) : Type 0 where
   pub other : call.party ≢ who.party
-  pub lawful : Lawful who.merge call.party told call.exchange
-  pub strike : MayStrike call.exchange told call.strike
+  pub lawful : Lawful who.merge call.party world call.exchange
+  pub strike : MayStrike call.exchange world call.strike
   pub deletes_none : is_deletion call.exchange ≡ false
 
--- What is told after the call of another party.
-abbrev pub told_by_rival : RivalCall → Told → Told
-told_by_rival call told = told_by call.line call.party call.exchange call.strike told
+-- What is world after the call of another party.
+abbrev pub after_rival : RivalCall → World → World
+after_rival call world = after_call call.line call.party call.exchange call.strike world
 
 -- These calls of others, made in order, lead from the old to the new.
-abbrev pub RivalsFrom : Caller → List RivalCall → (old new : Told) → Type 0
+abbrev pub RivalsFrom : Caller → List RivalCall → (old new : World) → Type 0
 RivalsFrom who [] old new = old ≡ new
-RivalsFrom who (call ∷ calls) old new = IsRival who old call × RivalsFrom who calls (told_by_rival call old) new
+RivalsFrom who (call ∷ calls) old new = IsRival who old call × RivalsFrom who calls (after_rival call old) new
 
 -- Calls of others lead from the old to the new. There are none if no other party calls the store.
-pub record Rivals (who : Caller) (old new : Told) : Type 0 where
+pub record Rivals (who : Caller) (old new : World) : Type 0 where
   pub calls : List RivalCall
   pub lead : RivalsFrom who calls old new
   pub none : who.alone ≡ true → calls ≡ []

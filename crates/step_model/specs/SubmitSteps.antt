@@ -4,7 +4,7 @@ use Rattle.fleet_model.specs.Jobs.{JobSpec}
 use Rattle.fleet_model.specs.History.{GetManifest, Submit}
 use Rattle.fleet_model.specs.Store.{Records}
 use Rattle.fleet_model.specs.Records.{jobs_after, firsts}
-use Rattle.fleet_model.specs.Scheduler.{Scheduler, Request, Generated, Specs, shown}
+use Rattle.fleet_model.specs.Scheduler.{Scheduler, Request, Generated, Specs, shown_view}
 use Rattle.fleet_model.specs.Scheduler as scheduler
 use Rattle.fleet_model.specs.Exchanges.{Plain}
 use Rattle.step_model.specs.Course.{Course, Ends, Calls, gets_records, draws_jobs, puts_records}
@@ -50,7 +50,7 @@ submits_generated moment got (scheduler.Declined message) again = Ends (Declined
 abbrev pub request_by : ℕ → Scheduler → Request → Option Records → (ℕ → Course (StepEnd (List ℕ))) → Course (StepEnd (List ℕ))
 request_by moment asked request None again = Ends NoRecords
 request_by moment asked request (Some got) again =
-    Calls (Plain GetManifest) (λ met. submits_generated moment got (asked.generate (shown met.tables met.manifest got got.jobs) request) again)
+    Calls (Plain GetManifest) (λ met. submits_generated moment got (asked.generate (shown_view met.tables met.manifest got got.jobs) request) again)
 
 -- A request that may put at most `left` more times. `seen` is the version that its last refused put
 -- met.

@@ -18,8 +18,8 @@ abbrev pub calls_in : Store → List (Event × Answer)
 calls_in store = map (λ entry. (entry.event, entry.answer)) store.history
 
 -- The run of a coordinator's start over a fresh store, which has no records yet.
-abbrev pub started : AloneEnd (StepEnd ℕ)
-started = run_alone 1 (Coordinator 1) start None fresh_store
+abbrev pub started_end : AloneEnd (StepEnd ℕ)
+started_end = run_alone 1 (Coordinator 1) start None fresh_store
 
 -- A start gets both objects, puts its epoch into both, and gets them again.
 pub record Starts (run : AloneEnd (StepEnd ℕ)) : Type 0 where
@@ -64,8 +64,8 @@ ask_of epoch = record {
 }
 
 -- The run of a poll over the store with the waiting job, by a coordinator of this epoch.
-abbrev pub polled : ℕ → Option Fault → AloneEnd (StepEnd PollState)
-polled epoch fault = run_alone 1 (Coordinator 1) (poll (ask_of epoch)) fault waiting_store
+abbrev pub polled_end : ℕ → Option Fault → AloneEnd (StepEnd PollState)
+polled_end epoch fault = run_alone 1 (Coordinator 1) (poll (ask_of epoch)) fault waiting_store
 
 -- A poll commits the waiting job. It puts the manifest, since the horizon rises although the tree
 -- stays as it is, and then the records.

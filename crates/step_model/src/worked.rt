@@ -3,20 +3,20 @@
 
 ghost use Rattle.std.specs.Prelude.{None, Some, true};
 ghost use Rattle.step_model.specs.Worked.{Commits, Fences, MergesUpToWatermark, Starts};
-ghost use Rattle.step_model.specs.Worked.{StopsStruck, merged_root, polled, started};
+ghost use Rattle.step_model.specs.Worked.{StopsStruck, merged_root, polled_end, started_end};
 
 /// A coordinator starts over a fresh store. The definition `Starts` states its calls and its
 /// answer.
 pub fn a_start()
-    ensures { Starts started }
+    ensures { Starts started_end }
 {}
 
 /// Three coordinators poll over a store with one Compacted job. The first has the stored epoch, and
 /// the second an older epoch. A fault strikes the third call of the third one.
 pub fn polls()
-    ensures commits { Commits (polled 1 None) }
-    ensures fenced { Fences (polled 0 None) }
-    ensures struck { StopsStruck (polled 1 (Some (record { k = 3; stands = true }))) }
+    ensures commits { Commits (polled_end 1 None) }
+    ensures fenced { Fences (polled_end 0 None) }
+    ensures struck { StopsStruck (polled_end 1 (Some (record { k = 3; stands = true }))) }
 {}
 
 /// A coordinator merges a stored tree into its local one. The stored flushes that its own job took

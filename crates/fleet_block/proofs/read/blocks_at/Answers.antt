@@ -14,21 +14,21 @@ returns-in_default-clause-found c =
 
 pub returns-in_default-u64_at-clause-found : goal.returns-in_default-u64_at-clause-found
 returns-in_default-u64_at-clause-found c =
-    c.left.invariant.onward None (len_stopped view c.args.bytes.now c.left.header c.left.place (rows_of c.left.rows.items) c.in-Some.len c.in-Some.behind c.in-Some.ensures.found
+    c.left.invariant.onward None (len_stopped view c.args.bytes.now c.left.header c.left.place (rows_of c.left.rows.items) c.in-Some.len c.in-Some.after c.in-Some.ensures.found
     c.left.left (omega arith) c.requires.small c.in_default-u64_at.ensures.found)
 
 pub returns-in_default-2-clause-found : goal.returns-in_default-2-clause-found
 returns-in_default-2-clause-found c =
-    c.left.invariant.onward None (rows_stopped view c.args.bytes.now c.left.header c.left.place (rows_of c.left.rows.items) c.in-Some.len c.in-Some.behind c.in-Some.ensures.found
-    c.in-Some-u64_at.field-0-0 c.in-Some-u64_at.behind c.in-Some-u64_at.ensures.found c.left.left (omega arith) c.in_ok-block.field-0 c.in_default-2.is c.in_ok-block.ensures.found)
+    c.left.invariant.onward None (rows_stopped view c.args.bytes.now c.left.header c.left.place (rows_of c.left.rows.items) c.in-Some.len c.in-Some.after c.in-Some.ensures.found
+    c.in-Some-u64_at.field-0-0 c.in-Some-u64_at.after c.in-Some-u64_at.ensures.found c.left.left (omega arith) c.in_ok-block.field-0 c.in_default-2.is c.in_ok-block.ensures.found)
 
 pub left-preserved : goal.left-preserved
 left-preserved c = record {
   headers_within = search rules;
   rows_within = search rules;
   onward = λ found rest. c.left.invariant.onward found
-      (blocks_onward view c.args.bytes.now c.left.header c.left.place (rows_of c.left.rows.items) c.in-Some.len c.in-Some.behind c.in-Some.ensures.found
-      c.in-Some-u64_at.field-0-0 c.in-Some-u64_at.behind c.in-Some-u64_at.ensures.found c.left.left (c.left.left - 1) (omega arith) c.requires.small c.in_ok-block.field-0 c.in-Some-2.block c.in-Some-2.next c.in-Some-2.is c.in_ok-block.ensures.found
+      (blocks_onward view c.args.bytes.now c.left.header c.left.place (rows_of c.left.rows.items) c.in-Some.len c.in-Some.after c.in-Some.ensures.found
+      c.in-Some-u64_at.field-0-0 c.in-Some-u64_at.after c.in-Some-u64_at.ensures.found c.left.left (c.left.left - 1) (omega arith) c.requires.small c.in_ok-block.field-0 c.in-Some-2.block c.in-Some-2.next c.in-Some-2.is c.in_ok-block.ensures.found
       (rows_of c.append.new.rows.items) (ap rows_of c.in_ok-append.ensures.rows ∙ map-append row_of c.left.rows.items c.in-Some-2.block.items) found rest);
 }
 
@@ -44,4 +44,4 @@ left-init c = record {
 
 pub returns-then-len-gt-MAX_BLOCK_ROWS-clause-found : goal.returns-then-len-gt-MAX_BLOCK_ROWS-clause-found
 returns-then-len-gt-MAX_BLOCK_ROWS-clause-found c =
-    c.left.invariant.onward None (many_stopped view c.args.bytes.now c.left.header c.left.place (rows_of c.left.rows.items) c.in-Some.len c.in-Some.behind c.in-Some.ensures.found c.left.left (omega arith) (omega arith))
+    c.left.invariant.onward None (many_stopped view c.args.bytes.now c.left.header c.left.place (rows_of c.left.rows.items) c.in-Some.len c.in-Some.after c.in-Some.ensures.found c.left.left (omega arith) (omega arith))

@@ -8,14 +8,14 @@ use Rattle.row_model.specs.Sizes.{estimated_size}
 use Rattle.row_model.specs.Tables.{cut_from, cut_tables}
 use Rattle.fleet_rows.specs.Row.{row_of, rows_of}
 use Rattle.fleet_exec.specs.Cut.{open_with}
-use Rattle.fleet_exec.specs.Taking.{left_behind}
+use Rattle.fleet_exec.specs.Taking.{left_after}
 use Rattle.fleet_exec.proofs.Cuts.{first_left, reads_further, goes_on, ends_full, ends_last, some_rows}
 use Rattle.fleet_exec.proofs.finish.take_table.Goals as goal
 
 pub returns-then-full-clause-ok : goal.returns-then-full-clause-ok
 returns-then-full-clause-ok g c =
     let f = g.T.RowSource.state in
-    let L : List Row → List Row = left_behind c.args.cursor.now in
+    let L : List Row → List Row = left_after c.args.cursor.now in
     let takes = c.in_ok-row.ensures.ok in
     let new = f c.next_left.new.source in
     let next = first_left c.args.cursor.now (f c.rows.source) new c.in_ok-row.field-0 c.in-Some.row takes c.in-Some.is in
@@ -28,7 +28,7 @@ returns-then-full-clause-ok g c =
 pub rows-preserved : goal.rows-preserved
 rows-preserved g c =
     let f = g.T.RowSource.state in
-    let L : List Row → List Row = left_behind c.args.cursor.now in
+    let L : List Row → List Row = left_after c.args.cursor.now in
     let takes = c.in_ok-row.ensures.ok in
     let new = f c.next_left.new.source in
     let next = first_left c.args.cursor.now (f c.rows.source) new c.in_ok-row.field-0 c.in-Some.row takes c.in-Some.is in
@@ -47,7 +47,7 @@ rows-preserved g c =
 pub returns-clause-ok : goal.returns-clause-ok
 returns-clause-ok g c =
     let f = g.T.RowSource.state in
-    let L : List Row → List Row = left_behind c.args.cursor.now in
+    let L : List Row → List Row = left_after c.args.cursor.now in
     let takes = c.in_ok-row.ensures.ok in
     let new = f c.next_left.new.source in
     let ends : (new.rows ≡ []) × ((f c.rows.source).whole ≡ true) = search rules in

@@ -4,7 +4,7 @@ use Rattle.row_model.specs.Bounds.{IsInBounds}
 use Rattle.row_model.specs.Tables.{cut_from, cut_tables}
 use Rattle.fleet_rows.specs.Row.{rows_of}
 use Rattle.fleet_exec.specs.Cut.{open_with}
-use Rattle.fleet_exec.specs.Taking.{left_behind, ReadsOn}
+use Rattle.fleet_exec.specs.Taking.{left_after, ReadsOn}
 use Rattle.fleet_exec.proofs.finish.take_table.Given as goal
 
 abbrev pub invariant-rows : goal.invariant-rows
@@ -15,9 +15,9 @@ invariant-rows g l =
       sound : g.T.RowSource.sound l.source;
       reads : ReadsOn old s;
       filled : l.filled ≤ l.size;
-      bounded : AllByRecursion IsInBounds (left_behind l.cursor s.rows);
-      tables : cut_tables l.size (left_behind l.cursor old.rows) ≡ open_with (rows_of l.table.items) (cut_from l.size l.filled (left_behind l.cursor s.rows));
+      bounded : AllByRecursion IsInBounds (left_after l.cursor s.rows);
+      tables : cut_tables l.size (left_after l.cursor old.rows) ≡ open_with (rows_of l.table.items) (cut_from l.size l.filled (left_after l.cursor s.rows));
     }
 
 abbrev pub decreases-rows : goal.decreases-rows
-decreases-rows g l = length (left_behind l.cursor (g.T.RowSource.state l.source).rows)
+decreases-rows g l = length (left_after l.cursor (g.T.RowSource.state l.source).rows)

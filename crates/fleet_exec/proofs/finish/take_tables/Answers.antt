@@ -4,8 +4,8 @@ use Rattle.std.proofs.lemmas.List.{map-append}
 use Rattle.row_model.specs.Tables.{cut_tables}
 use Rattle.fleet_rows.specs.Row.{rows_of}
 use Rattle.fleet_rows.specs.declared.row.RowEntry.{RowEntry}
-use Rattle.fleet_exec.specs.Taking.{left_behind}
-use Rattle.fleet_exec.proofs.Cuts.{reads_further, goes_on_behind, stays_bounded}
+use Rattle.fleet_exec.specs.Taking.{left_after}
+use Rattle.fleet_exec.proofs.Cuts.{reads_further, goes_on_after, stays_bounded}
 use Rattle.fleet_exec.proofs.finish.take_tables.Goals as goal
 
 pub tables-preserved : goal.tables-preserved
@@ -22,5 +22,5 @@ tables-preserved g c =
       sound = search rules;
       reads = reads_further c.tables.invariant.reads takes.reads;
       bounded = stays_bounded c.args.size c.args.cursor.now s new c.in_ok-table.table.items takes some c.tables.invariant.bounded;
-      tables = goes_on_behind c.args.size c.args.cursor.now s new c.in_ok-table.table.items takes some (map rows_of c.tables.tables) (map rows_of c.push.new.self) (cut_tables c.args.size (left_behind c.args.cursor.now (f c.args.source.now).rows)) c.tables.invariant.tables more;
+      tables = goes_on_after c.args.size c.args.cursor.now s new c.in_ok-table.table.items takes some (map rows_of c.tables.tables) (map rows_of c.push.new.self) (cut_tables c.args.size (left_after c.args.cursor.now (f c.args.source.now).rows)) c.tables.invariant.tables more;
     }

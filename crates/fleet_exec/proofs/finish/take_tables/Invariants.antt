@@ -3,7 +3,7 @@ use Rattle.std.specs.List.{AllByRecursion}
 use Rattle.row_model.specs.Bounds.{IsInBounds}
 use Rattle.row_model.specs.Tables.{cut_tables}
 use Rattle.fleet_rows.specs.Row.{rows_of}
-use Rattle.fleet_exec.specs.Taking.{left_behind, ReadsOn}
+use Rattle.fleet_exec.specs.Taking.{left_after, ReadsOn}
 use Rattle.fleet_exec.proofs.finish.take_tables.Given as goal
 
 abbrev pub invariant-tables : goal.invariant-tables
@@ -13,9 +13,9 @@ invariant-tables g l =
     record {
       sound : g.T.RowSource.sound l.source;
       reads : ReadsOn old s;
-      bounded : AllByRecursion IsInBounds (left_behind l.cursor s.rows);
-      tables : cut_tables l.size (left_behind l.cursor old.rows) ≡ map rows_of l.tables ++ cut_tables l.size (left_behind l.cursor s.rows);
+      bounded : AllByRecursion IsInBounds (left_after l.cursor s.rows);
+      tables : cut_tables l.size (left_after l.cursor old.rows) ≡ map rows_of l.tables ++ cut_tables l.size (left_after l.cursor s.rows);
     }
 
 abbrev pub decreases-tables : goal.decreases-tables
-decreases-tables g l = length (cut_tables l.size (left_behind l.cursor (g.T.RowSource.state l.source).rows))
+decreases-tables g l = length (cut_tables l.size (left_after l.cursor (g.T.RowSource.state l.source).rows))

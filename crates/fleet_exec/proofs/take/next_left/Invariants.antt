@@ -1,5 +1,5 @@
 use Rattle.std.proofs.Common.{◌≡◌, length}
-use Rattle.fleet_exec.specs.Taking.{left_behind, ReadsOn}
+use Rattle.fleet_exec.specs.Taking.{left_after, ReadsOn}
 use Rattle.fleet_exec.proofs.take.next_left.Given as goal
 
 abbrev pub invariant-rows : goal.invariant-rows
@@ -9,7 +9,7 @@ invariant-rows g l =
     record {
       sound : g.T.RowSource.sound l.source;
       reads : ReadsOn old s;
-      rows : left_behind l.cursor s.rows ≡ left_behind l.cursor old.rows;
+      rows : left_after l.cursor s.rows ≡ left_after l.cursor old.rows;
     }
 
 abbrev pub decreases-rows : goal.decreases-rows

@@ -4,7 +4,7 @@ use Rattle.fleet_rows.specs.Row.{row_of}
 use Rattle.fleet_iter.specs.declared.iterator.IterationOrder.{IterationOrder}
 use Rattle.fleet_iter.specs.Iteration.{without_first}
 use Rattle.fleet_iter.specs.Merge.{hides, best, passes, merged_left}
-use Rattle.fleet_iter.specs.Tracked.{counted, kept_back}
+use Rattle.fleet_iter.specs.Tracked.{counted_bytes, kept_back}
 use Rattle.fleet_iter.proofs.Merges.{skip_step, skip_end}
 use Rattle.fleet_iter.proofs.Counts.{counts_step, counts_end}
 use Rattle.fleet_iter.proofs.merge.skip_hidden.Goals as goal
@@ -24,7 +24,7 @@ hidden-preserved g c =
     let s = skip_step order (hides row) hs later ss left i.taken is d in
     let bytes = counts_step order row hs later ss left c.hidden.count c.in_ok-bytes.bytes c.saturating_add-count.result i.taken is d c.in_ok-bytes.ensures.bytes c.saturating_add-count.ensures in
     let A : IterationOrder → _ = λ o. without_first (hides row) (merged_left o later left) ≡ without_first (hides row) (merged_left c.args.heads.now.order c.args.heads.now.rows (map f c.args.sources.now.items)) in
-    let B : IterationOrder → _ = λ o. counted c.saturating_add-count.result (kept_back row (merged_left o later left)) ≡ counted c.args.processed (kept_back row (merged_left c.args.heads.now.order c.args.heads.now.rows (map f c.args.sources.now.items))) in
+    let B : IterationOrder → _ = λ o. counted_bytes c.saturating_add-count.result (kept_back row (merged_left o later left)) ≡ counted_bytes c.args.processed (kept_back row (merged_left c.args.heads.now.order c.args.heads.now.rows (map f c.args.sources.now.items))) in
     record {
       sound = c.in_ok-bytes.ensures.sound;
       taken = d.taken;
@@ -67,4 +67,4 @@ returns-clause-bytes g c =
     let ss = map f c.hidden.sources.items in
     let row = row_of c.args.row.now in
     let is : passes (hides row) (best order hs) ≡ false = sym c.hidden-test.ensures in
-    sym (ap (counted c.hidden.count) (counts_end order row hs ss c.hidden.invariant.taken is)) ∙ c.hidden.invariant.bytes
+    sym (ap (counted_bytes c.hidden.count) (counts_end order row hs ss c.hidden.invariant.taken is)) ∙ c.hidden.invariant.bytes

@@ -4,7 +4,7 @@ use Rattle.std.specs.List.{AllByRecursion}
 use Rattle.fleet_rows.specs.Row.{row_of}
 use Rattle.fleet_iter.specs.Iteration.{without_first}
 use Rattle.fleet_iter.specs.Merge.{hides, AllTaken, merged_left, manners}
-use Rattle.fleet_iter.specs.Tracked.{counted, kept_back}
+use Rattle.fleet_iter.specs.Tracked.{counted_bytes, kept_back}
 use Rattle.fleet_iter.proofs.merge.skip_hidden.Given as goal
 
 abbrev pub invariant-hidden : goal.invariant-hidden
@@ -18,7 +18,7 @@ invariant-hidden g l =
       rows : without_first (hides (row_of l.row)) (merged_left l.heads.order l.heads.rows ss) ≡ without_first (hides (row_of l.row)) (merged_left l.fn.heads.order l.fn.heads.rows old);
       order : l.heads.order ≡ l.fn.heads.order;
       same_manner : manners ss ≡ manners old;
-      bytes : counted l.count (kept_back (row_of l.row) (merged_left l.heads.order l.heads.rows ss)) ≡ counted l.processed (kept_back (row_of l.row) (merged_left l.fn.heads.order l.fn.heads.rows old));
+      bytes : counted_bytes l.count (kept_back (row_of l.row) (merged_left l.heads.order l.heads.rows ss)) ≡ counted_bytes l.processed (kept_back (row_of l.row) (merged_left l.fn.heads.order l.fn.heads.rows old));
     }
 
 abbrev pub decreases-hidden : goal.decreases-hidden

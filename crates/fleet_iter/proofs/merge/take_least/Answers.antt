@@ -4,7 +4,7 @@ use Rattle.std.specs.Option.{option_map}
 use Rattle.std.proofs.lemmas.Result.{err_from_is_err_and}
 use Rattle.std.proofs.lemmas.List.{map-set, length-map}
 use Rattle.std.proofs.Math.ListN.{set}
-use Rattle.fleet_iter.specs.Heads.{HeadRows, refilled}
+use Rattle.fleet_iter.specs.Heads.{HeadRows, refilled_heads}
 use Rattle.fleet_iter.specs.Merge.{AllTaken, Takes, best}
 use Rattle.fleet_iter.specs.Iteration.{IteratorState}
 use Rattle.fleet_iter.specs.declared.iterator.IterationOrder.{IterationOrder}
@@ -87,7 +87,7 @@ returns-clause-ok g c =
     let head = c.in_ok-head.head in
     let whole = takes_all order hs ss c.requires.taken k row at s (f y) head is (steps_of t.0 s (f y) head t.1 c.in_ok-head.ensures.next) in
     let given : Some row ≡ c.replace_least.result = sym (c.replace_least.ensures.taken ∙ ap (option_map {U = RowEntry} (λ p. p.1)) at) in
-    let rows : set hs k head ≡ c.replace_least.new.self.rows = sym (ap (λ (h : HeadRows). h.rows) c.replace_least.ensures.heads ∙ ap (λ b. refilled b head hs) at) in
+    let rows : set hs k head ≡ c.replace_least.new.self.rows = sym (ap (λ (h : HeadRows). h.rows) c.replace_least.ensures.heads ∙ ap (λ b. refilled_heads b head hs) at) in
     let A : Option RowEntry → _ = λ o. Takes order false hs ss (set hs k head) (set ss k (f y)) o in
     let B : List IteratorState → _ = λ w. Takes order false hs ss (set hs k head) w c.replace_least.result in
     let D : List (Option RowEntry) → _ = λ w. Takes order false hs ss w (map f (set xs k y)) c.replace_least.result in

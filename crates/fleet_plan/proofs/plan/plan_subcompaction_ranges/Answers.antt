@@ -2,7 +2,7 @@ use Rattle.std.proofs.Common.{◌≡◌, ◌∷◌, ◌++◌, ◌+◌, ◌∙◌
 use Rattle.std.specs.Prelude.{flat_map}
 use Rattle.std.proofs.lemmas.Grind.{common_steps}
 use Rattle.std.proofs.lemmas.Result.{IfOk-weaker}
-use Rattle.row_model.specs.Plan.{planned, select_boundaries}
+use Rattle.row_model.specs.Plan.{planned_ranges, select_boundaries}
 use Rattle.row_model.specs.Rows.{Row}
 use Rattle.fleet_tree.specs.Views.{View}
 use Rattle.fleet_tree.specs.declared.run.SortedRun.{SortedRun}
@@ -42,7 +42,7 @@ returns-clause-planned c =
     let none : drop c.runs.run-index runs ≡ [] = grind (arith, common_steps) in
     let known = known_all (flat_map view_anchors views) (greatest_view_size views) (drop c.runs.run-index runs) anchors size none c.runs.invariant in
     let whole : select_boundaries anchors most size ≡ planned_of most views = ap (λ xs. select_boundaries xs most size) known.0 ∙ ap (select_boundaries (flat_map view_anchors views) most) known.1 in
-    IfOk-weaker c.select_boundaries-2.result (λ ranges. ranges_of ranges.items ≡ select_boundaries anchors most size) (λ ranges. (rows : View → List Row) → AreOfRows rows views → ranges_of ranges.items ≡ planned most (map rows views))
+    IfOk-weaker c.select_boundaries-2.result (λ ranges. ranges_of ranges.items ≡ select_boundaries anchors most size) (λ ranges. (rows : View → List Row) → AreOfRows rows views → ranges_of ranges.items ≡ planned_ranges most (map rows views))
     (λ ranges are rows of_rows. are ∙ whole ∙ planned_same rows most views of_rows) c.select_boundaries-2.ensures.ranges
 
 pub returns-then-max_subcompactions-le1-clause-planned : goal.returns-then-max_subcompactions-le1-clause-planned
@@ -51,5 +51,5 @@ returns-then-max_subcompactions-le1-clause-planned c =
     let most = c.args.max_subcompactions in
     let none = anchors_of c.new.result.items in
     let whole : select_boundaries none most 0 ≡ planned_of most views = one_range none (flat_map view_anchors views) most 0 (greatest_view_size views) (omega (arith, c.if-max_subcompactions-le1.true)) in
-    IfOk-weaker c.select_boundaries.result (λ ranges. ranges_of ranges.items ≡ select_boundaries none most 0) (λ ranges. (rows : View → List Row) → AreOfRows rows views → ranges_of ranges.items ≡ planned most (map rows views))
+    IfOk-weaker c.select_boundaries.result (λ ranges. ranges_of ranges.items ≡ select_boundaries none most 0) (λ ranges. (rows : View → List Row) → AreOfRows rows views → ranges_of ranges.items ≡ planned_ranges most (map rows views))
     (λ ranges are rows of_rows. are ∙ whole ∙ planned_same rows most views of_rows) c.select_boundaries.ensures.ranges

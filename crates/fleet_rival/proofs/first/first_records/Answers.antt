@@ -11,5 +11,5 @@ use Rattle.fleet_rival.proofs.first.first_records.Goals as goal
 pub put_records-requires : goal.put_records-requires
 put_records-requires c =
     let acts : store_of c.under-under.result ≡ record c.raise_epoch.new.store { line = 0; party = Coordinator 1 } = c.under-under.ensures.store ∙ c.set_actor.ensures in
-    records_fit (caller_of append (store_of c.under-under.result)) c.args.store.now.told (store_of c.under-under.result).told c.new-records.result c.in_ok-epoch.epoch
-    refl (ap (λ (l : LogParts). party_of l.party) acts) c.requires (ap (λ (l : LogParts). l.told) acts ∙ c.in_ok-epoch.ensures.told) c.new-records.ensures c.in_ok-epoch.ensures.epoch
+    records_fit (caller_of append (store_of c.under-under.result)) c.args.store.now.world (store_of c.under-under.result).world c.new-records.result c.in_ok-epoch.epoch
+    refl (ap (λ (l : LogParts). party_of l.party) acts) c.requires (ap (λ (l : LogParts). l.world) acts ∙ c.in_ok-epoch.ensures.world) c.new-records.ensures c.in_ok-epoch.ensures.epoch

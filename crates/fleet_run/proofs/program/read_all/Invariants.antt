@@ -6,8 +6,8 @@ use Rattle.fleet_run.proofs.program.read_all.Given as goal
 -- The text so far is what the source gave.
 abbrev pub invariant-pieces : goal.invariant-pieces
 invariant-pieces g l =
-    let old = g.S.Source.told l.fn.source in
-    let new = g.S.Source.told l.source in
+    let old = g.S.Source.view l.fn.source in
+    let new = g.S.Source.view l.source in
     record {
       bytes : Consumes old.left new.left l.text.items;
       given : new.given ≡ old.given + length l.text.items;

@@ -3,13 +3,13 @@ use Rattle.std.proofs.lemmas.Result.{err_from_is_err_and}
 use Rattle.fleet_text.specs.Lines.{line_of, lines_of}
 use Rattle.fleet_run.specs.declared.script.FleetError.TheVariants.{WriteFault, Memory}
 use Rattle.fleet_run.proofs.Runs.{run_none, run_more, run_all, run_part, run_kept}
-use Rattle.fleet_run.proofs.Told.{nothing_left}
+use Rattle.fleet_run.proofs.Refusals.{nothing_left}
 use Rattle.fleet_run.proofs.script.run_lines.Goals as goal
 
 pub lines-init : goal.lines-init
 lines-init g c =
     let are : c.from_vec-left.result.items ≡ c.args.lines = c.from_vec-left.ensures.items ∙ c.into_vec.ensures in
-    rw c.requires.fresh (run_none (lines_of c.from_vec-left.result.items) (g.K.Sink.told c.args.sink.now) (rw are c.requires.grammar))
+    rw c.requires.fresh (run_none (lines_of c.from_vec-left.result.items) (g.K.Sink.view c.args.sink.now) (rw are c.requires.grammar))
 
 pub lines-preserved : goal.lines-preserved
 lines-preserved g c =

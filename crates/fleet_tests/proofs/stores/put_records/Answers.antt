@@ -14,7 +14,7 @@ pub put_records-requires : goal.put_records-requires
 put_records-requires c =
     let lent = store_of c.under-under.result in
     let acts : lent ≡ record c.args.store.now { line = 0; party = Submitter } = c.under-under.ensures.store ∙ c.set_actor.ensures in
-    let found : AreRecords (Some c.in-Some.records.now) c.args.store.now.told.store = subst (λ records. AreRecords (option_copied records) c.args.store.now.told.store) c.in-Some.is c.records.ensures in
-    submit_of_any (caller_of append lent) lent.told refl c.in-Some.records.now c.args.version c.in_ok-value.value c.retain_active_and_last_finished.new.self c.new.result
-    (subst (λ (l : LogParts). AreRecords (Some c.in-Some.records.now) l.told.store) (sym acts) found) (c.in_ok-value.ensures.copy ∙ c.compactions.ensures)
+    let found : AreRecords (Some c.in-Some.records.now) c.args.store.now.world.store = subst (λ records. AreRecords (option_copied records) c.args.store.now.world.store) c.in-Some.is c.records.ensures in
+    submit_of_any (caller_of append lent) lent.world refl c.in-Some.records.now c.args.version c.in_ok-value.value c.retain_active_and_last_finished.new.self c.new.result
+    (subst (λ (l : LogParts). AreRecords (Some c.in-Some.records.now) l.world.store) (sym acts) found) (c.in_ok-value.ensures.copy ∙ c.compactions.ensures)
     c.retain_active_and_last_finished.ensures.kept c.retain_active_and_last_finished.ensures.model c.new.ensures (ap (λ (l : LogParts). party_of l.party) acts)

@@ -11,7 +11,7 @@ pub returns-in_default-2-clause-bad : goal.returns-in_default-2-clause-bad
 returns-in_default-2-clause-bad c = λ n e.
     let counted : length c.deref.result.now + 1 ≡ n = cc in
     let number : length c.lines.lines.items + 1 ≡ n = ap (λ l. length l + 1) (sym c.deref.ensures.value) ∙ counted in
-    bad_front c.args.text.now c.lines.lines.items c.lines.started c.lines.rest.now c.in-Some.front.now c.in-Some.behind.now n c.lines.invariant c.in-Some.ensures.0 c.in-Some.ensures.1 (rw c.in_default-2.is at c.in_ok-line.ensures) number
+    bad_front c.args.text.now c.lines.lines.items c.lines.started c.lines.rest.now c.in-Some.front.now c.in-Some.after.now n c.lines.invariant c.in-Some.ensures.0 c.in-Some.ensures.1 (rw c.in_default-2.is at c.in_ok-line.ensures) number
 
 pub returns-then-not-is_empty-clause-bad : goal.returns-then-not-is_empty-clause-bad
 returns-then-not-is_empty-clause-bad c = λ n e.

@@ -1,6 +1,6 @@
 use Rattle.std.proofs.Common.{sym, subst, ◌∙◌, ap, length, List, ◌≤◌}
 use Rattle.std.specs.Prelude.{IsSomeAnd}
-use Rattle.fleet_exec.specs.Executors.{AreDistinct, job_with}
+use Rattle.fleet_exec.specs.Executors.{AreDistinct, active_job_with}
 use Rattle.fleet_exec.specs.ExecutorParts.{ActiveParts}
 use Rattle.fleet_exec.proofs.ActiveJobs.{by_result, distinct_after}
 use Rattle.fleet_exec.proofs.executor.Executor.add_table.Goals as goal
@@ -8,7 +8,7 @@ use Rattle.fleet_exec.proofs.executor.Executor.add_table.Goals as goal
 pub invariant_of-self : goal.invariant_of-self
 invariant_of-self c =
     let jobs = c.self.inside.jobs in
-    let active = λ (js : List ActiveParts). IsSomeAnd (job_with c.args.id js) (λ job. c.args.range ≤ length job.ctx.ranges) in
+    let active = λ (js : List ActiveParts). IsSomeAnd (active_job_with c.args.id js) (λ job. c.args.range ≤ length job.ctx.ranges) in
     record {
       distinct =
           by_result c.add_table_to.result c.add_table_to.ensures.ok c.add_table_to.ensures.err

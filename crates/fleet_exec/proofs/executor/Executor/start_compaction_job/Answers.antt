@@ -2,7 +2,7 @@ use Rattle.std.proofs.Common.{sym, subst, ◌∙◌, ap}
 use Rattle.std.specs.Prelude.{IsSomeAnd}
 use Rattle.std.specs.Bool.{OnFalse}
 use Rattle.std.proofs.lemmas.Result.{on_ok_weaker}
-use Rattle.fleet_exec.specs.Executors.{AreDistinct, StartsAs, job_with}
+use Rattle.fleet_exec.specs.Executors.{AreDistinct, StartsAs, active_job_with}
 use Rattle.fleet_exec.proofs.ActiveJobs.{by_result, is_added}
 use Rattle.fleet_exec.proofs.executor.Executor.start_compaction_job.Goals as goal
 
@@ -29,7 +29,7 @@ returns-clause-started c =
     let added = is_added id c.args.self.now.jobs jobs c.push.new.self c.in_ok-job.job (ap (λ e. e.jobs) c.self.view_is) c.self.invariant.distinct c.requires.new own made in
     let held = subst (λ o. IsSomeAnd o starts) (sym added.found) c.in_ok-job.ensures.job in
     let running = sym (ap (λ e. e.stopped) c.self.view_is) ∙ c.if-self.false in
-    subst (λ b. OnFalse b (IsSomeAnd (job_with id c.push.new.self) starts)) (sym running) held)
+    subst (λ b. OnFalse b (IsSomeAnd (active_job_with id c.push.new.self) starts)) (sym running) held)
     c.push.ensures.ok
 
 pub returns-clause-others : goal.returns-clause-others
@@ -40,4 +40,4 @@ returns-clause-others c =
     λ other differs.
     by_result c.push.result c.push.ensures.ok c.push.ensures.err
     (λ made. (is_added c.args.args.id c.args.self.now.jobs jobs c.push.new.self c.in_ok-job.job is c.self.invariant.distinct c.requires.new own made).others other differs)
-    (λ same. ap (job_with other) (same ∙ is))
+    (λ same. ap (active_job_with other) (same ∙ is))

@@ -1,6 +1,6 @@
 use Rattle.std.proofs.Common.{sym, subst, ◌∙◌, ap, refl, length, ◌+◌, cond}
 use Rattle.std.specs.Prelude.{IsNone, is_some}
-use Rattle.fleet_exec.specs.Executors.{AreDistinct, job_with}
+use Rattle.fleet_exec.specs.Executors.{AreDistinct, active_job_with}
 use Rattle.fleet_exec.proofs.ActiveJobs.{count_without, distinct_without, is_some-map, none_left, others_left, without}
 use Rattle.fleet_exec.proofs.executor.Executor.stop_compaction_job.Goals as goal
 
@@ -16,20 +16,20 @@ invariant_of-self c =
 pub returns-clause-ended : goal.returns-clause-ended
 returns-clause-ended c =
     let id = c.args.id in
-    subst (λ o. IsNone o) (sym (ap (job_with id) c.end_job.ensures ∙ none_left id c.self.inside.jobs)) refl
+    subst (λ o. IsNone o) (sym (ap (active_job_with id) c.end_job.ensures ∙ none_left id c.self.inside.jobs)) refl
 
 pub returns-clause-others : goal.returns-clause-others
 returns-clause-others c =
     let id = c.args.id in
-    λ other differs. ap (job_with other) c.end_job.ensures ∙ others_left id c.self.inside.jobs other differs ∙ ap (λ e. job_with other e.jobs) c.self.view_is
+    λ other differs. ap (active_job_with other) c.end_job.ensures ∙ others_left id c.self.inside.jobs other differs ∙ ap (λ e. active_job_with other e.jobs) c.self.view_is
 
 pub returns-clause-count : goal.returns-clause-count
 returns-clause-count c =
     let id = c.args.id in
     let jobs = c.self.inside.jobs in
-    let looked = c.with_id.ensures ∙ ap (job_with id) c.as_slice.ensures in
+    let looked = c.with_id.ensures ∙ ap (active_job_with id) c.as_slice.ensures in
     let active = c.is_some-active.ensures ∙ sym (is_some-map (λ job. job.now) c.with_id.result) ∙ ap (λ o. is_some o) looked in
     sym (ap (λ e. length e.jobs) c.self.view_is)
     ∙ count_without id jobs c.self.invariant.distinct
-    ∙ ap (λ js. length js + cond (is_some (job_with id jobs)) 1 0) (sym c.end_job.ensures)
+    ∙ ap (λ js. length js + cond (is_some (active_job_with id jobs)) 1 0) (sym c.end_job.ensures)
     ∙ ap (λ b. length c.end_job.new.jobs + cond b 1 0) (sym active)

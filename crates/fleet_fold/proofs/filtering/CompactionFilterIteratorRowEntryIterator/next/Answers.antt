@@ -1,7 +1,7 @@
 use Rattle.std.proofs.Common.{rules, ◌≡◌, subst, List, Option, None, Err, false}
 use Rattle.row_model.specs.Rows.{Row}
 use Rattle.fleet_rows.specs.declared.row.RowEntry.{RowEntry}
-use Rattle.fleet_fold.specs.Filter.{Refuses, filtered}
+use Rattle.fleet_fold.specs.Filter.{Refuses, filtered_rows}
 use Rattle.fleet_fold.proofs.Filters.{open_knows, next_refused_filtered, reads, refuses_kept}
 use Rattle.fleet_fold.proofs.filtering.CompactionFilterIteratorRowEntryIterator.next.Goals as goal
 
@@ -23,5 +23,5 @@ returns-in-Err-next_left-clause-refused g c alive _ begun =
     let read = reads (f i.inner) (f c.next.new.self) c.in-Ok.first (knows.alive, begun) c.in-Ok.ensures.next in
     let after = f c.next_left.new.inner in
     let e = c.in-Err-next_left.error in
-    refuses_kept (filtered answers closing (f i.inner).rows) after e c.fail-in-Err-next_left.result _ c.fail-in-Err-next_left.new.self c.fail-in-Err-next_left.ensures
-    (subst (λ (rows : List Row). Refuses {A = Option RowEntry} (filtered answers closing rows) after (Err e)) read.rows c.in-Err-next_left.ensures.refused)
+    refuses_kept (filtered_rows answers closing (f i.inner).rows) after e c.fail-in-Err-next_left.result _ c.fail-in-Err-next_left.new.self c.fail-in-Err-next_left.ensures
+    (subst (λ (rows : List Row). Refuses {A = Option RowEntry} (filtered_rows answers closing rows) after (Err e)) read.rows c.in-Err-next_left.ensures.refused)

@@ -29,9 +29,9 @@ returns-in_err-bytes-clause-err g c =
     let e = c.in_err-bytes.field-0.0 in
     let noted = c.note.new.self in
     let base = c.into_bytes-existing.ensures ∙ sym (base_is c.args.base.value c.requires.base) in
-    let told = subst (λ (w : List (List ℕ)). RefusesAs (answer_of (fold_bytes merge noted.key c.into_bytes-existing.result w)) e) (c.deref.ensures.value ∙ c.reverse.ensures.items) c.in_err-bytes.ensures.err in
+    let stated = subst (λ (w : List (List ℕ)). RefusesAs (answer_of (fold_bytes merge noted.key c.into_bytes-existing.result w)) e) (c.deref.ensures.value ∙ c.reverse.ensures.items) c.in_err-bytes.ensures.err in
     rw (p.1, p.2) (refuses_over merge c.args.self c.flush.new.self noted (row_of c.args.base) e c.in_ok-flush.ensures.ok c.note.ensures c.requires.base (sym c.in_ok-check.ensures)
-    (subst (λ (b : Option (List ℕ)). RefusesAs (answer_of (fold_bytes merge noted.key b (reverse noted.folded.items))) e) base told))
+    (subst (λ (b : Option (List ℕ)). RefusesAs (answer_of (fold_bytes merge noted.key b (reverse noted.folded.items))) e) base stated))
 
 pub returns-clause-ok : goal.returns-clause-ok
 returns-clause-ok g c =
@@ -39,7 +39,7 @@ returns-clause-ok g c =
     let noted = c.note.new.self in
     let bytes = c.in_ok-bytes.bytes in
     let base = c.into_bytes-existing.ensures ∙ sym (base_is c.args.base.value c.requires.base) in
-    let told = subst (λ (w : List (List ℕ)). answer_of (fold_bytes merge noted.key c.into_bytes-existing.result w) ≡ Ok bytes) (c.deref.ensures.value ∙ c.reverse.ensures.items) c.in_ok-bytes.ensures.ok in
+    let stated = subst (λ (w : List (List ℕ)). answer_of (fold_bytes merge noted.key c.into_bytes-existing.result w) ≡ Ok bytes) (c.deref.ensures.value ∙ c.reverse.ensures.items) c.in_ok-bytes.ensures.ok in
     subst (λ (r : Row). Closes merge c.args.self (row_of c.args.base ∷ []) r) (sym c.into_row.ensures)
     (closes_over merge c.args.self c.flush.new.self noted (row_of c.args.base) bytes c.in_ok-flush.ensures.ok c.note.ensures (sym c.in_ok-check.ensures) c.requires.base
-    (subst (λ (b : Option (List ℕ)). answer_of (fold_bytes merge noted.key b (reverse noted.folded.items)) ≡ Ok bytes) base told))
+    (subst (λ (b : Option (List ℕ)). answer_of (fold_bytes merge noted.key b (reverse noted.folded.items)) ≡ Ok bytes) base stated))

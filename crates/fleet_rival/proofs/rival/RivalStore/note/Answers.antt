@@ -1,5 +1,5 @@
 use Rattle.row_model.specs.Append.{append}
-use Rattle.fleet_store.specs.Exchanges.{noted}
+use Rattle.fleet_store.specs.Exchanges.{noted_exchange}
 use Rattle.fleet_store.specs.Under.{store_of}
 use Rattle.fleet_rival.proofs.Rivals.{at_once, may_call, none_came}
 use Rattle.fleet_rival.proofs.rival.RivalStore.note.Goals as goal
@@ -12,4 +12,4 @@ returns-clause-notes c =
 pub note-requires : goal.note-requires
 note-requires c =
     may_call append (store_of c.args.self.now.under) (store_of c.set_actor.new.self) c.args.self.now.line c.args.self.now.party c.set_actor.ensures.store
-    (store_of c.args.self.now.under).told (λ met. noted c.args.note) (none_came _ _) c.requires
+    (store_of c.args.self.now.under).world (λ met. noted_exchange c.args.note) (none_came _ _) c.requires

@@ -12,4 +12,4 @@ returns-clause-puts c =
 pub put_table-requires : goal.put_table-requires
 put_table-requires c =
     may_call append (store_of c.args.self.now.under) (store_of c.set_actor.new.self) c.args.self.now.line c.args.self.now.party c.set_actor.ensures.store
-    (store_of c.args.self.now.under).told (λ met. PutsTable c.args.id c.args.table) (none_came _ _) c.requires
+    (store_of c.args.self.now.under).world (λ met. PutsTable c.args.id c.args.table) (none_came _ _) c.requires

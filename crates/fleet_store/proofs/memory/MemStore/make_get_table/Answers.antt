@@ -8,7 +8,7 @@ use Rattle.fleet_store.proofs.memory.MemStore.make_get_table.Goals as goal
 pub add_plain-requires : goal.add_plain-requires
 add_plain-requires c =
     c.table_answer-answer.ensures
-    ∙ ap (λ b. if b then Done 0 else Absent) (ap is_some (c.in_ok-table.ensures ∙ held_is _ _ _ _ _ _ _ c.args.id c.self.invariant) ∙ held_some c.self.inside.log.told.store c.args.id)
+    ∙ ap (λ b. if b then Done 0 else Absent) (ap is_some (c.in_ok-table.ensures ∙ held_is _ _ _ _ _ _ _ c.args.id c.self.invariant) ∙ held_some c.self.inside.log.world.store c.args.id)
 
 pub invariant_of-self-2 : goal.invariant_of-self-2
 invariant_of-self-2 c = plain_kept c.self.inside.log c.add_plain.new.self _ _ _ _ _ _ _ c.in_ok-strike.ensures.ok c.self.invariant
@@ -18,7 +18,7 @@ returns c =
     let a = c.in_ok-strike.ensures.ok in
     rw (sym c.self.view_is) (record {
       strike_is = a.strike_is;
-      told_is = a.told_is;
+      world_is = a.world_is;
       line_is = a.line_is;
       party_is = a.party_is;
       faults_are = a.faults_are;

@@ -8,7 +8,7 @@ pub add-requires : goal.add-requires
 add-requires c =
     let ids = c.from_vec-ids.ensures ∙ (c.in_ok-ids_of.ensures ∙ ids_are _ _ _ _ _ _ _ c.self.invariant) in
     record {
-      event_is = ap ListTables (c.len-count.ensures ∙ (ap length ids ∙ ids_many c.self.inside.log.told.store));
+      event_is = ap ListTables (c.len-count.ensures ∙ (ap length ids ∙ ids_many c.self.inside.log.world.store));
       answer_is = refl;
     }
 
@@ -20,7 +20,7 @@ returns c =
     let a = c.in_ok-strike.ensures.ok in
     rw (sym c.self.view_is) (record {
       strike_is = a.strike_is;
-      told_is = a.told_is;
+      world_is = a.world_is;
       line_is = a.line_is;
       party_is = a.party_is;
       faults_are = a.faults_are;

@@ -7,5 +7,5 @@ use Rattle.fleet_store.proofs.memory.MemStore.table.Goals as goal
 
 pub returns : goal.returns
 returns c =
-    subst (λ (p : LogParts). option_copied c.get.result ≡ held_rows c.args.id p.told.store) c.self.view_is
+    subst (λ (p : LogParts). option_copied c.get.result ≡ held_rows c.args.id p.world.store) c.self.view_is
     (c.get.ensures.value ∙ held_is _ _ _ _ _ _ _ c.args.id c.self.invariant)

@@ -2,7 +2,7 @@ use Rattle.std.proofs.Common.{◌≡◌, sym, ◌∙◌, ap, true, []}
 use Rattle.std.specs.Ordering.{is_gt, is_lt}
 use Rattle.row_model.specs.Rows.{key_cmp}
 use Rattle.fleet_model.specs.Trees.{first_key, last_key}
-use Rattle.fleet_table.proofs.Newest.{none_before, none_behind_last}
+use Rattle.fleet_table.proofs.Newest.{none_before, none_after_last}
 use Rattle.fleet_table.proofs.Spots.{is_true}
 use Rattle.fleet_table.proofs.table.TableData.is_outside.Goals as goal
 
@@ -22,4 +22,4 @@ returns-else-is_lt-clause-none c outside =
     let table = c.know_table.ensures in
     let last = c.as_slice-else-is_lt.ensures ∙ c.self.invariant.ends ∙ ap (last_key []) c.self.view_is in
     let high : is_gt (key_cmp key (last_key [] rows)) ≡ true = sym (c.is_gt.ensures ∙ ap is_gt (c.cmp-else-is_lt.ensures ∙ ap (key_cmp key) last)) ∙ is_true c.is_gt.result outside in
-    none_behind_last key rows table.ordered high
+    none_after_last key rows table.ordered high

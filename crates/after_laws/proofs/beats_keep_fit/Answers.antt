@@ -1,5 +1,0 @@
-use Rattle.after_laws.proofs.Beats as law
-use Rattle.after_laws.proofs.beats_keep_fit.Goals as goal
-
-pub returns : goal.returns
-returns c = law.beats_keep_fit

@@ -1,5 +1,0 @@
-use Rattle.after_laws.proofs.Claims as law
-use Rattle.after_laws.proofs.claims_keep_fit.Goals as goal
-
-pub returns : goal.returns
-returns c = law.claims_keep_fit

@@ -1,5 +1,0 @@
-use Rattle.after_laws.proofs.Fewer as law
-use Rattle.after_laws.proofs.idle_workers_fit.Goals as goal
-
-pub returns : goal.returns
-returns c = law.idle_workers_fit

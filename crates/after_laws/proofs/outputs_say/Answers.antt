@@ -1,5 +1,0 @@
-use Rattle.after_laws.proofs.Refusals as law
-use Rattle.after_laws.proofs.outputs_say.Goals as goal
-
-pub returns : goal.returns
-returns c = law.outputs_say

@@ -1,5 +1,0 @@
-use Rattle.after_laws.proofs.OwnCalls as law
-use Rattle.after_laws.proofs.own_calls_keep.Goals as goal
-
-pub returns : goal.returns
-returns c = law.own_calls_keep

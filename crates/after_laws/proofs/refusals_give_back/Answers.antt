@@ -1,5 +1,0 @@
-use Rattle.after_laws.proofs.Refusals as law
-use Rattle.after_laws.proofs.refusals_give_back.Goals as goal
-
-pub returns : goal.returns
-returns c = law.refusals_give_back

@@ -1,5 +1,0 @@
-use Rattle.after_laws.proofs.Releases as law
-use Rattle.after_laws.proofs.releases_keep_fit.Goals as goal
-
-pub returns : goal.returns
-returns c = law.releases_keep_fit

@@ -1,9 +1,0 @@
-pub mod Fewer
-pub mod OwnCalls
-pub mod Behind
-pub mod Beats
-pub mod Releases
-pub mod Outputs
-pub mod Refusals
-pub mod Finishes
-pub mod Claims

@@ -1,5 +1,0 @@
-use Rattle.fit_laws.proofs.FreeTables as law
-use Rattle.fit_laws.proofs.free_tables_stay.Goals as goal
-
-pub returns : goal.returns
-returns c = law.free_tables_stay

@@ -1,5 +1,0 @@
-use Rattle.fit_laws.proofs.Coordinators as law
-use Rattle.fit_laws.proofs.rivals_keep_coordinators.Goals as goal
-
-pub returns : goal.returns
-returns c = law.rivals_keep

@@ -1,5 +1,0 @@
-use Rattle.fleet_iter.proofs.Resumes as law
-use Rattle.fleet_iter.proofs.resuming.resumes_behind.Goals as goal
-
-pub returns : goal.returns
-returns c = law.resumes_behind

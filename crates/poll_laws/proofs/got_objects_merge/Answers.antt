@@ -1,5 +1,0 @@
-use Rattle.poll_laws.proofs.GotObjects as law
-use Rattle.poll_laws.proofs.got_objects_merge.Goals as goal
-
-pub returns : goal.returns
-returns c = law.got_objects_merge

@@ -1,5 +1,0 @@
-use Rattle.poll_laws.proofs.GotObjects as law
-use Rattle.poll_laws.proofs.looks_keep_fit.Goals as goal
-
-pub returns : goal.returns
-returns c = law.looks_keep_fit

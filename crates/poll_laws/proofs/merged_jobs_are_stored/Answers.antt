@@ -1,5 +1,0 @@
-use Rattle.poll_laws.proofs.GotObjects as law
-use Rattle.poll_laws.proofs.merged_jobs_are_stored.Goals as goal
-
-pub returns : goal.returns
-returns c = law.merged_jobs_are_stored

@@ -1,5 +1,0 @@
-use Rattle.poll_laws.proofs.Course as law
-use Rattle.poll_laws.proofs.polls_are_lawful.Goals as goal
-
-pub returns : goal.returns
-returns c = law.polls_are_lawful

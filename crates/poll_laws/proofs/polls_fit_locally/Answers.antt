@@ -1,5 +1,0 @@
-use Rattle.poll_laws.proofs.PollRuns as law
-use Rattle.poll_laws.proofs.polls_fit_locally.Goals as goal
-
-pub returns : goal.returns
-returns c = law.polls_fit_locally

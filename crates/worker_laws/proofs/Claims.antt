@@ -1,0 +1,449 @@
+-- A worker fits after its claim.
+use Rattle.std.proofs.Common.{◌≡◌, refl, sym, ◌∙◌, ap, subst, ℕ, zero, suc, ◌+◌, ◌-◌, ◌<◌, List, [], ◌∷◌, ◌++◌, cond, Bool, true, false, inl, inr, ◌⊎◌, Option, Some, None, length}
+use Rattle.std.specs.Prelude.{IsTrue, IfSome, ◌==◌, ◌&&◌, not, filter, map}
+use Rattle.std.specs.List.{AllByRecursion}
+use Rattle.std.proofs.lemmas.Bool.Decides.{Decides-eqb}
+use Rattle.std.proofs.lemmas.List.{append-nil}
+use Rattle.row_model.specs.Lists.{Pairs}
+use Rattle.row_model.specs.Fold.{Operator}
+use Rattle.fleet_model.specs.Jobs.{JobSpec, Job, Jobs, Context, knows_cut, contains, trimmed_jobs, job_with, ids}
+use Rattle.fleet_model.specs.History.{Worker, GetManifest, GetRecords, RecordChange, Claim}
+use Rattle.fleet_model.specs.Claimed.{noted_plan}
+use Rattle.fleet_model.specs.Store.{Store, Records, jobs_in, stored_jobs}
+use Rattle.fleet_model.specs.Records.{jobs_after}
+use Rattle.fleet_model.specs.Attempts.{ClaimInput, context_or, fresh_context}
+use Rattle.fleet_model.specs.Claims.{is_waiting, may_take, claimed_jobs, stopped_jobs, claimed_attempt}
+use Rattle.fleet_model.specs.Parties.{Attempt, LiveWorker, attempt_jobs, runs_attempt, without_attempts, put_attempt, with_attempts}
+use Rattle.fleet_model.specs.Exchanges.{Exchange, Plain, PutsRecords, records_version}
+use Rattle.step_model.specs.Past.{World}
+use Rattle.step_model.specs.Rivals.{Caller, Rivals, after_call}
+use Rattle.step_model.specs.Keeps.{Keeps}
+use Rattle.step_model.specs.Faithful.{Faithful}
+use Rattle.step_model.specs.Fits.{WorkerHolds}
+use Rattle.step_model.specs.Course.{Course, Ends, Calls}
+use Rattle.step_model.specs.CourseRuns.{End, Gives, Runs, IsLawfulCourse}
+use Rattle.step_model.specs.StepEnds.{StepEnd, Reports, GivesUp, most_refused}
+use Rattle.step_model.specs.ClaimSteps.{WorkerOptions, Claimed, at_moment, can_start, starts_claimed, claim_of, claim_by, claims_from, claim}
+use Rattle.step_laws.proofs.Elements.{IsIn, all_at, all_from, all_to, all_append, contains_no, in_contains}
+use Rattle.step_laws.proofs.Changed.{found_job}
+use Rattle.step_laws.proofs.Mute.{mute_event}
+use Rattle.step_laws.proofs.RecordsBodies.{with_records}
+use Rattle.step_laws.proofs.TableReplays.{all_filter}
+use Rattle.commit_laws.proofs.Midway.{only_job}
+use Rattle.rival_laws.proofs.WorkerFollows.{Follows, holds_after, from_filter}
+use Rattle.rival_laws.proofs.WorkerCalls.{claim_grows}
+use Rattle.rival_laws.proofs.Workers.{rivals_follow}
+use Rattle.course_laws.proofs.Beats.{Fit, fit_got}
+use Rattle.course_laws.proofs.Calls.{all_map, all_take, pairs_take, pairs_filter, filtered, in_map}
+use Rattle.course_laws.proofs.Claims.{next_attempt, put_stood, claims_are_lawful}
+use Rattle.course_laws.proofs.Later.{later_itself, later_met}
+use Rattle.course_laws.proofs.Puts.{got_records}
+use Rattle.course_laws.proofs.Made.{Relies}
+use Rattle.course_laws.proofs.Held.{refused}
+use Rattle.worker_laws.specs.Claims.{TakesOver, ClaimSays, ClaimsKeepFit}
+use Rattle.worker_laws.proofs.Attempts.{all_put, holds_fewer}
+use Rattle.worker_laws.proofs.Runs.{Made, Left, call_by, left_stopped, left_reported, left_ended}
+use Rattle.worker_laws.proofs.OwnCalls.{own_entry, put_world, own_calls_keep}
+use Rattle.worker_laws.proofs.Begun.{single, RunsAs, Waits, waits_follow}
+use Rattle.worker_laws.proofs.Taken.{attempt_with, taken_by, blank, over_taken, AreWaiting, stored_taken, Took, took_runs, took_waits, took_over}
+use Rattle.worker_laws.proofs.Awaits.{AwaitsGet, awaits_after, rivals_await, IsUnplanned, none_planned, noted_none, rivals_unplanned}
+use Rattle.worker_laws.proofs.Starts.{plain_entry, plain_world, follow_plain, begins_at_get}
+use Rattle.worker_laws.proofs.Plans.{Began, attempt_of, left_of, IsStarting, IsStarted, runs_follow, counted_next, plans_noted, holds_begun}
+
+-- ---- the jobs that a claim takes
+
+-- A job that a claim takes is stored and waits, the worker does not run it, and may take it.
+record IsChosen (w : LiveWorker) (jobs : Jobs) (job : Job) : Type 0 where
+  there : IsIn job jobs
+  waits : IsTrue (is_waiting job)
+  not_run : contains (attempt_jobs w.attempts) job.id ≡ false
+  may : may_take w.release job ≡ true
+
+-- The jobs that a claim takes, by rising id.
+record AreChosen (w : LiveWorker) (jobs these : Jobs) : Type 0 where
+  each : AllByRecursion (IsChosen w jobs) these
+  rise : Pairs (λ a b. a.id < b.id) these
+
+is_chosen : (w : LiveWorker) (jobs : Jobs) (job : Job) → IsIn job jobs → (is_waiting job && not (contains (attempt_jobs w.attempts) job.id) && may_take w.release job) ≡ true → IsChosen w jobs job
+is_chosen w jobs job there e = record {
+  there = there;
+  waits = first (is_waiting job) (not (contains (attempt_jobs w.attempts) job.id)) (may_take w.release job) e;
+  not_run = second (is_waiting job) (contains (attempt_jobs w.attempts) job.id) (may_take w.release job) e;
+  may = third (is_waiting job) (not (contains (attempt_jobs w.attempts) job.id)) (may_take w.release job) e;
+}
+  where
+    first : (a b c : Bool) → (a && b && c) ≡ true → a ≡ true
+    first true b c e = refl
+    first false b c e = absurd (cc e)
+
+    second : (a b c : Bool) → (a && not b && c) ≡ true → b ≡ false
+    second true true c e = absurd (cc e)
+    second true false c e = refl
+    second false b c e = absurd (cc e)
+
+    third : (a b c : Bool) → (a && b && c) ≡ true → c ≡ true
+    third true true c e = e
+    third true false c e = absurd (cc e)
+    third false b c e = absurd (cc e)
+
+are_chosen : (slots : ℕ) (w : LiveWorker) (jobs : Jobs) → Pairs (λ a b. a.id < b.id) jobs → AreChosen w jobs (claimed_jobs slots w jobs)
+are_chosen slots w jobs rise =
+    let test = λ (job : Job). is_waiting job && not (contains (attempt_jobs w.attempts) job.id) && may_take w.release job in
+    record {
+      each = all_take _ (slots - length w.attempts) (filter test jobs) (all_to _ _ (filter test jobs) (λ job there h. is_chosen w jobs job h.0 h.1) (filtered test jobs));
+      rise = pairs_take _ (slots - length w.attempts) (filter test jobs) (pairs_filter _ test jobs rise);
+    }
+
+-- ---- between the put and the get
+
+-- The job had no context. The worker awaits its get, and its plan is not noted.
+record IsBlank (world : World) (w : LiveWorker) (moment : ℕ) (job : Job) : Type 0 where
+  none : job.context ≡ None
+  waits : Waits world w (attempt_with job blank) (taken_by w moment job)
+  awaits : AwaitsGet w.number job.id (job.attempt + 1) world.store.history
+  unplanned : IsUnplanned w.number job.id (job.attempt + 1) world.store.history
+
+-- The worker fits with the attempt alone, which takes over the job's context.
+record TookOver (merge : Operator) (world : World) (w : LiveWorker) (moment : ℕ) (job : Job) : Type 0 where
+  context : Context
+  is : job.context ≡ Some context
+  runs : RunsAs w (attempt_with job (over_taken w context)) (taken_by w moment job) world
+  holds : WorkerHolds merge world (single w (attempt_with job (over_taken w context)))
+
+abbrev IsPending : Operator → World → LiveWorker → ℕ → Job → Type 0
+IsPending merge world w moment job = IsBlank world w moment job ⊎ TookOver merge world w moment job
+
+over_follow : (merge : Operator) (old now : World) (w : LiveWorker) (moment : ℕ) (job : Job) (t : TookOver merge old w moment job) (specs : ℕ → JobSpec) → Faithful old specs → Follows old now (single w (attempt_with job (over_taken w t.context))) → TookOver merge now w moment job
+over_follow merge old now w moment job t specs faithful f = record {
+  context = t.context;
+  is = t.is;
+  runs = runs_follow old now w (attempt_with job (over_taken w t.context)) (taken_by w moment job) f t.holds.each.0 t.runs;
+  holds = holds_after merge old now (single w (attempt_with job (over_taken w t.context))) specs faithful f t.holds;
+}
+
+rivals_pending : (who : Caller) (w : LiveWorker) (moment : ℕ) (job : Job) (old new : World) → Relies who w → Keeps who.merge old → Rivals who old new → IsPending who.merge old w moment job → IsPending who.merge new w moment job
+rivals_pending who w moment job old new r kept rivals (inl s) = inl (record {
+  none = s.none;
+  waits = rivals_follow who old new (single w (attempt_with job blank)) (λ world. Waits world w (attempt_with job blank) (taken_by w moment job)) r.keep r.own (counted_next job, tt)
+      (λ one now specs faithful f h. waits_follow one now w (attempt_with job blank) (taken_by w moment job) f h) kept rivals s.waits;
+  awaits = rivals_await who w.number job.id (job.attempt + 1) old new r.keep r.own kept rivals s.awaits;
+  unplanned = rivals_unplanned who w.number job.id (job.attempt + 1) old new r.keep r.own kept rivals s.unplanned;
+})
+rivals_pending who w moment job old new r kept rivals (inr t) =
+    let a = attempt_with job (over_taken w t.context) in
+    let both = rivals_follow who old new (single w a) (λ world. RunsAs w a (taken_by w moment job) world × WorkerHolds who.merge world (single w a)) r.keep r.own (counted_next job, tt)
+    (λ one now specs faithful f h. (runs_follow one now w a (taken_by w moment job) f h.1.each.0 h.0, holds_after who.merge one now (single w a) specs faithful f h.1)) kept rivals (t.runs, t.holds) in
+    inr (record { context = t.context; is = t.is; runs = both.0; holds = both.1 })
+
+-- After the put, each job that it takes is pending.
+pending_after : (who : Caller) (w : LiveWorker) (moment : ℕ) (put : World) (got : Records) (these : Jobs) → put.store.records ≡ Some got → AreChosen w got.jobs these → (got.version == records_version put.store.records) ≡ true
+    → Keeps who.merge put
+    → let x = PutsRecords got.version (Claim w.number (map next_attempt these)) got.epoch (jobs_after (at_moment moment) (Claim w.number (map next_attempt these)) got.jobs) in
+    Keeps who.merge (after_call who.line who.party x None put) → AllByRecursion (IsPending who.merge (after_call who.line who.party x None put) w moment) these
+pending_after who w moment put got these same chosen e kept afterwards = all_from _ these (λ job there. pending job there (all_at (IsChosen w got.jobs) these job chosen.each there) job.context refl)
+  where
+    change : RecordChange
+    change = Claim w.number (map next_attempt these)
+
+    jobs : Jobs
+    jobs = jobs_after (at_moment moment) change got.jobs
+
+    now : World
+    now = after_call who.line who.party (PutsRecords got.version change got.epoch jobs) None put
+
+    world_now : now ≡ with_records put (record { version = got.version + 1; epoch = got.epoch; jobs = jobs }) (own_entry who.line who.party put change)
+    world_now = put_world who.line who.party put got.version change got.epoch jobs e
+
+    rise : Pairs (λ a b. a.id < b.id) got.jobs
+    rise = subst (λ o. Pairs (λ a b. a.id < b.id) (jobs_in o)) same kept.stored.sound.job_ids
+
+    short : trimmed_jobs got.jobs ≡ got.jobs
+    short = subst (λ o. trimmed_jobs (jobs_in o) ≡ jobs_in o) same kept.facts.names.trimmed_already
+
+    waiting : AreWaiting got.jobs these
+    waiting = record { stored = all_to _ _ these (λ job there c. c.there) chosen.each; wait = all_to _ _ these (λ job there c. c.waits) chosen.each; rise = chosen.rise }
+
+    history_now : now.store.history ≡ put.store.history ++ own_entry who.line who.party put change ∷ []
+    history_now = ap (λ (t : World). t.store.history) world_now
+
+    stored_before : (job : Job) → IsIn job these → job_with job.id (stored_jobs put.store) ≡ Some job
+    stored_before job there = ap (λ o. job_with job.id (jobs_in o)) same ∙ found_job got.jobs job rise (all_at (IsChosen w got.jobs) these job chosen.each there).there
+
+    took : (job : Job) → IsIn job these → Took now w moment job
+    took job there = record {
+      stored = ap (λ (t : World). job_with job.id (stored_jobs t.store)) world_now ∙ stored_taken w moment got.jobs these job rise short waiting there;
+      claimed = all_at _ these job (put_stood who put got.version w.number got.epoch these jobs e) there;
+    }
+
+    unplanned : (job : Job) → IsIn job these → IsUnplanned w.number job.id (job.attempt + 1) now.store.history
+    unplanned job there = record {
+      claimed = (took job there).claimed;
+      none = ap (noted_plan job.id (job.attempt + 1)) history_now ∙ noted_none job.id (job.attempt + 1) put.store.history (own_entry who.line who.party put change)
+          (none_planned put.store.history put.store.history (stored_jobs put.store) job kept.facts.attempts.planned (stored_before job there)) refl;
+    }
+
+    awaits : (job : Job) → IsIn job these → AwaitsGet w.number job.id (job.attempt + 1) now.store.history
+    awaits job there = subst (AwaitsGet w.number job.id (job.attempt + 1)) (sym history_now)
+        (awaits_after put who.line (records_version put.store.records + 1) w.number who.party these job kept.facts.attempts.up_to (stored_before job there) chosen.rise there)
+
+    pending : (job : Job) → IsIn job these → IsChosen w got.jobs job → (o : Option Context) → job.context ≡ o → IsPending who.merge now w moment job
+    pending job there c None is = inl (record { none = is; waits = took_waits who.merge now w moment job afterwards (took job there) is; awaits = awaits job there; unplanned = unplanned job there })
+    pending job there c (Some context) is = inr (record {
+      context = context;
+      is = is;
+      runs = took_runs now w moment job (over_taken w context) (took job there);
+      holds = took_over who.merge now w moment job context afterwards (took job there) is c.may;
+    })
+
+-- ---- the get
+
+-- The input of the claim that gets the manifest of this store.
+abbrev input_at : WorkerOptions → ℕ → LiveWorker → Store → ClaimInput
+input_at options moment w met = record { release = w.release; manifest = met.manifest; moment = moment; retention = options.retention; most = options.most_ranges; tables = met.tables }
+
+abbrev began_at : WorkerOptions → ℕ → LiveWorker → Store → Began
+began_at options moment w met = record { w = w; input = input_at options moment w met; moment = moment; release = refl }
+
+starting_at : (who : Caller) (options : WorkerOptions) (moment : ℕ) (w : LiveWorker) (met : World) (job : Job) → Keeps who.merge met → who.party ≡ Worker w.number → IsPending who.merge met w moment job
+    → IsStarting who.merge (after_call who.line who.party (Plain GetManifest) None met) (began_at options moment w met.store) job
+starting_at who options moment w met job k own (inl s) = inl (record {
+  none = s.none;
+  begun = begins_at_get who w (input_at options moment w met.store) moment met job k own (record { release = refl; manifest = refl; tables = refl }) s.waits s.awaits;
+  unplanned = follow_plain (λ world. IsUnplanned w.number job.id (job.attempt + 1) world.store.history) who.line who.party GetManifest met (single w (attempt_with job blank)) (mute_event true GetManifest refl) (λ f. record {
+    claimed = claim_grows met.store.history (plain_entry who.line who.party GetManifest met) w.number job.id (job.attempt + 1) s.unplanned.claimed;
+    none = noted_none job.id (job.attempt + 1) met.store.history (plain_entry who.line who.party GetManifest met) s.unplanned.none refl;
+  });
+})
+starting_at who options moment w met job k own (inr t) =
+    let over = follow_plain (λ world. TookOver who.merge world w moment job) who.line who.party GetManifest met (single w (attempt_with job (over_taken w t.context))) (mute_event true GetManifest refl)
+    (λ f. over_follow who.merge met (plain_world who.line who.party GetManifest met) w moment job t k.stored.replay.specs k.faithful f) in
+    let same_over : claimed_attempt (input_at options moment w met.store) job ≡ attempt_with job (over_taken w over.context) =
+    ap (λ o. attempt_with job (context_or (knows_cut w.release) o (fresh_context (input_at options moment w met.store) job))) over.is in
+    inr (record {
+      context = over.context;
+      is = over.is;
+      started = record { runs = over.runs; holds = subst (λ a. WorkerHolds who.merge (after_call who.line who.party (Plain GetManifest) None met) (single w a)) (sym same_over) over.holds };
+    })
+
+-- ---- what the report says
+
+-- What is so of the report.
+abbrev says : LiveWorker → World → Claimed → Type 0
+says w world report = ClaimSays world w report
+
+-- The worker ran all these jobs.
+abbrev AreRun : LiveWorker → List ℕ → Type 0
+AreRun w left = AllByRecursion (λ id. IsTrue (contains (attempt_jobs w.attempts) id)) left
+
+are_run : (w : LiveWorker) (jobs : Jobs) → AreRun w (ids (stopped_jobs w jobs))
+are_run w jobs = all_map (λ id. IsTrue (contains (attempt_jobs w.attempts) id)) (λ (job : Job). job.id) (stopped_jobs w jobs)
+    (all_to _ _ (stopped_jobs w jobs) (λ job there h. second (is_waiting job) (contains (attempt_jobs w.attempts) job.id) h.1) (filtered (λ (job : Job). is_waiting job && contains (attempt_jobs w.attempts) job.id) jobs))
+  where
+    second : (a b : Bool) → (a && b) ≡ true → IsTrue b
+    second true b e = e
+    second false b e = absurd (cc e)
+
+-- The worker runs none of these jobs.
+abbrev NotRun : LiveWorker → Jobs → Type 0
+NotRun w these = AllByRecursion (λ job. contains (attempt_jobs w.attempts) job.id ≡ false) these
+
+-- A live attempt that the claim began takes over the published context.
+takes_over : (world : World) (b : Began) (job : Job) → RunsAs b.w (attempt_of b job) (left_of b job) world → TakesOver world b.w (attempt_of b job)
+takes_over world b job runs = by (job_with job.id (stored_jobs world.store)) refl
+  where
+    context : (o : Option Context) → context_or (knows_cut b.input.release) o (fresh_context b.input job) ≡ context_or (knows_cut b.w.release) o (context_or (knows_cut b.input.release) o (fresh_context b.input job))
+    context None = refl
+    context (Some c) = ap (λ r. record c { has_cut = knows_cut r }) b.release
+
+    by : (o : Option Job) → job_with job.id (stored_jobs world.store) ≡ o
+        → IfSome o (λ other. IsTrue (runs_attempt b.w.number (job.attempt + 1) (Some other)) → (attempt_of b job).context ≡ context_or (knows_cut b.w.release) other.context (attempt_of b job).context)
+    by None e = tt
+    by (Some other) e = λ is. subst (λ (j : Job). (attempt_of b job).context ≡ context_or (knows_cut b.w.release) j.context (attempt_of b job).context) (sym (runs other e is)) (context job.context)
+
+in_jobs : (attempts : List Attempt) (id : ℕ) → ((a : Attempt) → IsIn a attempts → a.job ≡ id → ⊥) → contains (attempt_jobs attempts) id ≡ false
+in_jobs attempts id none = contains_no (attempt_jobs attempts) id (λ there. find_in attempts there none)
+  where
+    find_in : (xs : List Attempt) → IsIn id (attempt_jobs xs) → ((a : Attempt) → IsIn a xs → a.job ≡ id → ⊥) → ⊥
+    find_in [] there none = there
+    find_in (x ∷ xs) (inl same) none = none x (inl refl) same
+    find_in (x ∷ xs) (inr there) none = find_in xs there (λ a one. none a (inr one))
+
+left_out : (left : List ℕ) (attempts : List Attempt) (a : Attempt) → IsIn a (without_attempts left attempts) → IsIn a attempts × (contains left a.job ≡ false)
+left_out left attempts a there =
+    let found = from_filter (λ (x : Attempt). not (contains left x.job)) attempts a there in
+    (found.0, plain (contains left a.job) found.1)
+  where
+    plain : (b : Bool) → not b ≡ true → b ≡ false
+    plain true e = absurd (cc e)
+    plain false e = refl
+
+-- The worker runs no job that it stopped.
+stopped_idle : (left : List ℕ) (attempts : List Attempt) → AllByRecursion (λ id. contains (attempt_jobs (without_attempts left attempts)) id ≡ false) left
+stopped_idle left attempts = all_from _ left (λ id there. in_jobs (without_attempts left attempts) id (λ a one same. refused (contains left a.job) (left_out left attempts a one).1 (in_contains left a.job (subst (λ n. IsIn n left) (sym same) there))))
+
+in_begun : (new attempts : List Attempt) (a : Attempt) → IsIn a (with_attempts new attempts) → IsIn a new ⊎ IsIn a attempts
+in_begun [] attempts a there = inr there
+in_begun (x ∷ new) attempts a there = by (in_begun new (put_attempt x attempts) a there)
+  where
+    at : (a ≡ x) ⊎ IsIn a attempts → IsIn a (x ∷ new) ⊎ IsIn a attempts
+    at (inl same) = inl (inl (sym same))
+    at (inr one) = inr one
+
+    by : IsIn a new ⊎ IsIn a (put_attempt x attempts) → IsIn a (x ∷ new) ⊎ IsIn a attempts
+    by (inl one) = inl (inr one)
+    by (inr one) = at (all_at (λ y. (y ≡ x) ⊎ IsIn y attempts) (put_attempt x attempts) a (all_put (λ y. (y ≡ x) ⊎ IsIn y attempts) x attempts (inl refl) (all_from _ attempts (λ y there. inr there))) one)
+
+-- An attempt of the report was run before, or is at a job that was started.
+reported_attempt : (b : Began) (chosen : Jobs) (left : List ℕ) (a : Attempt) → IsIn a (with_attempts (map (claimed_attempt b.input) chosen) (without_attempts left b.w.attempts))
+    → ((job : Job) × (IsIn job chosen × (job.id ≡ a.job))) ⊎ IsIn a (without_attempts left b.w.attempts)
+reported_attempt b chosen left a there = by (in_begun (map (claimed_attempt b.input) chosen) (without_attempts left b.w.attempts) a there)
+  where
+    find_in : (jobs : Jobs) → IsIn a (map (claimed_attempt b.input) jobs) → (job : Job) × (IsIn job jobs × (job.id ≡ a.job))
+    find_in [] there = absurd there
+    find_in (job ∷ jobs) (inl same) = (job, (inl refl, ap (λ (x : Attempt). x.job) same))
+    find_in (job ∷ jobs) (inr there) = let found = find_in jobs there in (found.0, (inr found.1.0, found.1.1))
+
+    by : IsIn a (map (claimed_attempt b.input) chosen) ⊎ IsIn a (without_attempts left b.w.attempts) → ((job : Job) × (IsIn job chosen × (job.id ≡ a.job))) ⊎ IsIn a (without_attempts left b.w.attempts)
+    by (inl one) = inl (find_in chosen one)
+    by (inr one) = inr one
+
+left_idle : (b : Began) (these : Jobs) (left : List ℕ) (can : Job → Bool) → Pairs (λ x y. x.id < y.id) these → NotRun b.w these → AreRun b.w left
+    → AllByRecursion (λ id. contains (attempt_jobs (with_attempts (map (claimed_attempt b.input) (filter can these)) (without_attempts left b.w.attempts))) id ≡ false) left
+left_idle b these left can rise none ran = all_from _ left (λ id there. in_jobs _ id (λ a one same. by id there a same (reported_attempt b (filter can these) left a one)))
+  where
+    by : (id : ℕ) → IsIn id left → (a : Attempt) → a.job ≡ id → ((job : Job) × (IsIn job (filter can these) × (job.id ≡ a.job))) ⊎ IsIn a (without_attempts left b.w.attempts) → ⊥
+    by id there a same (inl begun) = refused (contains (attempt_jobs b.w.attempts) begun.0.id) (all_at (λ (job : Job). contains (attempt_jobs b.w.attempts) job.id ≡ false) these begun.0 none (from_filter can these begun.0 begun.1.0).0)
+        (subst (λ n. IsTrue (contains (attempt_jobs b.w.attempts) n)) (sym (begun.1.1 ∙ same)) (all_at (λ n. IsTrue (contains (attempt_jobs b.w.attempts) n)) left id ran there))
+    by id there a same (inr one) = refused (contains left a.job) (left_out left b.w.attempts a one).1 (in_contains left a.job (subst (λ n. IsIn n left) (sym same) there))
+
+released_idle : (b : Began) (these : Jobs) (left : List ℕ) (can : Job → Bool) → Pairs (λ x y. x.id < y.id) these → NotRun b.w these
+    → AllByRecursion (λ id. contains (attempt_jobs (with_attempts (map (claimed_attempt b.input) (filter can these)) (without_attempts left b.w.attempts))) id ≡ false) (ids (filter (λ job. not (can job)) these))
+released_idle b these left can rise none = all_map _ (λ (job : Job). job.id) (filter (λ job. not (can job)) these) (all_from _ (filter (λ job. not (can job)) these) (λ job there.
+    in_jobs _ job.id (λ a one same. by job (from_filter (λ (j : Job). not (can j)) these job there) a same (reported_attempt b (filter can these) left a one))))
+  where
+    never : (c : Bool) → not c ≡ true → c ≡ true → ⊥
+    never true e f = absurd (cc e)
+    never false e f = absurd (cc f)
+
+    by : (job : Job) → IsIn job these × (not (can job) ≡ true) → (a : Attempt) → a.job ≡ job.id → ((j : Job) × (IsIn j (filter can these) × (j.id ≡ a.job))) ⊎ IsIn a (without_attempts left b.w.attempts) → ⊥
+    by job out a same (inl begun) =
+        let in_these = from_filter can these begun.0 begun.1.0 in
+        never (can job) out.1 (subst (λ (j : Job). can j ≡ true) (only_job these begun.0 job rise in_these.0 out.0 (begun.1.1 ∙ same)) in_these.1)
+    by job out a same (inr one) = refused (contains (attempt_jobs b.w.attempts) job.id) (all_at (λ (j : Job). contains (attempt_jobs b.w.attempts) j.id ≡ false) these job none out.0)
+        (in_contains (attempt_jobs b.w.attempts) job.id (subst (λ n. IsIn n (attempt_jobs b.w.attempts)) same (in_map (λ (x : Attempt). x.job) b.w.attempts a (left_out left b.w.attempts a one).0)))
+
+-- ---- the starts
+
+-- What a lawful course leads to, from a store that the worker fits.
+abbrev After : Caller → LiveWorker → Course (StepEnd Claimed) → (old new : World) → End (StepEnd Claimed) → Type 0
+After who w course old new end = Fit who w old → IsLawfulCourse who old course → Runs who course old new end → Left who w (λ (report : Claimed). report.attempts) (says w) new end
+
+other_jobs : (w : LiveWorker) (keep : Attempt → Bool) (these : Jobs) → NotRun w these → AllByRecursion (λ job. AllByRecursion (λ (other : Attempt). other.job ≡ job.id → ⊥) (filter keep w.attempts)) these
+other_jobs w keep these none = all_to _ _ these (λ job there lacks. all_filter (λ (other : Attempt). other.job ≡ job.id → ⊥) keep w.attempts (all_from _ w.attempts (λ other one same.
+    refused (contains (attempt_jobs w.attempts) job.id) lacks (in_contains (attempt_jobs w.attempts) job.id (subst (λ id. IsIn id (attempt_jobs w.attempts)) same (in_map (λ (x : Attempt). x.job) w.attempts other one)))))) none
+
+started : (who : Caller) (b : Began) (these : Jobs) (left : List ℕ) → AreRun b.w left → Relies who b.w → (new : World) (end : End (StepEnd Claimed)) (old : World) → Pairs (λ x y. x.id < y.id) these → NotRun b.w these → AllByRecursion (IsStarting who.merge old b) these
+    → After who b.w (starts_claimed b.input b.w these left) old new end
+started who b these left ran r new end old rise none starting fit lawful run =
+    plans_noted (Left who b.w (λ (report : Claimed). report.attempts) (says b.w) new end) who b (Ends (Reports report)) new end r (λ x met there stop. left_stopped who b.w (λ (report : Claimed). report.attempts) (says b.w) x met new end there.holds stop) chosen
+    ends chosen (pairs_filter _ can these rise) old fit (all_filter _ can these starting) (λ job there. inl there) lawful run
+  where
+    can : Job → Bool
+    can job = can_start b.input.manifest job
+
+    chosen : Jobs
+    chosen = filter can these
+
+    report : Claimed
+    report = record {
+      begun = map (claimed_attempt b.input) chosen;
+      stopped = left;
+      released = ids (filter (λ job. not (can job)) these);
+      attempts = with_attempts (map (claimed_attempt b.input) chosen) (without_attempts left b.w.attempts);
+    }
+
+    ends : (world : World) → Fit who b.w world → ((job : Job) → IsIn job chosen → IsStarted who.merge world b job) → IsLawfulCourse who world (Ends (Reports report)) → Runs who (Ends (Reports report)) world new end
+        → Left who b.w (λ (report : Claimed). report.attempts) (says b.w) new end
+    ends world there all lawful run =
+        let keep = λ (a : Attempt). not (contains left a.job) in
+        left_reported who b.w (λ (r : Claimed). r.attempts) (says b.w) report world new end there.holds
+        (holds_begun who.merge world b there.kept chosen (without_attempts left b.w.attempts) (pairs_filter _ can these rise) (all_from _ chosen all) (all_filter _ can these (other_jobs b.w keep these none)) (holds_fewer who.merge world b.w keep there.holds)) (record {
+          begun = all_map (TakesOver world b.w) (claimed_attempt b.input) chosen (all_from _ chosen (λ job one. takes_over world b job (all job one).runs));
+          idle = all_append _ left (ids (filter (λ job. not (can job)) these)) (left_idle b these left can rise none ran) (released_idle b these left can rise none);
+        }) run
+
+-- ---- tries
+
+after_put : (who : Caller) (options : WorkerOptions) (moment : ℕ) (w : LiveWorker) (these : Jobs) (left : List ℕ) → AreRun w left → Relies who w → (new : World) (end : End (StepEnd Claimed)) (old : World) → Pairs (λ x y. x.id < y.id) these → NotRun w these
+    → AllByRecursion (IsPending who.merge old w moment) these → After who w (Calls (Plain GetManifest) (λ met. starts_claimed (input_at options moment w met) w these left)) old new end
+after_put who options moment w these left ran r new end old rise none pending fit lawful run =
+    call_by (Left who w (λ (report : Claimed). report.attempts) (says w) new end) who w (Plain GetManifest) (λ (met : Store). starts_claimed (input_at options moment w met) w these left) old new end r fit lawful run
+    (λ at there stops. left_stopped who w (λ (report : Claimed). report.attempts) (says w) (Plain GetManifest) at new end there.holds stops) (λ m.
+    started who (began_at options moment w m.met.store) these left ran r new end (after_call who.line who.party (Plain GetManifest) None m.met) rise none
+    (all_to _ _ these (λ job there one. starting_at who options moment w m.met job m.fit.kept r.own (rivals_pending who w moment job old m.met r fit.kept m.rivals one)) pending)
+    (record { kept = m.kept; holds = own_calls_keep who.merge (Plain GetManifest) who.line who.party m.met w m.fit.kept r.own m.lawful tt m.fit.holds }) m.further m.run)
+
+those : (who : Caller) (options : WorkerOptions) (moment : ℕ) (w : LiveWorker) (left : List ℕ) (again : ℕ → Course (StepEnd Claimed)) → AreRun w left → Relies who w → (new : World) (end : End (StepEnd Claimed)) → ((version : ℕ) (old : World) → After who w (again version) old new end)
+    → (met : World) (got : Records) (these : Jobs) → met.store.records ≡ Some got → AreChosen w got.jobs these → After who w (claim_of options moment w got these left again) (after_call who.line who.party (Plain GetRecords) None met) new end
+those who options moment w left again ran r new end tries met got [] is chosen fit lawful run =
+    left_reported who w (λ (report : Claimed). report.attempts) (says w) (record { begun = []; stopped = left; released = []; attempts = without_attempts left w.attempts }) _ new end fit.holds (holds_fewer who.merge _ w (λ (a : Attempt). not (contains left a.job)) fit.holds)
+    (record { begun = tt; idle = subst (AllByRecursion (λ id. contains (attempt_jobs (without_attempts left w.attempts)) id ≡ false)) (sym (append-nil left)) (stopped_idle left w.attempts) }) run
+those who options moment w left again ran r new end tries met got (job ∷ rest) is chosen fit lawful run =
+    call_by (Left who w (λ (report : Claimed). report.attempts) (says w) new end) who w x (λ (s : Store). again_or (records_version s.records) (got.version == records_version s.records)) (after_call who.line who.party (Plain GetRecords) None met) new end r fit lawful run
+    (λ at there stops. left_stopped who w (λ (report : Claimed). report.attempts) (says w) x at new end there.holds stops) put
+  where
+    these : Jobs
+    these = job ∷ rest
+
+    change : RecordChange
+    change = Claim w.number (map next_attempt these)
+
+    x : Exchange
+    x = PutsRecords got.version change got.epoch (jobs_after (at_moment moment) change got.jobs)
+
+    again_or : ℕ → Bool → Course (StepEnd Claimed)
+    again_or version b = cond b (Calls (Plain GetManifest) (λ s. starts_claimed (input_at options moment w s) w these left)) (again version)
+
+    not_run : NotRun w these
+    not_run = all_to _ _ these (λ one there c. c.not_run) chosen.each
+
+    put : Made who w x (λ (s : Store). again_or (records_version s.records) (got.version == records_version s.records)) (after_call who.line who.party (Plain GetRecords) None met) new end → Left who w (λ (report : Claimed). report.attempts) (says w) new end
+    put m = by (got.version == records_version m.met.store.records) refl m.further m.run
+      where
+        after : World
+        after = after_call who.line who.party x None m.met
+
+        holds : WorkerHolds who.merge after w
+        holds = own_calls_keep who.merge x who.line who.party m.met w m.fit.kept r.own m.lawful (λ same. tt) m.fit.holds
+
+        by : (b : Bool) → (got.version == records_version m.met.store.records) ≡ b → IsLawfulCourse who after (again_or (records_version m.met.store.records) b) → Runs who (again_or (records_version m.met.store.records) b) after new end
+            → Left who w (λ (report : Claimed). report.attempts) (says w) new end
+        by true e lawful run =
+            let stored = got_records met m.met (Some got) is (later_met who (Plain GetRecords) met met m.met (later_itself met) m.rivals) ((Decides-eqb got.version (records_version m.met.store.records)).0 e) in
+            after_put who options moment w these left ran r new end after chosen.rise not_run (pending_after who w moment m.met got these stored chosen e m.fit.kept m.kept) (record { kept = m.kept; holds = holds }) lawful run
+        by false e lawful run = tries (records_version m.met.store.records) after (record { kept = m.kept; holds = holds }) lawful run
+
+over : (who : Caller) (options : WorkerOptions) (moment : ℕ) (w : LiveWorker) (again : ℕ → Course (StepEnd Claimed)) → Relies who w → (new : World) (end : End (StepEnd Claimed)) → ((version : ℕ) (old : World) → After who w (again version) old new end)
+    → (met : World) (records : Option Records) → Keeps who.merge met → met.store.records ≡ records → After who w (claim_by options moment w records again) (after_call who.line who.party (Plain GetRecords) None met) new end
+over who options moment w again r new end tries met None kept is fit lawful run =
+    left_reported who w (λ (report : Claimed). report.attempts) (says w) (record { begun = []; stopped = []; released = []; attempts = w.attempts }) _ new end fit.holds fit.holds (record { begun = tt; idle = tt }) run
+over who options moment w again r new end tries met (Some got) kept is fit lawful run =
+    those who options moment w (ids (stopped_jobs w got.jobs)) again (are_run w got.jobs) r new end tries met got (claimed_jobs options.slots w got.jobs) is
+    (are_chosen options.slots w got.jobs (subst (λ o. Pairs (λ a b. a.id < b.id) (jobs_in o)) is kept.stored.sound.job_ids)) fit lawful run
+
+claims : (who : Caller) (options : WorkerOptions) (moment : ℕ) (w : LiveWorker) → Relies who w → (new : World) (end : End (StepEnd Claimed)) → (left seen : ℕ) (old : World) → After who w (claims_from options moment w left seen) old new end
+claims who options moment w r new end zero seen old fit lawful run = left_ended who w (λ (report : Claimed). report.attempts) (says w) (GivesUp seen) old new end (λ report e. absurd (cc e)) fit.holds run
+claims who options moment w r new end (suc left) seen old fit lawful run =
+    call_by (Left who w (λ (report : Claimed). report.attempts) (says w) new end) who w (Plain GetRecords) (λ (s : Store). claim_by options moment w s.records (claims_from options moment w left)) old new end r fit lawful run
+    (λ at there stops. left_stopped who w (λ (report : Claimed). report.attempts) (says w) (Plain GetRecords) at new end there.holds stops)
+    (λ m. over who options moment w (claims_from options moment w left) r new end (λ version one. claims who options moment w r new end left version one) m.met m.met.store.records m.fit.kept refl (fit_got who w m.met r.keep m.fit) m.further m.run)
+
+claim_fits : (who : Caller) (options : WorkerOptions) (moment : ℕ) (w : LiveWorker) → Relies who w → (new : World) (end : End (StepEnd Claimed)) (old : World) → After who w (claim options moment w) old new end
+unfolding claim
+claim_fits who options moment w r new end old fit lawful run = claims who options moment w r new end most_refused 0 old fit lawful run
+
+pub claims_keep_fit : ClaimsKeepFit
+claims_keep_fit who old options moment w keep own kept holds = (
+  λ new end run. (claim_fits who options moment w (record { keep = keep; own = own }) new end old (record { kept = kept; holds = holds }) (claims_are_lawful who old options moment w keep kept own) run).0,
+  λ new report run. (claim_fits who options moment w (record { keep = keep; own = own }) new (Gives (Reports report)) old (record { kept = kept; holds = holds }) (claims_are_lawful who old options moment w keep kept own) run).1,
+)

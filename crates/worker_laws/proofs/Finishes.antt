@@ -1,0 +1,182 @@
+-- A worker fits after its finish.
+use Rattle.std.proofs.Common.{◌≡◌, refl, sym, ◌∙◌, ap, subst, ℕ, zero, suc, List, [], ◌∷◌, cond, Bool, true, false, inl, Option, Some, None, map}
+use Rattle.std.specs.Prelude.{IsTrue, ◌==◌, not}
+use Rattle.std.specs.List.{AllByRecursion, concat}
+use Rattle.std.proofs.lemmas.Bool.Decides.{Decides-eqb}
+use Rattle.row_model.specs.Rows.{Row}
+use Rattle.row_model.specs.Tables.{cut_tables}
+use Rattle.row_model.specs.Fold.{Operator}
+use Rattle.fleet_model.specs.Jobs.{Job, Jobs, contains, changed_jobs, trimmed_jobs}
+use Rattle.fleet_model.specs.History.{GetRecords, Finish}
+use Rattle.fleet_model.specs.Store.{Store, Records, jobs_in, stored_jobs}
+use Rattle.fleet_model.specs.Records.{Unrecorded, no_contexts, finished_by, jobs_after}
+use Rattle.fleet_model.specs.Attempts.{rows_left, finish_cut}
+use Rattle.fleet_model.specs.Parties.{Attempt, LiveWorker, is_live, runs_attempt, live_attempts, without_attempts}
+use Rattle.fleet_model.specs.Exchanges.{Exchange, Plain, PutsRecords, records_version}
+use Rattle.step_model.specs.Past.{World}
+use Rattle.step_model.specs.Rivals.{Caller, after_call}
+use Rattle.step_model.specs.TablesKept.{AreApart}
+use Rattle.step_model.specs.Fits.{WorkerHolds, noted_tables}
+use Rattle.step_model.specs.Course.{Course, Ends}
+use Rattle.step_model.specs.CourseRuns.{End, Gives, Runs, IsLawfulCourse}
+use Rattle.step_model.specs.StepEnds.{StepEnd, Reports, GivesUp, NotOwner, most_refused}
+use Rattle.step_model.specs.ClaimSteps.{WorkerOptions}
+use Rattle.step_model.specs.OutputSteps.{FinishedJob, all_outputs, ends_job, ends_job_by, ends_from, end_job, finish_or_give_back, finish}
+use Rattle.step_laws.proofs.Elements.{IsIn, all_at, all_from, all_to, in_contains}
+use Rattle.step_laws.proofs.Changed.{on_these, by_these, job_found}
+use Rattle.step_laws.proofs.Deletions.{in_filter}
+use Rattle.step_laws.proofs.OwnTables.{apart_from, apart_at}
+use Rattle.rival_laws.proofs.WorkerFollows.{from_filter}
+use Rattle.course_laws.proofs.Beats.{Fit, fit_got}
+use Rattle.course_laws.proofs.Later.{later_itself, later_met}
+use Rattle.course_laws.proofs.Puts.{got_records}
+use Rattle.course_laws.proofs.Outputs.{found_in}
+use Rattle.course_laws.proofs.Made.{Relies, State, ids_of, all_of}
+use Rattle.course_laws.proofs.Finishes.{outputs_all, finishes_are_lawful}
+use Rattle.course_laws.proofs.Held.{refused}
+use Rattle.worker_laws.specs.OwnCalls.{SparesOwn}
+use Rattle.worker_laws.specs.Finishes.{FinishesKeepFit}
+use Rattle.worker_laws.proofs.Attempts.{apart_two, holds_fewer}
+use Rattle.worker_laws.proofs.Live.{live_at}
+use Rattle.worker_laws.proofs.OwnPuts.{from_stored}
+use Rattle.worker_laws.proofs.Runs.{Made, Left, call_by, left_stopped, left_reported, left_ended}
+use Rattle.worker_laws.proofs.OwnCalls.{put_world, own_calls_keep}
+use Rattle.worker_laws.proofs.Tables.{Stops, AreUnnoted, gets, puts_all}
+use Rattle.worker_laws.proofs.Outputs.{begins, gives_back_left}
+
+-- The attempt is not live any more.
+abbrev IsOver : LiveWorker → Attempt → World → FinishedJob → Type 0
+IsOver w a world report = is_live (stored_jobs world.store) w.number a ≡ false
+
+-- What a lawful course leads to, from a store that the worker fits.
+abbrev After : Caller → LiveWorker → Attempt → Course (StepEnd FinishedJob) → (old new : World) → End (StepEnd FinishedJob) → Type 0
+After who w a course old new end = Fit who w old → IsLawfulCourse who old course → Runs who course old new end → Left who w (λ (report : FinishedJob). report.attempts) (IsOver w a) new end
+
+-- Where a run stops, the worker fits with the attempts that it ran before.
+stops : (who : Caller) (w : LiveWorker) (a : Attempt) (new : World) (end : End (StepEnd FinishedJob)) → Stops (Left who w (λ (report : FinishedJob). report.attempts) (IsOver w a) new end) who w new end
+stops who w a new end x met fit stop = left_stopped who w (λ (report : FinishedJob). report.attempts) (IsOver w a) x met new end fit.holds stop
+
+-- ---- the end of the job
+
+-- An attempt is not live after a put that makes its job one that does not run.
+finished_over : (world : World) (w : LiveWorker) (a : Attempt) (f : Job → Job) (jobs : Jobs) → ((job : Job) → (f job).id ≡ job.id) → ((job : Job) → IsTrue (runs_attempt w.number a.number (Some (f job))) → ⊥)
+    → jobs ≡ trimmed_jobs (changed_jobs f (a.job ∷ []) (stored_jobs world.store)) → is_live jobs w.number a ≡ false
+finished_over world w a f jobs ids over made = by (is_live jobs w.number a) refl
+  where
+    At : Job → Type 0
+    At job = job.id ≡ a.job → IsTrue (runs_attempt w.number a.number (Some job)) → ⊥
+
+    at : (was : Job) → At (on_these f (a.job ∷ []) was)
+    at was = by_these At f (a.job ∷ []) was (λ has id runs. over was runs) (λ lacks id runs. refused (contains (a.job ∷ []) was.id) lacks (in_contains (a.job ∷ []) was.id (inl (sym id))))
+
+    by : (b : Bool) → is_live jobs w.number a ≡ b → b ≡ false
+    by true e =
+        let l = live_at w.number jobs a e in
+        let found = job_found a.job jobs l.job l.stored in
+        let from = from_stored world f (a.job ∷ []) l.job (subst (IsIn l.job) made found.there) in
+        absurd (subst At (sym from.is) (at from.was) found.same l.runs)
+    by false e = refl
+
+-- The outputs are noted for no other live attempt.
+apart_outputs : (merge : Operator) (w : LiveWorker) (world : World) (a : Attempt) (made : List (List (ℕ × List Row))) → WorkerHolds merge world w → IsIn a w.attempts → is_live (stored_jobs world.store) w.number a ≡ true → AreUnnoted w (all_of made)
+    → AllByRecursion (λ b. (a.job ≡ b.job → ⊥) → AreApart (concat (all_outputs a.context.ranges (map ids_of made))) (noted_tables b)) (live_attempts (stored_jobs world.store) w)
+apart_outputs merge w world a made h there live lacks = all_from _ (live_attempts (stored_jobs world.store) w) (λ b one differs.
+    let found = from_filter (is_live (stored_jobs world.store) w.number) w.attempts b one in
+    let two = apart_two (live_attempts (stored_jobs world.store) w) a b h.apart (in_filter (is_live (stored_jobs world.store) w.number) w.attempts a there live) one (λ same. differs (ap (λ (x : Attempt). x.job) same)) in
+    let outputs = concat (all_outputs a.context.ranges (map ids_of made)) in
+    apart_from outputs (noted_tables b) (λ t named. all_at (λ t. IsIn t (noted_tables b) → ⊥) outputs t
+    (outputs_all (λ t. IsIn t (noted_tables b) → ⊥) a.context.ranges made (all_from _ (noted_tables a) (λ t old more. apart_at (noted_tables a) (noted_tables b) t two old more))
+    (all_to _ _ (all_of made) (λ p new none. none b found.0) lacks)) named))
+
+ended_job : (who : Caller) (w : LiveWorker) (moment : ℕ) (a : Attempt) (made : List (List (ℕ × List Row))) (again : ℕ → Course (StepEnd FinishedJob)) → Relies who w → IsIn a w.attempts → AreUnnoted w (all_of made)
+    → (new : World) (end : End (StepEnd FinishedJob)) → ((version : ℕ) (old : World) → After who w a (again version) old new end) → (met : World) (got : Records) → met.store.records ≡ Some got → (live : Bool) → is_live got.jobs w.number a ≡ live
+    → After who w a (ends_job moment w a (all_outputs a.context.ranges (map ids_of made)) got live again) (after_call who.line who.party (Plain GetRecords) None met) new end
+ended_job who w moment a made again r there lacks new end tries met got is false live fit lawful run = left_ended who w (λ (report : FinishedJob). report.attempts) (IsOver w a) NotOwner _ new end (λ report e. absurd (cc e)) fit.holds run
+ended_job who w moment a made again r there lacks new end tries met got is true live fit lawful run =
+    call_by (Left who w (λ (report : FinishedJob). report.attempts) (IsOver w a) new end) who w x (λ (s : Store). again_or (records_version s.records) (got.version == records_version s.records)) (after_call who.line who.party (Plain GetRecords) None met) new end r fit lawful run (stops who w a new end x) put
+  where
+    outputs : List (List ℕ)
+    outputs = all_outputs a.context.ranges (map ids_of made)
+
+    u : Unrecorded
+    u = record { moment = moment; published = no_contexts; kept_cut = finish_cut w.release a.context; tables_of = λ spec. [] }
+
+    x : Exchange
+    x = PutsRecords got.version (Finish w.number a.job a.number outputs) got.epoch (jobs_after u (Finish w.number a.job a.number outputs) got.jobs)
+
+    again_or : ℕ → Bool → Course (StepEnd FinishedJob)
+    again_or version b = cond b (Ends (Reports (record { outputs = outputs; attempts = without_attempts (a.job ∷ []) w.attempts }))) (again version)
+
+    put : Made who w x (λ (s : Store). again_or (records_version s.records) (got.version == records_version s.records)) (after_call who.line who.party (Plain GetRecords) None met) new end → Left who w (λ (report : FinishedJob). report.attempts) (IsOver w a) new end
+    put m = by (got.version == records_version m.met.store.records) refl m.further m.run
+      where
+        after : World
+        after = after_call who.line who.party x None m.met
+
+        spares : got.version ≡ records_version m.met.store.records → SparesOwn m.met w (jobs_after u (Finish w.number a.job a.number outputs) got.jobs) (Finish w.number a.job a.number outputs)
+        spares same =
+            let stored : m.met.store.records ≡ Some got = got_records met m.met (Some got) is (later_met who (Plain GetRecords) met met m.met (later_itself met) m.rivals) same in
+            apart_outputs who.merge w m.met a made m.fit.holds there (ap (λ o. is_live (jobs_in o) w.number a) stored ∙ live) lacks
+
+        over : (got.version == records_version m.met.store.records) ≡ true → is_live (stored_jobs after.store) w.number a ≡ false
+        over e =
+            let stored : m.met.store.records ≡ Some got = got_records met m.met (Some got) is (later_met who (Plain GetRecords) met met m.met (later_itself met) m.rivals) ((Decides-eqb got.version (records_version m.met.store.records)).0 e) in
+            let put = ap (λ (world : World). stored_jobs world.store) (put_world who.line who.party m.met got.version (Finish w.number a.job a.number outputs) got.epoch (jobs_after u (Finish w.number a.job a.number outputs) got.jobs) e) in
+            finished_over m.met w a (finished_by w.number u outputs) (stored_jobs after.store) (λ job. refl) (λ job runs. cc runs) (put ∙ ap (λ o. jobs_after u (Finish w.number a.job a.number outputs) (jobs_in o)) (sym stored))
+
+        holds : WorkerHolds who.merge after w
+        holds = own_calls_keep who.merge x who.line who.party m.met w m.fit.kept r.own m.lawful spares m.fit.holds
+
+        by : (b : Bool) → (got.version == records_version m.met.store.records) ≡ b → IsLawfulCourse who after (again_or (records_version m.met.store.records) b) → Runs who (again_or (records_version m.met.store.records) b) after new end → Left who w (λ (report : FinishedJob). report.attempts) (IsOver w a) new end
+        by true e lawful run = left_reported who w (λ (report : FinishedJob). report.attempts) (IsOver w a) (record { outputs = outputs; attempts = without_attempts (a.job ∷ []) w.attempts }) after new end holds
+            (holds_fewer who.merge after w (λ (b : Attempt). not (contains (a.job ∷ []) b.job)) holds) (over e) run
+        by false e lawful run = tries (records_version m.met.store.records) after (record { kept = m.kept; holds = holds }) lawful run
+
+ended_by : (who : Caller) (w : LiveWorker) (moment : ℕ) (a : Attempt) (made : List (List (ℕ × List Row))) (again : ℕ → Course (StepEnd FinishedJob)) → Relies who w → IsIn a w.attempts → AreUnnoted w (all_of made)
+    → (new : World) (end : End (StepEnd FinishedJob)) → ((version : ℕ) (old : World) → After who w a (again version) old new end) → (met : World) (records : Option Records) → met.store.records ≡ records
+    → After who w a (ends_job_by moment w a (all_outputs a.context.ranges (map ids_of made)) records again) (after_call who.line who.party (Plain GetRecords) None met) new end
+ended_by who w moment a made again r there lacks new end tries met None is fit lawful run = left_ended who w (λ (report : FinishedJob). report.attempts) (IsOver w a) NotOwner _ new end (λ report e. absurd (cc e)) fit.holds run
+ended_by who w moment a made again r there lacks new end tries met (Some got) is fit lawful run = ended_job who w moment a made again r there lacks new end tries met got is (is_live got.jobs w.number a) refl fit lawful run
+
+ends : (who : Caller) (w : LiveWorker) (moment : ℕ) (a : Attempt) (made : List (List (ℕ × List Row))) → Relies who w → IsIn a w.attempts → AreUnnoted w (all_of made) → (new : World) (end : End (StepEnd FinishedJob)) → (left seen : ℕ) (old : World)
+    → After who w a (ends_from moment w a (all_outputs a.context.ranges (map ids_of made)) left seen) old new end
+ends who w moment a made r there lacks new end zero seen old fit lawful run = left_ended who w (λ (report : FinishedJob). report.attempts) (IsOver w a) (GivesUp seen) old new end (λ report e. absurd (cc e)) fit.holds run
+ends who w moment a made r there lacks new end (suc left) seen old fit lawful run =
+    call_by (Left who w (λ (report : FinishedJob). report.attempts) (IsOver w a) new end) who w (Plain GetRecords)
+    (λ (s : Store). ends_job_by moment w a (all_outputs a.context.ranges (map ids_of made)) s.records (ends_from moment w a (all_outputs a.context.ranges (map ids_of made)) left)) old new end r fit lawful run (stops who w a new end (Plain GetRecords))
+    (λ m. ended_by who w moment a made (ends_from moment w a (all_outputs a.context.ranges (map ids_of made)) left) r there lacks new end (λ version one. ends who w moment a made r there lacks new end left version one)
+    m.met m.met.store.records refl (fit_got who w m.met r.keep m.fit) m.further m.run)
+
+end_fits : (who : Caller) (w : LiveWorker) (moment : ℕ) (a : Attempt) (made : List (List (ℕ × List Row))) → Relies who w → IsIn a w.attempts → AreUnnoted w (all_of made) → (new : World) (end : End (StepEnd FinishedJob)) (old : World)
+    → After who w a (end_job moment w a (all_outputs a.context.ranges (map ids_of made))) old new end
+unfolding end_job
+end_fits who w moment a made r there lacks new end old fit lawful run = ends who w moment a made r there lacks new end most_refused 0 old fit lawful run
+
+-- ---- the finish
+
+made_fits : (who : Caller) (w : LiveWorker) (start : World) (options : WorkerOptions) (moment : ℕ) (a : Attempt) (refusal : Option (List ℕ)) → Relies who w → IsIn a w.attempts → (new : World) (end : End (StepEnd FinishedJob)) (world : World) → State who w start a [] world
+    → IsLawfulCourse who world (finish_or_give_back who.merge options moment w a refusal start.store.tables) → Runs who (finish_or_give_back who.merge options moment w a refusal start.store.tables) world new end
+    → Left who w (λ (report : FinishedJob). report.attempts) (IsOver w a) new end
+made_fits who w start options moment a (Some message) r there new end world s lawful run =
+    gives_back_left who w (λ (report : FinishedJob). report.attempts) (IsOver w a) a message world new end r (record { kept = s.kept; holds = s.holds }) lawful run
+made_fits who w start options moment a None r there new end world s lawful run =
+    puts_all {A = FinishedJob} (Left who w (λ (report : FinishedJob). report.attempts) (IsOver w a) new end) who w start a moment new end r (stops who w a new end)
+    (map (λ range. cut_tables options.table_size (rows_left who.merge start.store.tables a.context.settings a.sources range).rows) a.context.ranges) [] (λ ids. end_job moment w a (all_outputs a.context.ranges ids))
+    (λ later made state lacks further on. end_fits who w moment a made r there lacks new end later (record { kept = state.kept; holds = state.holds }) further on) world s lawful run
+
+finish_fits : (who : Caller) (w : LiveWorker) (start : World) (options : WorkerOptions) (moment : ℕ) (a : Attempt) (refusal : Option (List ℕ)) → Relies who w → IsIn a w.attempts → (new : World) (end : End (StepEnd FinishedJob)) → State who w start a [] start
+    → IsLawfulCourse who start (finish who.merge start.store.tables options moment w a refusal) → Runs who (finish who.merge start.store.tables options moment w a refusal) start new end → Left who w (λ (report : FinishedJob). report.attempts) (IsOver w a) new end
+unfolding finish
+finish_fits who w start options moment a refusal r there new end s lawful run =
+    gets {A = FinishedJob} (Left who w (λ (report : FinishedJob). report.attempts) (IsOver w a) new end) who w start a (finish_or_give_back who.merge options moment w a refusal start.store.tables) new end r (stops who w a new end)
+    (λ world state further on. made_fits who w start options moment a refusal r there new end world state further on) a.sources start s lawful run
+
+pub finishes_keep_fit : FinishesKeepFit
+finishes_keep_fit who old options moment w a refusal keep operator own kept holds runs whole = (λ new end run. (afterwards new end run).0, λ new report run. (afterwards new (Gives (Reports report)) run).1)
+  where
+    there : IsIn a w.attempts
+    there = found_in w.attempts a.job a runs
+
+    afterwards : (new : World) (end : End (StepEnd FinishedJob)) → Runs who (finish who.merge old.store.tables options moment w a refusal) old new end → Left who w (λ (report : FinishedJob). report.attempts) (IsOver w a) new end
+    afterwards new end run = finish_fits who w old options moment a refusal (record { keep = keep; own = own }) there new end (begins who w old a kept holds there)
+        (finishes_are_lawful who old options moment w a refusal keep operator own kept holds runs whole) run

@@ -1,0 +1,9 @@
+pub mod Fewer
+pub mod OwnCalls
+pub mod After
+pub mod Beats
+pub mod Releases
+pub mod Outputs
+pub mod Refusals
+pub mod Finishes
+pub mod Claims
