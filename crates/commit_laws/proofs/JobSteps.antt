@@ -138,7 +138,7 @@ runs_of_new {trees} {spec} {id} {pieces} {change} c r there =
         run_same e = cc e
     by node name (inr one) = inl (in_runs (names c.s.tree) r (subst (λ n. IsIn n (names c.s.tree)) name (node_in_names c.s.tree node (subst (IsIn node) (sym c.whole) one))))
 
-new_run_ids : {trees : Trees} {spec : JobSpec} {id : ℕ} {pieces : List ℕ} {change : Tree → Tree} (c : RunAt trees spec id pieces change) (r : ℕ) → Rising trees → IsIn r (all_run_ids (map (on_segment spec.segment spec.sources change) trees))
+pub new_run_ids : {trees : Trees} {spec : JobSpec} {id : ℕ} {pieces : List ℕ} {change : Tree → Tree} (c : RunAt trees spec id pieces change) (r : ℕ) → Rising trees → IsIn r (all_run_ids (map (on_segment spec.segment spec.sources change) trees))
     → IsIn r (all_run_ids trees) ⊎ (r ≡ id)
 new_run_ids {trees} {spec} {id} {pieces} {change} c r rise there = by (in_trees_on (λ (s : Segment). run_ids (names s.tree)) r trees spec.segment spec.sources change c.s rise c.there c.same there)
   where
@@ -233,7 +233,7 @@ not_out : (spec : JobSpec) (job : Job) → IsAway spec job → AllByRecursion (�
 not_out spec job away = all_from _ job.spec.sources (λ x one. names_no spec.sources x (λ there.
     names_apart_at (nodes_of spec) (nodes_of job.spec) x away (in_nodes spec.destination spec.sources x there) (in_nodes job.spec.destination job.spec.sources x one)))
 
-runs_left : (out : List NodeName) (tree : Tree) (r : ℕ) → IsIn r (run_ids (names (without_nodes out tree))) → IsIn r (run_ids (names tree))
+pub runs_left : (out : List NodeName) (tree : Tree) (r : ℕ) → IsIn r (run_ids (names (without_nodes out tree))) → IsIn r (run_ids (names tree))
 runs_left out tree r there =
     let found = node_of (without_nodes out tree) (Run r) (run_in (names (without_nodes out tree)) r there) in
     in_runs (names tree) r (subst (λ n. IsIn n (names tree)) found.same (node_in_names tree found.node (in_filtered (λ (node : Node). not (names_contain out node.name)) tree found.node found.there)))

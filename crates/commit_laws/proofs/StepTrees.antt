@@ -74,7 +74,7 @@ on prefix sources change = on_segment prefix sources change
 abbrev pub changed_segment : List NodeName → (Tree → Tree) → Segment → Segment
 changed_segment sources change s = record s { tree = change s.tree; watermark = watermark_after sources s.tree s.watermark }
 
-on_prefix : (prefix : List ℕ) (sources : List NodeName) (change : Tree → Tree) (s : Segment) → (on_segment prefix sources change s).prefix ≡ s.prefix
+pub on_prefix : (prefix : List ℕ) (sources : List NodeName) (change : Tree → Tree) (s : Segment) → (on_segment prefix sources change s).prefix ≡ s.prefix
 on_prefix prefix sources change s = by (bytes_eq prefix s.prefix)
   where
     by : (b : Bool) → (cond b (changed_segment sources change s) s).prefix ≡ s.prefix
@@ -120,7 +120,7 @@ each_on P Q trees prefix sources change s rise there same new keep h = go trees 
     go [] sub h = tt
     go (x ∷ xs) sub h = (by x (sub x (inl refl)) h.0 (bytes_eq prefix x.prefix) refl, go xs (λ y one. sub y (inr one)) h.1)
 
-pairs_on : (R : Segment → Segment → Type 0) (trees : Trees) (prefix : List ℕ) (sources : List NodeName) (change : Tree → Tree) (s : Segment) → Rising trees → IsIn s trees → prefix ≡ s.prefix
+pub pairs_on : (R : Segment → Segment → Type 0) (trees : Trees) (prefix : List ℕ) (sources : List NodeName) (change : Tree → Tree) (s : Segment) → Rising trees → IsIn s trees → prefix ≡ s.prefix
     → ((y : Segment) → IsIn y trees → R s y → R (changed_segment sources change s) y) → ((y : Segment) → IsIn y trees → R y s → R y (changed_segment sources change s))
     → Pairs R trees → Pairs R (map (on_segment prefix sources change) trees)
 pairs_on R trees prefix sources change s rise there same first second h =

@@ -12,9 +12,10 @@ use Rattle.step_model.specs.Rivals.{Caller, after_call}
 use Rattle.step_model.specs.Keeps.{Keeps}
 use Rattle.step_model.specs.Fits.{CoordinatorHolds}
 use Rattle.step_model.specs.Course.{Course, Ends, Calls}
+use Rattle.step_model.specs.Tries.{tries}
 use Rattle.step_model.specs.CourseRuns.{End, Gives, MeetsFault, LacksMemory, HasRoom, StopsAt, Runs, IsLawfulCourse}
 use Rattle.step_model.specs.StepEnds.{StepEnd, Reports, GivesUp, Fenced, most_refused}
-use Rattle.step_model.specs.PollSteps.{start, starts_from, epoch_above, holds_at_start, unless_fenced}
+use Rattle.step_model.specs.PollSteps.{start, start_try, epoch_above, holds_at_start, unless_fenced}
 use Rattle.step_model.specs.PollSteps as step
 use Rattle.step_laws.specs.Runs.{CallsKeep}
 use Rattle.step_laws.proofs.Runs.{rivals_keep, struck_has_room}
@@ -36,7 +37,7 @@ stop_epoch who e x met new MeetsFault lawful own stops =
 stop_epoch who e x met new LacksMemory lawful own stops = subst (HasEpoch who.party e) stops own
 
 -- A run of a lawful course keeps what the coordinator put.
-runs_epoch : {A : Type 0} (who : Caller) (e : ℕ) (course : Course A) → CallsKeep who.merge → (old new : World) (end : End A) → Keeps who.merge old → HasEpoch who.party e old → IsLawfulCourse who old course → Runs who course old new end → HasEpoch who.party e new
+pub runs_epoch : {A : Type 0} (who : Caller) (e : ℕ) (course : Course A) → CallsKeep who.merge → (old new : World) (end : End A) → Keeps who.merge old → HasEpoch who.party e old → IsLawfulCourse who old course → Runs who course old new end → HasEpoch who.party e new
 runs_epoch who e (Ends answer) keep old new end kept own lawful run = subst (HasEpoch who.party e) run.0 own
 runs_epoch who e (Calls x next) keep old new end kept own lawful (met, (rivals, inl stops)) =
     stop_epoch who e x met new end (λ room. (lawful met rivals room).0) (rivals_after who e old met keep kept own rivals).own stops
@@ -46,7 +47,7 @@ runs_epoch who e (Calls x next) keep old new end kept own lawful (met, (rivals, 
     runs_epoch who e (next met.store) keep _ new end (keeps_after who x met keep a.kept one.0) (epoch_call who e who.line who.party x None met one.0 tt a.own).0 one.1 run
 
 -- What a coordinator without a local state holds.
-holds_none : (who : Caller) (world : World) (number e : ℕ) → who.party ≡ Coordinator number → 0 < e → HasEpoch who.party e world → CoordinatorHolds world (record { number = number; epoch = e }) None
+pub holds_none : (who : Caller) (world : World) (number e : ℕ) → who.party ≡ Coordinator number → 0 < e → HasEpoch who.party e world → CoordinatorHolds world (record { number = number; epoch = e }) None
 holds_none who world number e by counted own = record {
   counted = counted;
   put = subst (λ party. IsTrue (did_put_epoch party world.store.history e)) by own.put;
@@ -98,9 +99,9 @@ holds_run who e epoch old new keep kept own counted (m, (before, inr (room, (r, 
 
 -- The run after a put of the records.
 after_records : (who : Caller) (number e epoch left : ℕ) (records : Option Records) (q new : World) → CallsKeep who.merge → who.party ≡ Coordinator number → Keeps who.merge q → IsTrue (did_put_epoch who.party q.store.history e) → 0 < e
-    → ((world : World) → Keeps who.merge world → Runs who (starts_from left (records_version q.store.records)) world new (Gives (Reports epoch)) → HasEpoch who.party epoch new × (0 < epoch))
+    → ((world : World) → Keeps who.merge world → Runs who (tries start_try left (records_version q.store.records)) world new (Gives (Reports epoch)) → HasEpoch who.party epoch new × (0 < epoch))
     → Lawful who.merge who.party q (PutsRecords (records_version records) (RecordsEpoch e) e (trimmed_jobs (jobs_in records))) → (b : Bool) → (records_version records == records_version q.store.records) ≡ b
-    → Runs who (cond b (holds_at_start e) (starts_from left (records_version q.store.records))) (after_call who.line who.party (PutsRecords (records_version records) (RecordsEpoch e) e (trimmed_jobs (jobs_in records))) None q) new (Gives (Reports epoch))
+    → Runs who (cond b (holds_at_start e) (tries start_try left (records_version q.store.records))) (after_call who.line who.party (PutsRecords (records_version records) (RecordsEpoch e) e (trimmed_jobs (jobs_in records))) None q) new (Gives (Reports epoch))
     → HasEpoch who.party epoch new × (0 < epoch)
 after_records who number e epoch left records q new keep by kept put counted again lawful true equal run =
     let x = PutsRecords (records_version records) (RecordsEpoch e) e (trimmed_jobs (jobs_in records)) in
@@ -112,12 +113,12 @@ after_records who number e epoch left records q new keep by kept put counted aga
 
 -- The run after a put of the manifest.
 after_manifest : (who : Caller) (number epoch left : ℕ) (m r p new : World) → CallsKeep who.merge → who.party ≡ Coordinator number → Keeps who.merge p
-    → ((seen : ℕ) (world : World) → Keeps who.merge world → Runs who (starts_from left seen) world new (Gives (Reports epoch)) → HasEpoch who.party epoch new × (0 < epoch))
+    → ((seen : ℕ) (world : World) → Keeps who.merge world → Runs who (tries start_try left seen) world new (Gives (Reports epoch)) → HasEpoch who.party epoch new × (0 < epoch))
     → let e = epoch_above m.store.manifest r.store.records in
     let x = PutsManifest m.store.manifest.version (ManifestEpoch e) (record m.store.manifest { epoch = e }) in
     Lawful who.merge who.party p x → (b : Bool) → (m.store.manifest.version == p.store.manifest.version) ≡ b
-    → IsLawfulCourse who (after_call who.line who.party x None p) (cond b (step.puts_epoch r.store.records e (holds_at_start e) (starts_from left)) (starts_from left p.store.manifest.version))
-    → Runs who (cond b (step.puts_epoch r.store.records e (holds_at_start e) (starts_from left)) (starts_from left p.store.manifest.version)) (after_call who.line who.party x None p) new (Gives (Reports epoch)) → HasEpoch who.party epoch new × (0 < epoch)
+    → IsLawfulCourse who (after_call who.line who.party x None p) (cond b (step.puts_epoch r.store.records e (holds_at_start e) (tries start_try left)) (tries start_try left p.store.manifest.version))
+    → Runs who (cond b (step.puts_epoch r.store.records e (holds_at_start e) (tries start_try left)) (tries start_try left p.store.manifest.version)) (after_call who.line who.party x None p) new (Gives (Reports epoch)) → HasEpoch who.party epoch new × (0 < epoch)
 after_manifest who number epoch left m r p new keep by kept again lawful true equal further (q, (rivals, inl stops)) = absurd stops
 after_manifest who number epoch left m r p new keep by kept again lawful true equal further (q, (rivals, inr (room, run))) =
     let e = epoch_above m.store.manifest r.store.records in
@@ -131,7 +132,7 @@ after_manifest who number epoch left m r p new keep by kept again lawful false o
     let e = epoch_above m.store.manifest r.store.records in
     again p.store.manifest.version _ (keeps_after who (PutsManifest m.store.manifest.version (ManifestEpoch e) (record m.store.manifest { epoch = e })) p keep kept lawful) run
 
-start_runs : (who : Caller) (number epoch : ℕ) (new : World) → CallsKeep who.merge → who.party ≡ Coordinator number → (left seen : ℕ) (old : World) → Keeps who.merge old → Runs who (starts_from left seen) old new (Gives (Reports epoch)) → HasEpoch who.party epoch new × (0 < epoch)
+start_runs : (who : Caller) (number epoch : ℕ) (new : World) → CallsKeep who.merge → who.party ≡ Coordinator number → (left seen : ℕ) (old : World) → Keeps who.merge old → Runs who (tries start_try left seen) old new (Gives (Reports epoch)) → HasEpoch who.party epoch new × (0 < epoch)
 start_runs who number epoch new keep by zero seen old kept run = absurd (never run.1)
   where
     never : ◌≡◌ {A = StepEnd ℕ} (GivesUp seen) (Reports epoch) → ⊥

@@ -25,8 +25,9 @@ use Rattle.step_model.specs.LawfulManifests.{cut_of, MayCommit, CommitFits, IsKn
 use Rattle.step_model.specs.Rivals.{Caller, Rivals, after_call}
 use Rattle.step_model.specs.Keeps.{Keeps}
 use Rattle.step_model.specs.CourseRuns.{IsLawfulCourse}
+use Rattle.step_model.specs.Tries.{counted_tries, tries}
 use Rattle.step_model.specs.Course.{Course, Ends, Calls, draws_jobs, puts_manifest}
-use Rattle.step_model.specs.PollSteps.{PollAsk, poll, polls_from, polls_over, puts_trees, puts_polled, input_of, first_steps, last_steps, proposed_specs, is_unchanged, same_tree, records_or_none, unless_fenced}
+use Rattle.step_model.specs.PollSteps.{PollAsk, poll, poll_try, polls_over, puts_trees, puts_polled, input_of, first_steps, last_steps, proposed_specs, is_unchanged, same_tree, records_or_none, unless_fenced}
 use Rattle.step_model.specs.StepEnds.{StepEnd, Fenced, most_refused}
 use Rattle.step_laws.specs.Runs.{CallsKeep}
 use Rattle.step_laws.proofs.Elements.{IsIn, all_at, all_from, all_to}
@@ -75,7 +76,7 @@ fresh_added party world drawn p a fresh = record {
 
 -- ---- the puts after the draws
 
--- What a poll reached, judged by what is world at this time.
+-- What a poll reached, judged by the world at this time.
 reached_at : (who : Caller) (e : ℕ) (m r h : World) (got : Records) (ask : PollAsk) (drawn : List (ℕ × JobSpec)) → IsLawful who.merge → Got who e m r got → Ready who e m r h → AreFresh who.party h drawn → records_epoch h.store.records ≤ e
     → let input = input_of ask r.store.tables m.store.manifest got in
     Reached who.party h input got.jobs drawn (own_specs got.jobs drawn) m.store.manifest.trees m.store.manifest.horizon (last_steps ask input drawn (first_steps ask input))
@@ -393,11 +394,11 @@ manifest_lawful who ask m left seen again keep lawful counted kept own tries = b
               r.store.records refl,
         )
 
-polls : (who : Caller) (ask : PollAsk) → CallsKeep who.merge → IsLawful who.merge → 0 < ask.epoch → (left seen : ℕ) (world : World) → Keeps who.merge world → HasEpoch who.party ask.epoch world → IsLawfulCourse who world (polls_from ask left seen)
+polls : (who : Caller) (ask : PollAsk) → CallsKeep who.merge → IsLawful who.merge → 0 < ask.epoch → (left seen : ℕ) (world : World) → Keeps who.merge world → HasEpoch who.party ask.epoch world → IsLawfulCourse who world (counted_tries (poll_try ask) left seen)
 polls who ask keep lawful counted zero seen world kept own = tt
 polls who ask keep lawful counted (suc left) seen world kept own = λ m rivals room.
     let a = rivals_after who ask.epoch world m keep kept own rivals in
-    (tt, manifest_lawful who ask m (suc left) seen (polls_from ask left) keep lawful counted a.kept a.own (λ seen next there mine. polls who ask keep lawful counted left seen next there mine))
+    (tt, manifest_lawful who ask m (suc left) seen (counted_tries (poll_try ask) left) keep lawful counted a.kept a.own (λ seen next there mine. polls who ask keep lawful counted left seen next there mine))
 
 pub polls_are_lawful : PollsAreLawful
 unfolding poll

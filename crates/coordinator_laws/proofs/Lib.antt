@@ -19,5 +19,8 @@ pub mod HeldJobs
 pub mod Keeping
 pub mod Reports
 pub mod Coordinators
+pub mod Loops
 pub mod PollRuns
+pub mod PollSays
+pub mod PollReports
 pub mod GotObjects

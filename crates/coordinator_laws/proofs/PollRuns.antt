@@ -22,9 +22,10 @@ use Rattle.step_model.specs.Rivals.{Caller, after_call}
 use Rattle.step_model.specs.Keeps.{Keeps}
 use Rattle.step_model.specs.Fits.{CoordinatorHolds}
 use Rattle.step_model.specs.Course.{Course, Ends, Calls, draws_jobs, gets_records, puts_records, puts_manifest}
+use Rattle.step_model.specs.Tries.{counted_tries, tries}
 use Rattle.step_model.specs.CourseRuns.{Gives, Runs}
 use Rattle.step_model.specs.StepEnds.{StepEnd, Reports, GivesUp, Fenced, most_refused}
-use Rattle.step_model.specs.PollSteps.{PollAsk, poll, polls_from, polls_over, puts_trees, puts_polled, input_of, first_steps, last_steps, proposed_specs, is_unchanged, records_or_none, unless_fenced, merged_into}
+use Rattle.step_model.specs.PollSteps.{PollAsk, poll, poll_try, polls_over, puts_trees, puts_polled, input_of, first_steps, last_steps, proposed_specs, is_unchanged, records_or_none, unless_fenced, merged_into}
 use Rattle.step_laws.specs.Runs.{CallsKeep}
 use Rattle.step_laws.proofs.Elements.{IsIn, all_from}
 use Rattle.step_laws.proofs.Changed.{found_job, in_trimmed}
@@ -281,12 +282,12 @@ manifest_run w m left seen again kept own older tries run = by (nat_lt w.ask.epo
 
 -- ---- all tries
 
-polls_run : (w : Walk) (left : ℕ) → Tries w (polls_from w.ask left)
+polls_run : (w : Walk) (left : ℕ) → Tries w (counted_tries (poll_try w.ask) left)
 polls_run w zero seen world kept own older run = absurd (never_gives_up w seen world run)
 polls_run w (suc left) seen world kept own older (m, (rivals, inl stops)) = absurd stops
 polls_run w (suc left) seen world kept own older (m, (rivals, inr (room, run))) =
     let a = rivals_after w.who w.ask.epoch world m w.keep kept own rivals in
-    manifest_run w m (suc left) seen (polls_from w.ask left) a.kept a.own (older_met w.who world m (coordinator w) w.before w.keep w.by kept rivals older) (polls_run w left) run
+    manifest_run w m (suc left) seen (counted_tries (poll_try w.ask) left) a.kept a.own (older_met w.who world m (coordinator w) w.before w.keep w.by kept rivals older) (polls_run w left) run
 
 -- After a poll that reports.
 poll_after : (who : Caller) (old new : World) (number : ℕ) (ask : PollAsk) (before : Option Local) (p : PollState) → IsLawful who.merge → who.party ≡ Coordinator number → Keeps who.merge old

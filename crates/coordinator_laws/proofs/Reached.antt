@@ -68,7 +68,7 @@ joined_push (first ∷ steps) step joined = joined_push steps step (joined_after
 
 -- ---- what a poll may rely on
 
--- What is world as the poll puts the manifest, with the jobs that it got and the ids that it drew. Jobs that it may end are stored as it got
+-- The world as the poll puts the manifest, with the jobs that it got and the ids that it drew. Jobs that it may end are stored as it got
 -- them. Stored jobs that hold nodes held them as it got them. The trees that it starts from have what is kept in the midst of a commit.
 pub record Case (merge : Operator) (party : Party) (h : World) (input : PollInput) (got : Jobs) (drawn : List (ℕ × JobSpec)) (start : Trees) : Type 0 where
   pub lawful : IsLawful merge

@@ -184,7 +184,7 @@ add_one {got = got} {drawn = drawn} {own = own} {p = p} c specs s none q there n
     other job same (inl found) = new found.0 found.1.0 (same ∙ ap (λ (j : Job). j.id) (sym found.1.1))
     other job same (inr one) = c.new_ids q job there one same
 
-in_pushed : {A : Type 0} (xs : List A) (x y : A) → IsIn y (xs ++ x ∷ []) → IsIn y xs ⊎ (x ≡ y)
+pub in_pushed : {A : Type 0} (xs : List A) (x y : A) → IsIn y (xs ++ x ∷ []) → IsIn y xs ⊎ (x ≡ y)
 in_pushed [] x y (inl same) = inr same
 in_pushed [] x y (inr never) = absurd never
 in_pushed (z ∷ xs) x y (inl same) = inl (inl same)
@@ -340,7 +340,7 @@ adds_drawn drawn place (q ∷ rest) p h those once new = by (list_any (clashes q
         at x a there (inl one) same = new x a (inr there) one same
         at x a there (inr is) same = all_at (λ (y : ℕ × JobSpec). q.0 ≢ y.0) rest x once.0 there (ap (λ (y : ℕ × JobSpec). y.0) is ∙ sym same)
 
-opened_added : (input : PollInput) (jobs : Jobs) (p : PollState) → (each (open_job input) jobs p).added ≡ p.added
+pub opened_added : (input : PollInput) (jobs : Jobs) (p : PollState) → (each (open_job input) jobs p).added ≡ p.added
 opened_added input [] p = refl
 opened_added input (job ∷ jobs) p = opened_added input jobs (open_job input job p) ∙ by (submit_gate p.trees p.jobs (lost_to_scheduler p.lost) (accepts input p) job)
   where

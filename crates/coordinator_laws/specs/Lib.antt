@@ -1,4 +1,7 @@
 pub mod Polls
+pub mod PollSays
+pub mod PollReports
 pub mod Coordinators
 pub mod Locals
 pub mod Merges
+pub mod Loops

@@ -4,7 +4,9 @@
 
 ghost use Rattle.coordinator_laws.specs.Coordinators.{PollsFit, StartsFit};
 ghost use Rattle.coordinator_laws.specs.Locals.{FinishedJobsMayDiffer, PollsFitLocally};
+ghost use Rattle.coordinator_laws.specs.Loops.{LoopsFit};
 ghost use Rattle.coordinator_laws.specs.Merges.{GotObjectsMerge, LooksKeepFit, MergedJobsAreStored};
+ghost use Rattle.coordinator_laws.specs.PollReports.{PollsReport};
 ghost use Rattle.coordinator_laws.specs.Polls.{PollsAreLawful};
 
 /// A poll of a coordinator that fits is a lawful course under a lawful operator. Each of its calls is
@@ -47,7 +49,7 @@ pub fn got_objects_merge()
 {}
 
 /// Jobs that merge so have the stored job of each id or, if none is stored, the local one. So what a
-/// coordinator has after a merge is world id by id.
+/// coordinator has after a merge are told apart by id.
 pub fn merged_jobs_are_stored()
     ensures { MergedJobsAreStored }
 {}
@@ -56,4 +58,19 @@ pub fn merged_jobs_are_stored()
 /// fault strikes it or not. So the coordinator's own gets and draws and its refused puts keep it.
 pub fn looks_keep_fit()
     ensures { LooksKeepFit }
+{}
+
+/// Under a lawful operator, a poll that reports freed, committed, failed, added, dropped, opened,
+/// moved, drained and refused exactly the jobs of its rules, by the objects that its last try got.
+/// It put one commit if it changed the trees or the horizon, and each commit of a job put one run
+/// of the job's rows in place of its sources. If newer records came in between, it adopted their
+/// jobs.
+pub fn polls_report()
+    ensures { PollsReport }
+{}
+
+/// Under a lawful operator, the loop of a coordinator that fits is a lawful course, and the
+/// coordinator fits after it, however many turns it takes and however it ends.
+pub fn loops_fit()
+    ensures { LoopsFit }
 {}

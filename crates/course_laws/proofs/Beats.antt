@@ -24,7 +24,8 @@ use Rattle.step_model.specs.Fits.{noted_tables, WorkerHolds}
 use Rattle.step_model.specs.Rivals.{Caller, Rivals, after_call}
 use Rattle.step_model.specs.Keeps.{Keeps}
 use Rattle.step_model.specs.CourseRuns.{IsLawfulCourse}
-use Rattle.step_model.specs.BeatSteps.{Beaten, context_of, published_by, beat_report, beat_of, beat_by, beats_from, heartbeat}
+use Rattle.step_model.specs.Tries.{tries}
+use Rattle.step_model.specs.BeatSteps.{Beaten, context_of, published_by, beat_report, beat_of, beat_by, beat_try, heartbeat}
 use Rattle.step_model.specs.StepEnds.{StepEnd, Reports, most_refused}
 use Rattle.step_model.specs.Course.{Course, Ends}
 use Rattle.step_laws.specs.Runs.{CallsKeep}
@@ -161,15 +162,15 @@ over : (who : Caller) (w : LiveWorker) (moment : ℕ) (again : ℕ → Course (S
 over who w moment again keep stay by tries met None fit is = tt
 over who w moment again keep stay by tries met (Some got) fit is = those who w moment again keep stay by tries met got (live_attempts got.jobs w) fit is refl
 
-beats : (who : Caller) (w : LiveWorker) (moment : ℕ) → CallsKeep who.merge → RivalsKeepWorker who w → who.party ≡ Worker w.number → (left seen : ℕ) (world : World) → Fit who w world → IsLawfulCourse who world (beats_from moment w left seen)
+beats : (who : Caller) (w : LiveWorker) (moment : ℕ) → CallsKeep who.merge → RivalsKeepWorker who w → who.party ≡ Worker w.number → (left seen : ℕ) (world : World) → Fit who w world → IsLawfulCourse who world (tries (beat_try moment w) left seen)
 beats who w moment keep stay by zero seen world fit = tt
 beats who w moment keep stay by (suc left) seen world fit = λ met rivals room.
-    (tt, over who w moment (beats_from moment w left) keep stay by (λ version next there. beats who w moment keep stay by left version next there) met met.store.records (fit_met who w world met keep stay fit rivals) refl)
+    (tt, over who w moment (tries (beat_try moment w) left) keep stay by (λ version next there. beats who w moment keep stay by left version next there) met met.store.records (fit_met who w world met keep stay fit rivals) refl)
 
 pub beats_are_lawful : BeatsAreLawful
 unfolding heartbeat
 beats_are_lawful who world moment w keep by kept holds = at (is_nonempty w.attempts)
   where
-    at : (b : Bool) → IsLawfulCourse who world (cond b (beats_from moment w most_refused 0) (Ends (Reports (beat_report w []))))
+    at : (b : Bool) → IsLawfulCourse who world (cond b (tries (beat_try moment w) most_refused 0) (Ends (Reports (beat_report w []))))
     at true = beats who w moment keep (rivals_keep_worker who w keep by) by most_refused 0 world (record { kept = kept; holds = holds })
     at false = tt

@@ -19,7 +19,8 @@ use Rattle.step_model.specs.LawfulRecords.{OfSome, ClaimFits}
 use Rattle.step_model.specs.Rivals.{Caller, after_call}
 use Rattle.step_model.specs.Keeps.{Keeps}
 use Rattle.step_model.specs.CourseRuns.{IsLawfulCourse}
-use Rattle.step_model.specs.ClaimSteps.{WorkerOptions, Claimed, at_moment, can_start, plan_of, starts_claimed, claim_of, claim_by, claims_from, claim}
+use Rattle.step_model.specs.Tries.{tries}
+use Rattle.step_model.specs.ClaimSteps.{WorkerOptions, Claimed, at_moment, can_start, plan_of, starts_claimed, claim_of, claim_by, claim_try, claim}
 use Rattle.step_model.specs.StepEnds.{StepEnd, most_refused}
 use Rattle.step_model.specs.Course.{Course, Calls}
 use Rattle.step_laws.specs.Runs.{CallsKeep}
@@ -159,10 +160,10 @@ over who options moment w again keep by tries met (Some got) kept is =
     (chosen options.slots w got.jobs (subst (λ r. Pairs (λ a b. a.id < b.id) (jobs_in r)) is kept.stored.sound.job_ids))
 
 claim_tries : (who : Caller) (options : WorkerOptions) (moment : ℕ) (w : LiveWorker) → CallsKeep who.merge → who.party ≡ Worker w.number → (left seen : ℕ) (world : World) → Keeps who.merge world
-    → IsLawfulCourse who world (claims_from options moment w left seen)
+    → IsLawfulCourse who world (tries (claim_try options moment w) left seen)
 claim_tries who options moment w keep by zero seen world kept = tt
 claim_tries who options moment w keep by (suc left) seen world kept = λ met rivals room.
-    (tt, over who options moment w (claims_from options moment w left) keep by (λ version next there. claim_tries who options moment w keep by left version next there) met met.store.records (rivals_keep who world met keep kept rivals) refl)
+    (tt, over who options moment w (tries (claim_try options moment w) left) keep by (λ version next there. claim_tries who options moment w keep by left version next there) met met.store.records (rivals_keep who world met keep kept rivals) refl)
 
 pub claims_are_lawful : ClaimsAreLawful
 unfolding claim

@@ -1,6 +1,6 @@
 -- A finish of a worker that fits is a lawful course.
 use Rattle.std.proofs.Common.{◌≡◌, ◌≢◌, refl, sym, ◌∙◌, ap, subst, ℕ, zero, suc, List, [], ◌∷◌, ◌++◌, cond, Bool, true, false, inr, Option, Some, None, drop, length, arith}
-use Rattle.std.specs.Prelude.{IsTrue, IfSome, ◌==◌, map, flat_map}
+use Rattle.std.specs.Prelude.{IsTrue, IfSome, ◌==◌, map, flat_map, ⊤}
 use Rattle.std.specs.List.{AllByRecursion, concat}
 use Rattle.std.specs.List.Sorted.{IsStrictlySortedBy}
 use Rattle.std.specs.declared.cmp.Ordering.TheVariants.{Less}
@@ -36,7 +36,8 @@ use Rattle.step_model.specs.Fits.{AttemptHeld, noted_tables, WorkerHolds}
 use Rattle.step_model.specs.Rivals.{Caller, after_call}
 use Rattle.step_model.specs.Keeps.{Keeps}
 use Rattle.step_model.specs.ClaimSteps.{WorkerOptions}
-use Rattle.step_model.specs.OutputSteps.{gets_tables, FinishedJob, all_outputs, ends_job, ends_job_by, ends_from, end_job, finish_or_give_back, finish}
+use Rattle.step_model.specs.Tries.{tries}
+use Rattle.step_model.specs.OutputSteps.{gets_tables, FinishedJob, all_outputs, ends_job, ends_job_by, end_try, end_job, finish_or_give_back, finish}
 use Rattle.step_model.specs.StepEnds.{StepEnd, Reports, most_refused}
 use Rattle.step_model.specs.Course.{Course, Ends, calls_each}
 use Rattle.step_model.specs.CourseRuns.{IsLawfulCourse}
@@ -103,23 +104,35 @@ made_rows tables (p ∷ made) same =
     let rest = made_rows tables made same.1 in
     λ i. first i ++ rest i
 
+-- The tables that were made for each range have the rows that were left of it.
+abbrev pub AreLeft : (Range × List ℕ → List Row) → List (Range × List ℕ) → List (List (ℕ × List Row)) → Type 0
+AreLeft left [] made = ⊤
+AreLeft left (r ∷ ranges) [] = ⊥
+AreLeft left (r ∷ ranges) (ps ∷ made) = (flat_map (λ table. table) (tables_of ps) ≡ left r) × AreLeft left ranges made
+
+-- Tables that were cut of the rows that were left have these rows.
+cut_left : (size : ℕ) (left : Range × List ℕ → List Row) (ranges : List (Range × List ℕ)) (made : List (List (ℕ × List Row))) → map tables_of made ≡ map (λ range. cut_tables size (left range)) ranges → AreLeft left ranges made
+cut_left size left [] made e = tt
+cut_left size left (r ∷ ranges) [] e = absurd (cc e)
+cut_left size left (r ∷ ranges) (ps ∷ made) e =
+    let cut : tables_of ps ≡ cut_tables size (left r) = cc e in
+    let further : map tables_of made ≡ map (λ (range : Range × List ℕ). cut_tables size (left range)) ranges = cc e in
+    (ap (flat_map (λ (table : List Row). table)) cut ∙ (tables_have_all size (left r)).all, cut_left size left ranges made further)
+
 -- The rows of all outputs are those that the ranges make.
-output_rows : (now then : Tables) (size : ℕ) (all : Range → List Row) (ranges : List (Range × List ℕ)) (made : List (List (ℕ × List Row)))
+output_rows : (now then : Tables) (all : Range → List Row) (ranges : List (Range × List ℕ)) (made : List (List (ℕ × List Row)))
     → AllByRecursion (λ range. AllByRecursion (λ id. table_rows now id ≡ table_rows then id) range.1) ranges → AllByRecursion (λ ps. AllByRecursion (λ p. table_rows now p.0 ≡ p.1) ps) made
-    → map tables_of made ≡ map (λ (range : Range × List ℕ). cut_tables size (drop (length (noted_rows then range.1)) (all range.0))) ranges
+    → AreLeft (λ range. drop (length (noted_rows then range.1)) (all range.0)) ranges made
     → AllByRecursion (λ range. IsPrefixOf (noted_rows then range.1) (all range.0)) ranges
     → noted_rows now (concat (all_outputs ranges (map ids_of made))) ≡ flat_map all (map (λ range. range.0) ranges)
-output_rows now then size all [] made old new e prefix = refl
-output_rows now then size all (r ∷ ranges) [] old new e prefix = absurd (cc e)
-output_rows now then size all (r ∷ ranges) (ps ∷ made) old new e prefix =
+output_rows now then all [] made old new e prefix = refl
+output_rows now then all (r ∷ ranges) [] old new e prefix = absurd e
+output_rows now then all (r ∷ ranges) (ps ∷ made) old new e prefix =
     let noted : noted_rows now r.1 ≡ noted_rows then r.1 = flat_same (table_rows now) (table_rows then) r.1 old.0 in
-    let cut : tables_of ps ≡ cut_tables size (drop (length (noted_rows then r.1)) (all r.0)) = cc e in
-    let further : map tables_of made ≡ map (λ (range : Range × List ℕ). cut_tables size (drop (length (noted_rows then range.1)) (all range.0))) ranges = cc e in
-    let left : noted_rows now (ids_of ps) ≡ drop (length (noted_rows then r.1)) (all r.0) =
-    made_rows now ps new.0 ∙ ap (flat_map (λ (table : List Row). table)) cut ∙ (tables_have_all size (drop (length (noted_rows then r.1)) (all r.0))).all in
+    let left : noted_rows now (ids_of ps) ≡ drop (length (noted_rows then r.1)) (all r.0) = made_rows now ps new.0 ∙ e.0 in
     let first : noted_rows now (r.1 ++ ids_of ps) ≡ all r.0 =
     flat_append (table_rows now) r.1 (ids_of ps) ∙ (λ i. noted i ++ left i) ∙ prefix_whole (noted_rows then r.1) (all r.0) prefix.0 in
-    let rest = output_rows now then size all ranges made old.1 new.1 further prefix.1 in
+    let rest = output_rows now then all ranges made old.1 new.1 e.1 prefix.1 in
     flat_append (table_rows now) (r.1 ++ ids_of ps) (concat (all_outputs ranges (map ids_of made))) ∙ (λ i. first i ++ rest i)
 
 pub outputs_all : (P : ℕ → Type 0) (ranges : List (Range × List ℕ)) (made : List (List (ℕ × List Row))) → AllByRecursion P (flat_map (λ range. range.1) ranges) → AllByRecursion (λ p. P p.0) (all_of made)
@@ -133,7 +146,7 @@ outputs_all P (r ∷ ranges) (ps ∷ made) old new =
 -- ---- what the finish begins with
 
 -- At the start the worker fits, and all ranges of its attempt are whole.
-record Begins (who : Caller) (w : LiveWorker) (start : World) (a : Attempt) : Type 0 where
+pub record Begins (who : Caller) (w : LiveWorker) (start : World) (a : Attempt) : Type 0 where
   by : who.party ≡ Worker w.number
   there : IsIn a w.attempts
   ordered : IsStrictlyOrdered (source_rows start.store.tables a.sources)
@@ -148,6 +161,10 @@ range_made who start a range = (range_rows who.merge start.store.tables a.contex
 abbrev pieces_of : Caller → World → WorkerOptions → Attempt → List (List (List Row))
 pieces_of who start options a = map (λ range. cut_tables options.table_size (rows_left who.merge start.store.tables a.context.settings a.sources range).rows) a.context.ranges
 
+-- The rows that were left of a range at the start.
+abbrev pub left_of : Caller → World → Attempt → Range × List ℕ → List Row
+left_of who start a range = (rows_left who.merge start.store.tables a.context.settings a.sources range).rows
+
 -- The change that ends the job depends on this.
 abbrev end_unrecorded : ℕ → LiveWorker → Attempt → Unrecorded
 end_unrecorded moment w a = record { moment = moment; published = no_contexts; kept_cut = finish_cut w.release a.context; tables_of = λ spec. [] }
@@ -158,17 +175,17 @@ cut_kept : (release : Release) (c : Context) → c.has_cut ≡ knows_cut release
 cut_kept One c has fits = fits has
 cut_kept Two c has fits = refl
 
-rows_at : (who : Caller) (w : LiveWorker) (start now : World) (options : WorkerOptions) (a : Attempt) (made : List (List (ℕ × List Row))) (job : Job) (specs : ℕ → JobSpec) → Begins who w start a → map tables_of made ≡ pieces_of who start options a
+rows_at : (who : Caller) (w : LiveWorker) (start now : World) (a : Attempt) (made : List (List (ℕ × List Row))) (job : Job) (specs : ℕ → JobSpec) → Begins who w start a → AreLeft (left_of who start a) a.context.ranges made
     → State who w start a (all_of made) now → AttemptFits who.merge now.store specs job a
     → job_rows who.merge a.context.settings (source_rows now.store.tables job.source_tables) ≡ record { rows = noted_rows now.store.tables (concat (all_outputs a.context.ranges (map ids_of made))); whole = true }
-rows_at who w start now options a made job specs b e s one =
+rows_at who w start now a made job specs b e s one =
     let plan = plans_cover one.context.ranges.0 (map (table_rows now.store.tables) job.source_tables) in
     let cut : map (λ (range : Range × List ℕ). range.0) a.context.ranges ≡ ranges_between Unbounded plan.edges = one.context.ranges.1 ∙ plan.are in
     let same = all_to _ (λ id. table_rows now.store.tables id ≡ table_rows start.store.tables id) (attempt_tables a) (λ id there h. h.same) s.old in
     let sources : source_rows now.store.tables job.source_tables ≡ source_rows start.store.tables a.sources =
     ap (source_rows now.store.tables) (sym one.sources) ∙ ap sorted_rows (flat_same (table_rows now.store.tables) (table_rows start.store.tables) a.sources (all_front _ a.sources _ same)) in
     let whole = all_map (λ range. (range_rows who.merge start.store.tables a.context.settings a.sources range).whole ≡ true) (λ (range : Range × List ℕ). range.0) a.context.ranges b.whole in
-    let rows = output_rows now.store.tables start.store.tables options.table_size (range_made who start a) a.context.ranges made
+    let rows = output_rows now.store.tables start.store.tables (range_made who start a) a.context.ranges made
     (all_unflat _ (λ (range : Range × List ℕ). range.1) a.context.ranges (all_back _ a.sources _ same))
     (all_unflat _ (λ (tables : List (ℕ × List Row)). tables) made (all_to _ _ (all_of made) (λ p there h. h.1.same) s.made)) e b.prefix in
     ap (job_rows who.merge a.context.settings) sources
@@ -176,12 +193,12 @@ rows_at who w start now options a made job specs b e s one =
     (subst (AllByRecursion (λ range. (range_rows who.merge start.store.tables a.context.settings a.sources range).whole ≡ true)) cut whole)
     ∙ ap (λ rows. record { rows = rows; whole = true }) (ap (flat_map (range_made who start a)) (sym cut) ∙ sym rows)
 
-finishes_at : (who : Caller) (w : LiveWorker) (start now : World) (options : WorkerOptions) (moment : ℕ) (a : Attempt) (made : List (List (ℕ × List Row))) → Begins who w start a → map tables_of made ≡ pieces_of who start options a
+finishes_at : (who : Caller) (w : LiveWorker) (start now : World) (moment : ℕ) (a : Attempt) (made : List (List (ℕ × List Row))) → Begins who w start a → AreLeft (left_of who start a) a.context.ranges made
     → State who w start a (all_of made) now → (stored : Option Job) → runs_attempt w.number a.number stored ≡ true
     → ((specs : ℕ → JobSpec) → Faithful now specs → IfSome stored (λ job. AttemptFits who.merge now.store specs job a)) → IfSome stored (λ job. AllByRecursion (MayUse (Worker w.number) now job) (noted_tables a))
     → OfSome (FinishIsWhole who.merge who.party now (end_unrecorded moment w a) w.number a.number (all_outputs a.context.ranges (map ids_of made))) stored
-finishes_at who w start now options moment a made b e s None live fits own = absurd (cc live)
-finishes_at who w start now options moment a made b e s (Some job) live fits own = record {
+finishes_at who w start now moment a made b e s None live fits own = absurd (cc live)
+finishes_at who w start now moment a made b e s (Some job) live fits own = record {
   live = live;
   fits = λ specs faithful. outputs_fit specs (fits specs faithful);
   held = all_true_from (is_held now.store) _ (outputs_all (λ id. IsTrue (is_held now.store id)) a.context.ranges made
@@ -201,14 +218,14 @@ finishes_at who w start now options moment a made b e s (Some job) live fits own
           cut = cut_kept w.release a.context (all_at _ w.attempts a (s.holds.fits s.kept.stored.replay.specs s.kept.faithful).cuts b.there) one.context.cut;
           at_most_floor = omega (arith, low, high);
           fit = inr one.context.settings;
-          rows = λ held. rows_at who w start now options a made job specs b e s one;
+          rows = λ held. rows_at who w start now a made job specs b e s one;
         }
 
-put_fits : (who : Caller) (w : LiveWorker) (start old new : World) (options : WorkerOptions) (moment : ℕ) (a : Attempt) (made : List (List (ℕ × List Row))) (got : Records) → Begins who w start a
-    → map tables_of made ≡ pieces_of who start options a → old.store.records ≡ Some got → Later old new → State who w start a (all_of made) new → is_live got.jobs w.number a ≡ true
+put_fits : (who : Caller) (w : LiveWorker) (start old new : World) (moment : ℕ) (a : Attempt) (made : List (List (ℕ × List Row))) (got : Records) → Begins who w start a
+    → AreLeft (left_of who start a) a.context.ranges made → old.store.records ≡ Some got → Later old new → State who w start a (all_of made) new → is_live got.jobs w.number a ≡ true
     → let change = Finish w.number a.job a.number (all_outputs a.context.ranges (map ids_of made)) in
     Lawful who.merge who.party new (PutsRecords got.version change got.epoch (jobs_after (end_unrecorded moment w a) change got.jobs))
-put_fits who w start old new options moment a made got b e is later s live = (
+put_fits who w start old new moment a made got b e is later s live = (
   no_names who.party new,
   λ version.
       let outputs = all_outputs a.context.ranges (map ids_of made) in
@@ -218,7 +235,7 @@ put_fits who w start old new options moment a made got b e is later s live = (
       over_got who.merge who.party new got (Finish w.number a.job a.number outputs) (end_unrecorded moment w a) got.epoch same (λ r there stored. rw stored there) refl
       (record {
         by = b.by;
-        finishes = finishes_at who w start new options moment a made b e s (job_with a.job (stored_jobs new.store)) lives
+        finishes = finishes_at who w start new moment a made b e s (job_with a.job (stored_jobs new.store)) lives
             (λ specs faithful. all_at _ (live_attempts (stored_jobs new.store) w) a (s.holds.fits specs faithful).live there) (all_at _ (live_attempts (stored_jobs new.store) w) a s.holds.own there);
       }),
 )
@@ -234,42 +251,42 @@ after : (who : Caller) (w : LiveWorker) (start : World) (a : Attempt) (pairs : L
 after who w start a pairs report again tries world version true s = tt
 after who w start a pairs report again tries world version false s = tries version world (s refl)
 
-ended : (who : Caller) (w : LiveWorker) (start : World) (options : WorkerOptions) (moment : ℕ) (a : Attempt) (made : List (List (ℕ × List Row))) (again : ℕ → Course (StepEnd FinishedJob)) → Relies who w → Begins who w start a
-    → map tables_of made ≡ pieces_of who start options a → Tries who w start a (all_of made) again → (met : World) (got : Records) → State who w start a (all_of made) met → met.store.records ≡ Some got
+ended : (who : Caller) (w : LiveWorker) (start : World) (moment : ℕ) (a : Attempt) (made : List (List (ℕ × List Row))) (again : ℕ → Course (StepEnd FinishedJob)) → Relies who w → Begins who w start a
+    → AreLeft (left_of who start a) a.context.ranges made → Tries who w start a (all_of made) again → (met : World) (got : Records) → State who w start a (all_of made) met → met.store.records ≡ Some got
     → (live : Bool) → is_live got.jobs w.number a ≡ live
     → IsLawfulCourse who (after_call who.line who.party (Plain GetRecords) None met) (ends_job moment w a (all_outputs a.context.ranges (map ids_of made)) got live again)
-ended who w start options moment a made again r b e tries met got s is false live = tt
-ended who w start options moment a made again r b e tries met got s is true live = λ put rivals room.
+ended who w start moment a made again r b e tries met got s is false live = tt
+ended who w start moment a made again r b e tries met got s is true live = λ put rivals room.
     let outputs = all_outputs a.context.ranges (map ids_of made) in
     let change = Finish w.number a.job a.number outputs in
     let jobs = jobs_after (end_unrecorded moment w a) change got.jobs in
     let there = state_met who w start a (all_of made) (after_call who.line who.party (Plain GetRecords) None met) put r (state_got who w start a (all_of made) met r s) rivals in
-    let lawful = put_fits who w start met put options moment a made got b e is (later_met who (Plain GetRecords) met met put (later_itself met) rivals) there live in (
+    let lawful = put_fits who w start met put moment a made got b e is (later_met who (Plain GetRecords) met met put (later_itself met) rivals) there live in (
       lawful,
       after who w start a (all_of made) (record { outputs = outputs; attempts = without_attempts (a.job ∷ []) w.attempts }) again tries (after_call who.line who.party (PutsRecords got.version change got.epoch jobs) None put)
           (records_version put.store.records) (got.version == records_version put.store.records)
           (λ other. state_refused who w start a (all_of made) put got.version change got.epoch jobs other (keeps_after who (PutsRecords got.version change got.epoch jobs) put r.keep there.kept lawful) there),
     )
 
-ended_by : (who : Caller) (w : LiveWorker) (start : World) (options : WorkerOptions) (moment : ℕ) (a : Attempt) (made : List (List (ℕ × List Row))) (again : ℕ → Course (StepEnd FinishedJob)) → Relies who w → Begins who w start a
-    → map tables_of made ≡ pieces_of who start options a → Tries who w start a (all_of made) again → (met : World) (records : Option Records) → State who w start a (all_of made) met → met.store.records ≡ records
+ended_by : (who : Caller) (w : LiveWorker) (start : World) (moment : ℕ) (a : Attempt) (made : List (List (ℕ × List Row))) (again : ℕ → Course (StepEnd FinishedJob)) → Relies who w → Begins who w start a
+    → AreLeft (left_of who start a) a.context.ranges made → Tries who w start a (all_of made) again → (met : World) (records : Option Records) → State who w start a (all_of made) met → met.store.records ≡ records
     → IsLawfulCourse who (after_call who.line who.party (Plain GetRecords) None met) (ends_job_by moment w a (all_outputs a.context.ranges (map ids_of made)) records again)
-ended_by who w start options moment a made again r b e tries met None s is = tt
-ended_by who w start options moment a made again r b e tries met (Some got) s is = ended who w start options moment a made again r b e tries met got s is (is_live got.jobs w.number a) refl
+ended_by who w start moment a made again r b e tries met None s is = tt
+ended_by who w start moment a made again r b e tries met (Some got) s is = ended who w start moment a made again r b e tries met got s is (is_live got.jobs w.number a) refl
 
-ends : (who : Caller) (w : LiveWorker) (start : World) (options : WorkerOptions) (moment : ℕ) (a : Attempt) (made : List (List (ℕ × List Row))) → Relies who w → Begins who w start a → map tables_of made ≡ pieces_of who start options a
-    → (left seen : ℕ) (world : World) → State who w start a (all_of made) world → IsLawfulCourse who world (ends_from moment w a (all_outputs a.context.ranges (map ids_of made)) left seen)
-ends who w start options moment a made r b e zero seen world s = tt
-ends who w start options moment a made r b e (suc left) seen world s = λ met rivals room. (
+ends : (who : Caller) (w : LiveWorker) (start : World) (moment : ℕ) (a : Attempt) (made : List (List (ℕ × List Row))) → Relies who w → Begins who w start a → AreLeft (left_of who start a) a.context.ranges made
+    → (left seen : ℕ) (world : World) → State who w start a (all_of made) world → IsLawfulCourse who world (tries (end_try moment w a (all_outputs a.context.ranges (map ids_of made))) left seen)
+ends who w start moment a made r b e zero seen world s = tt
+ends who w start moment a made r b e (suc left) seen world s = λ met rivals room. (
   tt,
-  ended_by who w start options moment a made (ends_from moment w a (all_outputs a.context.ranges (map ids_of made)) left) r b e (λ version next there. ends who w start options moment a made r b e left version next there)
+  ended_by who w start moment a made (tries (end_try moment w a (all_outputs a.context.ranges (map ids_of made))) left) r b e (λ version next there. ends who w start moment a made r b e left version next there)
       met met.store.records (state_met who w start a (all_of made) world met r s rivals) refl,
 )
 
-end_lawful : (who : Caller) (w : LiveWorker) (start : World) (options : WorkerOptions) (moment : ℕ) (a : Attempt) (made : List (List (ℕ × List Row))) → Relies who w → Begins who w start a → map tables_of made ≡ pieces_of who start options a
+pub end_lawful : (who : Caller) (w : LiveWorker) (start : World) (moment : ℕ) (a : Attempt) (made : List (List (ℕ × List Row))) → Relies who w → Begins who w start a → AreLeft (left_of who start a) a.context.ranges made
     → (world : World) → State who w start a (all_of made) world → IsLawfulCourse who world (end_job moment w a (all_outputs a.context.ranges (map ids_of made)))
 unfolding end_job
-end_lawful who w start options moment a made r b e world s = ends who w start options moment a made r b e most_refused 0 world s
+end_lawful who w start moment a made r b e world s = ends who w start moment a made r b e most_refused 0 world s
 
 -- ---- the finish
 
@@ -279,7 +296,7 @@ gets_lawful who w start a next [] world r s rest = rest world s
 gets_lawful who w start a next (table ∷ tables) world r s rest = λ met rivals room.
     (tt, gets_lawful who w start a next tables (after_call who.line who.party (Plain (GetTable table)) None met) r (state_table who w start a [] table met r (state_met who w start a [] world met r s rivals)) rest)
 
-begins : (who : Caller) (w : LiveWorker) (start : World) (a : Attempt) → who.party ≡ Worker w.number → IsIn a w.attempts → Keeps who.merge start → WorkerHolds who.merge start w → WholeUnless who.merge start.store.tables a None → Begins who w start a
+pub begins : (who : Caller) (w : LiveWorker) (start : World) (a : Attempt) → who.party ≡ Worker w.number → IsIn a w.attempts → Keeps who.merge start → WorkerHolds who.merge start w → WholeUnless who.merge start.store.tables a None → Begins who w start a
 begins who w start a by there kept holds whole = record {
   by = by;
   there = there;
@@ -298,7 +315,7 @@ made_lawful who w start new options moment a None r short by there kept holds wh
     (all_map (AllByRecursion IsTable) (λ range. cut_tables options.table_size (rows_left who.merge start.store.tables a.context.settings a.sources range).rows) a.context.ranges
     (all_from _ a.context.ranges (λ range one. cut_sound options.table_size (rows_left who.merge start.store.tables a.context.settings a.sources range).rows
     (left_good who.merge start.store.tables a.context.settings a.sources range short kept.stored.sound.tables b.ordered)))) s
-    (λ later made e all. end_lawful who w start options moment a made r b e later all)
+    (λ later made e all. end_lawful who w start moment a made r b (cut_left options.table_size (left_of who start a) a.context.ranges made e) later all)
 
 pub finishes_are_lawful : FinishesAreLawful
 unfolding finish

@@ -126,7 +126,7 @@ call_history line party x (Some false) store = refl
 
 -- ---- calls one after the other
 
--- What is world is later than what was world.
+-- The new world is later than the old one.
 pub record Later (old new : World) : Type 0 where
   pub manifest : ManifestLater old.store.manifest new.store.manifest
   pub records : RecordsLater old.store.records new.store.records
@@ -160,7 +160,7 @@ rivals_from_later who (call ∷ calls) old new lead =
 pub rivals_later : (who : Caller) (old new : World) → Rivals who old new → Later old new
 rivals_later who old new rivals = rivals_from_later who rivals.calls old new rivals.lead
 
--- What is world after a call of one's own and calls of others.
+-- The world after a call of one's own and calls of others.
 pub later_met : (who : Caller) (x : Exchange) (old met next : World) → Later old met → Rivals who (after_call who.line who.party x None met) next → Later old next
 later_met who x old met next before rivals =
     later_then old met next before (later_then met (after_call who.line who.party x None met) next (later_by who.line who.party x None met) (rivals_later who (after_call who.line who.party x None met) next rivals))

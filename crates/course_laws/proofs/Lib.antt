@@ -1,6 +1,8 @@
 pub mod Later
+pub mod Afterwards
 pub mod Puts
 pub mod Calls
+pub mod Going
 pub mod Claims
 pub mod Stood
 pub mod Held
@@ -19,3 +21,6 @@ pub mod Written
 pub mod Free
 pub mod Made
 pub mod Finishes
+pub mod Messages
+pub mod Composed
+pub mod Histories

@@ -14,8 +14,9 @@ use Rattle.step_model.specs.Lawful.{Lawful}
 use Rattle.step_model.specs.LawfulRecords.{OfSome, IsLiveAt, IsStoredAs}
 use Rattle.step_model.specs.Rivals.{Caller, after_call}
 use Rattle.step_model.specs.CourseRuns.{IsLawfulCourse}
+use Rattle.step_model.specs.Tries.{tries}
 use Rattle.step_model.specs.ClaimSteps.{at_moment}
-use Rattle.step_model.specs.BeatSteps.{release_live, release_by, releases_from, release_all}
+use Rattle.step_model.specs.BeatSteps.{release_live, release_by, release_try, release_all}
 use Rattle.step_model.specs.StepEnds.{StepEnd, Reports, most_refused}
 use Rattle.step_model.specs.Course.{Course, Ends}
 use Rattle.course_laws.specs.Releases.{ReleasesAreLawful}
@@ -71,15 +72,15 @@ over who w attempts next again by lawful tries met (Some got) is = those who w n
 
 -- A release that is tried so often is a lawful course, if what comes after it is.
 pub releases : {A : Type 0} (who : Caller) (w : LiveWorker) (attempts : List Attempt) (next : List ℕ → Course (StepEnd A)) → who.party ≡ Worker w.number
-    → ((world : World) (released : List ℕ) → IsLawfulCourse who world (next released)) → (left seen : ℕ) (world : World) → IsLawfulCourse who world (releases_from w attempts next left seen)
+    → ((world : World) (released : List ℕ) → IsLawfulCourse who world (next released)) → (left seen : ℕ) (world : World) → IsLawfulCourse who world (tries (release_try w attempts next) left seen)
 releases who w attempts next by lawful zero seen world = tt
 releases who w attempts next by lawful (suc left) seen world = λ met before room.
-    (tt, over who w attempts next (releases_from w attempts next left) by lawful (λ version world. releases who w attempts next by lawful left version world) met met.store.records refl)
+    (tt, over who w attempts next (tries (release_try w attempts next) left) by lawful (λ version world. releases who w attempts next by lawful left version world) met met.store.records refl)
 
 pub releases_are_lawful : ReleasesAreLawful
 unfolding release_all
 releases_are_lawful who world w by = by_any (is_nonempty w.attempts)
   where
-    by_any : (b : Bool) → IsLawfulCourse who world (cond b (releases_from w w.attempts (λ released. Ends (Reports released)) most_refused 0) (Ends (Reports [])))
+    by_any : (b : Bool) → IsLawfulCourse who world (cond b (tries (release_try w w.attempts (λ released. Ends (Reports released))) most_refused 0) (Ends (Reports [])))
     by_any true = releases who w w.attempts (λ released. Ends (Reports released)) by (λ world released. tt) most_refused 0 world
     by_any false = tt

@@ -12,8 +12,9 @@ use Rattle.step_model.specs.LawfulManifests.{ManifestEpochFits}
 use Rattle.step_model.specs.LawfulRecords.{RecordsFit}
 use Rattle.step_model.specs.Rivals.{Caller, after_call}
 use Rattle.step_model.specs.CourseRuns.{IsLawfulCourse}
+use Rattle.step_model.specs.Tries.{tries}
 use Rattle.step_model.specs.ClaimSteps.{at_moment}
-use Rattle.step_model.specs.PollSteps.{start, starts_from, epoch_above, holds_at_start, unless_fenced}
+use Rattle.step_model.specs.PollSteps.{start, start_try, epoch_above, holds_at_start, unless_fenced}
 use Rattle.step_model.specs.PollSteps as step
 use Rattle.step_model.specs.StepEnds.{StepEnd, Reports, Fenced, most_refused}
 use Rattle.step_model.specs.Course.{Course, Ends}
@@ -89,7 +90,7 @@ after_manifest who again tries m r p got true e = λ q rivals room.
     )
 after_manifest who again tries m r p got false e = tries p.store.manifest.version _
 
-pub starts : (who : Caller) (number : ℕ) → who.party ≡ Coordinator number → (left seen : ℕ) (world : World) → IsLawfulCourse who world (starts_from left seen)
+pub starts : (who : Caller) (number : ℕ) → who.party ≡ Coordinator number → (left seen : ℕ) (world : World) → IsLawfulCourse who world (tries start_try left seen)
 starts who number by zero seen world = tt
 starts who number by (suc left) seen world = λ m before room. (
   tt,
@@ -100,7 +101,7 @@ starts who number by (suc left) seen world = λ m before room. (
         let second = later_met who (Plain GetRecords) m r p first after in
         let got = later_met who (Plain GetRecords) r r p (later_itself r) after in (
           λ version. epoch_fits who.party number m p r.store.records by second version,
-          after_manifest who (starts_from left) (λ version world. starts who number by left version world) m r p got (m.store.manifest.version == p.store.manifest.version) refl,
+          after_manifest who (tries start_try left) (λ version world. starts who number by left version world) m r p got (m.store.manifest.version == p.store.manifest.version) refl,
         ),
   ),
 )

@@ -14,7 +14,8 @@ use Rattle.step_model.specs.Lawful.{Lawful}
 use Rattle.step_model.specs.Rivals.{Caller, after_call}
 use Rattle.step_model.specs.Keeps.{Keeps}
 use Rattle.step_model.specs.ClaimSteps.{at_moment}
-use Rattle.step_model.specs.SubmitSteps.{submits_drawn, submits_specs, submit_by, submits_from, submit, submits_generated, request_by, requests_from, submit_request}
+use Rattle.step_model.specs.Tries.{tries}
+use Rattle.step_model.specs.SubmitSteps.{submits_drawn, submits_specs, submit_by, submit_try, submit, submits_generated, request_by, request_try, submit_request}
 use Rattle.step_model.specs.StepEnds.{StepEnd, Reports, most_refused}
 use Rattle.step_model.specs.Course.{Course, Ends, draws_jobs}
 use Rattle.step_model.specs.CourseRuns.{IsLawfulCourse}
@@ -90,10 +91,10 @@ submit_over who moment specs again keep by tries met None kept is = tt
 submit_over who moment specs again keep by tries met (Some got) kept is =
     specs_lawful who moment met _ got specs again keep by is tries (later_by who.line who.party (Plain GetRecords) None met) (keeps_after who (Plain GetRecords) met keep kept tt)
 
-submit_tries : (who : Caller) (moment : ℕ) (specs : List JobSpec) → CallsKeep who.merge → who.party ≡ Submitter → (left seen : ℕ) (world : World) → Keeps who.merge world → IsLawfulCourse who world (submits_from moment specs left seen)
+submit_tries : (who : Caller) (moment : ℕ) (specs : List JobSpec) → CallsKeep who.merge → who.party ≡ Submitter → (left seen : ℕ) (world : World) → Keeps who.merge world → IsLawfulCourse who world (tries (submit_try moment specs) left seen)
 submit_tries who moment specs keep by zero seen world kept = tt
 submit_tries who moment specs keep by (suc left) seen world kept = λ met rivals room.
-    (tt, submit_over who moment specs (submits_from moment specs left) keep by (λ version next there. submit_tries who moment specs keep by left version next there) met met.store.records (rivals_keep who world met keep kept rivals) refl)
+    (tt, submit_over who moment specs (tries (submit_try moment specs) left) keep by (λ version next there. submit_tries who moment specs keep by left version next there) met met.store.records (rivals_keep who world met keep kept rivals) refl)
 
 -- ---- requests
 
@@ -114,11 +115,11 @@ request_over who moment asked request again keep by tries met (Some got) kept is
     )
 
 request_tries : (who : Caller) (moment : ℕ) (asked : Scheduler) (request : Request) → CallsKeep who.merge → who.party ≡ Submitter → (left seen : ℕ) (world : World) → Keeps who.merge world
-    → IsLawfulCourse who world (requests_from moment asked request left seen)
+    → IsLawfulCourse who world (tries (request_try moment asked request) left seen)
 request_tries who moment asked request keep by zero seen world kept = tt
 request_tries who moment asked request keep by (suc left) seen world kept = λ met rivals room. (
   tt,
-  request_over who moment asked request (requests_from moment asked request left) keep by (λ version next there. request_tries who moment asked request keep by left version next there) met met.store.records
+  request_over who moment asked request (tries (request_try moment asked request) left) keep by (λ version next there. request_tries who moment asked request keep by left version next there) met met.store.records
       (rivals_keep who world met keep kept rivals) refl,
 )
 

@@ -1,3 +1,4 @@
+pub mod Afterwards
 pub mod Claims
 pub mod Flushes
 pub mod Releases
@@ -7,3 +8,6 @@ pub mod Sweeps
 pub mod Beats
 pub mod Outputs
 pub mod Finishes
+pub mod Messages
+pub mod Composed
+pub mod Histories

@@ -3,10 +3,14 @@
 //! come before it. Of a draw this is said as long as the history has room for it.
 #![tactic(auto)]
 
+ghost use Rattle.course_laws.specs.Afterwards.{WorldsComeAfter};
 ghost use Rattle.course_laws.specs.Beats.{BeatsAreLawful};
 ghost use Rattle.course_laws.specs.Claims.{ClaimsAreLawful};
+ghost use Rattle.course_laws.specs.Composed.{LoopsCompose};
 ghost use Rattle.course_laws.specs.Finishes.{FinishesAreLawful};
 ghost use Rattle.course_laws.specs.Flushes.{FlushesAreLawful};
+ghost use Rattle.course_laws.specs.Histories.{HistoriesCount, RivalsAdd};
+ghost use Rattle.course_laws.specs.Messages.{MessagesAreLawful};
 ghost use Rattle.course_laws.specs.Outputs.{OutputsAreLawful};
 ghost use Rattle.course_laws.specs.Releases.{ReleasesAreLawful};
 ghost use Rattle.course_laws.specs.Starts.{StartsAreLawful};
@@ -67,4 +71,35 @@ pub fn outputs_are_lawful()
 /// attempt's settings make of the job's sources.
 pub fn finishes_are_lawful()
     ensures { FinishesAreLawful }
+{}
+
+/// The steps by which a worker that fits takes messages about its attempts are lawful courses, if
+/// every lawful call keeps the invariant. An attempt ends by a message with all rows that its
+/// ranges make.
+pub fn messages_are_lawful()
+    ensures { MessagesAreLawful }
+{}
+
+/// What a run leaves comes after what it found, whatever calls of others come in between and
+/// however the run ends. An object that has the same version is the same, tables were only added,
+/// and the history went on.
+pub fn worlds_come_after()
+    ensures { WorldsComeAfter }
+{}
+
+/// Calls of others than a caller add no entry that carries the caller's party.
+pub fn rivals_add()
+    ensures { RivalsAdd }
+{}
+
+/// The claims and the commits of a history add up over any cut of it, and no attempt is claimed
+/// twice.
+pub fn histories_count()
+    ensures { HistoriesCount }
+{}
+
+/// Two courses, one after the other, run as each of them does, and are lawful if the first one is
+/// and the second one is wherever the first one leads.
+pub fn loops_compose()
+    ensures { LoopsCompose }
 {}

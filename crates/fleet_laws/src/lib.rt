@@ -2,9 +2,10 @@
 //! objects, the calls of a store, or the outputs and cuts of attempts.
 #![tactic(auto)]
 
-ghost use Rattle.std.specs.Prelude.{ℕ, List};
+ghost use Rattle.std.specs.Prelude.{ℕ, ℤ, List};
 ghost use Rattle.row_model.specs.Append.{append};
 ghost use Rattle.row_model.specs.Fold.{Operator};
+ghost use Rattle.row_model.specs.Ranges.{Range};
 ghost use Rattle.fleet_model.specs.History.{Party};
 ghost use Rattle.fleet_model.specs.Invariant.{FleetInvariant};
 ghost use Rattle.fleet_model.specs.Store.{Manifest, Store};
@@ -14,8 +15,10 @@ ghost use Rattle.fleet_laws.specs.Faults.{OldPutsAreLost};
 ghost use Rattle.fleet_laws.specs.Midway.{midway_parties, midway_store};
 ghost use Rattle.fleet_laws.specs.Outputs.{OutputsMakeWhatIsLeft};
 ghost use Rattle.fleet_laws.specs.Reads.{ReplacementsAddUp, StoresAnswerReads};
+ghost use Rattle.fleet_laws.specs.Scans.{ScansAnswerAsReads, StoresAnswerScans};
 ghost use Rattle.fleet_laws.specs.Sweeps.{SweepIsExact};
 ghost use Rattle.fleet_laws.specs.Swept.{Sweeps, swept_store};
+ghost use Rattle.fleet_laws.specs.Transparent.{SweepsAreTransparent};
 
 /// A fresh store with no live party meets the fleet's invariant, so the invariant holds before the
 /// first line of a script.
@@ -81,4 +84,24 @@ pub fn sweeps_are_exact()
 pub fn swept_fits()
     ensures fits { FleetInvariant append swept_store nobody }
     ensures sweeps { Sweeps }
+{}
+
+/// A history may be read without the entries of sweepers: it gives the same trees and jobs, the
+/// same live parties, and the same settings and ranges of each attempt. This holds after each
+/// entry, since it is said of every history.
+pub fn sweeps_are_transparent()
+    ensures { SweepsAreTransparent }
+{}
+
+/// A scan of a range answers as reads of its keys do, at the same sequence and moment. A key is in
+/// the list of the scan exactly if its read gives an answer, and it has that answer there.
+pub fn scans_answer_as_reads()
+    ensures { (merge : Operator) (store : Store) (segment : List ℕ) (range : Range) (seq : ℕ)
+        (now : ℤ) → ScansAnswerAsReads merge store segment range seq now }
+{}
+
+/// A store that meets the invariant answers every scan, from its horizon and tick on, as if its
+/// nodes still had all rows that were ever flushed into them.
+pub fn stores_answer_scans()
+    ensures { (merge : Operator) → StoresAnswerScans merge }
 {}

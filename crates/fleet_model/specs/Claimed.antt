@@ -1,5 +1,6 @@
 -- The history alone gives the settings of an attempt, except the cut, and its ranges.
 use Rattle.std.specs.Prelude.{◌≡◌, ℕ, Bool, false, ◌&&◌, ◌==◌, nat_lt, if◌then◌else◌, List, [], ◌∷◌, map, find, Option, Some, None, option_map}
+use Rattle.std.specs.Option.{option_or}
 use Rattle.row_model.specs.Ranges.{Range}
 use Rattle.row_model.specs.Settings.{Settings}
 use Rattle.fleet_model.specs.Nodes.{Tables}
@@ -23,15 +24,10 @@ abbrev pub beaten_in : ℕ → Event → Option ℕ
 beaten_in job (PutRecords (Beat worker attempts)) = attempt_number_at job attempts
 beaten_in job _ = None
 
--- The first number if there is one, and otherwise the second.
-abbrev pub or_else : Option ℕ → Option ℕ → Option ℕ
-or_else None later = later
-or_else (Some n) later = Some n
-
 -- The number of the attempt in the first heartbeat that names the job and took effect.
 abbrev pub first_beaten : ℕ → List Entry → Option ℕ
 first_beaten job [] = None
-first_beaten job (entry ∷ history) = or_else (if stood entry.answer then beaten_in job entry.event else None) (first_beaten job history)
+first_beaten job (entry ∷ history) = option_or (if stood entry.answer then beaten_in job entry.event else None) (first_beaten job history)
 
 -- The lower of two attempt numbers, or the first if there is no second.
 abbrev pub if_earlier : ℕ → Option ℕ → ℕ
@@ -98,15 +94,10 @@ abbrev pub planned_in : ℕ → ℕ → Event → Option (List Range)
 planned_in job attempt (Plan other number ranges) = if (job == other) && (attempt == number) then Some ranges else None
 planned_in job attempt _ = None
 
--- The first list of ranges if there is one, and otherwise the second.
-abbrev pub first_plan : Option (List Range) → Option (List Range) → Option (List Range)
-first_plan None later = later
-first_plan (Some ranges) later = Some ranges
-
 -- The ranges in the first note that names the attempt.
 abbrev pub noted_plan : ℕ → ℕ → List Entry → Option (List Range)
 noted_plan job attempt [] = None
-noted_plan job attempt (entry ∷ history) = first_plan (planned_in job attempt entry.event) (noted_plan job attempt history)
+noted_plan job attempt (entry ∷ history) = option_or (planned_in job attempt entry.event) (noted_plan job attempt history)
 
 -- The ranges of an attempt, which are in the note of its origin.
 abbrev pub ranges_of : List Entry → ℕ → ℕ → Option (List Range)

@@ -1,9 +1,9 @@
 -- The rules that a job must pass when it is opened and when it is committed. Replies and lists give a rule
 -- by its number.
-use Rattle.std.specs.Prelude.{ℕ, Bool, true, false, not, ◌&&◌, ◌||◌, ◌==◌, if◌then◌else◌, List, [], ◌∷◌, Option, Some, None, is_some, bytes_eq}
+use Rattle.std.specs.Prelude.{ℕ, Bool, true, false, not, ◌&&◌, ◌||◌, ◌==◌, if◌then◌else◌, List, [], ◌∷◌, Option, Some, None, is_some}
 use Rattle.std.specs.List.{list_all}
 use Rattle.fleet_model.specs.Nodes.{NodeName, L0, Run, is_l0, names_contain, Tree, names, Trees, segment_at, tree_at}
-use Rattle.fleet_model.specs.Jobs.{JobSpec, nodes_of, is_drain, Job, Jobs, Scheduled, Running, Compacted, has_status, contains}
+use Rattle.fleet_model.specs.Jobs.{JobSpec, ids_eq, nodes_of, is_drain, Job, Jobs, Scheduled, Running, Compacted, has_status, contains}
 use Rattle.fleet_model.specs.Trees.{source_pieces}
 use Rattle.fleet_model.specs.Sources.{run_ids, is_apart, all_run_ids, is_whole_stretch, is_lowest_or_above}
 
@@ -82,6 +82,6 @@ commit_gate trees accepts job =
     let tree = tree_at spec.segment trees in
     first_failing (
     (4, list_all (names_contain (names tree)) spec.sources)
-    ∷ (10, bytes_eq (source_pieces spec.sources tree) job.source_tables)
+    ∷ (10, ids_eq (source_pieces spec.sources tree) job.source_tables)
     ∷ (0, accepts spec)
     ∷ [])

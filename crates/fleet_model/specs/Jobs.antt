@@ -1,6 +1,6 @@
 -- A compaction job has a spec. Its record gives its status, the worker that has it and the tables that it
 -- wrote.
-use Rattle.std.specs.Prelude.{ℕ, ◌*◌, ◌+◌, ◌%◌, ◌^◌, Bool, true, false, ◌||◌, ◌==◌, nat_lt, if◌then◌else◌, List, [], ◌∷◌, map, find, Option, Some, None, ◌-◌, ◌&&◌}
+use Rattle.std.specs.Prelude.{ℕ, ◌*◌, ◌+◌, ◌%◌, ◌^◌, Bool, true, false, ◌||◌, ◌==◌, nat_lt, if◌then◌else◌, List, [], ◌∷◌, map, find, Option, Some, None, ◌-◌, ◌&&◌, bytes_eq}
 use Rattle.fleet_model.specs.Nodes.{NodeName, Run}
 use Rattle.row_model.specs.Settings.{Settings}
 use Rattle.row_model.specs.Ranges.{Range}
@@ -8,6 +8,10 @@ use Rattle.row_model.specs.Ranges.{Range}
 -- The id with this moment and number: the low 48 bits of the moment, above 80 bits for the number.
 abbrev pub id_of : ℕ → ℕ → ℕ
 id_of moment number = (moment % 2 ^ 48) * 2 ^ 80 + number
+
+-- True if these are the same ids in the same order.
+abbrev pub ids_eq : List ℕ → List ℕ → Bool
+ids_eq ids others = bytes_eq ids others
 
 -- The number of an id, which is its low 80 bits. Jobs are numbered from 1.
 abbrev pub number_of : ℕ → ℕ

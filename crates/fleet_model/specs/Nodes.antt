@@ -1,6 +1,6 @@
 -- A segment has a tree of nodes: flushes, newest first, and then sorted runs. The rows of a node are in
 -- tables.
-use Rattle.std.specs.Prelude.{ℕ, Bool, true, false, ◌==◌, if◌then◌else◌, List, [], ◌∷◌, map, flat_map, find, Option, Some, None, bytes_eq}
+use Rattle.std.specs.Prelude.{ℕ, Bool, true, false, ◌==◌, if◌then◌else◌, List, [], ◌∷◌, map, filter, not, flat_map, find, Option, Some, None, bytes_eq}
 use Rattle.std.specs.List.{list_any}
 use Rattle.row_model.specs.Rows.{Row, rows_of_key, sorted_rows}
 
@@ -66,6 +66,14 @@ Tree = List Node
 -- The names of the nodes of a tree, in the tree's order.
 abbrev pub names : Tree → List NodeName
 names tree = map (λ node. node.name) tree
+
+-- The flushes of a tree, newest first.
+abbrev pub flushes_of : Tree → Tree
+flushes_of tree = filter (λ node. is_l0 node.name) tree
+
+-- The runs of a tree, newest first.
+abbrev pub runs_of : Tree → Tree
+runs_of tree = filter (λ node. not (is_l0 node.name)) tree
 
 -- The node with this name, if the tree has one.
 abbrev pub node_named : NodeName → Tree → Option Node

@@ -1,5 +1,5 @@
 -- A scheduler is shown a view. It proposes jobs, accepts or refuses them, and generates jobs for requests.
-use Rattle.std.specs.Prelude.{ℕ, Bool, List, not, [], ◌∷◌, filter, filter_map, Option, Some, None}
+use Rattle.std.specs.Prelude.{ℕ, min, Bool, List, not, [], ◌∷◌, filter, filter_map, fold, Option, Some, None}
 use Rattle.fleet_model.specs.Nodes.{Tables, is_l0, names, Segment, segment_at}
 use Rattle.fleet_model.specs.Jobs.{Jobs, JobSpec, is_active}
 use Rattle.fleet_model.specs.Store.{Manifest, Records}
@@ -46,20 +46,23 @@ pub record Scheduler : Type 0 where
   pub validate : View → JobSpec → Bool  -- the job is accepted
   pub generate : View → Request → Generated
 
--- The last number of the list, or None if the list is empty.
-abbrev pub last_of : List ℕ → Option ℕ
-last_of [] = None
-last_of (x ∷ []) = Some x
-last_of (x ∷ y ∷ xs) = last_of (y ∷ xs)
+-- The lower of an id, if there is one, and another id.
+abbrev pub lower : Option ℕ → ℕ → Option ℕ
+lower None id = Some id
+lower (Some lowest) id = Some (min lowest id)
+
+-- The lowest of these ids, or None if there are none.
+abbrev pub lowest_of : List ℕ → Option ℕ
+lowest_of ids = fold lower None ids
 
 -- The spec that merges all runs of the tree into the given run, if one is given.
 abbrev pub into_lowest : Segment → Option ℕ → Option JobSpec
 into_lowest s None = None
 into_lowest s (Some lowest) = Some (record { segment = s.prefix; sources = filter (λ name. not (is_l0 name)) (names s.tree); destination = Some lowest })
 
--- The spec that merges all runs of a tree into the last run. It is None if the tree has no runs.
+-- The spec that merges all runs of a tree into the lowest one. It is None if the tree has no runs.
 abbrev pub full_spec : Segment → Option JobSpec
-full_spec s = into_lowest s (last_of (run_ids (names s.tree)))
+full_spec s = into_lowest s (lowest_of (run_ids (names s.tree)))
 
 -- The answer with one spec, or Invalid if there is no spec.
 abbrev pub one_or_invalid : Option JobSpec → Generated

@@ -4,6 +4,7 @@ use Rattle.std.specs.Prelude.{IsTrue, ◌==◌, ◌&&◌, map, option_map, nat_l
 use Rattle.std.specs.List.{AllByRecursion}
 use Rattle.std.proofs.lemmas.Bool.{ltb-true}
 use Rattle.std.proofs.lemmas.Bool.Decides.{Decides-eqb}
+use Rattle.std.specs.Option.{option_or}
 use Rattle.row_model.specs.Fold.{Operator}
 use Rattle.fleet_model.specs.Nodes.{Tables}
 use Rattle.fleet_model.specs.Jobs.{JobSpec, Job, Jobs, Submitted, has_status}
@@ -11,7 +12,7 @@ use Rattle.fleet_model.specs.History.{Event, Entry, PutManifest, PutRecords, Man
 use Rattle.fleet_model.specs.Records.{Unrecorded, firsts, claimed_by, beaten_by, finished_by, to_waiting, to_scheduled, to_completed, to_failed, after_change}
 use Rattle.fleet_model.specs.Replay.{Objects, plain_job, plain_objects, plain_records, after_event, after_entry, replayed_objects}
 use Rattle.fleet_model.specs.Store.{Records, fresh_store, jobs_in, stored_jobs}
-use Rattle.fleet_model.specs.Claimed.{beaten_in, first_beaten, or_else, if_earlier, origin}
+use Rattle.fleet_model.specs.Claimed.{beaten_in, first_beaten, if_earlier, origin}
 use Rattle.step_model.specs.Past.{World}
 use Rattle.step_model.specs.Entries.{was_claimed, is_claim_of, is_in, attempts_in}
 use Rattle.step_model.specs.NamesKept.{IsUpTo}
@@ -102,16 +103,16 @@ submitted_none merge world specs b =
 
 -- ---- the origin of an attempt
 
-beaten_push : (job : ℕ) (history : List Entry) (entry : Entry) → first_beaten job (history ++ entry ∷ []) ≡ or_else (first_beaten job history) (if stood entry.answer then beaten_in job entry.event else None)
+beaten_push : (job : ℕ) (history : List Entry) (entry : Entry) → first_beaten job (history ++ entry ∷ []) ≡ option_or (first_beaten job history) (if stood entry.answer then beaten_in job entry.event else None)
 beaten_push job [] entry = by (if stood entry.answer then beaten_in job entry.event else None)
   where
-    by : (o : Option ℕ) → or_else o None ≡ o
+    by : (o : Option ℕ) → option_or o None ≡ o
     by None = refl
     by (Some n) = refl
 beaten_push job (first ∷ history) entry =
-    ap (or_else (if stood first.answer then beaten_in job first.event else None)) (beaten_push job history entry) ∙ by (if stood first.answer then beaten_in job first.event else None)
+    ap (option_or (if stood first.answer then beaten_in job first.event else None)) (beaten_push job history entry) ∙ by (if stood first.answer then beaten_in job first.event else None)
   where
-    by : (o : Option ℕ) → or_else o (or_else (first_beaten job history) (if stood entry.answer then beaten_in job entry.event else None)) ≡ or_else (or_else o (first_beaten job history)) (if stood entry.answer then beaten_in job entry.event else None)
+    by : (o : Option ℕ) → option_or o (option_or (first_beaten job history) (if stood entry.answer then beaten_in job entry.event else None)) ≡ option_or (option_or o (first_beaten job history)) (if stood entry.answer then beaten_in job entry.event else None)
     by None = refl
     by (Some n) = refl
 
@@ -128,5 +129,5 @@ origin_kept history entry job attempt later = by (if stood entry.answer then bea
   where
     by : (o : Option ℕ) → (if stood entry.answer then beaten_in job entry.event else None) ≡ o → (f : Option ℕ) → first_beaten job history ≡ f → if_earlier attempt (first_beaten job history) ≡ if_earlier attempt (first_beaten job (history ++ entry ∷ []))
     by None e f g = ap (if_earlier attempt) (sym (beaten_stays job history entry e))
-    by (Some n) e None g = ap (if_earlier attempt) g ∙ sym (ap (if_earlier attempt) (beaten_push job history entry ∙ ap (λ o. or_else o (if stood entry.answer then beaten_in job entry.event else None)) g ∙ e) ∙ not_earlier n attempt (later n e))
-    by (Some n) e (Some m) g = ap (if_earlier attempt) g ∙ sym (ap (if_earlier attempt) (beaten_push job history entry ∙ ap (λ o. or_else o (if stood entry.answer then beaten_in job entry.event else None)) g))
+    by (Some n) e None g = ap (if_earlier attempt) g ∙ sym (ap (if_earlier attempt) (beaten_push job history entry ∙ ap (λ o. option_or o (if stood entry.answer then beaten_in job entry.event else None)) g ∙ e) ∙ not_earlier n attempt (later n e))
+    by (Some n) e (Some m) g = ap (if_earlier attempt) g ∙ sym (ap (if_earlier attempt) (beaten_push job history entry ∙ ap (λ o. option_or o (if stood entry.answer then beaten_in job entry.event else None)) g))

@@ -215,7 +215,7 @@ not_both Scheduled h k = absurd (cc h)
 not_both Completed h k = absurd (cc h)
 not_both Failed h k = absurd (cc h)
 
-running_reserves : (s : Status) → IsTrue (status_eq Running s) → IsTrue (status_eq Scheduled s || status_eq Running s || status_eq Compacted s)
+pub running_reserves : (s : Status) → IsTrue (status_eq Running s) → IsTrue (status_eq Scheduled s || status_eq Running s || status_eq Compacted s)
 running_reserves Running h = refl
 running_reserves Compacted h = refl
 running_reserves Scheduled h = refl

@@ -12,3 +12,5 @@ pub mod WorkerManifests
 pub mod WorkerRecords
 pub mod Workers
 pub mod FreeTables
+pub mod Runs
+pub mod Idle

@@ -9,12 +9,12 @@ use Rattle.std.proofs.lemmas.Cmp.{nat_list_cmp_total}
 use Rattle.std.proofs.lemmas.Slice.Eq.{bytes_eq-Decides}
 use Rattle.row_model.specs.Rows.{Row, key_cmp}
 use Rattle.row_laws.proofs.KeyRows.{key_alike}
-use Rattle.fleet_model.specs.Nodes.{L0, NodeName, Segment, Trees, names, segment_at}
+use Rattle.fleet_model.specs.Nodes.{L0, NodeName, Segment, Trees, names, segment_at, runs_of}
 use Rattle.fleet_model.specs.Trees.{flushed_trees, flushed_on, empty_segment}
 use Rattle.fleet_model.specs.History.{Entry}
 use Rattle.step_model.specs.Entries.{was_flushed}
 use Rattle.step_model.specs.TablesKept.{IsPassed}
-use Rattle.step_model.specs.Merging.{is_watermark, flushes_before, runs_of, merged_segment, merged_trees}
+use Rattle.step_model.specs.Merging.{is_watermark, flushes_before, merged_segment, merged_trees}
 use Rattle.step_laws.proofs.Elements.{IsIn, all_at, all_to}
 use Rattle.step_laws.proofs.FlushTrees.{Rising}
 

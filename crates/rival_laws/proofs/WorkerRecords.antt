@@ -114,7 +114,7 @@ follows_records merge world specs w records entry b spare = record {
 
 -- ---- jobs that stay
 
--- What is world, and that the worker makes no put of the records.
+-- The world, and that the worker makes no put of the records.
 pub record Case (merge : Operator) (world : World) (specs : ℕ → JobSpec) (party : Party) (w : LiveWorker) : Type 0 where
   pub body : Body merge world specs
   pub puts : PutsKept world.store.history world.store.tables

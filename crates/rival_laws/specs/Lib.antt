@@ -1,2 +1,4 @@
 pub mod FitLaws
 pub mod Free
+pub mod Runs
+pub mod Idle

@@ -3,11 +3,12 @@ use Rattle.std.proofs.Common.{◌≡◌, refl, sym, ◌∙◌, ap, subst, ℕ, �
 use Rattle.std.specs.Prelude.{IsTrue, IfSome, ◌&&◌, ◌||◌, ◌==◌, nat_lt, if◌then◌else◌, find}
 use Rattle.std.proofs.lemmas.Bool.Decides.{Decides-eqb}
 use Rattle.std.proofs.lemmas.Bool.{ltb-false}
+use Rattle.std.specs.Option.{option_or}
 use Rattle.row_model.specs.Fold.{Operator}
 use Rattle.fleet_model.specs.Jobs.{JobSpec, Job, Context, contains}
 use Rattle.fleet_model.specs.History.{Entry, Event, PutRecords, Beat, stood}
 use Rattle.fleet_model.specs.Records.{firsts}
-use Rattle.fleet_model.specs.Claimed.{number_in, attempt_number_at, beaten_in, or_else, first_beaten, if_earlier, origin, IsClaimed}
+use Rattle.fleet_model.specs.Claimed.{number_in, attempt_number_at, beaten_in, first_beaten, if_earlier, origin, IsClaimed}
 use Rattle.fleet_model.specs.AttemptsFit.{beats, was_beaten}
 use Rattle.fleet_model.specs.Store.{Store, stored_jobs}
 use Rattle.step_model.specs.Past.{World}
@@ -75,14 +76,14 @@ first_beat job (entry ∷ history) h = by (if stood entry.answer then beaten_in 
         → IsTrue (b || was_beaten history job) → (n : ℕ) × Beats job n (entry ∷ history)
     by (Some n) e b f rest h =
         let here = beat_named job n (stood entry.answer) entry.event e in
-        (n, record { first = ap (λ o. or_else o (first_beaten job history)) e; entry = entry; there = inl refl; took = here.0; named = here.1 })
+        (n, record { first = ap (λ o. option_or o (first_beaten job history)) e; entry = entry; there = inl refl; took = here.0; named = here.1 })
     by None e true f rest h = absurd (both e (beat_here job (stood entry.answer) entry.event f).1)
       where
         both : {n : ℕ} {o : Option ℕ} → o ≡ None → o ≡ Some n → ⊥
         both p q = absurd (cc (p, q))
     by None e false f rest h =
         let further = rest h in
-        (further.0, record { first = ap (λ o. or_else o (first_beaten job history)) e ∙ further.1.first; entry = further.1.entry; there = inr further.1.there; took = further.1.took; named = further.1.named })
+        (further.0, record { first = ap (λ o. option_or o (first_beaten job history)) e ∙ further.1.first; entry = further.1.entry; there = inr further.1.there; took = further.1.took; named = further.1.named })
 
 -- ---- what it means for a stored job
 

@@ -3,6 +3,7 @@ use Rattle.std.proofs.Common.{◌≡◌, refl, sym, ◌∙◌, ap, subst, ℕ, L
 use Rattle.std.specs.Prelude.{IsTrue, IfSome, ◌==◌, ◌&&◌, ◌||◌, not, is_some, is_none, if◌then◌else◌, find}
 use Rattle.std.specs.List.{AllByRecursion, concat}
 use Rattle.std.proofs.lemmas.List.{append-nil}
+use Rattle.std.specs.Option.{option_or}
 use Rattle.row_model.specs.Lists.{Pairs}
 use Rattle.row_model.specs.Fold.{Operator}
 use Rattle.fleet_model.specs.Jobs.{JobSpec, Job, Lease, Context, Status, Submitted, Scheduled, Running, Compacted, Completed, Failed, status_eq, has_status, contains, is_active, job_with}
@@ -13,7 +14,7 @@ use Rattle.fleet_model.specs.Store.{Records, stored_jobs, records_epoch, is_held
 use Rattle.fleet_model.specs.Replay.{epoch_after}
 use Rattle.fleet_model.specs.Handles.{job_tables, context_tables}
 use Rattle.fleet_model.specs.JobsFit.{SourcesStand, was_joined}
-use Rattle.fleet_model.specs.Claimed.{beaten_in, attempt_number_at, number_in, first_beaten, or_else, if_earlier, origin}
+use Rattle.fleet_model.specs.Claimed.{beaten_in, attempt_number_at, number_in, first_beaten, if_earlier, origin}
 use Rattle.fleet_model.specs.AttemptsFit.{ContextFits, beats}
 use Rattle.step_model.specs.Past.{World}
 use Rattle.step_model.specs.LawfulTables.{MayUse}
@@ -68,16 +69,16 @@ pairs_either R (x ∷ xs) a b h (inr one) (inr other) differs = pairs_either R x
 
 -- ---- the origin
 
-beaten_push : (job : ℕ) (history : List Entry) (entry : Entry) → first_beaten job (history ++ entry ∷ []) ≡ or_else (first_beaten job history) (if stood entry.answer then beaten_in job entry.event else None)
+beaten_push : (job : ℕ) (history : List Entry) (entry : Entry) → first_beaten job (history ++ entry ∷ []) ≡ option_or (first_beaten job history) (if stood entry.answer then beaten_in job entry.event else None)
 beaten_push job [] entry = by (if stood entry.answer then beaten_in job entry.event else None)
   where
-    by : (o : Option ℕ) → or_else o None ≡ o
+    by : (o : Option ℕ) → option_or o None ≡ o
     by None = refl
     by (Some n) = refl
 beaten_push job (first ∷ history) entry =
-    ap (or_else (if stood first.answer then beaten_in job first.event else None)) (beaten_push job history entry) ∙ by (if stood first.answer then beaten_in job first.event else None)
+    ap (option_or (if stood first.answer then beaten_in job first.event else None)) (beaten_push job history entry) ∙ by (if stood first.answer then beaten_in job first.event else None)
   where
-    by : (o : Option ℕ) → or_else o (or_else (first_beaten job history) (if stood entry.answer then beaten_in job entry.event else None)) ≡ or_else (or_else o (first_beaten job history)) (if stood entry.answer then beaten_in job entry.event else None)
+    by : (o : Option ℕ) → option_or o (option_or (first_beaten job history) (if stood entry.answer then beaten_in job entry.event else None)) ≡ option_or (option_or o (first_beaten job history)) (if stood entry.answer then beaten_in job entry.event else None)
     by None = refl
     by (Some n) = refl
 
@@ -86,8 +87,8 @@ origin_beaten : (history : List Entry) (entry : Entry) (job attempt : ℕ) → (
 origin_beaten history entry job attempt e = by (first_beaten job history) refl
   where
     by : (o : Option ℕ) → first_beaten job history ≡ o → if_earlier attempt (first_beaten job history) ≡ if_earlier attempt (first_beaten job (history ++ entry ∷ []))
-    by None f = ap (if_earlier attempt) f ∙ sym (ap (if_earlier attempt) (beaten_push job history entry ∙ ap (λ o. or_else o (if stood entry.answer then beaten_in job entry.event else None)) f ∙ e) ∙ earlier attempt attempt (omega arith))
-    by (Some n) f = ap (if_earlier attempt) f ∙ sym (ap (if_earlier attempt) (beaten_push job history entry ∙ ap (λ o. or_else o (if stood entry.answer then beaten_in job entry.event else None)) f))
+    by None f = ap (if_earlier attempt) f ∙ sym (ap (if_earlier attempt) (beaten_push job history entry ∙ ap (λ o. option_or o (if stood entry.answer then beaten_in job entry.event else None)) f ∙ e) ∙ earlier attempt attempt (omega arith))
+    by (Some n) f = ap (if_earlier attempt) f ∙ sym (ap (if_earlier attempt) (beaten_push job history entry ∙ ap (λ o. option_or o (if stood entry.answer then beaten_in job entry.event else None)) f))
 
 -- ---- quiet for others
 

@@ -45,3 +45,5 @@ pub mod Flushes
 pub mod MidwayStored
 pub mod Midway
 pub mod MidwayCalls
+pub mod Later
+pub mod RanLaws

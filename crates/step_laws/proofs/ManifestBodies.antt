@@ -32,7 +32,7 @@ use Rattle.step_laws.proofs.Grown.{named_grows, drawn_job_grows, up_to_grows, fa
 use Rattle.step_laws.proofs.Bodies.{JobFacts, JobFits, JobKept, Body}
 use Rattle.step_laws.proofs.MuteBodies.{Matches, fits_quiet, spares_all}
 
--- What is world when a manifest was put.
+-- The world when a manifest was put.
 abbrev pub with_manifest : World → Manifest → Entry → World
 with_manifest world manifest entry = record {
   store = record world.store { manifest = manifest; history = world.store.history ++ entry ∷ [] };

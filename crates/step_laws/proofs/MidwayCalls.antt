@@ -20,7 +20,7 @@ use Rattle.step_laws.specs.MidwayCalls.{lease, opened_jobs, taken_jobs_now, beat
 use Rattle.step_laws.proofs.Midway.{parts_are_past}
 use Rattle.step_laws.proofs.MidwayStored.{differ, sound}
 
--- What is world after so many entries, with so many of the past manifests and of the tables.
+-- The world after so many entries, with so many of the past manifests and of the tables.
 abbrev scene : (entries manifests put jobs_drawn tables_drawn : ℕ) → Manifest → (version : ℕ) → Jobs → World
 scene entries manifests put jobs_drawn tables_drawn manifest version stored = record {
   store = record {
@@ -49,7 +49,7 @@ at_moment moment = record { moment = moment; published = no_contexts; kept_cut =
 unnamed : (party : Party) (world : World) → NamesFit party world []
 unnamed party world = record { once = tt; drawn = tt; replays = λ specs given. given }
 
--- What is world before and after some calls.
+-- The world before and after some calls.
 abbrev drawn_world : World
 drawn_world = scene 8 4 2 2 0 claimed_manifest 1 []
 

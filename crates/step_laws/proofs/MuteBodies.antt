@@ -24,7 +24,7 @@ use Rattle.step_laws.proofs.Replays.{replayed_push}
 use Rattle.step_laws.proofs.Grown.{named_grows, joined_grows, drawn_job_grows, pieces_grow, up_to_grows, beaten_stays_so, facts_quiet}
 use Rattle.step_laws.proofs.Bodies.{JobFits, Body}
 
--- What is world when an entry came and no object changed: only draws and deletions were counted.
+-- The world when an entry came and no object changed: only draws and deletions were counted.
 abbrev pub entered : World → List ℕ → ℕ → ℕ → Entry → World
 entered world deleted jobs_drawn tables_drawn entry = record {
   store = record world.store { deleted = deleted; jobs_drawn = jobs_drawn; tables_drawn = tables_drawn; history = world.store.history ++ entry ∷ [] };

@@ -277,7 +277,7 @@ pub record PollCase (merge : Operator) (world : World) (specs : ℕ → JobSpec)
   pub fits : PollFits party world u change jobs
   pub made : jobs ≡ trimmed_jobs (map (poll_on u change) (with_new change.added (stored_jobs world.store)))
 
--- What is world after the poll.
+-- The world after the poll.
 abbrev afterwards : World → ℕ → Party → Answer → Unrecorded → PollChange → World
 afterwards world line party answer u change =
     with_records world (new_records world (map (poll_on u change) (with_new change.added (stored_jobs world.store)))) (record { line = line; party = party; event = PutRecords (Polled change); answer = answer })

@@ -24,7 +24,7 @@ use Rattle.step_laws.proofs.Grown.{table_grows}
 use Rattle.step_laws.proofs.Bodies.{Body, whole_of, keeps_of}
 use Rattle.step_laws.proofs.MuteBodies.{entered, spares_all, body_mute}
 
--- ---- what is world
+-- ---- the world
 
 same_past : {A : Type 0} (n : ℕ) (xs ys : A) → (if n == n then xs else ys) ≡ xs
 same_past {A} n xs ys = by (n == n) (is_itself n)

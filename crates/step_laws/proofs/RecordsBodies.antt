@@ -27,7 +27,7 @@ use Rattle.step_laws.proofs.Bodies.{JobFits, JobKept, Body}
 use Rattle.step_laws.proofs.MuteBodies.{Matches, if_some_to}
 use Rattle.step_laws.proofs.Plain.{SameTables, plain_jobs_after}
 
--- What is world when the records were put.
+-- The world when the records were put.
 abbrev pub with_records : World → Records → Entry → World
 with_records world records entry = record { store = record world.store { records = Some records; history = world.store.history ++ entry ∷ [] }; past = world.past }
 

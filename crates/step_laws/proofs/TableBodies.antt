@@ -1,4 +1,4 @@
--- A table that is put under a new id leaves what is world of all other tables.
+-- A table that is put under a new id leaves what the other tables are.
 use Rattle.std.proofs.Common.{◌≡◌, ◌≢◌, refl, sym, ◌∙◌, ap, subst, ℕ, List, [], ◌∷◌, ◌++◌, cond, Bool, true, false, inl, inr, Option, Some, None}
 use Rattle.std.specs.Prelude.{IsTrue, IfSome, is_some, ◌==◌, ◌||◌, map}
 use Rattle.std.specs.List.{AllByRecursion, list_all, concat}
@@ -32,7 +32,7 @@ use Rattle.step_laws.proofs.Held.{are_put, among_grows, held_grows, held_shrinks
 use Rattle.step_laws.proofs.MuteBodies.{Matches}
 use Rattle.step_laws.proofs.TableReplays.{IsPut, replay_same}
 
--- What is world of a store with one table more, before the entry of its put.
+-- The world of a store with one table more, before the entry of its put.
 abbrev pub with_table : World → ℕ × List Row → World
 with_table world new = record { store = record world.store { tables = world.store.tables ++ new ∷ [] }; past = world.past }
 

@@ -1,6 +1,7 @@
 -- What a history tells of an attempt stays as the history grows, unless a heartbeat names its job.
 use Rattle.std.proofs.Common.{◌≡◌, refl, sym, ◌∙◌, ap, subst, ℕ, List, [], ◌∷◌, ◌++◌, cond, Bool, true, false, Option, Some, None}
 use Rattle.std.specs.Prelude.{if◌then◌else◌, option_map}
+use Rattle.std.specs.Option.{option_or}
 use Rattle.row_model.specs.Ranges.{Range}
 use Rattle.row_model.specs.Settings.{Settings}
 use Rattle.fleet_model.specs.Nodes.{Tables}
@@ -9,7 +10,7 @@ use Rattle.fleet_model.specs.History.{Entry, stood}
 use Rattle.fleet_model.specs.Store.{fresh_store}
 use Rattle.fleet_model.specs.Replay.{Objects, after_entry, plain_objects}
 use Rattle.fleet_model.specs.Attempts.{claim_settings}
-use Rattle.fleet_model.specs.Claimed.{beaten_in, or_else, first_beaten, if_earlier, origin, is_worker, objects_found, objects_at_get, from_claim, claimant_in, objects_at_claim, settings_of, planned_in, first_plan, noted_plan, ranges_of}
+use Rattle.fleet_model.specs.Claimed.{beaten_in, first_beaten, if_earlier, origin, is_worker, objects_found, objects_at_get, from_claim, claimant_in, objects_at_claim, settings_of, planned_in, noted_plan, ranges_of}
 
 get_stays : (tables : Tables) (specs : ℕ → JobSpec) (worker : ℕ) (history later : List Entry) (o p : Objects) → objects_at_get tables specs worker history o ≡ Some p → objects_at_get tables specs worker (history ++ later) o ≡ Some p
 get_stays tables specs worker [] later o p e = absurd (cc e)
@@ -32,20 +33,20 @@ claim_stays tables specs job attempt (entry ∷ history) later o p e =
     by None rest h = rest h
     by (Some worker) rest h = get_stays tables specs worker history later (after_entry tables specs entry o) p h
 
-or_none : (a b : Option ℕ) → b ≡ None → or_else a b ≡ a
+or_none : (a b : Option ℕ) → b ≡ None → option_or a b ≡ a
 or_none None b e = e
 or_none (Some n) b e = refl
 
 pub beaten_stays : (job : ℕ) (history : List Entry) (entry : Entry) → (if stood entry.answer then beaten_in job entry.event else None) ≡ None → first_beaten job (history ++ entry ∷ []) ≡ first_beaten job history
 beaten_stays job [] entry e = or_none (if stood entry.answer then beaten_in job entry.event else None) None refl ∙ e
-beaten_stays job (first ∷ history) entry e = ap (or_else (if stood first.answer then beaten_in job first.event else None)) (beaten_stays job history entry e)
+beaten_stays job (first ∷ history) entry e = ap (option_or (if stood first.answer then beaten_in job first.event else None)) (beaten_stays job history entry e)
 
 plan_stays : (job attempt : ℕ) (history later : List Entry) (ranges : List Range) → noted_plan job attempt history ≡ Some ranges → noted_plan job attempt (history ++ later) ≡ Some ranges
 plan_stays job attempt [] later ranges e = absurd (cc e)
 plan_stays job attempt (entry ∷ history) later ranges e = by (planned_in job attempt entry.event) (λ h. plan_stays job attempt history later ranges h) e
   where
     by : (noted : Option (List Range)) → (noted_plan job attempt history ≡ Some ranges → noted_plan job attempt (history ++ later) ≡ Some ranges)
-        → first_plan noted (noted_plan job attempt history) ≡ Some ranges → first_plan noted (noted_plan job attempt (history ++ later)) ≡ Some ranges
+        → option_or noted (noted_plan job attempt history) ≡ Some ranges → option_or noted (noted_plan job attempt (history ++ later)) ≡ Some ranges
     by None rest h = rest h
     by (Some other) rest h = h
 

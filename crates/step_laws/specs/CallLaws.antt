@@ -11,7 +11,7 @@ use Rattle.step_model.specs.Lawful.{Lawful}
 use Rattle.step_model.specs.Rivals.{Strike, MayStrike, after_call}
 use Rattle.step_model.specs.Keeps.{Keeps}
 
--- A call keeps the invariant and the facts where this condition on its party and on what is world
+-- A call keeps the invariant and the facts where this condition on its party and on the world
 -- holds, whether a fault strikes the call or not.
 abbrev pub CallKeepsIf : Operator → Exchange → (Party → World → Type 0) → Type 0
 CallKeepsIf merge x Fits = (line : ℕ) (party : Party) (strike : Strike) (world : World)

@@ -6,8 +6,10 @@ ghost use Rattle.row_model.specs.Fold.{Operator};
 ghost use Rattle.step_model.specs.Keeps.{Keeps};
 ghost use Rattle.step_model.specs.Past.{fresh_world};
 ghost use Rattle.step_laws.specs.CallLaws.{DrawsKeep, EpochsKeep, FlushesKeep, JobPutsKeep, LooksKeep, OtherCallsKeep, TableCallsKeep, VainPutsKeep, WorkerPutsKeep};
+ghost use Rattle.step_laws.specs.Later.{CallsLeadLater};
 ghost use Rattle.step_laws.specs.Midway.{midway_world};
 ghost use Rattle.step_laws.specs.MidwayCalls.{MidwayIsReached};
+ghost use Rattle.step_laws.specs.RanLaws.{StepsRan};
 ghost use Rattle.step_laws.specs.Replays.{FaithfulAlike};
 ghost use Rattle.step_laws.specs.Runs.{LawfulRunsKeep};
 
@@ -91,4 +93,17 @@ pub fn job_puts_keep()
 /// strikes it or not.
 pub fn other_calls_keep()
     ensures { (merge : Operator) → OtherCallsKeep merge }
+{}
+
+/// A call of anyone leads to a later store, whether a fault strikes it or not, and so do any calls
+/// of others: an object that has the same version is the same, and tables were only added.
+pub fn calls_lead_later()
+    ensures { CallsLeadLater }
+{}
+
+/// A run of a step with the fault that waits is a run, so all laws on runs say something of it. If
+/// nobody else calls the store, it gives exactly the answer, the store and the fault left that the
+/// course gives which runs alone.
+pub fn steps_ran()
+    ensures { StepsRan }
 {}

@@ -1,5 +1,5 @@
 -- The steps by which a worker sends a heartbeat and gives jobs back.
-use Rattle.std.specs.Prelude.{ℕ, zero, suc, if◌then◌else◌, List, [], ◌∷◌, filter, Option, Some, None}
+use Rattle.std.specs.Prelude.{ℕ, if◌then◌else◌, List, [], ◌∷◌, filter, Option, Some, None}
 use Rattle.fleet_model.specs.Jobs.{Context, Jobs}
 use Rattle.fleet_model.specs.History.{Beat, Release}
 use Rattle.fleet_model.specs.Store.{Records}
@@ -7,7 +7,8 @@ use Rattle.fleet_model.specs.Records.{Unrecorded, jobs_after}
 use Rattle.fleet_model.specs.Parties.{Attempt, LiveWorker, attempt_at, attempt_jobs, named_attempts, live_attempts, not_owned, is_live}
 use Rattle.fleet_model.specs.Gates.{is_nonempty}
 use Rattle.step_model.specs.Course.{Course, Ends, gets_records, puts_records}
-use Rattle.step_model.specs.StepEnds.{StepEnd, Reports, GivesUp, most_refused}
+use Rattle.step_model.specs.Tries.{Try, tries}
+use Rattle.step_model.specs.StepEnds.{StepEnd, Reports, most_refused}
 use Rattle.step_model.specs.ClaimSteps.{at_moment}
 
 -- The report of a heartbeat: the jobs that the heartbeat named, the jobs that the worker stops
@@ -46,16 +47,14 @@ abbrev pub beat_by : ℕ → LiveWorker → Option Records → (ℕ → Course (
 beat_by moment w None again = Ends (Reports (beat_report w []))
 beat_by moment w (Some got) again = beat_of moment w got (live_attempts got.jobs w) again
 
--- A heartbeat that may put at most `left` more times. `seen` is the version that its last refused
--- put met.
-abbrev pub beats_from : ℕ → LiveWorker → ℕ → ℕ → Course (StepEnd Beaten)
-beats_from moment w zero seen = Ends (GivesUp seen)
-beats_from moment w (suc left) seen = gets_records (λ got. beat_by moment w got (beats_from moment w left))
+-- One try of a heartbeat.
+abbrev pub beat_try : (moment : ℕ) → LiveWorker → Try Beaten
+beat_try moment w again = gets_records (λ got. beat_by moment w got again)
 
 -- A heartbeat renews the leases of the worker's live attempts to the moment and publishes their
 -- contexts. A worker without attempts calls nothing.
 unfoldable pub heartbeat : ℕ → LiveWorker → Course (StepEnd Beaten)
-heartbeat moment w = if is_nonempty w.attempts then beats_from moment w most_refused 0 else Ends (Reports (beat_report w []))
+heartbeat moment w = if is_nonempty w.attempts then tries (beat_try moment w) most_refused 0 else Ends (Reports (beat_report w []))
 
 -- The release of these live attempts. The step puts the records if there is at least one, and then
 -- goes on with the released jobs.
@@ -71,13 +70,11 @@ abbrev pub release_by : {A : Type 0} → LiveWorker → List Attempt → Option 
 release_by w attempts None next again = next []
 release_by w attempts (Some got) next again = release_live w got (filter (is_live got.jobs w.number) attempts) next again
 
--- A release that may put at most `left` more times. `seen` is the version that its last refused put
--- met.
-abbrev pub releases_from : {A : Type 0} → LiveWorker → List Attempt → (List ℕ → Course (StepEnd A)) → ℕ → ℕ → Course (StepEnd A)
-releases_from w attempts next zero seen = Ends (GivesUp seen)
-releases_from w attempts next (suc left) seen = gets_records (λ got. release_by w attempts got next (releases_from w attempts next left))
+-- One try of a release.
+abbrev pub release_try : {A : Type 0} → LiveWorker → List Attempt → (List ℕ → Course (StepEnd A)) → Try A
+release_try w attempts next again = gets_records (λ got. release_by w attempts got next again)
 
 -- A worker that stops gives back its live attempts and reports their jobs. A worker without
 -- attempts calls nothing.
 unfoldable pub release_all : LiveWorker → Course (StepEnd (List ℕ))
-release_all w = if is_nonempty w.attempts then releases_from w w.attempts (λ released. Ends (Reports released)) most_refused 0 else Ends (Reports [])
+release_all w = if is_nonempty w.attempts then tries (release_try w w.attempts (λ released. Ends (Reports released))) most_refused 0 else Ends (Reports [])

@@ -1,8 +1,8 @@
 -- The step by which a worker claims jobs.
-use Rattle.std.specs.Prelude.{ℕ, zero, suc, ◌+◌, not, ◌&&◌, Bool, List, [], ◌∷◌, map, filter, flat_map, Option, Some, None, bytes_eq}
+use Rattle.std.specs.Prelude.{ℕ, ◌+◌, not, ◌&&◌, Bool, List, [], ◌∷◌, map, filter, flat_map, Option, Some, None}
 use Rattle.std.specs.List.{list_all}
 use Rattle.fleet_model.specs.Nodes.{names_contain, names, tree_at}
-use Rattle.fleet_model.specs.Jobs.{Context, Job, Jobs, ids}
+use Rattle.fleet_model.specs.Jobs.{Context, Job, Jobs, ids, ids_eq}
 use Rattle.fleet_model.specs.History.{Event, GetManifest, Plan, Claim}
 use Rattle.fleet_model.specs.Store.{Manifest, Records}
 use Rattle.fleet_model.specs.Trees.{source_pieces}
@@ -12,7 +12,8 @@ use Rattle.fleet_model.specs.Parties.{Attempt, LiveWorker, without_attempts, wit
 use Rattle.fleet_model.specs.Claims.{stopped_jobs, claimed_jobs, claimed_attempt}
 use Rattle.fleet_model.specs.Exchanges.{Plain}
 use Rattle.step_model.specs.Course.{Course, Ends, Calls, gets_records, calls_each, puts_records}
-use Rattle.step_model.specs.StepEnds.{StepEnd, Reports, GivesUp, most_refused}
+use Rattle.step_model.specs.Tries.{Try, tries}
+use Rattle.step_model.specs.StepEnds.{StepEnd, Reports, most_refused}
 
 -- The options of a worker.
 pub record WorkerOptions : Type 0 where
@@ -39,7 +40,7 @@ pub record Claimed : Type 0 where
 abbrev pub can_start : Manifest → Job → Bool
 can_start manifest job =
     let tree = tree_at job.spec.segment manifest.trees in
-    list_all (names_contain (names tree)) job.spec.sources && bytes_eq (source_pieces job.spec.sources tree) job.source_tables
+    list_all (names_contain (names tree)) job.spec.sources && ids_eq (source_pieces job.spec.sources tree) job.source_tables
 
 -- The note of the ranges that an attempt begins with. It is made only if the job's record has no
 -- context.
@@ -85,13 +86,11 @@ abbrev pub claim_by : WorkerOptions → ℕ → LiveWorker → Option Records �
 claim_by options moment w None again = Ends (Reports (record { begun = []; stopped = []; released = []; attempts = w.attempts }))
 claim_by options moment w (Some got) again = claim_of options moment w got (claimed_jobs options.slots w got.jobs) (ids (stopped_jobs w got.jobs)) again
 
--- A claim that may put at most `left` more times. `seen` is the version that its last refused put
--- met.
-abbrev pub claims_from : WorkerOptions → ℕ → LiveWorker → ℕ → ℕ → Course (StepEnd Claimed)
-claims_from options moment w zero seen = Ends (GivesUp seen)
-claims_from options moment w (suc left) seen = gets_records (λ got. claim_by options moment w got (claims_from options moment w left))
+-- One try of a claim.
+abbrev pub claim_try : WorkerOptions → (moment : ℕ) → LiveWorker → Try Claimed
+claim_try options moment w again = gets_records (λ got. claim_by options moment w got again)
 
 -- A claim takes waiting jobs, at most as many as the worker has free slots. It stops each waiting
 -- job that the worker still runs, and starts the jobs that it took.
 unfoldable pub claim : WorkerOptions → ℕ → LiveWorker → Course (StepEnd Claimed)
-claim options moment w = claims_from options moment w most_refused 0
+claim options moment w = tries (claim_try options moment w) most_refused 0

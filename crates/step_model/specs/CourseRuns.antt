@@ -29,7 +29,7 @@ HasRoom world (DrawsTable moment) = DrawFits world.store
 HasRoom world _ = ⊤
 
 -- The run stops at this call: a fault strikes the call, or memory runs out and it is not made.
--- `met` is what is world before the call, and `new` what the run leaves.
+-- `met` is the world before the call, and `new` what the run leaves.
 abbrev pub StopsAt : {A : Type 0} → Caller → Exchange → (met new : World) → End A → Type 0
 StopsAt who x met new (Gives answer) = ⊥
 StopsAt who x met new MeetsFault = IsTrue (is_get_or_put (event_of x met.store)) × ((stands : Bool) × (new ≡ after_call who.line who.party x (Some stands) met))

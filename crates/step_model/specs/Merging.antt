@@ -1,6 +1,6 @@
 -- How a coordinator merges newer stored objects into its local state.
-use Rattle.std.specs.Prelude.{ℕ, Bool, true, false, not, ◌==◌, if◌then◌else◌, [], ◌∷◌, ◌++◌, map, filter, Option, Some, None}
-use Rattle.fleet_model.specs.Nodes.{NodeName, L0, name_eq, is_l0, Tree, Segment, Trees, segment_at}
+use Rattle.std.specs.Prelude.{ℕ, Bool, true, false, ◌==◌, if◌then◌else◌, [], ◌∷◌, ◌++◌, map, Option, Some, None}
+use Rattle.fleet_model.specs.Nodes.{NodeName, L0, name_eq, is_l0, Tree, Segment, Trees, segment_at, runs_of}
 use Rattle.fleet_model.specs.Jobs.{Status, Submitted, Scheduled, Running, Compacted, Job, Jobs, job_with, put_job}
 use Rattle.fleet_model.specs.Store.{Manifest, Records}
 
@@ -20,10 +20,6 @@ is_watermark (Some flush) name = name_eq (L0 flush) name
 abbrev pub flushes_before : Option ℕ → Tree → Tree
 flushes_before watermark [] = []
 flushes_before watermark (node ∷ tree) = if is_watermark watermark node.name then [] else (if is_l0 node.name then node ∷ flushes_before watermark tree else [])
-
--- The runs of a tree, without its flushes.
-abbrev pub runs_of : Tree → Tree
-runs_of tree = filter (λ node. not (is_l0 node.name)) tree
 
 -- A merged segment: the stored flushes that are newer than the local watermark, then the local
 -- runs, with the local watermark. A stored segment without a local one stays as it is.

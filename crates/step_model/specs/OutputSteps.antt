@@ -1,5 +1,5 @@
 -- The steps by which a worker writes one table of a job and finishes a job.
-use Rattle.std.specs.Prelude.{ℕ, zero, suc, ◌-◌, ◌==◌, Bool, true, false, ◌&&◌, if◌then◌else◌, List, [], ◌∷◌, ◌++◌, map, filter, take, Option, Some, None}
+use Rattle.std.specs.Prelude.{ℕ, ◌-◌, ◌==◌, Bool, true, false, ◌&&◌, if◌then◌else◌, List, [], ◌∷◌, ◌++◌, map, filter, take, Option, Some, None}
 use Rattle.row_model.specs.Rows.{Row}
 use Rattle.row_model.specs.Fold.{Operator}
 use Rattle.row_model.specs.Ranges.{Range, is_after_start, is_before_end}
@@ -8,13 +8,14 @@ use Rattle.fleet_model.specs.Nodes.{Tables, table_rows}
 use Rattle.fleet_model.specs.History.{Event, GetTable, Finish}
 use Rattle.fleet_model.specs.Store.{Records}
 use Rattle.fleet_model.specs.Trees.{first_key, last_key}
-use Rattle.fleet_model.specs.Records.{Unrecorded, no_contexts, jobs_after}
+use Rattle.fleet_model.specs.Records.{Unrecorded, jobs_after}
 use Rattle.fleet_model.specs.Attempts.{rows_left, finish_cut}
 use Rattle.fleet_model.specs.Parties.{Attempt, LiveWorker, without_attempts, put_attempt, is_live}
 use Rattle.step_model.specs.Course.{Course, Ends, gets_records, calls_each, puts_table, puts_ranges, puts_records}
-use Rattle.step_model.specs.StepEnds.{StepEnd, Reports, GivesUp, NotOwner, OperatorRefuses, most_refused}
-use Rattle.step_model.specs.ClaimSteps.{WorkerOptions}
-use Rattle.step_model.specs.BeatSteps.{releases_from}
+use Rattle.step_model.specs.Tries.{Try, tries}
+use Rattle.step_model.specs.StepEnds.{StepEnd, Reports, NotOwner, OperatorRefuses, most_refused}
+use Rattle.step_model.specs.ClaimSteps.{WorkerOptions, at_moment}
+use Rattle.step_model.specs.BeatSteps.{release_try}
 
 -- ---- one table
 
@@ -51,7 +52,7 @@ writes moment w a place (r ∷ rows) = puts_table moment (r ∷ rows) (λ table.
 -- A step after the operator refused a fold: it gives the attempt back if it is live, and ends with
 -- the operator's message.
 abbrev pub gives_back : {A : Type 0} → LiveWorker → Attempt → List ℕ → Course (StepEnd A)
-gives_back w a message = releases_from w (a ∷ []) (λ released. Ends (OperatorRefuses message)) most_refused 0
+gives_back w a message = tries (release_try w (a ∷ []) (λ released. Ends (OperatorRefuses message))) most_refused 0
 
 -- An output after it got the source tables. It puts the next rows, at most `rows` of them. If the
 -- operator refused a fold, it gives the attempt back.
@@ -80,14 +81,17 @@ all_outputs [] new = []
 all_outputs (r ∷ ranges) [] = r.1 ∷ all_outputs ranges []
 all_outputs (r ∷ ranges) (tables ∷ new) = (r.1 ++ tables) ∷ all_outputs ranges new
 
+-- What the history does not record of a finish: the moment, and the cut that the job keeps.
+abbrev pub unrecorded_of_finish : (moment : ℕ) → LiveWorker → Attempt → Unrecorded
+unrecorded_of_finish moment w a = record (at_moment moment) { kept_cut = finish_cut w.release a.context }
+
 -- The end of a job, given whether its attempt is live. If it is, the step puts the records with the
 -- job as Compacted.
 abbrev pub ends_job : ℕ → LiveWorker → Attempt → List (List ℕ) → Records → Bool → (ℕ → Course (StepEnd FinishedJob)) → Course (StepEnd FinishedJob)
 ends_job moment w a outputs got false again = Ends NotOwner
 ends_job moment w a outputs got true again =
     let change = Finish w.number a.job a.number outputs in
-    let unrecorded : Unrecorded = record { moment = moment; published = no_contexts; kept_cut = finish_cut w.release a.context; tables_of = λ spec. [] } in
-    puts_records got change got.epoch (jobs_after unrecorded change got.jobs)
+    puts_records got change got.epoch (jobs_after (unrecorded_of_finish moment w a) change got.jobs)
     (Ends (Reports (record { outputs = outputs; attempts = without_attempts (a.job ∷ []) w.attempts })))
     again
 
@@ -97,16 +101,14 @@ abbrev pub ends_job_by : ℕ → LiveWorker → Attempt → List (List ℕ) → 
 ends_job_by moment w a outputs None again = Ends NotOwner
 ends_job_by moment w a outputs (Some got) again = ends_job moment w a outputs got (is_live got.jobs w.number a) again
 
--- The end of a job, which may put the records at most `left` more times. `seen` is the version that
--- its last refused put met.
-abbrev pub ends_from : ℕ → LiveWorker → Attempt → List (List ℕ) → ℕ → ℕ → Course (StepEnd FinishedJob)
-ends_from moment w a outputs zero seen = Ends (GivesUp seen)
-ends_from moment w a outputs (suc left) seen = gets_records (λ got. ends_job_by moment w a outputs got (ends_from moment w a outputs left))
+-- One try of the end of a job.
+abbrev pub end_try : (moment : ℕ) → LiveWorker → Attempt → List (List ℕ) → Try FinishedJob
+end_try moment w a outputs again = gets_records (λ got. ends_job_by moment w a outputs got again)
 
 -- The worker puts the records with the job as Compacted, if the attempt is live. All tables of the
 -- job are put by then.
 unfoldable pub end_job : ℕ → LiveWorker → Attempt → List (List ℕ) → Course (StepEnd FinishedJob)
-end_job moment w a outputs = ends_from moment w a outputs most_refused 0
+end_job moment w a outputs = tries (end_try moment w a outputs) most_refused 0
 
 -- A finish after it got the source tables. It puts all rows that are left of each range, cut into
 -- tables, and ends the job. If the operator refused a fold, it gives the attempt back.

@@ -1,9 +1,9 @@
--- What is world of a store: the store itself, and its past. The past has each manifest that was ever
+-- A store together with its past, as laws see it. The past has each manifest that was ever
 -- stored in it.
 use Rattle.std.specs.Prelude.{ℕ, ◌==◌, if◌then◌else◌, List, [], ◌∷◌, ◌++◌, find, Option}
 use Rattle.fleet_model.specs.Store.{Manifest, Store, fresh_store}
 
--- A store together with its past manifests, by rising version. The past is world beside the store
+-- A store together with its past manifests, by rising version. The past stands beside the store
 -- because the history keeps no manifest: of a commit it has the ids of the jobs alone.
 pub record World : Type 0 where
   pub store : Store
@@ -18,7 +18,7 @@ fresh_world = record { store = fresh_store; past = fresh_store.manifest ∷ [] }
 abbrev pub past_after : Store → Store → List Manifest → List Manifest
 past_after old new past = if old.manifest.version == new.manifest.version then past else past ++ new.manifest ∷ []
 
--- What is world after a call that left this store.
+-- The world after a call that left this store.
 abbrev pub world_after : World → Store → World
 world_after world store = record { store = store; past = past_after world.store store world.past }
 

@@ -1,8 +1,8 @@
 -- The steps by which a coordinator starts and polls.
-use Rattle.std.specs.Prelude.{ℕ, zero, suc, ◌+◌, ◌==◌, Bool, ◌&&◌, nat_lt, max, if◌then◌else◌, List, [], Option, Some, None, bytes_eq}
+use Rattle.std.specs.Prelude.{ℕ, zero, suc, ◌+◌, ◌==◌, Bool, ◌&&◌, nat_lt, max, if◌then◌else◌, List, [], Option, Some, None}
 use Rattle.std.specs.Cmp.Lexicographic.{pointwise}
 use Rattle.fleet_model.specs.Nodes.{Node, Segment, Tables, name_eq}
-use Rattle.fleet_model.specs.Jobs.{JobSpec, Jobs, trimmed_jobs}
+use Rattle.fleet_model.specs.Jobs.{JobSpec, Jobs, ids_eq, trimmed_jobs}
 use Rattle.fleet_model.specs.History.{GetRecords, ManifestEpoch, Commit, RecordsEpoch, Polled}
 use Rattle.fleet_model.specs.Store.{Manifest, Records, jobs_in, records_epoch}
 use Rattle.fleet_model.specs.Scheduler.{Scheduler}
@@ -10,6 +10,7 @@ use Rattle.fleet_model.specs.PollStates.{PollOptions, PollInput, PollState, poll
 use Rattle.fleet_model.specs.Polls.{free_stale, commit_finished, proposals, committed_poll, add_drawn, open_submitted, change_of, is_nothing}
 use Rattle.fleet_model.specs.Exchanges.{Plain, PutsRecords, records_version}
 use Rattle.step_model.specs.Course.{Course, Ends, Calls, gets_manifest, gets_records, draws_jobs, puts_manifest, puts_records}
+use Rattle.step_model.specs.Tries.{Try, counted_tries, tries}
 use Rattle.step_model.specs.StepEnds.{StepEnd, Reports, GivesUp, Fenced, most_refused}
 use Rattle.step_model.specs.Merging.{merged_jobs}
 
@@ -40,18 +41,17 @@ abbrev pub puts_epoch : Option Records → ℕ → Course (StepEnd ℕ) → (ℕ
 puts_epoch records epoch next again =
     Calls (PutsRecords (records_version records) (RecordsEpoch epoch) epoch (trimmed_jobs (jobs_in records))) (λ met. if records_version records == records_version met.records then next else again (records_version met.records))
 
--- A start that gives up after `left` more refused puts, of the manifest and of the records
--- together. `seen` is the version that the last refused put met.
-abbrev pub starts_from : ℕ → ℕ → Course (StepEnd ℕ)
-starts_from zero seen = Ends (GivesUp seen)
-starts_from (suc left) seen = gets_manifest (λ manifest. gets_records (λ records.
+-- One try of a start. A refused put of either object begins the start again.
+abbrev pub start_try : Try ℕ
+start_try again = gets_manifest (λ manifest. gets_records (λ records.
     let epoch = epoch_above manifest records in
-    puts_manifest manifest.version (ManifestEpoch epoch) (record manifest { epoch = epoch }) (puts_epoch records epoch (holds_at_start epoch) (starts_from left)) (starts_from left)))
+    puts_manifest manifest.version (ManifestEpoch epoch) (record manifest { epoch = epoch })
+    (puts_epoch records epoch (holds_at_start epoch) again) again))
 
 -- A start puts an epoch above both stored ones, first into the manifest and then into the records.
 -- It reports the epoch.
 unfoldable pub start : Course (StepEnd ℕ)
-start = starts_from most_refused 0
+start = tries start_try most_refused 0
 
 -- ---- polls
 
@@ -65,7 +65,7 @@ pub record PollAsk : Type 0 where
 
 -- Two nodes have the same name, flushes and tables.
 abbrev pub node_eq : Node → Node → Bool
-node_eq a b = name_eq a.name b.name && bytes_eq a.flushes b.flushes && bytes_eq a.pieces b.pieces
+node_eq a b = name_eq a.name b.name && ids_eq a.flushes b.flushes && ids_eq a.pieces b.pieces
 
 -- Two segments have the same nodes in the same order.
 abbrev pub same_tree : Segment → Segment → Bool
@@ -130,14 +130,12 @@ polls_over ask tables manifest got left seen again =
     let p = first_steps ask input in
     draws_jobs ask.moment (proposed_specs ask input p) (λ drawn. puts_trees ask.epoch (last_steps ask input drawn p) manifest got left seen again)
 
--- A poll that gives up after `left` more refused puts in a row. `seen` is the version that the last
--- refused put met.
-abbrev pub polls_from : PollAsk → ℕ → ℕ → Course (StepEnd PollState)
-polls_from ask zero seen = Ends (GivesUp seen)
-polls_from ask (suc left) seen = gets_manifest (λ manifest. unless_fenced ask.epoch manifest.epoch (Calls (Plain GetRecords) (λ met.
+-- One try of a poll. `left` and `seen` are those of `counted_tries`: its puts of the records count on.
+abbrev pub poll_try : PollAsk → (left seen : ℕ) → Try PollState
+poll_try ask left seen again = gets_manifest (λ manifest. unless_fenced ask.epoch manifest.epoch (Calls (Plain GetRecords) (λ met.
     let got = records_or_none met.records in
-    unless_fenced ask.epoch got.epoch (polls_over ask met.tables manifest got (suc left) seen (polls_from ask left)))))
+    unless_fenced ask.epoch got.epoch (polls_over ask met.tables manifest got (suc left) seen again))))
 
 -- A poll of a coordinator. It reports the state that it reached, which says what it did.
 unfoldable pub poll : PollAsk → Course (StepEnd PollState)
-poll ask = polls_from ask most_refused 0
+poll ask = counted_tries (poll_try ask) most_refused 0

@@ -18,7 +18,7 @@ abbrev pub store_after_call : ℕ → Party → Exchange → Strike → Store �
 store_after_call line party x None store = after_answered line party x store
 store_after_call line party x (Some stands) store = struck_by stands line party x store
 
--- What is world after a call.
+-- The world after a call.
 abbrev pub after_call : ℕ → Party → Exchange → Strike → World → World
 after_call line party x strike world = world_after world (store_after_call line party x strike world.store)
 
@@ -55,7 +55,7 @@ pub record IsRival (who : Caller) (world : World) (call : RivalCall) : Type 0 wh
   pub strike : MayStrike call.exchange world call.strike
   pub deletes_none : is_deletion call.exchange ≡ false
 
--- What is world after the call of another party.
+-- The world after the call of another party.
 abbrev pub after_rival : RivalCall → World → World
 after_rival call world = after_call call.line call.party call.exchange call.strike world
 

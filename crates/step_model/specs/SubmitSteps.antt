@@ -1,5 +1,5 @@
 -- The steps by which jobs are submitted.
-use Rattle.std.specs.Prelude.{ℕ, zero, suc, List, [], ◌∷◌, Option, Some, None}
+use Rattle.std.specs.Prelude.{ℕ, List, [], ◌∷◌, Option, Some, None}
 use Rattle.fleet_model.specs.Jobs.{JobSpec}
 use Rattle.fleet_model.specs.History.{GetManifest, Submit}
 use Rattle.fleet_model.specs.Store.{Records}
@@ -8,7 +8,8 @@ use Rattle.fleet_model.specs.Scheduler.{Scheduler, Request, Generated, Specs, sh
 use Rattle.fleet_model.specs.Scheduler as scheduler
 use Rattle.fleet_model.specs.Exchanges.{Plain}
 use Rattle.step_model.specs.Course.{Course, Ends, Calls, gets_records, draws_jobs, puts_records}
-use Rattle.step_model.specs.StepEnds.{StepEnd, Reports, GivesUp, NoRecords, Invalid, Declined, most_refused}
+use Rattle.step_model.specs.Tries.{Try, tries}
+use Rattle.step_model.specs.StepEnds.{StepEnd, Reports, NoRecords, Invalid, Declined, most_refused}
 use Rattle.step_model.specs.ClaimSteps.{at_moment}
 
 -- The submission of these jobs, each with its id. If there is at least one, the step puts the
@@ -28,15 +29,13 @@ abbrev pub submit_by : ℕ → List JobSpec → Option Records → (ℕ → Cour
 submit_by moment specs None again = Ends NoRecords
 submit_by moment specs (Some got) again = submits_specs moment got specs again
 
--- A submission that may put at most `left` more times. `seen` is the version that its last refused
--- put met.
-abbrev pub submits_from : ℕ → List JobSpec → ℕ → ℕ → Course (StepEnd (List ℕ))
-submits_from moment specs zero seen = Ends (GivesUp seen)
-submits_from moment specs (suc left) seen = gets_records (λ got. submit_by moment specs got (submits_from moment specs left))
+-- One try of a submission.
+abbrev pub submit_try : (moment : ℕ) → List JobSpec → Try (List ℕ)
+submit_try moment specs again = gets_records (λ got. submit_by moment specs got again)
 
 -- A submission of jobs of these specs. It reports their ids.
 unfoldable pub submit : ℕ → List JobSpec → Course (StepEnd (List ℕ))
-submit moment specs = submits_from moment specs most_refused 0
+submit moment specs = tries (submit_try moment specs) most_refused 0
 
 -- A submission of the specs that the scheduler generated. If the scheduler refuses the request, the
 -- step ends with that refusal.
@@ -52,13 +51,11 @@ request_by moment asked request None again = Ends NoRecords
 request_by moment asked request (Some got) again =
     Calls (Plain GetManifest) (λ met. submits_generated moment got (asked.generate (shown_view met.tables met.manifest got got.jobs) request) again)
 
--- A request that may put at most `left` more times. `seen` is the version that its last refused put
--- met.
-abbrev pub requests_from : ℕ → Scheduler → Request → ℕ → ℕ → Course (StepEnd (List ℕ))
-requests_from moment asked request zero seen = Ends (GivesUp seen)
-requests_from moment asked request (suc left) seen = gets_records (λ got. request_by moment asked request got (requests_from moment asked request left))
+-- One try of a request.
+abbrev pub request_try : (moment : ℕ) → Scheduler → Request → Try (List ℕ)
+request_try moment asked request again = gets_records (λ got. request_by moment asked request got again)
 
 -- A request: the scheduler generates specs for it, and the step submits jobs of these specs and
 -- reports their ids.
 unfoldable pub submit_request : ℕ → Scheduler → Request → Course (StepEnd (List ℕ))
-submit_request moment asked request = requests_from moment asked request most_refused 0
+submit_request moment asked request = tries (request_try moment asked request) most_refused 0

@@ -5,6 +5,7 @@ use Rattle.std.specs.Prelude.{IsTrue, IfSome, ◌==◌, ◌&&◌, map, find, if�
 use Rattle.std.specs.List.{AllByRecursion}
 use Rattle.std.proofs.lemmas.Bool.Decides.{Decides-eqb}
 use Rattle.std.proofs.lemmas.List.{append_assoc}
+use Rattle.std.specs.Option.{option_or}
 use Rattle.row_model.specs.Lists.{Pairs}
 use Rattle.row_model.specs.Ranges.{Range}
 use Rattle.fleet_model.specs.Nodes.{Tables}
@@ -12,7 +13,7 @@ use Rattle.fleet_model.specs.Jobs.{JobSpec, Job, Jobs, job_with}
 use Rattle.fleet_model.specs.History.{Party, Worker, Event, GetManifest, PutRecords, Claim, Plan, Answer, Done, Entry, stood}
 use Rattle.fleet_model.specs.Store.{stored_jobs}
 use Rattle.fleet_model.specs.Replay.{Objects, after_entry, replayed_objects}
-use Rattle.fleet_model.specs.Claimed.{number_in, attempt_number_at, is_same, is_worker, objects_found, objects_at_get, from_claim, claimant_in, objects_at_claim, planned_in, first_plan, noted_plan}
+use Rattle.fleet_model.specs.Claimed.{number_in, attempt_number_at, is_same, is_worker, objects_found, objects_at_get, from_claim, claimant_in, objects_at_claim, planned_in, noted_plan}
 use Rattle.fleet_model.specs.Exchanges.{Exchange, Plain, DrawsJob, DrawsTable, PutsTable, PutsManifest, PutsRecords, ListsTables, DeletesTable, event_of}
 use Rattle.step_model.specs.Past.{World}
 use Rattle.step_model.specs.Entries.{is_claim_of, was_claimed, is_in, claimed_attempts, attempts_in, planned_attempts}
@@ -153,24 +154,24 @@ rivals_await who worker job attempt old new keep own kept rivals a = rivals_hold
 
 -- ---- the note of the plan
 
-noted_push : (job attempt : ℕ) (history : List Entry) (entry : Entry) → noted_plan job attempt history ≡ None → noted_plan job attempt (history ++ entry ∷ []) ≡ first_plan (planned_in job attempt entry.event) None
+noted_push : (job attempt : ℕ) (history : List Entry) (entry : Entry) → noted_plan job attempt history ≡ None → noted_plan job attempt (history ++ entry ∷ []) ≡ option_or (planned_in job attempt entry.event) None
 noted_push job attempt [] entry e = refl
 noted_push job attempt (x ∷ history) entry e = by (planned_in job attempt x.event) (noted_push job attempt history entry) e
   where
-    by : (o : Option (List Range)) → (noted_plan job attempt history ≡ None → noted_plan job attempt (history ++ entry ∷ []) ≡ first_plan (planned_in job attempt entry.event) None) → first_plan o (noted_plan job attempt history) ≡ None
-        → first_plan o (noted_plan job attempt (history ++ entry ∷ [])) ≡ first_plan (planned_in job attempt entry.event) None
+    by : (o : Option (List Range)) → (noted_plan job attempt history ≡ None → noted_plan job attempt (history ++ entry ∷ []) ≡ option_or (planned_in job attempt entry.event) None) → option_or o (noted_plan job attempt history) ≡ None
+        → option_or o (noted_plan job attempt (history ++ entry ∷ [])) ≡ option_or (planned_in job attempt entry.event) None
     by None rest e = rest e
     by (Some ranges) rest e = absurd (cc e)
 
 pub noted_none : (job attempt : ℕ) (history : List Entry) (entry : Entry) → noted_plan job attempt history ≡ None → planned_in job attempt entry.event ≡ None → noted_plan job attempt (history ++ entry ∷ []) ≡ None
-noted_none job attempt history entry e none = noted_push job attempt history entry e ∙ ap (λ o. first_plan o None) none
+noted_none job attempt history entry e none = noted_push job attempt history entry e ∙ ap (λ o. option_or o None) none
 
 -- The first note of an attempt has its ranges.
 pub noted_now : (job attempt : ℕ) (history : List Entry) (line : ℕ) (party : Party) (ranges : List Range) (answer : Answer) → noted_plan job attempt history ≡ None
     → noted_plan job attempt (history ++ record { line = line; party = party; event = Plan job attempt ranges; answer = answer } ∷ []) ≡ Some ranges
 noted_now job attempt history line party ranges answer e =
-    noted_push job attempt history (record { line = line; party = party; event = Plan job attempt ranges; answer = answer }) e ∙ ap (λ b. first_plan (cond (b && (attempt == attempt)) (Some ranges) None) None) (is_itself job)
-    ∙ ap (λ b. first_plan (cond b (Some ranges) None) None) (is_itself attempt)
+    noted_push job attempt history (record { line = line; party = party; event = Plan job attempt ranges; answer = answer }) e ∙ ap (λ b. option_or (cond (b && (attempt == attempt)) (Some ranges) None) None) (is_itself job)
+    ∙ ap (λ b. option_or (cond b (Some ranges) None) None) (is_itself attempt)
 
 -- The attempt that is planned in an event is noted there.
 planned_there : (job attempt : ℕ) (event : Event) → (o : Option (List Range)) → planned_in job attempt event ≡ o → (IsIn (job, attempt) (planned_attempts event) → ⊥) → o ≡ None
@@ -190,7 +191,7 @@ planned_there job attempt event (Some ranges) e none = absurd (none (at event e)
 pub none_planned : (history old : List Entry) (jobs : Jobs) (job : Job) → AllByRecursion (λ (entry : Entry). AllByRecursion (IsUpTo history jobs) (planned_attempts entry.event)) old → job_with job.id jobs ≡ Some job → noted_plan job.id (job.attempt + 1) old ≡ None
 none_planned history [] jobs job all stored = refl
 none_planned history (entry ∷ old) jobs job all stored =
-    ap (λ o. first_plan o (noted_plan job.id (job.attempt + 1) old)) (planned_there job.id (job.attempt + 1) entry.event (planned_in job.id (job.attempt + 1) entry.event) refl none) ∙ none_planned history old jobs job all.1 stored
+    ap (λ o. option_or o (noted_plan job.id (job.attempt + 1) old)) (planned_there job.id (job.attempt + 1) entry.event (planned_in job.id (job.attempt + 1) entry.event) refl none) ∙ none_planned history old jobs job all.1 stored
   where
     none : IsIn (job.id, job.attempt + 1) (planned_attempts entry.event) → ⊥
     none there =

@@ -16,9 +16,10 @@ use Rattle.step_model.specs.LawfulRecords.{OfSome}
 use Rattle.step_model.specs.Rivals.{Caller, Rivals, after_call}
 use Rattle.step_model.specs.Fits.{WorkerHolds}
 use Rattle.step_model.specs.Course.{Course, Ends}
+use Rattle.step_model.specs.Tries.{tries}
 use Rattle.step_model.specs.CourseRuns.{End, Gives, Runs, IsLawfulCourse}
 use Rattle.step_model.specs.StepEnds.{StepEnd, Reports, GivesUp, most_refused}
-use Rattle.step_model.specs.BeatSteps.{Beaten, published_by, context_of, beat_report, beat_of, beat_by, beats_from, heartbeat}
+use Rattle.step_model.specs.BeatSteps.{Beaten, published_by, context_of, beat_report, beat_of, beat_by, beat_try, heartbeat}
 use Rattle.step_laws.proofs.Elements.{IsIn, all_from, all_to, contains_in, in_contains, is_itself}
 use Rattle.step_laws.proofs.Changed.{on_these, found_job, job_found}
 use Rattle.rival_laws.proofs.JobsMerged.{StayActive, changed_stay, with_changed}
@@ -207,17 +208,17 @@ over : (who : Caller) (w : LiveWorker) (moment : ℕ) (again : ℕ → Course (S
 over who w moment again r tries met None is new end fit lawful run = let world = after_call who.line who.party (Plain GetRecords) None met in reports who w [] world new end fit.holds (none_live world w) run
 over who w moment again r tries met (Some got) is new end fit lawful run = those who w moment again r tries met got (live_attempts got.jobs w) is refl new end fit lawful run
 
-beats : (who : Caller) (w : LiveWorker) (moment : ℕ) → Relies who w → (left seen : ℕ) (old new : World) (end : End (StepEnd Beaten)) → After who w (beats_from moment w left seen) old new end
+beats : (who : Caller) (w : LiveWorker) (moment : ℕ) → Relies who w → (left seen : ℕ) (old new : World) (end : End (StepEnd Beaten)) → After who w (tries (beat_try moment w) left seen) old new end
 beats who w moment r zero seen old new end fit lawful run = left_ended who w (λ (report : Beaten). report.attempts) (AreBeaten w.number) (GivesUp seen) old new end (λ report e. absurd (cc e)) fit.holds run
-beats who w moment r (suc left) seen old new end fit lawful run = call_by (Left who w (λ (report : Beaten). report.attempts) (AreBeaten w.number) new end) who w (Plain GetRecords) (λ (s : Store). beat_by moment w s.records (beats_from moment w left)) old new end r fit lawful run
+beats who w moment r (suc left) seen old new end fit lawful run = call_by (Left who w (λ (report : Beaten). report.attempts) (AreBeaten w.number) new end) who w (Plain GetRecords) (λ (s : Store). beat_by moment w s.records (tries (beat_try moment w) left)) old new end r fit lawful run
     (λ at there stops. left_stopped who w (λ (report : Beaten). report.attempts) (AreBeaten w.number) (Plain GetRecords) at new end there.holds stops)
-    (λ m. over who w moment (beats_from moment w left) r (λ version one other last. beats who w moment r left version one other last) m.met m.met.store.records refl new end (fit_got who w m.met r.keep m.fit) m.further m.run)
+    (λ m. over who w moment (tries (beat_try moment w) left) r (λ version one other last. beats who w moment r left version one other last) m.met m.met.store.records refl new end (fit_got who w m.met r.keep m.fit) m.further m.run)
 
 beat_fits : (who : Caller) (w : LiveWorker) (moment : ℕ) → Relies who w → (old new : World) (end : End (StepEnd Beaten)) → After who w (heartbeat moment w) old new end
 unfolding heartbeat
 beat_fits who w moment r old new end = by (is_nonempty w.attempts)
   where
-    by : (b : Bool) → After who w (cond b (beats_from moment w most_refused 0) (Ends (Reports (beat_report w [])))) old new end
+    by : (b : Bool) → After who w (cond b (tries (beat_try moment w) most_refused 0) (Ends (Reports (beat_report w [])))) old new end
     by true = beats who w moment r most_refused 0 old new end
     by false = λ fit lawful run. reports who w [] old new end fit.holds (none_live old w) run
 

@@ -11,7 +11,7 @@ use Rattle.fleet_model.specs.History.{Worker, GetManifest, GetRecords, RecordCha
 use Rattle.fleet_model.specs.Claimed.{noted_plan}
 use Rattle.fleet_model.specs.Store.{Store, Records, jobs_in, stored_jobs}
 use Rattle.fleet_model.specs.Records.{jobs_after}
-use Rattle.fleet_model.specs.Attempts.{ClaimInput, context_or, fresh_context}
+use Rattle.fleet_model.specs.Attempts.{context_or, fresh_context}
 use Rattle.fleet_model.specs.Claims.{is_waiting, may_take, claimed_jobs, stopped_jobs, claimed_attempt}
 use Rattle.fleet_model.specs.Parties.{Attempt, LiveWorker, attempt_jobs, runs_attempt, without_attempts, put_attempt, with_attempts}
 use Rattle.fleet_model.specs.Exchanges.{Exchange, Plain, PutsRecords, records_version}
@@ -21,9 +21,10 @@ use Rattle.step_model.specs.Keeps.{Keeps}
 use Rattle.step_model.specs.Faithful.{Faithful}
 use Rattle.step_model.specs.Fits.{WorkerHolds}
 use Rattle.step_model.specs.Course.{Course, Ends, Calls}
-use Rattle.step_model.specs.CourseRuns.{End, Gives, Runs, IsLawfulCourse}
+use Rattle.step_model.specs.Tries.{tries}
+use Rattle.step_model.specs.CourseRuns.{End, Gives, StopsAt, Runs, IsLawfulCourse}
 use Rattle.step_model.specs.StepEnds.{StepEnd, Reports, GivesUp, most_refused}
-use Rattle.step_model.specs.ClaimSteps.{WorkerOptions, Claimed, at_moment, can_start, starts_claimed, claim_of, claim_by, claims_from, claim}
+use Rattle.step_model.specs.ClaimSteps.{WorkerOptions, Claimed, at_moment, can_start, starts_claimed, claim_of, claim_by, claim_try, claim}
 use Rattle.step_laws.proofs.Elements.{IsIn, all_at, all_from, all_to, all_append, contains_no, in_contains}
 use Rattle.step_laws.proofs.Changed.{found_job}
 use Rattle.step_laws.proofs.Mute.{mute_event}
@@ -40,6 +41,11 @@ use Rattle.course_laws.proofs.Later.{later_itself, later_met}
 use Rattle.course_laws.proofs.Puts.{got_records}
 use Rattle.course_laws.proofs.Made.{Relies}
 use Rattle.course_laws.proofs.Held.{refused}
+use Rattle.course_laws.specs.Afterwards.{ComesAfter}
+use Rattle.course_laws.proofs.Afterwards.{comes_itself, comes_then, comes_by, comes_met, comes_called}
+use Rattle.step_laws.specs.Runs.{CallsKeep}
+use Rattle.worker_laws.specs.ClaimReports.{claim_input, IsLost, TookThese, TookOf, ClaimDid, ClaimsReport}
+use Rattle.worker_laws.proofs.CanStart.{lost_at}
 use Rattle.worker_laws.specs.Claims.{TakesOver, ClaimSays, ClaimsKeepFit}
 use Rattle.worker_laws.proofs.Attempts.{all_put, holds_fewer}
 use Rattle.worker_laws.proofs.Runs.{Made, Left, call_by, left_stopped, left_reported, left_ended}
@@ -197,18 +203,14 @@ pending_after who w moment put got these same chosen e kept afterwards = all_fro
 
 -- ---- the get
 
--- The input of the claim that gets the manifest of this store.
-abbrev input_at : WorkerOptions → ℕ → LiveWorker → Store → ClaimInput
-input_at options moment w met = record { release = w.release; manifest = met.manifest; moment = moment; retention = options.retention; most = options.most_ranges; tables = met.tables }
-
 abbrev began_at : WorkerOptions → ℕ → LiveWorker → Store → Began
-began_at options moment w met = record { w = w; input = input_at options moment w met; moment = moment; release = refl }
+began_at options moment w met = record { w = w; input = claim_input options moment w met; moment = moment; release = refl }
 
 starting_at : (who : Caller) (options : WorkerOptions) (moment : ℕ) (w : LiveWorker) (met : World) (job : Job) → Keeps who.merge met → who.party ≡ Worker w.number → IsPending who.merge met w moment job
     → IsStarting who.merge (after_call who.line who.party (Plain GetManifest) None met) (began_at options moment w met.store) job
 starting_at who options moment w met job k own (inl s) = inl (record {
   none = s.none;
-  begun = begins_at_get who w (input_at options moment w met.store) moment met job k own (record { release = refl; manifest = refl; tables = refl }) s.waits s.awaits;
+  begun = begins_at_get who w (claim_input options moment w met.store) moment met job k own (record { release = refl; manifest = refl; tables = refl }) s.waits s.awaits;
   unplanned = follow_plain (λ world. IsUnplanned w.number job.id (job.attempt + 1) world.store.history) who.line who.party GetManifest met (single w (attempt_with job blank)) (mute_event true GetManifest refl) (λ f. record {
     claimed = claim_grows met.store.history (plain_entry who.line who.party GetManifest met) w.number job.id (job.attempt + 1) s.unplanned.claimed;
     none = noted_none job.id (job.attempt + 1) met.store.history (plain_entry who.line who.party GetManifest met) s.unplanned.none refl;
@@ -217,8 +219,8 @@ starting_at who options moment w met job k own (inl s) = inl (record {
 starting_at who options moment w met job k own (inr t) =
     let over = follow_plain (λ world. TookOver who.merge world w moment job) who.line who.party GetManifest met (single w (attempt_with job (over_taken w t.context))) (mute_event true GetManifest refl)
     (λ f. over_follow who.merge met (plain_world who.line who.party GetManifest met) w moment job t k.stored.replay.specs k.faithful f) in
-    let same_over : claimed_attempt (input_at options moment w met.store) job ≡ attempt_with job (over_taken w over.context) =
-    ap (λ o. attempt_with job (context_or (knows_cut w.release) o (fresh_context (input_at options moment w met.store) job))) over.is in
+    let same_over : claimed_attempt (claim_input options moment w met.store) job ≡ attempt_with job (over_taken w over.context) =
+    ap (λ o. attempt_with job (context_or (knows_cut w.release) o (fresh_context (claim_input options moment w met.store) job))) over.is in
     inr (record {
       context = over.context;
       is = over.is;
@@ -227,9 +229,21 @@ starting_at who options moment w met job k own (inr t) =
 
 -- ---- what the report says
 
+-- Who claims, with what, and the world as its claim began.
+record Claimant : Type 0 where
+  pub who : Caller
+  pub options : WorkerOptions
+  pub moment : ℕ
+  pub w : LiveWorker
+  pub start : World
+
+-- What the claim did.
+abbrev Did : Claimant → Claimed → Type 0
+Did c report = ClaimDid c.who c.options c.moment c.w c.start report
+
 -- What is so of the report.
-abbrev says : LiveWorker → World → Claimed → Type 0
-says w world report = ClaimSays world w report
+abbrev says : Claimant → World → Claimed → Type 0
+says c world report = ClaimSays world c.w report × Did c report
 
 -- The worker ran all these jobs.
 abbrev AreRun : LiveWorker → List ℕ → Type 0
@@ -335,115 +349,180 @@ released_idle b these left can rise none = all_map _ (λ (job : Job). job.id) (f
 -- ---- the starts
 
 -- What a lawful course leads to, from a store that the worker fits.
-abbrev After : Caller → LiveWorker → Course (StepEnd Claimed) → (old new : World) → End (StepEnd Claimed) → Type 0
-After who w course old new end = Fit who w old → IsLawfulCourse who old course → Runs who course old new end → Left who w (λ (report : Claimed). report.attempts) (says w) new end
+abbrev After : Claimant → Course (StepEnd Claimed) → (old new : World) → End (StepEnd Claimed) → Type 0
+After c course old new end = Fit c.who c.w old → IsLawfulCourse c.who old course → Runs c.who course old new end → Left c.who c.w (λ (report : Claimed). report.attempts) (says c) new end
+
+-- Where a run stops, the worker fits with the attempts that it ran before.
+stops : (c : Claimant) (x : Exchange) (met new : World) (end : End (StepEnd Claimed)) → Fit c.who c.w met → StopsAt c.who x met new end → Left c.who c.w (λ (report : Claimed). report.attempts) (says c) new end
+stops c x met new end fit stop = left_stopped c.who c.w (λ (report : Claimed). report.attempts) (says c) x met new end fit.holds stop
 
 other_jobs : (w : LiveWorker) (keep : Attempt → Bool) (these : Jobs) → NotRun w these → AllByRecursion (λ job. AllByRecursion (λ (other : Attempt). other.job ≡ job.id → ⊥) (filter keep w.attempts)) these
 other_jobs w keep these none = all_to _ _ these (λ job there lacks. all_filter (λ (other : Attempt). other.job ≡ job.id → ⊥) keep w.attempts (all_from _ w.attempts (λ other one same.
     refused (contains (attempt_jobs w.attempts) job.id) lacks (in_contains (attempt_jobs w.attempts) job.id (subst (λ id. IsIn id (attempt_jobs w.attempts)) same (in_map (λ (x : Attempt). x.job) w.attempts other one)))))) none
 
-started : (who : Caller) (b : Began) (these : Jobs) (left : List ℕ) → AreRun b.w left → Relies who b.w → (new : World) (end : End (StepEnd Claimed)) (old : World) → Pairs (λ x y. x.id < y.id) these → NotRun b.w these → AllByRecursion (IsStarting who.merge old b) these
-    → After who b.w (starts_claimed b.input b.w these left) old new end
-started who b these left ran r new end old rise none starting fit lawful run =
-    plans_noted (Left who b.w (λ (report : Claimed). report.attempts) (says b.w) new end) who b (Ends (Reports report)) new end r (λ x met there stop. left_stopped who b.w (λ (report : Claimed). report.attempts) (says b.w) x met new end there.holds stop) chosen
+-- The report of a claim that starts these jobs under the manifest of this store.
+abbrev started_report : Claimant → Store → Jobs → List ℕ → Claimed
+started_report c shown these left =
+    let begun = map (claimed_attempt (claim_input c.options c.moment c.w shown)) (filter (can_start shown.manifest) these) in
+    record { begun = begun; stopped = left; released = ids (filter (λ job. not (can_start shown.manifest job)) these); attempts = with_attempts begun (without_attempts left c.w.attempts) }
+
+started : (c : Claimant) (shown : Store) (these : Jobs) (left : List ℕ) → AreRun c.w left → Relies c.who c.w → Did c (started_report c shown these left) → (new : World) (end : End (StepEnd Claimed)) (old : World) → Pairs (λ x y. x.id < y.id) these → NotRun c.w these
+    → AllByRecursion (IsStarting c.who.merge old (began_at c.options c.moment c.w shown)) these → After c (starts_claimed (claim_input c.options c.moment c.w shown) c.w these left) old new end
+started c shown these left ran r did new end old rise none starting fit lawful run =
+    plans_noted (Left c.who c.w (λ (report : Claimed). report.attempts) (says c) new end) c.who b (Ends (Reports report)) new end r (λ x met there stop. stops c x met new end there stop) chosen
     ends chosen (pairs_filter _ can these rise) old fit (all_filter _ can these starting) (λ job there. inl there) lawful run
   where
+    b : Began
+    b = began_at c.options c.moment c.w shown
+
     can : Job → Bool
-    can job = can_start b.input.manifest job
+    can job = can_start shown.manifest job
 
     chosen : Jobs
     chosen = filter can these
 
     report : Claimed
-    report = record {
-      begun = map (claimed_attempt b.input) chosen;
-      stopped = left;
-      released = ids (filter (λ job. not (can job)) these);
-      attempts = with_attempts (map (claimed_attempt b.input) chosen) (without_attempts left b.w.attempts);
-    }
+    report = started_report c shown these left
 
-    ends : (world : World) → Fit who b.w world → ((job : Job) → IsIn job chosen → IsStarted who.merge world b job) → IsLawfulCourse who world (Ends (Reports report)) → Runs who (Ends (Reports report)) world new end
-        → Left who b.w (λ (report : Claimed). report.attempts) (says b.w) new end
+    ends : (world : World) → Fit c.who c.w world → ((job : Job) → IsIn job chosen → IsStarted c.who.merge world b job) → IsLawfulCourse c.who world (Ends (Reports report)) → Runs c.who (Ends (Reports report)) world new end
+        → Left c.who c.w (λ (report : Claimed). report.attempts) (says c) new end
     ends world there all lawful run =
         let keep = λ (a : Attempt). not (contains left a.job) in
-        left_reported who b.w (λ (r : Claimed). r.attempts) (says b.w) report world new end there.holds
-        (holds_begun who.merge world b there.kept chosen (without_attempts left b.w.attempts) (pairs_filter _ can these rise) (all_from _ chosen all) (all_filter _ can these (other_jobs b.w keep these none)) (holds_fewer who.merge world b.w keep there.holds)) (record {
-          begun = all_map (TakesOver world b.w) (claimed_attempt b.input) chosen (all_from _ chosen (λ job one. takes_over world b job (all job one).runs));
-          idle = all_append _ left (ids (filter (λ job. not (can job)) these)) (left_idle b these left can rise none ran) (released_idle b these left can rise none);
-        }) run
+        left_reported c.who c.w (λ (r : Claimed). r.attempts) (says c) report world new end there.holds
+        (holds_begun c.who.merge world b there.kept chosen (without_attempts left c.w.attempts) (pairs_filter _ can these rise) (all_from _ chosen all) (all_filter _ can these (other_jobs c.w keep these none)) (holds_fewer c.who.merge world c.w keep there.holds)) (
+          record {
+            begun = all_map (TakesOver world c.w) (claimed_attempt b.input) chosen (all_from _ chosen (λ job one. takes_over world b job (all job one).runs));
+            idle = all_append _ left (ids (filter (λ job. not (can job)) these)) (left_idle b these left can rise none ran) (released_idle b these left can rise none);
+          },
+          did,
+        ) run
 
 -- ---- tries
 
-after_put : (who : Caller) (options : WorkerOptions) (moment : ℕ) (w : LiveWorker) (these : Jobs) (left : List ℕ) → AreRun w left → Relies who w → (new : World) (end : End (StepEnd Claimed)) (old : World) → Pairs (λ x y. x.id < y.id) these → NotRun w these
-    → AllByRecursion (IsPending who.merge old w moment) these → After who w (Calls (Plain GetManifest) (λ met. starts_claimed (input_at options moment w met) w these left)) old new end
-after_put who options moment w these left ran r new end old rise none pending fit lawful run =
-    call_by (Left who w (λ (report : Claimed). report.attempts) (says w) new end) who w (Plain GetManifest) (λ (met : Store). starts_claimed (input_at options moment w met) w these left) old new end r fit lawful run
-    (λ at there stops. left_stopped who w (λ (report : Claimed). report.attempts) (says w) (Plain GetManifest) at new end there.holds stops) (λ m.
-    started who (began_at options moment w m.met.store) these left ran r new end (after_call who.line who.party (Plain GetManifest) None m.met) rise none
-    (all_to _ _ these (λ job there one. starting_at who options moment w m.met job m.fit.kept r.own (rivals_pending who w moment job old m.met r fit.kept m.rivals one)) pending)
-    (record { kept = m.kept; holds = own_calls_keep who.merge (Plain GetManifest) who.line who.party m.met w m.fit.kept r.own m.lawful tt m.fit.holds }) m.further m.run)
+-- A job that was taken is lost if it cannot start.
+pending_lost : (c : Claimant) (world : World) (job : Job) → Keeps c.who.merge world → IsPending c.who.merge world c.w c.moment job → IsLost c.w world.store job
+pending_lost c world job kept (inl s) = lost_at c.who.merge world c.w job (taken_by c.w c.moment job) kept refl (λ now e runs. s.waits.runs now e runs)
+pending_lost c world job kept (inr t) = lost_at c.who.merge world c.w job (taken_by c.w c.moment job) kept refl (λ now e runs. t.runs now e runs)
 
-those : (who : Caller) (options : WorkerOptions) (moment : ℕ) (w : LiveWorker) (left : List ℕ) (again : ℕ → Course (StepEnd Claimed)) → AreRun w left → Relies who w → (new : World) (end : End (StepEnd Claimed)) → ((version : ℕ) (old : World) → After who w (again version) old new end)
-    → (met : World) (got : Records) (these : Jobs) → met.store.records ≡ Some got → AreChosen w got.jobs these → After who w (claim_of options moment w got these left again) (after_call who.line who.party (Plain GetRecords) None met) new end
-those who options moment w left again ran r new end tries met got [] is chosen fit lawful run =
-    left_reported who w (λ (report : Claimed). report.attempts) (says w) (record { begun = []; stopped = left; released = []; attempts = without_attempts left w.attempts }) _ new end fit.holds (holds_fewer who.merge _ w (λ (a : Attempt). not (contains left a.job)) fit.holds)
-    (record { begun = tt; idle = subst (AllByRecursion (λ id. contains (attempt_jobs (without_attempts left w.attempts)) id ≡ false)) (sym (append-nil left)) (stopped_idle left w.attempts) }) run
-those who options moment w left again ran r new end tries met got (job ∷ rest) is chosen fit lawful run =
-    call_by (Left who w (λ (report : Claimed). report.attempts) (says w) new end) who w x (λ (s : Store). again_or (records_version s.records) (got.version == records_version s.records)) (after_call who.line who.party (Plain GetRecords) None met) new end r fit lawful run
-    (λ at there stops. left_stopped who w (λ (report : Claimed). report.attempts) (says w) x at new end there.holds stops) put
+after_put : (c : Claimant) (these : Jobs) (left : List ℕ) → AreRun c.w left → Relies c.who c.w → (new : World) (end : End (StepEnd Claimed)) (old : World)
+    → ((shown : World) → Rivals c.who old shown → AllByRecursion (IsLost c.w shown.store) these → Did c (started_report c shown.store these left)) → Pairs (λ x y. x.id < y.id) these → NotRun c.w these
+    → AllByRecursion (IsPending c.who.merge old c.w c.moment) these → After c (Calls (Plain GetManifest) (λ met. starts_claimed (claim_input c.options c.moment c.w met) c.w these left)) old new end
+after_put c these left ran r new end old did rise none pending fit lawful run =
+    call_by (Left c.who c.w (λ (report : Claimed). report.attempts) (says c) new end) c.who c.w (Plain GetManifest) (λ (met : Store). starts_claimed (claim_input c.options c.moment c.w met) c.w these left) old new end r fit lawful run
+    (λ at there stop. stops c (Plain GetManifest) at new end there stop) goes
   where
+    goes : Made c.who c.w (Plain GetManifest) (λ (met : Store). starts_claimed (claim_input c.options c.moment c.w met) c.w these left) old new end → Left c.who c.w (λ (report : Claimed). report.attempts) (says c) new end
+    goes m =
+        let still = all_to _ _ these (λ job there one. rivals_pending c.who c.w c.moment job old m.met r fit.kept m.rivals one) pending in
+        started c m.met.store these left ran r (did m.met m.rivals (all_to _ (IsLost c.w m.met.store) these (λ job there one. pending_lost c m.met job m.fit.kept one) still)) new end (after_call c.who.line c.who.party (Plain GetManifest) None m.met) rise none
+        (all_to _ _ these (λ job there one. starting_at c.who c.options c.moment c.w m.met job m.fit.kept r.own one) still)
+        (record { kept = m.kept; holds = own_calls_keep c.who.merge (Plain GetManifest) c.who.line c.who.party m.met c.w m.fit.kept r.own m.lawful tt m.fit.holds }) m.further m.run
+
+-- What a claim did that found these records and took these jobs.
+abbrev Makes : Claimant → World → Records → Jobs → List ℕ → Type 0
+Makes c found got these left = (report : Claimed) → report.stopped ≡ left → TookThese c.who c.options c.moment c.w found got these report → report.attempts ≡ with_attempts report.begun (without_attempts report.stopped c.w.attempts) → Did c report
+
+those : (c : Claimant) (left : List ℕ) (again : ℕ → Course (StepEnd Claimed)) → AreRun c.w left → Relies c.who c.w → (new : World) (end : End (StepEnd Claimed)) → ((version : ℕ) (old : World) → ComesAfter c.start old → After c (again version) old new end)
+    → (met : World) (got : Records) (these : Jobs) → ComesAfter c.start met → Makes c met got these left → met.store.records ≡ Some got → AreChosen c.w got.jobs these
+    → After c (claim_of c.options c.moment c.w got these left again) (after_call c.who.line c.who.party (Plain GetRecords) None met) new end
+those c left again ran r new end tries met got [] comes make is chosen fit lawful run =
+    let report : Claimed = record { begun = []; stopped = left; released = []; attempts = without_attempts left c.w.attempts } in
+    left_reported c.who c.w (λ (report : Claimed). report.attempts) (says c) report _ new end fit.holds (holds_fewer c.who.merge _ c.w (λ (a : Attempt). not (contains left a.job)) fit.holds)
+    (record { begun = tt; idle = subst (AllByRecursion (λ id. contains (attempt_jobs (without_attempts left c.w.attempts)) id ≡ false)) (sym (append-nil left)) (stopped_idle left c.w.attempts) }, make report refl (refl, refl) refl) run
+those c left again ran r new end tries met got (job ∷ rest) comes make is chosen fit lawful run =
+    call_by (Left c.who c.w (λ (report : Claimed). report.attempts) (says c) new end) c.who c.w x (λ (s : Store). again_or (records_version s.records) (got.version == records_version s.records)) first new end r fit lawful run
+    (λ at there stop. stops c x at new end there stop) put
+  where
+    first : World
+    first = after_call c.who.line c.who.party (Plain GetRecords) None met
+
     these : Jobs
     these = job ∷ rest
 
     change : RecordChange
-    change = Claim w.number (map next_attempt these)
+    change = Claim c.w.number (map next_attempt these)
 
     x : Exchange
-    x = PutsRecords got.version change got.epoch (jobs_after (at_moment moment) change got.jobs)
+    x = PutsRecords got.version change got.epoch (jobs_after (at_moment c.moment) change got.jobs)
 
     again_or : ℕ → Bool → Course (StepEnd Claimed)
-    again_or version b = cond b (Calls (Plain GetManifest) (λ s. starts_claimed (input_at options moment w s) w these left)) (again version)
+    again_or version b = cond b (Calls (Plain GetManifest) (λ s. starts_claimed (claim_input c.options c.moment c.w s) c.w these left)) (again version)
 
-    not_run : NotRun w these
-    not_run = all_to _ _ these (λ one there c. c.not_run) chosen.each
+    not_run : NotRun c.w these
+    not_run = all_to _ _ these (λ one there h. h.not_run) chosen.each
 
-    put : Made who w x (λ (s : Store). again_or (records_version s.records) (got.version == records_version s.records)) (after_call who.line who.party (Plain GetRecords) None met) new end → Left who w (λ (report : Claimed). report.attempts) (says w) new end
+    put : Made c.who c.w x (λ (s : Store). again_or (records_version s.records) (got.version == records_version s.records)) first new end → Left c.who c.w (λ (report : Claimed). report.attempts) (says c) new end
     put m = by (got.version == records_version m.met.store.records) refl m.further m.run
       where
         after : World
-        after = after_call who.line who.party x None m.met
+        after = after_call c.who.line c.who.party x None m.met
 
-        holds : WorkerHolds who.merge after w
-        holds = own_calls_keep who.merge x who.line who.party m.met w m.fit.kept r.own m.lawful (λ same. tt) m.fit.holds
+        comes_at : ComesAfter met m.met
+        comes_at = comes_met c.who met first m.met (comes_by c.who.line c.who.party (Plain GetRecords) None met) m.rivals
 
-        by : (b : Bool) → (got.version == records_version m.met.store.records) ≡ b → IsLawfulCourse who after (again_or (records_version m.met.store.records) b) → Runs who (again_or (records_version m.met.store.records) b) after new end
-            → Left who w (λ (report : Claimed). report.attempts) (says w) new end
+        holds : WorkerHolds c.who.merge after c.w
+        holds = own_calls_keep c.who.merge x c.who.line c.who.party m.met c.w m.fit.kept r.own m.lawful (λ same. tt) m.fit.holds
+
+        did : m.met.store.records ≡ Some got → (shown : World) → Rivals c.who after shown → AllByRecursion (IsLost c.w shown.store) these → Did c (started_report c shown.store these left)
+        did stored shown others lost = make (started_report c shown.store these left) refl (record { at = m.met; after = comes_at; stored = stored; shown = shown; others = others; begun = refl; released = refl; lost = lost }) refl
+
+        by : (b : Bool) → (got.version == records_version m.met.store.records) ≡ b → IsLawfulCourse c.who after (again_or (records_version m.met.store.records) b) → Runs c.who (again_or (records_version m.met.store.records) b) after new end
+            → Left c.who c.w (λ (report : Claimed). report.attempts) (says c) new end
         by true e lawful run =
-            let stored = got_records met m.met (Some got) is (later_met who (Plain GetRecords) met met m.met (later_itself met) m.rivals) ((Decides-eqb got.version (records_version m.met.store.records)).0 e) in
-            after_put who options moment w these left ran r new end after chosen.rise not_run (pending_after who w moment m.met got these stored chosen e m.fit.kept m.kept) (record { kept = m.kept; holds = holds }) lawful run
-        by false e lawful run = tries (records_version m.met.store.records) after (record { kept = m.kept; holds = holds }) lawful run
+            let stored = got_records met m.met (Some got) is (later_met c.who (Plain GetRecords) met met m.met (later_itself met) m.rivals) ((Decides-eqb got.version (records_version m.met.store.records)).0 e) in
+            after_put c these left ran r new end after (did stored) chosen.rise not_run (pending_after c.who c.w c.moment m.met got these stored chosen e m.fit.kept m.kept) (record { kept = m.kept; holds = holds }) lawful run
+        by false e lawful run = tries (records_version m.met.store.records) after (comes_called c.who x c.start m.met (comes_then c.start met m.met comes comes_at)) (record { kept = m.kept; holds = holds }) lawful run
 
-over : (who : Caller) (options : WorkerOptions) (moment : ℕ) (w : LiveWorker) (again : ℕ → Course (StepEnd Claimed)) → Relies who w → (new : World) (end : End (StepEnd Claimed)) → ((version : ℕ) (old : World) → After who w (again version) old new end)
-    → (met : World) (records : Option Records) → Keeps who.merge met → met.store.records ≡ records → After who w (claim_by options moment w records again) (after_call who.line who.party (Plain GetRecords) None met) new end
-over who options moment w again r new end tries met None kept is fit lawful run =
-    left_reported who w (λ (report : Claimed). report.attempts) (says w) (record { begun = []; stopped = []; released = []; attempts = w.attempts }) _ new end fit.holds fit.holds (record { begun = tt; idle = tt }) run
-over who options moment w again r new end tries met (Some got) kept is fit lawful run =
-    those who options moment w (ids (stopped_jobs w got.jobs)) again (are_run w got.jobs) r new end tries met got (claimed_jobs options.slots w got.jobs) is
-    (are_chosen options.slots w got.jobs (subst (λ o. Pairs (λ a b. a.id < b.id) (jobs_in o)) is kept.stored.sound.job_ids)) fit lawful run
+none_stopped : (attempts : List Attempt) → without_attempts [] attempts ≡ attempts
+none_stopped [] = refl
+none_stopped (a ∷ attempts) = ap (λ (rest : List Attempt). a ∷ rest) (none_stopped attempts)
 
-claims : (who : Caller) (options : WorkerOptions) (moment : ℕ) (w : LiveWorker) → Relies who w → (new : World) (end : End (StepEnd Claimed)) → (left seen : ℕ) (old : World) → After who w (claims_from options moment w left seen) old new end
-claims who options moment w r new end zero seen old fit lawful run = left_ended who w (λ (report : Claimed). report.attempts) (says w) (GivesUp seen) old new end (λ report e. absurd (cc e)) fit.holds run
-claims who options moment w r new end (suc left) seen old fit lawful run =
-    call_by (Left who w (λ (report : Claimed). report.attempts) (says w) new end) who w (Plain GetRecords) (λ (s : Store). claim_by options moment w s.records (claims_from options moment w left)) old new end r fit lawful run
-    (λ at there stops. left_stopped who w (λ (report : Claimed). report.attempts) (says w) (Plain GetRecords) at new end there.holds stops)
-    (λ m. over who options moment w (claims_from options moment w left) r new end (λ version one. claims who options moment w r new end left version one) m.met m.met.store.records m.fit.kept refl (fit_got who w m.met r.keep m.fit) m.further m.run)
+over : (c : Claimant) (again : ℕ → Course (StepEnd Claimed)) → Relies c.who c.w → (new : World) (end : End (StepEnd Claimed)) → ((version : ℕ) (old : World) → ComesAfter c.start old → After c (again version) old new end)
+    → (met : World) (records : Option Records) → ComesAfter c.start met → Keeps c.who.merge met → met.store.records ≡ records → After c (claim_by c.options c.moment c.w records again) (after_call c.who.line c.who.party (Plain GetRecords) None met) new end
+over c again r new end tries met None comes kept is fit lawful run =
+    let report : Claimed = record { begun = []; stopped = []; released = []; attempts = c.w.attempts } in
+    left_reported c.who c.w (λ (report : Claimed). report.attempts) (says c) report _ new end fit.holds fit.holds (
+      record { begun = tt; idle = tt },
+      record {
+        found = met;
+        after = comes;
+        stopped = ap (λ o. ids (stopped_jobs c.w (jobs_in o))) (sym is);
+        took = subst (λ o. TookOf c.who c.options c.moment c.w met o report) (sym is) (refl, refl);
+        attempts = sym (none_stopped c.w.attempts);
+      },
+    ) run
+over c again r new end tries met (Some got) comes kept is fit lawful run =
+    those c (ids (stopped_jobs c.w got.jobs)) again (are_run c.w got.jobs) r new end tries met got (claimed_jobs c.options.slots c.w got.jobs) comes (λ report stopped took attempts. record {
+      found = met;
+      after = comes;
+      stopped = stopped ∙ ap (λ o. ids (stopped_jobs c.w (jobs_in o))) (sym is);
+      took = subst (λ o. TookOf c.who c.options c.moment c.w met o report) (sym is) took;
+      attempts = attempts;
+    }) is (are_chosen c.options.slots c.w got.jobs (subst (λ o. Pairs (λ a b. a.id < b.id) (jobs_in o)) is kept.stored.sound.job_ids)) fit lawful run
 
-claim_fits : (who : Caller) (options : WorkerOptions) (moment : ℕ) (w : LiveWorker) → Relies who w → (new : World) (end : End (StepEnd Claimed)) (old : World) → After who w (claim options moment w) old new end
+claims : (c : Claimant) → Relies c.who c.w → (new : World) (end : End (StepEnd Claimed)) → (left seen : ℕ) (old : World) → ComesAfter c.start old → After c (tries (claim_try c.options c.moment c.w) left seen) old new end
+claims c r new end zero seen old comes fit lawful run = left_ended c.who c.w (λ (report : Claimed). report.attempts) (says c) (GivesUp seen) old new end (λ report e. absurd (cc e)) fit.holds run
+claims c r new end (suc left) seen old comes fit lawful run =
+    call_by (Left c.who c.w (λ (report : Claimed). report.attempts) (says c) new end) c.who c.w (Plain GetRecords) (λ (s : Store). claim_by c.options c.moment c.w s.records (tries (claim_try c.options c.moment c.w) left)) old new end r fit lawful run
+    (λ at there stop. stops c (Plain GetRecords) at new end there stop)
+    (λ m. over c (tries (claim_try c.options c.moment c.w) left) r new end (λ version one later. claims c r new end left version one later) m.met m.met.store.records (comes_met c.who c.start old m.met comes m.rivals) m.fit.kept refl
+    (fit_got c.who c.w m.met r.keep m.fit) m.further m.run)
+
+claim_fits : (c : Claimant) → Relies c.who c.w → (new : World) (end : End (StepEnd Claimed)) → After c (claim c.options c.moment c.w) c.start new end
 unfolding claim
-claim_fits who options moment w r new end old fit lawful run = claims who options moment w r new end most_refused 0 old fit lawful run
+claim_fits c r new end fit lawful run = claims c r new end most_refused 0 c.start (comes_itself c.start) fit lawful run
+
+-- What is so after the claim of a worker that fits.
+afterwards : (who : Caller) (old : World) (options : WorkerOptions) (moment : ℕ) (w : LiveWorker) → CallsKeep who.merge → who.party ≡ Worker w.number → Keeps who.merge old → WorkerHolds who.merge old w → (new : World) (end : End (StepEnd Claimed))
+    → Runs who (claim options moment w) old new end → Left who w (λ (report : Claimed). report.attempts) (says (record { who = who; options = options; moment = moment; w = w; start = old })) new end
+afterwards who old options moment w keep own kept holds new end run =
+    claim_fits (record { who = who; options = options; moment = moment; w = w; start = old }) (record { keep = keep; own = own }) new end (record { kept = kept; holds = holds }) (claims_are_lawful who old options moment w keep kept own) run
 
 pub claims_keep_fit : ClaimsKeepFit
 claims_keep_fit who old options moment w keep own kept holds = (
-  λ new end run. (claim_fits who options moment w (record { keep = keep; own = own }) new end old (record { kept = kept; holds = holds }) (claims_are_lawful who old options moment w keep kept own) run).0,
-  λ new report run. (claim_fits who options moment w (record { keep = keep; own = own }) new (Gives (Reports report)) old (record { kept = kept; holds = holds }) (claims_are_lawful who old options moment w keep kept own) run).1,
+  λ new end run. (afterwards who old options moment w keep own kept holds new end run).0,
+  λ new report run. (afterwards who old options moment w keep own kept holds new (Gives (Reports report)) run).1.0,
 )
+
+pub claims_report : ClaimsReport
+claims_report who old new options moment w report keep own kept holds run = (afterwards who old options moment w keep own kept holds new (Gives (Reports report)) run).1.1

@@ -1,13 +1,17 @@
 -- A worker fits after its finish.
-use Rattle.std.proofs.Common.{◌≡◌, refl, sym, ◌∙◌, ap, subst, ℕ, zero, suc, List, [], ◌∷◌, cond, Bool, true, false, inl, Option, Some, None, map}
+use Rattle.std.proofs.Common.{◌≡◌, refl, sym, ◌∙◌, ap, subst, ℕ, zero, suc, ◌+◌, List, [], ◌∷◌, cond, Bool, true, false, inl, Option, Some, None, map}
 use Rattle.std.specs.Prelude.{IsTrue, ◌==◌, not}
 use Rattle.std.specs.List.{AllByRecursion, concat}
 use Rattle.std.proofs.lemmas.Bool.Decides.{Decides-eqb}
 use Rattle.row_model.specs.Rows.{Row}
 use Rattle.row_model.specs.Tables.{cut_tables}
-use Rattle.row_model.specs.Fold.{Operator}
+use Rattle.row_model.specs.Fold.{Operator, IsLawful}
+use Rattle.step_model.specs.Keeps.{Keeps}
+use Rattle.step_laws.specs.Runs.{CallsKeep}
+use Rattle.course_laws.specs.Outputs.{DoesRun}
+use Rattle.course_laws.specs.Finishes.{WholeUnless}
 use Rattle.fleet_model.specs.Jobs.{Job, Jobs, contains, changed_jobs, trimmed_jobs}
-use Rattle.fleet_model.specs.History.{GetRecords, Finish}
+use Rattle.fleet_model.specs.History.{Worker, GetRecords, Finish}
 use Rattle.fleet_model.specs.Store.{Store, Records, jobs_in, stored_jobs}
 use Rattle.fleet_model.specs.Records.{Unrecorded, no_contexts, finished_by, jobs_after}
 use Rattle.fleet_model.specs.Attempts.{rows_left, finish_cut}
@@ -18,10 +22,11 @@ use Rattle.step_model.specs.Rivals.{Caller, after_call}
 use Rattle.step_model.specs.TablesKept.{AreApart}
 use Rattle.step_model.specs.Fits.{WorkerHolds, noted_tables}
 use Rattle.step_model.specs.Course.{Course, Ends}
+use Rattle.step_model.specs.Tries.{tries}
 use Rattle.step_model.specs.CourseRuns.{End, Gives, Runs, IsLawfulCourse}
 use Rattle.step_model.specs.StepEnds.{StepEnd, Reports, GivesUp, NotOwner, most_refused}
 use Rattle.step_model.specs.ClaimSteps.{WorkerOptions}
-use Rattle.step_model.specs.OutputSteps.{FinishedJob, all_outputs, ends_job, ends_job_by, ends_from, end_job, finish_or_give_back, finish}
+use Rattle.step_model.specs.OutputSteps.{FinishedJob, all_outputs, ends_job, ends_job_by, end_try, end_job, finish_or_give_back, finish}
 use Rattle.step_laws.proofs.Elements.{IsIn, all_at, all_from, all_to, in_contains}
 use Rattle.step_laws.proofs.Changed.{on_these, by_these, job_found}
 use Rattle.step_laws.proofs.Deletions.{in_filter}
@@ -36,25 +41,23 @@ use Rattle.course_laws.proofs.Finishes.{outputs_all, finishes_are_lawful}
 use Rattle.course_laws.proofs.Held.{refused}
 use Rattle.worker_laws.specs.OwnCalls.{SparesOwn}
 use Rattle.worker_laws.specs.Finishes.{FinishesKeepFit}
+use Rattle.worker_laws.specs.FinishReports.{FinishDid, FinishesReport}
+use Rattle.worker_laws.proofs.Merged.{one_merge}
 use Rattle.worker_laws.proofs.Attempts.{apart_two, holds_fewer}
 use Rattle.worker_laws.proofs.Live.{live_at}
 use Rattle.worker_laws.proofs.OwnPuts.{from_stored}
 use Rattle.worker_laws.proofs.Runs.{Made, Left, call_by, left_stopped, left_reported, left_ended}
-use Rattle.worker_laws.proofs.OwnCalls.{put_world, own_calls_keep}
+use Rattle.worker_laws.proofs.OwnCalls.{own_entry, put_world, own_calls_keep}
 use Rattle.worker_laws.proofs.Tables.{Stops, AreUnnoted, gets, puts_all}
 use Rattle.worker_laws.proofs.Outputs.{begins, gives_back_left}
 
--- The attempt is not live any more.
-abbrev IsOver : LiveWorker → Attempt → World → FinishedJob → Type 0
-IsOver w a world report = is_live (stored_jobs world.store) w.number a ≡ false
-
 -- What a lawful course leads to, from a store that the worker fits.
-abbrev After : Caller → LiveWorker → Attempt → Course (StepEnd FinishedJob) → (old new : World) → End (StepEnd FinishedJob) → Type 0
-After who w a course old new end = Fit who w old → IsLawfulCourse who old course → Runs who course old new end → Left who w (λ (report : FinishedJob). report.attempts) (IsOver w a) new end
+abbrev pub After : Caller → ℕ → LiveWorker → Attempt → Course (StepEnd FinishedJob) → (old new : World) → End (StepEnd FinishedJob) → Type 0
+After who moment w a course old new end = Fit who w old → IsLawfulCourse who old course → Runs who course old new end → Left who w (λ (report : FinishedJob). report.attempts) (FinishDid who moment w a) new end
 
 -- Where a run stops, the worker fits with the attempts that it ran before.
-stops : (who : Caller) (w : LiveWorker) (a : Attempt) (new : World) (end : End (StepEnd FinishedJob)) → Stops (Left who w (λ (report : FinishedJob). report.attempts) (IsOver w a) new end) who w new end
-stops who w a new end x met fit stop = left_stopped who w (λ (report : FinishedJob). report.attempts) (IsOver w a) x met new end fit.holds stop
+stops : (who : Caller) (moment : ℕ) (w : LiveWorker) (a : Attempt) (new : World) (end : End (StepEnd FinishedJob)) → Stops (Left who w (λ (report : FinishedJob). report.attempts) (FinishDid who moment w a) new end) who w new end
+stops who moment w a new end x met fit stop = left_stopped who w (λ (report : FinishedJob). report.attempts) (FinishDid who moment w a) x met new end fit.holds stop
 
 -- ---- the end of the job
 
@@ -89,11 +92,11 @@ apart_outputs merge w world a made h there live lacks = all_from _ (live_attempt
     (all_to _ _ (all_of made) (λ p new none. none b found.0) lacks)) named))
 
 ended_job : (who : Caller) (w : LiveWorker) (moment : ℕ) (a : Attempt) (made : List (List (ℕ × List Row))) (again : ℕ → Course (StepEnd FinishedJob)) → Relies who w → IsIn a w.attempts → AreUnnoted w (all_of made)
-    → (new : World) (end : End (StepEnd FinishedJob)) → ((version : ℕ) (old : World) → After who w a (again version) old new end) → (met : World) (got : Records) → met.store.records ≡ Some got → (live : Bool) → is_live got.jobs w.number a ≡ live
-    → After who w a (ends_job moment w a (all_outputs a.context.ranges (map ids_of made)) got live again) (after_call who.line who.party (Plain GetRecords) None met) new end
-ended_job who w moment a made again r there lacks new end tries met got is false live fit lawful run = left_ended who w (λ (report : FinishedJob). report.attempts) (IsOver w a) NotOwner _ new end (λ report e. absurd (cc e)) fit.holds run
+    → (new : World) (end : End (StepEnd FinishedJob)) → ((version : ℕ) (old : World) → After who moment w a (again version) old new end) → (met : World) (got : Records) → met.store.records ≡ Some got → (live : Bool) → is_live got.jobs w.number a ≡ live
+    → After who moment w a (ends_job moment w a (all_outputs a.context.ranges (map ids_of made)) got live again) (after_call who.line who.party (Plain GetRecords) None met) new end
+ended_job who w moment a made again r there lacks new end tries met got is false live fit lawful run = left_ended who w (λ (report : FinishedJob). report.attempts) (FinishDid who moment w a) NotOwner _ new end (λ report e. absurd (cc e)) fit.holds run
 ended_job who w moment a made again r there lacks new end tries met got is true live fit lawful run =
-    call_by (Left who w (λ (report : FinishedJob). report.attempts) (IsOver w a) new end) who w x (λ (s : Store). again_or (records_version s.records) (got.version == records_version s.records)) (after_call who.line who.party (Plain GetRecords) None met) new end r fit lawful run (stops who w a new end x) put
+    call_by (Left who w (λ (report : FinishedJob). report.attempts) (FinishDid who moment w a) new end) who w x (λ (s : Store). again_or (records_version s.records) (got.version == records_version s.records)) (after_call who.line who.party (Plain GetRecords) None met) new end r fit lawful run (stops who moment w a new end x) put
   where
     outputs : List (List ℕ)
     outputs = all_outputs a.context.ranges (map ids_of made)
@@ -107,7 +110,7 @@ ended_job who w moment a made again r there lacks new end tries met got is true 
     again_or : ℕ → Bool → Course (StepEnd FinishedJob)
     again_or version b = cond b (Ends (Reports (record { outputs = outputs; attempts = without_attempts (a.job ∷ []) w.attempts }))) (again version)
 
-    put : Made who w x (λ (s : Store). again_or (records_version s.records) (got.version == records_version s.records)) (after_call who.line who.party (Plain GetRecords) None met) new end → Left who w (λ (report : FinishedJob). report.attempts) (IsOver w a) new end
+    put : Made who w x (λ (s : Store). again_or (records_version s.records) (got.version == records_version s.records)) (after_call who.line who.party (Plain GetRecords) None met) new end → Left who w (λ (report : FinishedJob). report.attempts) (FinishDid who moment w a) new end
     put m = by (got.version == records_version m.met.store.records) refl m.further m.run
       where
         after : World
@@ -127,28 +130,47 @@ ended_job who w moment a made again r there lacks new end tries met got is true 
         holds : WorkerHolds who.merge after w
         holds = own_calls_keep who.merge x who.line who.party m.met w m.fit.kept r.own m.lawful spares m.fit.holds
 
-        by : (b : Bool) → (got.version == records_version m.met.store.records) ≡ b → IsLawfulCourse who after (again_or (records_version m.met.store.records) b) → Runs who (again_or (records_version m.met.store.records) b) after new end → Left who w (λ (report : FinishedJob). report.attempts) (IsOver w a) new end
-        by true e lawful run = left_reported who w (λ (report : FinishedJob). report.attempts) (IsOver w a) (record { outputs = outputs; attempts = without_attempts (a.job ∷ []) w.attempts }) after new end holds
-            (holds_fewer who.merge after w (λ (b : Attempt). not (contains (a.job ∷ []) b.job)) holds) (over e) run
+        did : (got.version == records_version m.met.store.records) ≡ true → FinishDid who moment w a after (record { outputs = outputs; attempts = without_attempts (a.job ∷ []) w.attempts })
+        did e =
+            let stored : m.met.store.records ≡ Some got = got_records met m.met (Some got) is (later_met who (Plain GetRecords) met met m.met (later_itself met) m.rivals) ((Decides-eqb got.version (records_version m.met.store.records)).0 e) in
+            let world = put_world who.line who.party m.met got.version (Finish w.number a.job a.number outputs) got.epoch (jobs_after u (Finish w.number a.job a.number outputs) got.jobs) e in
+            record {
+              made = map ids_of made;
+              outputs = refl;
+              attempts = refl;
+              at = m.met;
+              got = got;
+              stored = stored;
+              live = live;
+              last = refl;
+              over = over e;
+              finished = one_merge who.merge m.met after w.number a u outputs (record { version = got.version + 1; epoch = got.epoch; jobs = jobs_after u (Finish w.number a.job a.number outputs) got.jobs })
+                  (own_entry who.line who.party m.met (Finish w.number a.job a.number outputs)) m.fit.kept m.kept (ap (λ o. is_live (jobs_in o) w.number a) stored ∙ live) world
+                  (ap (λ (t : World). stored_jobs t.store) world ∙ ap (λ o. jobs_after u (Finish w.number a.job a.number outputs) (jobs_in o)) (sym stored));
+            }
+
+        by : (b : Bool) → (got.version == records_version m.met.store.records) ≡ b → IsLawfulCourse who after (again_or (records_version m.met.store.records) b) → Runs who (again_or (records_version m.met.store.records) b) after new end → Left who w (λ (report : FinishedJob). report.attempts) (FinishDid who moment w a) new end
+        by true e lawful run = left_reported who w (λ (report : FinishedJob). report.attempts) (FinishDid who moment w a) (record { outputs = outputs; attempts = without_attempts (a.job ∷ []) w.attempts }) after new end holds
+            (holds_fewer who.merge after w (λ (b : Attempt). not (contains (a.job ∷ []) b.job)) holds) (did e) run
         by false e lawful run = tries (records_version m.met.store.records) after (record { kept = m.kept; holds = holds }) lawful run
 
 ended_by : (who : Caller) (w : LiveWorker) (moment : ℕ) (a : Attempt) (made : List (List (ℕ × List Row))) (again : ℕ → Course (StepEnd FinishedJob)) → Relies who w → IsIn a w.attempts → AreUnnoted w (all_of made)
-    → (new : World) (end : End (StepEnd FinishedJob)) → ((version : ℕ) (old : World) → After who w a (again version) old new end) → (met : World) (records : Option Records) → met.store.records ≡ records
-    → After who w a (ends_job_by moment w a (all_outputs a.context.ranges (map ids_of made)) records again) (after_call who.line who.party (Plain GetRecords) None met) new end
-ended_by who w moment a made again r there lacks new end tries met None is fit lawful run = left_ended who w (λ (report : FinishedJob). report.attempts) (IsOver w a) NotOwner _ new end (λ report e. absurd (cc e)) fit.holds run
+    → (new : World) (end : End (StepEnd FinishedJob)) → ((version : ℕ) (old : World) → After who moment w a (again version) old new end) → (met : World) (records : Option Records) → met.store.records ≡ records
+    → After who moment w a (ends_job_by moment w a (all_outputs a.context.ranges (map ids_of made)) records again) (after_call who.line who.party (Plain GetRecords) None met) new end
+ended_by who w moment a made again r there lacks new end tries met None is fit lawful run = left_ended who w (λ (report : FinishedJob). report.attempts) (FinishDid who moment w a) NotOwner _ new end (λ report e. absurd (cc e)) fit.holds run
 ended_by who w moment a made again r there lacks new end tries met (Some got) is fit lawful run = ended_job who w moment a made again r there lacks new end tries met got is (is_live got.jobs w.number a) refl fit lawful run
 
 ends : (who : Caller) (w : LiveWorker) (moment : ℕ) (a : Attempt) (made : List (List (ℕ × List Row))) → Relies who w → IsIn a w.attempts → AreUnnoted w (all_of made) → (new : World) (end : End (StepEnd FinishedJob)) → (left seen : ℕ) (old : World)
-    → After who w a (ends_from moment w a (all_outputs a.context.ranges (map ids_of made)) left seen) old new end
-ends who w moment a made r there lacks new end zero seen old fit lawful run = left_ended who w (λ (report : FinishedJob). report.attempts) (IsOver w a) (GivesUp seen) old new end (λ report e. absurd (cc e)) fit.holds run
+    → After who moment w a (tries (end_try moment w a (all_outputs a.context.ranges (map ids_of made))) left seen) old new end
+ends who w moment a made r there lacks new end zero seen old fit lawful run = left_ended who w (λ (report : FinishedJob). report.attempts) (FinishDid who moment w a) (GivesUp seen) old new end (λ report e. absurd (cc e)) fit.holds run
 ends who w moment a made r there lacks new end (suc left) seen old fit lawful run =
-    call_by (Left who w (λ (report : FinishedJob). report.attempts) (IsOver w a) new end) who w (Plain GetRecords)
-    (λ (s : Store). ends_job_by moment w a (all_outputs a.context.ranges (map ids_of made)) s.records (ends_from moment w a (all_outputs a.context.ranges (map ids_of made)) left)) old new end r fit lawful run (stops who w a new end (Plain GetRecords))
-    (λ m. ended_by who w moment a made (ends_from moment w a (all_outputs a.context.ranges (map ids_of made)) left) r there lacks new end (λ version one. ends who w moment a made r there lacks new end left version one)
+    call_by (Left who w (λ (report : FinishedJob). report.attempts) (FinishDid who moment w a) new end) who w (Plain GetRecords)
+    (λ (s : Store). ends_job_by moment w a (all_outputs a.context.ranges (map ids_of made)) s.records (tries (end_try moment w a (all_outputs a.context.ranges (map ids_of made))) left)) old new end r fit lawful run (stops who moment w a new end (Plain GetRecords))
+    (λ m. ended_by who w moment a made (tries (end_try moment w a (all_outputs a.context.ranges (map ids_of made))) left) r there lacks new end (λ version one. ends who w moment a made r there lacks new end left version one)
     m.met m.met.store.records refl (fit_got who w m.met r.keep m.fit) m.further m.run)
 
-end_fits : (who : Caller) (w : LiveWorker) (moment : ℕ) (a : Attempt) (made : List (List (ℕ × List Row))) → Relies who w → IsIn a w.attempts → AreUnnoted w (all_of made) → (new : World) (end : End (StepEnd FinishedJob)) (old : World)
-    → After who w a (end_job moment w a (all_outputs a.context.ranges (map ids_of made))) old new end
+pub end_fits : (who : Caller) (w : LiveWorker) (moment : ℕ) (a : Attempt) (made : List (List (ℕ × List Row))) → Relies who w → IsIn a w.attempts → AreUnnoted w (all_of made) → (new : World) (end : End (StepEnd FinishedJob)) (old : World)
+    → After who moment w a (end_job moment w a (all_outputs a.context.ranges (map ids_of made))) old new end
 unfolding end_job
 end_fits who w moment a made r there lacks new end old fit lawful run = ends who w moment a made r there lacks new end most_refused 0 old fit lawful run
 
@@ -156,27 +178,35 @@ end_fits who w moment a made r there lacks new end old fit lawful run = ends who
 
 made_fits : (who : Caller) (w : LiveWorker) (start : World) (options : WorkerOptions) (moment : ℕ) (a : Attempt) (refusal : Option (List ℕ)) → Relies who w → IsIn a w.attempts → (new : World) (end : End (StepEnd FinishedJob)) (world : World) → State who w start a [] world
     → IsLawfulCourse who world (finish_or_give_back who.merge options moment w a refusal start.store.tables) → Runs who (finish_or_give_back who.merge options moment w a refusal start.store.tables) world new end
-    → Left who w (λ (report : FinishedJob). report.attempts) (IsOver w a) new end
+    → Left who w (λ (report : FinishedJob). report.attempts) (FinishDid who moment w a) new end
 made_fits who w start options moment a (Some message) r there new end world s lawful run =
-    gives_back_left who w (λ (report : FinishedJob). report.attempts) (IsOver w a) a message world new end r (record { kept = s.kept; holds = s.holds }) lawful run
+    gives_back_left who w (λ (report : FinishedJob). report.attempts) (FinishDid who moment w a) a message world new end r (record { kept = s.kept; holds = s.holds }) lawful run
 made_fits who w start options moment a None r there new end world s lawful run =
-    puts_all {A = FinishedJob} (Left who w (λ (report : FinishedJob). report.attempts) (IsOver w a) new end) who w start a moment new end r (stops who w a new end)
+    puts_all {A = FinishedJob} (Left who w (λ (report : FinishedJob). report.attempts) (FinishDid who moment w a) new end) who w start a moment new end r (stops who moment w a new end)
     (map (λ range. cut_tables options.table_size (rows_left who.merge start.store.tables a.context.settings a.sources range).rows) a.context.ranges) [] (λ ids. end_job moment w a (all_outputs a.context.ranges ids))
     (λ later made state lacks further on. end_fits who w moment a made r there lacks new end later (record { kept = state.kept; holds = state.holds }) further on) world s lawful run
 
 finish_fits : (who : Caller) (w : LiveWorker) (start : World) (options : WorkerOptions) (moment : ℕ) (a : Attempt) (refusal : Option (List ℕ)) → Relies who w → IsIn a w.attempts → (new : World) (end : End (StepEnd FinishedJob)) → State who w start a [] start
-    → IsLawfulCourse who start (finish who.merge start.store.tables options moment w a refusal) → Runs who (finish who.merge start.store.tables options moment w a refusal) start new end → Left who w (λ (report : FinishedJob). report.attempts) (IsOver w a) new end
+    → IsLawfulCourse who start (finish who.merge start.store.tables options moment w a refusal) → Runs who (finish who.merge start.store.tables options moment w a refusal) start new end → Left who w (λ (report : FinishedJob). report.attempts) (FinishDid who moment w a) new end
 unfolding finish
 finish_fits who w start options moment a refusal r there new end s lawful run =
-    gets {A = FinishedJob} (Left who w (λ (report : FinishedJob). report.attempts) (IsOver w a) new end) who w start a (finish_or_give_back who.merge options moment w a refusal start.store.tables) new end r (stops who w a new end)
+    gets {A = FinishedJob} (Left who w (λ (report : FinishedJob). report.attempts) (FinishDid who moment w a) new end) who w start a (finish_or_give_back who.merge options moment w a refusal start.store.tables) new end r (stops who moment w a new end)
     (λ world state further on. made_fits who w start options moment a refusal r there new end world state further on) a.sources start s lawful run
 
-pub finishes_keep_fit : FinishesKeepFit
-finishes_keep_fit who old options moment w a refusal keep operator own kept holds runs whole = (λ new end run. (afterwards new end run).0, λ new report run. (afterwards new (Gives (Reports report)) run).1)
-  where
-    there : IsIn a w.attempts
-    there = found_in w.attempts a.job a runs
+-- What is so after the finish of a worker that fits.
+afterwards : (who : Caller) (old : World) (options : WorkerOptions) (moment : ℕ) (w : LiveWorker) (a : Attempt) (refusal : Option (List ℕ)) → CallsKeep who.merge → IsLawful who.merge → who.party ≡ Worker w.number → Keeps who.merge old → WorkerHolds who.merge old w → DoesRun w a
+    → WholeUnless who.merge old.store.tables a refusal → (new : World) (end : End (StepEnd FinishedJob)) → Runs who (finish who.merge old.store.tables options moment w a refusal) old new end → Left who w (λ (report : FinishedJob). report.attempts) (FinishDid who moment w a) new end
+afterwards who old options moment w a refusal keep operator own kept holds runs whole new end run =
+    let there = found_in w.attempts a.job a runs in
+    finish_fits who w old options moment a refusal (record { keep = keep; own = own }) there new end (begins who w old a kept holds there)
+    (finishes_are_lawful who old options moment w a refusal keep operator own kept holds runs whole) run
 
-    afterwards : (new : World) (end : End (StepEnd FinishedJob)) → Runs who (finish who.merge old.store.tables options moment w a refusal) old new end → Left who w (λ (report : FinishedJob). report.attempts) (IsOver w a) new end
-    afterwards new end run = finish_fits who w old options moment a refusal (record { keep = keep; own = own }) there new end (begins who w old a kept holds there)
-        (finishes_are_lawful who old options moment w a refusal keep operator own kept holds runs whole) run
+pub finishes_keep_fit : FinishesKeepFit
+finishes_keep_fit who old options moment w a refusal keep operator own kept holds runs whole = (
+  λ new end run. (afterwards who old options moment w a refusal keep operator own kept holds runs whole new end run).0,
+  λ new report run. (afterwards who old options moment w a refusal keep operator own kept holds runs whole new (Gives (Reports report)) run).1.over,
+)
+
+pub finishes_report : FinishesReport
+finishes_report who old new options moment w a refusal report keep operator own kept holds runs whole run =
+    (afterwards who old options moment w a refusal keep operator own kept holds runs whole new (Gives (Reports report)) run).1

@@ -15,10 +15,11 @@ use Rattle.step_model.specs.Past.{World}
 use Rattle.step_model.specs.Rivals.{Caller, after_call}
 use Rattle.step_model.specs.Fits.{WorkerHolds}
 use Rattle.step_model.specs.Course.{Course, Ends}
+use Rattle.step_model.specs.Tries.{tries}
 use Rattle.step_model.specs.CourseRuns.{End, Gives, StopsAt, Runs, IsLawfulCourse}
 use Rattle.step_model.specs.StepEnds.{StepEnd, Reports, GivesUp, most_refused}
 use Rattle.step_model.specs.ClaimSteps.{at_moment}
-use Rattle.step_model.specs.BeatSteps.{release_live, release_by, releases_from, release_all}
+use Rattle.step_model.specs.BeatSteps.{release_live, release_by, release_try, release_all}
 use Rattle.step_laws.proofs.Elements.{IsIn, all_from, in_contains}
 use Rattle.step_laws.proofs.Changed.{on_these, by_these, found_job, job_found}
 use Rattle.step_laws.proofs.Deletions.{in_filter}
@@ -124,11 +125,11 @@ over R who w attempts next again new end r ways tries met None is fit lawful run
 over R who w attempts next again new end r ways tries met (Some got) is fit lawful run = those R who w attempts next again new end r ways tries met got (filter (is_live got.jobs w.number) attempts) is refl fit lawful run
 
 pub released : {A : Type 0} (R : Type 0) (who : Caller) (w : LiveWorker) (attempts : List Attempt) (next : List ℕ → Course (StepEnd A)) (new : World) (end : End (StepEnd A)) → Relies who w → Ways A R who w attempts next new end → (left seen : ℕ) (old : World)
-    → Leads R who w (releases_from w attempts next left seen) old new end
+    → Leads R who w (tries (release_try w attempts next) left seen) old new end
 released R who w attempts next new end r ways zero seen old fit lawful run = ways.gives_up seen old fit run
-released {A} R who w attempts next new end r ways (suc left) seen old fit lawful run = call_by R who w (Plain GetRecords) (λ (s : Store). release_by w attempts s.records next (releases_from w attempts next left)) old new end r fit lawful run
+released {A} R who w attempts next new end r ways (suc left) seen old fit lawful run = call_by R who w (Plain GetRecords) (λ (s : Store). release_by w attempts s.records next (tries (release_try w attempts next) left)) old new end r fit lawful run
     (λ at there stop. ways.stops (Plain GetRecords) at there stop)
-    (λ m. over {A = A} R who w attempts next (releases_from w attempts next left) new end r ways (λ version one. released {A = A} R who w attempts next new end r ways left version one) m.met m.met.store.records refl (fit_got who w m.met r.keep m.fit) m.further m.run)
+    (λ m. over {A = A} R who w attempts next (tries (release_try w attempts next) left) new end r ways (λ version one. released {A = A} R who w attempts next new end r ways left version one) m.met m.met.store.records refl (fit_got who w m.met r.keep m.fit) m.further m.run)
 
 -- ---- the step
 
@@ -144,7 +145,7 @@ release_fits who w r old new end = by (is_nonempty w.attempts) refl
     none [] e = tt
     none (x ∷ xs) e = absurd (cc e)
 
-    by : (b : Bool) → is_nonempty w.attempts ≡ b → Leads (Left who w (λ released. w.attempts) (AreAllOver w) new end) who w (cond b (releases_from w w.attempts (λ released. Ends (Reports released)) most_refused 0) (Ends (Reports []))) old new end
+    by : (b : Bool) → is_nonempty w.attempts ≡ b → Leads (Left who w (λ released. w.attempts) (AreAllOver w) new end) who w (cond b (tries (release_try w w.attempts (λ released. Ends (Reports released))) most_refused 0) (Ends (Reports []))) old new end
     by true e = released (Left who w (λ released. w.attempts) (AreAllOver w) new end) who w w.attempts (λ released. Ends (Reports released)) new end r (record {
       stops = λ x met fit stop. left_stopped who w (λ released. w.attempts) (AreAllOver w) x met new end fit.holds stop;
       gives_up = λ seen world fit run. left_ended who w (λ released. w.attempts) (AreAllOver w) (GivesUp seen) world new end (λ report e. absurd (cc e)) fit.holds run;

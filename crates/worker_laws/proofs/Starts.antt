@@ -41,7 +41,7 @@ use Rattle.worker_laws.proofs.Awaits.{AwaitsGet, objects_got}
 abbrev pub plain_entry : ℕ → Party → Event → World → Entry
 plain_entry line party event world = record { line = line; party = party; event = event; answer = answer_of (Plain event) world.store }
 
--- What is world after the worker's own get or note.
+-- The world after the worker's own get or note.
 abbrev pub plain_world : ℕ → Party → Event → World → World
 plain_world line party event world = entered world world.store.deleted world.store.jobs_drawn world.store.tables_drawn (plain_entry line party event world)
 

@@ -2,6 +2,7 @@
 use Rattle.std.proofs.Common.{◌≡◌, refl, sym, ◌∙◌, ap, subst, ℕ, ◌+◌, ◌<◌, List, [], ◌∷◌, cond, Bool, true, false, pos, inl, inr, Option, Some, None, arith}
 use Rattle.std.specs.Prelude.{IsTrue, IfSome, ◌&&◌, ◌||◌, not, is_some, is_none, map, option_map, if◌then◌else◌}
 use Rattle.std.specs.List.{AllByRecursion, concat}
+use Rattle.std.specs.Option.{option_or}
 use Rattle.row_model.specs.Lists.{Pairs}
 use Rattle.row_model.specs.Fold.{Operator}
 use Rattle.fleet_model.specs.Jobs.{JobSpec, Job, Jobs, Context, Release, One, Two, knows_cut, is_active, contains, trimmed_jobs, job_with}
@@ -12,7 +13,7 @@ use Rattle.fleet_model.specs.Records.{firsts, claimed_by, jobs_after}
 use Rattle.fleet_model.specs.Parties.{Attempt, LiveWorker}
 use Rattle.fleet_model.specs.Sweeps.{attempt_tables}
 use Rattle.fleet_model.specs.Claims.{is_waiting, has_no_cut, may_take}
-use Rattle.fleet_model.specs.Claimed.{IsClaimed, beaten_in, or_else, first_beaten, if_earlier, origin}
+use Rattle.fleet_model.specs.Claimed.{IsClaimed, beaten_in, first_beaten, if_earlier, origin}
 use Rattle.fleet_model.specs.AttemptsFit.{beats, was_beaten, CutFits, ContextExtends, ContextFits, AttemptFits}
 use Rattle.step_model.specs.Past.{World}
 use Rattle.step_model.specs.Entries.{was_claimed}
@@ -142,7 +143,7 @@ first_is_beaten job n (entry ∷ history) e = by (if stood entry.answer then bea
     back true c h = refl
     back false c h = h
 
-    by : (o : Option ℕ) → (if stood entry.answer then beaten_in job entry.event else None) ≡ o → (first_beaten job history ≡ Some n → IsTrue (was_beaten history job)) → or_else o (first_beaten job history) ≡ Some n
+    by : (o : Option ℕ) → (if stood entry.answer then beaten_in job entry.event else None) ≡ o → (first_beaten job history ≡ Some n → IsTrue (was_beaten history job)) → option_or o (first_beaten job history) ≡ Some n
         → IsTrue ((beats job entry.event && stood entry.answer) || was_beaten history job)
     by None f rest e = back (beats job entry.event && stood entry.answer) (was_beaten history job) (rest e)
     by (Some m) f rest e = front (beats job entry.event && stood entry.answer) (was_beaten history job) (beat_of job m (stood entry.answer) entry.event f)

@@ -6,4 +6,9 @@ pub mod Releases
 pub mod Outputs
 pub mod Refusals
 pub mod Finishes
+pub mod FinishReports
+pub mod Messages
 pub mod Claims
+pub mod ClaimReports
+pub mod Turns
+pub mod BeatReports

@@ -5,14 +5,19 @@
 #![tactic(auto)]
 
 ghost use Rattle.row_model.specs.Fold.{Operator};
+ghost use Rattle.worker_laws.specs.BeatReports.{BeatsReport};
 ghost use Rattle.worker_laws.specs.Beats.{BeatsKeepFit};
+ghost use Rattle.worker_laws.specs.ClaimReports.{ClaimsReport};
 ghost use Rattle.worker_laws.specs.Claims.{ClaimsKeepFit};
 ghost use Rattle.worker_laws.specs.Fewer.{FewerFit, IdleFit};
+ghost use Rattle.worker_laws.specs.FinishReports.{FinishesReport};
 ghost use Rattle.worker_laws.specs.Finishes.{FinishesKeepFit};
+ghost use Rattle.worker_laws.specs.Messages.{MessagesKeepFit};
 ghost use Rattle.worker_laws.specs.Outputs.{OutputsKeepFit, OutputsSay};
 ghost use Rattle.worker_laws.specs.OwnCalls.{OwnCallsKeep};
 ghost use Rattle.worker_laws.specs.Refusals.{RefusalsGiveBack};
 ghost use Rattle.worker_laws.specs.Releases.{ReleasesKeepFit};
+ghost use Rattle.worker_laws.specs.Turns.{TurnsFit};
 
 /// A lawful call of the worker itself keeps what it holds, if no fault strikes the call. Its puts of
 /// the records must spare its live attempts: a heartbeat publishes the attempts' own contexts, and a
@@ -35,6 +40,12 @@ pub fn idle_workers_fit()
 /// job has one and the attempt is live. The worker runs no job that it stopped or did not start.
 pub fn claims_keep_fit()
     ensures { ClaimsKeepFit }
+{}
+
+/// A claim that reports stopped and took exactly the jobs of its rule, by the records that its last
+/// try found. It released only jobs whose attempts were lost as it got the manifest.
+pub fn claims_report()
+    ensures { ClaimsReport }
 {}
 
 /// A worker fits after its heartbeat, and runs only attempts that were live and are beaten.
@@ -63,8 +74,32 @@ pub fn finishes_keep_fit()
     ensures { FinishesKeepFit }
 {}
 
+/// A finish that reports ended a live attempt with one put. The job waits for its commit with the
+/// reported outputs, and they hold all rows that one merge makes under the settings of one claim.
+pub fn finishes_report()
+    ensures { FinishesReport }
+{}
+
 /// A worker fits after the step by which it gives its live attempts back. None of them is live any
 /// more.
 pub fn releases_keep_fit()
     ensures { ReleasesKeepFit }
+{}
+
+/// A worker fits after the steps by which it takes messages about its attempts. An attempt that
+/// finished ends as after a finish, and one that failed is not live any more.
+pub fn messages_keep_fit()
+    ensures { MessagesKeepFit }
+{}
+
+/// A worker fits after its turns, each of which is a claim and then a finish of each job that it
+/// runs.
+pub fn turns_fit()
+    ensures { TurnsFit }
+{}
+
+/// A heartbeat that reports beat exactly the attempts that were live by the records of its last
+/// try, and stopped the others. A release that reports gave back exactly the live ones.
+pub fn beats_report()
+    ensures { BeatsReport }
 {}
