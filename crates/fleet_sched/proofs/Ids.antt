@@ -2,7 +2,7 @@
 use Rattle.std.proofs.Common.{◌≡◌, refl, sym, ◌∙◌, ap, ℕ, ◌+◌, ◌<◌, List, [], ◌∷◌, ◌++◌, append_assoc, get_or, take, length, map, max, arith}
 use Rattle.std.specs.Prelude.{flat_map}
 use Rattle.std.proofs.lemmas.List.{append-nil, take_more, map-append}
-use Rattle.fleet_model.specs.Levels.{above_all, capped_id, destination_list, fresh_run_id}
+use Rattle.sched_model.specs.FreshRuns.{above_all, capped_id, destination_list, fresh_run_id}
 use Rattle.fleet_model.specs.Sources.{all_run_ids}
 use Rattle.fleet_tree.specs.Trees.{RunFlushes, segment_of}
 use Rattle.fleet_tree.specs.declared.tree.LsmTreeState.{LsmTreeState}

@@ -8,7 +8,7 @@ use Rattle.std.proofs.lemmas.List.Folds.{list_all-append}
 use Rattle.std.proofs.lemmas.List.Sums.{fold-append, sum_by-append}
 use Rattle.row_model.specs.Sizes.{saturated_sum}
 use Rattle.fleet_model.specs.Nodes.{NodeName, Run, names_contain}
-use Rattle.fleet_model.specs.Scheduler.{last_of}
+use Rattle.sched_model.specs.Picks.{last_of}
 use Rattle.fleet_model.specs.Sources.{is_apart}
 use Rattle.sched_model.specs.Sizes.{Sized, run_names, total_size}
 use Rattle.sched_model.specs.Series.{TieredOptions, are_tiered, first_series, oldest, is_similar, is_taken_again, least_size, lesser, longest, may_join}

@@ -5,7 +5,5 @@ pub mod Sorted
 pub mod Longest
 pub mod Joined
 pub mod Passes
-pub mod Stretches
 pub mod SizedViews
 pub mod Proposals
-pub mod Indexed

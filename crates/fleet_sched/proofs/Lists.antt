@@ -1,10 +1,8 @@
--- The last elements of lists, and names in lists.
-use Rattle.std.proofs.Common.{◌≡◌, refl, sym, ◌∙◌, ap, ℕ, suc, ◌+◌, ◌-◌, ◌<◌, List, [], ◌∷◌, ◌++◌, append_assoc, get_or, take, length, map, Bool, true, false, ◌||◌, cond, arith}
+-- The last elements of lists, and what lists give.
+use Rattle.std.proofs.Common.{◌≡◌, refl, sym, ◌∙◌, ap, ℕ, suc, ◌+◌, ◌-◌, ◌<◌, List, [], ◌∷◌, ◌++◌, append_assoc, get_or, take, length, map, arith}
 use Rattle.std.specs.Prelude.{option_map, slice_get}
-use Rattle.std.specs.List.{list_any}
 use Rattle.std.proofs.lemmas.List.{take_more}
-use Rattle.fleet_model.specs.Nodes.{NodeName, name_eq, names_contain}
-use Rattle.fleet_model.specs.Scheduler.{last_of}
+use Rattle.sched_model.specs.Picks.{last_of}
 
 -- The last number that a function gives is that of the last element.
 pub last_of-map : {X : Type 0} (f : X → ℕ) (xs : List X) → last_of (map f xs) ≡ option_map f (slice_get xs (length xs - 1))
@@ -14,15 +12,6 @@ last_of-map f (x ∷ y ∷ xs) =
     let here : suc (length xs) - 1 ≡ length xs = omega arith in
     let later : suc (suc (length xs)) - 1 ≡ suc (length xs) = omega arith in
     last_of-map f (y ∷ xs) ∙ ap (λ n. option_map f (slice_get (y ∷ xs) n)) here ∙ sym (ap (λ n. option_map f (slice_get (x ∷ y ∷ xs) n)) later)
-
--- A name is in a list if one of the elements has it.
-pub names_contain-map : {X : Type 0} (f : X → NodeName) (name : NodeName) (xs : List X) → names_contain (map f xs) name ≡ list_any (λ x. name_eq (f x) name) xs
-names_contain-map f name [] = refl
-names_contain-map f name (x ∷ xs) = by (name_eq (f x) name) (names_contain-map f name xs)
-  where
-    by : (b : Bool) → names_contain (map f xs) name ≡ list_any (λ x. name_eq (f x) name) xs → cond b true (names_contain (map f xs) name) ≡ (b || list_any (λ x. name_eq (f x) name) xs)
-    by true e = refl
-    by false e = e
 
 -- A function of lists that takes lists apart.
 pub record IsGathering {X Y : Type 0} (gather : List X → List Y) : Type 0 where

@@ -5,7 +5,7 @@ use Rattle.std.specs.Option.{option_or, option_to_list}
 use Rattle.std.proofs.lemmas.Bool.{ltb-true, ltb-false, le-ltb}
 use Rattle.std.proofs.lemmas.List.{append-nil, length-append, take-append-drop}
 use Rattle.fleet_model.specs.Jobs.{JobSpec}
-use Rattle.fleet_model.specs.Levels.{capped_id}
+use Rattle.sched_model.specs.FreshRuns.{capped_id}
 use Rattle.sched_model.specs.Series.{TieredOptions}
 use Rattle.sched_model.specs.Picks.{Planned, Picking, flush_pick, run_pick, next_pick, with_pick, fresh_after, picked_in, pass, passes}
 

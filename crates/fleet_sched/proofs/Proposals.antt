@@ -1,7 +1,7 @@
 -- The picks in a program's trees are the model's proposals.
 use Rattle.std.proofs.Common.{◌≡◌, refl, sym, ◌∙◌, ap, ℕ, List, [], ◌∷◌, map}
 use Rattle.fleet_model.specs.Jobs.{Jobs, JobSpec}
-use Rattle.fleet_model.specs.Levels.{fresh_run_id}
+use Rattle.sched_model.specs.FreshRuns.{fresh_run_id}
 use Rattle.sched_model.specs.Picks.{Planned, passes}
 use Rattle.sched_model.specs.Series.{TieredOptions}
 use Rattle.sched_model.specs.Sizes.{SizedTree}

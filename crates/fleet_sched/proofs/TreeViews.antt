@@ -4,7 +4,7 @@ use Rattle.std.specs.Prelude.{filter, find, option_map, option_and_then, bytes_e
 use Rattle.std.specs.List.{filter_map}
 use Rattle.std.proofs.lemmas.Slice.Eq.{bytes_eq-Decides}
 use Rattle.fleet_model.specs.Nodes.{NodeName, L0, Run, is_l0, names, segment_at}
-use Rattle.fleet_model.specs.Scheduler.{full_spec, full_spec_at, into_lowest, last_of, one_or_invalid}
+use Rattle.fleet_model.specs.Scheduler.{full_spec, full_spec_at, into_lowest, lowest_of, one_or_invalid}
 use Rattle.fleet_model.specs.Sources.{run_ids}
 use Rattle.fleet_tree.specs.Trees.{RunFlushes, tree_of, segment_of, flush_node, run_node}
 use Rattle.fleet_tree.specs.Views.{View}
@@ -18,6 +18,7 @@ use Rattle.sched_model.specs.SizeTiered.{agree, is_stretch, lowest_run, tiered_v
 use Rattle.fleet_jobs.specs.Sources.{name_of}
 use Rattle.fleet_jobs.specs.Specs.{destination_of, segment_of as prefix_of, sources_of, spec_of}
 use Rattle.fleet_jobs.specs.declared.spec.CompactionSpec.{CompactionSpec}
+use Rattle.fleet_jobs.proofs.Standing.{names_are}
 use Rattle.fleet_sched.specs.Stretches.{accepts, tree_found}
 use Rattle.fleet_book.specs.declared.view.CompactorStateView.{CompactorStateView}
 use Rattle.fleet_sched.specs.Full.{full_spec_in, into_run, segment_answer}
@@ -43,18 +44,24 @@ at_segment prefix (s ∷ trees) tree e = by (bytes_eq prefix s.0) refl e (at_seg
 abbrev pub names_of_runs : List SortedRun → List NodeName
 names_of_runs runs = map (λ run. Run run.id) runs
 
+-- The names of runs have the ids of the runs.
+pub run_ids-named : (runs : List SortedRun) → run_ids (names_of_runs runs) ≡ map (λ run. run.id) runs
+run_ids-named [] = refl
+run_ids-named (run ∷ runs) = ap (λ (ids : List ℕ). run.id ∷ ids) (run_ids-named runs)
+
+run_ids-nodes : (l0 : List View) (runs : List SortedRun) → run_ids (map (λ view. L0 view.id) l0 ++ names_of_runs runs) ≡ map (λ run. run.id) runs
+run_ids-nodes [] runs = run_ids-named runs
+run_ids-nodes (view ∷ l0) runs = run_ids-nodes l0 runs
+
+-- The merge into the lowest run among the names of a tree's runs is the merge into the lowest one.
+pub into_named : (segment : List ℕ) (tree : LsmTreeState) (sources : List NodeName) (lowest : Option ℕ) → sources ≡ names_of_runs tree.compacted → lowest ≡ lowest_run sources
+    → into_run segment tree.compacted lowest ≡ full_spec_in (segment, tree)
+into_named segment tree sources lowest same is = ap (into_run segment tree.compacted) (is ∙ ap lowest_run same ∙ ap lowest_of (run_ids-named tree.compacted))
+
 module _ (flushes : ℕ → List ℕ) where
-  pub run_ids-runs : (runs : List SortedRun) → run_ids (names (map (run_node flushes) runs)) ≡ map (λ run. run.id) runs
-  run_ids-runs [] = refl
-  run_ids-runs (run ∷ runs) = ap (λ (ids : List ℕ). run.id ∷ ids) (run_ids-runs runs)
-
-  run_ids-tree : (l0 : List View) (runs : List SortedRun) → run_ids (names (map (flush_node flushes) l0 ++ map (run_node flushes) runs)) ≡ map (λ run. run.id) runs
-  run_ids-tree [] runs = run_ids-runs runs
-  run_ids-tree (view ∷ l0) runs = run_ids-tree l0 runs
-
   -- The runs of a tree have their ids.
   pub run_ids_of : (tree : LsmTreeState) → run_ids (names (tree_of flushes tree)) ≡ map (λ run. run.id) tree.compacted
-  run_ids_of tree = run_ids-tree tree.l0 tree.compacted
+  run_ids_of tree = ap run_ids (names_are flushes tree) ∙ run_ids-nodes tree.l0 tree.compacted
 
   runs_alone : (runs : List SortedRun) → filter (λ name. not (is_l0 name)) (names (map (run_node flushes) runs)) ≡ names_of_runs runs
   runs_alone [] = refl
@@ -64,14 +71,6 @@ module _ (flushes : ℕ → List ℕ) where
   runs_in_tree [] runs = runs_alone runs
   runs_in_tree (view ∷ l0) runs = runs_in_tree l0 runs
 
-  names_alone : (runs : List SortedRun) → names (map (run_node flushes) runs) ≡ map (λ run. Run run.id) runs
-  names_alone [] = refl
-  names_alone (run ∷ runs) = ap (λ (rest : List NodeName). Run run.id ∷ rest) (names_alone runs)
-
-  names_in_tree : (l0 : List View) (runs : List SortedRun) → names (map (flush_node flushes) l0 ++ map (run_node flushes) runs) ≡ map (λ view. L0 view.id) l0 ++ map (λ run. Run run.id) runs
-  names_in_tree [] runs = names_alone runs
-  names_in_tree (view ∷ l0) runs = ap (λ (rest : List NodeName). L0 view.id ∷ rest) (names_in_tree l0 runs)
-
 module _ (flushes : RunFlushes) where
   full_into : (s : List ℕ × LsmTreeState) (lowest : Option ℕ) → into_lowest (segment_of flushes s) lowest ≡ into_run s.0 s.1.compacted lowest
   full_into s None = refl
@@ -80,8 +79,8 @@ module _ (flushes : RunFlushes) where
   -- The merge of all runs of a tree is the model's.
   pub full_spec_is : (s : List ℕ × LsmTreeState) → full_spec (segment_of flushes s) ≡ full_spec_in s
   full_spec_is s =
-      ap (λ ids. into_lowest (segment_of flushes s) (last_of ids)) (run_ids_of (flushes s.0) s.1)
-      ∙ full_into s (last_of (map (λ run. run.id) s.1.compacted))
+      ap (λ ids. into_lowest (segment_of flushes s) (lowest_of ids)) (run_ids_of (flushes s.0) s.1)
+      ∙ full_into s (lowest_of (map (λ run. run.id) s.1.compacted))
 
   -- The merges of all trees are the model's.
   pub full_specs_are : (trees : List (List ℕ × LsmTreeState)) → filter_map full_spec (map (segment_of flushes) trees) ≡ filter_map full_spec_in trees
@@ -112,7 +111,7 @@ module _ (flushes : RunFlushes) where
       → (is_some (option_map (segment_of flushes) found) && is_stretch (tree_or_empty (option_map (segment_of flushes) found)) sources && agree (lowest_run sources) (Some destination))
       ≡ accepts (Some destination) sources (option_map (λ s. s.1) found)
   accepted_at sources destination None = refl
-  accepted_at sources destination (Some s) = ap (λ nodes. is_nonempty sources && is_some (older_nodes sources nodes) && agree (lowest_run sources) (Some destination)) (names_in_tree (flushes s.0) s.1.l0 s.1.compacted)
+  accepted_at sources destination (Some s) = ap (λ nodes. is_nonempty sources && is_some (older_nodes sources nodes) && agree (lowest_run sources) (Some destination)) (names_are (flushes s.0) s.1)
 
   -- A job is accepted where the model accepts it.
   pub accepts_is : (state : CompactorStateView) (spec : CompactionSpec)

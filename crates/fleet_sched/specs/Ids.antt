@@ -1,6 +1,6 @@
 -- The ids of runs that a program shows.
 use Rattle.std.specs.Prelude.{ℕ, List, flat_map, map}
-use Rattle.fleet_model.specs.Levels.{destination_list}
+use Rattle.sched_model.specs.FreshRuns.{destination_list}
 use Rattle.fleet_tree.specs.declared.tree.LsmTreeState.{LsmTreeState}
 use Rattle.fleet_jobs.specs.JobParts.{JobParts}
 use Rattle.fleet_jobs.specs.Specs.{destination_of}

@@ -6,4 +6,3 @@ pub mod TieredParts
 pub mod Options
 pub mod Ids
 pub mod Stretches
-pub mod Indexed

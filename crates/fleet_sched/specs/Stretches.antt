@@ -1,16 +1,13 @@
 -- Which jobs the size-tiered scheduler accepts, of the trees of a program.
-use Rattle.std.specs.Prelude.{ℕ, ◌++◌, ◌&&◌, Bool, true, false, List, bytes_eq, find, is_some, map, option_map, Option, Some, None}
+use Rattle.std.specs.Prelude.{ℕ, ◌&&◌, Bool, true, false, List, bytes_eq, find, is_some, option_map, Option, Some, None}
 use Rattle.fleet_model.specs.Gates.{is_nonempty}
-use Rattle.fleet_model.specs.Nodes.{NodeName, L0, Run}
+use Rattle.fleet_model.specs.Nodes.{NodeName}
 use Rattle.fleet_model.specs.Sources.{older_nodes}
 use Rattle.sched_model.specs.SizeTiered.{agree, lowest_run}
 use Rattle.fleet_tree.specs.declared.tree.LsmTreeState.{LsmTreeState}
+use Rattle.fleet_jobs.specs.Places.{nodes_in}
 use Rattle.fleet_book.specs.declared.view.CompactorStateView.{CompactorStateView}
 use Rattle.fleet_sched.specs.Views.{trees_in}
-
--- The names of the nodes of a tree, newest first.
-abbrev pub nodes_in : LsmTreeState → List NodeName
-nodes_in tree = map (λ view. L0 view.id) tree.l0 ++ map (λ run. Run run.id) tree.compacted
 
 -- The tree of this segment, if it has one.
 abbrev pub tree_found : List ℕ → CompactorStateView → Option LsmTreeState

@@ -48,8 +48,8 @@ job_handles job = flat_map (λ range. range.output_ssts) (ranges_in job.ctx) ++ 
 abbrev pub handles_in : CompactorStateView → List SsTableHandle
 handles_in state = flat_map (λ s. tree_handles s.1) (trees_in state) ++ flat_map job_handles (open_records state.compactions)
 
--- The model's view of what is shown. A program does not keep which flushes went into a run, so they are given
--- too.
+-- The model's view of a state. It has no job that is over, and no count of the bytes that a job has
+-- processed. A program does not keep which flushes went into a run, so they are given too.
 abbrev pub view_of : (flushes : RunFlushes) → CompactorStateView → model.View
 view_of flushes state = record {
   manifest = manifest_of flushes state.manifest.id state.manifest.manifest.compactor_epoch state.manifest.manifest.core;

@@ -3,7 +3,6 @@
 ghost use Rattle.std.specs.Prelude.{◌≡◌, ◌++◌, ℕ, List, [], ◌∷◌, Ok, map, option_map, IfOk, OnOk};
 ghost use Rattle.std.specs.List.{filter_map};
 ghost use Rattle.fleet_model.specs.Scheduler as model;
-ghost use Rattle.fleet_model.specs.Scheduler.{last_of};
 ghost use Rattle.fleet_model.specs.Nodes.{Run};
 ghost use Rattle.fleet_jobs.specs.Sources.{name_of};
 ghost use Rattle.fleet_book.specs.Requests.{request_of};
@@ -15,7 +14,7 @@ ghost use Rattle.fleet_sched.specs.Views.{trees_in, view_of};
 
 use bytes::Bytes;
 use fleet_book::{CompactionRequest, CompactorStateView};
-use fleet_jobs::{CompactionSpec, SourceId};
+use fleet_jobs::{CompactionSpec, SourceId, lowest_run};
 use fleet_rows::SlateDBError;
 use fleet_tree::{LsmTreeState, SortedRun};
 use std::alloc::{AllocError, Global};
@@ -30,9 +29,9 @@ pub fn default_validate(
     Ok(())
 }
 
-/// A spec gives itself. `FullSegment` gives the merge of all runs of the segment's tree, and is
-/// refused with `InvalidCompaction` if the segment has no tree or no runs. `Full` gives such a
-/// merge for each tree that has runs.
+/// A spec gives itself. `FullSegment` gives the merge of all runs of the segment's tree into the
+/// lowest of them, and is refused with `InvalidCompaction` if the segment has no tree or no runs.
+/// `Full` gives such a merge for each tree that has runs.
 pub fn default_generate(
     alloc: Global,
     state: &CompactorStateView,
@@ -99,21 +98,13 @@ fn full_spec(
     ensures { IfOk result
         (λ spec. option_map spec_of spec ≡ full_spec_in (segment.now, tree.now)) }
 {
-    let runs = tree.compacted.as_slice();
-    let Some(lowest) = last_id(runs) else {
+    let sources = sources(alloc, tree.compacted.as_slice())?;
+    // It need not be the last run: the order of a tree's runs is not checked where a view is made.
+    let Some(lowest) = lowest_run(sources.as_slice()) else {
         return Ok(None);
     };
-    let spec = CompactionSpec::for_segment(Clone::clone(segment)?, sources(alloc, runs)?, lowest);
-    Ok(Some(spec))
-}
-
-fn last_id(runs: &[SortedRun]) -> Option<u32>
-    ensures { result ≡ last_of (map (λ run. run.id) runs.now) }
-{
-    match runs.last() {
-        Some(run) => Some(run.id),
-        None => None,
-    }
+    let segment = Clone::clone(segment)?;
+    Ok(Some(CompactionSpec::for_segment(segment, sources, lowest)))
 }
 
 fn sources(alloc: Global, runs: &[SortedRun]) -> Result<Vec<SourceId>, AllocError>

@@ -3,7 +3,6 @@
 #![tactic(auto)]
 
 mod defaults;
-mod node_set;
 mod options;
 mod picking;
 mod planned;

@@ -1,7 +1,7 @@
 //! Picks of jobs, tree by tree and pass by pass.
 
 ghost use Rattle.std.specs.Prelude.{◌≡◌, ◌++◌, ◌-◌, ◌+◌, ◌∷◌, [], map, option_map, length, IfOk, OnOk, is_some};
-ghost use Rattle.fleet_model.specs.Levels.{capped_id};
+ghost use Rattle.sched_model.specs.FreshRuns.{capped_id};
 ghost use Rattle.fleet_jobs.specs.Specs.{spec_of};
 ghost use Rattle.sched_model.specs.Picks.{fresh_after, next_pick, pass, passes, picked_in, with_pick};
 

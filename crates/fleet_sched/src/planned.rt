@@ -3,19 +3,17 @@
 ghost use Rattle.std.specs.Prelude.{◌≡◌, length, option_map, map, IfOk, OnOk};
 ghost use Rattle.std.specs.Prelude.{Some};
 ghost use Rattle.fleet_model.specs.Nodes.{Run};
-ghost use Rattle.fleet_model.specs.Scheduler.{last_of};
 ghost use Rattle.fleet_jobs.specs.Sources.{name_of};
 ghost use Rattle.sched_model.specs.Series.{is_allowed};
 ghost use Rattle.fleet_jobs.specs.Specs.{spec_of};
-ghost use Rattle.sched_model.specs.Picks.{flush_pick, into_last, next_pick, run_pick, with_pick};
+ghost use Rattle.sched_model.specs.Picks.{flush_pick, into_last, last_of, next_pick, run_pick, with_pick};
 ghost use Rattle.sched_model.specs.Sizes.{flush_names};
 
 use crate::SizeTieredCompactionSchedulerOptions;
-use crate::node_set::NodeSet;
 use crate::series::{first_series, is_taken_again};
 use crate::sized::{SizedFlush, SizedRun, flush_sources, oldest_flushes, run_sources, total_size};
 use bytes::Bytes;
-use fleet_jobs::{CompactionSpec, SourceId};
+use fleet_jobs::{CompactionSpec, NodeSet, SourceId};
 use std::alloc::{AllocError, Global};
 use std::marker::Model;
 

@@ -2,7 +2,7 @@
 
 ghost use Rattle.std.specs.Prelude.{◌≡◌, ◌++◌, ◌+◌, ◌-◌, ℕ, List, [], ◌∷◌, map, IfOk, OnOk};
 ghost use Rattle.std.specs.Prelude.{Some, max, filter, bytes_eq};
-ghost use Rattle.fleet_model.specs.Levels.{above_all, capped_id, destination_list, fresh_run_id};
+ghost use Rattle.sched_model.specs.FreshRuns.{above_all, capped_id, destination_list, fresh_run_id};
 ghost use Rattle.fleet_jobs.specs.Jobs.{is_open, jobs_of};
 ghost use Rattle.fleet_jobs.specs.Specs.{segment_of};
 ghost use Rattle.sched_model.specs.SizeTiered.{by_flushes, free_slots, nodes_used, unplanned_tree};
@@ -11,12 +11,11 @@ ghost use Rattle.fleet_sched.specs.Views.{open_records, shown_jobs, trees_in, vi
 ghost use Rattle.fleet_tree.specs.Trees.{RunFlushes, trees_with_prefix};
 ghost use Rattle.fleet_sched.specs.Ids.{destinations_in, ids_in};
 
-use crate::node_set::NodeSet;
 use crate::planned::Planned;
 use crate::sized::{sized_flushes, sized_runs};
 use bytes::Bytes;
 use fleet_book::{CompactorStateView, VersionedCompactions};
-use fleet_jobs::{Compaction, CompactionSpec, CompactionStatus};
+use fleet_jobs::{Compaction, CompactionSpec, CompactionStatus, NodeSet};
 use fleet_tree::{LsmTreeState, ManifestCore};
 use std::alloc::{AllocError, Global};
 

@@ -5,9 +5,8 @@ ghost use Rattle.fleet_model.specs.Nodes.{Run, names_contain};
 ghost use Rattle.sched_model.specs.Series.{first_series, is_similar, is_taken_again, lesser, longest, may_join, oldest, similar_series, threshold};
 
 use crate::SizeTieredCompactionSchedulerOptions;
-use crate::node_set::NodeSet;
 use crate::sized::{SizedRun, oldest_runs};
-use fleet_jobs::SourceId;
+use fleet_jobs::{NodeSet, SourceId};
 
 fn threshold(options: &SizeTieredCompactionSchedulerOptions, size: u64) -> u128
     ensures { result ≡ threshold options.now size }

@@ -6,7 +6,7 @@ use Rattle.row_model.specs.Lists.{Pairs}
 use Rattle.fleet_model.specs.Gates.{reserves_nodes}
 use Rattle.fleet_model.specs.Jobs.{Job, Jobs, JobSpec, contains, nodes_of}
 use Rattle.fleet_model.specs.JobsFit.{DestinationFits, SourcesStand}
-use Rattle.fleet_model.specs.Levels.{above_all, destination_list, fresh_run_id}
+use Rattle.sched_model.specs.FreshRuns.{above_all, destination_list, fresh_run_id}
 use Rattle.fleet_model.specs.Nodes.{NodeName, Run, Trees, names, tree_at}
 use Rattle.fleet_model.specs.Scheduler.{View}
 use Rattle.fleet_model.specs.Sources.{all_run_ids, is_lowest_or_above, older_nodes, reaches_oldest, run_ids}
@@ -14,7 +14,7 @@ use Rattle.sched_model.specs.Picks.{Planned}
 use Rattle.sched_model.specs.Sizes.{SizedTree, sized_trees}
 use Rattle.sched_model.specs.SizeTiered.{by_flushes, nodes_used, put_by_flushes, unplanned_tree}
 use Rattle.sched_laws.specs.Views.{ViewStands}
-use Rattle.sched_laws.proofs.Holding.{Holds, IsFresh}
+use Rattle.sched_laws.proofs.Holding.{Holds, IsBelow, IsFresh}
 use Rattle.sched_laws.proofs.Lists.{all_join, all_weaken, both_true}
 use Rattle.sched_laws.proofs.Names.{In, in_back, in_front, never_in}
 use Rattle.sched_laws.proofs.Passes.{Differ, IsMidway, IsReady}
@@ -43,7 +43,7 @@ all_destinations (job ∷ jobs) = (
       (λ j there id is. contained_back id (destination_list job.spec.destination) (destinations jobs) (there id is)) jobs (all_destinations jobs),
 )
 
-fresh_is : (view : View) → IsFresh view.manifest.trees (fresh_run_id view)
+pub fresh_is : (view : View) → IsFresh view.manifest.trees (fresh_run_id view)
 fresh_is view = record {
   limit = omega arith;
   above = λ small id h. let below : id < above_all (all_run_ids view.manifest.trees ++ destinations view.jobs) =
@@ -89,8 +89,15 @@ jobs_hold view stands =
     below_all (all_run_ids view.manifest.trees ++ destinations view.jobs) id (contained_back id (all_run_ids view.manifest.trees) (destinations view.jobs) (there id is)) in omega (arith, small, below)))
     view.jobs stands.jobs (all_destinations view.jobs)
 
+-- The destination of each job is below the fresh id.
+all_below : (view : View) → AllByRecursion (λ job. IsBelow (fresh_run_id view) job.spec) view.jobs
+all_below view =
+    all_weaken (λ job. (id : ℕ) → job.spec.destination ≡ Some id → contains (destinations view.jobs) id ≡ true) (λ job. IsBelow (fresh_run_id view) job.spec)
+    (λ job there id is small. let below : id < above_all (all_run_ids view.manifest.trees ++ destinations view.jobs) =
+    below_all (all_run_ids view.manifest.trees ++ destinations view.jobs) id (contained_back id (all_run_ids view.manifest.trees) (destinations view.jobs) (there id is)) in omega (arith, small, below)) view.jobs (all_destinations view.jobs)
+
 pub midway_begins : (view : View) → ViewStands view → IsMidway view.manifest.trees view.jobs (record { fresh = fresh_run_id view; picks = [] })
-midway_begins view stands = record { next = fresh_is view; held = jobs_hold view stands; holding = tt; fit = tt; apart = tt }
+midway_begins view stands = record { next = fresh_is view; held = jobs_hold view stands; holding = tt; asked = all_below view; fit = tt; apart = tt; rising = tt }
 
 -- ---- trees that are looked at
 

@@ -5,7 +5,7 @@ use Rattle.std.specs.List.{AllByRecursion}
 use Rattle.row_model.specs.Lists.{Pairs}
 use Rattle.fleet_model.specs.Gates.{are_distinct, first_failing, is_free, is_nonempty, names_older, reserves_nodes, submit_gate, submitted_rules}
 use Rattle.fleet_model.specs.Jobs.{Compacted, Completed, Failed, Job, Jobs, JobSpec, Running, Scheduled, Status, Submitted, contains, is_active, is_drain, is_finished, nodes_of, status_eq}
-use Rattle.fleet_model.specs.Levels.{fresh_run_id}
+use Rattle.sched_model.specs.FreshRuns.{fresh_run_id}
 use Rattle.fleet_model.specs.Nodes.{NodeName, Tree, Trees, names, segment_at, tree_at}
 use Rattle.fleet_model.specs.Scheduler.{View}
 use Rattle.fleet_model.specs.Sources.{is_apart, is_whole_stretch, older_nodes, reaches_oldest}
@@ -16,7 +16,7 @@ use Rattle.sched_laws.specs.Views.{ViewStands}
 use Rattle.sched_laws.proofs.Begins.{differ_begins, looked_at, midway_begins, ready_begins}
 use Rattle.sched_laws.proofs.Lists.{all_append, all_at, all_back, all_weaken, pairs_after, pairs_before, true_and}
 use Rattle.sched_laws.proofs.Names.{apart_back, within_from}
-use Rattle.sched_laws.proofs.Passes.{Fits, IsApartFrom, passes_keep}
+use Rattle.sched_laws.proofs.Passes.{Fits, IsApartFrom, Rises, passes_keep}
 use Rattle.sched_laws.proofs.Picks.{or_true}
 
 -- ---- all proposals
@@ -25,6 +25,7 @@ use Rattle.sched_laws.proofs.Picks.{or_true}
 pub record AllFit (view : View) (proposals : List JobSpec) : Type 0 where
   pub each : AllByRecursion (Fits view.manifest.trees view.jobs) proposals
   pub apart : Pairs AreApart proposals
+  pub rising : Pairs Rises proposals
 
 pub proposals_fit : (o : TieredOptions) → are_tiered o ≡ true → (most : ℕ) (view : View) → ViewStands view → AllFit view (tiered_proposals o most view)
 unfolding tiered_proposals
@@ -32,7 +33,7 @@ proposals_fit o tiered most view stands =
     let slots = free_slots most view.jobs in
     let all = passes_keep o tiered slots view.manifest.trees stands.apart view.jobs slots (looked_at view) (record { fresh = fresh_run_id view; picks = [] })
     (differ_begins view stands) (midway_begins view stands) (ready_begins view stands) in
-    record { each = all.0; apart = all.1 }
+    record { each = all.0; apart = all.1; rising = all.2 }
 
 pub proposals_are_apart : (o : TieredOptions) → are_tiered o ≡ true → (most : ℕ) (view : View) → ViewStands view → Pairs AreApart (tiered_proposals o most view)
 proposals_are_apart o tiered most view stands = (proposals_fit o tiered most view stands).apart
@@ -80,11 +81,11 @@ module _ (known : Jobs) (others : List JobSpec) (job : Job) (free : IsApartFrom 
 
 -- ---- all rules
 
-all_hold : (rules : List (ℕ × Bool)) → AllByRecursion (λ rule. rule.1 ≡ true) rules → first_failing rules ≡ None
+pub all_hold : (rules : List (ℕ × Bool)) → AllByRecursion (λ rule. rule.1 ≡ true) rules → first_failing rules ≡ None
 all_hold [] all = refl
 all_hold (rule ∷ rules) all = ap (λ b. cond b (first_failing rules) (Some rule.0)) all.0 ∙ all_hold rules all.1
 
-found_stretch : (sources : List NodeName) (found : Option (List NodeName)) → reaches_oldest sources found ≡ true → is_some found ≡ true
+pub found_stretch : (sources : List NodeName) (found : Option (List NodeName)) → reaches_oldest sources found ≡ true → is_some found ≡ true
 found_stretch sources None e = absurd (cc e)
 found_stretch sources (Some rest) e = refl
 
@@ -99,13 +100,13 @@ is_accepted view spec fits =
     (true_and (is_some (segment_at spec.segment trees)) stretch fits.pick.found stands) fits.pick.agrees)
 
 -- A job that fits passes the gate, if it is free.
-fitting_passes : (view : View) (job : Job) (jobs : Jobs) → Fits view.manifest.trees view.jobs job.spec → HasFreeId job.spec → is_free jobs [] job ≡ true
-    → submit_gate view.manifest.trees jobs [] (tiered_validate view) job ≡ None
-fitting_passes view job jobs fits small free =
+pub fitting_passes : (view : View) (job : Job) (jobs : Jobs) → Fits view.manifest.trees view.jobs job.spec → HasFreeId job.spec → is_free jobs [] job ≡ true → (accepts : JobSpec → Bool) → accepts job.spec ≡ true
+    → submit_gate view.manifest.trees jobs [] accepts job ≡ None
+fitting_passes view job jobs fits small free accepts accepted =
     let spec = job.spec in
     let trees = view.manifest.trees in
     let tree : Tree = tree_at job.spec.segment view.manifest.trees in
-    all_hold (submitted_rules trees jobs [] (tiered_validate view) job tree) (
+    all_hold (submitted_rules trees jobs [] accepts job tree) (
       true_and (is_nonempty spec.sources) (are_distinct spec.sources) fits.pick.some fits.pick.once,
       (
         ap (λ b. not b || is_nonempty spec.segment) fits.pick.no_drain,
@@ -121,7 +122,7 @@ fitting_passes view job jobs fits small free =
                   fits.destination small,
                   (
                     free,
-                    (is_accepted view spec fits, tt),
+                    (accepted, tt),
                   ),
                 ),
               ),
@@ -148,14 +149,23 @@ module _ (view : View) (before after : List JobSpec) (spec : JobSpec) (fit : All
 abbrev accepted_in : Trees → JobSpec → Bool
 accepted_in trees spec = is_drain spec || (is_some (segment_at spec.segment trees) && is_stretch (tree_at spec.segment trees) spec.sources && agree (lowest_run spec.sources) spec.destination)
 
--- A job for a proposal passes the gate beside the known jobs, if it is apart from those that hold nodes.
+-- A job for a proposal passes the gate beside the known jobs, if it is apart from those that hold nodes and the
+-- scheduler accepts it.
+pub passes_if_accepted : (view : View) (before after : List JobSpec) (job : Job) → AllFit view (before ++ job.spec ∷ after) → HasFreeId job.spec
+    → (known : Jobs) → (IsApartFrom view.jobs job.spec → IsApartFrom known job.spec) → (jobs : Jobs) → AllByRecursion (MayBeThere known (before ++ after) job.id) jobs
+    → (accepts : JobSpec → Bool) → accepts job.spec ≡ true → submit_gate view.manifest.trees jobs [] accepts job ≡ None
+passes_if_accepted view before after job fit small known same jobs there accepts accepted =
+    let fits = this_fits view before after job.spec fit small in
+    let free = all_are_free known (before ++ after) job (same (fits.apart small)) (apart_from_others view before after job.spec fit small) jobs there in
+    fitting_passes view job jobs fits small free accepts accepted
+
+-- The size-tiered scheduler accepts it on each view of the same trees.
 pub passes_beside : (view : View) (before after : List JobSpec) (job : Job) → AllFit view (before ++ job.spec ∷ after) → HasFreeId job.spec
     → (known : Jobs) → (IsApartFrom view.jobs job.spec → IsApartFrom known job.spec) → (jobs : Jobs) → AllByRecursion (MayBeThere known (before ++ after) job.id) jobs
     → (later : View) → later.manifest.trees ≡ view.manifest.trees → submit_gate later.manifest.trees jobs [] (tiered_validate later) job ≡ None
 passes_beside view before after job fit small known same jobs there later trees =
-    let fits = this_fits view before after job.spec fit small in
-    let free = all_are_free known (before ++ after) job (same (fits.apart small)) (apart_from_others view before after job.spec fit small) jobs there in
-    subst (λ shown. submit_gate shown jobs [] (accepted_in shown) job ≡ None) (sym trees) (fitting_passes view job jobs fits small free)
+    subst (λ shown. submit_gate shown jobs [] (accepted_in shown) job ≡ None) (sym trees)
+    (passes_if_accepted view before after job fit small known same jobs there (accepted_in view.manifest.trees) (is_accepted view job.spec (this_fits view before after job.spec fit small)))
 
 pub proposals_pass : (o : TieredOptions) → are_tiered o ≡ true → (most : ℕ) (view : View) → ViewStands view
     → (before after : List JobSpec) (job : Job) → tiered_proposals o most view ≡ before ++ job.spec ∷ after → HasFreeId job.spec

@@ -6,7 +6,7 @@ use Rattle.std.proofs.lemmas.Bool.{ltb-true, ltb-false, lt-ltb}
 use Rattle.row_model.specs.Lists.{Pairs}
 use Rattle.fleet_model.specs.Gates.{destination_fits}
 use Rattle.fleet_model.specs.Jobs.{JobSpec, contains, nodes_of, with_destination}
-use Rattle.fleet_model.specs.Levels.{capped_id}
+use Rattle.sched_model.specs.FreshRuns.{capped_id}
 use Rattle.fleet_model.specs.Nodes.{NodeName, Run, Trees, names, tree_at}
 use Rattle.fleet_model.specs.Sources.{all_run_ids, is_apart, is_lowest_or_above, run_ids}
 use Rattle.fleet_model.specs.TreesFit.{NoneShared}
@@ -16,7 +16,7 @@ use Rattle.sched_laws.specs.Proposals.{HasFreeId}
 use Rattle.sched_laws.proofs.Lists.{true_and}
 use Rattle.sched_laws.proofs.Names.{In, apart_from, in_cases}
 use Rattle.sched_laws.proofs.Picks.{IntoFresh, IsPick, Makes}
-use Rattle.sched_laws.proofs.Trees.{equal_prefixes, run_of_trees, same_prefix, trees_apart}
+use Rattle.sched_laws.proofs.Trees.{equal_prefixes, run_is_contained, run_of_trees, same_prefix, trees_apart}
 
 -- The id is at most the greatest one, and above the runs of all trees unless it is the greatest one.
 pub record IsFresh (trees : Trees) (fresh : ℕ) : Type 0 where
@@ -33,6 +33,14 @@ pub record Holds (trees : Trees) (fresh : ℕ) (spec : JobSpec) : Type 0 where
 abbrev pub Uses : Planned → JobSpec → Type 0
 Uses t spec = spec.segment ≡ t.tree.segment → (x : NodeName) → In x (nodes_of spec) → In x t.used
 
+-- If the second job takes a run id of its own, the destination of the first is below it.
+abbrev pub RisesTo : JobSpec → JobSpec → Type 0
+RisesTo a b = run_ids b.sources ≡ [] → (i j : ℕ) → a.destination ≡ Some i → b.destination ≡ Some j → i < j
+
+-- The destination is below the fresh id, unless that is the greatest one.
+abbrev pub IsBelow : ℕ → JobSpec → Type 0
+IsBelow fresh spec = (id : ℕ) → spec.destination ≡ Some id → fresh < 4294967295 → id < fresh
+
 -- ---- the fresh id after a pick
 
 -- The fresh id stays or rises by one, but not above the greatest one.
@@ -42,6 +50,13 @@ fresh_rises o t fresh = by (is_some (flush_pick o fresh t))
     by : (b : Bool) → (cond b (capped_id (fresh + 1)) fresh ≡ fresh) ⊎ (cond b (capped_id (fresh + 1)) fresh ≡ capped_id (fresh + 1))
     by true = inr refl
     by false = inl refl
+
+pub fresh_grows : (o : TieredOptions) (t : Planned) (fresh : ℕ) → fresh_after o t fresh < 4294967295 → fresh ≤ fresh_after o t fresh
+fresh_grows o t fresh small = by (fresh_rises o t fresh)
+  where
+    by : (fresh_after o t fresh ≡ fresh) ⊎ (fresh_after o t fresh ≡ capped_id (fresh + 1)) → fresh ≤ fresh_after o t fresh
+    by (inl same) = omega (arith, same)
+    by (inr more) = let up : fresh_after o t fresh ≡ min (fresh + 1) 4294967295 = more in omega (arith, up, small)
 
 pub still_fresh : (trees : Trees) (fresh : ℕ) → IsFresh trees fresh → IsFresh trees (capped_id (fresh + 1))
 still_fresh trees fresh f = record {
@@ -56,7 +71,7 @@ fresh_after_is o t trees fresh f = by (fresh_rises o t fresh)
     by (inl same) = subst (IsFresh trees) (sym same) f
     by (inr more) = subst (IsFresh trees) (sym more) (still_fresh trees fresh f)
 
-holds_above : (trees : Trees) (fresh : ℕ) (spec : JobSpec) → Holds trees fresh spec → Holds trees (capped_id (fresh + 1)) spec
+pub holds_above : (trees : Trees) (fresh : ℕ) (spec : JobSpec) → Holds trees fresh spec → Holds trees (capped_id (fresh + 1)) spec
 holds_above trees fresh spec holds = record { within = holds.within; made = λ id is. by id (holds.made id is) }
   where
     by : (id : ℕ) → In (Run id) spec.sources ⊎ ((contains (all_run_ids trees) id ≡ true → ⊥) × (fresh < 4294967295 → id < fresh))
@@ -85,7 +100,7 @@ free_is_small trees fresh spec f free into = by (nat_lt fresh 4294967295) refl f
         absurd (free (into.is ∙ ap Some same))
 
 -- A node of a job is a source or the destination.
-node_cases : (spec : JobSpec) (x : NodeName) → In x (nodes_of spec) → In x spec.sources ⊎ ((id : ℕ) × (spec.destination ≡ Some id) × (Run id ≡ x))
+pub node_cases : (spec : JobSpec) (x : NodeName) → In x (nodes_of spec) → In x spec.sources ⊎ ((id : ℕ) × (spec.destination ≡ Some id) × (Run id ≡ x))
 node_cases spec x h = by spec.destination refl h
   where
     with_run : (id : ℕ) → spec.destination ≡ Some id → (Run id ≡ x) ⊎ In x spec.sources → In x spec.sources ⊎ ((id : ℕ) × (spec.destination ≡ Some id) × (Run id ≡ x))
@@ -122,13 +137,13 @@ all_below fresh (run ∷ runs) each =
     later id true h = refl
     later id false h = h
 
-module _ (o : TieredOptions) (trees : Trees) (fresh : ℕ) (t : Planned) (spec : JobSpec) (f : IsFresh trees fresh) (pick : IsPick trees t spec) (makes : Makes o fresh t spec) (free : HasFreeId spec) where
+module _ (trees : Trees) (fresh next : ℕ) (t : Planned) (spec : JobSpec) (f : IsFresh trees fresh) (pick : IsPick trees t spec) (makes : Makes fresh next spec) (free : HasFreeId spec) where
   -- A pick holds its nodes from then on.
-  pub pick_holds : Holds trees (fresh_after o t fresh) spec
+  pub pick_holds : Holds trees next spec
   pick_holds = record { within = pick.within; made = λ id is. by id is makes }
     where
-      by : (id : ℕ) → spec.destination ≡ Some id → Makes o fresh t spec
-          → In (Run id) spec.sources ⊎ ((contains (all_run_ids trees) id ≡ true → ⊥) × (fresh_after o t fresh < 4294967295 → id < fresh_after o t fresh))
+      by : (id : ℕ) → spec.destination ≡ Some id → Makes fresh next spec
+          → In (Run id) spec.sources ⊎ ((contains (all_run_ids trees) id ≡ true → ⊥) × (next < 4294967295 → id < next))
       by id is (inl lowest) =
           let twice : Some lowest.id ≡ Some id = sym lowest.is ∙ is in
           let same : lowest.id ≡ id = cc twice in
@@ -139,7 +154,7 @@ module _ (o : TieredOptions) (trees : Trees) (fresh : ℕ) (t : Planned) (spec :
           let small = free_is_small trees fresh spec f free into.0 in
           inr (
             λ h. let below : id < fresh = f.above small id h in omega (arith, same, below),
-            λ rest. let more : fresh_after o t fresh ≡ min (fresh + 1) 4294967295 = into.1 in omega (arith, same, rest, more),
+            λ rest. let more : next ≡ min (fresh + 1) 4294967295 = into.1 in omega (arith, same, rest, more),
           )
 
   fits_at : (id : ℕ) → spec.destination ≡ Some id → is_lowest_or_above id (run_ids spec.sources) (all_run_ids trees) ≡ true → destination_fits trees spec.sources spec.destination ≡ true
@@ -155,7 +170,7 @@ module _ (o : TieredOptions) (trees : Trees) (fresh : ℕ) (t : Planned) (spec :
   pub pick_destination_fits : destination_fits trees spec.sources spec.destination ≡ true
   pick_destination_fits = by makes
     where
-      by : Makes o fresh t spec → destination_fits trees spec.sources spec.destination ≡ true
+      by : Makes fresh next spec → destination_fits trees spec.sources spec.destination ≡ true
       by (inl lowest) = fits_at lowest.id lowest.is (lowest.lowest (all_run_ids trees))
       by (inr into) =
           let small = free_is_small trees fresh spec f free into.0 in
@@ -165,7 +180,7 @@ module _ (o : TieredOptions) (trees : Trees) (fresh : ℕ) (t : Planned) (spec :
   pick_cases : (x : NodeName) → In x (nodes_of spec) → In x spec.sources ⊎ ((Run fresh ≡ x) × (fresh < 4294967295))
   pick_cases x h = by (node_cases spec x h)
     where
-      with_run : (id : ℕ) → spec.destination ≡ Some id → Run id ≡ x → Makes o fresh t spec → In x spec.sources ⊎ ((Run fresh ≡ x) × (fresh < 4294967295))
+      with_run : (id : ℕ) → spec.destination ≡ Some id → Run id ≡ x → Makes fresh next spec → In x spec.sources ⊎ ((Run fresh ≡ x) × (fresh < 4294967295))
       with_run id is same (inl lowest) =
           let twice : Some lowest.id ≡ Some id = sym lowest.is ∙ is in
           let equal : lowest.id ≡ id = cc twice in
@@ -179,31 +194,57 @@ module _ (o : TieredOptions) (trees : Trees) (fresh : ℕ) (t : Planned) (spec :
       by (inl source) = inl source
       by (inr run) = with_run run.0 run.1 run.2 makes
 
-  -- A pick shares no node with a job of another tree.
-  apart_elsewhere : Pairs NoneShared trees → (other : JobSpec) → Holds trees fresh other → spec.segment ≢ other.segment → (x : NodeName) → In x (nodes_of spec) → In x (nodes_of other) → ⊥
-  apart_elsewhere shared other holds differ x here there = by (pick_cases x here) (held_cases trees fresh other holds x there)
+  -- A source of a pick is no node that a job of another tree holds.
+  sources_elsewhere : Pairs NoneShared trees → (other : JobSpec) → Holds trees fresh other → spec.segment ≢ other.segment → (x : NodeName) → In x spec.sources → In x (nodes_of other) → ⊥
+  sources_elsewhere shared other holds differ x here there = by (held_cases trees fresh other holds x there)
     where
-      by : In x spec.sources ⊎ ((Run fresh ≡ x) × (fresh < 4294967295))
-          → In x other.sources ⊎ ((id : ℕ) × (Run id ≡ x) × (contains (all_run_ids trees) id ≡ true → ⊥) × (fresh < 4294967295 → id < fresh)) → ⊥
-      by (inl here) (inl there) = trees_apart trees shared spec.segment other.segment differ x (pick.within x here) (holds.within x there)
-      by (inl here) (inr run) =
-          run.2 (run_of_trees trees spec.segment run.0 (subst (λ y. In y (names (tree_at spec.segment trees))) (sym run.1) (pick.within x here)))
-      by (inr new) (inl there) =
-          let run : In (Run fresh) (names (tree_at other.segment trees)) = subst (λ y. In y (names (tree_at other.segment trees))) (sym new.0) (holds.within x there) in
-          let below : fresh < fresh = f.above new.1 fresh (run_of_trees trees other.segment fresh run) in
+      by : In x other.sources ⊎ ((id : ℕ) × (Run id ≡ x) × (contains (all_run_ids trees) id ≡ true → ⊥) × (fresh < 4294967295 → id < fresh)) → ⊥
+      by (inl there) = trees_apart trees shared spec.segment other.segment differ x (pick.within x here) (holds.within x there)
+      by (inr run) = run.2 (run_of_trees trees spec.segment run.0 (subst (λ y. In y (names (tree_at spec.segment trees))) (sym run.1) (pick.within x here)))
+
+  -- No job holds the fresh run.
+  fresh_is_free : fresh < 4294967295 → (other : JobSpec) → Holds trees fresh other → In (Run fresh) (nodes_of other) → ⊥
+  fresh_is_free small other holds there = by (held_cases trees fresh other holds (Run fresh) there)
+    where
+      by : In (Run fresh) other.sources ⊎ ((id : ℕ) × (Run id ≡ Run fresh) × (contains (all_run_ids trees) id ≡ true → ⊥) × (fresh < 4294967295 → id < fresh)) → ⊥
+      by (inl source) =
+          let below : fresh < fresh = f.above small fresh (run_of_trees trees other.segment fresh (holds.within (Run fresh) source)) in
           omega (arith, below)
-      by (inr new) (inr run) =
-          let twice : Run fresh ≡ Run run.0 = new.0 ∙ sym run.1 in
-          let equal : fresh ≡ run.0 = cc twice in
-          let below : run.0 < fresh = run.3 new.1 in
+      by (inr run) =
+          let equal : run.0 ≡ fresh = cc run.1 in
+          let below : run.0 < fresh = run.3 small in
           omega (arith, equal, below)
 
   -- A pick is apart from each job that holds its nodes, if the tree uses the nodes of a job of its segment.
   pub pick_is_apart : Pairs NoneShared trees → (other : JobSpec) → Holds trees fresh other → Uses t other → is_apart (nodes_of spec) (nodes_of other) ≡ true
-  pick_is_apart shared other holds uses = apart_from (nodes_of spec) (nodes_of other) (by (bytes_eq spec.segment other.segment) refl)
+  pick_is_apart shared other holds uses = apart_from (nodes_of spec) (nodes_of other) (λ x here there. by x there (pick_cases x here))
     where
-      by : (b : Bool) → bytes_eq spec.segment other.segment ≡ b → (x : NodeName) → In x (nodes_of spec) → In x (nodes_of other) → ⊥
-      by true e x here there = pick.unused x here (uses (sym (equal_prefixes spec.segment other.segment e) ∙ pick.here) x there)
-      by false e x here there =
-          apart_elsewhere shared other holds
+      source : (b : Bool) → bytes_eq spec.segment other.segment ≡ b → (x : NodeName) → In x spec.sources → In x (nodes_of other) → ⊥
+      source true e x here there = pick.unused x here (uses (sym (equal_prefixes spec.segment other.segment e) ∙ pick.here) x there)
+      source false e x here there =
+          sources_elsewhere shared other holds
           (λ same. let itself = subst (λ p. bytes_eq spec.segment p ≡ true) same (same_prefix spec.segment) in cc (itself, e)) x here there
+
+      by : (x : NodeName) → In x (nodes_of other) → In x spec.sources ⊎ ((Run fresh ≡ x) × (fresh < 4294967295)) → ⊥
+      by x there (inl here) = source (bytes_eq spec.segment other.segment) refl x here there
+      by x there (inr new) = fresh_is_free new.1 other holds (subst (λ y. In y (nodes_of other)) (sym new.0) there)
+
+  -- A pick that takes the fresh id takes one above each destination below it.
+  pub pick_rises : (other : JobSpec) → IsBelow fresh other → RisesTo other spec
+  pick_rises other below none i j to made = by makes
+    where
+      by : Makes fresh next spec → i < j
+      by (inl lowest) = absurd (let there = run_is_contained spec.sources lowest.id lowest.among in let absent = ap (λ ids. contains ids lowest.id) none in cc (there, absent))
+      by (inr into) =
+          let twice : Some fresh ≡ Some j = sym into.0.is ∙ made in
+          let same : fresh ≡ j = cc twice in
+          let low : i < fresh = below i to (free_is_small trees fresh spec f free into.0) in
+          omega (arith, low, same)
+
+  -- The destination of a job that holds its nodes is below the fresh id.
+  pub held_is_below : (other : JobSpec) → Holds trees fresh other → IsBelow fresh other
+  held_is_below other holds id to small = by (holds.made id to)
+    where
+      by : In (Run id) other.sources ⊎ ((contains (all_run_ids trees) id ≡ true → ⊥) × (fresh < 4294967295 → id < fresh)) → id < fresh
+      by (inl source) = f.above small id (run_of_trees trees other.segment id (holds.within (Run id) source))
+      by (inr new) = new.1 small

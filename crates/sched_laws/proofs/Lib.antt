@@ -12,3 +12,12 @@ pub mod Gate
 pub mod Flushes
 pub mod Stores
 pub mod Greatest
+pub mod LevelTrees
+pub mod LevelPicks
+pub mod LevelFits
+pub mod LevelShares
+pub mod LevelRest
+pub mod PollTrees
+pub mod PollCommits
+pub mod PollOpens
+pub mod Polls

@@ -1,21 +1,21 @@
 -- What holds of the picks so far, from tree to tree and from pass to pass.
-use Rattle.std.proofs.Common.{◌≡◌, ◌≢◌, refl, sym, ◌∙◌, subst, ℕ, zero, suc, List, [], ◌∷◌, ◌++◌, append-nil, length, cond, Bool, true, false}
+use Rattle.std.proofs.Common.{◌≡◌, ◌≢◌, refl, sym, ◌∙◌, subst, ℕ, zero, suc, ◌<◌, ◌≤◌, arith, List, [], ◌∷◌, ◌++◌, append-nil, length, cond, Bool, true, false}
 use Rattle.std.specs.Prelude.{Option, Some, None, IsTrue, nat_lt, flat_map}
 use Rattle.std.specs.Option.{option_to_list}
 use Rattle.std.specs.List.{AllByRecursion}
 use Rattle.row_model.specs.Lists.{Pairs}
 use Rattle.fleet_model.specs.Gates.{destination_fits, reserves_nodes}
 use Rattle.fleet_model.specs.Jobs.{Jobs, JobSpec, nodes_of}
-use Rattle.fleet_model.specs.Nodes.{Trees}
+use Rattle.fleet_model.specs.Nodes.{NodeName, Trees}
 use Rattle.fleet_model.specs.Sources.{is_apart}
 use Rattle.fleet_model.specs.TreesFit.{NoneShared}
 use Rattle.sched_model.specs.Picks.{Planned, Picking, fresh_after, next_pick, pass, passes, picked_in, with_pick}
 use Rattle.sched_model.specs.Series.{TieredOptions, are_tiered}
 use Rattle.sched_model.specs.Sizes.{SizedTree}
 use Rattle.sched_laws.specs.Proposals.{AreApart, HasFreeId}
-use Rattle.sched_laws.proofs.Holding.{Holds, IsFresh, Uses, fresh_after_is, holds_after, pick_destination_fits, pick_holds, pick_is_apart}
+use Rattle.sched_laws.proofs.Holding.{Holds, IsBelow, IsFresh, RisesTo, Uses, fresh_after_is, fresh_grows, held_is_below, holds_after, pick_destination_fits, pick_holds, pick_is_apart, pick_rises}
 use Rattle.sched_laws.proofs.Lists.{all_append, all_join, all_weaken, pairs_push}
-use Rattle.sched_laws.proofs.Names.{apart_back, in_back, in_front}
+use Rattle.sched_laws.proofs.Names.{In, apart_back, in_back, in_front}
 use Rattle.sched_laws.proofs.Picks.{IsPick, Makes, next_pick_is}
 use Rattle.sched_laws.proofs.Trees.{StandsIn}
 
@@ -23,13 +23,24 @@ use Rattle.sched_laws.proofs.Trees.{StandsIn}
 abbrev pub IsApartFrom : Jobs → JobSpec → Type 0
 IsApartFrom jobs spec = AllByRecursion (λ job. IsTrue (reserves_nodes job) → is_apart (nodes_of spec) (nodes_of job.spec) ≡ true) jobs
 
--- The job was picked in a tree. Unless its destination is the greatest id, the destination passes rule 7,
--- and the job is apart from each job that holds nodes.
+-- No source is a node of the other job, if that is of the same segment.
+abbrev pub SourcesUnused : JobSpec → JobSpec → Type 0
+SourcesUnused spec other = other.segment ≡ spec.segment → (x : NodeName) → In x spec.sources → In x (nodes_of other) → ⊥
+
+-- The later job rises above the earlier one, unless one of them has the greatest id.
+abbrev pub Rises : JobSpec → JobSpec → Type 0
+Rises a b = HasFreeId a → HasFreeId b → RisesTo a b
+
+-- The job was picked in a tree, and takes no source of a job of its segment. Unless its destination is the
+-- greatest id, the destination passes rule 7 and rises above those of the jobs, and the job is apart from each
+-- job that holds nodes.
 pub record Fits (trees : Trees) (jobs : Jobs) (spec : JobSpec) : Type 0 where
   pub tree : Planned
   pub pick : IsPick trees tree spec
   pub destination : HasFreeId spec → destination_fits trees spec.sources spec.destination ≡ true
   pub apart : HasFreeId spec → IsApartFrom jobs spec
+  pub unused : AllByRecursion (λ job. SourcesUnused spec job.spec) jobs
+  pub above : HasFreeId spec → AllByRecursion (λ job. RisesTo job.spec spec) jobs
 
 -- The picks so far fit, and no two hold the same node. They and the jobs hold their nodes below the fresh
 -- id.
@@ -37,8 +48,10 @@ pub record IsMidway (trees : Trees) (jobs : Jobs) (p : Picking) : Type 0 where
   pub next : IsFresh trees p.fresh
   pub held : AllByRecursion (λ job. IsTrue (reserves_nodes job) → Holds trees p.fresh job.spec) jobs
   pub holding : AllByRecursion (λ spec. HasFreeId spec → Holds trees p.fresh spec) p.picks
+  pub asked : AllByRecursion (λ job. IsBelow p.fresh job.spec) jobs
   pub fit : AllByRecursion (Fits trees jobs) p.picks
   pub apart : Pairs AreApart p.picks
+  pub rising : Pairs Rises p.picks
 
 -- The tree stands in the trees, and uses the nodes of the jobs and the picks of its segment.
 pub record IsReady (trees : Trees) (jobs : Jobs) (picks : List JobSpec) (t : Planned) : Type 0 where
@@ -55,46 +68,64 @@ abbrev pub passed : TieredOptions → ℕ → Bool → Planned → List Planned 
 passed o slots b t left p =
     cond b (with_pick (next_pick o p.fresh t) t ∷ (pass o slots left (picked_in o t p)).0, (pass o slots left (picked_in o t p)).1) (t ∷ left, p)
 
-module _ (o : TieredOptions) (tiered : are_tiered o ≡ true) (slots : ℕ) (trees : Trees) (shared : Pairs NoneShared trees) (jobs : Jobs) where
-  -- ---- one pick
+-- ---- one pick
 
+-- The picks before a pick, with the next fresh id, and the picks with it.
+module _ (trees : Trees) (shared : Pairs NoneShared trees) (jobs : Jobs) (t : Planned) (p : Picking) (midway : IsMidway trees jobs p) (next : ℕ) (fresh : IsFresh trees next)
+    (grows : next < 4294967295 → p.fresh ≤ next) (rises : (spec : JobSpec) → Holds trees p.fresh spec → Holds trees next spec) where
+  -- What held before a pick holds with the next fresh id.
+  pub with_next_id : IsMidway trees jobs (record { fresh = next; picks = p.picks })
+  with_next_id = record {
+    next = fresh;
+    held = all_weaken (λ job. IsTrue (reserves_nodes job) → Holds trees p.fresh job.spec) (λ job. IsTrue (reserves_nodes job) → Holds trees next job.spec) (λ job holds reserves. rises job.spec (holds reserves)) jobs midway.held;
+    holding = all_weaken (λ s. HasFreeId s → Holds trees p.fresh s) (λ s. HasFreeId s → Holds trees next s) (λ s holds free. rises s (holds free)) p.picks midway.holding;
+    asked = all_weaken (λ job. IsBelow p.fresh job.spec) (λ job. IsBelow next job.spec) (λ job below id to small. let up = grows small in let low : id < p.fresh = below id to (omega (arith, up, small)) in omega (arith, low, up)) jobs midway.asked;
+    fit = midway.fit;
+    apart = midway.apart;
+    rising = midway.rising;
+  }
+
+  -- The picks with one more fit.
+  pub with_one_more : AllByRecursion (λ job. Uses t job.spec) jobs → AllByRecursion (Uses t) p.picks → (spec : JobSpec) → IsPick trees t spec → Makes p.fresh next spec → IsMidway trees jobs (record { fresh = next; picks = p.picks ++ spec ∷ [] })
+  with_one_more used_by_jobs used_by_picks spec pick makes = record {
+    next = fresh;
+    held = with_next_id.held;
+    holding = all_append (λ s. HasFreeId s → Holds trees next s) p.picks (spec ∷ []) with_next_id.holding (λ free. pick_holds trees p.fresh next t spec midway.next pick makes free, tt);
+    asked = with_next_id.asked;
+    fit = all_append (Fits trees jobs) p.picks (spec ∷ []) midway.fit (
+      record {
+        tree = t;
+        pick = pick;
+        destination = λ free. pick_destination_fits trees p.fresh next t spec midway.next pick makes free;
+        apart = λ free. all_join (λ job. IsTrue (reserves_nodes job) → Holds trees p.fresh job.spec) (λ job. Uses t job.spec)
+            (λ job. IsTrue (reserves_nodes job) → is_apart (nodes_of spec) (nodes_of job.spec) ≡ true)
+            (λ job holds uses reserves. pick_is_apart trees p.fresh next t spec midway.next pick makes free shared job.spec (holds reserves) uses) jobs midway.held used_by_jobs;
+        unused = all_weaken (λ job. Uses t job.spec) (λ job. SourcesUnused spec job.spec) (λ job uses same x here there. pick.unused x here (uses (same ∙ pick.here) x there)) jobs used_by_jobs;
+        above = λ free. all_weaken (λ job. IsBelow p.fresh job.spec) (λ job. RisesTo job.spec spec) (λ job below. pick_rises trees p.fresh next t spec midway.next pick makes free job.spec below) jobs midway.asked;
+      },
+      tt,
+    );
+    apart = pairs_push AreApart p.picks spec midway.apart
+        (all_join (λ s. HasFreeId s → Holds trees p.fresh s) (Uses t) (λ s. AreApart s spec)
+        (λ s holds uses first free. apart_back (nodes_of spec) (nodes_of s) (pick_is_apart trees p.fresh next t spec midway.next pick makes free shared s (holds first) uses))
+        p.picks midway.holding used_by_picks);
+    rising = pairs_push Rises p.picks spec midway.rising
+        (all_weaken (λ s. HasFreeId s → Holds trees p.fresh s) (λ s. Rises s spec)
+        (λ s holds first free. pick_rises trees p.fresh next t spec midway.next pick makes free s (held_is_below trees p.fresh next t spec midway.next pick makes free s (holds first))) p.picks midway.holding);
+  }
+
+module _ (o : TieredOptions) (tiered : are_tiered o ≡ true) (slots : ℕ) (trees : Trees) (shared : Pairs NoneShared trees) (jobs : Jobs) where
   module _ (t : Planned) (p : Picking) (midway : IsMidway trees jobs p) (ready : IsReady trees jobs p.picks t) where
     -- What held before a pick holds with the next fresh id.
     moved : IsMidway trees jobs (record { fresh = fresh_after o t p.fresh; picks = p.picks })
-    moved = record {
-      next = fresh_after_is o t trees p.fresh midway.next;
-      held = all_weaken (λ job. IsTrue (reserves_nodes job) → Holds trees p.fresh job.spec) (λ job. IsTrue (reserves_nodes job) → Holds trees (fresh_after o t p.fresh) job.spec)
-          (λ job holds reserves. holds_after o t trees p.fresh job.spec (holds reserves)) jobs midway.held;
-      holding = all_weaken (λ s. HasFreeId s → Holds trees p.fresh s) (λ s. HasFreeId s → Holds trees (fresh_after o t p.fresh) s) (λ s holds free. holds_after o t trees p.fresh s (holds free)) p.picks midway.holding;
-      fit = midway.fit;
-      apart = midway.apart;
-    }
+    moved = with_next_id trees shared jobs t p midway (fresh_after o t p.fresh) (fresh_after_is o t trees p.fresh midway.next) (fresh_grows o t p.fresh) (λ s holds. holds_after o t trees p.fresh s holds)
 
     none_picked : IsMidway trees jobs (record { fresh = fresh_after o t p.fresh; picks = p.picks ++ [] })
     none_picked = subst (λ (l : List JobSpec). IsMidway trees jobs (record { fresh = fresh_after o t p.fresh; picks = l })) (sym (append-nil p.picks)) moved
 
-    one_picked : (spec : JobSpec) → IsPick trees t spec → Makes o p.fresh t spec → IsMidway trees jobs (record { fresh = fresh_after o t p.fresh; picks = p.picks ++ spec ∷ [] })
-    one_picked spec pick makes = record {
-      next = moved.next;
-      held = moved.held;
-      holding = all_append (λ s. HasFreeId s → Holds trees (fresh_after o t p.fresh) s) p.picks (spec ∷ []) moved.holding
-          (λ free. pick_holds o trees p.fresh t spec midway.next pick makes free, tt);
-      fit = all_append (Fits trees jobs) p.picks (spec ∷ []) midway.fit (
-        record {
-          tree = t;
-          pick = pick;
-          destination = λ free. pick_destination_fits o trees p.fresh t spec midway.next pick makes free;
-          apart = λ free. all_join (λ job. IsTrue (reserves_nodes job) → Holds trees p.fresh job.spec) (λ job. Uses t job.spec)
-              (λ job. IsTrue (reserves_nodes job) → is_apart (nodes_of spec) (nodes_of job.spec) ≡ true)
-              (λ job holds uses reserves. pick_is_apart o trees p.fresh t spec midway.next pick makes free shared job.spec (holds reserves) uses) jobs midway.held ready.used_by_jobs;
-        },
-        tt,
-      );
-      apart = pairs_push AreApart p.picks spec midway.apart
-          (all_join (λ s. HasFreeId s → Holds trees p.fresh s) (Uses t) (λ s. AreApart s spec)
-          (λ s holds uses first free. apart_back (nodes_of spec) (nodes_of s) (pick_is_apart o trees p.fresh t spec midway.next pick makes free shared s (holds first) uses))
-          p.picks midway.holding ready.used_by_picks);
-    }
+    one_picked : (spec : JobSpec) → IsPick trees t spec → Makes p.fresh (fresh_after o t p.fresh) spec → IsMidway trees jobs (record { fresh = fresh_after o t p.fresh; picks = p.picks ++ spec ∷ [] })
+    one_picked spec pick makes =
+        with_one_more trees shared jobs t p midway (fresh_after o t p.fresh) (fresh_after_is o t trees p.fresh midway.next) (fresh_grows o t p.fresh) (λ s holds. holds_after o t trees p.fresh s holds) ready.used_by_jobs ready.used_by_picks spec pick makes
 
     -- The picks fit after the next pick in a ready tree.
     picked : IsMidway trees jobs (picked_in o t p)
@@ -195,8 +226,8 @@ module _ (o : TieredOptions) (tiered : are_tiered o ≡ true) (slots : ℕ) (tre
 
   -- What holds of all picks.
   pub passes_keep : (count : ℕ) (left : List Planned) (p : Picking) → Pairs Differ left → IsMidway trees jobs p → AllByRecursion (IsReady trees jobs p.picks) left
-      → AllByRecursion (Fits trees jobs) (passes o slots count left p) × Pairs AreApart (passes o slots count left p)
-  passes_keep zero left p differ midway ready = (midway.fit, midway.apart)
+      → AllByRecursion (Fits trees jobs) (passes o slots count left p) × Pairs AreApart (passes o slots count left p) × Pairs Rises (passes o slots count left p)
+  passes_keep zero left p differ midway ready = (midway.fit, midway.apart, midway.rising)
   passes_keep (suc count) left p differ midway ready =
       let after = pass_keeps left p differ midway ready in
       passes_keep count (pass o slots left p).0 (pass o slots left p).1 (still_differ left p differ) after.midway after.ready

@@ -7,18 +7,18 @@ use Rattle.std.proofs.lemmas.Bool.{leb-true}
 use Rattle.std.proofs.lemmas.List.{length-drop, map-append, take-append-drop}
 use Rattle.row_model.specs.Lists.{Pairs}
 use Rattle.fleet_model.specs.Gates.{are_distinct, is_nonempty}
-use Rattle.fleet_model.specs.Jobs.{JobSpec, contains, is_drain, is_drain_to, nodes_of, with_destination}
-use Rattle.fleet_model.specs.Levels.{capped_id}
+use Rattle.fleet_model.specs.Jobs.{JobSpec, contains, is_drain, is_drain_to}
+use Rattle.sched_model.specs.FreshRuns.{capped_id}
 use Rattle.fleet_model.specs.Nodes.{NodeName, L0, Run, Trees, is_l0, names, segment_at, tree_at}
-use Rattle.fleet_model.specs.Scheduler.{last_of}
 use Rattle.fleet_model.specs.Sources.{begins_with_run, is_apart, is_lowest_or_above, is_whole_stretch, older_nodes, reaches_oldest, run_ids}
 use Rattle.fleet_model.specs.TreesFit.{StandsBefore}
-use Rattle.sched_model.specs.Picks.{Planned, fresh_after, flush_pick, into_last, next_pick, run_pick}
+use Rattle.sched_model.specs.Picks.{Planned, fresh_after, flush_pick, into_last, last_of, next_pick, run_pick}
 use Rattle.sched_model.specs.Series.{TieredOptions, are_tiered, first_series, is_allowed, is_taken_again, oldest}
-use Rattle.sched_model.specs.SizeTiered.{agree, lower, lowest_run}
+use Rattle.fleet_model.specs.Scheduler.{lower}
+use Rattle.sched_model.specs.SizeTiered.{agree, lowest_run}
 use Rattle.sched_model.specs.Sizes.{Sized, flush_names, run_names, total_size}
 use Rattle.sched_laws.proofs.Lists.{both_true, pairs_back, pairs_front, true_and}
-use Rattle.sched_laws.proofs.Names.{In, apart_at, distinct_back, distinct_front, in_cases}
+use Rattle.sched_laws.proofs.Names.{In, apart_at, distinct_back, distinct_front, in_later}
 use Rattle.sched_laws.proofs.Series.{last_is_contained, last_is_in, last_is_low, last_some, lowest_is_last, series_is_found, tiered_bounds}
 use Rattle.sched_laws.proofs.Stretches.{stands, stretch_is_in}
 use Rattle.sched_laws.proofs.Trees.{StandsIn}
@@ -29,7 +29,7 @@ pub record IsPlaced (nodes sources rest : List NodeName) : Type 0 where
   pub once : are_distinct sources ≡ true
   pub stretch : older_nodes sources nodes ≡ Some rest
 
-placed : (front : List NodeName) (x : NodeName) (sources rest : List NodeName) → are_distinct (front ++ (x ∷ sources ++ rest)) ≡ true → IsPlaced (front ++ (x ∷ sources ++ rest)) (x ∷ sources) rest
+pub placed : (front : List NodeName) (x : NodeName) (sources rest : List NodeName) → are_distinct (front ++ (x ∷ sources ++ rest)) ≡ true → IsPlaced (front ++ (x ∷ sources ++ rest)) (x ∷ sources) rest
 placed front x sources rest once = record {
   some = refl;
   once = distinct_front (x ∷ sources) rest (distinct_back front (x ∷ sources ++ rest) once);
@@ -48,7 +48,7 @@ pub record IntoFresh (fresh : ℕ) (spec : JobSpec) : Type 0 where
   pub is : spec.destination ≡ Some fresh
   pub no_runs : run_ids spec.sources ≡ []
 
--- The sources stand in the tree one after the other. None of the nodes is used. The destination is the
+-- The sources stand in the tree one after the other, and none of them is used. The destination is the
 -- lowest source run if a run is a source.
 pub record IsPick (trees : Trees) (t : Planned) (spec : JobSpec) : Type 0 where
   pub here : spec.segment ≡ t.tree.segment
@@ -58,7 +58,7 @@ pub record IsPick (trees : Trees) (t : Planned) (spec : JobSpec) : Type 0 where
   pub found : is_some (segment_at spec.segment trees) ≡ true
   pub within : (x : NodeName) → In x spec.sources → In x (names (tree_at spec.segment trees))
   pub stretch : is_whole_stretch (tree_at spec.segment trees) spec.sources ≡ true
-  pub unused : (x : NodeName) → In x (nodes_of spec) → In x t.used → ⊥
+  pub unused : (x : NodeName) → In x spec.sources → In x t.used → ⊥
   pub agrees : agree (lowest_run spec.sources) spec.destination ≡ true
 
 -- ---- picks of flushes
@@ -104,7 +104,7 @@ flushes_are_pick fresh t trees stand before first others is apart =
       found = stand.found;
       within = λ x h. stretch_is_in sources (names (tree_at t.tree.segment trees)) (run_names t.tree.runs) x place.stretch h;
       stretch = ap (reaches_oldest sources) place.stretch ∙ or_true (not (list_any is_l0 sources)) (begins_with_run (run_names t.tree.runs)) (runs_begin t.tree.runs);
-      unused = λ x h there. apart_at (Run fresh ∷ sources) t.used x apart h there;
+      unused = λ x h there. apart_at (Run fresh ∷ sources) t.used x apart (in_later x (Run fresh) sources h) there;
       agrees = ap (λ ids. agree (fold lower None ids) (Some fresh)) (no_runs_in (first ∷ others));
     }
 
@@ -149,18 +149,9 @@ module _ (t : Planned) (trees : Trees) (stand : StandsIn trees t.tree) (before :
         found = stand.found;
         within = λ x h. stretch_is_in sources (names (tree_at t.tree.segment trees)) (run_names after) x place.stretch h;
         stretch = ap (reaches_oldest sources) place.stretch ∙ ap (λ b. not b || begins_with_run (run_names after)) (no_flush_in (first ∷ others));
-        unused = λ x h there. unused x (of_destination x id last h) there;
+        unused = unused;
         agrees = ap (λ l. agree l (last_of (map (λ r. r.id) (first ∷ others)))) (lowest_is_last first others runs_fall) ∙ ap (λ l. agree l l) last ∙ eq-eqb id id refl;
       }
-    where
-      of_destination : (x : NodeName) (id : ℕ) → last_of (map (λ r. r.id) (first ∷ others)) ≡ Some id → In x (with_destination (last_of (map (λ r. r.id) (first ∷ others))) (run_names (first ∷ others)))
-          → In x (run_names (first ∷ others))
-      of_destination x id last h =
-          by (in_cases x (Run id) (run_names (first ∷ others)) (subst (λ d. In x (with_destination d (run_names (first ∷ others)))) last h))
-        where
-          by : (Run id ≡ x) ⊎ In x (run_names (first ∷ others)) → In x (run_names (first ∷ others))
-          by (inl same) = subst (λ y. In y (run_names (first ∷ others))) same (last_is_in first others id last)
-          by (inr h) = h
 
   runs_make_lowest : (id : ℕ) → last_of (map (λ r. r.id) (first ∷ others)) ≡ Some id → IntoLowest (into_last t.tree.segment (first ∷ others))
   runs_make_lowest id last = record {
@@ -173,15 +164,15 @@ module _ (t : Planned) (trees : Trees) (stand : StandsIn trees t.tree) (before :
 
 -- ---- the next pick
 
--- A pick of flushes takes the fresh id, and a pick of runs the id of a source.
-abbrev pub Makes : TieredOptions → ℕ → Planned → JobSpec → Type 0
-Makes o fresh t spec = IntoLowest spec ⊎ (IntoFresh fresh spec × (fresh_after o t fresh ≡ capped_id (fresh + 1)))
+-- A pick takes the id of its lowest source run, or it takes the fresh id, and the next fresh id is one above.
+abbrev pub Makes : (fresh next : ℕ) → JobSpec → Type 0
+Makes fresh next spec = IntoLowest spec ⊎ (IntoFresh fresh spec × (next ≡ capped_id (fresh + 1)))
 
 module _ (o : TieredOptions) (tiered : are_tiered o ≡ true) (trees : Trees) (fresh : ℕ) (t : Planned) (stand : StandsIn trees t.tree) where
-  run_pick_is : (spec : JobSpec) → run_pick o t ≡ Some spec → IsPick trees t spec × Makes o fresh t spec
+  run_pick_is : (spec : JobSpec) → run_pick o t ≡ Some spec → IsPick trees t spec × Makes fresh (fresh_after o t fresh) spec
   run_pick_is spec e = by (first_series o t.used t.tree.runs) refl e
     where
-      by : (found : Option (List Sized)) → first_series o t.used t.tree.runs ≡ found → option_map (into_last t.tree.segment) found ≡ Some spec → IsPick trees t spec × Makes o fresh t spec
+      by : (found : Option (List Sized)) → first_series o t.used t.tree.runs ≡ found → option_map (into_last t.tree.segment) found ≡ Some spec → IsPick trees t spec × Makes fresh (fresh_after o t fresh) spec
       by None is same = absurd (cc same)
       by (Some runs) is same =
           let bounds = tiered_bounds o tiered in
@@ -201,12 +192,12 @@ module _ (o : TieredOptions) (tiered : are_tiered o ≡ true) (trees : Trees) (f
   flushes_are_picked before (first ∷ others) all some apart spec made =
       (subst (IsPick trees t) made (flushes_are_pick fresh t trees stand before first others all apart), subst (IntoFresh fresh) made (flushes_make_fresh fresh t (first ∷ others)))
 
-  flush_pick_is : (spec : JobSpec) → flush_pick o fresh t ≡ Some spec → IsPick trees t spec × Makes o fresh t spec
+  flush_pick_is : (spec : JobSpec) → flush_pick o fresh t ≡ Some spec → IsPick trees t spec × Makes fresh (fresh_after o t fresh) spec
   flush_pick_is spec e =
       by (nat_le o.least (length t.tree.flushes) && is_allowed o t.used (flush_names (oldest o.most t.tree.flushes)) (total_size (oldest o.most t.tree.flushes)) (Run fresh) t.tree.runs) refl e e
     where
       by : (b : Bool) → (nat_le o.least (length t.tree.flushes) && is_allowed o t.used (flush_names (oldest o.most t.tree.flushes)) (total_size (oldest o.most t.tree.flushes)) (Run fresh) t.tree.runs) ≡ b
-          → cond b (Some (flush_spec fresh t (oldest o.most t.tree.flushes))) None ≡ Some spec → flush_pick o fresh t ≡ Some spec → IsPick trees t spec × Makes o fresh t spec
+          → cond b (Some (flush_spec fresh t (oldest o.most t.tree.flushes))) None ≡ Some spec → flush_pick o fresh t ≡ Some spec → IsPick trees t spec × Makes fresh (fresh_after o t fresh) spec
       by false is same picked = absurd (cc same)
       by true is same picked =
           let bounds = tiered_bounds o tiered in
@@ -222,9 +213,9 @@ module _ (o : TieredOptions) (tiered : are_tiered o ≡ true) (trees : Trees) (f
           (what.0, inr (what.1, ap (λ pick. cond (is_some pick) (capped_id (fresh + 1)) fresh) picked))
 
   -- What holds of the next pick.
-  pub next_pick_is : (spec : JobSpec) → next_pick o fresh t ≡ Some spec → IsPick trees t spec × Makes o fresh t spec
+  pub next_pick_is : (spec : JobSpec) → next_pick o fresh t ≡ Some spec → IsPick trees t spec × Makes fresh (fresh_after o t fresh) spec
   next_pick_is spec e = by (flush_pick o fresh t) refl e
     where
-      by : (pick : Option JobSpec) → flush_pick o fresh t ≡ pick → option_or pick (run_pick o t) ≡ Some spec → IsPick trees t spec × Makes o fresh t spec
+      by : (pick : Option JobSpec) → flush_pick o fresh t ≡ pick → option_or pick (run_pick o t) ≡ Some spec → IsPick trees t spec × Makes fresh (fresh_after o t fresh) spec
       by None is same = run_pick_is spec same
       by (Some other) is same = flush_pick_is spec (is ∙ same)

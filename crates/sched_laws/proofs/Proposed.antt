@@ -4,19 +4,19 @@ use Rattle.std.specs.Prelude.{Option, Some, None, nat_lt, nat_le, option_map}
 use Rattle.std.specs.Option.{option_or, option_to_list}
 use Rattle.std.specs.List.{AllByRecursion}
 use Rattle.std.proofs.lemmas.Bool.{ltb-true, leb-true}
-use Rattle.std.proofs.lemmas.List.{length-append, length-drop}
+use Rattle.std.proofs.lemmas.List.{length-append, length-drop, length-map}
 use Rattle.fleet_model.specs.Jobs.{JobSpec, is_drain_to}
-use Rattle.fleet_model.specs.Levels.{fresh_run_id}
-use Rattle.fleet_model.specs.Nodes.{Run}
-use Rattle.fleet_model.specs.Scheduler.{View, last_of}
-use Rattle.sched_model.specs.Picks.{Planned, Picking, flush_pick, into_last, run_pick, next_pick, picked_in, pass, passes}
+use Rattle.sched_model.specs.FreshRuns.{fresh_run_id}
+use Rattle.fleet_model.specs.Nodes.{L0, Run}
+use Rattle.fleet_model.specs.Scheduler.{View}
+use Rattle.sched_model.specs.Picks.{Planned, Picking, flush_pick, into_last, last_of, run_pick, next_pick, picked_in, pass, passes}
 use Rattle.sched_model.specs.Series.{TieredOptions, are_tiered, first_series, is_allowed, oldest}
-use Rattle.sched_model.specs.Sizes.{Sized, flush_names, sized_trees, total_size}
+use Rattle.sched_model.specs.Sizes.{Sized, flush_names, run_names, sized_trees, total_size}
 use Rattle.sched_model.specs.SizeTiered.{by_flushes, free_slots, tiered_proposals, unplanned_tree}
-use Rattle.sched_laws.specs.Proposals.{MakesRun}
+use Rattle.sched_laws.specs.Proposals.{HasSourcesWithin, MakesRun}
 use Rattle.sched_laws.proofs.Lists.{all_append, both_true}
 use Rattle.sched_laws.proofs.Passes.{passed}
-use Rattle.sched_laws.proofs.Series.{series_is_found, tiered_bounds}
+use Rattle.sched_laws.proofs.Series.{found_is_within, series_is_found, tiered_bounds, tiered_order}
 
 at_most_one : (pick : Option JobSpec) → length (option_to_list pick) ≤ 1
 at_most_one None = omega arith
@@ -115,4 +115,50 @@ pub make_runs : (o : TieredOptions) → are_tiered o ≡ true → (most : ℕ) (
 unfolding tiered_proposals
 make_runs o tiered most view =
     passes_all o (free_slots most view.jobs) MakesRun (pick_makes o tiered) (free_slots most view.jobs) (by_flushes (map (unplanned_tree view.jobs) (sized_trees view.handles view.manifest.trees)))
+    (record { fresh = fresh_run_id view; picks = [] }) tt
+
+-- ---- the number of sources
+
+run_pick_within : (o : TieredOptions) → are_tiered o ≡ true → (t : Planned) (spec : JobSpec) → run_pick o t ≡ Some spec → HasSourcesWithin o spec
+run_pick_within o tiered t spec e = by (first_series o t.used t.tree.runs) refl e
+  where
+    by : (found : Option (List Sized)) → first_series o t.used t.tree.runs ≡ found → option_map (into_last t.tree.segment) found ≡ Some spec → HasSourcesWithin o spec
+    by None is same = absurd (cc same)
+    by (Some runs) is same =
+        let made : into_last t.tree.segment runs ≡ spec = cc same in
+        let within = found_is_within o t.used (tiered_order o tiered) t.tree.runs runs is in
+        let count : length (run_names runs) ≡ length runs = length-map runs (λ (run : Sized). Run run.id) in
+        subst (HasSourcesWithin o) made (record { least = omega (arith, within.0, count); most = omega (arith, within.1, count) })
+
+flush_pick_within : (o : TieredOptions) → are_tiered o ≡ true → (fresh : ℕ) (t : Planned) (spec : JobSpec) → flush_pick o fresh t ≡ Some spec → HasSourcesWithin o spec
+flush_pick_within o tiered fresh t spec e =
+    by (nat_le o.least (length t.tree.flushes) && is_allowed o t.used (flush_names (oldest o.most t.tree.flushes)) (total_size (oldest o.most t.tree.flushes)) (Run fresh) t.tree.runs) refl e
+  where
+    by : (b : Bool) → (nat_le o.least (length t.tree.flushes) && is_allowed o t.used (flush_names (oldest o.most t.tree.flushes)) (total_size (oldest o.most t.tree.flushes)) (Run fresh) t.tree.runs) ≡ b
+        → cond b (Some (record { segment = t.tree.segment; sources = flush_names (oldest o.most t.tree.flushes); destination = Some fresh })) None ≡ Some spec → HasSourcesWithin o spec
+    by false is same = absurd (cc same)
+    by true is same =
+        let chosen : List Sized = oldest o.most t.tree.flushes in
+        let tests = both_true (nat_le o.least (length t.tree.flushes)) (is_allowed o t.used (flush_names chosen) (total_size chosen) (Run fresh) t.tree.runs) is in
+        let enough = leb-true o.least (length t.tree.flushes) tests.0 in
+        let order = tiered_order o tiered in
+        let left = length-drop (length t.tree.flushes - o.most) t.tree.flushes in
+        let count : length (flush_names chosen) ≡ length chosen = length-map chosen (λ (flush : Sized). L0 flush.id) in
+        let made : JobSpec = record { segment = t.tree.segment; sources = flush_names chosen; destination = Some fresh } in
+        let one : Some made ≡ Some spec = same in
+        let equal : made ≡ spec = cc one in
+        subst (HasSourcesWithin o) equal (record { least = omega (arith, order, enough, left, count); most = omega (arith, left, count) })
+
+pick_within : (o : TieredOptions) → are_tiered o ≡ true → (fresh : ℕ) (t : Planned) (spec : JobSpec) → next_pick o fresh t ≡ Some spec → HasSourcesWithin o spec
+pick_within o tiered fresh t spec e = by (flush_pick o fresh t) refl e
+  where
+    by : (pick : Option JobSpec) → flush_pick o fresh t ≡ pick → option_or pick (run_pick o t) ≡ Some spec → HasSourcesWithin o spec
+    by None is same = run_pick_within o tiered t spec same
+    by (Some other) is same = flush_pick_within o tiered fresh t spec (is ∙ same)
+
+-- Each proposal has as many sources as the options ask.
+pub sources_within : (o : TieredOptions) → are_tiered o ≡ true → (most : ℕ) (view : View) → AllByRecursion (HasSourcesWithin o) (tiered_proposals o most view)
+unfolding tiered_proposals
+sources_within o tiered most view =
+    passes_all o (free_slots most view.jobs) (HasSourcesWithin o) (pick_within o tiered) (free_slots most view.jobs) (by_flushes (map (unplanned_tree view.jobs) (sized_trees view.handles view.manifest.trees)))
     (record { fresh = fresh_run_id view; picks = [] }) tt

@@ -7,12 +7,12 @@ use Rattle.std.proofs.lemmas.List.{length-drop, map-append, take-append-drop}
 use Rattle.row_model.specs.Lists.{Pairs}
 use Rattle.fleet_model.specs.Jobs.{contains}
 use Rattle.fleet_model.specs.Nodes.{NodeName, Run, names_contain}
-use Rattle.fleet_model.specs.Scheduler.{last_of}
 use Rattle.fleet_model.specs.Sources.{is_apart, run_ids}
 use Rattle.fleet_model.specs.TreesFit.{StandsBefore}
 use Rattle.sched_model.specs.Sizes.{Sized, run_names, total_size}
 use Rattle.sched_model.specs.Series.{TieredOptions, are_tiered, first_series, is_allowed, is_similar, is_taken_again, least_size, longest, may_join, oldest}
-use Rattle.sched_model.specs.SizeTiered.{lower}
+use Rattle.sched_model.specs.Picks.{last_of}
+use Rattle.fleet_model.specs.Scheduler.{lower}
 use Rattle.sched_laws.proofs.Lists.{both_true, true_and}
 use Rattle.sched_laws.proofs.Names.{In, apart_at, apart_from, in_back, in_first, in_later}
 
@@ -24,6 +24,12 @@ tiered_bounds o tiered =
     let least = leb-true 1 o.least bounds.0 in
     let most = leb-true o.least o.most bounds.1 in
     (least, omega (arith, least, most))
+
+-- The least number of sources is at most the greatest.
+pub tiered_order : (o : TieredOptions) → are_tiered o ≡ true → o.least ≤ o.most
+tiered_order o tiered =
+    let first = both_true (nat_le 1 o.least && nat_le o.least o.most) (nat_le 1 o.denominator) tiered in
+    leb-true o.least o.most (both_true (nat_le 1 o.least) (nat_le o.least o.most) first.0).1
 
 -- ---- runs that a series takes
 
@@ -123,6 +129,24 @@ module _ (o : TieredOptions) (used : List NodeName) where
           let some : 1 ≤ length (drop (length series - o.most) series) = omega (arith, length-drop (length series - o.most) series, enough) in
           subst (IsFound used (run ∷ older)) same (of_series (run ∷ older) series all.0 (length series - o.most) all.1 (free [] (run ∷ older) refl) some)
       by false short is later = passed (later is)
+
+-- The series that is found has as many runs as a job may have.
+pub found_is_within : (o : TieredOptions) (used : List NodeName) → o.least ≤ o.most → (runs found : List Sized) → first_series o used runs ≡ Some found → (o.least ≤ length found) × (length found ≤ o.most)
+found_is_within o used bounds [] found e = absurd (cc e)
+found_is_within o used bounds (run ∷ older) found e =
+    by (nat_le o.least (length (longest (may_join o used) [] (run ∷ older)))) refl e (found_is_within o used bounds older found)
+  where
+    by : (b : Bool) → nat_le o.least (length (longest (may_join o used) [] (run ∷ older))) ≡ b
+        → cond b (Some (oldest o.most (longest (may_join o used) [] (run ∷ older)))) (first_series o used older) ≡ Some found
+        → (first_series o used older ≡ Some found → (o.least ≤ length found) × (length found ≤ o.most)) → (o.least ≤ length found) × (length found ≤ o.most)
+    by true long is later =
+        let series = longest (may_join o used) [] (run ∷ older) in
+        let same : oldest o.most series ≡ found = cc is in
+        let enough = leb-true o.least (length series) long in
+        let count = length-drop (length series - o.most) series in
+        let size = ap length same in
+        (omega (arith, bounds, enough, count, size), omega (arith, count, size))
+    by false short is later = later is
 
 -- ---- the last run is the lowest
 

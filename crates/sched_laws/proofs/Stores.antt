@@ -49,20 +49,24 @@ all_named_once : (store : Store) → ((s : Segment) → IsTree store.tables s �
 all_named_once store once [] each own put = tt
 all_named_once store once (s ∷ trees) each own put = (once s each.0 own.0 put.0, all_named_once store once trees each.1 own.1 put.1)
 
+-- The sources of each stored job that holds nodes stand.
+pub stored_stand : (merge : Operator) (store : Store) (records : Records) → StoreStands merge store records → AllByRecursion (λ job. IsTrue (reserves_nodes job) → SourcesStand store.manifest.trees job) records.jobs
+stored_stand merge store records stands =
+    let opened : AllByRecursion (OpenedStands store) records.jobs = subst (λ stored. AllByRecursion (OpenedStands store) (jobs_in stored)) stands.stored stands.invariant.sources in
+    all_join (OpenedStands store) (λ job. IsTrue (has_status Compacted job) → SourcesStand store.manifest.trees job) (Stands store.manifest.trees) (λ job opened compacted. job_stands store job opened compacted) records.jobs opened stands.compacted
+
 -- ---- the laws
 
 pub views_stand : (merge : Operator) (store : Store) (records : Records) → StoreStands merge store records → ViewStands (store_view store records)
 views_stand merge store records stands =
     let trees = store.manifest.trees in
-    let opened : AllByRecursion (OpenedStands store) records.jobs = subst (λ stored. AllByRecursion (OpenedStands store) (jobs_in stored)) stands.stored stands.invariant.sources in
     record {
       prefixes = stands.invariant.sound.prefixes;
       in_order = all_weaken (IsTree store.tables) (λ s. Pairs StandsBefore (names s.tree)) (λ s tree. tree.names_in_order) trees stands.invariant.trees.each;
       named_once = all_named_once store (λ s tree own put. tree_named_once store stands.invariant.sound.tables s.tree tree.names_in_order tree.newest_first own put)
           trees stands.invariant.trees.each (stored_are_own store stands.invariant.replay) stands.invariant.tables.flushes;
       apart = stands.invariant.trees.apart;
-      jobs = active_stand trees records.jobs
-          (all_join (OpenedStands store) (λ job. IsTrue (has_status Compacted job) → SourcesStand trees job) (Stands trees) (λ job opened compacted. job_stands store job opened compacted) records.jobs opened stands.compacted);
+      jobs = active_stand trees records.jobs (stored_stand merge store records stands);
     }
 
 pub stores_accept : (merge : Operator) (store : Store) (records : Records) → StoreStands merge store records

@@ -24,6 +24,16 @@ pub record MakesRun (spec : JobSpec) : Type 0 where
 abbrev pub ProposalsMakeRuns : Type 0
 ProposalsMakeRuns = (o : TieredOptions) → are_tiered o ≡ true → (most : ℕ) (view : View) → AllByRecursion MakesRun (tiered_proposals o most view)
 
+-- The job has at least the least number of sources of the options, and at most the greatest.
+pub record HasSourcesWithin (o : TieredOptions) (spec : JobSpec) : Type 0 where
+  pub least : o.least ≤ length spec.sources
+  pub most : length spec.sources ≤ o.most
+
+-- Each proposal has at least the least number of sources of the options, and at most the greatest.
+abbrev pub ProposalsHaveSourcesWithin : Type 0
+ProposalsHaveSourcesWithin = (o : TieredOptions) → are_tiered o ≡ true → (most : ℕ) (view : View)
+    → AllByRecursion (HasSourcesWithin o) (tiered_proposals o most view)
+
 -- The destination is not 4,294,967,295. The gate refuses each job with this destination.
 abbrev pub HasFreeId : JobSpec → Type 0
 HasFreeId spec = spec.destination ≢ Some 4294967295

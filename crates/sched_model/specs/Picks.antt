@@ -3,8 +3,7 @@ use Rattle.std.specs.Prelude.{ℕ, zero, suc, ◌+◌, ◌&&◌, nat_lt, nat_le,
 use Rattle.std.specs.Option.{option_or, option_to_list}
 use Rattle.fleet_model.specs.Nodes.{NodeName, Run}
 use Rattle.fleet_model.specs.Jobs.{JobSpec, nodes_of}
-use Rattle.fleet_model.specs.Levels.{capped_id}
-use Rattle.fleet_model.specs.Scheduler.{last_of}
+use Rattle.sched_model.specs.FreshRuns.{capped_id}
 use Rattle.sched_model.specs.Sizes.{Sized, SizedTree, flush_names, run_names, total_size}
 use Rattle.sched_model.specs.Series.{TieredOptions, first_series, is_allowed, oldest}
 
@@ -26,6 +25,12 @@ flush_pick o fresh t =
     if nat_le o.least (length t.tree.flushes) && is_allowed o t.used (flush_names chosen) (total_size chosen) (Run fresh) t.tree.runs
     then Some (record { segment = t.tree.segment; sources = flush_names chosen; destination = Some fresh })
     else None
+
+-- The last number of the list, or None if the list is empty.
+abbrev pub last_of : List ℕ → Option ℕ
+last_of [] = None
+last_of (x ∷ []) = Some x
+last_of (x ∷ y ∷ xs) = last_of (y ∷ xs)
 
 -- The spec that joins these runs of a segment into the last of them.
 abbrev pub into_last : List ℕ → List Sized → JobSpec

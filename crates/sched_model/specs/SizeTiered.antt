@@ -1,12 +1,12 @@
 -- The size-tiered scheduler. It joins flushes of a tree into a fresh run, and runs of similar sizes into the
 -- oldest of them.
-use Rattle.std.specs.Prelude.{ℕ, ◌-◌, Bool, ◌&&◌, ◌||◌, ◌==◌, true, nat_lt, min, fold, if◌then◌else◌, List, [], ◌∷◌, count_by, filter, flat_map, length, map, Option, Some, None, is_some, bytes_eq}
+use Rattle.std.specs.Prelude.{ℕ, ◌-◌, Bool, ◌&&◌, ◌||◌, ◌==◌, true, nat_lt, if◌then◌else◌, List, [], ◌∷◌, count_by, filter, flat_map, length, map, Option, Some, None, is_some, bytes_eq}
 use Rattle.fleet_model.specs.Nodes.{NodeName, Tree, names, segment_at, tree_at}
 use Rattle.fleet_model.specs.Jobs.{Jobs, JobSpec, is_drain, nodes_of}
 use Rattle.fleet_model.specs.Sources.{older_nodes, run_ids}
 use Rattle.fleet_model.specs.Gates.{is_nonempty}
-use Rattle.fleet_model.specs.Levels.{fresh_run_id, is_under_way}
-use Rattle.fleet_model.specs.Scheduler.{Scheduler, View, default_generate}
+use Rattle.sched_model.specs.FreshRuns.{fresh_run_id, is_under_way}
+use Rattle.fleet_model.specs.Scheduler.{Scheduler, View, default_generate, lowest_of}
 use Rattle.sched_model.specs.Sizes.{SizedTree, sized_trees}
 use Rattle.sched_model.specs.Series.{TieredOptions}
 use Rattle.sched_model.specs.Picks.{Planned, passes}
@@ -40,14 +40,9 @@ tiered_proposals o most view =
     let slots = free_slots most view.jobs in
     passes o slots slots (by_flushes (map (unplanned_tree view.jobs) (sized_trees view.handles view.manifest.trees))) (record { fresh = fresh_run_id view; picks = [] })
 
--- The lower of an id, if there is one, and another id.
-abbrev pub lower : Option ℕ → ℕ → Option ℕ
-lower None id = Some id
-lower (Some lowest) id = Some (min lowest id)
-
 -- The lowest run among the sources, if a run is a source.
 abbrev pub lowest_run : List NodeName → Option ℕ
-lowest_run sources = fold lower None (run_ids sources)
+lowest_run sources = lowest_of (run_ids sources)
 
 -- True if both ids are equal, or one of them is missing.
 abbrev pub agree : Option ℕ → Option ℕ → Bool

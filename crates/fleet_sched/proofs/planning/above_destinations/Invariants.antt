@@ -1,6 +1,6 @@
 use Rattle.std.proofs.Common.{◌≡◌, ◌≤◌, max}
 use Rattle.std.specs.Prelude.{filter}
-use Rattle.fleet_model.specs.Levels.{above_all, capped_id}
+use Rattle.sched_model.specs.FreshRuns.{above_all, capped_id}
 use Rattle.fleet_jobs.specs.Jobs.{is_open}
 use Rattle.fleet_sched.specs.Ids.{destinations_in}
 use Rattle.fleet_sched.proofs.planning.above_destinations.Given as goal

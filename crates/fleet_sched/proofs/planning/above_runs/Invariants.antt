@@ -1,6 +1,6 @@
 use Rattle.std.proofs.Common.{◌≡◌, ◌∷◌, take}
 use Rattle.std.specs.Prelude.{[]}
-use Rattle.fleet_model.specs.Levels.{above_all, capped_id}
+use Rattle.sched_model.specs.FreshRuns.{above_all, capped_id}
 use Rattle.fleet_sched.specs.Ids.{ids_in}
 use Rattle.fleet_sched.proofs.planning.above_runs.Given as goal
 

@@ -1,5 +1,5 @@
 use Rattle.std.proofs.Common.{◌≡◌, max, map, take}
-use Rattle.fleet_model.specs.Levels.{above_all, capped_id}
+use Rattle.sched_model.specs.FreshRuns.{above_all, capped_id}
 use Rattle.fleet_sched.proofs.planning.above_tree.Given as goal
 
 abbrev pub invariant-runs : goal.invariant-runs

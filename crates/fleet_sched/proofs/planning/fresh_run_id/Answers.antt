@@ -1,6 +1,6 @@
 use Rattle.std.proofs.Common.{◌≡◌, ◌∙◌, ap, max, arith, rules}
 use Rattle.std.specs.Prelude.{Option}
-use Rattle.fleet_model.specs.Levels.{above_all, capped_id}
+use Rattle.sched_model.specs.FreshRuns.{above_all, capped_id}
 use Rattle.fleet_book.specs.VersionedRecords.{VersionedRecords}
 use Rattle.fleet_sched.specs.Ids.{destinations_in}
 use Rattle.fleet_sched.specs.Views.{open_records}
