@@ -1,8 +1,13 @@
 pub mod Numbers
 pub mod Hexes
 pub mod Lines
+pub mod Each
 pub mod Fields
 pub mod Rows
+pub mod Nodes
 pub mod First
 pub mod Joined
 pub mod Places
+pub mod PlainRows
+pub mod Parts
+pub mod Polled

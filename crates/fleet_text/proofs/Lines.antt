@@ -1,5 +1,5 @@
 -- Reading the lines of a script.
-use Rattle.std.proofs.Common.{◌≡◌, ◌≢◌, ℕ, ◌+◌, Bool, false, List, [], ◌∷◌, ◌++◌, length, map, refl, sym, ap, ◌∙◌, subst, All, arith, append_assoc, append-nil}
+use Rattle.std.proofs.Common.{◌≡◌, ◌≢◌, ℕ, ◌+◌, Bool, false, List, [], ◌∷◌, ◌++◌, length, map, refl, sym, ap, ◌∙◌, All, arith, append_assoc, append-nil}
 use Rattle.std.specs.Prelude.{◌||◌}
 use Rattle.std.specs.List.{AllByRecursion, list_any}
 use Rattle.std.proofs.lemmas.List.{length-map}
@@ -10,7 +10,7 @@ use Rattle.script_model.specs.Script as model
 use Rattle.script_model.specs.Grammars.{job_grammar, starts_coordinator, starts_worker, IsNoSecondStart}
 use Rattle.script_laws.proofs.Pieces.{lacks_all, same_front, no_front, not_nothing}
 use Rattle.script_laws.proofs.LineWords.{line_lacks}
-use Rattle.script_laws.proofs.Scripts.{with_newline}
+use Rattle.script_laws.proofs.Scripts.{with_newline, script_text-push, AreLines-push}
 use Rattle.fleet_text.specs.declared.line.Line.{Line}
 use Rattle.fleet_text.specs.Lines.{line_of, lines_of}
 use Rattle.fleet_text.specs.declared.started.Started.{Started}
@@ -24,14 +24,6 @@ AllByRecursion-push P (x ∷ xs) y h p = (h.0, AllByRecursion-push P xs y h.1 p)
 pub map-push : {X Y : Type 0} (f : X → Y) (xs : List X) (y : X) → map f (xs ++ y ∷ []) ≡ map f xs ++ f y ∷ []
 map-push f [] y = refl
 map-push f (x ∷ xs) y = ap (λ l. f x ∷ l) (map-push f xs y)
-
-script_text-push : (lines : List model.Line) (line : model.Line) → script_text (lines ++ line ∷ []) ≡ script_text lines ++ spelt_line line
-script_text-push [] line = append-nil (spelt_line line)
-script_text-push (l ∷ lines) line = ap (λ t. spelt_line l ++ t) (script_text-push lines line) ∙ sym (append_assoc (spelt_line l) (script_text lines) (spelt_line line))
-
-AreLines-push : (grammar : model.Grammar) (before lines : List model.Line) (line : model.Line) → AreLines grammar before lines → grammar (before ++ lines) line → AreLines grammar before (lines ++ line ∷ [])
-AreLines-push grammar before [] line h g = (subst (λ b. grammar b line) (append-nil before) g, tt)
-AreLines-push grammar before (l ∷ lines) line h g = (h.0, AreLines-push grammar (before ++ l ∷ []) lines line h.1 (subst (λ b. grammar b line) (sym (append_assoc before (l ∷ []) lines)) g))
 
 -- `started` has exactly the parties that these lines start.
 pub record AreStarted (lines : List model.Line) (started : Started) : Type 0 where

@@ -2,3 +2,6 @@ pub mod Reading
 pub mod Lines
 pub mod Starts
 pub mod Places
+pub mod Printed
+pub mod Faults
+pub mod Pages

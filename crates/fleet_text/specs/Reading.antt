@@ -1,11 +1,11 @@
 -- What it means to read a text.
-use Rattle.std.specs.Prelude.{◌≡◌, ◌≢◌, ℕ, ◌<◌, ◌^◌, false, List, [], ◌∷◌, length, Option, Some, None, decimal}
-use Rattle.std.specs.List.{AllByRecursion, join_with_byte}
-use Rattle.row_model.specs.Rows.{Row, Content, is_merge}
-use Rattle.row_model.specs.Bounds.{AreBytes, IsContent, IsRow, AreRows}
+use Rattle.std.specs.Prelude.{◌≡◌, ◌≢◌, ℕ, ◌<◌, ◌≤◌, ◌^◌, List, [], ◌∷◌, length, Option, Some, None, decimal, ⊤}
+use Rattle.std.specs.List.{join_with_byte}
+use Rattle.row_model.specs.Rows.{Row, Content}
+use Rattle.row_model.specs.Bounds.{AreBytes, AreRows}
 use Rattle.script_model.specs.Words.{bytes_text, kind_text, content_text, stamp_text}
 use Rattle.script_model.specs.Script.{Line, words, IsInBounds}
-use Rattle.script_model.specs.Grammars.{IsPlain, IsOfOneJob}
+use Rattle.script_model.specs.Grammars.{IsOfOneJob}
 
 -- The result of reading a text: a value that fits and is spelt as this text, or None if no value
 -- that fits is spelt so.
@@ -19,27 +19,26 @@ abbrev pub ReadsAs : {A M B : Type 0} → (A → M) → (M → B) → (M → Typ
 ReadsAs view spelling Fits text (Some x) = Fits (view x) × (text ≡ spelling (view x))
 ReadsAs view spelling Fits text None = (m : _) → Fits m → text ≢ spelling m
 
+-- Every value fits.
+abbrev pub IsAny : {A : Type 0} → A → Type 0
+IsAny x = ⊤
+
+-- A number from `least` to `greatest`.
+abbrev pub IsBetween : (least greatest : ℕ) → ℕ → Type 0
+IsBetween least greatest n = (least ≤ n) × (n ≤ greatest)
+
 abbrev pub IsValue : List ℕ → Type 0
 IsValue bytes = AreBytes bytes × (length bytes < 2 ^ 32)
-
-abbrev pub IsRoot : List ℕ → Type 0
-IsRoot segment = segment ≡ []
 
 abbrev pub content_words : Content → List (List ℕ)
 content_words content = kind_text content ∷ content_text content ∷ []
 
-abbrev pub IsPlainContent : Content → Type 0
-IsPlainContent content = IsContent content × (is_merge content ≡ false)
-
 abbrev pub row_words : Row → List (List ℕ)
 row_words r = bytes_text r.key ∷ kind_text r.content ∷ content_text r.content ∷ decimal r.seq ∷ stamp_text r.created ∷ stamp_text r.expires ∷ []
 
--- A row that is a value or a tombstone, within its bounds and without time stamps.
-abbrev pub IsPlainRow : Row → Type 0
-IsPlainRow r = IsRow r × IsPlain r
-
-abbrev pub ArePlainRows : List Row → Type 0
-ArePlainRows rows = (0 < length rows) × AreRows rows × AllByRecursion IsPlain rows
+-- The rows of a flush: at least one, each in bounds.
+abbrev pub AreSomeRows : List Row → Type 0
+AreSomeRows rows = (0 < length rows) × AreRows rows
 
 -- A line that some script of the job grammar may have.
 abbrev pub IsJobLine : Line → Type 0

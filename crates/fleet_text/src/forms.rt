@@ -1,195 +1,242 @@
-//! Reads a line by its number of words.
+//! Reads a line by its number of words and by its first word.
 
-ghost use Rattle.std.specs.Prelude.{◌≡◌, ◌∷◌, [], IfOk, codes};
-ghost use Rattle.std.specs.List.{join_with_byte};
-ghost use Rattle.script_model.specs.Script.{words};
+ghost use Rattle.std.specs.Prelude.{◌≢◌, ◌∷◌, [], map, IfOk, codes};
+ghost use Rattle.script_model.specs.Script.{words, IsInBounds};
 ghost use Rattle.fleet_text.specs.Lines.{line_of};
-ghost use Rattle.fleet_text.specs.Reading.{ReadsAs, IsJobLine, line_text};
+ghost use Rattle.fleet_text.specs.Reading.{ReadsAs, line_text};
 
 use crate::line::Line;
-use crate::node::{node_at, source_of};
-use crate::row::rows_at;
-use crate::word::{
-    is_word, job_of, key_of, name_of, number_of, one_of, parts, root_of, run_of, signed_of,
+use crate::party_forms::{
+    fault_from, finish_from, kill_from, numbered_from, options_from, output_from, released_from,
+    settle_from, start_from, stop_from, together_from,
 };
+use crate::tree_forms::{
+    drain_from, dump_from, flush_from, full_from, read_from, scan_from, submit_from, tables_from,
+};
+use crate::word::{is_word, number_of, parts};
 use std::alloc::{AllocError, Global};
 
-// Reads a line of two words: a poll or a claim.
-fn turn_from(verb: &[u8], party: &[u8]) -> Option<Line>
-    ensures { ReadsAs line_of words IsJobLine (verb.now ∷ party.now ∷ []) result }
+fn one_from(verb: &[u8]) -> Option<Line>
+    ensures { ReadsAs line_of words IsInBounds (verb.now ∷ []) result }
 {
-    let number = one_of(party)?;
-    if is_word(verb, "poll") {
-        return Some(Line::Poll {
-            coordinator: number,
-        });
+    if is_word(verb, "full") {
+        return Some(Line::Full { segment: None });
     }
-    if is_word(verb, "claim") {
-        return Some(Line::Claim { worker: number });
+    if is_word(verb, "trees") {
+        return Some(Line::Trees);
     }
-    None
-}
-
-fn start_from(party: &[u8], number: &[u8]) -> Option<Line>
-    ensures { ReadsAs line_of words IsJobLine (codes "start" ∷ party.now ∷ number.now ∷ []) result }
-{
-    let number = one_of(number)?;
-    if is_word(party, "coordinator") {
-        return Some(Line::StartCoordinator { number });
+    if is_word(verb, "jobs") {
+        return Some(Line::Jobs);
     }
-    if is_word(party, "worker") {
-        return Some(Line::StartWorker { number });
+    if is_word(verb, "sweep") {
+        return Some(Line::Sweep);
     }
     None
 }
 
-fn finish_from(worker: &[u8], job: &[u8]) -> Option<Line>
-    ensures { ReadsAs line_of words IsJobLine (codes "finish" ∷ worker.now ∷ job.now ∷ []) result }
+fn two_from(alloc: Global, verb: &[u8], word: &[u8]) -> Result<Option<Line>, AllocError>
+    ensures { IfOk result (ReadsAs line_of words IsInBounds (verb.now ∷ word.now ∷ [])) }
 {
-    let worker = one_of(worker)?;
-    let job = job_of(job)?;
-    Some(Line::Finish { worker, job })
-}
-
-fn dump_from(segment: &[u8], node: &[u8]) -> Option<Line>
-    ensures { ReadsAs line_of words IsJobLine (codes "dump" ∷ segment.now ∷ node.now ∷ []) result }
-{
-    let segment = root_of(segment)?;
-    let node = node_at(node)?;
-    Some(Line::Dump { segment, node })
-}
-
-// Reads a line of three words: a start, a finish or a dump.
-fn three_from(verb: &[u8], first: &[u8], second: &[u8]) -> Option<Line>
-    ensures { ReadsAs line_of words IsJobLine (verb.now ∷ first.now ∷ second.now ∷ []) result }
-{
-    if is_word(verb, "start") {
-        return start_from(first, second);
+    if is_word(verb, "full") {
+        return full_from(alloc, word);
     }
+    Ok(numbered_from(verb, word))
+}
+
+// Reads a line of three words that names no node and no segment.
+fn parties_from(verb: &[u8], first: &[u8], second: &[u8]) -> Option<Line>
+    requires tables { verb.now ≢ codes "tables" }
+    requires dump { verb.now ≢ codes "dump" }
+    requires drain { verb.now ≢ codes "drain" }
+    ensures { ReadsAs line_of words IsInBounds (verb.now ∷ first.now ∷ second.now ∷ []) result }
+{
     if is_word(verb, "finish") {
         return finish_from(first, second);
     }
-    if is_word(verb, "dump") {
-        return dump_from(first, second);
+    if is_word(verb, "start") {
+        return start_from(first, second);
+    }
+    if is_word(verb, "kill") {
+        return kill_from(first, second);
+    }
+    if is_word(verb, "stop") {
+        return stop_from(first, second);
+    }
+    if is_word(verb, "fault") {
+        return fault_from(first, second);
+    }
+    if is_word(verb, "together") {
+        return together_from(first, second);
     }
     None
 }
 
-// Reads a line of four words: a submission of a job of one flush.
-fn submit_from(verb: &[u8], segment: &[u8], destination: &[u8], source: &[u8]) -> Option<Line>
-    ensures { ReadsAs line_of words IsJobLine
-        (verb.now ∷ segment.now ∷ destination.now ∷ source.now ∷ []) result }
-{
-    if !is_word(verb, "submit") {
-        return None;
-    }
-    let segment = root_of(segment)?;
-    let destination = run_of(destination)?;
-    let source = source_of(source)?;
-    Some(Line::Submit {
-        segment,
-        destination,
-        source,
-    })
-}
-
-// Reads a line of five words: a read of a key.
-fn read_from(
+fn three_from(
     alloc: Global,
     verb: &[u8],
-    segment: &[u8],
-    key: &[u8],
-    seq: &[u8],
-    now: &[u8],
+    first: &[u8],
+    second: &[u8],
 ) -> Result<Option<Line>, AllocError>
-    ensures { IfOk result (ReadsAs line_of words IsJobLine
-        (verb.now ∷ segment.now ∷ key.now ∷ seq.now ∷ now.now ∷ [])) }
+    ensures { IfOk result
+        (ReadsAs line_of words IsInBounds (verb.now ∷ first.now ∷ second.now ∷ [])) }
 {
-    if !is_word(verb, "read") {
-        return Ok(None);
+    if is_word(verb, "tables") {
+        return tables_from(alloc, first, second);
     }
-    let Some(segment) = root_of(segment) else {
-        return Ok(None);
-    };
-    let Some(seq) = number_of(seq) else {
-        return Ok(None);
-    };
-    let Some(now) = signed_of(now) else {
-        return Ok(None);
-    };
-    let Some(key) = key_of(alloc, key)? else {
-        return Ok(None);
-    };
-    Ok(Some(Line::Read {
-        segment,
-        key,
-        seq,
-        now,
-    }))
+    if is_word(verb, "dump") {
+        return dump_from(alloc, first, second);
+    }
+    if is_word(verb, "drain") {
+        return drain_from(alloc, first, second);
+    }
+    Ok(parties_from(verb, first, second))
 }
 
-// Reads a line of six words: a flush.
-fn flush_from(
+fn four_from(
     alloc: Global,
     verb: &[u8],
-    name: &[u8],
-    segment: &[u8],
-    floor: &[u8],
-    tick: &[u8],
-    rows: &[u8],
+    first: &[u8],
+    second: &[u8],
+    third: &[u8],
 ) -> Result<Option<Line>, AllocError>
-    ensures { IfOk result (ReadsAs line_of words IsJobLine
-        (verb.now ∷ name.now ∷ segment.now ∷ floor.now ∷ tick.now ∷ rows.now ∷ [])) }
+    ensures { IfOk result (ReadsAs line_of words IsInBounds
+        (verb.now ∷ first.now ∷ second.now ∷ third.now ∷ [])) }
 {
-    if !is_word(verb, "flush") {
-        return Ok(None);
+    if is_word(verb, "submit") {
+        return submit_from(alloc, first, second, third);
     }
-    let Some(name) = name_of(name) else {
-        return Ok(None);
-    };
-    let Some(segment) = root_of(segment) else {
-        return Ok(None);
-    };
-    let Some(floor) = number_of(floor) else {
-        return Ok(None);
-    };
-    let Some(tick) = signed_of(tick) else {
-        return Ok(None);
-    };
-    let Some(rows) = rows_at(alloc, rows)? else {
-        return Ok(None);
-    };
-    Ok(Some(Line::Flush {
-        name,
-        segment,
-        floor,
-        tick,
-        rows,
-    }))
-}
-
-/// Reads a line without its newline. The answer is None if the text is no line of the job grammar.
-/// The error is out of memory.
-pub fn line_at(alloc: Global, text: &[u8]) -> Result<Option<Line>, AllocError>
-    ensures { IfOk result (ReadsAs line_of line_text IsJobLine text.now) }
-{
-    let words = parts(alloc, text, b' ')?;
-    if words.len() == 2 {
-        return Ok(turn_from(words[0], words[1]));
+    if is_word(verb, "start") {
+        return Ok(released_from(first, second, third));
     }
-    if words.len() == 3 {
-        return Ok(three_from(words[0], words[1], words[2]));
-    }
-    if words.len() == 4 {
-        return Ok(submit_from(words[0], words[1], words[2], words[3]));
-    }
-    if words.len() == 5 {
-        return read_from(alloc, words[0], words[1], words[2], words[3], words[4]);
-    }
-    if words.len() == 6 {
-        return flush_from(
-            alloc, words[0], words[1], words[2], words[3], words[4], words[5],
-        );
+    if is_word(verb, "settle") {
+        return Ok(settle_from(first, second, third));
     }
     Ok(None)
+}
+
+fn five_from(
+    alloc: Global,
+    verb: &[u8],
+    first: &[u8],
+    second: &[u8],
+    third: &[u8],
+    fourth: &[u8],
+) -> Result<Option<Line>, AllocError>
+    ensures { IfOk result (ReadsAs line_of words IsInBounds
+        (verb.now ∷ first.now ∷ second.now ∷ third.now ∷ fourth.now ∷ [])) }
+{
+    if is_word(verb, "read") {
+        return read_from(alloc, first, second, third, fourth);
+    }
+    if is_word(verb, "output") {
+        return Ok(output_from(first, second, third, fourth));
+    }
+    Ok(None)
+}
+
+fn six_from(
+    alloc: Global,
+    verb: &[u8],
+    first: &[u8],
+    second: &[u8],
+    third: &[u8],
+    fourth: &[u8],
+    fifth: &[u8],
+) -> Result<Option<Line>, AllocError>
+    ensures { IfOk result (ReadsAs line_of words IsInBounds
+        (verb.now ∷ first.now ∷ second.now ∷ third.now ∷ fourth.now ∷ fifth.now ∷ [])) }
+{
+    if is_word(verb, "flush") {
+        return flush_from(alloc, first, second, third, fourth, fifth);
+    }
+    Ok(None)
+}
+
+fn seven_from(
+    alloc: Global,
+    verb: &[u8],
+    first: &[u8],
+    second: &[u8],
+    third: &[u8],
+    fourth: &[u8],
+    fifth: &[u8],
+    sixth: &[u8],
+) -> Result<Option<Line>, AllocError>
+    ensures { IfOk result (ReadsAs line_of words IsInBounds (verb.now ∷ first.now ∷ second.now
+        ∷ third.now ∷ fourth.now ∷ fifth.now ∷ sixth.now ∷ [])) }
+{
+    if is_word(verb, "scan") {
+        return scan_from(alloc, first, second, third, fourth, fifth, sixth);
+    }
+    if is_word(verb, "options") {
+        return Ok(options_from(first, second, third, fourth, fifth, sixth, None));
+    }
+    Ok(None)
+}
+
+fn eight_from(
+    verb: &[u8],
+    first: &[u8],
+    second: &[u8],
+    third: &[u8],
+    fourth: &[u8],
+    fifth: &[u8],
+    sixth: &[u8],
+    seventh: &[u8],
+) -> Option<Line>
+    ensures { ReadsAs line_of words IsInBounds (verb.now ∷ first.now ∷ second.now
+        ∷ third.now ∷ fourth.now ∷ fifth.now ∷ sixth.now ∷ seventh.now ∷ []) result }
+{
+    if !is_word(verb, "options") {
+        return None;
+    }
+    let retention = number_of(seventh)?;
+    options_from(first, second, third, fourth, fifth, sixth, Some(retention))
+}
+
+// Reads a line from its words.
+fn line_from(alloc: Global, fields: &[&[u8]]) -> Result<Option<Line>, AllocError>
+    ensures { IfOk result
+        (ReadsAs line_of words IsInBounds (map (λ field. field.now) fields.now)) }
+{
+    if fields.len() == 1 {
+        return Ok(one_from(fields[0]));
+    }
+    if fields.len() == 2 {
+        return two_from(alloc, fields[0], fields[1]);
+    }
+    if fields.len() == 3 {
+        return three_from(alloc, fields[0], fields[1], fields[2]);
+    }
+    if fields.len() == 4 {
+        return four_from(alloc, fields[0], fields[1], fields[2], fields[3]);
+    }
+    if fields.len() == 5 {
+        return five_from(alloc, fields[0], fields[1], fields[2], fields[3], fields[4]);
+    }
+    if fields.len() == 6 {
+        return six_from(
+            alloc, fields[0], fields[1], fields[2], fields[3], fields[4], fields[5],
+        );
+    }
+    if fields.len() == 7 {
+        return seven_from(
+            alloc, fields[0], fields[1], fields[2], fields[3], fields[4], fields[5], fields[6],
+        );
+    }
+    if fields.len() == 8 {
+        return Ok(eight_from(
+            fields[0], fields[1], fields[2], fields[3], fields[4], fields[5], fields[6], fields[7],
+        ));
+    }
+    Ok(None)
+}
+
+/// Reads a line without its newline. The answer is None if no line in bounds is spelt so. The error
+/// is out of memory.
+pub fn line_at(alloc: Global, text: &[u8]) -> Result<Option<Line>, AllocError>
+    ensures { IfOk result (ReadsAs line_of line_text IsInBounds text.now) }
+{
+    let words = parts(alloc, text, b' ')?;
+    line_from(alloc, words.as_slice())
 }

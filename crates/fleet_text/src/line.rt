@@ -1,22 +1,49 @@
 //! The lines of a script.
 
 ghost use Rattle.std.specs.Prelude.{◌≡◌, IfOk, IsOkUnless};
-ghost use Rattle.fleet_text.specs.Lines.{line_of};
+ghost use Rattle.fleet_rows.specs.declared.errors.SlateDBError.TheVariants as SlateDBError;
 
-use crate::node::NodeName;
+use crate::node::{NodeList, NodeName};
 use bytes::Bytes;
-use fleet_rows::{Copies, ListOf, RowEntry, SlateDBError};
-use std::alloc::AllocError;
+use fleet_rows::{ListOf, RowEntry, SlateDBError};
 
-/// One line of a script. Parties are named by their numbers, and a segment by its prefix.
-#[derive(Debug, Drop, PartialEq)]
+/// One line of a script, with the fields that the language gives it, in their order. Parties are
+/// named by their numbers, and a segment by its prefix.
+#[derive(Clone, Debug, Drop, PartialEq)]
 pub enum Line {
+    /// Sets the options of the fleet. Only the first line of a script may do it.
+    Options {
+        timeout: u64,
+        concurrent: u64,
+        slots: u64,
+        ranges: u64,
+        table_size: u64,
+        moves: bool,
+        retention: Option<u64>,
+    },
+    /// Sets the moment, in milliseconds.
+    Clock {
+        moment: u64,
+    },
     /// Starts a coordinator.
     StartCoordinator {
         number: u64,
     },
-    /// Starts a worker.
+    /// Starts a worker of a release, which is 1 or 2.
     StartWorker {
+        number: u64,
+        release: Option<u64>,
+    },
+    KillCoordinator {
+        number: u64,
+    },
+    KillWorker {
+        number: u64,
+    },
+    StopCoordinator {
+        number: u64,
+    },
+    StopWorker {
         number: u64,
     },
     /// Flushes rows into the tree of a segment.
@@ -25,7 +52,7 @@ pub enum Line {
         segment: Bytes,
         floor: u64,
         tick: i64,
-        rows: Vec<RowEntry>,
+        rows: ListOf<RowEntry>,
     },
     /// Reads a key at a sequence and at the moment `now`, in milliseconds.
     Read {
@@ -34,98 +61,101 @@ pub enum Line {
         seq: u64,
         now: i64,
     },
-    /// Submits a job that makes a sorted run with the id `destination` from the flush `source`.
+    /// Submits a job that makes a sorted run with the id `destination` from these sources.
     Submit {
         segment: Bytes,
         destination: u32,
-        source: u64,
+        sources: NodeList,
+    },
+    /// Submits a job that drops these sources.
+    Drain {
+        segment: Bytes,
+        sources: NodeList,
+    },
+    /// Submits the jobs that the scheduler makes of a segment, or of all.
+    Full {
+        segment: Option<Bytes>,
     },
     /// A coordinator polls: it commits finished jobs and opens submitted ones.
     Poll {
+        coordinator: u64,
+    },
+    /// A coordinator commits finished jobs, and does nothing else of a poll.
+    Commit {
         coordinator: u64,
     },
     /// A worker claims waiting jobs.
     Claim {
         worker: u64,
     },
+    /// A worker says that it is live.
+    Heartbeat {
+        worker: u64,
+    },
+    /// A worker writes the next rows of a job's range, which is counted from 1.
+    Output {
+        worker: u64,
+        job: u64,
+        range: u64,
+        rows: u32,
+    },
     /// A worker writes the tables of a job and finishes it.
     Finish {
         worker: u64,
         job: u64,
+    },
+    /// Strikes the `k`-th call of the store from now on. A struck put takes effect if it `stands`.
+    Fault {
+        k: u32,
+        stands: bool,
+    },
+    /// Shows the trees.
+    Trees,
+    /// Shows the jobs.
+    Jobs,
+    /// Shows the tables of a node.
+    Tables {
+        segment: Bytes,
+        node: NodeName,
     },
     /// Shows the rows of a node.
     Dump {
         segment: Bytes,
         node: NodeName,
     },
+    /// Deletes the tables that nothing can need.
+    Sweep,
+    /// Reads the keys from `from` on and below `to`, at most `limit` of them. An empty end is no
+    /// bound.
+    Scan {
+        segment: Bytes,
+        from: Bytes,
+        to: Bytes,
+        seq: u64,
+        now: i64,
+        limit: u32,
+    },
+    /// Runs a coordinator and a worker until nothing is left to do, for so many rounds at most.
+    Settle {
+        coordinator: u64,
+        worker: u64,
+        rounds: u64,
+    },
+    /// Runs a coordinator and so many workers at once, each for so many turns at most.
+    Together {
+        workers: u64,
+        turns: u64,
+    },
 }
 
 impl Line {
-    /// Copies the line. The error is out of memory.
+    /// A copy of the line. The only error is `Memory`.
     pub fn clone(&self) -> Result<Line, SlateDBError>
-        ensures copy { IfOk result (λ copy. line_of copy ≡ line_of self.now) }
+        ensures copy { IfOk result (λ copy. copy ≡ self.now) }
         ensures memory { IsOkUnless result SlateDBError.Memory }
     {
-        match self {
-            Line::StartCoordinator { number } => Ok(Line::StartCoordinator { number: *number }),
-            Line::StartWorker { number } => Ok(Line::StartWorker { number: *number }),
-            Line::Flush {
-                name,
-                segment,
-                floor,
-                tick,
-                rows,
-            } => Ok(Line::Flush {
-                name: *name,
-                segment: segment.clone()?,
-                floor: *floor,
-                tick: *tick,
-                rows: copied_rows(rows)?,
-            }),
-            Line::Read {
-                segment,
-                key,
-                seq,
-                now,
-            } => Ok(Line::Read {
-                segment: segment.clone()?,
-                key: key.clone()?,
-                seq: *seq,
-                now: *now,
-            }),
-            Line::Submit {
-                segment,
-                destination,
-                source,
-            } => Ok(Line::Submit {
-                segment: segment.clone()?,
-                destination: *destination,
-                source: *source,
-            }),
-            Line::Poll { coordinator } => Ok(Line::Poll {
-                coordinator: *coordinator,
-            }),
-            Line::Claim { worker } => Ok(Line::Claim { worker: *worker }),
-            Line::Finish { worker, job } => Ok(Line::Finish {
-                worker: *worker,
-                job: *job,
-            }),
-            Line::Dump { segment, node } => Ok(Line::Dump {
-                segment: segment.clone()?,
-                node: *node,
-            }),
-        }
+        Ok(Clone::clone(self)?)
     }
-}
-
-fn copied_rows(rows: &Vec<RowEntry>) -> Result<Vec<RowEntry>, AllocError>
-    ensures { IfOk result (λ copy. copy.items ≡ rows.now.items) }
-{
-    let mut copy = Vec::new(*rows.allocator());
-    'rows: for row in rows {
-        copy.push(row.copied()?)?;
-    }
-    Ok(copy)
 }
 
 /// The lines of a script, in order.

@@ -1,24 +1,81 @@
-//! Prints lists with commas between the items. An empty list is `-`.
+//! Prints lists. Between two items stands a comma, a semicolon or a bar, and an empty list is `-`.
 
-ghost use Rattle.std.specs.Prelude.{◌≡◌, List, ℕ, map, IfOk, string_bytes};
-ghost use Rattle.fleet_rows.specs.Row.{rows_of};
+ghost use Rattle.std.specs.Prelude.{◌≡◌, ◌≢◌, ◌∷◌, [], ℕ, length, map, IfOk, string_bytes};
+ghost use Rattle.std.specs.List.{join_with_byte};
+ghost use Rattle.fleet_jobs.specs.Contexts.{table_ids};
 ghost use Rattle.script_model.specs.Replies as replies;
-ghost use Rattle.script_model.specs.Words as words;
+ghost use Rattle.script_model.specs.Replies.{bar, semicolon};
 ghost use Rattle.script_model.specs.Words.{list_text, comma};
-ghost use Rattle.fleet_text.specs.Places.{places_text};
 
-use crate::texts::{job_text, place_text, row_text, rule_text, table_text};
-use fleet_rows::{RowEntry, Ulid};
+use crate::prints::{Prints, each};
+use crate::texts::{job_text, table_text};
+use fleet_plan::Subcompaction;
+use fleet_rows::{JobList, Ulid};
+use fleet_tree::{SsTableHandle, TableList};
 use std::alloc::{AllocError, Global};
 
-fn listed(alloc: Global, words: &[String]) -> Result<String, AllocError>
+fn joined(alloc: Global, words: &[String], separator: &str) -> Result<String, AllocError>
+    requires { length words.now ≢ 0 }
+    ensures { IfOk result (λ text. (c : ℕ)
+        → separator.now ≡ c ∷ [] → string_bytes text ≡ list_text c (map string_bytes words.now)) }
+{
+    words.join(alloc, separator)
+}
+
+/// Prints words with commas between them.
+pub fn listed(alloc: Global, words: &[String]) -> Result<String, AllocError>
     ensures { IfOk result
         (λ text. string_bytes text ≡ list_text comma (map string_bytes words.now)) }
 {
     if words.is_empty() {
         return String::from_str(alloc, "-");
     }
-    words.join(alloc, ",")
+    joined(alloc, words, ",")
+}
+
+/// Prints words with semicolons between them.
+pub fn listed_apart(alloc: Global, words: &[String]) -> Result<String, AllocError>
+    ensures { IfOk result
+        (λ text. string_bytes text ≡ list_text semicolon (map string_bytes words.now)) }
+{
+    if words.is_empty() {
+        return String::from_str(alloc, "-");
+    }
+    joined(alloc, words, ";")
+}
+
+/// Prints items with commas between them.
+pub(crate) fn listed_each<T: Prints>(alloc: Global, items: &[T]) -> Result<String, AllocError>
+    ensures { IfOk result
+        (λ text. string_bytes text ≡ list_text comma (map T.text items.now)) }
+{
+    let words = each(alloc, items)?;
+    listed(alloc, &words)
+}
+
+/// Prints items with semicolons between them.
+pub(crate) fn listed_each_apart<T: Prints>(alloc: Global, items: &[T]) -> Result<String, AllocError>
+    ensures { IfOk result
+        (λ text. string_bytes text ≡ list_text semicolon (map T.text items.now)) }
+{
+    let words = each(alloc, items)?;
+    listed_apart(alloc, &words)
+}
+
+fn barred(alloc: Global, words: &[String]) -> Result<String, AllocError>
+    ensures { IfOk result
+        (λ text. string_bytes text ≡ join_with_byte bar (map string_bytes words.now)) }
+{
+    words.join(alloc, "|")
+}
+
+/// Prints ranges, each as the list of its tables, with bars between them.
+pub(crate) fn listed_ranges<T: Prints>(alloc: Global, ranges: &[T]) -> Result<String, AllocError>
+    ensures { IfOk result
+        (λ text. string_bytes text ≡ join_with_byte bar (map T.text ranges.now)) }
+{
+    let words = each(alloc, ranges)?;
+    barred(alloc, &words)
 }
 
 pub fn jobs_text(alloc: Global, jobs: &[Ulid]) -> Result<String, AllocError>
@@ -27,26 +84,6 @@ pub fn jobs_text(alloc: Global, jobs: &[Ulid]) -> Result<String, AllocError>
     let mut words = Vec::new(alloc);
     'jobs: for job in jobs {
         words.push(job_text(alloc, *job)?)?;
-    }
-    listed(alloc, &words)
-}
-
-pub fn rules_text(alloc: Global, rules: &[(Ulid, u8)]) -> Result<String, AllocError>
-    ensures { IfOk result (λ text. string_bytes text ≡ replies.rules_text rules.now) }
-{
-    let mut words = Vec::new(alloc);
-    'rules: for rule in rules {
-        words.push(rule_text(alloc, rule.0, rule.1)?)?;
-    }
-    listed(alloc, &words)
-}
-
-pub fn places_with_rules(alloc: Global, places: &[(u64, u8)]) -> Result<String, AllocError>
-    ensures { IfOk result (λ text. string_bytes text ≡ places_text places.now) }
-{
-    let mut words = Vec::new(alloc);
-    'places: for place in places {
-        words.push(place_text(alloc, place.0, place.1)?)?;
     }
     listed(alloc, &words)
 }
@@ -61,12 +98,37 @@ pub fn tables_text(alloc: Global, tables: &[Ulid]) -> Result<String, AllocError>
     listed(alloc, &words)
 }
 
-pub fn rows_text(alloc: Global, rows: &[RowEntry]) -> Result<String, AllocError>
-    ensures { IfOk result (λ text. string_bytes text ≡ words.rows_text (rows_of rows.now)) }
+/// Prints the names of tables, without their numbers of rows.
+pub fn names_text(alloc: Global, tables: &[SsTableHandle]) -> Result<String, AllocError>
+    ensures { IfOk result (λ text. string_bytes text ≡ replies.tables_text (table_ids tables.now)) }
 {
     let mut words = Vec::new(alloc);
-    'rows: for row in rows {
-        words.push(row_text(alloc, row)?)?;
+    'tables: for table in tables {
+        words.push(table_text(alloc, table.id)?)?;
     }
     listed(alloc, &words)
+}
+
+impl Prints for TableList {
+    ghost text = { λ tables. replies.tables_text (table_ids tables) };
+
+    fn print(&self, alloc: Global) -> Result<String, AllocError> {
+        names_text(alloc, self.as_slice())
+    }
+}
+
+impl Prints for JobList {
+    ghost text = { replies.tables_text };
+
+    fn print(&self, alloc: Global) -> Result<String, AllocError> {
+        tables_text(alloc, self.as_slice())
+    }
+}
+
+impl Prints for Subcompaction {
+    ghost text = { λ part. replies.tables_text (table_ids part.output_ssts) };
+
+    fn print(&self, alloc: Global) -> Result<String, AllocError> {
+        names_text(alloc, self.output_ssts())
+    }
 }

@@ -1,18 +1,25 @@
 //! Prints replies.
 
-ghost use Rattle.std.specs.Prelude.{◌≡◌, ◌++◌, [], OnOk, OnErr, IsOkUnless, decimal, nat_eq};
+ghost use Rattle.std.specs.Prelude.{◌≡◌, ◌++◌, [], ℕ, List, IfOk, OnOk, OnErr, IsOkUnless, decimal, map, nat_eq, string_bytes};
 ghost use Rattle.std.specs.Cmp.{partial_equiv_from_equiv};
 ghost use Rattle.std.specs.Cmp.Lexicographic.{pointwise, nat_list_eq_equiv};
 ghost use Rattle.std.specs.Fmt.{signed_decimal};
 ghost use Rattle.fleet_rows.specs.Row.{rows_of};
 ghost use Rattle.script_model.specs.Replies as replies;
 ghost use Rattle.script_model.specs.Words as words;
+ghost use Rattle.fleet_model.specs.Nodes.{names};
+ghost use Rattle.fleet_tree.specs.Trees.{tree_of};
+ghost use Rattle.fleet_jobs.specs.Contexts.{table_ids};
 ghost use Rattle.fleet_text.specs.Places.{places_text};
+ghost use Rattle.fleet_text.specs.Printed.{counted_tables};
 
-use crate::lists::{jobs_text, places_with_rules, rows_text, rules_text, tables_text};
+use crate::listings::rows_listed;
+use crate::lists::{jobs_text, listed_each, listed_ranges, tables_text};
+use crate::shown::nodes_text;
 use crate::texts::bytes_text;
 use fleet_rows::{JobList, PlaceList, RowEntry, RuleList, SlateDBError};
-use std::alloc::Global;
+use fleet_tree::{LsmTreeState, OutputList, TableList};
+use std::alloc::{AllocError, Global};
 use std::marker::Model;
 
 /// A reply under construction. Contracts see it as its bytes.
@@ -101,7 +108,7 @@ impl Reply {
         ensures err { OnErr result (self.new ≡ self.old) }
         ensures memory { IsOkUnless result SlateDBError.Memory }
     {
-        let text = rules_text(*self.bytes.allocator(), rules.as_slice())?;
+        let text = listed_each(*self.bytes.allocator(), rules.as_slice())?;
         self.word(text.as_str())
     }
 
@@ -112,7 +119,7 @@ impl Reply {
         ensures err { OnErr result (self.new ≡ self.old) }
         ensures memory { IsOkUnless result SlateDBError.Memory }
     {
-        let text = places_with_rules(*self.bytes.allocator(), places.as_slice())?;
+        let text = listed_each(*self.bytes.allocator(), places.as_slice())?;
         self.word(text.as_str())
     }
 
@@ -122,7 +129,7 @@ impl Reply {
         ensures err { OnErr result (self.new ≡ self.old) }
         ensures memory { IsOkUnless result SlateDBError.Memory }
     {
-        let text = rows_text(*self.bytes.allocator(), rows)?;
+        let text = rows_listed(*self.bytes.allocator(), rows)?;
         self.word(text.as_str())
     }
 
@@ -136,6 +143,50 @@ impl Reply {
         let text = tables_text(*self.bytes.allocator(), tables.as_slice())?;
         self.word(text.as_str())
     }
+}
+
+impl Reply {
+    /// Appends tables with their numbers of rows, each as `<table>:<rows>`, with commas between
+    /// them.
+    pub fn tables(&mut self, tables: &TableList) -> Result<(), SlateDBError>
+        ensures ok { OnOk result (self.new ≡ self.old ++ counted_tables tables.now) }
+        ensures err { OnErr result (self.new ≡ self.old) }
+        ensures memory { IsOkUnless result SlateDBError.Memory }
+    {
+        let text = listed_each(*self.bytes.allocator(), tables.as_slice())?;
+        self.word(text.as_str())
+    }
+
+    /// Appends ranges, each as the list of its tables' names, with bars between them.
+    pub fn ranges(&mut self, ranges: &OutputList) -> Result<(), SlateDBError>
+        ensures ok { OnOk result
+            (self.new ≡ self.old ++ replies.ranges_text (map table_ids ranges.now)) }
+        ensures err { OnErr result (self.new ≡ self.old) }
+        ensures memory { IsOkUnless result SlateDBError.Memory }
+    {
+        let text = outputs_text(*self.bytes.allocator(), ranges.as_slice())?;
+        self.word(text.as_str())
+    }
+
+    /// Appends the nodes of a tree: its flushes, newest first, and then its runs, with commas
+    /// between them. Which flushes went into a run is not printed.
+    pub fn nodes(&mut self, tree: &LsmTreeState) -> Result<(), SlateDBError>
+        ensures ok { OnOk result ((flushes : ℕ → List ℕ)
+            → self.new ≡ self.old ++ words.nodes_text (names (tree_of flushes tree.now))) }
+        ensures err { OnErr result (self.new ≡ self.old) }
+        ensures memory { IsOkUnless result SlateDBError.Memory }
+    {
+        let text = nodes_text(*self.bytes.allocator(), tree)?;
+        self.word(text.as_str())
+    }
+}
+
+// Prints ranges, each as the list of its tables' names.
+fn outputs_text(alloc: Global, ranges: &[TableList]) -> Result<String, AllocError>
+    ensures { IfOk result
+        (λ text. string_bytes text ≡ replies.ranges_text (map table_ids ranges.now)) }
+{
+    listed_ranges(alloc, ranges)
 }
 
 impl PartialEq for Reply {

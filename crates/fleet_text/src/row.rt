@@ -1,17 +1,18 @@
 //! Reads the rows of a flush.
 
-ghost use Rattle.std.specs.Prelude.{◌≡◌, [], ◌∷◌, length, IfOk};
+ghost use Rattle.std.specs.Prelude.{[], ◌∷◌, map, IfOk};
+ghost use Rattle.row_model.specs.Bounds.{IsContent, IsRow};
 ghost use Rattle.fleet_rows.specs.Row.{content_of, row_of, rows_of};
 ghost use Rattle.script_model.specs.Words.{row_text, rows_text};
-ghost use Rattle.fleet_text.specs.Reading.{ReadsAs, content_words, row_words, IsPlainContent, IsPlainRow, ArePlainRows};
+ghost use Rattle.fleet_text.specs.Reading.{ReadsAs, content_words, row_words, AreSomeRows};
 
-use crate::word::{is_word, key_of, number_of, parts, value_bytes_of};
-use fleet_rows::{RowEntry, ValueDeletable};
+use crate::word::{is_word, key_of, number_of, parts, stamp_of, value_bytes_of};
+use fleet_rows::{ListOf, RowEntry, ValueDeletable};
 use std::alloc::{AllocError, Global};
 
 fn value_of(alloc: Global, kind: &[u8], word: &[u8]) -> Result<Option<ValueDeletable>, AllocError>
     ensures { IfOk result
-        (ReadsAs content_of content_words IsPlainContent (kind.now ∷ word.now ∷ [])) }
+        (ReadsAs content_of content_words IsContent (kind.now ∷ word.now ∷ [])) }
 {
     if is_word(kind, "v") {
         let Some(bytes) = value_bytes_of(alloc, word)? else {
@@ -19,24 +20,38 @@ fn value_of(alloc: Global, kind: &[u8], word: &[u8]) -> Result<Option<ValueDelet
         };
         return Ok(Some(ValueDeletable::Value(bytes)));
     }
+    if is_word(kind, "m") {
+        let Some(bytes) = value_bytes_of(alloc, word)? else {
+            return Ok(None);
+        };
+        return Ok(Some(ValueDeletable::Merge(bytes)));
+    }
     if is_word(kind, "t") && is_word(word, "-") {
         return Ok(Some(ValueDeletable::Tombstone));
     }
     Ok(None)
 }
 
-// Reads a row from its fields, except the two time stamps, which it does not have.
+// Reads a row from its fields.
 fn row_from(
     alloc: Global,
     key: &[u8],
     kind: &[u8],
     value: &[u8],
     seq: &[u8],
+    created: &[u8],
+    expires: &[u8],
 ) -> Result<Option<RowEntry>, AllocError>
-    ensures { IfOk result (ReadsAs row_of row_words IsPlainRow
-        (key.now ∷ kind.now ∷ value.now ∷ seq.now ∷ (45 ∷ []) ∷ (45 ∷ []) ∷ [])) }
+    ensures { IfOk result (ReadsAs row_of row_words IsRow
+        (key.now ∷ kind.now ∷ value.now ∷ seq.now ∷ created.now ∷ expires.now ∷ [])) }
 {
     let Some(seq) = number_of(seq) else {
+        return Ok(None);
+    };
+    let Some(created) = stamp_of(created) else {
+        return Ok(None);
+    };
+    let Some(expires) = stamp_of(expires) else {
         return Ok(None);
     };
     let Some(key) = key_of(alloc, key)? else {
@@ -45,23 +60,34 @@ fn row_from(
     let Some(value) = value_of(alloc, kind, value)? else {
         return Ok(None);
     };
-    Ok(Some(RowEntry::new(key, value, seq, None, None)))
+    Ok(Some(RowEntry::new(key, value, seq, created, expires)))
 }
 
-fn row_at(alloc: Global, word: &[u8]) -> Result<Option<RowEntry>, AllocError>
-    ensures { IfOk result (ReadsAs row_of row_text IsPlainRow word.now) }
+// Reads a row from all its fields.
+fn fields_from(alloc: Global, fields: &[&[u8]]) -> Result<Option<RowEntry>, AllocError>
+    ensures { IfOk result (ReadsAs row_of row_words IsRow (map (λ field. field.now) fields.now)) }
 {
-    let fields = parts(alloc, word, b':')?;
-    if fields.len() != 6 || !is_word(fields[4], "-") || !is_word(fields[5], "-") {
+    if fields.len() != 6 {
         return Ok(None);
     }
-    row_from(alloc, fields[0], fields[1], fields[2], fields[3])
+    row_from(
+        alloc, fields[0], fields[1], fields[2], fields[3], fields[4], fields[5],
+    )
+}
+
+/// Reads a row: key, kind, value, sequence, time of creation and expiry, with colons between them.
+/// The answer is None if the word is no row. The error is out of memory.
+pub fn row_at(alloc: Global, word: &[u8]) -> Result<Option<RowEntry>, AllocError>
+    ensures { IfOk result (ReadsAs row_of row_text IsRow word.now) }
+{
+    let fields = parts(alloc, word, b':')?;
+    fields_from(alloc, fields.as_slice())
 }
 
 /// Reads one or more rows with commas between them. The answer is None if a part is no row. The
 /// error is out of memory.
-pub fn rows_at(alloc: Global, word: &[u8]) -> Result<Option<Vec<RowEntry>>, AllocError>
-    ensures { IfOk result (ReadsAs (λ rows. rows_of rows.items) rows_text ArePlainRows word.now) }
+pub fn rows_at(alloc: Global, word: &[u8]) -> Result<Option<ListOf<RowEntry>>, AllocError>
+    ensures { IfOk result (ReadsAs rows_of rows_text AreSomeRows word.now) }
 {
     let fields = parts(alloc, word, b',')?;
     let mut rows = Vec::new(alloc);
@@ -71,5 +97,5 @@ pub fn rows_at(alloc: Global, word: &[u8]) -> Result<Option<Vec<RowEntry>>, Allo
         };
         rows.push(row)?;
     }
-    Ok(Some(rows))
+    Ok(Some(ListOf::from_vec(rows)))
 }

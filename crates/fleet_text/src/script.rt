@@ -11,6 +11,7 @@ ghost use Rattle.fleet_text.specs.Starts.{MayFollow};
 use crate::TextError;
 use crate::forms::line_at;
 use crate::line::{Line, LineList};
+use crate::served::is_of_one_job;
 use crate::started::Started;
 use crate::word::cut;
 use std::alloc::{AllocError, Global};
@@ -54,14 +55,14 @@ fn read_lines(alloc: Global, text: &[u8]) -> Result<LineList, TextError>
     Ok(LineList::from_vec(lines))
 }
 
-// Reads a line that does not start a party a second time.
+// Reads a line that the program serves and that does not start a party a second time.
 fn line_after(alloc: Global, text: &[u8], started: Started) -> Result<Option<Line>, AllocError>
     ensures { IfOk result (ReadsAs line_of line_text (MayFollow started) text.now) }
 {
     let Some(line) = line_at(alloc, text)? else {
         return Ok(None);
     };
-    if started.is_again(&line) {
+    if !is_of_one_job(&line) || started.is_again(&line) {
         return Ok(None);
     }
     Ok(Some(line))

@@ -1,13 +1,17 @@
 //! Prints the single items of lists in replies.
 
-ghost use Rattle.std.specs.Prelude.{◌≡◌, ◌++◌, ℕ, IfOk, decimal, string_bytes};
+ghost use Rattle.std.specs.Prelude.{◌≡◌, ◌++◌, IfOk, decimal, string_bytes};
 ghost use Rattle.fleet_model.specs.Jobs as jobs;
 ghost use Rattle.fleet_rows.specs.Row.{content_of, row_of};
 ghost use Rattle.script_model.specs.Replies as replies;
 ghost use Rattle.script_model.specs.Words as words;
+ghost use Rattle.fleet_text.specs.Lines.{node_of};
 ghost use Rattle.fleet_text.specs.Places as places;
 
+use crate::node::NodeName;
+use crate::prints::Prints;
 use fleet_rows::{DRAWN_BASE, RowEntry, Ulid, ValueDeletable};
+use fleet_tree::SsTableHandle;
 use std::alloc::{AllocError, Global};
 
 /// Prints bytes in lower-case hexadecimal digits, or `-` for no bytes.
@@ -56,10 +60,71 @@ pub fn table_text(alloc: Global, table: Ulid) -> Result<String, AllocError>
         return lettered(alloc, "t", number - DRAWN_BASE);
     }
     // The id of a flush's table is the flush's name.
-    lettered(alloc, "l", table.moment_ms() as u128 * (1 << 80) + number)
+    lettered(alloc, "l", whole_id(table))
 }
 
-fn lettered(alloc: Global, letter: &str, number: u128) -> Result<String, AllocError>
+/// The id as one number.
+pub fn whole_id(id: Ulid) -> u128
+    ensures { result ≡ id }
+{
+    id.moment_ms() as u128 * (1 << 80) + id.number()
+}
+
+/// Prints a table with a number of rows, as `<table>:<rows>`.
+pub fn counted_text(alloc: Global, table: Ulid, rows: u64) -> Result<String, AllocError>
+    ensures { IfOk result (λ text. string_bytes text ≡ replies.counted_text (table, rows)) }
+{
+    let mut text = table_text(alloc, table)?;
+    text.push_str(":")?;
+    text.push_str(rows.to_string(alloc)?.as_str())?;
+    Ok(text)
+}
+
+impl Prints for SsTableHandle {
+    ghost text = { λ table. replies.counted_text (table.id, table.rows) };
+
+    fn print(&self, alloc: Global) -> Result<String, AllocError> {
+        counted_text(alloc, self.id, self.rows)
+    }
+}
+
+impl Prints for NodeName {
+    ghost text = { λ node. words.node_text (node_of node) };
+
+    fn print(&self, alloc: Global) -> Result<String, AllocError> {
+        match self {
+            NodeName::L0(name) => lettered(alloc, "l", *name as u128),
+            NodeName::Run(id) => lettered(alloc, "r", *id as u128),
+        }
+    }
+}
+
+impl Prints for (Ulid, u8) {
+    ghost text = { replies.rule_text };
+
+    fn print(&self, alloc: Global) -> Result<String, AllocError> {
+        rule_text(alloc, self.0, self.1)
+    }
+}
+
+impl Prints for (u64, u8) {
+    ghost text = { places.place_text };
+
+    fn print(&self, alloc: Global) -> Result<String, AllocError> {
+        place_text(alloc, self.0, self.1)
+    }
+}
+
+impl Prints for RowEntry {
+    ghost text = { λ row. words.row_text (row_of row) };
+
+    fn print(&self, alloc: Global) -> Result<String, AllocError> {
+        row_text(alloc, self)
+    }
+}
+
+/// Prints a letter and a number.
+pub fn lettered(alloc: Global, letter: &str, number: u128) -> Result<String, AllocError>
     ensures { IfOk result (λ text. string_bytes text ≡ letter.now ++ decimal number) }
 {
     let mut text = String::from_str(alloc, letter)?;

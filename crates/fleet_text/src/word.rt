@@ -3,11 +3,11 @@
 ghost use Rattle.std.specs.Prelude.{◌≡◌, ◌≢◌, ◌++◌, ◌∷◌, [], MatchOption, All, ◌<◌, ◌≤◌, ◌^◌, ◌↔◌, IsTrue, IfOk, map, decimal};
 ghost use Rattle.std.specs.Fmt.{signed_decimal};
 ghost use Rattle.std.specs.List.{slice_split, list_all};
-ghost use Rattle.row_model.specs.Bounds.{AreBytes, IsKey, IsStamp};
+ghost use Rattle.row_model.specs.Bounds.{AreBytes, AreShortBytes, IsKey, IsStamp, IsStampOrNone};
 ghost use Rattle.script_model.specs.Bounds.{IsName};
-ghost use Rattle.script_model.specs.Words.{bytes_text};
+ghost use Rattle.script_model.specs.Words.{bytes_text, fault_text, flag_text, stamp_text};
 ghost use Rattle.script_laws.specs.ByteTests.{is_byte, is_lower_digit};
-ghost use Rattle.fleet_text.specs.Reading.{Reads, IsValue, IsRoot};
+ghost use Rattle.fleet_text.specs.Reading.{Reads, IsValue, IsBetween, IsAny};
 
 use bytes::Bytes;
 use std::alloc::{AllocError, Global};
@@ -95,15 +95,29 @@ pub fn bytes_of(alloc: Global, word: &[u8]) -> Result<Option<Bytes>, AllocError>
     Ok(Some(Bytes::from_vec(bytes)?))
 }
 
-/// Reads the prefix of the root segment, which is empty and spelt `-`.
-pub fn root_of(word: &[u8]) -> Option<Bytes>
-    ensures { Reads bytes_text IsRoot word.now result }
+/// Reads a stamp: a signed number, or `-` for none.
+pub fn stamp_of(word: &[u8]) -> Option<Option<i64>>
+    ensures { Reads stamp_text IsStampOrNone word.now result }
 {
     if is_word(word, "-") {
-        Some(Bytes::new())
-    } else {
-        None
+        return Some(None);
     }
+    let stamp = signed_of(word)?;
+    Some(Some(stamp))
+}
+
+/// Reads at most 65,535 bytes: the prefix of a segment, or an end of a range of keys. The error is
+/// out of memory.
+pub fn short_bytes_of(alloc: Global, word: &[u8]) -> Result<Option<Bytes>, AllocError>
+    ensures { IfOk result (Reads bytes_text AreShortBytes word.now) }
+{
+    let Some(bytes) = bytes_of(alloc, word)? else {
+        return Ok(None);
+    };
+    if bytes.len() > 65_535 {
+        return Ok(None);
+    }
+    Ok(Some(bytes))
 }
 
 /// Reads a key: 1 to 65,535 bytes. The error is out of memory.
@@ -145,11 +159,49 @@ pub fn name_of(word: &[u8]) -> Option<u64>
     Some(name)
 }
 
-/// Reads the number 1, the only coordinator or worker of such a script.
-pub fn one_of(word: &[u8]) -> Option<u64>
-    ensures { Reads decimal (λ n. n ≡ 1) word.now result }
+/// Reads a number from `least` to `greatest`.
+pub fn between(word: &[u8], least: u64, greatest: u64) -> Option<u64>
+    ensures { Reads decimal (IsBetween least greatest) word.now result }
 {
-    if is_word(word, "1") { Some(1) } else { None }
+    let number = number_of(word)?;
+    if number < least || number > greatest {
+        return None;
+    }
+    Some(number)
+}
+
+/// Reads a number from 1, below 2^32.
+pub fn count_of(word: &[u8]) -> Option<u32>
+    ensures { Reads decimal (λ n. (1 ≤ n) × (n < 2 ^ 32)) word.now result }
+{
+    let count = run_of(word)?;
+    if count == 0 { None } else { Some(count) }
+}
+
+/// Reads a flag: `1` if it holds, and `0` otherwise.
+pub fn flag_of(word: &[u8]) -> Option<bool>
+    ensures { Reads flag_text IsAny word.now result }
+{
+    if is_word(word, "1") {
+        return Some(true);
+    }
+    if is_word(word, "0") {
+        return Some(false);
+    }
+    None
+}
+
+/// Reads whether a struck put takes effect: `stands`, or `lost`.
+pub fn stands_of(word: &[u8]) -> Option<bool>
+    ensures { Reads fault_text IsAny word.now result }
+{
+    if is_word(word, "stands") {
+        return Some(true);
+    }
+    if is_word(word, "lost") {
+        return Some(false);
+    }
+    None
 }
 
 /// Reads the id of a sorted run: a number below 2^32.

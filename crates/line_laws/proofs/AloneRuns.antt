@@ -36,7 +36,7 @@ alone_grows {A} line party (Calls x next) fault store = by (strikes (event_of x 
 
 -- ---- runs
 
--- No calls of others lead from what is world to what is world.
+-- No calls of others lead from one world to the next.
 pub no_rivals : (who : Caller) (world : World) → Rivals who world world
 no_rivals who world = record { calls = []; lead = refl; none = λ alone. refl }
 

@@ -20,8 +20,9 @@ use Rattle.step_model.specs.Past.{World}
 use Rattle.step_model.specs.Rivals.{Caller, after_call}
 use Rattle.step_model.specs.Keeps.{Keeps}
 use Rattle.step_model.specs.Course.{Course, Ends, Calls, calls_each}
+use Rattle.step_model.specs.Tries.{tries}
 use Rattle.step_model.specs.StepEnds.{StepEnd, Reports, most_refused}
-use Rattle.step_model.specs.ClaimSteps.{WorkerOptions, Claimed, at_moment, can_start, plan_of, starts_claimed, claim_of, claim_by, claims_from, claim}
+use Rattle.step_model.specs.ClaimSteps.{WorkerOptions, Claimed, at_moment, can_start, plan_of, starts_claimed, claim_of, claim_by, claim_try, claim}
 use Rattle.step_laws.specs.Runs.{CallsKeep}
 use Rattle.step_laws.proofs.Elements.{all_at, all_to, all_true_from}
 use Rattle.step_laws.proofs.PollJobs.{stretch_named}
@@ -186,12 +187,12 @@ took_by who options moment w again old world new report keep alone kept same_man
         let these = claimed_jobs options.slots w got.jobs in
         took_these options moment w old.store got.jobs these new.store report refl (at got e these refl going)
 
-took : (who : Caller) (options : WorkerOptions) (moment : ℕ) (w : LiveWorker) (left seen : ℕ) (world new : World) (report : Claimed) → CallsKeep who.merge → who.alone ≡ true → Going who (claims_from options moment w left seen) world new (Reports report)
+took : (who : Caller) (options : WorkerOptions) (moment : ℕ) (w : LiveWorker) (left seen : ℕ) (world new : World) (report : Claimed) → CallsKeep who.merge → who.alone ≡ true → Going who (tries (claim_try options moment w) left seen) world new (Reports report)
     → Took options moment w world.store (stored_jobs world.store) new.store report
 took who options moment w zero seen world new report keep alone going = absurd (cc (going.run.1))
 took who options moment w (suc left) seen world new report keep alone going =
-    took_by who options moment w (claims_from options moment w left) world (after_call who.line who.party (Plain GetRecords) None world) new report keep alone going.kept refl refl refl
-    (alone_next who (Plain GetRecords) (λ met. claim_by options moment w met.records (claims_from options moment w left)) world new (Reports report) keep alone going).going
+    took_by who options moment w (tries (claim_try options moment w) left) world (after_call who.line who.party (Plain GetRecords) None world) new report keep alone going.kept refl refl refl
+    (alone_next who (Plain GetRecords) (λ met. claim_by options moment w met.records (tries (claim_try options moment w) left)) world new (Reports report) keep alone going).going
 
 pub claim_took : (who : Caller) (options : WorkerOptions) (moment : ℕ) (w : LiveWorker) (world new : World) (report : Claimed) → CallsKeep who.merge → who.alone ≡ true → Going who (claim options moment w) world new (Reports report)
     → Took options moment w world.store (stored_jobs world.store) new.store report

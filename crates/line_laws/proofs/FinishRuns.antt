@@ -10,18 +10,18 @@ use Rattle.fleet_model.specs.Jobs.{changed_jobs, trimmed_jobs}
 use Rattle.fleet_model.specs.History.{Event, GetRecords, Finish, Release}
 use Rattle.fleet_model.specs.Attempts.{rows_left, finish_cut}
 use Rattle.fleet_model.specs.Store.{Records, Store, stored_jobs, jobs_in}
-use Rattle.fleet_model.specs.Records.{Unrecorded, no_contexts, jobs_after}
+use Rattle.fleet_model.specs.Records.{finished_by, Unrecorded, no_contexts, jobs_after}
 use Rattle.fleet_model.specs.Parties.{Attempt, LiveWorker, named_attempts, without_attempts, is_live}
 use Rattle.fleet_model.specs.Exchanges.{Plain, DrawsTable, PutsTable, PutsRecords, records_version, next_table_id, after_exchange}
 use Rattle.step_model.specs.Past.{World}
 use Rattle.step_model.specs.Rivals.{Caller, after_call}
 use Rattle.step_model.specs.Course.{Course, Ends, Calls, calls_each, puts_tables, puts_ranges}
+use Rattle.step_model.specs.Tries.{tries}
 use Rattle.step_model.specs.StepEnds.{StepEnd, Reports, OperatorRefuses, most_refused}
 use Rattle.step_model.specs.ClaimSteps.{WorkerOptions, at_moment}
-use Rattle.step_model.specs.BeatSteps.{release_live, release_by, releases_from}
-use Rattle.step_model.specs.OutputSteps.{gets_tables, FinishedJob, all_outputs, ends_job, ends_job_by, ends_from, end_job, finish_or_give_back, finish}
+use Rattle.step_model.specs.BeatSteps.{release_live, release_by, release_try}
+use Rattle.step_model.specs.OutputSteps.{unrecorded_of_finish, gets_tables, FinishedJob, all_outputs, ends_job, ends_job_by, end_try, end_job, finish_or_give_back, finish}
 use Rattle.step_laws.specs.Runs.{CallsKeep}
-use Rattle.line_laws.specs.FinishLines.{ended_job}
 use Rattle.line_laws.proofs.PollRuns.{Going, alone_next, RecordsPut, records_put}
 
 -- ---- gets and puts of tables
@@ -71,7 +71,7 @@ ranges_made who moment (tables ∷ ranges) next world new answer keep alone goin
 -- ---- a finish that the operator refuses
 
 back_no_report : (who : Caller) (w : LiveWorker) (a : Attempt) (message : List ℕ) (left seen : ℕ) (world new : World) (report : FinishedJob) → CallsKeep who.merge → who.alone ≡ true
-    → Going who (releases_from w (a ∷ []) (λ released. Ends (OperatorRefuses message)) left seen) world new (Reports report) → ⊥
+    → Going who (tries (release_try w (a ∷ []) (λ released. Ends (OperatorRefuses message))) left seen) world new (Reports report) → ⊥
 back_no_report who w a message zero seen world new report keep alone going = absurd (cc (going.run.1))
 back_no_report who w a message (suc left) seen world new report keep alone going =
     by (λ seen afterwards going. back_no_report who w a message left seen afterwards new report keep alone going) world.store.records (alone_next who (Plain GetRecords) (λ met. release_by w (a ∷ []) met.records refuses again) world new (Reports report) keep alone going).going
@@ -80,7 +80,7 @@ back_no_report who w a message (suc left) seen world new report keep alone going
     refuses released = Ends (OperatorRefuses message)
 
     again : ℕ → Course (StepEnd FinishedJob)
-    again = releases_from w (a ∷ []) refuses left
+    again = tries (release_try w (a ∷ []) refuses) left
 
     got_now : World
     got_now = after_call who.line who.party (Plain GetRecords) None world
@@ -111,17 +111,17 @@ pub record Ended (moment : ℕ) (w : LiveWorker) (a : Attempt) (outputs : List (
   pub outputs_are : report.outputs ≡ outputs
   pub attempts : report.attempts ≡ without_attempts (a.job ∷ []) w.attempts
   pub live : is_live (stored_jobs old) w.number a ≡ true
-  pub jobs : stored_jobs new ≡ trimmed_jobs (changed_jobs (ended_job moment w a outputs) (a.job ∷ []) (stored_jobs old))
+  pub jobs : stored_jobs new ≡ trimmed_jobs (changed_jobs (finished_by w.number (unrecorded_of_finish moment w a) outputs) (a.job ∷ []) (stored_jobs old))
   pub manifest : new.manifest ≡ old.manifest
 
 ends_do : (who : Caller) (moment : ℕ) (w : LiveWorker) (a : Attempt) (outputs : List (List ℕ)) (left seen : ℕ) (world new : World) (report : FinishedJob) → CallsKeep who.merge → who.alone ≡ true
-    → Going who (ends_from moment w a outputs left seen) world new (Reports report) → Ended moment w a outputs world.store new.store report
+    → Going who (tries (end_try moment w a outputs) left seen) world new (Reports report) → Ended moment w a outputs world.store new.store report
 ends_do who moment w a outputs zero seen world new report keep alone going = absurd (cc (going.run.1))
 ends_do who moment w a outputs (suc left) seen world new report keep alone going =
     by world.store.records refl (alone_next who (Plain GetRecords) (λ met. ends_job_by moment w a outputs met.records again) world new (Reports report) keep alone going).going
   where
     again : ℕ → Course (StepEnd FinishedJob)
-    again = ends_from moment w a outputs left
+    again = tries (end_try moment w a outputs) left
 
     got_now : World
     got_now = after_call who.line who.party (Plain GetRecords) None world
@@ -147,7 +147,7 @@ ends_do who moment w a outputs (suc left) seen world new report keep alone going
           outputs_are = ap (λ (r : FinishedJob). r.outputs) (sym is);
           attempts = ap (λ (r : FinishedJob). r.attempts) (sym is);
           live = ap (λ (o : Option Records). is_live (jobs_in o) w.number a) e ∙ live;
-          jobs = ap (λ (t : World). stored_jobs t.store) (sym last) ∙ ap jobs_in stored.records ∙ ap (λ (o : Option Records). trimmed_jobs (changed_jobs (ended_job moment w a outputs) (a.job ∷ []) (jobs_in o))) (sym e);
+          jobs = ap (λ (t : World). stored_jobs t.store) (sym last) ∙ ap jobs_in stored.records ∙ ap (λ (o : Option Records). trimmed_jobs (changed_jobs (finished_by w.number (unrecorded_of_finish moment w a) outputs) (a.job ∷ []) (jobs_in o))) (sym e);
           manifest = ap (λ (t : World). t.store.manifest) (sym last) ∙ stored.manifest;
         }
 
@@ -165,7 +165,7 @@ ended_before moment w a outputs old mid new report manifest records end = record
   outputs_are = end.outputs_are;
   attempts = end.attempts;
   live = ap (λ (o : Option Records). is_live (jobs_in o) w.number a) (sym records) ∙ end.live;
-  jobs = end.jobs ∙ ap (λ (o : Option Records). trimmed_jobs (changed_jobs (ended_job moment w a outputs) (a.job ∷ []) (jobs_in o))) records;
+  jobs = end.jobs ∙ ap (λ (o : Option Records). trimmed_jobs (changed_jobs (finished_by w.number (unrecorded_of_finish moment w a) outputs) (a.job ∷ []) (jobs_in o))) records;
   manifest = end.manifest ∙ manifest;
 }
 

@@ -22,9 +22,12 @@ use Rattle.rival_laws.specs.FitLaws.{SparesTables}
 use Rattle.script_model.specs.States.{State}
 use Rattle.script_model.specs.LineRuns.{LineEnd, LineCourse, run_line, end_or_fault, after_line}
 use Rattle.line_laws.specs.Alone.{end_of, HadRoom, IsRun}
-use Rattle.line_laws.specs.States.{FleetKeeps, StateKeeps}
+use Rattle.line_laws.specs.States.{FinishedAreStored, FleetKeeps, StateKeeps}
 use Rattle.line_laws.proofs.AloneRuns.{alone_runs}
 use Rattle.line_laws.proofs.Courses.{AllCalls, all_calls, runs_hold}
+use Rattle.line_laws.specs.Undrained.{FlushesCount}
+use Rattle.line_laws.proofs.FinishedJobs.{finished_holds}
+use Rattle.line_laws.proofs.Undrained.{flushes_hold}
 use Rattle.line_laws.proofs.Parties.{others}
 use Rattle.line_laws.proofs.Others.{worker_holds, spared_worker_holds, coordinator_holds}
 
@@ -41,6 +44,8 @@ IsOther party w = party ≢ Worker w.number
 -- What the run of a lawful course leaves to the parties that were live.
 pub record Left (who : Caller) (parties : Parties) (new : World) : Type 0 where
   pub store : Keeps who.merge new
+  pub finished : FinishedAreStored new.store
+  pub flushes : FlushesCount new
   pub workers : (w : LiveWorker) → IsIn w parties.workers → IsOther who.party w → WorkerHolds who.merge new w
   pub coordinators : (c : LiveCoordinator) → IsIn c parties.coordinators → CoordinatorHolds new c None
 
@@ -55,6 +60,8 @@ leaves {A} who course parties old new end merge_lawful alone fleet lawful spares
     let keep = calls_keep who.merge merge_lawful in
     record {
       store = runs_keep who course keep old new end fleet.store lawful run;
+      finished = runs_hold who (λ x. ⊤) (λ world. FinishedAreStored world.store) course alone keep (finished_holds who) (all_calls (λ x. ⊤) (λ x. tt) course) old new end fleet.store lawful run fleet.finished;
+      flushes = runs_hold who (λ x. ⊤) FlushesCount course alone keep (flushes_hold who merge_lawful keep) (all_calls (λ x. ⊤) (λ x. tt) course) old new end fleet.store lawful run fleet.flushes;
       workers = λ w there other. worker w there other who.party refl spares;
       coordinators = λ c there. runs_hold who (λ x. ⊤) (λ world. CoordinatorHolds world c None) course alone keep (coordinator_holds who c) (all_calls (λ x. ⊤) (λ x. tt) course) old new end fleet.store lawful run
           (all_at (λ c. CoordinatorHolds old c None) parties.coordinators c fleet.coordinators there);
@@ -77,7 +84,7 @@ leaves {A} who course parties old new end merge_lawful alone fleet lawful spares
 
 -- ---- the state after a line
 
--- What is world of the store of a state that keeps the invariant.
+-- The world of a state that keeps the invariant.
 abbrev pub world_of : (merge : Operator) (s : State) → StateKeeps merge s → World
 world_of merge s k = record { store = s.store; past = k.past }
 
@@ -113,6 +120,8 @@ all_stay merge number party old new parties other fleet left none = record {
   workers_differ = fleet.workers_differ;
   coordinators_differ = fleet.coordinators_differ;
   none_pending = none;
+  finished = left.finished;
+  flushes = left.flushes;
 }
 
 -- The caller was a worker that is no longer live.
@@ -124,6 +133,8 @@ worker_gone merge number n old new parties fleet left none = record {
   workers_differ = pairs_filter _ (λ (w : LiveWorker). not (n == w.number)) parties.workers fleet.workers_differ;
   coordinators_differ = fleet.coordinators_differ;
   none_pending = none;
+  finished = left.finished;
+  flushes = left.flushes;
 }
   where
     number_of_worker : (n m : ℕ) → Worker n ≡ Worker m → n ≡ m
@@ -141,6 +152,8 @@ worker_stays merge number old new parties w fleet left none holds =
       workers_differ = (all_to _ _ (without_worker w.number parties).workers (λ v there h. h.1) (others (λ (v : LiveWorker). v.number) w.number parties.workers), gone.workers_differ);
       coordinators_differ = gone.coordinators_differ;
       none_pending = none;
+      finished = left.finished;
+      flushes = left.flushes;
     }
 
 -- The caller was a coordinator that is no longer live.
@@ -153,6 +166,8 @@ coordinator_gone merge number n old new parties fleet left none = record {
   workers_differ = fleet.workers_differ;
   coordinators_differ = pairs_filter _ (λ (c : LiveCoordinator). not (n == c.number)) parties.coordinators fleet.coordinators_differ;
   none_pending = none;
+  finished = left.finished;
+  flushes = left.flushes;
 }
 
 -- The caller is a coordinator that is live and fits.
@@ -167,4 +182,6 @@ coordinator_comes merge number old new parties c fleet left none holds =
       workers_differ = gone.workers_differ;
       coordinators_differ = (all_to _ _ (without_coordinator c.number parties).coordinators (λ d there h. h.1) (others (λ (d : LiveCoordinator). d.number) c.number parties.coordinators), gone.coordinators_differ);
       none_pending = none;
+      finished = left.finished;
+      flushes = left.flushes;
     }

@@ -1,26 +1,25 @@
 -- What a poll does that is not refused.
 use Rattle.std.proofs.Common.{◌≡◌, refl, sym, ◌∙◌, ap, subst, ℕ, List, [], ◌∷◌, ◌++◌, Bool, true, false, Option, Some, None, append_assoc}
-use Rattle.std.specs.Prelude.{◌==◌, map}
+use Rattle.std.specs.Prelude.{◌==◌, map, IsTrue}
 use Rattle.std.specs.List.{AllByRecursion}
 use Rattle.std.proofs.lemmas.Bool.Decides.{Decides-eqb}
 use Rattle.row_model.specs.Fold.{Operator, IsLawful}
-use Rattle.fleet_model.specs.Nodes.{Trees}
+use Rattle.fleet_model.specs.Nodes.{tree_at}
 use Rattle.fleet_model.specs.Jobs.{JobSpec}
 use Rattle.fleet_model.specs.History.{Party, Coordinator, Step, Join}
 use Rattle.fleet_model.specs.Store.{Manifest, Store}
 use Rattle.fleet_model.specs.Parties.{LiveCoordinator, coordinator_with, without_coordinator}
-use Rattle.fleet_model.specs.Replay.{outputs_in}
-use Rattle.fleet_model.specs.Trees.{stepped_in, stepped_all, job_of}
+use Rattle.fleet_model.specs.Trees.{job_of}
 use Rattle.fleet_model.specs.PollStates.{PollState}
-use Rattle.step_model.specs.Past.{World}
 use Rattle.step_model.specs.Rivals.{Caller}
 use Rattle.step_model.specs.Fits.{CoordinatorHolds}
-use Rattle.step_model.specs.LawfulManifests.{IsKnownTo, StepFits, StepsFit, joined_after}
+use Rattle.step_model.specs.LawfulManifests.{IsKnownTo, StepsFit}
 use Rattle.step_model.specs.CourseRuns.{IsLawfulCourse}
 use Rattle.step_model.specs.PollSteps.{poll}
 use Rattle.step_laws.proofs.Elements.{all_at, all_front}
-use Rattle.commit_laws.specs.After.{joined_by}
 use Rattle.commit_laws.proofs.AllCalls.{calls_keep}
+use Rattle.step_model.specs.Entries.{did_put_epoch}
+use Rattle.coordinator_laws.proofs.Quiet.{HasEpoch}
 use Rattle.coordinator_laws.proofs.Course.{polls_are_lawful}
 use Rattle.commit_laws.proofs.StepForms.{joins_replace}
 use Rattle.script_model.specs.Script.{Poll, CommitOnly}
@@ -33,8 +32,11 @@ use Rattle.script_model.specs.PollLines.{poll_ask, polls}
 use Rattle.script_model.specs.Settles.{is_ok}
 use Rattle.line_laws.specs.Alone.{HadRoom}
 use Rattle.line_laws.specs.States.{StateKeeps}
-use Rattle.line_laws.specs.PollRuns.{CommitPut}
+use Rattle.line_laws.specs.PollRuns.{drawn_at, CommitPut}
 use Rattle.line_laws.specs.PollLines.{spell_poll, PollSays, CommitsRight, PollRan, PollsCommit}
+use Rattle.line_laws.specs.Undrained.{flushes_in}
+use Rattle.line_laws.proofs.CommitSteps.{fits_at}
+use Rattle.line_laws.proofs.Drains.{commit_flushes}
 use Rattle.line_laws.proofs.Parties.{found}
 use Rattle.line_laws.proofs.Lines.{caller_of, world_of}
 use Rattle.line_laws.proofs.Reports.{StepReported, step_reported}
@@ -43,30 +45,17 @@ use Rattle.line_laws.proofs.PollSays.{poll_says}
 
 -- ---- the steps of a commit
 
--- The steps of a commit that come first fit, and so does the one after them.
-record FitsAt (world : World) (specs : ℕ → JobSpec) (trees : Trees) (joined : List ℕ) (first : List Step) (step : Step) (at : Trees) : Type 0 where
-  pub front : StepsFit world specs trees joined first
-  pub here : StepFits world at (joined_by first joined) (specs (job_of step)) step
-
--- The trees after the first steps, from any trees on.
-abbrev after_from : World → (ℕ → JobSpec) → List Step → Trees → Trees
-after_from world specs first trees = stepped_all world.store.tables (λ id. (specs id, outputs_in world.store.records id)) first trees
-
-fits_at : (world : World) (specs : ℕ → JobSpec) (trees : Trees) (joined : List ℕ) (first rest : List Step) (step : Step) → StepsFit world specs trees joined (first ++ step ∷ rest) → FitsAt world specs trees joined first step (after_from world specs first trees)
-fits_at world specs trees joined [] rest step fits = record { front = tt; here = fits.0 }
-fits_at world specs trees joined (s ∷ first) rest step fits =
-    let r = fits_at world specs (stepped_in world.store.tables s (specs (job_of s)) (outputs_in world.store.records (job_of s)) trees) (joined_after s joined) first rest step fits.1 in
-    record { front = (fits.0, r.front); here = r.here }
-
 map_append : (first rest : List ℕ) → map Join (first ++ rest) ≡ map Join first ++ map Join rest
 map_append [] rest = refl
 map_append (x ∷ first) rest = ap (λ (steps : List Step). Join x ∷ steps) (map_append first rest)
 
 -- Each join of a commit does what a join is to do.
-commits_right : (merge : Operator) (party : Party) (old : Store) (p : PollState) (others : List Step) → IsLawful merge → p.steps ≡ map Join p.done ++ others → CommitPut merge party old p → CommitsRight merge party old p
-commits_right merge party old p others lawful steps put = record {
+commits_right : (merge : Operator) (line : ℕ) (party : Party) (old : Store) (drawn : List (ℕ × JobSpec)) (p : PollState) (others : List Step) → IsLawful merge → p.steps ≡ map Join p.done ++ others → CommitPut merge line party old drawn p
+    → CommitsRight merge line party old drawn p
+commits_right merge line party old drawn p others lawful steps put = record {
   put = put;
   trees = ap (λ (m : Manifest). m.trees) put.fits.makes;
+  flushes = λ prefix. ap (λ (m : Manifest). flushes_in (tree_at prefix m.trees)) put.fits.makes ∙ commit_flushes merge put.at party put.fits.specs p.steps lawful put.kept put.fits.known put.fits.each prefix;
   joins = λ first id rest parts.
       let all : p.steps ≡ map Join first ++ Join id ∷ (map Join rest ++ others) = steps ∙ ap (λ (done : List ℕ). map Join done ++ others) (sym parts) ∙ ap (λ (s : List Step). s ++ others) (map_append first (id ∷ rest)) ∙ append_assoc (map Join first) (map Join (id ∷ rest)) others in
       let known = all_front (λ (step : Step). IsKnownTo party put.at put.fits.specs (job_of step)) (map Join first) (Join id ∷ (map Join rest ++ others)) (subst (AllByRecursion (λ (step : Step). IsKnownTo party put.at put.fits.specs (job_of step))) all put.fits.known) in
@@ -82,12 +71,12 @@ commits_right merge party old p others lawful steps put = record {
 -- ---- the line
 
 -- The line's poll reported this, from the store of the old state to that of the new one.
-record Reported (inputs : Inputs) (number : ℕ) (commits_only : Bool) (spell : PollState → List ℕ) (n : ℕ) (old : State) (k : StateKeeps inputs.merge old) (answer : List ℕ) (new : State) : Type 0 where
+pub record Reported (inputs : Inputs) (number : ℕ) (commits_only : Bool) (spell : PollState → List ℕ) (n : ℕ) (old : State) (k : StateKeeps inputs.merge old) (answer : List ℕ) (new : State) : Type 0 where
   pub coordinator : LiveCoordinator
   pub live : coordinator_with n old.parties ≡ Some coordinator
   pub step : StepReported (caller_of inputs.merge number (Coordinator n)) (poll (poll_ask inputs old coordinator commits_only)) spell (λ reached. old.parties) (world_of inputs.merge old k) answer new
 
-reported : (inputs : Inputs) (number : ℕ) (commits_only : Bool) (spell : PollState → List ℕ) (n : ℕ) (old : State) (k : StateKeeps inputs.merge old) (answer : List ℕ) (new : State)
+pub reported : (inputs : Inputs) (number : ℕ) (commits_only : Bool) (spell : PollState → List ℕ) (n : ℕ) (old : State) (k : StateKeeps inputs.merge old) (answer : List ℕ) (new : State)
     → run_line number old (polls commits_only spell inputs n old) ≡ (answer, new) → HadRoom new.store → is_ok answer ≡ true → Reported inputs number commits_only spell n old k answer new
 reported inputs number commits_only spell n old k answer new is room ok = by (coordinator_with n old.parties) refl is
   where
@@ -105,39 +94,35 @@ reported inputs number commits_only spell n old k answer new is room ok = by (co
 -- ---- the law
 
 ran : (inputs : Inputs) (number : ℕ) (commits_only : Bool) (n : ℕ) (old : State) (k : StateKeeps inputs.merge old) (answer : List ℕ) (new : State) → IsLawful inputs.merge
-    → Reported inputs number commits_only (spell_poll commits_only) n old k answer new → PollRan inputs commits_only n old answer new
+    → Reported inputs number commits_only (spell_poll commits_only) n old k answer new → PollRan inputs number commits_only n old answer new
 ran inputs number commits_only n old k answer new lawful r =
     let who : Caller = caller_of inputs.merge number (Coordinator n) in
     let world = world_of inputs.merge old k in
     let ask = poll_ask inputs old r.coordinator commits_only in
     let f = found (λ (c : LiveCoordinator). n == c.number) old.parties.coordinators r.coordinator r.live in
-    let is : IsLawfulCourse who world (poll ask) = polls_are_lawful who world r.coordinator.number ask None lawful (ap Coordinator ((Decides-eqb n r.coordinator.number).0 f.passes)) k.fleet.store
-    (all_at (λ (c : LiveCoordinator). CoordinatorHolds world c None) old.parties.coordinators r.coordinator k.fleet.coordinators f.there) in
-    let d = poll_did who ask world r.step.left r.step.report (calls_keep inputs.merge lawful) refl (record { kept = k.fleet.store; lawful = is; run = r.step.run }) in
-    let says = subst (PollSays ask old.store d.did.drawn) (sym d.did.is) (poll_says ask old.store d.did.drawn k.fleet.store.stored.sound.job_ids) in
+    let same : Coordinator n ≡ Coordinator r.coordinator.number = ap Coordinator ((Decides-eqb n r.coordinator.number).0 f.passes) in
+    let holds = all_at (λ (c : LiveCoordinator). CoordinatorHolds world c None) old.parties.coordinators r.coordinator k.fleet.coordinators f.there in
+    let is : IsLawfulCourse who world (poll ask) = polls_are_lawful who world r.coordinator.number ask None lawful same k.fleet.store holds in
+    let own : HasEpoch (Coordinator n) ask.epoch world = record { put = subst (λ party. IsTrue (did_put_epoch party old.store.history ask.epoch)) (sym same) holds.put; recorded = holds.recorded } in
+    let d = poll_did who ask world r.step.left r.step.report (calls_keep inputs.merge lawful) refl lawful holds.counted own (record { kept = k.fleet.store; lawful = is; run = r.step.run }) in
+    let drawn = drawn_at ask old.store in
+    let says = subst (PollSays ask old.store drawn) (sym d.did.is) (poll_says ask old.store drawn k.fleet.store.stored.sound.job_ids) in
     record {
       coordinator = r.coordinator;
       live = r.live;
       p = r.step.report;
       printed = r.step.printed;
-      did = record {
-        drawn = d.did.drawn;
-        each = d.did.each;
-        is = d.did.is;
-        manifest = ap (λ (store : Store). store.manifest) (sym r.step.stored) ∙ d.did.manifest;
-        records = ap (λ (store : Store). store.records) (sym r.step.stored) ∙ d.did.records;
-        tables = ap (λ (store : Store). store.tables) (sym r.step.stored) ∙ d.did.tables;
-      };
+      did = record { is = d.did.is; left = sym r.step.stored ∙ d.did.left };
       says = says;
       jobs = d.jobs;
-      right = λ changed. commits_right inputs.merge (Coordinator n) old.store r.step.report says.others lawful says.steps (d.put changed);
+      right = commits_right inputs.merge number (Coordinator n) old.store drawn r.step.report says.others lawful says.steps d.put;
     }
 
-whole_is : (inputs : Inputs) (number : ℕ) (old new : State) (n : ℕ) (answer : List ℕ) → OneCourse inputs number old (Poll n) answer new → run_line number old (polls false poll_reply inputs n old) ≡ (answer, new)
+pub whole_is : (inputs : Inputs) (number : ℕ) (old new : State) (n : ℕ) (answer : List ℕ) → OneCourse inputs number old (Poll n) answer new → run_line number old (polls false poll_reply inputs n old) ≡ (answer, new)
 unfolding course_of
 whole_is inputs number old new n answer one = ap (run_line number old) (sym one.does.is) ∙ one.ends
 
-only_is : (inputs : Inputs) (number : ℕ) (old new : State) (n : ℕ) (answer : List ℕ) → OneCourse inputs number old (CommitOnly n) answer new → run_line number old (polls true commit_reply inputs n old) ≡ (answer, new)
+pub only_is : (inputs : Inputs) (number : ℕ) (old new : State) (n : ℕ) (answer : List ℕ) → OneCourse inputs number old (CommitOnly n) answer new → run_line number old (polls true commit_reply inputs n old) ≡ (answer, new)
 unfolding course_of
 only_is inputs number old new n answer one = ap (run_line number old) (sym one.does.is) ∙ one.ends
 

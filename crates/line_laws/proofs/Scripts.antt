@@ -1,12 +1,15 @@
 -- Scripts keep the invariant: each line does, the rounds of settle lines do, and so do all lines.
-use Rattle.std.proofs.Common.{◌≡◌, refl, sym, ◌∙◌, ap, subst, ℕ, zero, suc, ◌+◌, ◌≤◌, List, [], ◌∷◌, ◌++◌, Bool, true, false, Option, Some, None, length, arith}
-use Rattle.std.specs.Prelude.{⊤}
+use Rattle.std.proofs.Common.{◌≡◌, refl, sym, ◌∙◌, ap, subst, ℕ, zero, suc, ◌+◌, ◌≤◌, List, [], ◌∷◌, ◌++◌, Bool, true, false, cond, Option, Some, None, length, arith}
+use Rattle.std.specs.Prelude.{⊤, bytes_eq}
+use Rattle.fleet_model.specs.Nodes.{tree_at, tree_or_empty}
+use Rattle.fleet_model.specs.Trees.{empty_segment}
+use Rattle.line_laws.specs.Undrained.{flushes_in}
 use Rattle.std.specs.List.{AllByRecursion}
 use Rattle.row_model.specs.Fold.{Operator, IsLawful}
 use Rattle.step_model.specs.Past.{fresh_world}
 use Rattle.step_laws.proofs.Elements.{all_front, all_back}
 use Rattle.step_laws.proofs.Fresh.{fresh_keeps}
-use Rattle.script_model.specs.Script.{Line, Options, Clock, StartCoordinator, StartWorker, KillCoordinator, KillWorker, StopCoordinator, StopWorker, FlushRows, ReadKey, SubmitJob, SubmitDrain, SubmitFull, Poll, CommitOnly, ClaimJobs, Heartbeat, Output, FinishJob, SetFault, ShowTrees, ShowJobs, ShowTables, Dump, Sweep, Scan, Settle, IsInBounds}
+use Rattle.script_model.specs.Script.{Line, Options, Clock, StartCoordinator, StartWorker, KillCoordinator, KillWorker, StopCoordinator, StopWorker, FlushRows, ReadKey, SubmitJob, SubmitDrain, SubmitFull, Poll, CommitOnly, ClaimJobs, Heartbeat, Output, FinishJob, SetFault, ShowTrees, ShowJobs, ShowTables, Dump, Sweep, Scan, Settle, Together, IsInBounds}
 use Rattle.script_model.specs.Replies.{poll_reply, commit_reply}
 use Rattle.script_model.specs.States.{Inputs, State, FleetOptions, fresh_state}
 use Rattle.script_model.specs.LineRuns.{run_line}
@@ -72,6 +75,7 @@ course_keeps inputs number (ShowTables segment node) refusal s lawful well may k
 course_keeps inputs number (Dump segment node) refusal s lawful well may k room = record { past = k.past; fleet = k.fleet }
 course_keeps inputs number (Scan segment from to seq now limit) refusal s lawful well may k room = record { past = k.past; fleet = k.fleet }
 course_keeps inputs number (Settle coordinator worker rounds) refusal s lawful well may k room = record { past = k.past; fleet = k.fleet }
+course_keeps inputs number (Together workers turns) refusal s lawful well may k room = record { past = k.past; fleet = k.fleet }
 
 -- ---- what leads to what
 
@@ -203,6 +207,7 @@ settle_leads inputs number coordinator worker old answer new lawful s = (steps_l
 
 pub line_leads : (inputs : Inputs) (number : ℕ) (old : State) (line : Line) (answer : List ℕ) (new : State) → IsLawful inputs.merge → IsInBounds line → LineStep inputs number old line answer new → Leads inputs.merge old new
 line_leads inputs number old (Settle coordinator worker rounds) answer new lawful is step = settle_leads inputs number coordinator worker old answer new lawful (settle_steps (are_live coordinator worker old) inputs number old coordinator worker rounds answer new step)
+line_leads inputs number old (Together workers turns) answer new lawful is step = absurd step
 line_leads inputs number old line answer new lawful is step = course_leads inputs number old line answer new lawful (asked_well line is) step
 
 pub run_leads : (inputs : Inputs) (number : ℕ) (old : State) (lines : List Line) (answers : List (List ℕ)) (new : State) → IsLawful inputs.merge → AllByRecursion IsInBounds lines → ScriptRun inputs number old lines answers new → Leads inputs.merge old new
@@ -212,10 +217,18 @@ run_leads inputs number old (line ∷ lines) (answer ∷ answers) new lawful is 
 run_leads inputs number old [] (answer ∷ answers) new lawful is run = absurd run
 run_leads inputs number old (line ∷ lines) [] new lawful is run = absurd run
 
+-- A fresh store has no flush.
+fresh_flushes : (prefix : List ℕ) → flushes_in (tree_at prefix fresh_world.store.manifest.trees) ≡ []
+fresh_flushes prefix = by (bytes_eq prefix [])
+  where
+    by : (b : Bool) → flushes_in (tree_or_empty (cond b (Some (empty_segment [])) None)) ≡ []
+    by true = refl
+    by false = refl
+
 fresh_state_keeps : (merge : Operator) (options : FleetOptions) → StateKeeps merge (fresh_state options)
 fresh_state_keeps merge options = record {
   past = fresh_world.past;
-  fleet = record { store = fresh_keeps merge; workers = tt; coordinators = tt; workers_differ = tt; coordinators_differ = tt; none_pending = λ table. refl };
+  fleet = record { store = fresh_keeps merge; workers = tt; coordinators = tt; workers_differ = tt; coordinators_differ = tt; none_pending = λ table. refl; finished = λ id. refl; flushes = λ specs faithful prefix. fresh_flushes prefix };
 }
 
 pub scripts_keep : ScriptsKeep
@@ -224,23 +237,25 @@ scripts_keep inputs lines last run = (run_leads inputs 1 (fresh_state run.option
 -- ---- the first lines
 
 -- A run of lines, cut in two.
-record CutRun (inputs : Inputs) (number : ℕ) (old : State) (first others : List Line) (last : State) : Type 0 where
+record CutRun (inputs : Inputs) (number : ℕ) (old : State) (first others : List Line) (answers : List (List ℕ)) (last : State) : Type 0 where
   mid : State
   front : List (List ℕ)
   back : List (List ℕ)
+  both : answers ≡ front ++ back
   before : ScriptRun inputs number old first front mid
   rest : ScriptRun inputs (length first + number) mid others back last
 
-cut_run : (inputs : Inputs) (number : ℕ) (old : State) (first others : List Line) (answers : List (List ℕ)) (last : State) → ScriptRun inputs number old (first ++ others) answers last → CutRun inputs number old first others last
-cut_run inputs number old [] others answers last run = record { mid = old; front = []; back = answers; before = refl; rest = subst (λ (n : ℕ). ScriptRun inputs n old others answers last) (omega arith) run }
+cut_run : (inputs : Inputs) (number : ℕ) (old : State) (first others : List Line) (answers : List (List ℕ)) (last : State) → ScriptRun inputs number old (first ++ others) answers last → CutRun inputs number old first others answers last
+cut_run inputs number old [] others answers last run = record { mid = old; front = []; back = answers; both = refl; before = refl; rest = subst (λ (n : ℕ). ScriptRun inputs n old others answers last) (omega arith) run }
 cut_run inputs number old (line ∷ first) others [] last run = absurd run
 cut_run inputs number old (line ∷ first) others (answer ∷ answers) last (mid, step, run) = further (cut_run inputs (number + 1) mid first others answers last run)
   where
-    further : CutRun inputs (number + 1) mid first others last → CutRun inputs number old (line ∷ first) others last
+    further : CutRun inputs (number + 1) mid first others answers last → CutRun inputs number old (line ∷ first) others (answer ∷ answers) last
     further c = record {
       mid = c.mid;
       front = answer ∷ c.front;
       back = c.back;
+      both = ap (λ (all : List (List ℕ)). answer ∷ all) c.both;
       before = (mid, step, c.before);
       rest = subst (λ (n : ℕ). ScriptRun inputs n c.mid others c.back last) (omega arith) c.rest;
     }
@@ -253,6 +268,8 @@ first_lines_run inputs first others last run =
     record {
       mid = c.mid;
       before = record { lawful = run.lawful; in_bounds = all_front IsInBounds first others run.in_bounds; options = run.options; answers = c.front; run = c.before; had_room = omega (arith, grows, room) };
+      options = refl;
       answers = c.back;
+      replies = c.both;
       rest = c.rest;
     }

@@ -34,6 +34,15 @@ worked_replies =
     ∷ (codes "ok claimed 1.1:- stopped -" ++ 10 ∷ [])
     ∷ (codes "ok -" ++ 10 ∷ [])
     ∷ reply (codes "ok" ∷ codes "settled" ∷ codes "1" ∷ [])
+    ∷ ok
+    ∷ reply (codes "storefault" ∷ [])
+    ∷ reply (codes "ok" ∷ codes "epoch" ∷ codes "2" ∷ [])
+    ∷ ok
+    ∷ ok
+    ∷ reply (codes "ok" ∷ codes "job" ∷ codes "2" ∷ [])
+    ∷ (codes "ok freed - done - lost - added - dropped - open - moved - drained 2 bad -" ++ 10 ∷ [])
+    ∷ (codes "ok l1,l2" ++ 10 ∷ [])
+    ∷ reply (codes "none" ∷ [])
     ∷ []
 
 pub worked_runs : WorkedRuns
@@ -49,4 +58,7 @@ worked_runs = record {
     had_room = omega arith;
   };
   committed = refl;
+  drained = refl;
+  swept = refl;
+  killed = refl;
 }

@@ -20,7 +20,7 @@ end_of (Some answer) = Gives answer
 abbrev pub HadRoom : Store → Type 0
 HadRoom store = length store.history < drawn_base
 
--- The run that is alone leads from what is world before it to this store, as a run of the course.
+-- The run that is alone leads from the world before it to this store, as a run of the course.
 pub record IsRun {A : Type 0} (who : Caller) (course : Course A) (world : World) (alone : AloneEnd A) : Type 0 where
   pub new : World
   pub left : new.store ≡ alone.store

@@ -1,26 +1,16 @@
 -- The law on finishes: what a finish does that is not refused, be it a line of its own or a step of a settle line.
-use Rattle.std.specs.Prelude.{◌≡◌, ℕ, true, List, [], ◌∷◌, Some, None, codes}
-use Rattle.fleet_model.specs.Jobs.{Job, Compacted, changed_jobs, trimmed_jobs}
+use Rattle.std.specs.Prelude.{◌≡◌, ℕ, true, List, [], ◌∷◌, Some, codes}
+use Rattle.fleet_model.specs.Jobs.{changed_jobs, trimmed_jobs}
 use Rattle.fleet_model.specs.Store.{stored_jobs}
-use Rattle.fleet_model.specs.Attempts.{finish_cut}
+use Rattle.fleet_model.specs.Records.{finished_by}
 use Rattle.fleet_model.specs.Parties.{Attempt, LiveWorker, worker_with, without_attempts, is_live}
-use Rattle.step_model.specs.OutputSteps.{all_outputs}
+use Rattle.step_model.specs.OutputSteps.{all_outputs, unrecorded_of_finish}
 use Rattle.script_model.specs.Script.{FinishJob}
 use Rattle.script_model.specs.States.{Inputs, State}
 use Rattle.script_model.specs.LineCourses.{job_at}
 use Rattle.script_model.specs.Replies.{reply, ranges_text}
 use Rattle.script_model.specs.Settles.{is_ok}
 use Rattle.line_laws.specs.Ran.{CourseRan}
-
--- The job after the end of an attempt: it waits for its commit, with these outputs.
-abbrev pub ended_job : ℕ → LiveWorker → Attempt → List (List ℕ) → Job → Job
-ended_job moment w a outputs job = record job {
-  status = Compacted;
-  lease = Some (record { worker = w.number; heartbeat = moment });
-  context = None;
-  outputs = outputs;
-  kept_cut = finish_cut w.release a.context;
-}
 
 -- A live worker ended an attempt that is live, and the reply has its outputs: for each range the tables
 -- that the attempt had noted, and then those that the finish made. The job of the attempt waits for its
@@ -33,7 +23,7 @@ pub record FinishRan (n job : ℕ) (old : State) (answer : List ℕ) (new : Stat
   pub live : is_live (stored_jobs old.store) worker.number attempt ≡ true
   pub made : List (List ℕ)
   pub printed : answer ≡ reply (codes "ok" ∷ ranges_text (all_outputs attempt.context.ranges made) ∷ [])
-  pub jobs : stored_jobs new.store ≡ trimmed_jobs (changed_jobs (ended_job old.moment worker attempt (all_outputs attempt.context.ranges made)) (attempt.job ∷ []) (stored_jobs old.store))
+  pub jobs : stored_jobs new.store ≡ trimmed_jobs (changed_jobs (finished_by worker.number (unrecorded_of_finish old.moment worker attempt) (all_outputs attempt.context.ranges made)) (attempt.job ∷ []) (stored_jobs old.store))
   pub manifest : new.store.manifest ≡ old.store.manifest
   pub runs : worker_with n new.parties ≡ Some (record worker { attempts = without_attempts (attempt.job ∷ []) worker.attempts })
 

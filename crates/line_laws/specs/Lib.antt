@@ -3,10 +3,16 @@ pub mod States
 pub mod Scripts
 pub mod Ran
 pub mod ReadLines
+pub mod Undrained
 pub mod PollRuns
 pub mod PollLines
+pub mod PollCalls
 pub mod ClaimLines
+pub mod Faults
 pub mod FinishLines
+pub mod FinishedJobs
 pub mod Texts
+pub mod Live
+pub mod Goes
 pub mod Outputs
 pub mod WorkedRun

@@ -1,5 +1,5 @@
 -- The law on scripts: each line leaves a state that keeps the invariant.
-use Rattle.std.specs.Prelude.{ℕ, ◌+◌, List, ◌++◌, length}
+use Rattle.std.specs.Prelude.{◌≡◌, ℕ, ◌+◌, List, ◌++◌, length}
 use Rattle.std.specs.List.{AllByRecursion}
 use Rattle.row_model.specs.Fold.{IsLawful}
 use Rattle.script_model.specs.Script.{Line, IsInBounds}
@@ -18,17 +18,20 @@ pub record HasRun (inputs : Inputs) (lines : List Line) (last : State) : Type 0 
   pub run : ScriptRun inputs 1 (fresh_state options) lines answers last
   pub had_room : HadRoom last.store
 
--- The first lines ran too, in a run of their own, and then the others from the state that they left.
-pub record RanFirst (inputs : Inputs) (first others : List Line) (last : State) : Type 0 where
+-- The first lines ran too, in a run of their own with the same options and the first replies, and then the
+-- others from the state that they left.
+pub record RanFirst (inputs : Inputs) (first others : List Line) (last : State) (run : HasRun inputs (first ++ others) last) : Type 0 where
   pub mid : State
   pub before : HasRun inputs first mid
+  pub options : before.options ≡ run.options
   pub answers : List (List ℕ)
+  pub replies : run.answers ≡ before.answers ++ answers
   pub rest : ScriptRun inputs (length first + 1) mid others answers last
 
 -- Lines that ran may be cut in two anywhere. So what is said of the last state of a run is said of the
 -- state after each of its lines.
 abbrev pub FirstLinesRun : Type 0
-FirstLinesRun = (inputs : Inputs) (first others : List Line) (last : State) → HasRun inputs (first ++ others) last → RanFirst inputs first others last
+FirstLinesRun = (inputs : Inputs) (first others : List Line) (last : State) (run : HasRun inputs (first ++ others) last) → RanFirst inputs first others last run
 
 -- The state after each line of a script keeps the invariant, and each live party fits.
 abbrev pub ScriptsKeep : Type 0

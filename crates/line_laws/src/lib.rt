@@ -1,17 +1,22 @@
-//! Laws on the lines of scripts, with any scheduler and a lawful operator. Each function has an empty
-//! body. Its clause states a law about every run of lines from a fresh fleet, or about every course
-//! that such a line runs.
+//! Laws on the lines of scripts, with any scheduler and a lawful operator. Each function has an
+//! empty body. Its clause states a law about every run of lines from a fresh fleet, or about every
+//! course that such a line runs.
 #![tactic(auto)]
 
 ghost use Rattle.line_laws.specs.Alone.{AloneRuns};
 ghost use Rattle.line_laws.specs.ClaimLines.{ClaimsTake};
+ghost use Rattle.line_laws.specs.Faults.{FaultsCut};
 ghost use Rattle.line_laws.specs.FinishLines.{FinishesEnd};
+ghost use Rattle.line_laws.specs.FinishedJobs.{FinishedJobsWait};
+ghost use Rattle.line_laws.specs.Goes.{LinesGo};
+ghost use Rattle.line_laws.specs.Live.{LiveWorkers};
 ghost use Rattle.line_laws.specs.Outputs.{OutputsAreWhole};
+ghost use Rattle.line_laws.specs.PollCalls.{PollsCall};
 ghost use Rattle.line_laws.specs.PollLines.{PollsCommit};
 ghost use Rattle.line_laws.specs.Ran.{LinesRunCourses};
 ghost use Rattle.line_laws.specs.ReadLines.{ReadsAnswer};
 ghost use Rattle.line_laws.specs.Scripts.{FirstLinesRun, ScriptsKeep};
-ghost use Rattle.line_laws.specs.Texts.{TextsRun};
+ghost use Rattle.line_laws.specs.Texts.{OptionsStay, TextsRun};
 ghost use Rattle.line_laws.specs.WorkedRun.{WorkedRuns};
 ghost use Rattle.script_model.specs.States.{FleetOptions, Inputs};
 
@@ -20,30 +25,57 @@ pub fn alone_runs()
     ensures { AloneRuns }
 {}
 
-/// The state after each line keeps the invariant, and each live party fits it, whatever parties
-/// are killed and whatever faults strike.
+/// A fault cuts the calls of a course at the call that it strikes. The calls before it are made as
+/// without the fault, and the later ones are not made. So what is said of the order of a line's
+/// calls holds also where a fault strikes between two of them.
+pub fn faults_cut()
+    ensures { FaultsCut }
+{}
+
+/// The state after each line keeps the invariant, and each live party fits it, whatever parties are
+/// killed and whatever faults strike.
 pub fn scripts_keep()
     ensures { ScriptsKeep }
 {}
 
-/// The lines of a run may be cut in two anywhere: the first ones ran too. So what the other laws
-/// say of the last state of a run, they say of the state after each of its lines.
+/// The lines of a run may be cut in two anywhere: the first ones ran too, with the first replies.
+/// So what the other laws say of the last state of a run, they say of the state after each of its
+/// lines.
 pub fn first_lines_run()
     ensures { FirstLinesRun }
 {}
 
 /// Each line of a script runs one course, from a state that keeps the invariant. A settle line runs
-/// polls, claims and finishes, one after the other, and each of them is such a course. A step that is
-/// refused is the last one, and its reply is that of the line. So the laws on polls, claims and
+/// polls, claims and finishes, one after the other, and each of them is such a course. A step that
+/// is refused is the last one, and its reply is that of the line. So the laws on polls, claims and
 /// finishes hold for each line of its own, and for each step of a settle line.
 pub fn lines_run_courses()
     ensures { LinesRunCourses }
 {}
 
-/// A fleet that follows a script, as the contract of a whole script says, ran the script's lines. So
-/// these laws hold for it.
+/// Each line has a reply and a state that it leaves, unless the operator refuses a fold that the
+/// line needs. So a fleet that runs lines is never stuck at one. Nothing says yet what a together
+/// line does.
+pub fn lines_go()
+    ensures { LinesGo }
+{}
+
+/// The history alone says which workers are live: a worker is live from its start until it is
+/// killed, stopped or met by a fault.
+pub fn live_workers()
+    ensures { LiveWorkers }
+{}
+
+/// A fleet that follows a script, as the contract of a whole script says, ran the script's lines,
+/// and what it wrote are their replies. So these laws hold for it.
 pub fn texts_run()
     ensures { (inputs : Inputs) (options : FleetOptions) → TextsRun inputs options }
+{}
+
+/// The options of a script are those of its first line, if that line sets them, and else those that
+/// the fleet began with. They hold after each line.
+pub fn options_stay()
+    ensures { OptionsStay }
 {}
 
 /// A read is refused below the horizon and before the tick. Each other read prints the fold over
@@ -55,10 +87,28 @@ pub fn reads_answer()
 /// A poll that is not refused, be it a line of its own or a step of a settle line, commits exactly
 /// the finished jobs that pass the gate, in the order of their ids. Each commit puts one run of the
 /// job's rows, under the settings of one claim, in place of its sources, and all other nodes stay.
-/// If a join of the job took effect before, the trees stay too. A whole poll frees exactly the stale
-/// jobs before, and then opens, moves or drains exactly the submitted jobs that pass their gate.
+/// If a join of the job took effect before, the trees stay too. A whole poll frees exactly the
+/// stale jobs before, and then opens, moves or drains exactly the submitted jobs that pass their
+/// gate. Its history is the old one and its own calls, the drawn ids are the next ones, and the
+/// claims are found in the history that its gets and draws made. Its drains take the flushes of
+/// their sources, and no other flush goes.
 pub fn polls_commit()
     ensures { PollsCommit }
+{}
+
+/// A poll of a live coordinator gets both objects, draws, and puts the manifest and then the
+/// records, each if it changed it. It makes all these calls, or the first ones up to one that a
+/// fault strikes. It is refused exactly if it is fenced or struck, and never because a put was
+/// refused. The poll of a coordinator that is not live changes nothing.
+pub fn polls_call()
+    ensures { PollsCall }
+{}
+
+/// The history alone says which jobs a poll finds finished: those that a finish ended last. They
+/// are the stored jobs that are Compacted, and a poll judges exactly these, in the order of their
+/// ids.
+pub fn finished_jobs_wait()
+    ensures { FinishedJobsWait }
 {}
 
 /// A claim that is not refused, be it a line of its own or a step of a settle line, takes and stops
@@ -69,8 +119,8 @@ pub fn claims_take()
 {}
 
 /// A finish that is not refused, be it a line of its own or a step of a settle line, ends a live
-/// attempt of its worker. The job waits for its commit with the outputs that the reply has, no other
-/// job changes, and the trees stay.
+/// attempt of its worker. The job waits for its commit with the outputs that the reply has, no
+/// other job changes, and the trees stay.
 pub fn finishes_end()
     ensures { FinishesEnd }
 {}

@@ -1,4 +1,4 @@
--- Laws about scripts: a text spells at most one script, and has at most one first bad line.
+-- Laws about scripts: a text spells exactly one script, or has exactly one first bad line.
 use Rattle.std.specs.Prelude.{◌≡◌, ℕ, List}
 use Rattle.std.specs.List.{AllByRecursion}
 use Rattle.script_model.specs.Script.{Line, IsInBounds, script_text, Grammar, IsScript, IsBadAt}
@@ -14,6 +14,10 @@ IsBounded grammar = (before : List Line) (line : Line) → grammar before line �
 -- A text that is a script has no bad line.
 abbrev pub ScriptHasNoBadLine : Grammar → Type 0
 ScriptHasNoBadLine grammar = (text : List ℕ) (lines : List Line) (n : ℕ) → IsScript grammar text lines → IsBadAt grammar text n → ⊥
+
+-- A text that is no script has a first bad line: it is never neither.
+abbrev pub NotNeither : Grammar → Type 0
+NotNeither grammar = (text : List ℕ) → ((lines : List Line) → IsScript grammar text lines → ⊥) → ((n : ℕ) → IsBadAt grammar text n → ⊥) → ⊥
 
 -- A text has at most one first bad line.
 abbrev pub BadLineIsOne : Grammar → Type 0

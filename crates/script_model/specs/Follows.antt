@@ -3,7 +3,7 @@
 use Rattle.std.specs.Prelude.{◌≡◌, ℕ, ◌+◌, Bool, true, false, List, [], ◌∷◌}
 use Rattle.std.specs.List.{concat}
 use Rattle.fleet_model.specs.Store.{Store}
-use Rattle.script_model.specs.Script.{Line, Settle, Grammar, IsScript}
+use Rattle.script_model.specs.Script.{Line, Settle, Together, Grammar, IsScript}
 use Rattle.script_model.specs.States.{Inputs, State, FleetOptions, fresh_state}
 use Rattle.script_model.specs.LineSteps.{OneCourse}
 use Rattle.script_model.specs.Settles.{are_live, Rounds}
@@ -15,9 +15,11 @@ SettleStep true inputs number old coordinator worker rounds answer new = Rounds 
 SettleStep false inputs number old coordinator worker rounds answer new = OneCourse inputs number old (Settle coordinator worker rounds) answer new
 
 -- One line takes the old state to the new one with this reply. Lines are numbered from 1. A settle
--- line may run several courses, and each other line runs one.
+-- line may run several courses, and each other line runs one. Nothing here says what a together line
+-- does, so no run has one.
 abbrev pub LineStep : Inputs → ℕ → State → Line → List ℕ → State → Type 0
 LineStep inputs number old (Settle coordinator worker rounds) answer new = SettleStep (are_live coordinator worker old) inputs number old coordinator worker rounds answer new
+LineStep inputs number old (Together workers turns) answer new = ⊥
 LineStep inputs number old line answer new = OneCourse inputs number old line answer new
 
 -- The lines take the old state to the new one, each with its reply. `number` is the number of the

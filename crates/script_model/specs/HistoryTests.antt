@@ -4,7 +4,7 @@ use Rattle.std.specs.Prelude.{ℕ, ◌+◌, Bool, true, false, not, nat_lt, nat_
 use Rattle.std.specs.List.{list_any, list_all, concat}
 use Rattle.std.specs.Cmp.Lexicographic.{pointwise}
 use Rattle.fleet_model.specs.Nodes.{is_among, NodeName, L0, Run, Node, Trees, Segment, names, names_contain}
-use Rattle.fleet_model.specs.Jobs.{JobSpec, Job, Jobs, Submitted, Scheduled, Compacted, has_status, status_eq, is_active, is_finished, ids, trimmed_jobs, number_of, contains, drawn_base}
+use Rattle.fleet_model.specs.Jobs.{JobSpec, ids_eq, Job, Jobs, Submitted, Scheduled, Compacted, has_status, status_eq, is_active, is_finished, ids, trimmed_jobs, number_of, contains, drawn_base}
 use Rattle.fleet_model.specs.History.{Entry, stood}
 use Rattle.fleet_model.specs.Store.{Manifest, Records, Store, fresh_store, stored_jobs, jobs_in, records_epoch}
 use Rattle.fleet_model.specs.Handles.{tree_tables, job_tables}
@@ -34,7 +34,7 @@ abbrev same_segment : Segment → Segment → Bool
 same_segment a b = bytes_eq a.prefix b.prefix && same_tree a b && same_seq a.last_seq b.last_seq && same_seq a.watermark b.watermark
 
 abbrev same_job : Job → Job → Bool
-same_job a b = (a.id == b.id) && status_eq a.status b.status && (a.attempt == b.attempt) && bytes_eq a.source_tables b.source_tables && pointwise bytes_eq a.outputs b.outputs
+same_job a b = (a.id == b.id) && status_eq a.status b.status && (a.attempt == b.attempt) && ids_eq a.source_tables b.source_tables && pointwise ids_eq a.outputs b.outputs
 
 -- The versions, the epochs, the trees and the jobs are those that the history gives.
 abbrev pub is_replayed : Store → Bool
@@ -64,7 +64,7 @@ abbrev pub are_names : Store → Bool
 are_names store =
     list_all (λ entry. list_all (contains (drawn_jobs store.history)) (mentioned_in entry)) store.history
     && list_all (λ job. was_named store.history job.id) (stored_jobs store)
-    && bytes_eq (ids (trimmed_jobs (stored_jobs store))) (ids (stored_jobs store))
+    && ids_eq (ids (trimmed_jobs (stored_jobs store))) (ids (stored_jobs store))
 
 -- No attempt is claimed twice. A Submitted job was never beaten, and a job that waits has no worker.
 abbrev pub are_attempts : Store → Bool
@@ -76,7 +76,7 @@ are_attempts store =
 -- ---- tables, joins and epochs
 
 abbrev is_flush : List Entry → Node → NodeName → Bool
-is_flush history node (L0 name) = was_flushed history name && bytes_eq node.pieces (name ∷ []) && bytes_eq node.flushes (name ∷ [])
+is_flush history node (L0 name) = was_flushed history name && ids_eq node.pieces (name ∷ []) && ids_eq node.flushes (name ∷ [])
 is_flush history node (Run id) = list_all (was_flushed history) node.flushes
 
 abbrev is_passed : List Entry → List NodeName → Option ℕ → Bool

@@ -10,7 +10,7 @@ use Rattle.row_model.specs.Ranges.{Bound, Unbounded, Included, Excluded, Range}
 use Rattle.row_model.specs.Settings.{Settings}
 use Rattle.row_model.specs.JobRows.{JobRows, job_rows}
 use Rattle.fleet_model.specs.Nodes.{Tables, NodeName, Tree, names, Trees, tree_at}
-use Rattle.fleet_model.specs.Jobs.{JobSpec, nodes_of, Context, Job, Jobs, Scheduled, Running, Compacted, has_status, job_with, knows_cut}
+use Rattle.fleet_model.specs.Jobs.{JobSpec, ids_eq, nodes_of, Context, Job, Jobs, Scheduled, Running, Compacted, has_status, job_with, knows_cut}
 use Rattle.fleet_model.specs.Trees.{source_pieces}
 use Rattle.fleet_model.specs.Sources.{run_ids, all_run_ids, older_nodes, is_whole_stretch, is_apart, is_lowest_or_above}
 use Rattle.fleet_model.specs.Gates.{reserves_nodes, is_nonempty}
@@ -79,7 +79,7 @@ abbrev pub stands : Trees → Job → Bool
 stands trees job =
     is_nonempty job.spec.sources
     && is_whole_stretch (tree_at job.spec.segment trees) job.spec.sources
-    && bytes_eq (source_pieces job.spec.sources (tree_at job.spec.segment trees)) job.source_tables
+    && ids_eq (source_pieces job.spec.sources (tree_at job.spec.segment trees)) job.source_tables
     && destination_stands trees (tree_at job.spec.segment trees) job.spec.sources job.spec.destination
 
 -- The sources of a Scheduled or Running job stand, and so do those of a Compacted job that was not
@@ -146,7 +146,7 @@ outputs_fit merge store specs job =
 -- ---- workers
 
 abbrev lives : Job → Attempt → Bool
-lives job a = bytes_eq a.sources job.source_tables
+lives job a = ids_eq a.sources job.source_tables
 
 abbrev lives_if_stored : Option Job → Attempt → Bool
 lives_if_stored None a = true

@@ -3,7 +3,7 @@ use Rattle.std.specs.Prelude.{ℕ, ◌-◌, List, Option, Some, None, slice_get,
 use Rattle.row_model.specs.Ranges.{Range}
 use Rattle.fleet_model.specs.Jobs.{number_of}
 use Rattle.fleet_model.specs.Parties.{Attempt, LiveWorker, worker_with}
-use Rattle.script_model.specs.Script.{Line, Options, Clock, StartCoordinator, StartWorker, KillCoordinator, KillWorker, StopCoordinator, StopWorker, FlushRows, ReadKey, SubmitJob, SubmitDrain, SubmitFull, Poll, CommitOnly, ClaimJobs, Heartbeat, Output, FinishJob, SetFault, ShowTrees, ShowJobs, ShowTables, Dump, Sweep, Scan, Settle}
+use Rattle.script_model.specs.Script.{Line, Options, Clock, StartCoordinator, StartWorker, KillCoordinator, KillWorker, StopCoordinator, StopWorker, FlushRows, ReadKey, SubmitJob, SubmitDrain, SubmitFull, Poll, CommitOnly, ClaimJobs, Heartbeat, Output, FinishJob, SetFault, ShowTrees, ShowJobs, ShowTables, Dump, Sweep, Scan, Settle, Together}
 use Rattle.script_model.specs.Replies.{ok, trees_reply}
 use Rattle.script_model.specs.States.{Inputs, State}
 use Rattle.script_model.specs.LineRuns.{LineCourse, only_replies, no_such_party, if_some}
@@ -46,7 +46,7 @@ range_at s worker job place = if_some (job_at s worker job) None (λ found. if_s
 
 -- The course of a line. The message is given if the operator refuses at a line that writes tables.
 -- A settle line has this course only if one of its parties is not live; otherwise it is a run of
--- other lines' courses.
+-- other lines' courses. A together line never has it.
 unfoldable pub course_of : Inputs → Line → Option (List ℕ) → State → LineCourse
 course_of inputs (Options timeout concurrent slots ranges table_size moves retention) refusal s = only_replies s ok
 course_of inputs (Clock moment) refusal s = only_replies s ok
@@ -75,3 +75,4 @@ course_of inputs (Dump segment node) refusal s = dump segment node s
 course_of inputs Sweep refusal s = sweep_line s
 course_of inputs (Scan segment from to seq now limit) refusal s = scan inputs segment from to seq now limit s
 course_of inputs (Settle coordinator worker rounds) refusal s = no_such_party s
+course_of inputs (Together workers turns) refusal s = no_such_party s

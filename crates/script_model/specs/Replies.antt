@@ -85,10 +85,13 @@ commit_reply p = reply (codes "ok" ∷ codes "done" ∷ jobs_text p.done ∷ cod
 abbrev pub tables_by_range : Context → List (List ℕ)
 tables_by_range context = map (λ r. r.1) context.ranges
 
--- The text of an attempt: its job, its number, and the tables of its context, which a claim takes
--- over.
+-- The text of an attempt at a job: the job, the attempt's number, and tables range by range.
+abbrev pub begun_text : (job number : ℕ) → List (List ℕ) → List ℕ
+begun_text job number tables = decimal (number_of job) ++ codes "." ++ decimal number ++ codes ":" ++ ranges_text tables
+
+-- The text of an attempt that a claim began, with the tables of its context, which it takes over.
 abbrev pub attempt_text : Attempt → List ℕ
-attempt_text a = decimal (number_of a.job) ++ codes "." ++ decimal a.number ++ codes ":" ++ ranges_text (tables_by_range a.context)
+attempt_text a = begun_text a.job a.number (tables_by_range a.context)
 
 -- The byte of a semicolon.
 abbrev pub semicolon : ℕ
@@ -106,6 +109,16 @@ beat_reply beat lost = reply (codes "ok" ∷ codes "beat" ∷ jobs_text beat ∷
 abbrev pub output_reply : Option (ℕ × List Row) → List ℕ
 output_reply None = reply (codes "ok" ∷ codes "none" ∷ [])
 output_reply (Some table) = reply (codes "ok" ∷ table_text table.0 ∷ decimal (length table.1) ∷ [])
+
+-- The reply to a together line after which no stored job is active: how many jobs were claimed, and how
+-- many finished jobs were committed, in this line.
+abbrev pub idle_reply : (claims commits : ℕ) → List ℕ
+idle_reply claims commits = reply (codes "ok" ∷ codes "idle" ∷ codes "claims" ∷ decimal claims ∷ codes "commits" ∷ decimal commits ∷ [])
+
+-- The reply to a together line after which a stored job is active, so its live parties took all their
+-- turns. The numbers are those of `idle_reply`.
+abbrev pub turns_reply : (claims commits : ℕ) → List ℕ
+turns_reply claims commits = reply (codes "ok" ∷ codes "turns" ∷ codes "claims" ∷ decimal claims ∷ codes "commits" ∷ decimal commits ∷ [])
 
 -- The text of a segment: its prefix and the nodes of its tree.
 abbrev pub segment_text : Segment → List ℕ
@@ -154,9 +167,13 @@ jobs_reply jobs = reply (codes "ok" ∷ list_text semicolon (map job_text jobs) 
 abbrev pub absent_reply : List ℕ
 absent_reply = reply (codes "ok" ∷ codes "absent" ∷ [])
 
+-- The text of a table with a number of rows.
+abbrev pub counted_text : ℕ × ℕ → List ℕ
+counted_text counted = table_text counted.0 ++ codes ":" ++ decimal counted.1
+
 -- The text of a table with the number of its rows.
 abbrev pub held_text : Tables → ℕ → List ℕ
-held_text tables table = table_text table ++ codes ":" ++ decimal (length (table_rows tables table))
+held_text tables table = counted_text (table, length (table_rows tables table))
 
 -- The reply that shows the tables of a node, or `ok absent` if there is no such node.
 abbrev pub tables_reply : Tables → Option Node → List ℕ

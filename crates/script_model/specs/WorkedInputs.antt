@@ -6,7 +6,7 @@ use Rattle.row_model.specs.Append.{append}
 use Rattle.fleet_model.specs.Nodes.{L0, names_contain, names, tree_at}
 use Rattle.fleet_model.specs.Jobs.{JobSpec}
 use Rattle.fleet_model.specs.Scheduler.{View, Declined, default_generate}
-use Rattle.fleet_model.specs.Levels.{level_scheduler}
+use Rattle.sched_model.specs.Levels.{level_scheduler}
 use Rattle.script_model.specs.States.{Inputs}
 
 -- The root tree has flush 1.

@@ -5,7 +5,7 @@ use Rattle.fleet_model.specs.Jobs.{JobSpec}
 use Rattle.fleet_model.specs.Store.{fresh_store}
 use Rattle.fleet_model.specs.Handles.{Handle}
 use Rattle.fleet_model.specs.Scheduler.{View}
-use Rattle.fleet_model.specs.Levels.{LevelOptions, level_picks, is_within}
+use Rattle.sched_model.specs.Levels.{LevelOptions, level_picks, is_within}
 use Rattle.script_model.specs.Worked.{Conversation}
 
 -- Options of levels: the newest run may have 20 bytes, and each older one twice as many. The last

@@ -1,0 +1,14 @@
+pub mod Pages
+pub mod ScanLines
+pub mod ScriptSweeps
+pub mod Weights
+pub mod PollWeights
+pub mod PollSeen
+pub mod Commits
+pub mod Opens
+pub mod PollWorks
+pub mod Lasting
+pub mod RoundWorks
+pub mod SettlePolls
+pub mod SettleLines
+pub mod Rounds

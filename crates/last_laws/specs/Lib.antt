@@ -1,0 +1,6 @@
+pub mod Pages
+pub mod ScanLines
+pub mod ScriptSweeps
+pub mod Weights
+pub mod Rounds
+pub mod Settling

@@ -1,0 +1,158 @@
+-- The calls of a worker's steps note neither that a party comes nor that one goes.
+use Rattle.std.proofs.Common.{◌≡◌, refl, ℕ, zero, suc, List, [], ◌∷◌, cond, Bool, true, false, Option, Some, None}
+use Rattle.std.specs.Prelude.{⊤, map, filter, flat_map, ◌==◌}
+use Rattle.std.specs.List.{AllByRecursion}
+use Rattle.row_model.specs.Fold.{Operator}
+use Rattle.row_model.specs.Rows.{Row}
+use Rattle.row_model.specs.Ranges.{Range}
+use Rattle.fleet_model.specs.Nodes.{Tables}
+use Rattle.fleet_model.specs.Jobs.{Job, Jobs, Context}
+use Rattle.fleet_model.specs.History.{Event, Start, Kill}
+use Rattle.fleet_model.specs.Store.{Records}
+use Rattle.row_model.specs.Tables.{cut_tables}
+use Rattle.fleet_model.specs.Attempts.{ClaimInput, rows_left}
+use Rattle.fleet_model.specs.Parties.{Attempt, LiveWorker, live_attempts, is_live}
+use Rattle.fleet_model.specs.Claims.{claimed_jobs}
+use Rattle.fleet_model.specs.Gates.{is_nonempty}
+use Rattle.fleet_model.specs.Exchanges.{Exchange, Plain, records_version}
+use Rattle.step_model.specs.Course.{Course, calls_each, puts_tables, puts_ranges}
+use Rattle.step_model.specs.Tries.{Try, tries}
+use Rattle.step_model.specs.StepEnds.{StepEnd, most_refused}
+use Rattle.step_model.specs.ClaimSteps.{WorkerOptions, Claimed, can_start, plan_of, starts_claimed, claim_of, claim_by, claim_try, claim}
+use Rattle.step_model.specs.BeatSteps.{Beaten, beat_of, beat_by, beat_try, heartbeat, release_live, release_by, release_try, release_all}
+use Rattle.step_model.specs.OutputSteps.{FinishedJob, gets_tables, writes, writes_or_gives_back, output, all_outputs, ends_job, ends_job_by, end_try, end_job, finish_or_give_back, finish}
+use Rattle.step_laws.proofs.Elements.{all_flat, all_from}
+use Rattle.line_laws.proofs.Courses.{AllCalls}
+
+-- The event notes that a party comes or goes.
+abbrev pub is_note : Event → Bool
+is_note (Start party) = true
+is_note (Kill party) = true
+is_note event = false
+
+-- The call is no such note.
+abbrev pub IsQuiet : Exchange → Type 0
+IsQuiet (Plain event) = is_note event ≡ false
+IsQuiet x = ⊤
+
+abbrev pub AreQuiet : {A : Type 0} → Course A → Type 0
+AreQuiet course = AllCalls IsQuiet course
+
+-- ---- forms of courses
+
+quiet_tries : {A : Type 0} (t : Try A) → ((again : ℕ → Course (StepEnd A)) → ((seen : ℕ) → AreQuiet (again seen)) → AreQuiet (t again)) → (left seen : ℕ) → AreQuiet (tries t left seen)
+quiet_tries t quiet zero seen = tt
+quiet_tries t quiet (suc left) seen = quiet (tries t left) (λ seen. quiet_tries t quiet left seen)
+
+quiet_either : {A : Type 0} (b : Bool) (one other : Course A) → AreQuiet one → AreQuiet other → AreQuiet (cond b one other)
+quiet_either true one other h k = h
+quiet_either false one other h k = k
+
+quiet_each : {A : Type 0} (events : List Event) (next : Course A) → AllByRecursion (λ event. is_note event ≡ false) events → AreQuiet next → AreQuiet (calls_each events next)
+quiet_each [] next none h = h
+quiet_each (event ∷ events) next none h = (none.0, λ met. quiet_each events next none.1 h)
+
+quiet_tables : {A : Type 0} (moment : ℕ) (tables : List (List Row)) (next : List ℕ → Course A) → ((ids : List ℕ) → AreQuiet (next ids)) → AreQuiet (puts_tables moment tables next)
+quiet_tables moment [] next h = h []
+quiet_tables moment (rows ∷ tables) next h = (tt, λ met. (tt, λ after. quiet_tables moment tables (λ ids. next (_ ∷ ids)) (λ ids. h (_ ∷ ids))))
+
+quiet_ranges : {A : Type 0} (moment : ℕ) (ranges : List (List (List Row))) (next : List (List ℕ) → Course A) → ((ids : List (List ℕ)) → AreQuiet (next ids)) → AreQuiet (puts_ranges moment ranges next)
+quiet_ranges moment [] next h = h []
+quiet_ranges moment (tables ∷ ranges) next h = quiet_tables moment tables (λ ids. puts_ranges moment ranges (λ others. next (ids ∷ others))) (λ ids. quiet_ranges moment ranges (λ others. next (ids ∷ others)) (λ others. h (ids ∷ others)))
+
+gets_quiet : (tables : List ℕ) → AllByRecursion (λ event. is_note event ≡ false) (gets_tables tables)
+gets_quiet [] = tt
+gets_quiet (table ∷ tables) = (refl, gets_quiet tables)
+
+-- ---- claims
+
+plan_quiet : (input : ClaimInput) (job : Job) → AllByRecursion (λ event. is_note event ≡ false) (plan_of input job)
+plan_quiet input job = at job.context refl
+  where
+    at : (context : Option Context) → job.context ≡ context → AllByRecursion (λ event. is_note event ≡ false) (plan_of input job)
+    at None e = rw e (refl, tt)
+    at (Some context) e = rw e tt
+
+started_quiet : (input : ClaimInput) (w : LiveWorker) (jobs : Jobs) (stopped : List ℕ) → AreQuiet (starts_claimed input w jobs stopped)
+started_quiet input w jobs stopped =
+    quiet_each (flat_map (plan_of input) (filter (can_start input.manifest) jobs)) _ (all_flat (λ event. is_note event ≡ false) (plan_of input) (filter (can_start input.manifest) jobs) (all_from _ (filter (can_start input.manifest) jobs) (λ job there. plan_quiet input job))) tt
+
+-- A step after a refused put.
+abbrev Again : Type 0 → Type 0
+Again A = ℕ → Course (StepEnd A)
+
+claim_of_quiet : (options : WorkerOptions) (moment : ℕ) (w : LiveWorker) (got : Records) (jobs : Jobs) (stopped : List ℕ) (again : Again Claimed) → ((seen : ℕ) → AreQuiet (again seen)) → AreQuiet (claim_of options moment w got jobs stopped again)
+claim_of_quiet options moment w got [] stopped again h = tt
+claim_of_quiet options moment w got (job ∷ jobs) stopped again h = (tt, λ met. quiet_either (got.version == records_version met.records) _ (again (records_version met.records)) (refl, λ met. started_quiet _ w (job ∷ jobs) stopped) (h (records_version met.records)))
+
+claim_by_quiet : (options : WorkerOptions) (moment : ℕ) (w : LiveWorker) (records : Option Records) (again : Again Claimed) → ((seen : ℕ) → AreQuiet (again seen)) → AreQuiet (claim_by options moment w records again)
+claim_by_quiet options moment w None again h = tt
+claim_by_quiet options moment w (Some got) again h = claim_of_quiet options moment w got (claimed_jobs options.slots w got.jobs) _ again h
+
+pub quiet_claim : (options : WorkerOptions) (moment : ℕ) (w : LiveWorker) → AreQuiet (claim options moment w)
+unfolding claim
+quiet_claim options moment w = quiet_tries (claim_try options moment w) (λ again h. (refl, λ met. claim_by_quiet options moment w met.records again h)) most_refused 0
+
+-- ---- heartbeats and releases
+
+beat_of_quiet : (moment : ℕ) (w : LiveWorker) (got : Records) (live : List Attempt) (again : Again Beaten) → ((seen : ℕ) → AreQuiet (again seen)) → AreQuiet (beat_of moment w got live again)
+beat_of_quiet moment w got [] again h = tt
+beat_of_quiet moment w got (a ∷ live) again h = (tt, λ met. quiet_either (got.version == records_version met.records) _ (again (records_version met.records)) tt (h (records_version met.records)))
+
+beat_by_quiet : (moment : ℕ) (w : LiveWorker) (records : Option Records) (again : Again Beaten) → ((seen : ℕ) → AreQuiet (again seen)) → AreQuiet (beat_by moment w records again)
+beat_by_quiet moment w None again h = tt
+beat_by_quiet moment w (Some got) again h = beat_of_quiet moment w got (live_attempts got.jobs w) again h
+
+pub quiet_heartbeat : (moment : ℕ) (w : LiveWorker) → AreQuiet (heartbeat moment w)
+unfolding heartbeat
+quiet_heartbeat moment w = quiet_either (is_nonempty w.attempts) _ _ (quiet_tries (beat_try moment w) (λ again h. (refl, λ met. beat_by_quiet moment w met.records again h)) most_refused 0) tt
+
+release_live_quiet : {A : Type 0} (w : LiveWorker) (got : Records) (live : List Attempt) (next : List ℕ → Course (StepEnd A)) (again : Again A) → ((released : List ℕ) → AreQuiet (next released)) → ((seen : ℕ) → AreQuiet (again seen)) → AreQuiet (release_live w got live next again)
+release_live_quiet w got [] next again quiet h = quiet []
+release_live_quiet w got (a ∷ live) next again quiet h = (tt, λ met. quiet_either (got.version == records_version met.records) _ (again (records_version met.records)) (quiet _) (h (records_version met.records)))
+
+release_by_quiet : {A : Type 0} (w : LiveWorker) (attempts : List Attempt) (records : Option Records) (next : List ℕ → Course (StepEnd A)) (again : Again A) → ((released : List ℕ) → AreQuiet (next released)) → ((seen : ℕ) → AreQuiet (again seen))
+    → AreQuiet (release_by w attempts records next again)
+release_by_quiet w attempts None next again quiet h = quiet []
+release_by_quiet w attempts (Some got) next again quiet h = release_live_quiet w got (filter (is_live got.jobs w.number) attempts) next again quiet h
+
+quiet_release : {A : Type 0} (w : LiveWorker) (attempts : List Attempt) (next : List ℕ → Course (StepEnd A)) → ((released : List ℕ) → AreQuiet (next released)) → AreQuiet (tries (release_try w attempts next) most_refused 0)
+quiet_release w attempts next quiet = quiet_tries (release_try w attempts next) (λ again h. (refl, λ met. release_by_quiet w attempts met.records next again quiet h)) most_refused 0
+
+pub quiet_release_all : (w : LiveWorker) → AreQuiet (release_all w)
+unfolding release_all
+quiet_release_all w = quiet_either (is_nonempty w.attempts) _ _ (quiet_release w w.attempts _ (λ released. tt)) tt
+
+-- ---- outputs and finishes
+
+writes_quiet : (moment : ℕ) (w : LiveWorker) (a : Attempt) (place : ℕ) (rows : List Row) → AreQuiet (writes moment w a place rows)
+writes_quiet moment w a place [] = tt
+writes_quiet moment w a place (r ∷ rows) = (tt, λ met. (tt, λ after. tt))
+
+writes_or_quiet : (merge : Operator) (moment : ℕ) (w : LiveWorker) (a : Attempt) (place : ℕ) (range : Range × List ℕ) (rows : ℕ) (refusal : Option (List ℕ)) (tables : Tables) → AreQuiet (writes_or_gives_back merge moment w a place range rows refusal tables)
+writes_or_quiet merge moment w a place range rows None tables = writes_quiet moment w a place _
+writes_or_quiet merge moment w a place range rows (Some message) tables = quiet_release w (a ∷ []) _ (λ released. tt)
+
+pub quiet_output : (merge : Operator) (tables : Tables) (moment : ℕ) (w : LiveWorker) (a : Attempt) (place : ℕ) (range : Range × List ℕ) (rows : ℕ) (refusal : Option (List ℕ)) → AreQuiet (output merge tables moment w a place range rows refusal)
+unfolding output
+quiet_output merge tables moment w a place range rows refusal = quiet_each _ _ (gets_quiet _) (writes_or_quiet merge moment w a place range rows refusal tables)
+
+ends_quiet : (moment : ℕ) (w : LiveWorker) (a : Attempt) (outputs : List (List ℕ)) (got : Records) (live : Bool) (again : Again FinishedJob) → ((seen : ℕ) → AreQuiet (again seen)) → AreQuiet (ends_job moment w a outputs got live again)
+ends_quiet moment w a outputs got false again h = tt
+ends_quiet moment w a outputs got true again h = (tt, λ met. quiet_either (got.version == records_version met.records) _ (again (records_version met.records)) tt (h (records_version met.records)))
+
+ends_by_quiet : (moment : ℕ) (w : LiveWorker) (a : Attempt) (outputs : List (List ℕ)) (records : Option Records) (again : Again FinishedJob) → ((seen : ℕ) → AreQuiet (again seen)) → AreQuiet (ends_job_by moment w a outputs records again)
+ends_by_quiet moment w a outputs None again h = tt
+ends_by_quiet moment w a outputs (Some got) again h = ends_quiet moment w a outputs got (is_live got.jobs w.number a) again h
+
+quiet_end : (moment : ℕ) (w : LiveWorker) (a : Attempt) (outputs : List (List ℕ)) → AreQuiet (end_job moment w a outputs)
+unfolding end_job
+quiet_end moment w a outputs = quiet_tries (end_try moment w a outputs) (λ again h. (refl, λ met. ends_by_quiet moment w a outputs met.records again h)) most_refused 0
+
+finish_or_quiet : (merge : Operator) (options : WorkerOptions) (moment : ℕ) (w : LiveWorker) (a : Attempt) (refusal : Option (List ℕ)) (tables : Tables) → AreQuiet (finish_or_give_back merge options moment w a refusal tables)
+finish_or_quiet merge options moment w a None tables = quiet_ranges moment (map (λ range. cut_tables options.table_size (rows_left merge tables a.context.settings a.sources range).rows) a.context.ranges) _ (λ new. quiet_end moment w a (all_outputs a.context.ranges new))
+finish_or_quiet merge options moment w a (Some message) tables = quiet_release w (a ∷ []) _ (λ released. tt)
+
+pub quiet_finish : (merge : Operator) (tables : Tables) (options : WorkerOptions) (moment : ℕ) (w : LiveWorker) (a : Attempt) (refusal : Option (List ℕ)) → AreQuiet (finish merge tables options moment w a refusal)
+unfolding finish
+quiet_finish merge tables options moment w a refusal = quiet_each (gets_tables a.sources) _ (gets_quiet a.sources) (finish_or_quiet merge options moment w a refusal tables)
