@@ -1,5 +1,5 @@
 -- Cutting rows into blocks, one block at a time.
-use Rattle.std.proofs.Common.{◌≡◌, ◌≢◌, refl, sym, ◌∙◌, ap, subst, ℕ, zero, suc, ◌<◌, ◌≤◌, ◌+◌, ◌*◌, List, [], ◌∷◌, ◌++◌, length, take, drop, Bool, true, false, cond, arith}
+use Rattle.std.proofs.Common.{◌≡◌, ◌≢◌, refl, sym, ◌∙◌, ap, subst, ℕ, suc, ◌<◌, ◌≤◌, ◌+◌, ◌*◌, List, [], ◌∷◌, ◌++◌, length, take, drop, Bool, true, false, cond, arith}
 use Rattle.std.specs.Prelude.{nat_le, ⊤}
 use Rattle.std.specs.List.{AllByRecursion, flat_map}
 use Rattle.std.proofs.lemmas.List.{append_assoc, map-append, take-append-drop, take-map, drop-map}
@@ -12,16 +12,6 @@ use Rattle.fleet_rows.specs.declared.row.RowEntry.{RowEntry}
 use Rattle.fleet_rows.specs.Row.{row_of, rows_of}
 use Rattle.fleet_block.specs.Cuts.{first_block_len}
 use Rattle.fleet_block.specs.Finds.{BeginOpen, IsBlock, joined_rows}
-
-pub all_take : {A : Type 0} (P : A → Type 0) (n : ℕ) (xs : List A) → AllByRecursion P xs → AllByRecursion P (take n xs)
-all_take P zero xs h = tt
-all_take P (suc n) [] h = tt
-all_take P (suc n) (x ∷ xs) h = (h.0, all_take P n xs h.1)
-
-pub all_drop : {A : Type 0} (P : A → Type 0) (n : ℕ) (xs : List A) → AllByRecursion P xs → AllByRecursion P (drop n xs)
-all_drop P zero xs h = h
-all_drop P (suc n) [] h = tt
-all_drop P (suc n) (x ∷ xs) h = all_drop P n xs h.1
 
 not_full : (n : ℕ) → nat_le block_bytes n ≡ false → n < 4096
 not_full n e = grind arith
@@ -103,16 +93,33 @@ pub not_empty : (rows : List RowEntry) → 0 < length rows → rows ≢ []
 not_empty [] some = absurd (omega arith)
 not_empty (r ∷ rows) some = λ e. cc e
 
+pub filled_some : (rows : List RowEntry) → rows ≢ [] → 0 < length rows
+filled_some [] some = absurd (some refl)
+filled_some (r ∷ rows) some = omega arith
+
 pub blocks_some : (rows : List Row) → rows ≢ [] → 0 < length (blocks_of_rows 0 rows)
 blocks_some rows some = let cut = ap length (cut_at_first 0 rows (first_block_len 0 rows) some refl) in omega (arith, cut)
 
-pub front_in_bounds : (rest block : List RowEntry) (n : ℕ) → block ≡ take n rest → AllByRecursion IsInBounds (rows_of rest) → AllByRecursion IsInBounds (rows_of block)
-front_in_bounds rest block n front h =
-    subst (AllByRecursion IsInBounds) (take-map row_of n rest ∙ ap rows_of (sym front)) (all_take IsInBounds n (rows_of rest) h)
+-- The rows of the first block and the rows after it are all rows.
+pub split_whole : (rest block later : List RowEntry) (n : ℕ) → block ≡ take n rest → later ≡ drop n rest → rest ≡ block ++ later
+split_whole rest block later n front back = sym (ap (λ xs. xs ++ later) front ∙ ap (λ ys. take n rest ++ ys) back ∙ take-append-drop n rest)
 
-pub back_in_bounds : (rest later : List RowEntry) (n : ℕ) → later ≡ drop n rest → AllByRecursion IsInBounds (rows_of rest) → AllByRecursion IsInBounds (rows_of later)
-back_in_bounds rest later n back h =
-    subst (AllByRecursion IsInBounds) (drop-map row_of n rest ∙ ap rows_of (sym back)) (all_drop IsInBounds n (rows_of rest) h)
+all_front : {A : Type 0} (P : A → Type 0) (xs ys : List A) → AllByRecursion P (xs ++ ys) → AllByRecursion P xs
+all_front P [] ys h = tt
+all_front P (x ∷ xs) ys h = (h.0, all_front P xs ys h.1)
+
+all_back : {A : Type 0} (P : A → Type 0) (xs ys : List A) → AllByRecursion P (xs ++ ys) → AllByRecursion P ys
+all_back P [] ys h = h
+all_back P (x ∷ xs) ys h = all_back P xs ys h.1
+
+rows_of_both : (rest block later : List RowEntry) → rest ≡ block ++ later → rows_of rest ≡ rows_of block ++ rows_of later
+rows_of_both rest block later both = ap rows_of both ∙ map-append row_of block later
+
+pub front_in_bounds : (rest block later : List RowEntry) → rest ≡ block ++ later → AllByRecursion IsInBounds (rows_of rest) → AllByRecursion IsInBounds (rows_of block)
+front_in_bounds rest block later both h = all_front IsInBounds (rows_of block) (rows_of later) (subst (AllByRecursion IsInBounds) (rows_of_both rest block later both) h)
+
+pub back_in_bounds : (rest block later : List RowEntry) → rest ≡ block ++ later → AllByRecursion IsInBounds (rows_of rest) → AllByRecursion IsInBounds (rows_of later)
+back_in_bounds rest block later both h = all_back IsInBounds (rows_of block) (rows_of later) (subst (AllByRecursion IsInBounds) (rows_of_both rest block later both) h)
 
 -- What was written of the earlier blocks, and what will be written of the others, is what is written of all
 -- blocks, also once the next block was written.
@@ -177,8 +184,6 @@ all_joined : {A : Type 0} (P : A → Type 0) (xs ys : List A) → AllByRecursion
 all_joined P [] ys h g = g
 all_joined P (x ∷ xs) ys h g = (h.0, all_joined P xs ys h.1 g)
 
-pub both_writable : (rest block later : List RowEntry) (n : ℕ) → block ≡ take n rest → later ≡ drop n rest → AllByRecursion IsWritable (rows_of block) → AllByRecursion IsWritable (rows_of later) → AllByRecursion IsWritable (rows_of rest)
-both_writable rest block later n front back h g =
-    subst (AllByRecursion IsWritable)
-    (sym (map-append row_of block later) ∙ ap rows_of (ap (λ xs. xs ++ later) front ∙ ap (λ ys. take n rest ++ ys) back ∙ take-append-drop n rest))
-    (all_joined IsWritable (rows_of block) (rows_of later) h g)
+pub both_writable : (rest block later : List RowEntry) → rest ≡ block ++ later → AllByRecursion IsWritable (rows_of block) → AllByRecursion IsWritable (rows_of later) → AllByRecursion IsWritable (rows_of rest)
+both_writable rest block later both h g =
+    subst (AllByRecursion IsWritable) (sym (rows_of_both rest block later both)) (all_joined IsWritable (rows_of block) (rows_of later) h g)

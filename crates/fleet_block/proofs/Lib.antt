@@ -7,7 +7,6 @@ pub mod Found
 pub mod Later
 pub mod Blocks
 pub mod Tables
-pub mod Ordered
 pub mod Lengths
 pub mod Index
 pub mod Decoded

@@ -13,10 +13,10 @@ mod put;
 mod read;
 mod row;
 mod shared;
-mod taken;
 mod write;
 
 pub use block::block_at;
+pub use cut::split_block;
 pub use glance::compared_at;
 pub use laws::{
     blocks_stand_in_bytes, bytes_are_decoded, bytes_tell_rows, rows_are_cut_into_blocks,
@@ -25,5 +25,4 @@ pub use laws::{
 pub use place::BlockPlace;
 pub use read::rows_from_bytes;
 pub use row::row_at;
-pub use taken::are_strictly_ordered;
 pub use write::{bytes_from_rows, written_rows};

@@ -1,16 +1,20 @@
 //! Reading the rows of a table from its bytes.
 
-ghost use Rattle.std.specs.Prelude.{◌≡◌, ◌<◌, ◌≤◌, ◌^◌, ◌++◌, [], length, IfOk, IsOkUnless, OnOk};
-ghost use Rattle.row_model.specs.TableBytes.{table_bytes, IsTaken};
+ghost use Rattle.std.specs.Prelude.{◌≡◌, ◌≢◌, ◌↔◌, ◌<◌, ◌≤◌, ◌^◌, ◌++◌, [], length, IfOk, IfSome, IsOkUnless, IsTrue, OnOk};
+ghost use Rattle.std.specs.List.{AllByRecursion};
+ghost use Rattle.row_model.specs.Bounds.{IsInBounds};
+ghost use Rattle.row_model.specs.Rows.{IsStrictlyOrdered};
+ghost use Rattle.row_model.specs.TableBytes.{blocks_of_rows, table_bytes, IsTaken};
 ghost use Rattle.fleet_rows.specs.Row.{rows_of};
 ghost use Rattle.fleet_block.specs.Finds.{FindsAll, FindsBlocks, Reads};
+ghost use Rattle.fleet_block.specs.Places.{places_from};
 
+use crate::BlockPlace;
 use crate::block::block_at;
 use crate::number::{u16_at, u64_at};
-use crate::taken::is_taken;
-use crate::write::bytes_from_rows;
+use crate::write::written_rows;
 use bytes::Bytes;
-use fleet_rows::{RowEntry, SlateDBError};
+use fleet_rows::{RowEntry, SlateDBError, are_in_bounds, are_strictly_ordered};
 use std::alloc::Global;
 
 // The number of bytes of a block's header.
@@ -19,24 +23,37 @@ const HEADER_BYTES: usize = 10;
 // The greatest number of rows of a block. Each row counts at least 8 of its 4,096 bytes.
 const MAX_BLOCK_ROWS: u16 = 512;
 
-/// The rows of the table that has these bytes, or None if no table has them. A table has at least
-/// one row, its rows are strictly ordered, and their lengths are in bounds. The only error is
-/// `Memory`.
-pub fn rows_from_bytes(alloc: Global, bytes: &Bytes) -> Result<Option<Vec<RowEntry>>, SlateDBError>
-    ensures rows { IfOk result (Reads (λ v. rows_of v.items) table_bytes IsTaken bytes.now) }
+/// The rows of the table that has these bytes, and where its blocks begin, or None if no table has
+/// them. A table has at least one row, its rows are strictly ordered, and their lengths are in
+/// bounds. The only error is `Memory`.
+pub fn rows_from_bytes(
+    alloc: Global,
+    bytes: &Bytes,
+) -> Result<Option<(Vec<RowEntry>, Vec<BlockPlace>)>, SlateDBError>
+    ensures rows { IfOk result (Reads (λ v. rows_of v.0.items) table_bytes IsTaken bytes.now) }
+    ensures places { IfOk result (λ found. IfSome found
+        (λ v. v.1.items ≡ places_from 0 0 (blocks_of_rows 0 (rows_of v.0.items)))) }
     ensures memory { IsOkUnless result SlateDBError.Memory }
 {
     let Some(rows) = all_rows(alloc, bytes)? else {
         return Ok(None);
     };
-    if !is_taken(rows.as_slice()) {
+    if !are_taken(&rows) {
         return Ok(None);
     }
-    let again = bytes_from_rows(alloc, rows.as_slice())?;
+    let (again, places) = written_rows(alloc, &rows)?;
     if again.as_slice() != bytes.as_slice() {
         return Ok(None);
     }
-    Ok(Some(rows))
+    Ok(Some((rows, places)))
+}
+
+// Whether there is at least one row, the rows are strictly ordered, and their lengths are in bounds.
+fn are_taken(rows: &[RowEntry]) -> bool
+    ensures { IsTrue result ↔ ((rows.now ≢ []) × IsStrictlyOrdered (rows_of rows.now)
+        × AllByRecursion IsInBounds (rows_of rows.now)) }
+{
+    !rows.is_empty() && are_strictly_ordered(rows) && are_in_bounds(rows)
 }
 
 // Reads the rows of all blocks, if blocks are written there. It does not test that the blocks are

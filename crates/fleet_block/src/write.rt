@@ -9,7 +9,7 @@ ghost use Rattle.fleet_rows.specs.Row.{rows_of};
 ghost use Rattle.fleet_block.specs.Places.{places_from};
 
 use crate::BlockPlace;
-use crate::cut::first_block_len;
+use crate::cut::split_block;
 use crate::put::{put_row, put_u16, put_u64};
 use fleet_rows::{RowEntry, SlateDBError};
 use std::alloc::Global;
@@ -33,7 +33,7 @@ pub fn written_rows(
     let mut row = 0;
     let mut rest = rows;
     'rest: while !rest.is_empty() {
-        let (block, later) = rest.split_at(first_block_len(rest));
+        let (block, later) = split_block(rest);
         let place = written.len();
         places.push(BlockPlace { row, place })?;
         put_block(&mut headers, &mut written, block)?;

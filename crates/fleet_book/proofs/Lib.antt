@@ -8,3 +8,6 @@ pub mod ModelMerges
 pub mod Repeated
 pub mod Trims
 pub mod ModelManifests
+pub mod Replaced
+pub mod FinishedRuns
+pub mod FinishedFlushes

@@ -3,8 +3,13 @@ use Rattle.std.proofs.Common.{◌≡◌, refl, sym, ◌∙◌, ap, subst, List, 
 use Rattle.std.specs.Prelude.{ℕ, nat_lt, find, flat_map, bytes_eq, Option, Some, None}
 use Rattle.std.specs.List.{AllByRecursion}
 use Rattle.std.proofs.lemmas.List.Elements.{filter-append}
+use Rattle.std.specs.List.Sorted.{IsStrictlySortedBy}
+use Rattle.std.specs.declared.cmp.Ordering.TheVariants.{Less}
+use Rattle.std.proofs.lemmas.Slice.Eq.{bytes_eq-Decides}
 use Rattle.row_laws.proofs.Elements.{all_weaken}
-use Rattle.fleet_model.specs.Nodes.{NodeName, L0, Run, Node, Tree, Segment, name_eq, names_contain}
+use Rattle.row_laws.proofs.KeyRows.{key_alike}
+use Rattle.row_model.specs.Rows.{key_cmp}
+use Rattle.fleet_model.specs.Nodes.{NodeName, L0, Run, Node, Tree, Segment, name_eq, names_contain, segment_at, tree_at, tree_or_empty}
 use Rattle.fleet_model.specs.Trees.{by_first_key, l0_or, on_segment, source_nodes, source_pieces, stepped_tree, stepped_in, to_run, watermark_after, with_run_for, without_nodes}
 use Rattle.fleet_model.specs.Trees as model
 use Rattle.fleet_tree.specs.Trees.{RunFlushes, flush_node, run_node, tree_of, trees_of, trees_with_prefix}
@@ -13,10 +18,13 @@ use Rattle.fleet_tree.specs.Views.{View}
 use Rattle.fleet_tree.specs.declared.run.SortedRun.{SortedRun}
 use Rattle.fleet_tree.specs.declared.tree.LsmTreeState.{LsmTreeState}
 use Rattle.fleet_book.specs.Finishes.{core_after, finished_tree, id_or, is_named, kept_runs, kept_views, mark_after, put_run, segment_after}
-use Rattle.fleet_book.specs.Laws.{AreMoved, DrainsAreTheModels, FlushesFollow, JoinsAreTheModels, MovesAreTheModels}
+use Rattle.fleet_book.specs.Laws.{AreMoved, DrainsAreTheModels, FlushesFollow, JoinsAreTheModels, MovesAreTheModels, TrivialMovesAreTheModels}
 use Rattle.fleet_jobs.specs.Laws.{names_of, view_tables}
+use Rattle.fleet_jobs.proofs.ModelMoved.{moved_runs_are_the_models}
+use Rattle.fleet_jobs.proofs.ModelTaken.{taken_tables_are_the_models}
 use Rattle.fleet_jobs.specs.Sources.{name_of}
-use Rattle.fleet_jobs.specs.Specs.{segment_of, sources_of}
+use Rattle.fleet_jobs.specs.Specs.{destination_of, segment_of, sources_of}
+use Rattle.fleet_jobs.specs.Taken.{taken_tables}
 use Rattle.fleet_jobs.specs.declared.source_id.SourceId.{SourceId}
 use Rattle.fleet_jobs.specs.declared.spec.CompactionSpec.{CompactionSpec}
 
@@ -186,3 +194,42 @@ moves_are_the_models before after tables outputs job output core makes follow mo
     (λ e. joined_in before after spec output s facts.0 e ∙ ap (λ pieces. with_run_for names output.id pieces (tree_of (before s.0) s.1)) (facts.1 e))
     (same_in before after spec output s facts.0))
     (trees_with_prefix core) (both (FlushesFollow before after spec output.id) (AreMoved before tables spec output.views) (trees_with_prefix core) follow moved)))
+
+module _ (flushes : RunFlushes) (p : List ℕ) where
+  -- The segment has the tree that its prefix finds.
+  abbrev IsAt : List (List ℕ × LsmTreeState) → List ℕ × LsmTreeState → Type 0
+  IsAt trees s = bytes_eq p s.0 ≡ true → tree_at p (map (table.segment_of flushes) trees) ≡ tree_of (flushes s.0) s.1
+
+  clash : (a b : List ℕ) → bytes_eq p a ≡ true → bytes_eq p b ≡ true → key_cmp a b ≡ Less → ⊥
+  clash a b e f low =
+      let same = sym ((bytes_eq-Decides p a).0 e) ∙ (bytes_eq-Decides p b).0 f in
+      let equal = key_alike a in
+      let below : key_cmp a a ≡ Less = subst (λ k. key_cmp a k ≡ Less) (sym same) low in
+      cc (equal, below)
+
+  at_later : (s : List ℕ × LsmTreeState) (trees later : List (List ℕ × LsmTreeState)) → AllByRecursion (λ k. key_cmp s.0 k ≡ Less) (map (λ t. t.0) later) → AllByRecursion (IsAt trees) later
+      → AllByRecursion (IsAt (s ∷ trees)) later
+  at_later s trees [] above all = tt
+  at_later s trees (t ∷ later) above all = ((λ e. by e (bytes_eq p s.0) refl), at_later s trees later above.1 all.1)
+    where
+      by : bytes_eq p t.0 ≡ true → (b : Bool) → bytes_eq p s.0 ≡ b → tree_or_empty (cond b (Some (table.segment_of flushes s)) (segment_at p (map (table.segment_of flushes) trees))) ≡ tree_of (flushes t.0) t.1
+      by e true f = absurd (clash s.0 t.0 f e above.0)
+      by e false f = all.0 e
+
+  at_each : (trees : List (List ℕ × LsmTreeState)) → IsStrictlySortedBy key_cmp (map (λ s. s.0) trees) → AllByRecursion (IsAt trees) trees
+  unfolding IsStrictlySortedBy
+  at_each [] sorted = tt
+  at_each (s ∷ trees) sorted = (
+    (λ e. ap (λ b. tree_or_empty (cond b (Some (table.segment_of flushes s)) (segment_at p (map (table.segment_of flushes) trees)))) e),
+    at_later s trees trees sorted.0 (at_each trees sorted.1),
+  )
+
+pub trivial_moves_are_the_models : TrivialMovesAreTheModels
+trivial_moves_are_the_models before after tables outputs job output core sorted in_order fit moved follow =
+    let spec = job.spec in
+    let run = moved_runs_are_the_models tables (destination_of spec) (taken_tables spec core) output fit moved in
+    let taken = taken_tables_are_the_models before spec core in_order in
+    moves_are_the_models before after tables outputs job output core run.0 follow
+    (all_weaken (IsAt before (segment_of spec) (trees_with_prefix core)) (AreMoved before tables spec output.views)
+    (λ s found e. run.1 ∙ ap (by_first_key tables) (taken ∙ ap (source_pieces (names_of spec)) (found e)))
+    (trees_with_prefix core) (at_each before (segment_of spec) (trees_with_prefix core) sorted))

@@ -4,7 +4,7 @@ use Rattle.std.specs.Prelude.{ℕ, ◌==◌, IfSome, find, option_map, bytes_eq,
 use Rattle.std.proofs.lemmas.Cmp.{nat_eq_equiv}
 use Rattle.std.proofs.lemmas.Slice.Eq.{bytes_eq-Decides}
 use Rattle.std.proofs.lemmas.List.Sums.{take_while-cons}
-use Rattle.fleet_model.specs.Nodes.{Segment, Tree, Trees, segment_at}
+use Rattle.fleet_model.specs.Nodes.{Segment, Tree, Trees, runs_of, segment_at}
 use Rattle.step_model.specs.Merging as model
 use Rattle.fleet_tree.specs.Trees.{RunFlushes, flush_node, run_node, newer_than, tree_of, trees_of, trees_with_prefix}
 use Rattle.fleet_tree.specs.Trees as table
@@ -40,11 +40,11 @@ module _ (flushes : ℕ → List ℕ) where
       by true rest = refl
       by false rest = ap (λ (t : Tree). flush_node flushes v ∷ t) rest
 
-  runs_only : (runs : List SortedRun) → model.runs_of (map (run_node flushes) runs) ≡ map (run_node flushes) runs
+  runs_only : (runs : List SortedRun) → runs_of (map (run_node flushes) runs) ≡ map (run_node flushes) runs
   runs_only [] = refl
   runs_only (r ∷ runs) = ap (λ (t : Tree). run_node flushes r ∷ t) (runs_only runs)
 
-  runs_left : (views : List View) (runs : List SortedRun) → model.runs_of (map (flush_node flushes) views ++ map (run_node flushes) runs) ≡ map (run_node flushes) runs
+  runs_left : (views : List View) (runs : List SortedRun) → runs_of (map (flush_node flushes) views ++ map (run_node flushes) runs) ≡ map (run_node flushes) runs
   runs_left [] runs = runs_only runs
   runs_left (v ∷ views) runs = runs_left views runs
 
@@ -55,7 +55,7 @@ module _ (flushes : RunFlushes) where
   one None s same = refl
   one (Some own) s same =
       ap made (ap (λ p. map (flush_node (flushes s.0)) (newer_than mark s.1.l0) ++ map (run_node (flushes p)) own.1.compacted) (sym same)
-      ∙ sym (ap (λ (t : Tree). t ++ model.runs_of (tree_of (flushes own.0) own.1)) (newer (flushes s.0) mark s.1.compacted s.1.l0)
+      ∙ sym (ap (λ (t : Tree). t ++ runs_of (tree_of (flushes own.0) own.1)) (newer (flushes s.0) mark s.1.compacted s.1.l0)
       ∙ ap (λ (t : Tree). map (flush_node (flushes s.0)) (newer_than mark s.1.l0) ++ t) (runs_left (flushes own.0) own.1.l0 own.1.compacted)))
     where
       mark : Option ℕ

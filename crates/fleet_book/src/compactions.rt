@@ -1,9 +1,9 @@
 //! The records, and their versions.
 
-ghost use Rattle.std.specs.Prelude.{◌≡◌, [], IfOk, IfSome, IsOkUnless, IsSome, OnErr, OnOk};
+ghost use Rattle.std.specs.Prelude.{◌≡◌, [], None, IfOk, IfSome, IsOkUnless, IsSome, OnErr, OnOk};
 ghost use Rattle.std.specs.Option.{option_copied};
-ghost use Rattle.fleet_model.specs.Jobs.{trimmed_jobs};
-ghost use Rattle.fleet_jobs.specs.Jobs.{jobs_of, with_status};
+ghost use Rattle.fleet_model.specs.Jobs.{put_job, trimmed_jobs};
+ghost use Rattle.fleet_jobs.specs.Jobs.{job_of, jobs_of, with_status};
 ghost use Rattle.fleet_book.specs.Versions.{with_jobs};
 ghost use Rattle.fleet_book.specs.Records.{AreRising, kept_records, put_record, record_with};
 
@@ -40,6 +40,20 @@ impl Compactions {
         ensures memory { IsOkUnless result SlateDBError.Memory }
     {
         self.jobs.insert(compaction)
+    }
+
+    /// Adds a job with a new id. If out of memory, the job is dropped.
+    pub fn insert_new(&mut self, compaction: Compaction) -> Result<(), SlateDBError>
+        requires { record_with compaction.id self.old.jobs ≡ None }
+        ensures ok { OnOk result
+            (self.new ≡ record self.old { jobs = put_record compaction self.old.jobs }) }
+        // The model puts the job at the same place.
+        ensures model { OnOk result
+            (jobs_of self.new.jobs ≡ put_job (job_of compaction) (jobs_of self.old.jobs)) }
+        ensures err { OnErr result (self.new ≡ self.old) }
+        ensures memory { IsOkUnless result SlateDBError.Memory }
+    {
+        self.jobs.insert_new(compaction)
     }
 
     /// The job with this id.

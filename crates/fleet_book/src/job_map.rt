@@ -3,8 +3,8 @@
 ghost use Rattle.std.specs.Prelude.{◌≡◌, ◌==◌, ◌<◌, ◌++◌, [], ◌∷◌, ◌||◌, if◌then◌else◌, None, Some, false, filter, find, fold, length, nat_lt, slice_get, slice_set, take_while, IfOk, IfSome, IsSome, IsOkUnless, OnErr, OnOk};
 ghost use Rattle.std.specs.Cmp.Lexicographic.{pointwise, lists_per, lists_equiv};
 ghost use Rattle.std.specs.Option.{option_copied, option_map_or};
-ghost use Rattle.fleet_model.specs.Jobs.{trimmed_jobs};
-ghost use Rattle.fleet_jobs.specs.Jobs.{is_open, jobs_of, with_status};
+ghost use Rattle.fleet_model.specs.Jobs.{put_job, trimmed_jobs};
+ghost use Rattle.fleet_jobs.specs.Jobs.{is_open, job_of, jobs_of, with_status};
 ghost use Rattle.fleet_jobs.specs.contracts.compaction.CompactionEq.TheImpl.Laws as job_equiv;
 ghost use Rattle.fleet_jobs.specs.contracts.compaction.CompactionPartialEq.TheImpl.Laws as job_eq;
 ghost use Rattle.fleet_book.specs.Records.{AreRising, kept_records, put_record, record_with};
@@ -117,6 +117,19 @@ impl JobMap {
         let shared = job.shared(self.alloc)?;
         put(&mut self.jobs, shared)?;
         Ok(())
+    }
+
+    /// Adds a job with a new id. From then on its copies share its parts. If out of memory, the job
+    /// is dropped.
+    pub fn insert_new(&mut self, job: Compaction) -> Result<(), SlateDBError>
+        requires { record_with job.id self.old ≡ None }
+        ensures ok { OnOk result (self.new ≡ put_record job self.old) }
+        // The model puts the job at the same place.
+        ensures model { OnOk result (jobs_of self.new ≡ put_job (job_of job) (jobs_of self.old)) }
+        ensures err { OnErr result (self.new ≡ self.old) }
+        ensures memory { IsOkUnless result SlateDBError.Memory }
+    {
+        self.insert(job)
     }
 
     /// Drops each job that is over, except the one with the greatest id.

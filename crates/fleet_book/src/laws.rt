@@ -1,7 +1,7 @@
 //! What a coordinator makes of jobs and of trees, compared with the model, and what merges and
 //! trims of jobs keep.
 
-ghost use Rattle.fleet_book.specs.Laws.{DrainsAreTheModels, JoinsAreTheModels, LastOverJobsAreKept, MergedManifestsAreTheModels, MergesAreTheModels, MovesAreTheModels, OpenJobsAreKept, RepeatedMergesAreIdle, RepeatedTrimsAreIdle};
+ghost use Rattle.fleet_book.specs.Laws.{DrainsAreTheModels, FinishedFlushesStay, FinishedRunsStay, JoinsAreTheModels, LastOverJobsAreKept, MergedManifestsAreTheModels, MergesAreTheModels, MovesAreTheModels, NewJobsAreTheModels, OpenJobsAreKept, RepeatedMergesAreIdle, RepeatedTrimsAreIdle, ReplacementsAreTheModels, TrivialMovesAreTheModels};
 
 /// `finish_drain_compaction` changes the trees as the model's drain does.
 pub fn drains_are_the_models()
@@ -16,6 +16,34 @@ pub fn joins_are_the_models()
 /// `finish_compaction` of a move changes the trees as the model's move does.
 pub fn moves_are_the_models()
     ensures { MovesAreTheModels }
+{}
+
+/// `finish_compaction` of the run that `trivial_move_output` gives changes the trees as the model's
+/// move does.
+pub fn trivial_moves_are_the_models()
+    ensures { TrivialMovesAreTheModels }
+{}
+
+/// `finish_compaction` keeps the order of runs, and loses no run.
+pub fn finished_runs_stay()
+    ensures { FinishedRunsStay }
+{}
+
+/// After `finish_compaction` and `finish_drain_compaction`, the flushes that stay are those that are
+/// newer than the watermark.
+pub fn finished_flushes_stay()
+    ensures { FinishedFlushesStay }
+{}
+
+/// `JobMap::insert` under a new id is the model's insertion.
+pub fn new_jobs_are_the_models()
+    ensures { NewJobsAreTheModels }
+{}
+
+/// `JobMap::insert` and `JobMap::replace` under an id that is there change the jobs as the model
+/// does.
+pub fn replacements_are_the_models()
+    ensures { ReplacementsAreTheModels }
 {}
 
 /// `merge_remote_compactions` takes stored jobs as the model's coordinator does.

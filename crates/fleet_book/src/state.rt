@@ -7,6 +7,7 @@ ghost use Rattle.fleet_model.specs.Polls.{clashes, same_target};
 ghost use Rattle.step_model.specs.Merging.{adopts};
 ghost use Rattle.fleet_jobs.specs.JobParts.{JobParts};
 ghost use Rattle.fleet_book.specs.Finishes.{finished_state, merged_manifest};
+ghost use Rattle.fleet_jobs.specs.Places.{sources_stand};
 ghost use Rattle.fleet_jobs.specs.Jobs.{is_open, job_of, jobs_of, with_status};
 ghost use Rattle.fleet_book.specs.Records.{put_record, record_with};
 ghost use Rattle.fleet_jobs.specs.Specs.{destination_of, segment_of, spec_of};
@@ -162,7 +163,7 @@ impl CompactorState {
     }
 
     /// Replaces the sources of a job by the run that was made of them, and makes the job Completed.
-    /// If out of memory, nothing changes.
+    /// If out of memory, nothing changes. `sources_stand` tests whether the sources stand.
     pub fn finish_compaction(
         &mut self,
         alloc: Global,
@@ -172,6 +173,8 @@ impl CompactorState {
         requires there { IsSome (record_with id (own_jobs self.old)) }
         requires run { ForSome (record_with id (own_jobs self.old))
             (λ job. destination_of job.spec ≡ Some output.id) }
+        requires stand { ForSome (record_with id (own_jobs self.old))
+            (λ job. sources_stand job.spec self.old.manifest.manifest.core ≡ true) }
         ensures ok { OnOk result (IfSome (record_with id (own_jobs self.old))
             (λ job. self.new ≡ finished_state job (Some output) self.old)) }
         ensures err { OnErr result (self.new ≡ self.old) }
@@ -181,11 +184,13 @@ impl CompactorState {
     }
 
     /// Drops the sources of a drain, and makes its job Completed. If out of memory, nothing
-    /// changes.
+    /// changes. `sources_stand` tests whether the sources stand.
     pub fn finish_drain_compaction(&mut self, alloc: Global, id: Ulid) -> Result<(), SlateDBError>
         requires there { IsSome (record_with id (own_jobs self.old)) }
         requires drain { ForSome (record_with id (own_jobs self.old))
             (λ job. destination_of job.spec ≡ None) }
+        requires stand { ForSome (record_with id (own_jobs self.old))
+            (λ job. sources_stand job.spec self.old.manifest.manifest.core ≡ true) }
         ensures ok { OnOk result (IfSome (record_with id (own_jobs self.old))
             (λ job. self.new ≡ finished_state job None self.old)) }
         ensures err { OnErr result (self.new ≡ self.old) }

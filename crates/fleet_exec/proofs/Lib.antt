@@ -1,4 +1,5 @@
 pub mod ActiveJobs
+pub mod Attempts
 pub mod Bounded
 pub mod Cuts
 pub mod Finished

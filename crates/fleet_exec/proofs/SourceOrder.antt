@@ -15,7 +15,7 @@ use Rattle.row_laws.proofs.Ranges.{all_in}
 use Rattle.fleet_fold.proofs.JobsLast.{all_append}
 use Rattle.fleet_iter.specs.Merge.{merge_two, merged_lists, goes_first, MergesSort}
 use Rattle.fleet_iter.specs.declared.iterator.IterationOrder.TheVariants.{Ascending}
-use Rattle.fleet_block.proofs.Ordered.{decided}
+use Rattle.fleet_rows.proofs.Ordered.{decided}
 use Rattle.fleet_exec.specs.Ranges.{source_rows, ranged_sources, AreSources}
 use Rattle.fleet_exec.proofs.Opened.{flat_in, merged_in, ordered}
 

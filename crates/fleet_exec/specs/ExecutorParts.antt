@@ -9,7 +9,7 @@ pub record ActiveParts : Type 0 where
   pub args : StartCompactionJobArgs
   pub ctx : ContextParts
 
--- The active jobs in the order of their starts, and whether the executor was stopped.
+-- The active jobs by rising id, and whether the executor was stopped.
 pub record ExecutorParts : Type 0 where
   pub jobs : List ActiveParts
   pub stopped : Bool

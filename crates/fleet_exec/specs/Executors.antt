@@ -1,5 +1,5 @@
 -- The active jobs of an executor, and how its calls change them.
-use Rattle.std.specs.Prelude.{◌≡◌, ◌≢◌, ℕ, ◌-◌, ◌≤◌, ◌==◌, true, List, [], ◌∷◌, ◌++◌, find, length, map, max, slice_get, slice_set, option_map, Option, Some, IfNone, IfSome}
+use Rattle.std.specs.Prelude.{◌≡◌, ◌≢◌, ℕ, ◌-◌, ◌<◌, ◌≤◌, ◌==◌, nat_lt, not, true, if◌then◌else◌, List, [], ◌∷◌, ◌++◌, filter, find, length, map, max, slice_get, slice_set, option_map, Option, Some, IfNone, IfSome}
 use Rattle.std.specs.List.{AllByRecursion}
 use Rattle.std.specs.Option.{option_map_or}
 use Rattle.row_model.specs.Lists.{Pairs}
@@ -42,9 +42,22 @@ pub record IsChanged (id : ℕ) (change : ActiveParts → ActiveParts) (old new 
 abbrev pub AreDistinct : List ActiveParts → Type 0
 AreDistinct jobs = Pairs (λ a b. a ≢ b) (job_ids jobs)
 
--- No two active jobs have one id, and a stopped executor has no job.
+-- The ids of the jobs rise.
+abbrev pub AreById : List ActiveParts → Type 0
+AreById jobs = Pairs (λ a b. a < b) (job_ids jobs)
+
+-- Puts a job in front of the first job with a greater id.
+abbrev pub put_job : ActiveParts → List ActiveParts → List ActiveParts
+put_job job [] = job ∷ []
+put_job job (other ∷ jobs) = if nat_lt job.args.id other.args.id then job ∷ other ∷ jobs else other ∷ put_job job jobs
+
+-- The jobs without the one with this id.
+abbrev pub without_job : ℕ → List ActiveParts → List ActiveParts
+without_job id jobs = filter (λ job. not (job.args.id == id)) jobs
+
+-- The ids of active jobs rise, and a stopped executor has no job.
 pub record IsSound (executor : ExecutorParts) : Type 0 where
-  pub distinct : AreDistinct executor.jobs
+  pub by_id : AreById executor.jobs
   pub ended : executor.stopped ≡ true → executor.jobs ≡ []
 
 -- ---- the context of a job
@@ -84,6 +97,12 @@ pub record StartsAs (args : StartCompactionJobArgs) (most : ℕ) (job : ActivePa
   pub same : job.args ≡ args
   pub given : IfSome args.ctx (λ context. job.ctx ≡ context)
   pub planned : IfNone args.ctx (IsPlanned args most job.ctx)
+
+-- A job that starts with these arguments is put among the jobs.
+pub record IsStarted (args : StartCompactionJobArgs) (most : ℕ) (old new : List ActiveParts) : Type 0 where
+  pub job : ActiveParts
+  pub starts : StartsAs args most job
+  pub placed : new ≡ put_job job old
 
 -- ---- the tables of a job
 

@@ -1,6 +1,6 @@
 //! A job that runs.
 
-ghost use Rattle.std.specs.Prelude.{◌≡◌, ◌≤◌, ◌++◌, [], ◌∷◌, length, IfOk, IsOkUnless, IsSome, OnErr, OnOk, Some};
+ghost use Rattle.std.specs.Prelude.{◌≡◌, ◌≤◌, ◌<◌, ◌^◌, length, IfOk, IsOkUnless, IsSome, OnErr, OnOk, Some};
 ghost use Rattle.std.specs.Option.{ForNone};
 ghost use Rattle.fleet_exec.specs.Executors.{IsPlanned, StartsAs, fresh_parts, settings_with, with_table};
 
@@ -9,7 +9,7 @@ use fleet_jobs::CompactionContext;
 use fleet_plan::{Subcompaction, plan_subcompaction_ranges};
 use fleet_range::BytesRange;
 use fleet_rows::{Settings, SlateDBError, Ulid};
-use fleet_tree::{SsTableHandle, TableList};
+use fleet_tree::SsTableHandle;
 use std::alloc::Global;
 use std::marker::Model;
 
@@ -36,7 +36,8 @@ impl ActiveJob {
         args: StartCompactionJobArgs,
         max_subcompactions: u64,
     ) -> Result<ActiveJob, SlateDBError>
-        requires { ForNone args.ctx (IsSome args.retention_min_seq) }
+        requires floor { ForNone args.ctx (IsSome args.retention_min_seq) }
+        requires few { max_subcompactions < 2 ^ 32 }
         ensures job { IfOk result (StartsAs args max_subcompactions) }
         ensures memory { IsOkUnless result SlateDBError.Memory }
     {
@@ -66,41 +67,17 @@ impl ActiveJob {
         &self.ctx
     }
 
-    /// Adds a table at the end of the list of a range, counted from 1.
-    pub(crate) fn add_table(
-        &mut self,
-        alloc: Global,
-        range: u32,
-        table: SsTableHandle,
-    ) -> Result<(), SlateDBError>
+    /// Adds a table at the end of the list of a range, counted from 1. If out of memory, the table
+    /// is dropped.
+    pub(crate) fn add_table(&mut self, range: u32, table: SsTableHandle) -> Result<(), SlateDBError>
         requires counted { 1 ≤ range }
         requires there { range ≤ length self.old.ctx.ranges }
         ensures ok { OnOk result (self.new ≡ with_table range table self.old) }
         ensures err { OnErr result (self.new ≡ self.old) }
         ensures memory { IsOkUnless result SlateDBError.Memory }
     {
-        let place = range as usize - 1;
-        let tables = longer(alloc, self.ctx.subcompactions()[place].output_ssts(), table)?;
-        self.ctx.set_output_ssts(place, tables);
-        Ok(())
+        self.ctx.push_output_sst(range as usize - 1, table)
     }
-}
-
-// A list of copies of these tables, with one more table at its end.
-fn longer(
-    alloc: Global,
-    tables: &[SsTableHandle],
-    table: SsTableHandle,
-) -> Result<TableList, SlateDBError>
-    ensures list { IfOk result (λ list. list ≡ tables.now ++ table ∷ []) }
-    ensures memory { IsOkUnless result SlateDBError.Memory }
-{
-    let mut copies = Vec::with_capacity(alloc, tables.len())?;
-    'tables: for table in tables {
-        copies.push(table.clone()?)?;
-    }
-    copies.push(table)?;
-    TableList::from_vec(alloc, copies)
 }
 
 // A context for a job that has none yet.
@@ -110,7 +87,8 @@ fn planned_context(
     floor: u64,
     max_subcompactions: u64,
 ) -> Result<CompactionContext, SlateDBError>
-    requires { args.now.retention_min_seq ≡ Some floor }
+    requires floor { args.now.retention_min_seq ≡ Some floor }
+    requires few { max_subcompactions < 2 ^ 32 }
     ensures context { IfOk result (IsPlanned args.now max_subcompactions) }
     ensures memory { IsOkUnless result SlateDBError.Memory }
 {

@@ -1,10 +1,10 @@
 //! The jobs that run.
 
-ghost use Rattle.std.specs.Prelude.{◌≡◌, ◌↔◌, ◌+◌, ◌≤◌, ◌==◌, [], false, true, filter, length, not, option_map, slice_get, slice_set, IfSome, IsNone, IsOk, IsOkUnless, IsSome, IsSomeAnd, IsTrue, OnErr, OnOk, if◌then◌else◌};
+ghost use Rattle.std.specs.Prelude.{◌≡◌, ◌↔◌, ◌+◌, ◌≤◌, ◌<◌, ◌^◌, ◌==◌, nat_lt, [], false, true, length, not, option_map, slice_get, slice_set, IfSome, IsNone, IsOk, IsOkUnless, IsSome, IsSomeAnd, IsTrue, OnErr, OnOk, if◌then◌else◌};
 ghost use Rattle.std.specs.Bool.{OnFalse, OnTrue};
 ghost use Rattle.std.specs.List.{prefix_len};
 ghost use Rattle.std.specs.Option.{ForNone, option_copied};
-ghost use Rattle.fleet_exec.specs.Executors.{AreDistinct, IsChanged, OthersStay, StartsAs, active_job_with, with_table};
+ghost use Rattle.fleet_exec.specs.Executors.{AreById, AreDistinct, IsChanged, IsStarted, OthersStay, StartsAs, active_job_with, job_ids, put_job, with_table, without_job};
 
 use crate::StartCompactionJobArgs;
 use crate::active_job::ActiveJob;
@@ -15,7 +15,7 @@ use std::alloc::Global;
 use std::marker::Model;
 
 /// The jobs that run. Each has been started and not stopped since, and there are none after
-/// `stop`. Contracts see the jobs in the order of their starts, and whether `stop` was called.
+/// `stop`. Contracts see the jobs by rising id, and whether `stop` was called.
 #[derive(Debug, Drop)]
 pub struct Executor {
     jobs: ListOf<ActiveJob>,
@@ -55,11 +55,14 @@ impl Executor {
     ) -> Result<(), SlateDBError>
         requires new { IsNone (active_job_with args.id self.old.jobs) }
         requires floor { ForNone args.ctx (IsSome args.retention_min_seq) }
+        requires few { max_subcompactions < 2 ^ 32 }
         ensures started { OnOk result (OnFalse self.old.stopped
             (IsSomeAnd (active_job_with args.id self.new.jobs) (StartsAs args max_subcompactions))) }
         ensures others { OthersStay args.id self.old.jobs self.new.jobs }
         ensures count { OnOk result (OnFalse self.old.stopped
             (length self.new.jobs ≡ length self.old.jobs + 1)) }
+        ensures placed { OnOk result (OnFalse self.old.stopped
+            (IsStarted args max_subcompactions self.old.jobs self.new.jobs)) }
         ensures stopped { self.new.stopped ≡ self.old.stopped }
         ensures after_stop { OnTrue self.old.stopped (self.new ≡ self.old) }
         ensures ok_after_stop { OnTrue self.old.stopped (IsOk result) }
@@ -70,7 +73,7 @@ impl Executor {
             return Ok(());
         }
         let job = ActiveJob::start(alloc, args, max_subcompactions)?;
-        self.jobs.push(job)
+        insert_job(&mut self.jobs, job)
     }
 
     /// Ends the job with this id. Returns whether it was active.
@@ -80,6 +83,7 @@ impl Executor {
         ensures others { OthersStay id self.old.jobs self.new.jobs }
         ensures count { length self.old.jobs
             ≡ length self.new.jobs + (if result then 1 else 0) }
+        ensures left { self.new.jobs ≡ without_job id self.old.jobs }
         ensures stopped { self.new.stopped ≡ self.old.stopped }
     {
         let active = with_id(self.jobs.as_slice(), id).is_some();
@@ -99,6 +103,7 @@ impl Executor {
     pub fn len(&self) -> u64
         ensures count { result ≡ length self.now.jobs }
         ensures distinct { AreDistinct self.now.jobs }
+        ensures by_id { AreById self.now.jobs }
         ensures none_after_stop { OnTrue self.now.stopped (result ≡ 0) }
     {
         self.jobs.len()
@@ -138,7 +143,6 @@ impl Executor {
     /// If out of memory, the table is dropped.
     pub fn add_table(
         &mut self,
-        alloc: Global,
         id: Ulid,
         range: u32,
         table: SsTableHandle,
@@ -150,11 +154,12 @@ impl Executor {
             ≡ option_map (with_table range table) (active_job_with id self.old.jobs)) }
         ensures others { OthersStay id self.old.jobs self.new.jobs }
         ensures count { length self.new.jobs ≡ length self.old.jobs }
+        ensures ids { job_ids self.new.jobs ≡ job_ids self.old.jobs }
         ensures stopped { self.new.stopped ≡ self.old.stopped }
         ensures err { OnErr result (self.new ≡ self.old) }
         ensures memory { IsOkUnless result SlateDBError.Memory }
     {
-        add_table_to(alloc, &mut self.jobs, id, range, table)
+        add_table_to(&mut self.jobs, id, range, table)
     }
 }
 
@@ -162,6 +167,23 @@ fn with_id(jobs: &[ActiveJob], id: Ulid) -> Option<&ActiveJob>
     ensures { option_copied result ≡ active_job_with id jobs.now }
 {
     jobs.iter().find(|job| job.id() == id)
+}
+
+// Inserts a job in front of the first job with a greater id.
+fn insert_job(jobs: &mut ListOf<ActiveJob>, job: ActiveJob) -> Result<(), SlateDBError>
+    ensures ok { OnOk result (jobs.new ≡ put_job job jobs.old) }
+    ensures err { OnErr result (jobs.new ≡ jobs.old) }
+    ensures memory { IsOkUnless result SlateDBError.Memory }
+{
+    let place = place_after(jobs.as_slice(), job.id());
+    jobs.insert(place as u64, job)
+}
+
+// The number of jobs in front of the first job with an id above this one.
+fn place_after(jobs: &[ActiveJob], id: Ulid) -> usize
+    ensures { result ≡ prefix_len (λ job. not (nat_lt id job.args.id)) jobs.now }
+{
+    jobs.iter().take_while(|job| job.id() <= id).count()
 }
 
 // The place of the job with this id, or the number of jobs if there is none.
@@ -173,7 +195,7 @@ fn place_of(jobs: &[ActiveJob], id: Ulid) -> usize
 
 // Drops the job with this id.
 fn end_job(jobs: &mut ListOf<ActiveJob>, id: Ulid)
-    ensures { jobs.new ≡ filter (λ job. not (job.args.id == id)) jobs.old }
+    ensures { jobs.new ≡ without_job id jobs.old }
 {
     let mut items = jobs.take().into_vec();
     items.retain(|job| job.id() != id);
@@ -182,7 +204,6 @@ fn end_job(jobs: &mut ListOf<ActiveJob>, id: Ulid)
 
 // Adds a table to a range of the job with this id.
 fn add_table_to(
-    alloc: Global,
     jobs: &mut ListOf<ActiveJob>,
     id: Ulid,
     range: u32,
@@ -196,12 +217,11 @@ fn add_table_to(
     ensures memory { IsOkUnless result SlateDBError.Memory }
 {
     let place = place_of(jobs.as_slice(), id);
-    add_table_at(alloc, jobs, place, range, table)
+    add_table_at(jobs, place, range, table)
 }
 
 // Adds a table to a range of the job at a place.
 fn add_table_at(
-    alloc: Global,
     jobs: &mut ListOf<ActiveJob>,
     place: usize,
     range: u32,
@@ -216,7 +236,7 @@ fn add_table_at(
     ensures memory { IsOkUnless result SlateDBError.Memory }
 {
     let mut items = jobs.take().into_vec();
-    let added = items[place].add_table(alloc, range, table);
+    let added = items[place].add_table(range, table);
     *jobs = ListOf::from_vec(items);
     added
 }

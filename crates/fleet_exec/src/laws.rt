@@ -1,7 +1,8 @@
-//! Laws about what the calls of this crate make of ranges. Each law is a function with an empty
-//! body, and its clause states the law.
+//! Laws about what the calls of this crate make of ranges, and about the jobs of an executor. Each
+//! law is a function with an empty body, and its clause states the law.
 
 ghost use Rattle.row_model.specs.Fold.{Operator};
+ghost use Rattle.fleet_exec.specs.Attempts.{AttemptsFollowJobs};
 ghost use Rattle.fleet_exec.specs.Turns.{FinishMakesJob, RangesMakeJob, TakenAndFinishedMakeAll, TakenAreFirst};
 
 /// Let `next_table` give tables of a range one after the other, each after the last row of the
@@ -31,4 +32,11 @@ pub fn ranges_make_job()
 /// range after the other, all that the job makes.
 pub fn finish_makes_job()
     ensures { (merge : Operator) → FinishMakesJob merge }
+{}
+
+/// Let an attempt of a worker be seen of each active job of an executor, under the job's id. Then
+/// the executor's calls find, add and end attempts as a worker does in the definitions, by rising
+/// id.
+pub fn attempts_follow_jobs()
+    ensures { AttemptsFollowJobs }
 {}

@@ -1,10 +1,8 @@
 //! A test of what is required of a job's sources.
 
 ghost use Rattle.std.specs.Prelude.{◌≡◌, ◌↔◌, IsTrue, IfOk, IfErr, IsOkUnless};
-ghost use Rattle.std.specs.Ordering.{is_lt};
-ghost use Rattle.row_model.specs.Rows.{row_cmp, are_ordered};
+ghost use Rattle.row_model.specs.Rows.{are_ordered};
 ghost use Rattle.fleet_iter.specs.Iteration.{CanFail};
-ghost use Rattle.fleet_rows.specs.Row.{row_of};
 ghost use Rattle.fleet_rows.specs.declared.errors.SlateDBError.TheVariants as SlateDBError;
 ghost use Rattle.fleet_fold.specs.Retention.{IsReadable};
 ghost use Rattle.fleet_exec.specs.Ranges.{AreSources};
@@ -13,16 +11,8 @@ use crate::SourceSet;
 use crate::open::merged_in;
 use fleet_iter::{RowSource, merges_sort};
 use fleet_range::BytesRange;
-use fleet_rows::{RowEntry, SlateDBError};
+use fleet_rows::{SlateDBError, row_order};
 use std::alloc::Global;
-
-// Whether a row comes before another: it has a lesser key, or an equal key and a greater sequence.
-fn stands_before(row: &RowEntry, other: &RowEntry) -> bool
-    ensures { result ≡ is_lt (row_cmp (row_of row.now) (row_of other.now)) }
-{
-    let keys = row.key.as_slice().cmp(other.key.as_slice());
-    keys.then(other.seq.cmp(&row.seq)).is_lt()
-}
 
 // Whether each row comes before the next.
 fn stand_in_order<T: RowSource>(alloc: Global, source: &mut T) -> Result<bool, SlateDBError>
@@ -36,7 +26,7 @@ fn stand_in_order<T: RowSource>(alloc: Global, source: &mut T) -> Result<bool, S
     };
     let mut last = first;
     'rows: while let Some(row) = source.next_row(alloc)? {
-        if !stands_before(&last, &row) {
+        if !row_order(&last, &row).is_lt() {
             return Ok(false);
         }
         last = row;

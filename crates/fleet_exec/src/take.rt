@@ -7,7 +7,7 @@ ghost use Rattle.fleet_fold.specs.Retention.{IsReadable};
 ghost use Rattle.fleet_exec.specs.Taking.{is_left, Takes, RefusesTaking};
 
 use bytes::Bytes;
-use fleet_iter::RowSource;
+use fleet_iter::{RowSource, is_written};
 use fleet_rows::{RowEntry, SlateDBError};
 use std::alloc::Global;
 
@@ -17,7 +17,7 @@ fn is_left(row: &RowEntry, cursor: &Option<(Bytes, u64)>) -> bool
     ensures { result ≡ is_left cursor.now (row_of row.now) }
 {
     match cursor {
-        Some((key, seq)) => !(row.key == *key && *seq <= row.seq),
+        Some((key, seq)) => !is_written(row, key, *seq),
         None => true,
     }
 }

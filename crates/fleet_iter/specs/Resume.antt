@@ -1,9 +1,10 @@
 -- Rows after a cursor, which is the key and the sequence of the row that was written last.
-use Rattle.std.specs.Prelude.{◌≡◌, ℕ, nat_le, ◌&&◌, bytes_eq, List, filter, Bool, true, false, Option, Some, None}
+use Rattle.std.specs.Prelude.{◌≡◌, ℕ, nat_le, ◌&&◌, bytes_eq, List, filter, Bool, true, false, Option, Some, None, ◌≢◌}
 use Rattle.row_model.specs.Rows.{Row, IsStrictlyOrdered}
 use Rattle.row_laws.specs.Keys.{is_from}
 use Rattle.row_laws.specs.Resume.{Cursor, is_unwritten}
 use Rattle.fleet_iter.specs.Iteration.{IteratorState, Passes, from_key, without_first}
+use Rattle.fleet_rows.specs.declared.errors.SlateDBError.{SlateDBError}
 
 -- Whether a row has the cursor's key and a sequence that is not below the cursor's. Such a row is written
 -- already.
@@ -32,6 +33,14 @@ pub record SoughtAfter (sought : List ℕ → IteratorState → Type 0) (cursor 
 abbrev pub ResumesBy : (List ℕ → IteratorState → Type 0) → Option Cursor → IteratorState → IteratorState → Type 0
 ResumesBy sought None old new = new ≡ old
 ResumesBy sought (Some cursor) old new = SoughtAfter sought cursor new
+
+-- Resuming is refused with the error with which a call of the inner iterator failed it. There is a cursor, and
+-- the failed iterator is what that call left.
+pub record InnerFails {T : Type 0} (Sound : T → Type 0) (state : T → IteratorState) (cursor : Option Cursor) (e : SlateDBError) : Type 0 where
+  pub sought : cursor ≢ None
+  pub left : T
+  pub sound : Sound left
+  pub failed : (state left).failure ≡ Some e
 
 -- Of strictly ordered rows, those after a cursor are exactly the rows from its key on that are not written
 -- yet.

@@ -20,6 +20,6 @@ pub use iterator::{IterationOrder, RowEntryIterator, RowSource};
 pub use list::{EmptyIterator, ListIterator};
 pub use merge::{MergeIterator, merges_rise, merges_sort};
 pub use peeking::PeekingIterator;
-pub use resuming::{ResumingIterator, resumes_after};
+pub use resuming::{ResumingIterator, is_written, resumes_after};
 pub use rising::{are_rising, ordered_rows_rise};
 pub use tracked::TrackedRowEntryIterator;

@@ -6,33 +6,26 @@ ghost use Rattle.row_laws.specs.Keys.{is_below};
 ghost use Rattle.fleet_rows.specs.Row.{row_of};
 ghost use Rattle.fleet_iter.specs.Iteration.{IteratorState, Inits, Nexts, Seeks, CanFail, AreRising, from_key, is_exact};
 ghost use Rattle.fleet_iter.specs.declared.iterator.IterationOrder.TheVariants as in_order;
-ghost use Rattle.fleet_iter.specs.Merge.{keys_in, cmp_in, hides, head_passes, AllTaken, Takes, Drops, Steps, Skips, SkipsTo, StepsFrom, is_known, Begins, LeavesFrom, NoneFailed, IsHandedOn, starting, merged_lists, merged_left, rows_left, given_rows, are_whole, are_exact, MergesSort, MergesRise};
+ghost use Rattle.fleet_iter.specs.Merge.{cmp_in, hides, head_passes, AllTaken, Takes, Drops, Steps, Skips, SkipsTo, StepsFrom, is_known, Begins, LeavesFrom, NoneFailed, IsHandedOn, starting, merged_lists, merged_left, rows_left, given_rows, are_whole, are_exact, MergesSort, MergesRise};
 ghost use Rattle.fleet_iter.specs.Tracked.{row_bytes, first_bytes, kept_back, counted_bytes, taken_at_once};
 ghost use Rattle.fleet_iter.specs.MergeState.{state_of, merge_of, IsSound};
 
 use crate::heads::Heads;
 use crate::tracked::row_bytes;
 use crate::{Failure, IterationOrder, RowEntryIterator, RowSource, TrackedRowEntryIterator};
-use bytes::Bytes;
-use fleet_rows::{RowEntry, SlateDBError, ValueDeletable};
+use fleet_rows::{RowEntry, SlateDBError, ValueDeletable, row_order};
 use std::alloc::Global;
 use std::cmp::Ordering;
 use std::mem;
-
-fn compare_keys(order: IterationOrder, key: &Bytes, other: &Bytes) -> Ordering
-    ensures { result ≡ keys_in order key.now other.now }
-{
-    match order {
-        IterationOrder::Ascending => key.cmp(other),
-        IterationOrder::Descending => other.cmp(key),
-    }
-}
 
 /// Compares rows by key in an iteration order, and rows of one key by falling sequence.
 pub(crate) fn compare(order: IterationOrder, row: &RowEntry, other: &RowEntry) -> Ordering
     ensures { result ≡ cmp_in order (row_of row.now) (row_of other.now) }
 {
-    compare_keys(order, &row.key, &other.key).then(other.seq.cmp(&row.seq))
+    match order {
+        IterationOrder::Ascending => row_order(row, other),
+        IterationOrder::Descending => other.key.cmp(&row.key).then(other.seq.cmp(&row.seq)),
+    }
 }
 
 // Whether a row hides a later one: both have the same key, and the first one is no operand.

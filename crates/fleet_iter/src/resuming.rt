@@ -1,11 +1,11 @@
 //! Iterators that resume after a cursor.
 
-ghost use Rattle.std.specs.Prelude.{◌≡◌, None, true, OnOk, IfOk, IfErr};
+ghost use Rattle.std.specs.Prelude.{◌≡◌, ◌≢◌, None, Some, true, OnOk, IfOk, IfErr};
 ghost use Rattle.std.specs.Option.{option_copied};
 ghost use Rattle.fleet_rows.specs.Row.{row_of};
 ghost use Rattle.fleet_iter.specs.Iteration.{Inits, Nexts, Seeks, CanFail, AreRising, without_first, is_exact};
 ghost use Rattle.fleet_iter.specs.Peek.{ahead, HasBegun};
-ghost use Rattle.fleet_iter.specs.Resume.{is_written, Resumes, ResumesBy, ResumesAfter};
+ghost use Rattle.fleet_iter.specs.Resume.{is_written, InnerFails, Resumes, ResumesBy, ResumesAfter};
 ghost use Rattle.fleet_iter.specs.ResumeState.{state_of, IsSound, Sought};
 
 use crate::{PeekingIterator, RowEntryIterator, RowSource, TrackedRowEntryIterator};
@@ -13,8 +13,10 @@ use bytes::Bytes;
 use fleet_rows::{RowEntry, SlateDBError};
 use std::alloc::Global;
 
-// Whether a row has this key and a sequence of at least `seq`.
-fn is_written(row: &RowEntry, key: &Bytes, seq: u64) -> bool
+/// Whether a row is written already after a cursor with this key and this sequence: it has the key,
+/// and its sequence is at least `seq`.
+#[inline]
+pub fn is_written(row: &RowEntry, key: &Bytes, seq: u64) -> bool
     ensures { result ≡ is_written (key.now, seq) (row_of row.now) }
 {
     row.key == *key && seq <= row.seq
@@ -35,6 +37,7 @@ fn first_unwritten<T: RowSource>(
         { rows = without_first (is_written (key.now, seq)) (T.state source.old).rows }) }
     ensures begun { IfOk result (λ row. HasBegun row (T.state source.new)) }
     ensures err { IfErr result (CanFail (T.state source.old).whole) }
+    ensures failed { IfErr result (λ e. (T.state source.new).failure ≡ Some e) }
     ensures sound { T.sound source.new }
 {
     'rows: while let Some(row) = source.next_row(alloc)? {
@@ -62,6 +65,8 @@ fn first_after<T: RowSource>(
         (T.sought source.old) cursor.now (T.state source.old) (ahead row (T.state source.new))) }
     ensures begun { IfOk result (λ row. HasBegun row (T.state source.new)) }
     ensures err { IfErr result (CanFail (is_exact (T.state source.old))) }
+    ensures failed { IfErr result (λ e. (T.state source.new).failure ≡ Some e) }
+    ensures cursor { IfErr result (λ _. cursor.now ≢ None) }
     ensures sound { T.sound source.new }
 {
     match cursor {
@@ -84,7 +89,8 @@ pub struct ResumingIterator<T: RowEntryIterator> {
 
 impl<T: RowEntryIterator> ResumingIterator<T> {
     /// Makes an iterator of the rows from the cursor's key on, without the first rows of that key
-    /// whose sequence is at least the cursor's. Without a cursor it gives all rows.
+    /// whose sequence is at least the cursor's. Without a cursor it gives all rows. It is refused
+    /// exactly if the inner iterator fails in this call, and then with the error of that failure.
     pub fn new(
         alloc: Global,
         iterator: T,
@@ -101,6 +107,7 @@ impl<T: RowEntryIterator> ResumingIterator<T> {
         ensures start { IfOk result (λ r. r.start ≡ resume_cursor) }
         ensures sound { IfOk result (λ r. IsSound T.sound T.state r) }
         ensures err { IfErr result (CanFail (is_exact (T.state iterator))) }
+        ensures failed { IfErr result (InnerFails T.sound T.state resume_cursor) }
     {
         let mut source = iterator;
         let peeked = first_after(alloc, &mut source, &resume_cursor)?;

@@ -3,3 +3,8 @@ pub mod ModelTaken
 pub mod ModelMoved
 pub mod ModelMovable
 pub mod Continued
+pub mod Indexed
+pub mod Stretches
+pub mod Lowest
+pub mod Standing
+pub mod ModelPlaces

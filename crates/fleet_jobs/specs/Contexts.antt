@@ -1,9 +1,10 @@
 -- Contexts of attempts, and how they are seen in the model.
-use Rattle.std.specs.Prelude.{◌≡◌, ℕ, List, map, Option, Some, None, [], ⊤}
+use Rattle.std.specs.Prelude.{◌≡◌, ℕ, List, map, option_map, Option, Some, None, [], ⊤, IfSome}
 use Rattle.std.specs.List.{AllZip}
 use Rattle.std.specs.Option.{unwrap_or}
 use Rattle.row_model.specs.Lists.{IsPrefixOf}
 use Rattle.row_model.specs.Ranges.{Range}
+use Rattle.fleet_model.specs.AttemptsFit.{ContextExtends}
 use Rattle.fleet_model.specs.Jobs.{Context, knows_cut}
 use Rattle.fleet_range.specs.Keys.{range_of}
 use Rattle.fleet_rows.specs.Settings.{settings_of}
@@ -71,7 +72,7 @@ pub record IsContinued (earlier later : ContextParts) : Type 0 where
   pub settings : settings_in later ≡ settings_in earlier
   pub ranges : AllZip IsExtended earlier.ranges later.ranges
 
--- If there was a context and a new one is given, the new one continues it.
+-- If there was a context and a new one is given, the new one extends it, as the model says.
 abbrev pub FollowsContext : Option ContextParts → Option ContextParts → Type 0
-FollowsContext (Some earlier) (Some later) = IsContinued earlier later
-FollowsContext _ _ = ⊤
+FollowsContext earlier None = ⊤
+FollowsContext earlier (Some later) = IfSome (option_map context_of earlier) (λ context. ContextExtends context (context_of later))

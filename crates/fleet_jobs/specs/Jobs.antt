@@ -1,8 +1,9 @@
 -- Records of jobs, and the jobs of the model that they stand for.
-use Rattle.std.specs.Prelude.{ℕ, Bool, not, List, [], map, option_map, Option, None}
+use Rattle.std.specs.Prelude.{ℕ, Bool, not, List, [], ◌++◌, flat_map, map, option_map, Option, None}
 use Rattle.fleet_model.specs.Jobs.{Job, Jobs, is_finished}
 use Rattle.fleet_jobs.specs.ContextParts.{ContextParts}
-use Rattle.fleet_jobs.specs.Contexts.{context_of, table_ids}
+use Rattle.fleet_tree.specs.declared.handle.SsTableHandle.{SsTableHandle}
+use Rattle.fleet_jobs.specs.Contexts.{context_of, ranges_in, table_ids}
 use Rattle.fleet_jobs.specs.JobParts.{JobParts}
 use Rattle.fleet_jobs.specs.Specs.{spec_of}
 use Rattle.fleet_jobs.specs.Status.{status_of}
@@ -64,3 +65,7 @@ is_open job = not (is_finished (status_of job.status))
 -- The ids of the jobs, in their order.
 abbrev pub job_ids : List JobParts → List ℕ
 job_ids jobs = map (λ job. job.id) jobs
+
+-- The tables that the record of a job names: first those of its context, and then those that it wrote.
+abbrev pub job_handles : JobParts → List SsTableHandle
+job_handles job = flat_map (λ range. range.output_ssts) (ranges_in job.ctx) ++ flat_map (λ tables. tables) job.outputs

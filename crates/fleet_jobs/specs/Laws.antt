@@ -1,12 +1,16 @@
 -- Laws: what jobs take and make of trees, and how their records change, is as the model says.
-use Rattle.std.specs.Prelude.{◌≡◌, ℕ, ◌+◌, true, false, ◌&&◌, not, List, [], ◌++◌, map, filter, option_map, Option, Some, None, is_some}
+use Rattle.std.specs.Prelude.{◌≡◌, ℕ, ◌+◌, ◌==◌, Bool, true, false, ◌&&◌, ◌||◌, not, List, [], ◌++◌, map, filter, option_map, Option, Some, None, is_some}
 use Rattle.std.specs.List.{AllByRecursion}
 use Rattle.std.specs.Ordering.{is_le}
 use Rattle.row_model.specs.Rows.{key_cmp}
-use Rattle.fleet_model.specs.Jobs.{JobSpec, is_drain}
-use Rattle.fleet_model.specs.Nodes.{NodeName, is_l0, Tables, table_rows, tree_at}
+use Rattle.fleet_model.specs.AttemptsFit.{ContextExtends}
+use Rattle.fleet_model.specs.Gates.{is_free, reserves_nodes, submit_gate}
+use Rattle.fleet_model.specs.Jobs.{Job, JobSpec, Jobs, contains, is_drain, nodes_of}
+use Rattle.fleet_model.specs.JobsFit.{SourcesStand}
+use Rattle.fleet_model.specs.Nodes.{NodeName, is_l0, names, Tables, table_rows, tree_at}
 use Rattle.fleet_model.specs.Polls.{PollInput, can_move}
 use Rattle.fleet_model.specs.Records.{Unrecorded, beaten_by, claimed_by, finished_by, to_completed, to_failed, to_scheduled, to_waiting}
+use Rattle.fleet_model.specs.Sources.{is_apart}
 use Rattle.fleet_model.specs.Trees.{by_first_key, first_key, last_key, source_nodes, source_pieces}
 use Rattle.fleet_tree.specs.Trees.{RunFlushes, flush_node, run_node, trees_of}
 use Rattle.fleet_tree.specs.Views.{View}
@@ -14,10 +18,11 @@ use Rattle.fleet_tree.specs.declared.handle.SsTableHandle.{SsTableHandle}
 use Rattle.fleet_tree.specs.declared.manifest.ManifestCore.{ManifestCore}
 use Rattle.fleet_tree.specs.declared.run.SortedRun.{SortedRun}
 use Rattle.fleet_jobs.specs.ContextParts.{ContextParts}
-use Rattle.fleet_jobs.specs.Contexts.{context_of, table_ids}
+use Rattle.fleet_jobs.specs.Contexts.{IsContinued, context_of, table_ids}
 use Rattle.fleet_jobs.specs.JobParts.{JobParts}
 use Rattle.fleet_jobs.specs.Jobs.{job_of, with_status}
 use Rattle.fleet_jobs.specs.Moves.{moved_run}
+use Rattle.fleet_jobs.specs.Places.{held_nodes, nodes_at, sources_stand}
 use Rattle.fleet_jobs.specs.Sources.{name_of}
 use Rattle.fleet_jobs.specs.Specs.{destination_of, segment_of, sources_of, spec_of}
 use Rattle.fleet_jobs.specs.Taken.{taken_runs, taken_tables, taken_views}
@@ -119,3 +124,27 @@ abbrev pub EndsAreTheModels : Type 0
 EndsAreTheModels = (worker : ℕ) (unrecorded : Unrecorded) (outputs : List (List SsTableHandle)) (job : JobParts)
     → job_of (record (with_status own.Compacted job) { worker = worker_at worker unrecorded.moment; ctx = None; outputs = outputs; cut = unrecorded.kept_cut })
     ≡ finished_by worker unrecorded (map table_ids outputs) (job_of job)
+
+-- A context that continues another one extends it, as the model says.
+abbrev pub ContinuedContextsExtend : Type 0
+ContinuedContextsExtend = (earlier later : ContextParts) → IsContinued earlier later → ContextExtends (context_of earlier) (context_of later)
+
+-- The nodes of the tree that a segment has are the model's.
+abbrev pub NodesAreTheModels : Type 0
+NodesAreTheModels = (flushes : RunFlushes) (segment : List ℕ) (core : ManifestCore) → names (tree_at segment (trees_of flushes core)) ≡ nodes_at segment core
+
+-- If the sources of a job stand as the model says, the job may be finished.
+abbrev pub StandingSourcesStand : Type 0
+StandingSourcesStand = (flushes : RunFlushes) (job : JobParts) (core : ManifestCore) → SourcesStand (trees_of flushes core) (job_of job) → sources_stand job.spec core ≡ true
+
+-- A job that passes the model's gate for submitted jobs may be finished.
+abbrev pub SubmittedSourcesStand : Type 0
+SubmittedSourcesStand = (flushes : RunFlushes) (jobs : Jobs) (lost : List ℕ) (accepts : JobSpec → Bool) (job : JobParts) (core : ManifestCore)
+    → submit_gate (trees_of flushes core) jobs lost accepts (job_of job) ≡ None → sources_stand job.spec core ≡ true
+
+-- If no job with the id of a job holds nodes, the job touches no held node exactly if none of its nodes is among the
+-- held ones.
+abbrev pub HeldNodesDecide : Type 0
+HeldNodesDecide = (jobs : Jobs) (lost : List ℕ) (job : Job)
+    → AllByRecursion (λ other. (job.id == other.id) ≡ true → (reserves_nodes other || contains lost other.id) ≡ false) jobs
+    → is_apart (nodes_of job.spec) (held_nodes jobs lost) ≡ is_free jobs lost job

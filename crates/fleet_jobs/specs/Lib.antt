@@ -12,3 +12,5 @@ pub mod Jobs
 pub mod Taken
 pub mod Moves
 pub mod Laws
+pub mod Indexed
+pub mod Places

@@ -1,6 +1,6 @@
 //! Jobs, as their records keep them.
 
-ghost use Rattle.std.specs.Prelude.{◌≡◌, ◌++◌, [], ◌∷◌, IfOk, IsOkUnless, OnOk, Some, count_by, flat_map, not, option_map};
+ghost use Rattle.std.specs.Prelude.{◌≡◌, ◌<◌, ◌^◌, ◌++◌, [], ◌∷◌, IfOk, IsOkUnless, OnErr, OnOk, Some, count_by, flat_map, length, not, option_map};
 ghost use Rattle.std.specs.Arc.{arc_value};
 ghost use Rattle.std.specs.Fmt.{DisplaysOnOk};
 ghost use Rattle.std.specs.Option.{option_copied};
@@ -124,10 +124,10 @@ impl Compaction {
     }
 
     /// The tables that the job wrote, range by range. The Rust crate keeps them in one list.
-    pub fn outputs(&self) -> &[TableList]
+    pub fn outputs(&self) -> &OutputList
         ensures { result.now ≡ self.now.outputs }
     {
-        self.output_ssts.get().as_slice()
+        self.output_ssts.get()
     }
 
     /// The context from which an attempt can go on.
@@ -142,7 +142,8 @@ impl Compaction {
 
     /// The ranges of the context. There are none without a context.
     pub fn subcompactions(&self) -> &[Subcompaction]
-        ensures { result.now ≡ ranges_in self.now.ctx }
+        ensures ranges { result.now ≡ ranges_in self.now.ctx }
+        ensures few { length (ranges_in self.now.ctx) < 2 ^ 32 }
     {
         match self.ctx() {
             Some(ctx) => ctx.subcompactions(),
@@ -208,7 +209,7 @@ impl Compaction {
         self.bytes_processed = bytes;
     }
 
-    /// Sets or clears the context. A context may only be followed by one that continues it.
+    /// Sets or clears the context. A context may only be followed by one that extends it.
     pub fn set_ctx(&mut self, ctx: Option<CompactionContext>)
         requires { FollowsContext self.old.ctx ctx }
         ensures { self.new ≡ record self.old { ctx = ctx } }
@@ -219,11 +220,28 @@ impl Compaction {
         };
     }
 
-    /// Sets the tables that the job wrote, range by range. In the Rust crate they are in one list.
-    pub fn set_output_ssts(&mut self, output_ssts: OutputList)
-        ensures { self.new ≡ record self.old { outputs = output_ssts } }
+    /// Sets the tables that the job wrote, range by range.
+    pub fn set_outputs(&mut self, outputs: OutputList)
+        ensures { self.new ≡ record self.old { outputs = outputs } }
     {
-        self.output_ssts = Shareable::new(output_ssts);
+        self.output_ssts = Shareable::new(outputs);
+    }
+
+    /// Sets the tables that the job wrote, as those of one range. If out of memory, nothing
+    /// changes.
+    pub fn set_output_ssts(
+        &mut self,
+        alloc: Global,
+        output_ssts: TableList,
+    ) -> Result<(), SlateDBError>
+        ensures ok { OnOk result (self.new ≡ record self.old { outputs = output_ssts ∷ [] }) }
+        ensures err { OnErr result (self.new ≡ self.old) }
+        ensures memory { IsOkUnless result SlateDBError.Memory }
+    {
+        let mut outputs = OutputList::new(alloc);
+        outputs.push(output_ssts)?;
+        self.set_outputs(outputs);
+        Ok(())
     }
 
     pub fn set_attempt(&mut self, attempt: u64)
@@ -262,7 +280,8 @@ impl Compaction {
     /// tables, its context and the tables that the job wrote. This costs less than `clone` and
     /// `shared`, since the copy is made in its place.
     pub fn copy_into(&self, alloc: Global, jobs: &mut Vec<Compaction>) -> Result<(), AllocError>
-        ensures { OnOk result (jobs.new.items ≡ jobs.old.items ++ self.now ∷ []) }
+        ensures ok { OnOk result (jobs.new.items ≡ jobs.old.items ++ self.now ∷ []) }
+        ensures err { OnErr result (jobs.new.items ≡ jobs.old.items) }
     {
         let spec = self.spec.handle(alloc)?;
         let source_tables = list_handle(&self.source_tables, alloc)?;

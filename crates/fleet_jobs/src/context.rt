@@ -1,6 +1,6 @@
 //! The contexts of attempts.
 
-ghost use Rattle.std.specs.Prelude.{◌≡◌, ◌<◌, length, slice_get, slice_set, IfOk, IfSome, IsOkUnless, Some};
+ghost use Rattle.std.specs.Prelude.{◌≡◌, ◌<◌, ◌^◌, ◌++◌, ◌∷◌, [], length, slice_get, slice_set, IfOk, IfSome, IsOkUnless, OnErr, OnOk, Some};
 ghost use Rattle.std.specs.Option.{ForSome};
 ghost use Rattle.row_model.specs.Lists.{IsPrefixOf};
 ghost use Rattle.fleet_jobs.specs.Contexts.{IsContinued, context_with, release_in, settings_in};
@@ -8,13 +8,13 @@ ghost use Rattle.fleet_jobs.specs.Contexts.{IsContinued, context_with, release_i
 use crate::Release;
 use fleet_plan::{Subcompaction, SubcompactionList};
 use fleet_rows::{Copies, Settings, SlateDBError};
-use fleet_tree::TableList;
+use fleet_tree::{SsTableHandle, TableList};
 use std::alloc::AllocError;
 use std::marker::Model;
 
 /// The context of an attempt: its settings, and its ranges with the tables that were written for
-/// each so far. Another attempt can go on from it. Settings and ranges never change. A worker of
-/// release 1 makes it without a cut. Contracts see its parts.
+/// each so far. Another attempt can go on from it. Settings and ranges never change, and there are
+/// fewer than 2^32 ranges. A worker of release 1 makes it without a cut. Contracts see its parts.
 #[derive(Debug, Drop, PartialEq, Eq)]
 pub struct CompactionContext {
     subcompactions: SubcompactionList,
@@ -25,6 +25,7 @@ pub struct CompactionContext {
 }
 
 impl Model for CompactionContext {
+    ghost use Rattle.std.specs.Prelude.{◌<◌, ◌^◌, length};
     ghost use Rattle.fleet_jobs.specs.ContextParts.{ContextParts};
 
     ghost Value = { ContextParts };
@@ -44,6 +45,8 @@ impl Model for CompactionContext {
       last_run = v.last_run;
       cut = v.cut;
     } };
+
+    ghost invariant = { λ c. length c.subcompactions < 2 ^ 32 };
 }
 
 impl CompactionContext {
@@ -54,6 +57,7 @@ impl CompactionContext {
         settings: Settings,
         release: Release,
     ) -> CompactionContext
+        requires few { length subcompactions.items < 2 ^ 32 }
         ensures { result ≡ context_with subcompactions.items settings release }
     {
         let cut = match release {
@@ -71,9 +75,17 @@ impl CompactionContext {
 
     /// The ranges, each with the tables that were written for it so far.
     pub fn subcompactions(&self) -> &[Subcompaction]
-        ensures { result.now ≡ self.now.ranges }
+        ensures ranges { result.now ≡ self.now.ranges }
+        ensures few { length self.now.ranges < 2 ^ 32 }
     {
         self.subcompactions.as_slice()
+    }
+
+    /// The number of ranges.
+    pub fn ranges_len(&self) -> u32
+        ensures { result ≡ length self.now.ranges }
+    {
+        self.subcompactions.len() as u32
     }
 
     /// The floor: no snapshot reads below it. It is always there.
@@ -141,6 +153,28 @@ impl CompactionContext {
         let mut ranges = self.subcompactions.take().into_vec();
         ranges[subcompaction].set_output_ssts(output_ssts);
         self.subcompactions = SubcompactionList::from_vec(ranges);
+    }
+
+    /// Adds a table at the end of the list of a range, counted from 0. If out of memory, the table
+    /// is dropped.
+    pub fn push_output_sst(
+        &mut self,
+        subcompaction: usize,
+        table: SsTableHandle,
+    ) -> Result<(), SlateDBError>
+        requires { subcompaction < length self.old.ranges }
+        ensures ok { OnOk result (IfSome (slice_get self.old.ranges subcompaction)
+            (λ range. self.new ≡ record self.old {
+              ranges = slice_set self.old.ranges subcompaction
+                  (record range { output_ssts = range.output_ssts ++ table ∷ [] });
+            })) }
+        ensures err { OnErr result (self.new ≡ self.old) }
+        ensures memory { IsOkUnless result SlateDBError.Memory }
+    {
+        let mut ranges = self.subcompactions.take().into_vec();
+        let result = ranges[subcompaction].push_output_sst(table);
+        self.subcompactions = SubcompactionList::from_vec(ranges);
+        result
     }
 
     /// A copy, which shares the lists of tables.

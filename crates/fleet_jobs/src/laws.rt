@@ -1,6 +1,6 @@
 //! What jobs take of trees and how their records change, compared with the model.
 
-ghost use Rattle.fleet_jobs.specs.Laws.{BeatsAreTheModels, ClaimsAreTheModels, CompletionsAreTheModels, EndsAreTheModels, FailuresAreTheModels, MovableJobsAreTheModels, MovedRunsAreTheModels, OpeningsAreTheModels, TakenRunsAreTheModels, TakenTablesAreTheModels, TakenViewsAreTheModels, WaitsAreTheModels};
+ghost use Rattle.fleet_jobs.specs.Laws.{BeatsAreTheModels, ClaimsAreTheModels, CompletionsAreTheModels, ContinuedContextsExtend, EndsAreTheModels, FailuresAreTheModels, HeldNodesDecide, MovableJobsAreTheModels, MovedRunsAreTheModels, NodesAreTheModels, OpeningsAreTheModels, StandingSourcesStand, SubmittedSourcesStand, TakenRunsAreTheModels, TakenTablesAreTheModels, TakenViewsAreTheModels, WaitsAreTheModels};
 
 /// `get_l0_sst_views` gives the flushes among the model's source nodes.
 pub fn taken_views_are_the_models()
@@ -58,8 +58,35 @@ pub fn beats_are_the_models()
     ensures { BeatsAreTheModels }
 {}
 
-/// `set_status` with Compacted, `set_worker`, `set_ctx` with None, `set_output_ssts` and `set_cut`
+/// `set_status` with Compacted, `set_worker`, `set_ctx` with None, `set_outputs` and `set_cut`
 /// make a job as the model's finish does.
 pub fn ends_are_the_models()
     ensures { EndsAreTheModels }
+{}
+
+/// After `CompactionContext::set_output_ssts` a context extends the one before, so that `set_ctx`
+/// takes it.
+pub fn continued_contexts_extend()
+    ensures { ContinuedContextsExtend }
+{}
+
+/// `nodes_at` gives the model's nodes of a tree.
+pub fn nodes_are_the_models()
+    ensures { NodesAreTheModels }
+{}
+
+/// If the sources of a job stand as the model says of a stored job, `sources_stand` holds.
+pub fn standing_sources_stand()
+    ensures { StandingSourcesStand }
+{}
+
+/// If a job passes the gate for submitted jobs, `sources_stand` holds.
+pub fn submitted_sources_stand()
+    ensures { SubmittedSourcesStand }
+{}
+
+/// A job that holds no nodes passes the rule on held nodes exactly if `held_nodes` leaves its
+/// nodes.
+pub fn held_nodes_decide()
+    ensures { HeldNodesDecide }
 {}

@@ -1,6 +1,6 @@
 //! One range of a job.
 
-ghost use Rattle.std.specs.Prelude.{◌≡◌, [], IfOk, IsOkUnless};
+ghost use Rattle.std.specs.Prelude.{◌≡◌, ◌++◌, ◌∷◌, [], IfOk, IsOkUnless, OnErr, OnOk};
 ghost use Rattle.row_model.specs.Lists.{IsPrefixOf};
 
 use fleet_range::BytesRange;
@@ -65,6 +65,16 @@ impl Subcompaction {
         ensures { self.new ≡ record { range = self.old.range; output_ssts = output_ssts } }
     {
         self.output_ssts = output_ssts;
+    }
+
+    /// Adds a table at the end of the list. If out of memory, the table is dropped.
+    pub fn push_output_sst(&mut self, table: SsTableHandle) -> Result<(), SlateDBError>
+        ensures ok { OnOk result (self.new
+            ≡ record self.old { output_ssts = self.old.output_ssts ++ table ∷ [] }) }
+        ensures err { OnErr result (self.new ≡ self.old) }
+        ensures memory { IsOkUnless result SlateDBError.Memory }
+    {
+        self.output_ssts.push(table)
     }
 
     /// A copy, which shares the list of tables.

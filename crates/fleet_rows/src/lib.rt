@@ -1,11 +1,12 @@
-//! Rows as tables store them, ids of tables and jobs, lists and texts that contracts can see, the
-//! settings of a compaction, and the errors of the fleet.
+//! Rows as tables store them and their order, ids of tables and jobs, lists and texts that contracts
+//! can see, the settings of a compaction, and the errors of the fleet.
 #![tactic(auto)]
 
 mod copies;
 mod errors;
 mod key_value;
 mod list;
+mod order;
 mod row;
 mod settings;
 mod text;
@@ -14,7 +15,8 @@ mod ulid;
 pub use copies::Copies;
 pub use errors::{CompactionFilterError, MergeOperatorError, SlateDBError};
 pub use key_value::KeyValue;
-pub use list::{AttemptList, JobList, ListOf, NamesList, PlaceList, RuleList};
+pub use list::{AttemptList, IdList, JobList, ListOf, NamesList, PlaceList, RuleList};
+pub use order::{are_in_bounds, are_strictly_ordered, row_order};
 pub use row::{RowEntry, ValueDeletable};
 pub use settings::Settings;
 pub use text::Text;

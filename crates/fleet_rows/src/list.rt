@@ -164,6 +164,9 @@ impl<T: Eq> Eq for ListOf<T> {
 /// A list of ids of jobs or of tables.
 pub type JobList = ListOf<Ulid>;
 
+/// Ids of tables.
+pub type IdList = ListOf<Ulid>;
+
 /// A list of jobs, each with the number of the rule that it failed.
 pub type RuleList = ListOf<(Ulid, u8)>;
 

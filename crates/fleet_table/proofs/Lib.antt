@@ -1,4 +1,3 @@
-pub mod Tested
 pub mod Cursors
 pub mod Spots
 pub mod InRange

@@ -6,7 +6,8 @@ ghost use Rattle.std.specs.Ordering.{is_le};
 ghost use Rattle.row_model.specs.Bounds.{IsInBounds};
 ghost use Rattle.row_model.specs.Read.{seen_at};
 ghost use Rattle.row_model.specs.Rows.{key_cmp, rows_of_key, IsStrictlyOrdered};
-ghost use Rattle.row_model.specs.TableBytes.{blocks_of_rows, row_bytes, rows_bytes, table_bytes};
+ghost use Rattle.row_model.specs.TableBytes.{blocks_of_rows, row_bytes, rows_bytes, table_bytes, IsTaken};
+ghost use Rattle.fleet_block.specs.Places.{places_from};
 ghost use Rattle.fleet_model.specs.Handles.{describe};
 ghost use Rattle.fleet_rows.specs.Row.{row_of, rows_of};
 ghost use Rattle.fleet_table.specs.Cursors.{is_before_spot, key_after, rows_before, IsCursor, StandsAt};
@@ -59,25 +60,40 @@ impl Model for Kept {
 
 impl Kept {
     /// These rows as bytes.
-    pub(crate) fn from_rows(alloc: Global, rows: Vec<RowEntry>) -> Result<Kept, SlateDBError>
-        requires some { rows.items ≢ [] }
-        requires ordered { IsStrictlyOrdered (rows_of rows.items) }
-        requires in_bounds { AllByRecursion IsInBounds (rows_of rows.items) }
-        ensures rows { IfOk result (λ kept. kept ≡ rows_of rows.items) }
+    pub(crate) fn from_rows(alloc: Global, rows: &[RowEntry]) -> Result<Kept, SlateDBError>
+        requires some { rows.now ≢ [] }
+        requires ordered { IsStrictlyOrdered (rows_of rows.now) }
+        requires in_bounds { AllByRecursion IsInBounds (rows_of rows.now) }
+        ensures rows { IfOk result (λ kept. kept ≡ rows_of rows.now) }
+        ensures memory { IsOkUnless result SlateDBError.Memory }
+    {
+        let (bytes, places) = written_rows(alloc, rows)?;
+        Kept::of_written(alloc, rows, Bytes::from_vec(bytes)?, places)
+    }
+
+    /// These rows, which are written as these bytes, and whose blocks begin at these places.
+    pub(crate) fn of_written(
+        alloc: Global,
+        rows: &[RowEntry],
+        bytes: Bytes,
+        places: Vec<BlockPlace>,
+    ) -> Result<Kept, SlateDBError>
+        requires taken { IsTaken (rows_of rows.now) }
+        requires bytes { bytes ≡ table_bytes (rows_of rows.now) }
+        requires places { places.items ≡ places_from 0 0 (blocks_of_rows 0 (rows_of rows.now)) }
+        ensures rows { IfOk result (λ kept. kept ≡ rows_of rows.now) }
         ensures memory { IsOkUnless result SlateDBError.Memory }
     {
         bytes_are_decoded();
-        let (size, blocks) = cut_blocks(alloc, rows.as_slice())?;
-        let (bytes, places) = written_rows(alloc, rows.as_slice())?;
-        let last_seq = last_of(rows.as_slice()).seq;
+        let (size, blocks) = cut_blocks(alloc, rows)?;
         Ok(Kept {
             alloc,
-            bytes: Bytes::from_vec(bytes)?,
+            bytes,
             places,
             blocks,
             size,
             count: rows.len(),
-            last_seq,
+            last_seq: last_of(rows).seq,
         })
     }
 

@@ -10,8 +10,7 @@ mod run_data;
 mod span;
 mod table;
 
-pub use fleet_block::are_strictly_ordered;
+pub use fleet_rows::{are_in_bounds, are_strictly_ordered};
 pub use iterator::TableIterator;
-pub use order::are_in_bounds;
 pub use run_data::{RunData, RunIterator};
 pub use table::TableData;

@@ -62,13 +62,8 @@ impl TableData {
         ensures table { IfOk result (λ table. table ≡ rows_of rows.items) }
         ensures memory { IsOkUnless result SlateDBError.Memory }
     {
-        let (first_key, last_key) = end_keys(alloc, rows.as_slice())?;
-        let kept = Kept::from_rows(alloc, rows)?;
-        Ok(TableData {
-            first_key,
-            last_key,
-            kept: Arc::new(alloc, kept)?,
-        })
+        let kept = Kept::from_rows(alloc, &rows)?;
+        table_of(alloc, &rows, kept)
     }
 
     /// The table that has these bytes, or None if no table has them. It keeps a copy of the bytes.
@@ -77,10 +72,11 @@ impl TableData {
         ensures memory { IsOkUnless result SlateDBError.Memory }
     {
         let copy = Bytes::copy_from_slice(alloc, bytes)?;
-        let Some(rows) = rows_from_bytes(alloc, &copy)? else {
+        let Some((rows, places)) = rows_from_bytes(alloc, &copy)? else {
             return Ok(None);
         };
-        Ok(Some(TableData::from_rows(alloc, rows)?))
+        let kept = Kept::of_written(alloc, &rows, copy, places)?;
+        Ok(Some(table_of(alloc, &rows, kept)?))
     }
 
     /// The bytes of the table.
@@ -201,6 +197,21 @@ impl Copies for TableData {
     fn copied(&self) -> Result<TableData, AllocError> {
         Clone::clone(self)
     }
+}
+
+// The table that keeps these rows.
+fn table_of(alloc: Global, rows: &[RowEntry], kept: Kept) -> Result<TableData, SlateDBError>
+    requires some { rows.now ≢ [] }
+    requires kept { kept ≡ rows_of rows.now }
+    ensures table { IfOk result (λ table. table ≡ rows_of rows.now) }
+    ensures memory { IsOkUnless result SlateDBError.Memory }
+{
+    let (first_key, last_key) = end_keys(alloc, rows)?;
+    Ok(TableData {
+        first_key,
+        last_key,
+        kept: Arc::new(alloc, kept)?,
+    })
 }
 
 // The keys of the first and the last row, one after the other in memory of their own.

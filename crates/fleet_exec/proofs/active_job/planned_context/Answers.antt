@@ -12,7 +12,7 @@ returns-clause-context c =
     let runs = c.as_slice-runs.result.now in
     let plan = c.in_ok-ranges.ensures in
     is_planned args c.args.max_subcompactions c.args.floor (views_of views runs) c.in_ok-ranges.ranges.items c.in_ok-subcompactions.field-0.items c.settings.result c.new.result
-    c.requires
+    c.requires.floor
     (ap (λ vs. views_of vs runs) c.as_slice-views.ensures ∙ ap (views_of args.l0_sst_views) c.as_slice-runs.ensures)
     record { anchors = plan.ranges; rows = plan.planned; few = subst (λ n. n ≤ max c.args.max_subcompactions 1) (sym (length-map c.in_ok-ranges.ranges.items range_of)) plan.at_most; rising = plan.rising; every_key = plan.every_key }
     c.in_ok-subcompactions.ensures.parts

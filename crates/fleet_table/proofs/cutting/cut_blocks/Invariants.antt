@@ -5,7 +5,7 @@ use Rattle.fleet_table.proofs.BlockCuts.{IsCutSoFar}
 use Rattle.fleet_table.proofs.cutting.cut_blocks.Given as goal
 
 abbrev pub invariant-rest : goal.invariant-rest
-invariant-rest l = IsCutSoFar (rows_of l.rows) (rows_of l.rest) (blocks_of l.builder.blocks) l.builder.offset l.builder.filled
+invariant-rest l = IsCutSoFar (rows_of l.rows) (rows_of l.rest) (blocks_of l.blocks) l.offset
 
 abbrev pub decreases-rest : goal.decreases-rest
 decreases-rest l = length l.rest

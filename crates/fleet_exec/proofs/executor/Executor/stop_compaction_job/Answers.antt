@@ -1,7 +1,7 @@
 use Rattle.std.proofs.Common.{sym, subst, ◌∙◌, ap, refl, length, ◌+◌, cond}
 use Rattle.std.specs.Prelude.{IsNone, is_some}
-use Rattle.fleet_exec.specs.Executors.{AreDistinct, active_job_with}
-use Rattle.fleet_exec.proofs.ActiveJobs.{count_without, distinct_without, is_some-map, none_left, others_left, without}
+use Rattle.fleet_exec.specs.Executors.{AreById, active_job_with, without_job}
+use Rattle.fleet_exec.proofs.ActiveJobs.{count_without, by_id_without, distinct_of, is_some-map, none_left, others_left}
 use Rattle.fleet_exec.proofs.executor.Executor.stop_compaction_job.Goals as goal
 
 pub invariant_of-self : goal.invariant_of-self
@@ -9,8 +9,8 @@ invariant_of-self c =
     let id = c.args.id in
     let jobs = c.self.inside.jobs in
     record {
-      distinct = subst AreDistinct (sym c.end_job.ensures) (distinct_without id jobs c.self.invariant.distinct);
-      ended = λ stopped. c.end_job.ensures ∙ ap (without id) (c.self.invariant.ended stopped);
+      by_id = subst AreById (sym c.end_job.ensures) (by_id_without id jobs c.self.invariant.by_id);
+      ended = λ stopped. c.end_job.ensures ∙ ap (without_job id) (c.self.invariant.ended stopped);
     }
 
 pub returns-clause-ended : goal.returns-clause-ended
@@ -30,6 +30,6 @@ returns-clause-count c =
     let looked = c.with_id.ensures ∙ ap (active_job_with id) c.as_slice.ensures in
     let active = c.is_some-active.ensures ∙ sym (is_some-map (λ job. job.now) c.with_id.result) ∙ ap (λ o. is_some o) looked in
     sym (ap (λ e. length e.jobs) c.self.view_is)
-    ∙ count_without id jobs c.self.invariant.distinct
+    ∙ count_without id jobs (distinct_of jobs c.self.invariant.by_id)
     ∙ ap (λ js. length js + cond (is_some (active_job_with id jobs)) 1 0) (sym c.end_job.ensures)
     ∙ ap (λ b. length c.end_job.new.jobs + cond b 1 0) (sym active)

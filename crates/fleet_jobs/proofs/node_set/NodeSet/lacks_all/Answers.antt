@@ -1,0 +1,8 @@
+use Rattle.std.proofs.Common.{◌∙◌, sym, not}
+use Rattle.std.proofs.lemmas.List.Folds.{list_all-map}
+use Rattle.fleet_model.specs.Nodes.{names_contain}
+use Rattle.fleet_jobs.specs.Sources.{name_of}
+use Rattle.fleet_jobs.proofs.node_set.NodeSet.lacks_all.Goals as goal
+
+pub returns : goal.returns
+returns c = c.lacks_each.ensures ∙ sym (list_all-map (λ x. not (names_contain c.args.self.now x)) name_of c.args.nodes.now)

@@ -1,0 +1,7 @@
+use Rattle.std.proofs.Common.{◌≡◌, ◌++◌, map, take}
+use Rattle.fleet_model.specs.Nodes.{L0}
+use Rattle.fleet_jobs.specs.Sources.{name_of}
+use Rattle.fleet_jobs.proofs.places.add_flushes.Given as goal
+
+abbrev pub invariant-views : goal.invariant-views
+invariant-views l = map name_of l.nodes.items ≡ map name_of l.initial.nodes.items ++ map (λ view. L0 view.id) (take l.view-index l.views)

@@ -1,0 +1,10 @@
+use Rattle.std.proofs.Common.{◌≡◌, map, length}
+use Rattle.fleet_model.specs.Sources.{older_nodes}
+use Rattle.fleet_jobs.specs.Sources.{name_of}
+use Rattle.fleet_jobs.proofs.places.older_nodes.Given as goal
+
+abbrev pub invariant-places : goal.invariant-places
+invariant-places l = older_nodes (map name_of l.sources) (map name_of l.nodes) ≡ older_nodes (map name_of l.sources) (map name_of l.rest)
+
+abbrev pub decreases-places : goal.decreases-places
+decreases-places l = length l.rest
