@@ -7,10 +7,10 @@ use Rattle.fleet_model.specs.Store.{Store}
 use Rattle.fleet_model.specs.Store as model_store
 use Rattle.step_model.specs.LawfulManifests.{ManifestFits}
 use Rattle.step_model.specs.Past.{World}
-use Rattle.step_model.specs.Rivals.{Caller, Rivals}
+use Rattle.step_model.specs.Rivals.{Rivals}
+use Rattle.step_model.specs.Views.{StoreView}
 use Rattle.fleet_tree.specs.declared.manifest.Manifest.{Manifest}
 use Rattle.fleet_tree.specs.declared.manifest.VersionedManifest.{VersionedManifest}
-use Rattle.fleet_jobs.specs.JobParts.{JobParts}
 use Rattle.fleet_jobs.specs.Jobs.{jobs_of}
 use Rattle.fleet_jobs.specs.declared.spec.CompactionSpec.{CompactionSpec}
 use Rattle.fleet_book.specs.Records.{kept_records}
@@ -24,31 +24,31 @@ use Rattle.fleet_store.specs.Exchanges.{manifest_put}
 use Rattle.fleet_store.specs.Manifests.{HasTrees, IsManifest, meant_by}
 use Rattle.fleet_store.specs.Records.{AreRecords}
 use Rattle.fleet_rival.proofs.Again.{put_again_fits, submit_of_fits}
-use Rattle.fleet_rival.proofs.Rivals.{only_met}
+use Rattle.step_laws.proofs.RanLaws.{only_met}
 
-module _ (who : Caller) (world : World) (alone : who.alone ≡ true) where
+module _ (view : StoreView) (alone : view.who.alone ≡ true) where
   -- The stored manifest may be put once more, unchanged, over any version.
-  pub manifest_of_any : (m : VersionedManifest) (version : ℕ) (value : Manifest) (steps : List Step) (jobs : List JobParts)
-      → IsManifest m world.store → value ≡ m.manifest → steps ≡ [] → jobs ≡ [] → ManifestPutFits who world version value (change.Commit steps) jobs
-  manifest_of_any m version value steps jobs is copy none no_jobs = rw (copy, none, no_jobs) (record { lawful = lawful; shown = shown })
+  pub manifest_of_any : (m : VersionedManifest) (version : ℕ) (value : Manifest) (steps : List Step)
+      → IsManifest m view.world.store → value ≡ m.manifest → steps ≡ [] → ManifestPutFits view version value (change.Commit steps) []
+  manifest_of_any m version value steps is copy none = rw (copy, none) (record { lawful = lawful; shown = shown })
     where
-      at : (met : World) → Rivals who world met → version ≡ met.store.manifest.version → m.id ≡ version
+      at : (met : World) → Rivals view.who view.world met → version ≡ met.store.manifest.version → m.id ≡ version
       at met rivals same =
-          ap (λ (b : model_store.Manifest). b.version) is.same ∙ (ap (λ (t : World). t.store.manifest.version) (only_met who world met alone rivals) ∙ sym same)
+          ap (λ (b : model_store.Manifest). b.version) is.same ∙ (ap (λ (t : World). t.store.manifest.version) (only_met view.who view.world met alone rivals) ∙ sym same)
 
-      lawful : MayCall who world (manifest_put version m.manifest (change.Commit []) [])
+      lawful : MayCall view (manifest_put version m.manifest (change.Commit []) [])
       lawful met rivals same =
           let e = at met rivals same in
-          subst (λ v. ManifestFits who.party met (Commit []) (meant_by [] (Commit []) v m.manifest met.store)) e
-          ((put_again_fits who world m is).lawful met rivals (e ∙ same))
+          subst (λ v. ManifestFits view.who.party met (Commit []) (meant_by [] (Commit []) v m.manifest met.store)) e
+          ((put_again_fits view m is).lawful met rivals (e ∙ same))
 
-      shown : (met : World) → Rivals who world met → version ≡ met.store.manifest.version → HasTrees m.manifest [] (Commit []) met.store
-      shown met rivals same = (put_again_fits who world m is).shown met rivals (at met rivals same ∙ same)
+      shown : (met : World) → Rivals view.who view.world met → version ≡ met.store.manifest.version → HasTrees m.manifest [] (Commit []) met.store
+      shown met rivals same = (put_again_fits view m is).shown met rivals (at met rivals same ∙ same)
 
   -- The stored records may be put once more, over any version, as a submit of no jobs.
   pub submit_of_any : (r : VersionedRecords) (version : ℕ) (copy value : Compactions) (specs : List (ℕ × CompactionSpec))
-      → AreRecords (Some r) world.store → copy ≡ r.compactions → value ≡ record copy { jobs = kept_records copy.jobs } → jobs_of value.jobs ≡ trimmed_jobs (jobs_of copy.jobs)
-      → specs ≡ [] → who.party ≡ Submitter → RecordsPutFit who world version value (record_change.Submit specs)
+      → AreRecords (Some r) view.world.store → copy ≡ r.compactions → value ≡ record copy { jobs = kept_records copy.jobs } → jobs_of value.jobs ≡ trimmed_jobs (jobs_of copy.jobs)
+      → specs ≡ [] → view.who.party ≡ Submitter → RecordsPutFit view version value (record_change.Submit specs)
   submit_of_any r version copy value specs are copied kept trim none by = record {
     lawful = λ met rivals. (
       ((fits r.id refl).lawful met rivals).0,
@@ -57,8 +57,8 @@ module _ (who : Caller) (world : World) (alone : who.alone ≡ true) where
     shown = λ met rivals same. (fits version (at met rivals same)).shown met rivals same;
   }
     where
-      at : (met : World) → Rivals who world met → version ≡ records_version met.store.records → version ≡ r.id
-      at met rivals same = same ∙ sym (ap records_version are.same ∙ ap (λ (t : World). records_version t.store.records) (only_met who world met alone rivals))
+      at : (met : World) → Rivals view.who view.world met → version ≡ records_version met.store.records → version ≡ r.id
+      at met rivals same = same ∙ sym (ap records_version are.same ∙ ap (λ (t : World). records_version t.store.records) (only_met view.who view.world met alone rivals))
 
-      fits : (v : ℕ) → v ≡ r.id → RecordsPutFit who world v value (record_change.Submit specs)
-      fits v same = submit_of_fits who world r v copy value are same copied kept trim specs none by
+      fits : (v : ℕ) → v ≡ r.id → RecordsPutFit view v value (record_change.Submit specs)
+      fits v same = submit_of_fits view r v copy value are same copied kept trim specs none by

@@ -9,12 +9,14 @@ use Rattle.step_model.specs.Entries.{did_put_epoch, party_eq, is_epoch_put}
 use Rattle.step_model.specs.LawfulRecords.{RecordsFit}
 use Rattle.step_model.specs.Past.{World}
 use Rattle.step_model.specs.Rivals.{Caller}
+use Rattle.step_model.specs.Views.{StoreView}
 use Rattle.fleet_book.specs.declared.compactions.Compactions.{Compactions}
 use Rattle.fleet_history.specs.declared.record_change.RecordChange.TheVariants as change
 use Rattle.fleet_store.specs.Asks.{RecordsPutFit}
 use Rattle.fleet_store.proofs.Calls.{same_history}
 use Rattle.fleet_rival.specs.Starts.{next_epoch, raised}
-use Rattle.fleet_rival.proofs.Rivals.{no_names, nothing, only_met}
+use Rattle.step_laws.proofs.RanLaws.{only_met}
+use Rattle.fleet_rival.proofs.Rivals.{no_names, nothing}
 
 any_last : {A : Type 0} (p : A → Bool) (xs : List A) (x : A) → p x ≡ true → IsTrue (list_any p (xs ++ x ∷ []))
 any_last p [] x holds = rw holds refl
@@ -60,14 +62,14 @@ records_fit_here who world by empty =
     }
 
 -- So it may put the first records, with that epoch and no jobs.
-pub records_fit : (who : Caller) (world new : World) (value : Compactions) (epoch : ℕ) → who.alone ≡ true → who.party ≡ Coordinator 1 → world.store.records ≡ None
-    → new ≡ raised world → value ≡ record { compactor_epoch = epoch; jobs = [] } → epoch ≡ next_epoch world → RecordsPutFit who new 0 value (change.Epoch epoch)
-records_fit who world new value epoch alone by empty left is next = rw (left, is, next) (record {
+pub records_fit : (view : StoreView) (world : World) (value : Compactions) (epoch : ℕ) → view.who.alone ≡ true → view.who.party ≡ Coordinator 1 → world.store.records ≡ None
+    → view.world ≡ raised world → value ≡ record { compactor_epoch = epoch; jobs = [] } → epoch ≡ next_epoch world → RecordsPutFit view 0 value (change.Epoch epoch)
+records_fit view world value epoch alone by empty left is next = rw (is, next) (record {
   lawful = λ met rivals. (
-    no_names who.party met,
+    no_names view.who.party met,
     λ same.
-        subst (λ (t : World). RecordsFit who.merge who.party t (RecordsEpoch (next_epoch world)) (next_epoch world) [])
-        (only_met who (raised world) met alone rivals) (records_fit_here who world by empty),
+        subst (λ (t : World). RecordsFit view.who.merge view.who.party t (RecordsEpoch (next_epoch world)) (next_epoch world) [])
+        (sym left ∙ only_met view.who view.world met alone rivals) (records_fit_here view.who world by empty),
   );
   shown = λ met rivals same. tt;
 })

@@ -1,3 +1,4 @@
 pub mod Callers
 pub mod Rival
+pub mod Placed
 pub mod Starts

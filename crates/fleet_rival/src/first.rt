@@ -37,9 +37,8 @@ fn raise_epoch(store: &mut MemStore, alloc: Global) -> Result<u64, SlateDBError>
         return Err(SlateDBError::Memory);
     };
     value.compactor_epoch = epoch;
-    let jobs = Compactions::new(alloc, 0);
     store.set_actor(0, Party::Coordinator(1));
     let mut under = store.under(&AppendOperator);
-    under.put_manifest(version, value, ManifestChange::Epoch(epoch), &jobs)?;
+    under.put_manifest(version, value, ManifestChange::Epoch(epoch), None)?;
     Ok(epoch)
 }

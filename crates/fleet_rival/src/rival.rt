@@ -8,6 +8,7 @@ ghost use Rattle.fleet_history.specs.declared.party.Party.TheVariants as parties
 ghost use Rattle.fleet_history.specs.declared.record_change.RecordChange.TheVariants as changes;
 ghost use Rattle.fleet_store.specs.Under as lent;
 ghost use Rattle.fleet_rival.specs.Callers.{shared_caller};
+ghost use Rattle.fleet_rival.specs.Rival.{StayWhole};
 
 use fleet_book::{Compactions, VersionedCompactions};
 use fleet_fold::AppendOperator;
@@ -18,6 +19,7 @@ use fleet_store::{Store, Under};
 use fleet_table::TableData;
 use fleet_tree::{Manifest, VersionedManifest};
 use std::alloc::Global;
+use std::snapshot::Snapshot;
 
 /// A store in memory, whose rows are merged by appending, that another party calls too. Before each
 /// versioned put, that party puts the stored object once more, unchanged. So each put of a version
@@ -31,7 +33,7 @@ pub struct Rival<'a> {
 }
 
 impl<'a> Rival<'a> {
-    ghost use Rattle.fleet_rival.specs.Rival.{caller_of, lent_of, store_of};
+    ghost use Rattle.fleet_rival.specs.Rival.{shared_view, view_of};
 
     /// Calls go to this store. Their entries carry this line and this party.
     pub fn new(
@@ -40,9 +42,8 @@ impl<'a> Rival<'a> {
         line: u64,
         party: Party,
     ) -> Rival<'a>
-        ensures store { store_of result ≡ lent.store_of under.entry }
-        ensures same_reference { lent_of result ≡ lent.lent_of under.entry }
-        ensures who { caller_of result ≡ shared_caller append line party }
+        ensures { view_of result
+            ≡ shared_view line party (lent.lent_of under.entry) (lent.store_of under.entry) }
     {
         Rival {
             under,
@@ -88,16 +89,16 @@ fn put_manifest_again(
     ensures rivals { Rivals (shared_caller append line own)
         (lent.store_of under.old).world (lent.store_of under.new).world }
     ensures faults { (lent.store_of under.old).faults ≤ (lent.store_of under.new).faults }
+    ensures whole { StayWhole (lent.store_of under.old) (lent.store_of under.new) }
     ensures same_reference { lent.lent_of under.new ≡ lent.lent_of under.old }
     ensures memory { IsOkUnless result SlateDBError.Memory }
 {
     let stored = under.store().manifest();
     let version = stored.id;
     let value = stored.manifest.clone()?;
-    let jobs = Compactions::new(alloc, 0);
     let why = ManifestChange::Commit(StepList::new(alloc));
     under.set_actor(line, other(own));
-    let _put = under.put_manifest(version, value, why, &jobs);
+    let _put = under.put_manifest(version, value, why, None);
     Ok(())
 }
 
@@ -111,6 +112,7 @@ fn put_records_again(
     ensures rivals { Rivals (shared_caller append line own)
         (lent.store_of under.old).world (lent.store_of under.new).world }
     ensures faults { (lent.store_of under.old).faults ≤ (lent.store_of under.new).faults }
+    ensures whole { StayWhole (lent.store_of under.old) (lent.store_of under.new) }
     ensures same_reference { lent.lent_of under.new ≡ lent.lent_of under.old }
     ensures memory { IsOkUnless result SlateDBError.Memory }
 {
@@ -128,19 +130,12 @@ fn put_records_again(
 }
 
 impl Store for Rival<'_> {
-    ghost use Rattle.fleet_rival.specs.Rival.{caller_of, lent_of, store_of};
+    ghost use Rattle.row_laws.proofs.Lawful.{append_is_lawful};
+    ghost use Rattle.fleet_rival.specs.Rival.{view_of};
 
-    ghost world = { λ r. (store_of r).world };
+    ghost view = { λ r. view_of r };
 
-    ghost who = { λ r. caller_of r };
-
-    ghost faults = { λ r. (store_of r).faults };
-
-    ghost waits = { λ r. (store_of r).waits };
-
-    ghost lent = { λ r. lent_of r };
-
-    ghost place = { λ _. 0 };
+    ghost lawful = { λ _. append_is_lawful };
 
     fn get_manifest(&mut self) -> Result<VersionedManifest, SlateDBError> {
         self.under.set_actor(self.line, self.party);
@@ -152,7 +147,7 @@ impl Store for Rival<'_> {
         version: u64,
         value: Manifest,
         why: ManifestChange,
-        jobs: &Compactions,
+        jobs: Option<Snapshot<Compactions>>,
     ) -> Result<u64, SlateDBError> {
         put_manifest_again(&mut self.under, self.alloc, self.line, self.party)?;
         self.under.set_actor(self.line, self.party);

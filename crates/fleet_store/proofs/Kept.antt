@@ -1,4 +1,4 @@
--- What a store in memory keeps stays what is world of it, call by call.
+-- What a store in memory keeps stays what its world has, call by call.
 use Rattle.std.proofs.Common.{IsTrue, ◌≡◌, refl, ap, sym, subst, ◌∙◌, ℕ, ◌+◌, ◌≤◌, ◌==◌, ◌&&◌, Bool, true, false, if◌then◌else◌, List, [], ◌∷◌, length, Option, Some, None, option_map, arith}
 use Rattle.std.specs.BTreeMap.{insert_entry, is_at}
 use Rattle.std.specs.Map.{remove_entry}

@@ -8,3 +8,5 @@ pub mod Listed
 pub mod Removed
 pub mod Alike
 pub mod Threads
+pub mod Later
+pub mod Described

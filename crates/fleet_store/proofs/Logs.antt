@@ -19,7 +19,7 @@ use Rattle.fleet_store.specs.declared.call.Call.{Call}
 use Rattle.fleet_store.specs.declared.call.Made.{Made}
 use Rattle.fleet_store.proofs.Calls.{called_is, same_history_under}
 
--- What is world after one more call.
+-- The world after one more call.
 pub world_of-push : (calls : List (Snapshot Call)) (call : Snapshot Call) → world_of (map (λ s. s.value) (calls ++ call ∷ [])) ≡ after_kept_call (world_of (map (λ s. s.value) calls)) call.value
 world_of-push calls call =
     ap world_of (map-append (λ s. s.value) calls (call ∷ [])) ∙ fold-append after_kept_call fresh_world (map (λ s. s.value) calls) (call.value ∷ [])
@@ -49,7 +49,7 @@ log_after world history faults line party made event answer shown strike log cal
       short = omega (arith, long, room);
     }
 
--- What is world after a call is remembered.
+-- The world after a call is remembered.
 pub world_of-remembered : (calls new : List (Snapshot Call)) (snap : Snapshot Call) (call : Call) → new ≡ calls ++ snap ∷ [] → snap.value ≡ call
     → world_of (map (λ s. s.value) new) ≡ after_kept_call (world_of (map (λ s. s.value) calls)) call
 world_of-remembered calls new snap call grows is = ap (λ l. world_of (map (λ s. s.value) l)) grows ∙ (world_of-push calls snap ∙ ap (after_kept_call (world_of (map (λ s. s.value) calls))) is)

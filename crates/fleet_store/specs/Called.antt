@@ -1,46 +1,56 @@
--- How a call of a store ends, and what is world of the store afterwards.
-use Rattle.std.specs.Prelude.{◌≡◌, ◌≢◌, ℕ, ◌+◌, ◌<◌, ◌≤◌, Bool, true, false, IsTrue, Option, Some, None, Result, Ok, Err}
-use Rattle.fleet_model.specs.History.{Event, is_get_or_put}
-use Rattle.fleet_model.specs.Exchanges.{Exchange, Fault, event_of, strikes, waiting_after, does_stand}
+-- How a call of a store ends, by what its caller sees before and after.
+use Rattle.std.specs.Prelude.{◌≡◌, ◌≢◌, ℕ, ◌+◌, ◌<◌, ◌≤◌, Bool, true, IsTrue, Some, None, Result, Ok, Err}
+use Rattle.fleet_model.specs.History.{is_get_or_put}
+use Rattle.fleet_model.specs.Exchanges.{Exchange, event_of, records_version}
 use Rattle.fleet_model.specs.Store.{Store}
 use Rattle.step_model.specs.Past.{World}
-use Rattle.step_model.specs.Rivals.{Caller, Rivals, after_call}
+use Rattle.step_model.specs.Rivals.{Rivals, after_call}
+use Rattle.step_model.specs.Views.{StoreView, SameCaller}
 use Rattle.step_model.specs.CourseRuns.{HasRoom}
+use Rattle.step_model.specs.Ran.{Spares, Strikes}
 use Rattle.fleet_rows.specs.declared.errors.SlateDBError.{SlateDBError}
 use Rattle.fleet_rows.specs.declared.errors.SlateDBError.TheVariants.{StoreFault, Conflict, Memory}
 
--- The fault that waits does not strike this event, and comes nearer by it.
-pub record Spares (event : Event) (waits left : Option Fault) : Type 0 where
-  pub spared : strikes event waits ≡ false
-  pub nearer : left ≡ waiting_after event waits
+-- The call was made of the store that it met, and no fault struck it. The history had room for it.
+pub record IsMade (x : Exchange) (met : World) (old new : StoreView) : Type 0 where
+  pub room : HasRoom met x
+  pub leaves : new.world ≡ after_call old.who.line old.who.party x None met
+  pub spares : old.who.alone ≡ true → Spares (event_of x met.store) old.waits new.waits
+  pub no_fault : old.who.alone ≡ true → new.faults ≡ old.faults
 
--- The fault that waits strikes this event, and is used up by it.
-pub record Strikes (event : Event) (waits left : Option Fault) (stands : Bool) : Type 0 where
-  pub struck : strikes event waits ≡ true
-  pub as_said : stands ≡ does_stand waits
-  pub used : left ≡ None
+-- A fault struck the call, which is a get or a put. If nobody else calls, it is the fault that waited.
+pub record IsStruck (x : Exchange) (met : World) (old new : StoreView) : Type 0 where
+  pub counts : IsTrue (is_get_or_put (event_of x met.store))
+  pub stands : Bool
+  pub leaves : new.world ≡ after_call old.who.line old.who.party x (Some stands) met
+  pub strikes : old.who.alone ≡ true → Strikes (event_of x met.store) old.waits new.waits stands
+  pub fault : old.faults < new.faults
+  pub one_fault : old.who.alone ≡ true → new.faults ≡ old.faults + 1
 
--- The end of a call that met this store. `before` and `after` count the faults, and `waits` and `left` are the
--- faults that wait before and after, by which a caller that is alone knows which call is struck. A call that is
--- answered had room in the history. A fault leaves one more fault, and strikes gets and puts alone. A refused
--- put leaves its entry alone, and shows the stored version. If memory runs out, the call is not made. There
--- is no other error.
-module _ {A : Type 0} (who : Caller) (x : Exchange) (met new : World) (before after : ℕ) (waits left : Option Fault) (Gives : A → Type 0) (Refuses : ℕ → Type 0) where
+-- The call was not made, since memory ran out.
+pub record IsNotMade (met : World) (old new : StoreView) : Type 0 where
+  pub leaves : new.world ≡ met
+  pub waits_on : old.who.alone ≡ true → new.waits ≡ old.waits
+  pub no_fault : old.who.alone ≡ true → new.faults ≡ old.faults
+
+-- The end of a call that met this store. There is no other error.
+module _ {A : Type 0} (x : Exchange) (met : World) (old new : StoreView) (Gives : A → Type 0) (Refuses : ℕ → Type 0) where
   abbrev pub Ended : Result A SlateDBError → Type 0
-  Ended (Ok answer) = Gives answer × HasRoom met x × (new ≡ after_call who.line who.party x None met) × (who.alone ≡ true → Spares (event_of x met.store) waits left)
-  Ended (Err StoreFault) =
-      (before < after) × IsTrue (is_get_or_put (event_of x met.store))
-      × ((stands : Bool) × (new ≡ after_call who.line who.party x (Some stands) met) × (who.alone ≡ true → Strikes (event_of x met.store) waits left stands))
-  Ended (Err (Conflict seen)) = Refuses seen × (new ≡ after_call who.line who.party x None met) × (who.alone ≡ true → Spares (event_of x met.store) waits left)
-  Ended (Err Memory) = (new ≡ met) × (who.alone ≡ true → left ≡ waits)
+  Ended (Ok answer) = Gives answer × IsMade x met old new
+  Ended (Err StoreFault) = IsStruck x met old new
+  Ended (Err (Conflict seen)) = Refuses seen × IsMade x met old new
+  Ended (Err Memory) = IsNotMade met old new
   Ended (Err _) = ⊥
 
--- A call of the store. Calls of others may come before it, and the store that it meets decides on its answer.
-pub record Called {A : Type 0} (who : Caller) (old new : World) (before after : ℕ) (waits left : Option Fault) (x : Store → Exchange) (Gives : Store → A → Type 0) (Refuses : Store → ℕ → Type 0) (result : Result A SlateDBError) : Type 0 where
-  pub rise : before ≤ after
+-- A call of the store. Calls of others may come before it, and the store that it meets decides on its answer. Records
+-- that keep their version stay whole.
+pub record Called {A : Type 0} (old new : StoreView) (x : Store → Exchange) (Gives : Store → A → Type 0) (Refuses : Store → ℕ → Type 0) (result : Result A SlateDBError) : Type 0 where
+  pub same : SameCaller old new
+  pub rise : old.faults ≤ new.faults
+  pub whole : records_version old.world.store.records ≡ records_version new.world.store.records → new.processed ≡ old.processed
   pub met : World
-  pub rivals : Rivals who old met
-  pub ended : Ended who (x met.store) met new before after waits left (Gives met.store) (Refuses met.store) result
+  pub rivals : Rivals old.who old.world met
+  pub ended : Ended (x met.store) met old new (Gives met.store) (Refuses met.store) result
 
 -- No call of this kind is refused.
 abbrev pub Never : Store → ℕ → Type 0

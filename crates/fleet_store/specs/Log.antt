@@ -14,7 +14,7 @@ use Rattle.fleet_store.specs.Calls.{exchange_of}
 use Rattle.fleet_store.specs.Strikes.{strike_by, waits_after, faults_after}
 use Rattle.fleet_store.specs.declared.call.Made.{Made}
 
--- What a `Log` shows: what is world of the store, its history, the line and the party of later entries, how many
+-- What a `Log` shows: the world of the store, its history, the line and the party of later entries, how many
 -- faults struck calls, and the fault that waits, if one does.
 pub record LogParts : Type 0 where
   pub world : World
@@ -28,7 +28,7 @@ pub record LogParts : Type 0 where
 abbrev pub fault_of : ℕ × Bool → Fault
 fault_of waits = record { k = waits.0; stands = waits.1 }
 
--- The history is the one that is world, and bounds the number of faults.
+-- The history is that of the world, and bounds the number of faults.
 pub record IsLog (world : World) (history : List HistoryEntry) (faults : ℕ) : Type 0 where
   pub same : history_of history ≡ world.store.history
   pub few : faults ≤ length history

@@ -2,6 +2,7 @@
 -- into a node.
 use Rattle.std.specs.Prelude.{◌≡◌, ℕ, List, [], ◌++◌, map, flat_map, Option, Some, None}
 use Rattle.std.specs.List.{AllByRecursion}
+use Rattle.std.specs.declared.snapshot.Snapshot.{Snapshot}
 use Rattle.fleet_model.specs.Nodes.{Node, Segment, Trees, table_rows}
 use Rattle.fleet_model.specs.Jobs.{JobSpec}
 use Rattle.fleet_model.specs.History as model
@@ -18,6 +19,7 @@ use Rattle.fleet_tree.specs.declared.tree.LsmTreeState.{LsmTreeState}
 use Rattle.fleet_jobs.specs.JobParts.{JobParts}
 use Rattle.fleet_jobs.specs.Specs.{spec_of}
 use Rattle.fleet_book.specs.Records.{record_with}
+use Rattle.fleet_book.specs.declared.compactions.Compactions.{Compactions}
 use Rattle.fleet_store.specs.Handles.{NamesTable}
 
 -- The node without the flushes that went into it.
@@ -50,6 +52,11 @@ pub record IsManifest (manifest : VersionedManifest) (store : model_store.Store)
   pub views : AllByRecursion (NamesTable store.tables) (views_in manifest.manifest.core)
 
 -- ---- the manifest that a put means
+
+-- The jobs that a put shows, or none.
+abbrev pub jobs_shown : Option (Snapshot Compactions) → List JobParts
+jobs_shown None = []
+jobs_shown (Some jobs) = jobs.value.jobs
 
 -- The spec of a job, or a drain of nothing if there is no such job.
 abbrev pub spec_or_none : Option JobParts → JobSpec

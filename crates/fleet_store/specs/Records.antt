@@ -1,5 +1,5 @@
 -- Which records of the model the records of a program stand for.
-use Rattle.std.specs.Prelude.{◌≡◌, List, [], ◌++◌, flat_map, Option, Some, None, option_map}
+use Rattle.std.specs.Prelude.{◌≡◌, ℕ, List, [], ◌++◌, map, flat_map, Option, Some, None, option_map}
 use Rattle.std.specs.List.{AllByRecursion}
 use Rattle.fleet_model.specs.Store.{Store}
 use Rattle.fleet_tree.specs.declared.handle.SsTableHandle.{SsTableHandle}
@@ -21,6 +21,10 @@ DescribeTables jobs store = AllByRecursion (IsDescribed store.tables) (flat_map 
 abbrev pub jobs_or_none : Option VersionedRecords → List JobParts
 jobs_or_none None = []
 jobs_or_none (Some records) = records.compactions.jobs
+
+-- The bytes that the records say each job has processed.
+abbrev pub processed_by : List JobParts → List ℕ
+processed_by jobs = map (λ job. job.bytes_processed) jobs
 
 -- The program's records are the stored ones, and describe their tables.
 pub record AreRecords (records : Option VersionedRecords) (store : Store) : Type 0 where

@@ -17,7 +17,7 @@ pub(crate) enum Made {
     DrawsTable(u64),
     PutsTable(Ulid, Snapshot<TableData>),
     /// The version, the value, the change, and the jobs that a commit does.
-    PutsManifest(u64, Snapshot<Manifest>, Snapshot<ManifestChange>, Snapshot<Compactions>),
+    PutsManifest(u64, Snapshot<Manifest>, Snapshot<ManifestChange>, Option<Snapshot<Compactions>>),
     PutsRecords(u64, Snapshot<Compactions>, Snapshot<RecordChange>),
     ListsTables,
     DeletesTable(Ulid),

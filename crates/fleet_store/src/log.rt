@@ -11,6 +11,7 @@ ghost use Rattle.fleet_model.specs.Exchanges as exchange;
 ghost use Rattle.fleet_store.specs.Calls.{exchange_of};
 ghost use Rattle.fleet_store.specs.Exchanges.{manifest_put, records_put};
 ghost use Rattle.fleet_store.specs.Log.{Adds, IsCall, fault_of};
+ghost use Rattle.fleet_store.specs.Manifests.{jobs_shown};
 ghost use Rattle.fleet_store.specs.Strikes.{answer_under, faults_after, is_performed, strike_by, waits_after};
 
 use crate::call::{Call, Made};
@@ -187,22 +188,17 @@ impl Log {
         version: u64,
         value: &Manifest,
         why: ManifestChange,
-        jobs: &Compactions,
+        jobs: Option<Snapshot<Compactions>>,
         answer: Answer,
     ) -> Result<Option<bool>, AllocError>
         requires { answer_of answer
             ≡ exchange.put_answer version self.old.world.store.manifest.version }
         ensures ok { IfOk result (Adds
-            (manifest_put version value.now why jobs.now.jobs self.old.world.store)
+            (manifest_put version value.now why (jobs_shown jobs) self.old.world.store)
             self.old self.new) }
         ensures err { OnErr result (self.new ≡ self.old) }
     {
-        let made = Made::PutsManifest(
-            version,
-            Snapshot::of(value),
-            Snapshot::of(&why),
-            Snapshot::of(jobs),
-        );
+        let made = Made::PutsManifest(version, Snapshot::of(value), Snapshot::of(&why), jobs);
         self.add(made, Event::PutManifest(why), answer)
     }
 

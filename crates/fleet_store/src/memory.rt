@@ -18,9 +18,9 @@ ghost use Rattle.fleet_book.specs.Versions.{records_of};
 ghost use Rattle.fleet_store.specs.Called.{Never, PutsNext, ShowsStored};
 ghost use Rattle.fleet_store.specs.Exchanges.{manifest_put, noted_exchange, records_put};
 ghost use Rattle.fleet_store.specs.Log.{Adds};
-ghost use Rattle.fleet_store.specs.Manifests.{HasTrees, IsManifest};
-ghost use Rattle.fleet_store.specs.Memory.{Fits, Makes, ended_of, is_done};
-ghost use Rattle.fleet_store.specs.Records.{AreRecords, DescribeTables};
+ghost use Rattle.fleet_store.specs.Manifests.{HasTrees, IsManifest, jobs_shown};
+ghost use Rattle.fleet_store.specs.Memory.{Answers, Fits, Makes, ended_of, is_done};
+ghost use Rattle.fleet_store.specs.Records.{AreRecords, DescribeTables, jobs_or_none, processed_by};
 ghost use Rattle.fleet_store.specs.Strikes.{is_performed};
 ghost use Rattle.fleet_store.specs.Tables.{held_ids, held_rows};
 
@@ -28,7 +28,7 @@ use crate::call::Made;
 use crate::log::{Log, takes_effect};
 use fleet_book::{Compactions, VersionedCompactions};
 use fleet_history::{Answer, Event, HistoryEntry, ManifestChange, Note, Party, RecordChange};
-use fleet_rows::{DRAWN_BASE, JobList, SlateDBError, Ulid};
+use fleet_rows::{DRAWN_BASE, IdList, SlateDBError, Ulid};
 use fleet_table::TableData;
 use fleet_tree::{
     LsmTreeState, Manifest, ManifestCore, SegmentList, TrackerList, VersionedManifest,
@@ -42,7 +42,7 @@ use std::snapshot::Snapshot;
 /// a call that is struck is still one entry of the history.
 pub(crate) type Outcome<T> = Result<(Option<bool>, Result<T, SlateDBError>), AllocError>;
 
-/// A store in memory. Contracts see what is world of it.
+/// A store in memory. Contracts see its world.
 #[derive(Drop)]
 pub struct MemStore {
     log: Log,
@@ -55,12 +55,11 @@ pub struct MemStore {
 
 impl Model for MemStore {
     ghost use Rattle.std.specs.Prelude.{length};
-    ghost use Rattle.fleet_store.specs.Log.{LogParts};
-    ghost use Rattle.fleet_store.specs.Memory.{IsMemory};
+    ghost use Rattle.fleet_store.specs.Memory.{IsMemory, StoreParts, parts_of};
 
-    ghost Value = { LogParts };
+    ghost Value = { StoreParts };
 
-    ghost view = { λ m. m.log };
+    ghost view = { λ m. parts_of m.log m.records };
 
     ghost invariant = { λ m. IsMemory m.log.world.store (length m.log.history)
         m.manifest m.records m.tables.entries m.jobs_drawn m.tables_drawn };
@@ -76,6 +75,7 @@ impl MemStore {
           party = Writer;
           faults = 0;
           waits = None;
+          processed = [];
         }) }
         ensures memory { IsOkUnless result SlateDBError.Memory }
     {
@@ -136,7 +136,7 @@ impl MemStore {
     }
 
     pub(crate) fn make_get_manifest(&mut self) -> Outcome<VersionedManifest>
-        ensures { Makes (Plain event.GetManifest)
+        ensures { Makes (Plain event.GetManifest) []
             (λ manifest. IsManifest manifest self.old.world.store)
             (Never self.old.world.store) self.old self.new result }
     {
@@ -151,11 +151,11 @@ impl MemStore {
         version: u64,
         value: Manifest,
         why: ManifestChange,
-        jobs: &Compactions,
+        jobs: Option<Snapshot<Compactions>>,
     ) -> Outcome<u64>
         requires { version ≡ self.old.world.store.manifest.version
-            → HasTrees value jobs.now.jobs (manifest_change_of why) self.old.world.store }
-        ensures { Makes (manifest_put version value why jobs.now.jobs self.old.world.store)
+            → HasTrees value (jobs_shown jobs) (manifest_change_of why) self.old.world.store }
+        ensures { Makes (manifest_put version value why (jobs_shown jobs) self.old.world.store) []
             (PutsNext version self.old.world.store.manifest.version)
             (ShowsStored version self.old.world.store.manifest.version)
             self.old self.new result }
@@ -170,9 +170,11 @@ impl MemStore {
     }
 
     pub(crate) fn make_get_records(&mut self) -> Outcome<Option<VersionedCompactions>>
-        ensures { Makes (Plain event.GetRecords)
+        ensures made { Makes (Plain event.GetRecords) []
             (λ records. AreRecords records self.old.world.store)
             (Never self.old.world.store) self.old self.new result }
+        ensures whole { Answers (λ records.
+            processed_by (jobs_or_none records) ≡ self.old.processed) result }
     {
         let copy = copied(&self.records)?;
         let answer = records_answer(&self.records);
@@ -188,7 +190,7 @@ impl MemStore {
     ) -> Outcome<u64>
         requires { version ≡ records_version self.old.world.store.records
             → DescribeTables value.jobs self.old.world.store }
-        ensures { Makes (records_put version value why)
+        ensures { Makes (records_put version value why) (processed_by value.jobs)
             (PutsNext version (records_version self.old.world.store.records))
             (ShowsStored version (records_version self.old.world.store.records))
             self.old self.new result }
@@ -203,7 +205,7 @@ impl MemStore {
     }
 
     pub(crate) fn make_draw_job(&mut self, moment: u64) -> Outcome<Ulid>
-        ensures { Makes (DrawsJob moment) (λ id. id ≡ next_job_id moment self.old.world.store)
+        ensures { Makes (DrawsJob moment) [] (λ id. id ≡ next_job_id moment self.old.world.store)
             (Never self.old.world.store) self.old self.new result }
     {
         let _many = self.log.len();
@@ -216,7 +218,7 @@ impl MemStore {
     }
 
     pub(crate) fn make_draw_table(&mut self, moment: u64) -> Outcome<Ulid>
-        ensures { Makes (DrawsTable moment) (λ id. id ≡ next_table_id moment self.old.world.store)
+        ensures { Makes (DrawsTable moment) [] (λ id. id ≡ next_table_id moment self.old.world.store)
             (Never self.old.world.store) self.old self.new result }
     {
         let _many = self.log.len();
@@ -229,7 +231,7 @@ impl MemStore {
     }
 
     pub(crate) fn make_note(&mut self, note: Note) -> Outcome<()>
-        ensures { Makes (noted_exchange note) (λ done. ⊤) (Never self.old.world.store)
+        ensures { Makes (noted_exchange note) [] (λ done. ⊤) (Never self.old.world.store)
             self.old self.new result }
     {
         let strike = self.log.add_plain(note.into_event(), Answer::Done(0))?;
@@ -240,7 +242,7 @@ impl MemStore {
 impl MemStore {
     pub(crate) fn make_put_table(&mut self, id: Ulid, table: TableData) -> Outcome<()>
         requires { is_among self.old.world.store.tables id ≡ false }
-        ensures { Makes (PutsTable id table) (λ done. ⊤) (Never self.old.world.store)
+        ensures { Makes (PutsTable id table) [] (λ done. ⊤) (Never self.old.world.store)
             self.old self.new result }
     {
         let strike = hold(&mut self.log, &mut self.tables, id, table)?;
@@ -248,7 +250,7 @@ impl MemStore {
     }
 
     pub(crate) fn make_get_table(&mut self, id: Ulid) -> Outcome<Option<TableData>>
-        ensures { Makes (Plain (event.GetTable id))
+        ensures { Makes (Plain (event.GetTable id)) []
             (λ rows. rows ≡ held_rows id self.old.world.store)
             (Never self.old.world.store) self.old self.new result }
     {
@@ -258,11 +260,11 @@ impl MemStore {
         Ok((strike, Ok(table)))
     }
 
-    pub(crate) fn make_list_tables(&mut self, alloc: Global) -> Outcome<JobList>
-        ensures { Makes ListsTables (λ ids. ids ≡ held_ids self.old.world.store)
+    pub(crate) fn make_list_tables(&mut self, alloc: Global) -> Outcome<IdList>
+        ensures { Makes ListsTables [] (λ ids. ids ≡ held_ids self.old.world.store)
             (Never self.old.world.store) self.old self.new result }
     {
-        let ids = JobList::from_vec(ids_of(alloc, &self.tables)?);
+        let ids = IdList::from_vec(ids_of(alloc, &self.tables)?);
         let count = ids.len();
         let made = Made::ListsTables;
         let strike = self
@@ -275,7 +277,7 @@ impl MemStore {
 impl MemStore {
     pub(crate) fn make_delete_table(&mut self, id: Ulid) -> Outcome<()>
         requires { IsTrue (is_held self.old.world.store id) }
-        ensures { Makes (DeletesTable id) (λ done. ⊤) (Never self.old.world.store)
+        ensures { Makes (DeletesTable id) [] (λ done. ⊤) (Never self.old.world.store)
             self.old self.new result }
     {
         let made = Made::DeletesTable(id);

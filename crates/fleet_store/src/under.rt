@@ -7,10 +7,11 @@ use crate::{MemStore, Store, SweepStore};
 use fleet_book::{Compactions, VersionedCompactions};
 use fleet_fold::MergeOperator;
 use fleet_history::{ManifestChange, Note, Party, RecordChange};
-use fleet_rows::{JobList, SlateDBError, Ulid};
+use fleet_rows::{IdList, SlateDBError, Ulid};
 use fleet_table::TableData;
 use fleet_tree::{Manifest, VersionedManifest};
 use std::alloc::Global;
+use std::snapshot::Snapshot;
 
 /// A store in memory, lent together with the operator under which its rows are merged. Nobody else
 /// calls it.
@@ -58,20 +59,11 @@ impl<O: MergeOperator> Under<'_, '_, O> {
 }
 
 impl<O: MergeOperator> Store for Under<'_, '_, O> {
-    ghost use Rattle.fleet_store.specs.Memory.{caller_of};
-    ghost use Rattle.fleet_store.specs.Under.{lent_of, operator_of, store_of};
+    ghost use Rattle.fleet_store.specs.Under.{lent_of, operator_of, store_of, view_of};
 
-    ghost world = { λ u. (store_of u).world };
+    ghost view = { λ u. view_of (O.merged (O.settings (operator_of u))) (lent_of u) (store_of u) };
 
-    ghost who = { λ u. caller_of (O.merged (O.settings (operator_of u))) (store_of u) };
-
-    ghost faults = { λ u. (store_of u).faults };
-
-    ghost waits = { λ u. (store_of u).waits };
-
-    ghost lent = { λ u. lent_of u };
-
-    ghost place = { λ _. 0 };
+    ghost lawful = { λ u. O.lawful (O.settings (operator_of u)) };
 
     fn get_manifest(&mut self) -> Result<VersionedManifest, SlateDBError> {
         ended(self.store.make_get_manifest())
@@ -82,7 +74,7 @@ impl<O: MergeOperator> Store for Under<'_, '_, O> {
         version: u64,
         value: Manifest,
         why: ManifestChange,
-        jobs: &Compactions,
+        jobs: Option<Snapshot<Compactions>>,
     ) -> Result<u64, SlateDBError> {
         ended(self.store.make_put_manifest(version, value, why, jobs))
     }
@@ -122,7 +114,7 @@ impl<O: MergeOperator> Store for Under<'_, '_, O> {
 }
 
 impl<O: MergeOperator> SweepStore for Under<'_, '_, O> {
-    fn list_tables(&mut self, alloc: Global) -> Result<JobList, SlateDBError> {
+    fn list_tables(&mut self, alloc: Global) -> Result<IdList, SlateDBError> {
         ended(self.store.make_list_tables(alloc))
     }
 

@@ -1,9 +1,11 @@
-use Rattle.row_model.specs.Append.{append}
-use Rattle.fleet_store.specs.Under.{store_of}
-use Rattle.fleet_rival.proofs.Rivals.{at_once}
+use Rattle.std.proofs.Common.{arith, refl}
+use Rattle.fleet_store.specs.Under.{lent_of, store_of}
+use Rattle.fleet_rival.proofs.Rivals.{after_others, none_came}
 use Rattle.fleet_rival.proofs.rival.RivalStore.draw_job.Goals as goal
 
-pub returns-clause-draws : goal.returns-clause-draws
-returns-clause-draws c =
-    at_once append (store_of c.args.self.now.under) (store_of c.set_actor.new.self) c.args.self.now.line c.args.self.now.party c.set_actor.ensures.store
-    (store_of c.draw_job.new.self) _ _ _ c.draw_job.result c.draw_job.ensures.draws
+pub returns : goal.returns
+returns c =
+    after_others (store_of c.args.self.now.under) (store_of c.set_actor.new.self) (store_of c.draw_job.new.self) (store_of c.args.self.now.under)
+    c.args.self.now.line c.args.self.now.party c.set_actor.ensures.store (lent_of c.args.self.now.under) (lent_of c.set_actor.new.self) (lent_of c.draw_job.new.self)
+    (none_came _ _) (omega arith) (λ version. refl) c.set_actor.ensures.same_reference
+    _ _ _ c.draw_job.result c.draw_job.ensures

@@ -1,15 +1,18 @@
-use Rattle.row_model.specs.Append.{append}
+use Rattle.std.proofs.Common.{arith, refl}
 use Rattle.fleet_model.specs.Exchanges.{PutsTable}
-use Rattle.fleet_store.specs.Under.{store_of}
-use Rattle.fleet_rival.proofs.Rivals.{at_once, may_call, none_came}
+use Rattle.fleet_store.specs.Under.{lent_of, store_of}
+use Rattle.fleet_rival.proofs.Rivals.{after_others, may_call, none_came}
 use Rattle.fleet_rival.proofs.rival.RivalStore.put_table.Goals as goal
 
-pub returns-clause-puts : goal.returns-clause-puts
-returns-clause-puts c =
-    at_once append (store_of c.args.self.now.under) (store_of c.set_actor.new.self) c.args.self.now.line c.args.self.now.party c.set_actor.ensures.store
-    (store_of c.put_table.new.self) _ _ _ c.put_table.result c.put_table.ensures.puts
+pub returns : goal.returns
+returns c =
+    after_others (store_of c.args.self.now.under) (store_of c.set_actor.new.self) (store_of c.put_table.new.self) (store_of c.args.self.now.under)
+    c.args.self.now.line c.args.self.now.party c.set_actor.ensures.store (lent_of c.args.self.now.under) (lent_of c.set_actor.new.self) (lent_of c.put_table.new.self)
+    (none_came _ _) (omega arith) (λ version. refl) c.set_actor.ensures.same_reference
+    _ _ _ c.put_table.result c.put_table.ensures
 
 pub put_table-requires : goal.put_table-requires
 put_table-requires c =
-    may_call append (store_of c.args.self.now.under) (store_of c.set_actor.new.self) c.args.self.now.line c.args.self.now.party c.set_actor.ensures.store
-    (store_of c.args.self.now.under).world (λ met. PutsTable c.args.id c.args.table) (none_came _ _) c.requires
+    may_call (store_of c.args.self.now.under) (store_of c.set_actor.new.self) (store_of c.set_actor.new.self) (store_of c.args.self.now.under)
+    c.args.self.now.line c.args.self.now.party c.set_actor.ensures.store (lent_of c.args.self.now.under) (lent_of c.set_actor.new.self) (lent_of c.set_actor.new.self)
+    (λ met. PutsTable c.args.id c.args.table) (none_came _ _) c.requires

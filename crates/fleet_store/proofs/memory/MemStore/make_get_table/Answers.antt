@@ -1,4 +1,4 @@
-use Rattle.std.proofs.Common.{ap, sym, ◌∙◌, if◌then◌else◌}
+use Rattle.std.proofs.Common.{ap, refl, sym, ◌∙◌, if◌then◌else◌}
 use Rattle.std.specs.Option.{is_some}
 use Rattle.fleet_model.specs.History.{Done, Absent}
 use Rattle.fleet_store.proofs.Kept.{plain_kept}
@@ -23,6 +23,7 @@ returns c =
       party_is = a.party_is;
       faults_are = a.faults_are;
       waits_is = a.waits_is;
+      processed_is = refl;
       room = tt;
       fits = c.in_ok-table.ensures ∙ held_is _ _ _ _ _ _ _ c.args.id c.self.invariant;
     })

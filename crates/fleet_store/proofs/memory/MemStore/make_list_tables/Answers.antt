@@ -25,6 +25,7 @@ returns c =
       party_is = a.party_is;
       faults_are = a.faults_are;
       waits_is = a.waits_is;
+      processed_is = refl;
       room = tt;
       fits = c.from_vec-ids.ensures ∙ (c.in_ok-ids_of.ensures ∙ ids_are _ _ _ _ _ _ _ c.self.invariant);
     })

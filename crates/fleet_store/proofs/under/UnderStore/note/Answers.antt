@@ -1,5 +1,5 @@
 use Rattle.fleet_store.proofs.Ends.{called_of}
 use Rattle.fleet_store.proofs.under.UnderStore.note.Goals as goal
 
-pub returns-clause-notes : goal.returns-clause-notes
-returns-clause-notes g c = called_of _ c.args.self.now.store.now c.make_note.new.self _ _ _ c.make_note.result c.ended.result c.ended.ensures c.make_note.ensures
+pub returns : goal.returns
+returns g c = called_of _ _ c.args.self.now.store.now c.make_note.new.self _ _ _ _ c.make_note.result c.ended.result c.ended.ensures c.make_note.ensures

@@ -1,0 +1,5 @@
+use Rattle.fleet_store.proofs.Later as law
+use Rattle.fleet_store.proofs.laws.got_stays.Goals as goal
+
+pub returns : goal.returns
+returns c = law.got_stays
