@@ -1,0 +1,22 @@
+-- Live attempts, as a worker finds them.
+use Rattle.std.proofs.Common.{◌≡◌, refl, sym, ◌∙◌, ap, ℕ, ◌==◌, Bool, true, false, cond, List, [], ◌∷◌, Option, Some, option_map}
+use Rattle.std.proofs.lemmas.Cmp.{nat_eq_equiv}
+use Rattle.fleet_model.specs.Jobs.{job_with}
+use Rattle.fleet_model.specs.Parties.{is_live, runs_attempt}
+use Rattle.fleet_jobs.specs.JobParts.{JobParts}
+use Rattle.fleet_jobs.specs.Jobs.{job_of, jobs_of}
+use Rattle.fleet_book.specs.Records.{record_with}
+use Rattle.fleet_worker.specs.Workers.{AttemptParts, attempt_of}
+
+looked : (id : ℕ) (jobs : List JobParts) → job_with id (jobs_of jobs) ≡ option_map job_of (record_with id jobs)
+looked id [] = refl
+looked id (job ∷ jobs) = ap (λ b. cond b (Some (job_of job)) (job_with id (jobs_of jobs))) (nat_eq_equiv.symm id job.id) ∙ by (job.id == id) (looked id jobs)
+  where
+    by : (b : Bool) → job_with id (jobs_of jobs) ≡ option_map job_of (record_with id jobs) → cond b (Some (job_of job)) (job_with id (jobs_of jobs)) ≡ option_map job_of (cond b (Some job) (record_with id jobs))
+    by true rest = refl
+    by false rest = rest
+
+-- Whether an attempt is live is world by the job that was found.
+pub found_live : (jobs : List JobParts) (worker id number : ℕ) (a : AttemptParts) (found : Option JobParts) → id ≡ a.job → number ≡ a.number → found ≡ record_with id jobs
+    → runs_attempt worker number (option_map job_of found) ≡ is_live (jobs_of jobs) worker (attempt_of a)
+found_live jobs worker id number a found at one is = rw (is, at, one) (ap (runs_attempt worker a.number) (sym (looked a.job jobs)))

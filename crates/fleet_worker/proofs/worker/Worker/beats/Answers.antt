@@ -1,0 +1,32 @@
+use Rattle.std.proofs.Common.{◌∙◌, ◌-◌, ◌+◌, sym, ap, arith}
+use Rattle.step_model.specs.BeatSteps.{beat_try}
+use Rattle.fleet_worker.specs.Beats.{beat_ends_over}
+use Rattle.fleet_worker.specs.Workers.{WorkerParts, live_of}
+use Rattle.fleet_worker.proofs.Beats.{beat_safe, beats_nothing, first_beat}
+use Rattle.fleet_worker.proofs.Ready.{ready_midway}
+use Rattle.fleet_step.proofs.Retries.{tries_end, tries_on}
+use Rattle.fleet_worker.proofs.worker.Worker.beats.Goals as goal
+
+pub returns-then-is_empty : goal.returns-then-is_empty
+returns-then-is_empty g c = beats_nothing c.args.moment c.args.self.now _ c.no_report.result (sym (ap (λ (w : WorkerParts). w.attempts) c.self.view_is) ∙ c.is_empty.ensures.0 c.if-is_empty.true) c.no_report.ensures
+
+pub tries-init : goal.tries-init
+tries-init g c = first_beat c.args.moment c.args.self.now _ (λ none. absurd (cc (sym c.if-is_empty.false ∙ c.is_empty.ensures.1 (ap (λ (w : WorkerParts). w.attempts) c.self.view_is ∙ none))))
+
+pub try_beat-tried-requires : goal.try_beat-tried-requires
+try_beat-tried-requires g c = record {
+  ready = ready_midway _ _ c.args.self.now _ _ _ (g.met.S.Store.lawful _) c.requires.ready (beat_safe _ c.args.moment (live_of c.args.self.now) (g.met.S.Store.lawful _) c.requires.ready.may) c.tries.invariant;
+  some = λ none. absurd (cc (sym c.if-is_empty.false ∙ c.is_empty.ensures.1 (ap (λ (w : WorkerParts). w.attempts) c.self.view_is ∙ none)));
+}
+
+pub returns-in_default : goal.returns-in_default
+returns-in_default g c =
+    let w = live_of c.args.self.now in
+    tries_end (beat_ends_over c.args.self.now) (λ left seen. beat_try c.args.moment w) (64 - c.tries.tries) c.tries.seen c.tries.invariant
+    (64 - (c.tries.tries + 1)) (omega (arith, c.tries-test.true)) (sym c.refused_at.ensures ∙ c.in_default.is) (c.try_beat-tried.ensures _)
+
+pub tries-preserved : goal.tries-preserved
+tries-preserved g c =
+    let w = live_of c.args.self.now in
+    tries_on (beat_ends_over c.args.self.now) (λ left seen. beat_try c.args.moment w) (64 - c.tries.tries) c.tries.seen c.tries.invariant
+    (64 - (c.tries.tries + 1)) c.in-Some.version (omega (arith, c.tries-test.true)) (sym c.refused_at.ensures ∙ c.in-Some.is) (c.try_beat-tried.ensures _)

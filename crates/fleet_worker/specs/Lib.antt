@@ -1,0 +1,4 @@
+pub mod Workers
+pub mod Releases
+pub mod Beats
+pub mod Held

@@ -1,0 +1,138 @@
+//! Attempts that run.
+
+ghost use Rattle.std.specs.Prelude.{◌≡◌, ◌++◌, [], ◌∷◌, filter, option_map, IfOk, IsOkUnless, OnOk, Some};
+ghost use Rattle.std.specs.Option.{option_copied};
+ghost use Rattle.fleet_model.specs.Parties.{is_leased_to, is_live, runs_attempt};
+ghost use Rattle.fleet_jobs.specs.Jobs.{job_of, jobs_of};
+ghost use Rattle.fleet_jobs.specs.Workers.{lease_of};
+ghost use Rattle.fleet_worker.specs.Releases.{live_named};
+ghost use Rattle.fleet_worker.specs.Workers.{attempt_of, run_at};
+
+use fleet_book::Compactions;
+use fleet_jobs::{Compaction, CompactionContext, CompactionStatus, WorkerSpec};
+use fleet_rows::{AttemptList, IdList, SlateDBError, Ulid};
+use std::alloc::Global;
+use std::marker::Model;
+
+/// An attempt that a worker runs. Contracts see its parts.
+#[derive(Debug, Drop)]
+pub struct RunAttempt {
+    job: Ulid,
+    number: u64,
+    sources: IdList,
+    ctx: CompactionContext,
+}
+
+impl Model for RunAttempt {
+    ghost use Rattle.fleet_worker.specs.Workers.{AttemptParts};
+
+    ghost Value = { AttemptParts };
+
+    ghost view = { λ a. record {
+      job = a.job;
+      number = a.number;
+      sources = a.sources;
+      ctx = a.ctx;
+    } };
+}
+
+impl RunAttempt {
+    /// The id of the job.
+    pub fn job(&self) -> Ulid
+        ensures { result ≡ self.now.job }
+    {
+        self.job
+    }
+
+    /// The number of the attempt.
+    pub fn number(&self) -> u64
+        ensures { result ≡ self.now.number }
+    {
+        self.number
+    }
+
+    /// The source tables of the job.
+    pub fn sources(&self) -> &[Ulid]
+        ensures { result.now ≡ self.now.sources }
+    {
+        self.sources.as_slice()
+    }
+
+    /// The context, with the tables that were noted so far.
+    pub fn ctx(&self) -> &CompactionContext
+        ensures { result.now ≡ self.now.ctx }
+    {
+        &self.ctx
+    }
+}
+
+fn is_leased(worker: Option<&WorkerSpec>, id: u64) -> bool
+    ensures { result ≡ is_leased_to id (option_map lease_of (option_copied worker.entry)) }
+{
+    match worker {
+        Some(worker) => id == worker.worker_id,
+        None => false,
+    }
+}
+
+// Whether the job is Running with this worker and this attempt number.
+fn runs(job: &Compaction, worker: u64, number: u64) -> bool
+    ensures { result ≡ runs_attempt worker number (Some (job_of job.now)) }
+{
+    matches!(job.status(), CompactionStatus::Running)
+        && is_leased(job.worker(), worker)
+        && number == job.attempt()
+}
+
+/// Whether the attempt is live.
+pub(crate) fn is_live(records: &Compactions, worker: u64, attempt: &RunAttempt) -> bool
+    ensures { result ≡ is_live (jobs_of records.now.jobs) worker (attempt_of attempt.now) }
+{
+    let (id, number) = (attempt.job(), attempt.number());
+    match records.get(&id) {
+        Some(job) => runs(job, worker, number),
+        None => false,
+    }
+}
+
+// Adds the attempt, if it is live.
+fn add_live(
+    live: &mut Vec<(Ulid, u64)>,
+    records: &Compactions,
+    worker: u64,
+    attempt: &RunAttempt,
+) -> Result<(), SlateDBError>
+    ensures ok { OnOk result (live.new.items
+        ≡ live.old.items ++ live_named records.now.jobs worker (attempt.now ∷ [])) }
+    ensures memory { IsOkUnless result SlateDBError.Memory }
+{
+    if is_live(records, worker, attempt) {
+        live.push((attempt.job(), attempt.number()))?;
+    }
+    Ok(())
+}
+
+/// The live ones of these attempts, by job and number.
+pub(crate) fn live_attempts(
+    alloc: Global,
+    records: &Compactions,
+    worker: u64,
+    attempts: &[RunAttempt],
+) -> Result<AttemptList, SlateDBError>
+    ensures live { IfOk result (λ live.
+        live ≡ live_named records.now.jobs worker attempts.now) }
+    ensures memory { IsOkUnless result SlateDBError.Memory }
+{
+    let mut live = Vec::new(alloc);
+    'attempts: for attempt in attempts {
+        add_live(&mut live, records, worker, attempt)?;
+    }
+    Ok(AttemptList::from_vec(live))
+}
+
+/// The attempt at the job, if there is one.
+pub(crate) fn run_at(attempts: &[RunAttempt], job: Ulid) -> Option<&RunAttempt>
+    ensures { option_copied result ≡ run_at attempts.now job }
+{
+    attempts.iter().find(|attempt| attempt.job() == job)
+}

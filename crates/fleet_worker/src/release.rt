@@ -1,0 +1,77 @@
+//! Records in which jobs are given back.
+
+ghost use Rattle.std.specs.Prelude.{◌≡◌, map, IfOk, IsOkUnless};
+ghost use Rattle.fleet_model.specs.History as model;
+ghost use Rattle.fleet_model.specs.Records.{firsts};
+ghost use Rattle.fleet_worker.specs.Releases.{MakesRecords, given_back, is_named};
+
+use fleet_book::{Compactions, JobMap};
+use fleet_jobs::{Compaction, CompactionStatus};
+use fleet_rows::{JobList, SlateDBError, Ulid};
+use std::alloc::Global;
+
+// Whether the job is among these attempts.
+fn is_among(attempts: &[(Ulid, u64)], job: Ulid) -> bool
+    ensures { result ≡ is_named attempts.now job }
+{
+    attempts.iter().any(|attempt| attempt.0 == job)
+}
+
+// The job, given back if it is among these attempts.
+fn given_back(mut job: Compaction, attempts: &[(Ulid, u64)]) -> Compaction
+    ensures { result ≡ given_back attempts.now job }
+{
+    if is_among(attempts, job.id()) {
+        job.set_status(CompactionStatus::Scheduled);
+        job.set_worker(None);
+    }
+    job
+}
+
+// The jobs, those among the attempts given back.
+fn all_given_back(
+    alloc: Global,
+    jobs: Vec<Compaction>,
+    attempts: &[(Ulid, u64)],
+) -> Result<Vec<Compaction>, SlateDBError>
+    ensures jobs { IfOk result (λ new. new.items ≡ map (given_back attempts.now) jobs.items) }
+    ensures memory { IsOkUnless result SlateDBError.Memory }
+{
+    Ok(
+        jobs.into_iter()
+            .map(|job| given_back(job, attempts))
+            .collect(alloc)?,
+    )
+}
+
+/// The records after these attempts of the worker were given back.
+pub(crate) fn released(
+    alloc: Global,
+    records: &Compactions,
+    worker: u64,
+    attempts: &[(Ulid, u64)],
+) -> Result<Compactions, SlateDBError>
+    ensures made { IfOk result (λ new.
+        MakesRecords records.now new (model.Release worker attempts.now)) }
+    ensures memory { IsOkUnless result SlateDBError.Memory }
+{
+    let Compactions {
+        compactor_epoch,
+        jobs,
+    } = records.clone()?;
+    let mut new = Compactions {
+        compactor_epoch,
+        jobs: JobMap::from_vec(all_given_back(alloc, jobs.into_vec(), attempts)?),
+    };
+    new.retain_active_and_last_finished();
+    Ok(new)
+}
+
+/// The jobs of these attempts.
+pub(crate) fn jobs_of(alloc: Global, attempts: &[(Ulid, u64)]) -> Result<JobList, SlateDBError>
+    ensures jobs { IfOk result (λ jobs. jobs ≡ firsts attempts.now) }
+    ensures memory { IsOkUnless result SlateDBError.Memory }
+{
+    let jobs = attempts.iter().map(|attempt| attempt.0).collect(alloc)?;
+    Ok(JobList::from_vec(jobs))
+}

@@ -1,0 +1,331 @@
+//! Workers.
+
+ghost use Rattle.std.specs.Prelude.{◌≡◌, ◌≢◌, [], IfOk, IsOkUnless, OnErr, false};
+ghost use Rattle.std.specs.Bool.{OnFalse};
+ghost use Rattle.step_model.specs.BeatSteps.{beat_try, heartbeat, release_all};
+ghost use Rattle.step_model.specs.StepEnds.{Reports};
+ghost use Rattle.fleet_store.specs.Records.{jobs_or_none};
+ghost use Rattle.fleet_worker.specs.Beats.{IsBeatOf, IsBeatPut, IsReport, beat_ends, beat_ends_over, live_parts};
+ghost use Rattle.fleet_worker.specs.Held.{all_held};
+ghost use Rattle.fleet_worker.specs.Releases.{IsReleaseOf, one_release};
+ghost use Rattle.fleet_step.specs.Steps.{StepRan, TryRan, stops};
+ghost use Rattle.fleet_worker.specs.Workers.{IsReady, IsReadyAnywhere, live_of, ranges_at, started};
+
+use crate::RunAttempt;
+use crate::attempt::{live_attempts, run_at};
+use crate::beat::{
+    BeatPut, BeatReport, beaten_records, is_live_in, live_jobs, lost_jobs, no_report,
+};
+use crate::held::all_held;
+use crate::release::{jobs_of, released};
+use fleet_book::{Compactions, VersionedCompactions};
+use fleet_jobs::Release;
+use fleet_rows::{IdList, JobList, ListOf, SlateDBError, Ulid};
+use fleet_step::{MOST_REFUSED, put_answer, refused_at, stops};
+use fleet_store::{RecordChange, Store};
+use std::alloc::Global;
+use std::marker::Model;
+
+/// A worker. It runs attempts at jobs, at most one at each job. Contracts see its parts.
+#[derive(Debug, Drop)]
+pub struct Worker {
+    alloc: Global,
+    id: u64,
+    release: Release,
+    attempts: ListOf<RunAttempt>,
+    stopped: bool,
+}
+
+impl Model for Worker {
+    ghost use Rattle.fleet_worker.specs.Workers.{WorkerParts};
+
+    ghost Value = { WorkerParts };
+
+    ghost view = { λ w. record {
+      number = w.id;
+      release = w.release;
+      attempts = w.attempts;
+      stopped = w.stopped;
+    } };
+}
+
+// A put of the records that gives jobs back.
+#[derive(Drop)]
+struct ReleasePut {
+    version: u64,
+    value: Compactions,
+    why: RecordChange,
+    jobs: JobList,
+}
+
+impl Worker {
+    /// Starts a worker of this release with this number. It runs nothing yet.
+    pub fn start(alloc: Global, id: u64, release: Release) -> Worker
+        ensures starts { result ≡ started id release }
+        ensures ready { IsReadyAnywhere result }
+    {
+        Worker {
+            alloc,
+            id,
+            release,
+            attempts: ListOf::new(alloc),
+            stopped: false,
+        }
+    }
+
+    /// The number of the worker.
+    pub fn id(&self) -> u64
+        ensures { result ≡ self.now.number }
+    {
+        self.id
+    }
+
+    /// Whether the worker is stopped, so that it makes no step any more.
+    pub fn stopped(&self) -> bool
+        ensures { result ≡ self.now.stopped }
+    {
+        self.stopped
+    }
+
+    /// The release of the worker.
+    pub fn release(&self) -> Release
+        ensures { result ≡ self.now.release }
+    {
+        self.release
+    }
+
+    /// How many ranges the worker's attempt at the job has, or None if the worker does not run the
+    /// job.
+    pub fn ranges(&self, job: Ulid) -> Option<u32>
+        ensures { result ≡ ranges_at self.now.attempts job }
+    {
+        let attempt = run_at(self.attempts.as_slice(), job)?;
+        Some(attempt.ctx().ranges_len())
+    }
+
+    /// The source tables and the noted tables of the attempts that the worker runs, attempt by
+    /// attempt.
+    pub fn holds(&self) -> Result<IdList, SlateDBError>
+        ensures tables { IfOk result (λ tables. tables ≡ all_held self.now.attempts) }
+        ensures memory { IsOkUnless result SlateDBError.Memory }
+    {
+        all_held(self.alloc, self.attempts.as_slice())
+    }
+
+    // The put that gives the live attempts back, or None if no attempt is live.
+    fn release_of(
+        &self,
+        got: &Option<VersionedCompactions>,
+    ) -> Result<Option<ReleasePut>, SlateDBError>
+        ensures put { IfOk result (IsReleaseOf self.now got.now) }
+        ensures memory { IsOkUnless result SlateDBError.Memory }
+    {
+        let Some(got) = got else {
+            return Ok(None);
+        };
+        let records = got.compactions();
+        let live = live_attempts(self.alloc, records, self.id, self.attempts.as_slice())?;
+        if live.is_empty() {
+            return Ok(None);
+        }
+        Ok(Some(ReleasePut {
+            version: got.id(),
+            value: released(self.alloc, records, self.id, live.as_slice())?,
+            jobs: jobs_of(self.alloc, live.as_slice())?,
+            why: RecordChange::Release(self.id, live),
+        }))
+    }
+
+    // One try to give the live attempts back.
+    fn try_release<S: Store>(&self, store: &mut S) -> Result<JobList, SlateDBError>
+        requires ready { IsReady (S.view store.old) self.now }
+        ensures { (again : _) → TryRan Reports (one_release (live_of self.now) again) again
+            (S.view store.old) (S.view store.new) result }
+    {
+        let got = store.get_records()?;
+        let Some(put) = self.release_of(&got)? else {
+            return Ok(JobList::new(self.alloc));
+        };
+        let made = store.put_records(put.version, put.value, put.why);
+        put_answer(made, put.jobs)
+    }
+
+    // The tries to give the live attempts back.
+    fn releases<S: Store>(&self, store: &mut S) -> Result<JobList, SlateDBError>
+        requires ready { IsReady (S.view store.old) self.now }
+        ensures { StepRan Reports (release_all (live_of self.now))
+            (S.view store.old) (S.view store.new) result }
+    {
+        if self.attempts.is_empty() {
+            return Ok(JobList::new(self.alloc));
+        }
+        let mut seen = 0;
+        'tries: for tries in 0..MOST_REFUSED {
+            let tried = self.try_release(store);
+            let Some(version) = refused_at(&tried) else {
+                return tried;
+            };
+            seen = version;
+        }
+        Err(SlateDBError::Conflict { seen })
+    }
+
+    /// Gives the live attempts back, so that their jobs wait for a worker again. The answer is
+    /// these jobs, in rising order. The worker still runs its attempts, which are not live any
+    /// more.
+    ///
+    /// `Conflict` means that 64 puts were refused in a row. After `StoreFault` the worker is
+    /// stopped, and the jobs may wait or not.
+    pub fn release_all<S: Store>(&mut self, store: &mut S) -> Result<JobList, SlateDBError>
+        requires running { self.old.stopped ≡ false }
+        requires ready { IsReady (S.view store.old) self.old }
+        ensures ran { StepRan Reports (release_all (live_of self.old))
+            (S.view store.old) (S.view store.new) result }
+        ensures stopped { self.new ≡ record self.old { stopped = stops result } }
+        ensures ready { OnFalse self.new.stopped
+            (IsReady (S.view store.new) self.new) }
+    {
+        let released = self.releases(store);
+        self.stopped = stops(&released);
+        released
+    }
+
+    // What a heartbeat reports over these records.
+    fn report(&self, records: &Compactions) -> Result<BeatReport, SlateDBError>
+        ensures report { IfOk result (IsReport self.now records.now.jobs) }
+        ensures memory { IsOkUnless result SlateDBError.Memory }
+    {
+        let attempts = self.attempts.as_slice();
+        Ok(BeatReport {
+            beat: live_jobs(self.alloc, records, self.id, attempts)?,
+            not_owner: lost_jobs(self.alloc, records, self.id, attempts)?,
+        })
+    }
+
+    // The put that renews the leases of the live attempts.
+    fn beat_put(&self, moment: u64, got: &VersionedCompactions) -> Result<BeatPut, SlateDBError>
+        ensures put { IfOk result (IsBeatPut moment self.now got.now) }
+        ensures memory { IsOkUnless result SlateDBError.Memory }
+    {
+        let records = got.compactions();
+        let attempts = self.attempts.as_slice();
+        let live = live_attempts(self.alloc, records, self.id, attempts)?;
+        Ok(BeatPut {
+            version: got.id(),
+            value: beaten_records(self.alloc, records, self.id, moment, attempts)?,
+            why: RecordChange::Beat(self.id, live),
+        })
+    }
+
+    // What a heartbeat reports, and the put that it makes, if an attempt is live.
+    fn beat_of(
+        &self,
+        moment: u64,
+        got: &Option<VersionedCompactions>,
+    ) -> Result<(BeatReport, Option<BeatPut>), SlateDBError>
+        ensures beat { IfOk result (λ beat. IsBeatOf moment self.now got.now beat.0 beat.1) }
+        ensures memory { IsOkUnless result SlateDBError.Memory }
+    {
+        let Some(got) = got else {
+            let none = Compactions::new(self.alloc, 0);
+            return Ok((self.report(&none)?, None));
+        };
+        let report = self.report(got.compactions())?;
+        if report.beat.is_empty() {
+            return Ok((report, None));
+        }
+        let put = self.beat_put(moment, got)?;
+        Ok((report, Some(put)))
+    }
+
+    // One try of a heartbeat. The answer has the report and the records that were got.
+    fn try_beat<S: Store>(
+        &self,
+        store: &mut S,
+        moment: u64,
+    ) -> Result<(BeatReport, Option<VersionedCompactions>), SlateDBError>
+        requires ready { IsReady (S.view store.old) self.now }
+        requires some { self.now.attempts ≢ [] }
+        ensures { (again : _) → TryRan (beat_ends_over self.now)
+            (beat_try moment (live_of self.now) again) again
+            (S.view store.old) (S.view store.new) result }
+    {
+        let got = store.get_records()?;
+        let (report, put) = self.beat_of(moment, &got)?;
+        let Some(put) = put else {
+            return Ok((report, got));
+        };
+        let made = store.put_records(put.version, put.value, put.why);
+        put_answer(made, (report, got))
+    }
+
+    // The tries of a heartbeat.
+    fn beats<S: Store>(
+        &self,
+        store: &mut S,
+        moment: u64,
+    ) -> Result<(BeatReport, Option<VersionedCompactions>), SlateDBError>
+        requires ready { IsReady (S.view store.old) self.now }
+        ensures { StepRan (beat_ends_over self.now) (heartbeat moment (live_of self.now))
+            (S.view store.old) (S.view store.new) result }
+    {
+        if self.attempts.is_empty() {
+            return Ok((no_report(self.alloc), None));
+        }
+        let mut seen = 0;
+        'tries: for tries in 0..MOST_REFUSED {
+            let tried = self.try_beat(store, moment);
+            let Some(version) = refused_at(&tried) else {
+                return tried;
+            };
+            seen = version;
+        }
+        Err(SlateDBError::Conflict { seen })
+    }
+
+    // Drops the attempts that are not live by these records.
+    fn keep_live(&mut self, got: &Option<VersionedCompactions>)
+        ensures { self.new ≡ record self.old {
+          attempts = live_parts (jobs_or_none got.now) self.old.number self.old.attempts;
+        } }
+    {
+        let id = self.id;
+        let mut attempts = self.attempts.take().into_vec();
+        attempts.retain(|attempt| is_live_in(got, id, attempt));
+        self.attempts = ListOf::from_vec(attempts);
+    }
+
+    /// Renews the leases of the live attempts to this moment in milliseconds, publishes their
+    /// contexts, and drops the other attempts. The lists of the report are in rising order.
+    ///
+    /// `Conflict` means that 64 puts were refused in a row. After `StoreFault` the worker is
+    /// stopped, and the leases may be renewed or not.
+    pub fn heartbeat<S: Store>(
+        &mut self,
+        store: &mut S,
+        moment: u64,
+    ) -> Result<BeatReport, SlateDBError>
+        requires running { self.old.stopped ≡ false }
+        requires ready { IsReady (S.view store.old) self.old }
+        ensures ran { StepRan (beat_ends self.new.attempts) (heartbeat moment (live_of self.old))
+            (S.view store.old) (S.view store.new) result }
+        ensures stopped { self.new.stopped ≡ stops result }
+        ensures same { self.new ≡ record self.old {
+          attempts = self.new.attempts;
+          stopped = self.new.stopped;
+        } }
+        ensures err { OnErr result (self.new.attempts ≡ self.old.attempts) }
+        ensures ready { OnFalse self.new.stopped
+            (IsReady (S.view store.new) self.new) }
+    {
+        let beaten = self.beats(store, moment);
+        self.stopped = stops(&beaten);
+        match beaten {
+            Ok((report, got)) => {
+                self.keep_live(&got);
+                Ok(report)
+            }
+            Err(error) => Err(error),
+        }
+    }
+}
