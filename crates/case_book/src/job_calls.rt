@@ -91,6 +91,9 @@ fn job_text(alloc: Global, words: &[&str], answer: &mut String) -> Result<(), Fl
         cut: 0,
     };
     let ranges = ranges(alloc, number(written)?, number(count)?)?;
+    if ranges.len() > u32::MAX as usize {
+        return Err(Flaw::Number);
+    }
     job.set_ctx(Some(CompactionContext::new(ranges, settings, Release::Two)));
     Ok(write!(answer, "ok {job}")?)
 }

@@ -8,7 +8,7 @@ use case_words::flaw::Flaw;
 use case_words::given::tell_refusal;
 use case_words::words::{number, parse_if_any};
 use fleet_book::{Compactions, CompactorState, CompactorStateView, VersionedCompactions};
-use fleet_jobs::{Compaction, CompactionStatus};
+use fleet_jobs::{Compaction, CompactionStatus, sources_stand};
 use fleet_rows::{SlateDBError, Ulid};
 use fleet_tree::{SortedRun, VersionedManifest, ViewList};
 use std::alloc::Global;
@@ -145,6 +145,9 @@ fn finish_job(alloc: Global, state: &mut CompactorState, id: Ulid) -> Result<(),
     let Some(job) = own_jobs(state).get(&id) else {
         return Err(Flaw::Refused);
     };
+    if !sources_stand(alloc, job.spec(), state.manifest().core())? {
+        return Err(Flaw::Order);
+    }
     match job.spec().destination() {
         Some(run) => {
             let output = SortedRun::new(run, ViewList::new(alloc));

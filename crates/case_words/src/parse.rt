@@ -3,11 +3,12 @@
 //! operand, and `t` for a tombstone.
 
 use crate::flaw::Flaw;
-use crate::words::{Parse, bytes, number, parse_if_any, parse_list, parts};
+use crate::words::{Parse, bytes, number, parse_list, parts};
 use bytes::Bytes;
 use fleet_iter::IterationOrder;
 use fleet_range::BytesRange;
 use fleet_rows::{RowEntry, ValueDeletable};
+use fleet_text::stamp_of;
 use std::alloc::{AllocError, Global};
 use std::ops::Bound;
 
@@ -21,13 +22,15 @@ pub fn content(kind: &str, bytes: Bytes) -> Result<ValueDeletable, Flaw> {
     }
 }
 
+// The row of these fields. A script's row has a key and bounds on lengths, which this one need not
+// have.
 fn row(alloc: Global, fields: &[&str]) -> Result<RowEntry, Flaw> {
     let [key, kind, value, seq, created, expires] = fields else {
         return Err(Flaw::Row);
     };
     let seq = number(seq)?;
-    let created = parse_if_any(alloc, created, "-")?;
-    let expires = parse_if_any(alloc, expires, "-")?;
+    let created = stamp_of(created.as_bytes()).ok_or(Flaw::Number)?;
+    let expires = stamp_of(expires.as_bytes()).ok_or(Flaw::Number)?;
     let content = content(kind, bytes(alloc, value)?)?;
     let key = bytes(alloc, key)?;
     Ok(RowEntry::new(key, content, seq, created, expires))

@@ -2,7 +2,7 @@
 
 use crate::flaw::Flaw;
 use bytes::Bytes;
-use hex::FromHexError;
+use fleet_text::{bytes_of, number_of, run_of, signed_of};
 use std::alloc::{AllocError, Global};
 
 // Bytes are repeated only while there are fewer than this.
@@ -54,7 +54,7 @@ impl Parse for u64 {
 
 impl Parse for u32 {
     fn parse(_alloc: Global, word: &str) -> Result<u32, Flaw> {
-        word.parse::<u32>().map_err(|_| Flaw::Number)
+        run_of(word.as_bytes()).ok_or(Flaw::Number)
     }
 }
 
@@ -71,11 +71,11 @@ impl Parse for Bytes {
 }
 
 pub fn number(word: &str) -> Result<u64, Flaw> {
-    word.parse::<u64>().map_err(|_| Flaw::Number)
+    number_of(word.as_bytes()).ok_or(Flaw::Number)
 }
 
 pub fn stamp(word: &str) -> Result<i64, Flaw> {
-    word.parse::<i64>().map_err(|_| Flaw::Number)
+    signed_of(word.as_bytes()).ok_or(Flaw::Number)
 }
 
 /// True for the word `1`, false for `0`. Any other word is an error.
@@ -89,12 +89,9 @@ pub fn flag(word: &str) -> Result<bool, Flaw> {
 
 /// Bytes in hexadecimal digits. A `*` and a number after them repeat the bytes. `-` is no bytes.
 pub fn bytes(alloc: Global, word: &str) -> Result<Bytes, Flaw> {
-    if word == "-" {
-        return Ok(Bytes::new());
-    }
     match word.split_once('*') {
         Some((unit, count)) => repeated(alloc, unit, number(count)?),
-        None => Ok(Bytes::from_vec(plain_bytes(alloc, word)?)?),
+        None => plain_bytes(alloc, word),
     }
 }
 
@@ -110,10 +107,6 @@ fn repeated(alloc: Global, unit: &str, count: u64) -> Result<Bytes, Flaw> {
     Ok(Bytes::from_vec(bytes)?)
 }
 
-fn plain_bytes(alloc: Global, word: &str) -> Result<Vec<u8>, Flaw> {
-    match hex::decode(alloc, word) {
-        Ok(bytes) => Ok(bytes),
-        Err(FromHexError::OutOfMemory) => Err(Flaw::Memory),
-        Err(_) => Err(Flaw::Bytes),
-    }
+fn plain_bytes(alloc: Global, word: &str) -> Result<Bytes, Flaw> {
+    bytes_of(alloc, word.as_bytes())?.ok_or(Flaw::Bytes)
 }

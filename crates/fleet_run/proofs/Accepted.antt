@@ -10,7 +10,7 @@ use Rattle.fleet_model.specs.Trees.{greater_seq, greatest_seq}
 use Rattle.fleet_rows.specs.Row.{rows_of}
 use Rattle.fleet_rows.specs.declared.row.RowEntry.{RowEntry}
 use Rattle.fleet_table.specs.Table.{IsTableRows}
-use Rattle.fleet_block.proofs.Ordered.{ordered_of_test}
+use Rattle.fleet_rows.proofs.Ordered.{ordered_of_test}
 use Rattle.step_model.specs.FlushSteps.{is_above}
 use Rattle.step_model.specs.StepEnds.{BadName, BadOrder, BadSequence, BadFloor, BadTick}
 use Rattle.fleet_run.specs.FleetView.{FleetView}

@@ -16,7 +16,8 @@ use Rattle.fleet_model.specs.Attempts.{ClaimInput, is_last, is_last_run, claim_s
 use Rattle.fleet_model.specs.Claims.{is_waiting, may_take, stopped_jobs, claimed_jobs, claimed_attempt}
 use Rattle.fleet_model.specs.Exchanges.{Plain, records_version}
 use Rattle.fleet_model.specs.Trees.{source_pieces}
-use Rattle.step_model.specs.ClaimSteps.{WorkerOptions, Claimed, can_start, plan_of, claim_by, claim_of, claims_from, claim}
+use Rattle.step_model.specs.ClaimSteps.{WorkerOptions, Claimed, can_start, plan_of, claim_by, claim_of, claim_try, claim}
+use Rattle.step_model.specs.Tries.{tries}
 use Rattle.step_model.specs.Course.{Course, Ends, Calls, calls_each}
 use Rattle.step_model.specs.StepEnds.{StepEnd, Reports}
 use Rattle.script_model.specs.Defaults.{default_options}
@@ -114,7 +115,7 @@ abbrev one_begun : Attempt → Claimed
 one_begun a = record { begun = a ∷ []; stopped = []; released = []; attempts = a ∷ [] }
 
 none_leads : (left seen : ℕ) (h : Held) (attempts : List Attempt) → claimed_jobs 4 (worker_of attempts) (jobs_in h.records) ≡ [] → stopped_jobs (worker_of attempts) (jobs_in h.records) ≡ []
-    → filter (λ (a : Attempt). true) attempts ≡ attempts → Leads (claims_from options 0 (worker_of attempts) (suc left) seen) h h (Reports (nothing_claimed attempts))
+    → filter (λ (a : Attempt). true) attempts ≡ attempts → Leads (tries (claim_try options 0 (worker_of attempts)) (suc left) seen) h h (Reports (nothing_claimed attempts))
 none_leads left seen h attempts none stops same =
     gets_records_leads h h (Reports (nothing_claimed attempts)) (λ got. claim_by options 0 w got again) (by h.records refl)
   where
@@ -122,7 +123,7 @@ none_leads left seen h attempts none stops same =
     w = worker_of attempts
 
     again : ℕ → Course (StepEnd Claimed)
-    again = claims_from options 0 (worker_of attempts) left
+    again = tries (claim_try options 0 (worker_of attempts)) left
 
     by : (records : Option Records) → h.records ≡ records → Leads (claim_by options 0 (worker_of attempts) records again) h h (Reports (nothing_claimed attempts))
     by None here = (refl, refl)
@@ -139,7 +140,7 @@ claimed_records got id = record got { version = got.version + 1; jobs = trimmed_
 
 one_leads : (left seen : ℕ) (h : Held) (got : Records) (job : AskedJob) (a : Attempt) → h.records ≡ Some got → claimed_jobs 4 (worker_of []) got.jobs ≡ opened_job job ∷ [] → stopped_jobs (worker_of []) got.jobs ≡ []
     → can_start h.manifest (opened_job job) ≡ true → claimed_attempt (input_of h.manifest h.tables) (opened_job job) ≡ a
-    → Leads (claims_from options 0 (worker_of []) (suc left) seen) h (record h { records = Some (claimed_records got job.id) }) (Reports (one_begun a))
+    → Leads (tries (claim_try options 0 (worker_of [])) (suc left) seen) h (record h { records = Some (claimed_records got job.id) }) (Reports (one_begun a))
 one_leads left seen h got job a here claims stops starts_here is =
     gets_records_leads h last end (λ records. claim_by options 0 w records again)
     (subst (λ records. Leads (claim_by options 0 w records again) h last end) (sym here)
@@ -152,7 +153,7 @@ one_leads left seen h got job a here claims stops starts_here is =
     w = worker_of []
 
     again : ℕ → Course (StepEnd Claimed)
-    again = claims_from options 0 (worker_of []) left
+    again = tries (claim_try options 0 (worker_of [])) left
 
     last : Held
     last = record h { records = Some (claimed_records got job.id) }

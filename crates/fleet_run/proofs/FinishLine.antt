@@ -24,8 +24,9 @@ use Rattle.fleet_model.specs.Records.{Unrecorded, no_contexts, firsts, finished_
 use Rattle.fleet_model.specs.Store.{Store, Records, jobs_in}
 use Rattle.fleet_model.specs.Exchanges.{records_version}
 use Rattle.step_model.specs.ClaimSteps.{WorkerOptions}
+use Rattle.step_model.specs.Tries.{tries}
 use Rattle.step_model.specs.Course.{Course, Ends, puts_ranges}
-use Rattle.step_model.specs.OutputSteps.{FinishedJob, all_outputs, ends_job, ends_job_by, ends_from, end_job, finish}
+use Rattle.step_model.specs.OutputSteps.{FinishedJob, all_outputs, ends_job, ends_job_by, end_try, end_job, finish}
 use Rattle.step_model.specs.StepEnds.{StepEnd, Reports}
 use Rattle.script_model.specs.Defaults.{default_options, with_quiet_scheduler}
 use Rattle.script_model.specs.LineCourses as courses
@@ -87,7 +88,7 @@ finish_end outputs = Reports (record { outputs = outputs ∷ []; attempts = [] }
 
 ends_leads : (left seen : ℕ) (h : Held) (got : Records) (job : AskedJob) (settings : Settings) (outputs : List ℕ) → h.records ≡ Some got → is_live got.jobs 1 (attempt_of job settings) ≡ true
     → without_attempts (job.id ∷ []) (attempt_of job settings ∷ []) ≡ []
-    → Leads (ends_from 0 (worker_of (attempt_of job settings ∷ [])) (attempt_of job settings) (outputs ∷ []) (suc left) seen) h
+    → Leads (tries (end_try 0 (worker_of (attempt_of job settings ∷ [])) (attempt_of job settings) (outputs ∷ [])) (suc left) seen) h
     (record h { records = Some (finished_records got job.id settings.cut outputs) }) (finish_end outputs)
 ends_leads left seen h got job settings outputs here live gone =
     gets_records_leads h last end (λ records. ends_job_by 0 w a (outputs ∷ []) records again)
@@ -104,7 +105,7 @@ ends_leads left seen h got job settings outputs here live gone =
     w = worker_of (attempt_of job settings ∷ [])
 
     again : ℕ → Course (StepEnd FinishedJob)
-    again = ends_from 0 (worker_of (attempt_of job settings ∷ [])) (attempt_of job settings) (outputs ∷ []) left
+    again = tries (end_try 0 (worker_of (attempt_of job settings ∷ [])) (attempt_of job settings) (outputs ∷ [])) left
 
     last : Held
     last = record h { records = Some (finished_records got job.id settings.cut outputs) }
@@ -132,10 +133,10 @@ finish_leads merge h got job settings kept here live gone makes = (refl, λ met 
 
     -- The course that ends the job with these outputs.
     further : List ℕ → Course (StepEnd FinishedJob)
-    further ids = ends_from 0 (worker_of (attempt_of job settings ∷ [])) (attempt_of job settings) (ids ∷ []) 64 0
+    further ids = tries (end_try 0 (worker_of (attempt_of job settings ∷ [])) (attempt_of job settings) (ids ∷ [])) 64 0
 
     puts : List Row → Course (StepEnd FinishedJob)
-    puts rows = puts_ranges 0 (cut_tables options.table_size rows ∷ []) (λ new. ends_from 0 (worker_of (attempt_of job settings ∷ [])) (attempt_of job settings) (all_outputs ((all_keys, []) ∷ []) new) 64 0)
+    puts rows = puts_ranges 0 (cut_tables options.table_size rows ∷ []) (λ new. tries (end_try 0 (worker_of (attempt_of job settings ∷ [])) (attempt_of job settings) (all_outputs ((all_keys, []) ∷ []) new)) 64 0)
 
     ends : Leads (puts kept) h last end
     ends = puts_tables_leads (cut_tables options.table_size kept) further h last end

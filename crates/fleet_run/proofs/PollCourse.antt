@@ -8,7 +8,8 @@ use Rattle.fleet_model.specs.Store.{Manifest, Records, jobs_in, records_epoch}
 use Rattle.fleet_model.specs.Exchanges.{Plain, records_version}
 use Rattle.fleet_model.specs.Polls.{PollState, PollInput, poll_begun, free_stale, commit_finished, proposals, add_drawn, open_submitted, change_of, is_nothing}
 use Rattle.step_model.specs.Course.{Course, Ends, Calls, gets_records, draws_jobs, puts_manifest, puts_records}
-use Rattle.step_model.specs.PollSteps.{PollAsk, is_unchanged, records_or_none, unless_fenced, merged_into, puts_polled, puts_trees, polls_over, polls_from}
+use Rattle.step_model.specs.Tries.{counted_tries}
+use Rattle.step_model.specs.PollSteps.{PollAsk, is_unchanged, records_or_none, unless_fenced, merged_into, puts_polled, puts_trees, polls_over, poll_try}
 use Rattle.step_model.specs.StepEnds.{StepEnd, Reports, GivesUp, Fenced, most_refused}
 use Rattle.script_model.specs.Defaults.{quiet_scheduler}
 use Rattle.fleet_run.specs.Holds.{Held}
@@ -90,7 +91,7 @@ module _ (records : Option Records) (q : PollState) where
 pub polls_leads : (left seen : ℕ) (h : Held) (first last : PollState) → h.manifest.epoch ≡ 1 → records_epoch h.records ≡ 1
     → let input = quiet_input h.tables h.manifest (records_or_none h.records) in
     commit_finished input (free_stale input (poll_begun h.manifest.trees h.manifest.horizon (records_or_none h.records).jobs)) ≡ first → open_submitted input first ≡ last
-    → Leads (polls_from quiet_ask (suc left) seen) h (polled_held h last) (Reports last)
+    → Leads (counted_tries (poll_try quiet_ask) (suc left) seen) h (polled_held h last) (Reports last)
 polls_leads left seen h first last epoch other commits opens =
     gets_manifest_leads h (polled_held h last) (Reports last) (λ manifest. unless_fenced 1 manifest.epoch (Calls (Plain GetRecords) (λ met. over met.tables manifest (records_or_none met.records))))
     (subst (λ b. Leads (cond b (Ends (Fenced h.manifest.epoch)) (Calls (Plain GetRecords) (λ met. over met.tables h.manifest (records_or_none met.records)))) h (polled_held h last) (Reports last)) (sym not_fenced)
@@ -101,7 +102,7 @@ polls_leads left seen h first last epoch other commits opens =
     got = records_or_none h.records
 
     again : ℕ → Course (StepEnd PollState)
-    again = polls_from quiet_ask left
+    again = counted_tries (poll_try quiet_ask) left
 
     over : Tables → Manifest → Records → Course (StepEnd PollState)
     over tables manifest records = unless_fenced 1 records.epoch (polls_over quiet_ask tables manifest records (suc left) seen again)

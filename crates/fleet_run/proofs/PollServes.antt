@@ -1,5 +1,5 @@
 -- A poll of a live coordinator replies what it did, and leaves what it put.
-use Rattle.std.proofs.Common.{◌≡◌, refl, sym, ap, ◌∙◌, subst, ℕ, ◌+◌, ◌==◌, List, [], ◌∷◌, ◌++◌, map, filter, cond, Bool, true, false, ◌&&◌, max, Option, Some, None, take, length, ◌-◌}
+use Rattle.std.proofs.Common.{◌≡◌, refl, sym, ap, ◌∙◌, subst, ℕ, ◌==◌, List, [], ◌∷◌, ◌++◌, map, filter, cond, Bool, true, false, ◌&&◌, max, Option, Some, None, take, length, ◌-◌}
 use Rattle.std.specs.Cmp.Lexicographic.{pointwise}
 use Rattle.std.specs.List.{AllByRecursion}
 use Rattle.row_model.specs.Fold.{Operator}

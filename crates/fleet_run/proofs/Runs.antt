@@ -3,7 +3,7 @@ use Rattle.std.proofs.Common.{◌≡◌, refl, sym, ap, ◌∙◌, subst, ℕ, �
 use Rattle.std.specs.List.{concat}
 use Rattle.std.proofs.lemmas.List.Folds.{concat-append}
 use Rattle.row_model.specs.Fold.{Operator}
-use Rattle.script_model.specs.Script.{Line, FlushRows, IsInBounds, AreLines, IsScript}
+use Rattle.script_model.specs.Script.{Line, AreLines, IsScript}
 use Rattle.script_model.specs.Grammars.{job_grammar}
 use Rattle.script_model.specs.States.{fresh_state}
 use Rattle.script_model.specs.Defaults.{default_options, with_quiet_scheduler}
@@ -11,7 +11,7 @@ use Rattle.script_model.specs.Follows.{LineStep, ScriptRun}
 use Rattle.fleet_run.proofs.MoreLines.{run-more}
 use Rattle.fleet_run.specs.FleetView.{FleetView, fresh_fleet}
 use Rattle.fleet_run.specs.Holds.{held_parts, Holds, state_of}
-use Rattle.fleet_run.specs.Serve.{IsServed, reply_to, fleet_after}
+use Rattle.fleet_run.specs.Serve.{reply_to, fleet_after}
 use Rattle.fleet_run.specs.Program.{ReadWhole, ReadFront, RunsFirst}
 use Rattle.fleet_run.specs.Outside.{SourceView, SinkView, Took, TookShort, TookNothing}
 use Rattle.fleet_run.specs.Served.{Ran, RanButTheEnd, RunsUpToFault, RunsFront, Served, ServedUpToFault, ServedFront}
@@ -23,11 +23,6 @@ pub record SoFar (merge : Operator) (lines : List Line) (fleet : FleetView) (old
   pub ran : Ran merge lines fleet old new
   pub last : ran.last ≡ state_of fleet ran.last.store
   pub started : AreStarted lines fleet
-
--- A line in bounds has what the fleet needs of it.
-served_in_bounds : (line : Line) → IsInBounds line → IsServed line
-served_in_bounds (FlushRows name segment floor tick rows) (named, prefix, low, at, some, are) = (some, are)
-served_in_bounds _ bounds = tt
 
 fresh_holds : Holds fresh_fleet (held_parts (fresh_state default_options).store)
 fresh_holds = record {
@@ -69,7 +64,7 @@ concat-one answers answer = concat-append answers (answer ∷ []) ∙ ap (λ l. 
 served_next : (merge : Operator) (lines : List Line) (line : Line) (fleet : FleetView) (old mid : SinkView) (so_far : SoFar merge lines fleet old mid)
     → job_grammar lines line → LineServes merge (1 + length lines) line fleet so_far.ran.last.store
 served_next merge lines line fleet old mid so_far fits =
-    line_serves merge (1 + length lines) lines line fleet so_far.ran.last.store fits (served_in_bounds line fits.0) so_far.started so_far.ran.holds
+    line_serves merge (1 + length lines) lines line fleet so_far.ran.last.store fits (fits.0, fits.1) so_far.started so_far.ran.holds
 
 run_next : (merge : Operator) (lines : List Line) (line : Line) (fleet : FleetView) (old mid : SinkView) (so_far : SoFar merge lines fleet old mid)
     (next : LineServes merge (1 + length lines) line fleet so_far.ran.last.store)

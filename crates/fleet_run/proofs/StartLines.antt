@@ -9,9 +9,10 @@ use Rattle.fleet_model.specs.Records.{new_job}
 use Rattle.fleet_model.specs.Store.{Manifest, Store, Records, jobs_in, records_epoch}
 use Rattle.fleet_model.specs.Exchanges.{DrawsJob, PutsRecords, records_version}
 use Rattle.step_model.specs.Course.{Course, Ends, calls_each, then_course, gets_records, puts_manifest}
+use Rattle.step_model.specs.Tries.{tries}
 use Rattle.step_model.specs.StepEnds.{StepEnd, Reports, NoRecords}
-use Rattle.step_model.specs.PollSteps.{start, starts_from, epoch_above, puts_epoch, holds_at_start, unless_fenced}
-use Rattle.step_model.specs.SubmitSteps.{submit, submit_by, submits_drawn, submits_from}
+use Rattle.step_model.specs.PollSteps.{start, start_try, epoch_above, puts_epoch, holds_at_start, unless_fenced}
+use Rattle.step_model.specs.SubmitSteps.{submit, submit_by, submits_drawn, submit_try}
 use Rattle.script_model.specs.LineRuns.{LineEnd, line_end}
 use Rattle.script_model.specs.Replies.{reply, ok, jobs_text}
 use Rattle.script_model.specs.Starts.{start_coordinator, start_worker, start_notes, killed_first}
@@ -57,12 +58,12 @@ unstarted h = record h { manifest = record h.manifest { epoch = 0 }; records = N
 abbrev started_held : Held → Held
 started_held h = record h { manifest = record h.manifest { epoch = 1; version = h.manifest.version + 1 }; records = Some (record { version = 1; epoch = 1; jobs = [] }) }
 
-starts_leads : (left seen : ℕ) (h : Held) → Leads (starts_from (suc left) seen) (unstarted h) (started_held h) (Reports 1)
+starts_leads : (left seen : ℕ) (h : Held) → Leads (tries start_try (suc left) seen) (unstarted h) (started_held h) (Reports 1)
 starts_leads left seen h =
     let first = unstarted h in
     let put : Held = record first { manifest = record first.manifest { epoch = 1; version = first.manifest.version + 1 } } in
     let last = started_held h in
-    let again : ℕ → Course (StepEnd ℕ) = starts_from left in
+    let again : ℕ → Course (StepEnd ℕ) = tries start_try left in
     let puts : Manifest → Option Records → Course (StepEnd ℕ) = λ manifest records.
     let epoch = epoch_above manifest records in
     puts_manifest manifest.version (ManifestEpoch epoch) (record manifest { epoch = epoch }) (puts_epoch records epoch (holds_at_start epoch) again) again in
@@ -171,12 +172,12 @@ submitted_held h id got spec = record h { jobs_drawn = h.jobs_drawn + 1; records
 
 -- A submission puts the job if there are records.
 submits_leads : (left seen : ℕ) (h : Held) (got : Records) (spec : JobSpec) → h.records ≡ Some got
-    → Leads (submits_from 0 (spec ∷ []) (suc left) seen) h (submitted_held h (id_of 0 (h.jobs_drawn + 1)) got spec) (Reports (id_of 0 (h.jobs_drawn + 1) ∷ []))
+    → Leads (tries (submit_try 0 (spec ∷ [])) (suc left) seen) h (submitted_held h (id_of 0 (h.jobs_drawn + 1)) got spec) (Reports (id_of 0 (h.jobs_drawn + 1) ∷ []))
 submits_leads left seen h got spec is =
     let id = id_of 0 (h.jobs_drawn + 1) in
     let last = submitted_held h id got spec in
     let end : StepEnd (List ℕ) = Reports (id ∷ []) in
-    let again : ℕ → Course (StepEnd (List ℕ)) = submits_from 0 (spec ∷ []) left in
+    let again : ℕ → Course (StepEnd (List ℕ)) = tries (submit_try 0 (spec ∷ [])) left in
     let drawn : Held = record h { jobs_drawn = h.jobs_drawn + 1 } in
     let puts : Leads (submits_drawn 0 got ((id, spec) ∷ []) again) drawn last end =
     puts_records_leads drawn last end got (Submit ((id, spec) ∷ [])) got.epoch (trimmed_jobs (put_job (new_job (id, spec)) got.jobs)) (Ends end) again (sym (ap records_version is)) (refl, refl) in
@@ -185,9 +186,9 @@ submits_leads left seen h got spec is =
     gets_records_leads h last end (λ records. submit_by 0 (spec ∷ []) records again) (subst (λ records. Leads (submit_by 0 (spec ∷ []) records again) h last end) (sym is) draws)
 
 -- A submission puts nothing if there are no records.
-refused_leads : (left seen : ℕ) (h : Held) (spec : JobSpec) → h.records ≡ None → Leads (submits_from 0 (spec ∷ []) (suc left) seen) h h NoRecords
+refused_leads : (left seen : ℕ) (h : Held) (spec : JobSpec) → h.records ≡ None → Leads (tries (submit_try 0 (spec ∷ [])) (suc left) seen) h h NoRecords
 refused_leads left seen h spec is =
-    let again : ℕ → Course (StepEnd (List ℕ)) = submits_from 0 (spec ∷ []) left in
+    let again : ℕ → Course (StepEnd (List ℕ)) = tries (submit_try 0 (spec ∷ [])) left in
     gets_records_leads h h NoRecords (λ records. submit_by 0 (spec ∷ []) records again) (subst (λ records. Leads (submit_by 0 (spec ∷ []) records again) h h NoRecords) (sym is) (refl, refl))
 
 pub submit_serves : (number : ℕ) (fleet : FleetView) (store : Store) (source destination : ℕ) → Holds fleet (held_parts store)

@@ -6,7 +6,6 @@ pub mod Jobs
 pub mod Outputs
 pub mod FleetView
 pub mod Serve
-pub mod Kinds
 pub mod Holds
 pub mod Served
 pub mod Errors

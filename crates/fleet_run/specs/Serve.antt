@@ -1,9 +1,8 @@
 -- What a line makes of a fleet, and the reply to it.
-use Rattle.std.specs.Prelude.{ℕ, ◌+◌, ◌-◌, ◌==◌, ◌||◌, nat_le, nat_lt, not, if◌then◌else◌, ℤ, int_lt, List, [], ◌∷◌, ◌++◌, flat_map, find, take, length, ◌<◌, ⊤, true, max, Option, Some, None, option_map, codes, decimal, slice_get}
+use Rattle.std.specs.Prelude.{ℕ, ◌+◌, ◌-◌, ◌==◌, ◌||◌, nat_le, nat_lt, not, if◌then◌else◌, ℤ, int_lt, List, [], ◌∷◌, ◌++◌, flat_map, find, take, length, true, max, Option, Some, None, option_map, codes, decimal, slice_get}
 use Rattle.std.specs.List.{list_all}
 use Rattle.std.specs.Option.{option_or}
 use Rattle.row_model.specs.Rows.{Row, Content, Value, Merge, Tombstone, are_ordered, rows_of_key}
-use Rattle.row_model.specs.Bounds.{AreRows}
 use Rattle.row_model.specs.Fold.{Outcome, Merged}
 use Rattle.row_model.specs.Read.{seen_at}
 use Rattle.row_model.specs.Settings.{Settings}
@@ -15,7 +14,8 @@ use Rattle.fleet_model.specs.Records.{firsts}
 use Rattle.fleet_model.specs.Trees.{greatest_seq}
 use Rattle.fleet_model.specs.Attempts.{is_last}
 use Rattle.fleet_model.specs.Polls.{poll_begun}
-use Rattle.script_model.specs.Script.{Line, StartCoordinator, StartWorker, FlushRows, ReadKey, SubmitJob, Poll, ClaimJobs, FinishJob, Dump}
+use Rattle.script_model.specs.Script.{Line, StartCoordinator, StartWorker, FlushRows, ReadKey, SubmitJob, Poll, ClaimJobs, FinishJob, Dump, IsInBounds}
+use Rattle.script_model.specs.Grammars.{IsOfOneJob}
 use Rattle.step_model.specs.StepEnds.{FlushFault, BadName, BadOrder, BadSequence, BadFloor, BadTick}
 use Rattle.step_model.specs.FlushSteps.{is_above}
 use Rattle.script_model.specs.Words.{rows_text}
@@ -283,11 +283,10 @@ abbrev pub source_or_zero : List NodeName → ℕ
 source_or_zero (L0 name ∷ _) = name
 source_or_zero _ = 0
 
--- What the fleet needs of a line before it runs it: a flush has at least one row, and its rows are
--- in bounds.
+-- What the fleet needs of a line before it runs it: the line is in bounds, and it may be in a script
+-- of the job grammar.
 abbrev pub IsServed : Line → Type 0
-IsServed (FlushRows name segment floor tick rows) = (0 < length rows) × AreRows rows
-IsServed _ = ⊤
+IsServed line = IsInBounds line × IsOfOneJob line
 
 -- The reply to a line.
 abbrev pub reply_to : Line → FleetView → List ℕ

@@ -5,20 +5,21 @@ ghost use Rattle.std.specs.List.{list_all, AllByRecursion};
 ghost use Rattle.row_model.specs.Bounds.{AreRows};
 ghost use Rattle.fleet_rows.specs.declared.errors.SlateDBError.TheVariants as SlateDBError;
 ghost use Rattle.fleet_rows.specs.Row.{row_of, rows_of};
-ghost use Rattle.fleet_text.specs.Lines.{line_of};
+ghost use Rattle.fleet_text.specs.Lines.{line_of, nodes_of};
 ghost use Rattle.step_model.specs.FlushSteps.{is_above};
+ghost use Rattle.script_model.specs.Grammars.{IsOneFlush};
 ghost use Rattle.script_model.specs.Replies.{ok};
 ghost use Rattle.fleet_model.specs.Trees.{greater_seq, greatest_seq};
 ghost use Rattle.fleet_run.specs.FleetView.{fresh_fleet};
-ghost use Rattle.fleet_run.specs.Serve.{flush_fault, flush_reply, after_flush, with_flush, key_reply, newest_stored, reply_to, fleet_after, IsServed};
-ghost use Rattle.fleet_run.specs.Kinds.{fault_of};
+ghost use Rattle.fleet_run.specs.Serve.{flush_fault, flush_reply, after_flush, with_flush, key_reply, newest_stored, reply_to, fleet_after, source_or_zero, IsServed};
+ghost use Rattle.fleet_text.specs.Faults.{fault_of};
 
-use crate::answer::{self, FlushFault};
+use crate::answer;
 use crate::jobs::{AskedJob, OpenJob};
 use crate::tables::{Run, Table, id_of_number, newest_in, newest_in_runs};
 use fleet_rows::{RowEntry, SlateDBError};
 use fleet_table::{TableData, are_strictly_ordered};
-use fleet_text::{Line, Reply};
+use fleet_text::{FlushFault, Line, NodeName, Reply, answers};
 use std::alloc::Global;
 use std::collections::VecDeque;
 use std::marker::Model;
@@ -139,7 +140,7 @@ impl Fleet {
         ensures memory { IsOkUnless result SlateDBError.Memory }
     {
         match self.flush_fault(name, floor, tick, rows.as_slice()) {
-            Some(fault) => answer::refused_flush(alloc, fault),
+            Some(fault) => answers::bad_flush(alloc, fault),
             None => self.accept(alloc, name, floor, tick, rows),
         }
     }
@@ -162,7 +163,7 @@ impl Fleet {
         ensures err { OnErr result (self.new ≡ self.old) }
         ensures memory { IsOkUnless result SlateDBError.Memory }
     {
-        let reply = answer::done(alloc)?;
+        let reply = answers::done(alloc)?;
         let last_seq = greatest_seq(self.last_seq, rows.as_slice());
         let data = TableData::from_rows(alloc, rows)?;
         let id = id_of_number(name);
@@ -179,7 +180,7 @@ impl Fleet {
         ensures memory { IsOkUnless result SlateDBError.Memory }
     {
         if seq < self.horizon || now < self.tick {
-            return answer::not_retained(alloc, self.horizon, self.tick);
+            return answers::not_retained(alloc, self.horizon, self.tick);
         }
         let row = self.newest_stored(key, seq)?;
         answer::value(alloc, row.as_ref())
@@ -208,14 +209,17 @@ impl Fleet {
     {
         match line {
             Line::StartCoordinator { number: _ } => self.start_coordinator(alloc),
-            Line::StartWorker { number: _ } => self.start_worker(alloc),
+            Line::StartWorker {
+                number: _,
+                release: _,
+            } => self.start_worker(alloc),
             Line::Flush {
                 name,
                 segment: _,
                 floor,
                 tick,
                 rows,
-            } => self.flush(alloc, name, floor, tick, rows),
+            } => self.flush(alloc, name, floor, tick, rows.into_vec()),
             Line::Read {
                 segment: _,
                 key,
@@ -225,13 +229,27 @@ impl Fleet {
             Line::Submit {
                 segment: _,
                 destination,
-                source,
-            } => self.submit(alloc, source, destination),
+                sources,
+            } => self.submit(alloc, only_flush(sources.as_slice()), destination),
             Line::Poll { coordinator: _ } => self.poll(alloc),
             Line::Claim { worker: _ } => self.claim(alloc),
             Line::Finish { worker: _, job } => self.finish(alloc, job),
             Line::Dump { segment: _, node } => self.dump(alloc, node),
+
+            // The grammar has no other line.
+            _ => unreachable!(),
         }
+    }
+}
+
+// The name of the only flush of these sources.
+fn only_flush(sources: &[NodeName]) -> u64
+    requires { IsOneFlush (nodes_of sources.now) }
+    ensures { result ≡ source_or_zero (nodes_of sources.now) }
+{
+    match sources {
+        [NodeName::L0(name)] => *name,
+        _ => unreachable!(),
     }
 }
 

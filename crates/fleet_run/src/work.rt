@@ -21,7 +21,7 @@ use crate::tables::{
 };
 use fleet_rows::{JobList, Settings, SlateDBError, Ulid};
 use fleet_table::TableData;
-use fleet_text::{NodeName, Reply};
+use fleet_text::{NodeName, Reply, answers, listings};
 use std::alloc::Global;
 use std::collections::VecDeque;
 
@@ -32,7 +32,7 @@ impl Fleet {
         ensures err { OnErr result (self.new ≡ self.old) }
         ensures memory { IsOkUnless result SlateDBError.Memory }
     {
-        let reply = answer::started(alloc)?;
+        let reply = answers::started(alloc, 1)?;
         self.coordinator = true;
         Ok(reply)
     }
@@ -43,7 +43,7 @@ impl Fleet {
         ensures err { OnErr result (self.new ≡ self.old) }
         ensures memory { IsOkUnless result SlateDBError.Memory }
     {
-        let reply = answer::done(alloc)?;
+        let reply = answers::done(alloc)?;
         self.worker = true;
         Ok(reply)
     }
@@ -62,13 +62,13 @@ impl Fleet {
         ensures memory { IsOkUnless result SlateDBError.Memory }
     {
         if !self.coordinator {
-            return answer::no_records(alloc);
+            return answers::no_records(alloc);
         }
         let number = self.jobs_drawn.checked_add(1).ok_or(SlateDBError::Memory)?;
         let id = id_of_number(number);
         let mut job = JobList::new(alloc);
         job.push(id)?;
-        let reply = answer::submitted(alloc, &job)?;
+        let reply = listings::submitted(alloc, &job)?;
         let source = id_of_number(source);
         self.asked.push(AskedJob {
             id,
@@ -87,11 +87,11 @@ impl Fleet {
         ensures memory { IsOkUnless result SlateDBError.Memory }
     {
         if !self.coordinator {
-            return answer::no_such_party(alloc);
+            return answers::no_such_party(alloc);
         }
         let done = done_ids(alloc, &self.opened)?;
         let judged = self.judged(alloc)?;
-        let reply = answer::polled(alloc, &done, &judged)?;
+        let reply = answer::polled(alloc, done, &judged)?;
         self.runs.reserve(1)?;
         commit(
             &mut self.flushes,
@@ -124,14 +124,12 @@ impl Fleet {
         ensures memory { IsOkUnless result SlateDBError.Memory }
     {
         if !self.worker {
-            return answer::no_such_party(alloc);
+            return answers::no_such_party(alloc);
         }
         let Some(job) = waiting_job(&self.opened) else {
             return answer::claimed_none(alloc);
         };
-        let mut claimed = JobList::new(alloc);
-        claimed.push(job.id)?;
-        let reply = answer::claimed(alloc, &claimed)?;
+        let reply = answer::claimed(alloc, job.id)?;
         let runs = run_ids_after(alloc, &self.runs, &None)?;
         let settings = Settings {
             floor: self.floor,
@@ -155,7 +153,7 @@ impl Fleet {
         ensures memory { IsOkUnless result SlateDBError.Memory }
     {
         let Some((job, settings)) = self.run_by(number) else {
-            return answer::no_such_party(alloc);
+            return answers::no_such_party(alloc);
         };
         let tables = self.outputs(alloc, job.source, settings)?;
         let drawn = self
@@ -163,7 +161,7 @@ impl Fleet {
             .checked_add(tables.len() as u64)
             .ok_or(SlateDBError::Memory)?;
         let names = JobList::from_vec(ids_of(alloc, &tables)?);
-        let reply = answer::finished(alloc, &names)?;
+        let reply = answer::finished(alloc, names)?;
         self.opened = Some(OpenJob {
             job,
             stage: Stage::Wrote {
@@ -223,8 +221,8 @@ fn dump_table(alloc: Global, table: Option<&TableData>) -> Result<Reply, SlateDB
     ensures memory { IsOkUnless result SlateDBError.Memory }
 {
     match table {
-        Some(table) => answer::rows(alloc, table.to_rows()?.as_slice()),
-        None => answer::absent(alloc),
+        Some(table) => listings::rows(alloc, table.to_rows()?.as_slice()),
+        None => answers::absent(alloc),
     }
 }
 
@@ -236,9 +234,9 @@ fn dump_run(alloc: Global, tables: Option<&VecDeque<Table>>) -> Result<Reply, Sl
     match tables {
         Some(tables) => {
             let rows = rows_of_tables(alloc, tables)?;
-            answer::rows(alloc, &rows)
+            listings::rows(alloc, &rows)
         }
-        None => answer::absent(alloc),
+        None => answers::absent(alloc),
     }
 }
 

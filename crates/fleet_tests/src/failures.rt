@@ -1,12 +1,16 @@
 // An iterator over other rows passes on their fault in the call in which it comes. After that it
 // says that it has failed.
+ghost use Rattle.std.specs.Prelude.{◌≡◌, None, true};
+ghost use Rattle.fleet_iter.specs.Iteration.{AreRising};
+
 use crate::failing::{before_fault, failing};
 use crate::spelt::are_spelt;
+use bytes::Bytes;
 use fleet_fold::{
     AppendOperator, CompactionFilter, CompactionFilterDecision, CompactionFilterIterator,
     MergeOperatorIterator, MergeOperatorRequiredIterator, RetentionIterator,
 };
-use fleet_iter::{MergeIterator, PeekingIterator, ResumingIterator};
+use fleet_iter::{MergeIterator, PeekingIterator, ResumingIterator, RowEntryIterator};
 use fleet_rows::{CompactionFilterError, RowEntry, Settings, SlateDBError};
 use std::alloc::Global;
 
@@ -29,6 +33,39 @@ fn resuming_fails_as_its_rows(rt: HostRuntime) {
     let list = failing(rt.alloc(), SPELT).expect(&rt, "rows");
     let resuming = ResumingIterator::new(rt.alloc(), list, None).expect(&rt, "a start");
     assert!(rt; are_spelt(rt.alloc(), before_fault(rt.alloc(), resuming), SPELT));
+}
+
+// Whether no iterator can be made that resumes after the sequence 2 of the key `a`, since the
+// store has a fault.
+fn resume_fails<T: RowEntryIterator>(alloc: Global, iterator: T) -> bool
+    requires sound { T.sound iterator }
+    requires alive { (T.state iterator).failure ≡ None }
+    requires initialised { (T.state iterator).initialised ≡ true }
+    requires rising { AreRising (T.state iterator).rows }
+{
+    let Ok(key) = Bytes::copy_from_slice(alloc, b"a") else {
+        return false;
+    };
+    matches!(
+        ResumingIterator::new(alloc, iterator, Some((key, 2))),
+        Err(SlateDBError::StoreFault)
+    )
+}
+
+#[test]
+fn a_resume_fails_as_its_seek(rt: HostRuntime) {
+    let list = failing(rt.alloc(), SPELT).expect(&rt, "rows");
+    assert!(rt; resume_fails(rt.alloc(), list));
+}
+
+// The row that was read ahead is left by the seek. It is written already, and the fault comes
+// after it.
+#[test]
+fn a_resume_fails_as_its_rows(rt: HostRuntime) {
+    let list = failing(rt.alloc(), "a:v:-:3").expect(&rt, "rows");
+    let mut peeking = PeekingIterator::new(list);
+    peeking.look_ahead(rt.alloc()).expect(&rt, "a row");
+    assert!(rt; resume_fails(rt.alloc(), peeking));
 }
 
 #[test]

@@ -9,11 +9,15 @@ mod at_once;
 #[cfg(test)]
 mod boxes;
 #[cfg(test)]
+mod executor;
+#[cfg(test)]
 mod failing;
 #[cfg(test)]
 mod failures;
 #[cfg(test)]
 mod faults;
+#[cfg(test)]
+mod forms;
 #[cfg(test)]
 mod looks;
 #[cfg(test)]

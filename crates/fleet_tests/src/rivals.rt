@@ -2,70 +2,90 @@
 ghost use Rattle.std.specs.Prelude.{◌≡◌};
 ghost use Rattle.fleet_model.specs.History as model;
 
-use fleet_book::Compactions;
+use crate::stores::{passes, start};
 use fleet_fold::AppendOperator;
 use fleet_history::{ManifestChange, Party, RecordChange, StepList};
 use fleet_jobs::SpecList;
-use fleet_rival::{Rival, first_records};
+use fleet_rival::Rival;
 use fleet_rows::SlateDBError;
 use fleet_store::{MemStore, Store};
 use std::alloc::Global;
 use std::test::*;
 
-// Gets the manifest and puts it once more, unchanged. The answers are the version that was got and
-// the end of the put.
-fn put_got<S: Store>(
+// Whether a put was refused since this version is stored.
+fn is_conflict(put: Result<u64, SlateDBError>, stored: u64) -> bool {
+    match put {
+        Err(SlateDBError::Conflict { seen }) => seen == stored,
+        _ => false,
+    }
+}
+
+// Whether this version of the manifest is got, and a put in its place, unchanged, is refused.
+fn refuses_manifest<S: Store>(
     store: &mut S,
     alloc: Global,
-) -> Result<(u64, Result<u64, SlateDBError>), SlateDBError> {
+    version: u64,
+    stored: u64,
+) -> Result<bool, SlateDBError> {
     let got = store.get_manifest()?;
-    let version = got.id;
-    let jobs = Compactions::new(alloc, 0);
+    let id = got.id;
     let why = ManifestChange::Commit(StepList::new(alloc));
-    Ok((
-        version,
-        store.put_manifest(version, got.manifest, why, &jobs),
-    ))
+    let put = store.put_manifest(id, got.manifest, why, None);
+    let refused = is_conflict(put, stored);
+    Ok(refused && id == version)
+}
+
+// Whether a rival's store refuses each put of a manifest that was got.
+fn rival_refuses_manifests(memory: &mut MemStore, alloc: Global) -> bool {
+    let under = memory.under(&AppendOperator);
+    let mut store = Rival::new(under, alloc, 1, Party::Coordinator(1));
+    for (version, stored) in [(1, 2), (2, 3), (3, 4)] {
+        let refused = refuses_manifest(&mut store, alloc, version, stored);
+        if !refused.unwrap_or(false) {
+            return false;
+        }
+    }
+    true
 }
 
 #[test]
 fn each_put_of_a_manifest_that_was_got_is_refused(rt: HostRuntime) {
-    let mut memory = MemStore::new(rt.alloc()).expect(&rt, "memory");
-    let under = memory.under(&AppendOperator);
-    let mut store = Rival::new(under, rt.alloc(), 1, Party::Coordinator(1));
-    for version in [1, 2, 3] {
-        let (got, put) = put_got(&mut store, rt.alloc()).expect(&rt, "memory");
-        assert_eq!(rt; got, version);
-        let refused = matches!(put, Err(SlateDBError::Conflict { seen }) if seen == version + 1);
-        assert!(rt; refused, "at {version}");
-    }
+    assert!(rt; passes(rt.alloc(), rival_refuses_manifests).expect(&rt, "memory"));
 }
 
-// Gets the records and puts them once more, unchanged, as a submit of no jobs. The answers are the
-// version that was got and the end of the put.
-fn submit_none<S: Store>(
+// Whether this version of the records is got, and a put in its place, unchanged, is refused. The put
+// is a submit of no jobs.
+fn refuses_records<S: Store>(
     store: &mut S,
     alloc: Global,
-) -> Result<(u64, Result<u64, SlateDBError>), SlateDBError>
-    requires { (S.who store.old).party ≡ model.Submitter }
+    version: u64,
+    stored: u64,
+) -> Result<bool, SlateDBError>
+    requires { (S.view store.old).who.party ≡ model.Submitter }
 {
     let Some(got) = store.get_records()? else {
-        return Err(SlateDBError::InvalidDBState);
+        return Ok(false);
     };
-    let version = got.id();
+    let id = got.id();
     let mut value = got.compactions().clone()?;
     value.retain_active_and_last_finished();
     let why = RecordChange::Submit(SpecList::new(alloc));
-    Ok((version, store.put_records(version, value, why)))
+    let put = store.put_records(id, value, why);
+    let refused = is_conflict(put, stored);
+    Ok(refused && id == version)
+}
+
+// Whether a rival's store refuses a put of the first records that were got.
+fn rival_refuses_records(memory: &mut MemStore, alloc: Global) -> bool {
+    if start(memory, alloc).is_err() {
+        return false;
+    }
+    let under = memory.under(&AppendOperator);
+    let mut store = Rival::new(under, alloc, 1, Party::Submitter);
+    refuses_records(&mut store, alloc, 1, 2).unwrap_or(false)
 }
 
 #[test]
 fn a_put_of_records_that_were_got_is_refused(rt: HostRuntime) {
-    let mut memory = MemStore::new(rt.alloc()).expect(&rt, "memory");
-    first_records(&mut memory, rt.alloc()).expect(&rt, "memory");
-    let under = memory.under(&AppendOperator);
-    let mut store = Rival::new(under, rt.alloc(), 1, Party::Submitter);
-    let (got, put) = submit_none(&mut store, rt.alloc()).expect(&rt, "memory");
-    assert_eq!(rt; got, 1);
-    assert!(rt; matches!(put, Err(SlateDBError::Conflict { seen: 2 })));
+    assert!(rt; passes(rt.alloc(), rival_refuses_records).expect(&rt, "memory"));
 }

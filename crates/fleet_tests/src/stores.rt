@@ -1,5 +1,5 @@
 // Draws from a store in memory, and puts into it.
-ghost use Rattle.std.specs.Prelude.{◌≢◌};
+ghost use Rattle.std.specs.Prelude.{◌≢◌, ◌<◌, ◌^◌};
 
 use fleet_book::Compactions;
 use fleet_fold::AppendOperator;
@@ -11,21 +11,38 @@ use fleet_store::{MemStore, Store};
 use std::alloc::Global;
 use std::test::*;
 
-#[test]
-fn a_job_is_drawn(rt: HostRuntime) {
-    let mut store = MemStore::new(rt.alloc()).expect(&rt, "memory");
-    let id = store.under(&AppendOperator).draw_job(5);
-    assert_eq!(rt; id.expect(&rt, "memory"), Ulid::from_parts(5, 1));
+/// Whether a test passes over a fresh store.
+pub(crate) fn passes<F: FnOnce(&mut MemStore, Global) -> bool>(
+    alloc: Global,
+    test: F,
+) -> Result<bool, SlateDBError>
+    requires { F.IsAlwaysCallable test }
+{
+    let mut store = MemStore::new(alloc)?;
+    Ok(test(&mut store, alloc))
+}
+
+// Whether a job and a table are drawn with the first numbers.
+fn draws_first(store: &mut MemStore, _alloc: Global) -> bool {
+    let mut under = store.under(&AppendOperator);
+    let job = under.draw_job(5);
+    let table = under.draw_table(5);
+    is_drawn(job, 1) && is_drawn(table, DRAWN_BASE + 1)
+}
+
+// Whether this number was drawn at the moment 5.
+fn is_drawn(id: Result<Ulid, SlateDBError>, number: u128) -> bool
+    requires { number < 2 ^ 80 }
+{
+    match id {
+        Ok(id) => id == Ulid::from_parts(5, number),
+        Err(_) => false,
+    }
 }
 
 #[test]
-fn a_table_is_drawn(rt: HostRuntime) {
-    let mut store = MemStore::new(rt.alloc()).expect(&rt, "memory");
-    let id = store.under(&AppendOperator).draw_table(5);
-    assert_eq!(rt;
-        id.expect(&rt, "memory"),
-        Ulid::from_parts(5, DRAWN_BASE + 1)
-    );
+fn a_job_and_a_table_are_drawn(rt: HostRuntime) {
+    assert!(rt; passes(rt.alloc(), draws_first).expect(&rt, "memory"));
 }
 
 /// Puts the stored manifest once more, unchanged, in the place of the one with this version.
@@ -35,10 +52,9 @@ pub(crate) fn put_manifest(
     version: u64,
 ) -> Result<u64, SlateDBError> {
     let value = store.manifest().manifest.clone()?;
-    let jobs = Compactions::new(alloc, 0);
     let why = ManifestChange::Commit(StepList::new(alloc));
     let mut under = store.under(&AppendOperator);
-    under.put_manifest(version, value, why, &jobs)
+    under.put_manifest(version, value, why, None)
 }
 
 /// Puts the first records, if there are none.
@@ -88,44 +104,58 @@ pub(crate) fn ends_with(store: &MemStore, answer: Answer) -> bool {
     }
 }
 
-// The answer that a put gave.
-fn answer_of(put: Result<u64, SlateDBError>) -> Answer {
-    match put {
+// Whether a put gave this answer, and its entry has it.
+fn is_answered(put: Result<u64, SlateDBError>, store: &MemStore, answer: Answer) -> bool {
+    let given = match put {
         Ok(version) => Answer::Done(version),
         Err(SlateDBError::Conflict { seen }) => Answer::Conflict(seen),
         Err(_) => Answer::Absent,
-    }
+    };
+    given == answer && ends_with(store, answer)
 }
 
-// Whether a put gave this answer, and its entry has it.
-fn is_answered(put: Result<u64, SlateDBError>, store: &MemStore, answer: Answer) -> bool {
-    answer_of(put) == answer && ends_with(store, answer)
-}
-
-#[test]
-fn an_old_version_of_the_manifest_is_refused(rt: HostRuntime) {
-    let mut store = MemStore::new(rt.alloc()).expect(&rt, "memory");
+// Whether puts of the manifest give these answers. One of them is over an old version.
+fn puts_manifests(store: &mut MemStore, alloc: Global) -> bool {
     for (version, answer) in [
         (1, Answer::Done(2)),
         (2, Answer::Done(3)),
         (2, Answer::Conflict(3)),
         (3, Answer::Done(4)),
     ] {
-        let put = put_manifest(&mut store, rt.alloc(), version);
-        assert!(rt; is_answered(put, &store, answer), "at {version}");
+        let put = put_manifest(store, alloc, version);
+        if !is_answered(put, store, answer) {
+            return false;
+        }
     }
-    assert_eq!(rt; store.manifest().id, 4);
+    store.manifest().id == 4
+}
+
+#[test]
+fn an_old_version_of_the_manifest_is_refused(rt: HostRuntime) {
+    assert!(rt; passes(rt.alloc(), puts_manifests).expect(&rt, "memory"));
+}
+
+// Whether puts of records give these answers. Two of them are over versions that are not stored.
+fn puts_records(store: &mut MemStore, alloc: Global) -> bool {
+    let put = put_over_none(store, alloc, 1);
+    if !is_answered(put, store, Answer::Conflict(0)) {
+        return false;
+    }
+    let put = start(store, alloc);
+    is_answered(put, store, Answer::Done(1)) && puts_later_records(store, alloc)
+}
+
+fn puts_later_records(store: &mut MemStore, alloc: Global) -> bool {
+    for (version, answer) in [(0, Answer::Conflict(1)), (1, Answer::Done(2))] {
+        let put = put_records(store, alloc, version);
+        if !is_answered(put, store, answer) {
+            return false;
+        }
+    }
+    true
 }
 
 #[test]
 fn an_old_version_of_the_records_is_refused(rt: HostRuntime) {
-    let mut store = MemStore::new(rt.alloc()).expect(&rt, "memory");
-    let put = put_over_none(&mut store, rt.alloc(), 1);
-    assert!(rt; is_answered(put, &store, Answer::Conflict(0)));
-    let put = start(&mut store, rt.alloc());
-    assert!(rt; is_answered(put, &store, Answer::Done(1)));
-    for (version, answer) in [(0, Answer::Conflict(1)), (1, Answer::Done(2))] {
-        let put = put_records(&mut store, rt.alloc(), version);
-        assert!(rt; is_answered(put, &store, answer), "at {version}");
-    }
+    assert!(rt; passes(rt.alloc(), puts_records).expect(&rt, "memory"));
 }

@@ -130,13 +130,14 @@ fn bad_lines(rt: HostRuntime) {
 // shows this.
 fn is_of_root_or_first(line: &Line) -> bool {
     match line {
-        Line::StartCoordinator { number } | Line::StartWorker { number } => *number == 1,
+        Line::StartCoordinator { number } | Line::StartWorker { number, .. } => *number == 1,
         Line::Poll { coordinator } => *coordinator == 1,
         Line::Claim { worker } | Line::Finish { worker, .. } => *worker == 1,
         Line::Flush { segment, .. }
         | Line::Read { segment, .. }
         | Line::Submit { segment, .. }
         | Line::Dump { segment, .. } => segment.is_empty(),
+        _ => false,
     }
 }
 

@@ -8,4 +8,4 @@ pub returns-clause-reply : goal.returns-clause-reply
 returns-clause-reply c =
     let worker : c.args.self.now.worker ≡ true = sym (ap (λ (fleet : FleetView). fleet.worker) c.self.view_is) ∙ c.if-not-self.false in
     let waits : waiting_job c.args.self.now.opened ≡ Some c.in-Some.job = sym (ap (λ (fleet : FleetView). waiting_job fleet.opened) c.self.view_is) ∙ sym c.in-Some.ensures in
-    c.in_ok-reply.ensures.reply ∙ claim_answered c.args.self.now c.in-Some.job c.push.new.self c.new-claimed.result worker waits c.in_ok-push.ensures.ok c.new-claimed.ensures
+    c.in_ok-reply.ensures.reply ∙ claim_answered c.args.self.now c.in-Some.job worker waits
