@@ -17,7 +17,8 @@ use Rattle.fleet_tree.specs.declared.run.SortedRun.{SortedRun}
 use Rattle.fleet_tree.specs.declared.tree.LsmTreeState.{LsmTreeState}
 use Rattle.fleet_book.specs.declared.view.CompactorStateView.{CompactorStateView}
 use Rattle.fleet_sched.specs.Sizes.{flush_in, run_in, tree_in}
-use Rattle.fleet_sched.specs.Views.{handles_in, job_handles, open_records, tree_handles, trees_in}
+use Rattle.fleet_jobs.specs.Jobs.{job_handles}
+use Rattle.fleet_sched.specs.Views.{handles_in, open_records, tree_handles, trees_in}
 
 -- The handles of the tables of these views.
 abbrev handles_of : List View → List Handle

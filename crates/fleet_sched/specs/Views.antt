@@ -7,9 +7,8 @@ use Rattle.fleet_tree.specs.Manifests.{manifest_of}
 use Rattle.fleet_tree.specs.Trees.{RunFlushes, trees_with_prefix}
 use Rattle.fleet_tree.specs.declared.handle.SsTableHandle.{SsTableHandle}
 use Rattle.fleet_tree.specs.declared.tree.LsmTreeState.{LsmTreeState}
-use Rattle.fleet_jobs.specs.Contexts.{ranges_in}
 use Rattle.fleet_jobs.specs.JobParts.{JobParts}
-use Rattle.fleet_jobs.specs.Jobs.{is_open, jobs_of}
+use Rattle.fleet_jobs.specs.Jobs.{is_open, job_handles, jobs_of}
 use Rattle.fleet_book.specs.VersionedRecords.{VersionedRecords}
 use Rattle.fleet_book.specs.declared.view.CompactorStateView.{CompactorStateView}
 
@@ -39,10 +38,6 @@ shown_jobs state = jobs_of (open_records state.compactions)
 -- The tables of a tree, node by node.
 abbrev pub tree_handles : LsmTreeState → List SsTableHandle
 tree_handles tree = map (λ view. view.sst) tree.l0 ++ flat_map (λ run. map (λ view. view.sst) run.views) tree.compacted
-
--- The tables that a job names in its context and in its outputs.
-abbrev pub job_handles : JobParts → List SsTableHandle
-job_handles job = flat_map (λ range. range.output_ssts) (ranges_in job.ctx) ++ flat_map (λ tables. tables) job.outputs
 
 -- The tables that trees and jobs name.
 abbrev pub handles_in : CompactorStateView → List SsTableHandle

@@ -4,10 +4,10 @@ use Rattle.std.specs.Prelude.{flat_map}
 use Rattle.std.specs.List.{AllByRecursion}
 use Rattle.fleet_model.specs.Store.{Store}
 use Rattle.fleet_jobs.specs.JobParts.{JobParts}
-use Rattle.fleet_jobs.specs.Jobs.{is_open}
+use Rattle.fleet_jobs.specs.Jobs.{is_open, job_handles}
 use Rattle.fleet_book.specs.Records.{kept_records, over_later}
 use Rattle.fleet_store.specs.Handles.{IsDescribed}
-use Rattle.fleet_store.specs.Records.{DescribeTables, job_handles}
+use Rattle.fleet_store.specs.Records.{DescribeTables}
 
 module _ {A : Type 0} (P : A → Type 0) where
   back_part : (xs ys : List A) → AllByRecursion P (xs ++ ys) → AllByRecursion P ys

@@ -23,7 +23,8 @@ use Rattle.fleet_store.specs.Asks.{GetsManifest, GetsRecords}
 use Rattle.fleet_store.specs.Called.{Called, Ended}
 use Rattle.fleet_store.specs.Laws.{GotIsStored, GotStays}
 use Rattle.fleet_store.specs.Manifests.{IsManifest, bare, views_in}
-use Rattle.fleet_store.specs.Records.{AreRecords, DescribeTables, job_handles}
+use Rattle.fleet_jobs.specs.Jobs.{job_handles}
+use Rattle.fleet_store.specs.Records.{AreRecords, DescribeTables}
 
 module _ (got met : Store) (later : IsLater got met) where
   pub still_described : (handle : SsTableHandle) → IsDescribed got.tables handle → IsDescribed met.tables handle

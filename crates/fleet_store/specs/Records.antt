@@ -1,17 +1,12 @@
 -- Which records of the model the records of a program stand for.
-use Rattle.std.specs.Prelude.{◌≡◌, ℕ, List, [], ◌++◌, map, flat_map, Option, Some, None, option_map}
+use Rattle.std.specs.Prelude.{◌≡◌, ℕ, List, [], map, flat_map, Option, Some, None, option_map}
 use Rattle.std.specs.List.{AllByRecursion}
 use Rattle.fleet_model.specs.Store.{Store}
-use Rattle.fleet_tree.specs.declared.handle.SsTableHandle.{SsTableHandle}
-use Rattle.fleet_jobs.specs.Contexts.{ranges_in}
 use Rattle.fleet_jobs.specs.JobParts.{JobParts}
+use Rattle.fleet_jobs.specs.Jobs.{job_handles}
 use Rattle.fleet_book.specs.VersionedRecords.{VersionedRecords}
 use Rattle.fleet_book.specs.Versions.{records_of}
 use Rattle.fleet_store.specs.Handles.{IsDescribed}
-
--- The tables that a record describes: those of its context, and its outputs.
-abbrev pub job_handles : JobParts → List SsTableHandle
-job_handles job = flat_map (λ part. part.output_ssts) (ranges_in job.ctx) ++ flat_map (λ tables. tables) job.outputs
 
 -- The records describe tables that were put into the store.
 abbrev pub DescribeTables : List JobParts → Store → Type 0

@@ -17,7 +17,7 @@ use Rattle.fleet_plan.specs.Parts.{Part}
 use Rattle.fleet_tree.specs.declared.handle.SsTableHandle.{SsTableHandle}
 use Rattle.fleet_jobs.specs.Contexts.{ranges_in}
 use Rattle.fleet_jobs.specs.JobParts.{JobParts}
-use Rattle.fleet_jobs.specs.Jobs.{job_of, jobs_of}
+use Rattle.fleet_jobs.specs.Jobs.{job_handles, job_of, jobs_of}
 use Rattle.fleet_book.specs.Records.{kept_records}
 use Rattle.fleet_book.specs.VersionedRecords.{VersionedRecords}
 use Rattle.fleet_book.specs.Versions.{records_of}
@@ -25,7 +25,7 @@ use Rattle.fleet_book.specs.declared.compactions.Compactions.{Compactions}
 use Rattle.fleet_history.specs.declared.record_change.RecordChange.TheVariants as change
 use Rattle.fleet_store.specs.Exchanges.{records_put}
 use Rattle.fleet_store.specs.Handles.{IsDescribed}
-use Rattle.fleet_store.specs.Records.{DescribeTables, job_handles}
+use Rattle.fleet_store.specs.Records.{DescribeTables}
 use Rattle.fleet_store.proofs.Described.{kept_describe}
 use Rattle.fleet_worker.specs.declared.beat.BeatPut.{BeatPut}
 use Rattle.fleet_worker.specs.declared.beat.BeatReport.{BeatReport}

@@ -6,10 +6,10 @@ use Rattle.fleet_model.specs.Jobs.{Jobs, changed_jobs, contains, trimmed_jobs}
 use Rattle.fleet_model.specs.History as model
 use Rattle.fleet_model.specs.Records.{firsts, to_waiting}
 use Rattle.fleet_jobs.specs.JobParts.{JobParts}
-use Rattle.fleet_jobs.specs.Jobs.{job_of, jobs_of}
+use Rattle.fleet_jobs.specs.Jobs.{job_handles, job_of, jobs_of}
 use Rattle.fleet_book.specs.Records.{AreRising, kept_records}
 use Rattle.fleet_book.specs.declared.compactions.Compactions.{Compactions}
-use Rattle.fleet_store.specs.Records.{DescribeTables, job_handles}
+use Rattle.fleet_store.specs.Records.{DescribeTables}
 use Rattle.fleet_store.proofs.Described.{kept_describe}
 use Rattle.fleet_model.specs.Exchanges.{PutsRecords}
 use Rattle.fleet_model.specs.Records.{jobs_after}
