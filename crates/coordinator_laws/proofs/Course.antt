@@ -49,7 +49,8 @@ use Rattle.coordinator_laws.proofs.Quiet.{Moves, HasEpoch, epoch_call, rivals_af
 use Rattle.coordinator_laws.proofs.Transfer.{AreKept, rivals_kept}
 use Rattle.coordinator_laws.proofs.Names.{fresh_named, others_same, own_committed, IsNamed}
 use Rattle.coordinator_laws.proofs.Tries.{Puts, puts_lawful}
-use Rattle.coordinator_laws.proofs.Since.{Since, since_itself, since_met, since_noted, kept_noted, got_noted, drawn_noted, Got, Ready, ready_met, ready_noted, case_at, own_specs, spec_of}
+use Rattle.coordinator_laws.proofs.Since.{Since, since_itself, since_met, since_noted, kept_noted, got_noted, drawn_noted, Got, Ready, ready_met, ready_noted, case_at}
+use Rattle.coordinator_laws.specs.CommitPuts.{own_specs, spec_of}
 use Rattle.course_laws.proofs.Calls.{both}
 use Rattle.coordinator_laws.proofs.SameTrees.{unchanged_trees}
 
@@ -138,11 +139,11 @@ records_low manifest None h = omega arith
 records_low manifest (Some records) h = h
 
 -- Steps that a party may commit, by these specs.
-record FitsBy (party : Party) (world : World) (own : ℕ → JobSpec) (steps : List Step) (value : Manifest) : Type 0 where
-  by : MayCommit party world steps
-  known : AllByRecursion (λ step. IsKnownTo party world own (job_of step)) steps
-  each : StepsFit world own world.store.manifest.trees [] steps
-  makes : value ≡ record world.store.manifest {
+pub record FitsBy (party : Party) (world : World) (own : ℕ → JobSpec) (steps : List Step) (value : Manifest) : Type 0 where
+  pub by : MayCommit party world steps
+  pub known : AllByRecursion (λ step. IsKnownTo party world own (job_of step)) steps
+  pub each : StepsFit world own world.store.manifest.trees [] steps
+  pub makes : value ≡ record world.store.manifest {
     trees = stepped_all world.store.tables (λ id. (own id, outputs_in world.store.records id)) steps world.store.manifest.trees;
     horizon = horizon_after_all world.store.manifest.floor (λ id. cut_of (job_with id (stored_jobs world.store))) steps world.store.manifest.horizon;
   }
@@ -151,7 +152,7 @@ commit_of : {party : Party} {world : World} {own : ℕ → JobSpec} {steps : Lis
 commit_of {own = own} f = record { by = f.by; specs = own; known = f.known; each = f.each; makes = f.makes }
 
 -- A commit for the version that was got fits.
-commit_fits : (who : Caller) (e : ℕ) (m r t : World) (got : Records) (ask : PollAsk) (drawn : List (ℕ × JobSpec)) → IsLawful who.merge → Got who e m r got → Ready who e m r t → AreFresh who.party t drawn → m.store.manifest.version ≡ t.store.manifest.version
+pub commit_fits : (who : Caller) (e : ℕ) (m r t : World) (got : Records) (ask : PollAsk) (drawn : List (ℕ × JobSpec)) → IsLawful who.merge → Got who e m r got → Ready who e m r t → AreFresh who.party t drawn → m.store.manifest.version ≡ t.store.manifest.version
     → let input = input_of ask r.store.tables m.store.manifest got in
     let p = last_steps ask input drawn (first_steps ask input) in
     FitsBy who.party t (own_specs got.jobs drawn) p.steps (record m.store.manifest { trees = p.trees; horizon = p.horizon })

@@ -23,4 +23,5 @@ pub mod Loops
 pub mod PollRuns
 pub mod PollSays
 pub mod PollReports
+pub mod CommitPuts
 pub mod GotObjects

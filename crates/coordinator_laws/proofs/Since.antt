@@ -1,11 +1,11 @@
 -- What is so since a poll got its two objects, and the case by which its steps are judged.
-use Rattle.std.proofs.Common.{◌≡◌, refl, sym, ◌∙◌, ap, subst, ℕ, ◌+◌, ◌<◌, ◌≤◌, List, [], true, false, inl, inr, ◌⊎◌, Option, Some, None, arith}
+use Rattle.std.proofs.Common.{◌≡◌, refl, sym, ◌∙◌, ap, subst, ℕ, ◌+◌, ◌<◌, ◌≤◌, List, true, false, inl, inr, ◌⊎◌, Option, Some, None, arith}
 use Rattle.std.specs.Prelude.{IsTrue}
 use Rattle.std.specs.List.{concat}
 use Rattle.row_model.specs.Lists.{Pairs}
 use Rattle.row_model.specs.Fold.{IsLawful}
 use Rattle.fleet_model.specs.Nodes.{Trees}
-use Rattle.fleet_model.specs.Jobs.{JobSpec, Job, Jobs, is_active, job_with, contains, nodes_of}
+use Rattle.fleet_model.specs.Jobs.{JobSpec, Job, is_active, job_with, contains, nodes_of}
 use Rattle.fleet_model.specs.History.{Event, GetManifest, GetRecords, DrawJob, Done, Entry, stood}
 use Rattle.fleet_model.specs.Store.{Records, stored_jobs, jobs_in, records_epoch, is_held}
 use Rattle.fleet_model.specs.Handles.{job_tables, context_tables}
@@ -18,7 +18,6 @@ use Rattle.fleet_model.specs.JobsFit.{HoldApart, NodesHeldOnce}
 use Rattle.fleet_model.specs.Exchanges.{Plain, DrawsJob, next_job_id, answer_of}
 use Rattle.step_model.specs.Past.{World}
 use Rattle.step_model.specs.Entries.{was_named, is_mentioned, drew_job}
-use Rattle.step_model.specs.Faithful.{with_specs}
 use Rattle.step_model.specs.LawfulTables.{DrawFits}
 use Rattle.step_model.specs.Rivals.{Caller, Rivals, after_call}
 use Rattle.step_model.specs.Keeps.{Keeps}
@@ -201,13 +200,3 @@ case_at who e m r h got ask drawn lawful g s fresh low = record {
     by : (x y : Job) → HoldApart x y ⊎ HoldApart y x → HoldApart x y
     by x y (inl one) first second = one first second
     by x y (inr other) first second = apart_turned (nodes_of y.spec) (nodes_of x.spec) (other second first)
-
--- ---- the specs of the steps
-
-abbrev pub spec_of : Option Job → JobSpec
-spec_of None = record { segment = []; sources = []; destination = None }
-spec_of (Some job) = job.spec
-
--- The specs of the jobs that the poll got, and of those that it drew ids for.
-abbrev pub own_specs : Jobs → List (ℕ × JobSpec) → ℕ → JobSpec
-own_specs jobs drawn = with_specs drawn (λ id. spec_of (job_with id jobs))

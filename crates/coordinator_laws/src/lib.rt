@@ -2,6 +2,7 @@
 //! coordinator that fits is a lawful course, and a coordinator fits after its start and its polls.
 #![tactic(auto)]
 
+ghost use Rattle.coordinator_laws.specs.CommitPuts.{PollsPutTheirSteps};
 ghost use Rattle.coordinator_laws.specs.Coordinators.{PollsFit, StartsFit};
 ghost use Rattle.coordinator_laws.specs.Locals.{FinishedJobsMayDiffer, PollsFitLocally};
 ghost use Rattle.coordinator_laws.specs.Loops.{LoopsFit};
@@ -67,6 +68,13 @@ pub fn looks_keep_fit()
 /// jobs.
 pub fn polls_report()
     ensures { PollsReport }
+{}
+
+/// Under a lawful operator, the trees and the horizon that a poll reached are those that its steps make
+/// over each store that it may meet and that still has the version of the manifest that it got: by the
+/// specs of the jobs that it got or drew ids for, and by the stored outputs and cuts.
+pub fn polls_put_their_steps()
+    ensures { PollsPutTheirSteps }
 {}
 
 /// Under a lawful operator, the loop of a coordinator that fits is a lawful course, and the
