@@ -85,11 +85,12 @@ fn start(
 
 // Adds a table to the first range of a job, if the job is active and has a range.
 fn add(executor: &mut Executor, number: u64, table: SsTableHandle) -> Result<(), SlateDBError> {
-    match executor.ctx(id(number)) {
+    let job = id(number);
+    match executor.ctx(job) {
         Some(ctx) if !ctx.subcompactions().is_empty() => {}
         _ => return Err(SlateDBError::InvalidDBState),
     }
-    executor.add_table(id(number), 1, table)
+    executor.add_table(job, 1, table)
 }
 
 // An executor with the jobs 2 and 1.

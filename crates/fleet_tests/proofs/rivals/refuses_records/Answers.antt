@@ -12,4 +12,4 @@ put_records-put-requires g c =
     let new = g.S.Store.view c.get_records.new.self in
     let got : AreRecords (Some c.in-Some.got) new.world.store = subst (λ (o : Option VersionedRecords). AreRecords o new.world.store) c.in-Some.is (got_records old new c.in_ok-got.field-0 c.in_ok-got.ensures) in
     submit_of_fits new c.in-Some.got c.id-id.result c.in_ok-value.value c.retain_active_and_last_finished.new.self got c.id-id.ensures (c.in_ok-value.ensures.copy ∙ c.compactions.ensures)
-    c.retain_active_and_last_finished.ensures.kept c.retain_active_and_last_finished.ensures.model c.new.result c.new.ensures (ap (λ who. who.party) c.in_ok-got.ensures.same.who ∙ c.requires)
+    c.retain_active_and_last_finished.ensures.kept c.retain_active_and_last_finished.ensures.model c.new.result c.new.ensures (ap (λ who. who.party) c.in_ok-got.ensures.called.same.who ∙ c.requires)
