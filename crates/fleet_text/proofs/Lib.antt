@@ -3,7 +3,7 @@ pub mod Hexes
 pub mod Lines
 pub mod Each
 pub mod Fields
-pub mod Rows
+pub mod Cuts
 pub mod Nodes
 pub mod First
 pub mod Joined

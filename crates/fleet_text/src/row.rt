@@ -6,7 +6,7 @@ ghost use Rattle.fleet_rows.specs.Row.{content_of, row_of, rows_of};
 ghost use Rattle.script_model.specs.Words.{row_text, rows_text};
 ghost use Rattle.fleet_text.specs.Reading.{ReadsAs, content_words, row_words, AreSomeRows};
 
-use crate::word::{is_word, key_of, number_of, parts, stamp_of, value_bytes_of};
+use crate::word::{cut, is_word, key_of, number_of, stamp_of, value_bytes_of};
 use fleet_rows::{ListOf, RowEntry, ValueDeletable};
 use std::alloc::{AllocError, Global};
 
@@ -63,25 +63,27 @@ fn row_from(
     Ok(Some(RowEntry::new(key, value, seq, created, expires)))
 }
 
-// Reads a row from all its fields.
-fn fields_from(alloc: Global, fields: &[&[u8]]) -> Result<Option<RowEntry>, AllocError>
-    ensures { IfOk result (ReadsAs row_of row_words IsRow (map (λ field. field.now) fields.now)) }
-{
-    if fields.len() != 6 {
-        return Ok(None);
-    }
-    row_from(
-        alloc, fields[0], fields[1], fields[2], fields[3], fields[4], fields[5],
-    )
-}
-
 /// Reads a row: key, kind, value, sequence, time of creation and expiry, with colons between them.
 /// The answer is None if the word is no row. The error is out of memory.
 pub fn row_at(alloc: Global, word: &[u8]) -> Result<Option<RowEntry>, AllocError>
     ensures { IfOk result (ReadsAs row_of row_text IsRow word.now) }
 {
-    let fields = parts(alloc, word, b':')?;
-    fields_from(alloc, fields.as_slice())
+    let Some((key, fields)) = cut(word, b':') else {
+        return Ok(None);
+    };
+    let Some((kind, fields)) = cut(fields, b':') else {
+        return Ok(None);
+    };
+    let Some((value, fields)) = cut(fields, b':') else {
+        return Ok(None);
+    };
+    let Some((seq, fields)) = cut(fields, b':') else {
+        return Ok(None);
+    };
+    let Some((created, expires)) = cut(fields, b':') else {
+        return Ok(None);
+    };
+    row_from(alloc, key, kind, value, seq, created, expires)
 }
 
 /// Reads one or more rows with commas between them. The answer is None if a part is no row. The
@@ -89,13 +91,18 @@ pub fn row_at(alloc: Global, word: &[u8]) -> Result<Option<RowEntry>, AllocError
 pub fn rows_at(alloc: Global, word: &[u8]) -> Result<Option<ListOf<RowEntry>>, AllocError>
     ensures { IfOk result (ReadsAs rows_of rows_text AreSomeRows word.now) }
 {
-    let fields = parts(alloc, word, b',')?;
     let mut rows = Vec::new(alloc);
-    'fields: for field in &fields {
-        let Some(row) = row_at(alloc, field)? else {
+    let mut rest = word;
+    'rows: while let Some((front, after)) = cut(rest, b',') {
+        let Some(row) = row_at(alloc, front)? else {
             return Ok(None);
         };
         rows.push(row)?;
+        rest = after;
     }
+    let Some(row) = row_at(alloc, rest)? else {
+        return Ok(None);
+    };
+    rows.push(row)?;
     Ok(Some(ListOf::from_vec(rows)))
 }

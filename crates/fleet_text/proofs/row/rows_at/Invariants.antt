@@ -1,8 +1,9 @@
-use Rattle.row_model.specs.Bounds.{IsRow}
-use Rattle.fleet_rows.specs.Row.{row_of}
-use Rattle.script_model.specs.Words.{row_text}
-use Rattle.fleet_text.proofs.Each.{ReadsEach}
+use Rattle.std.proofs.Common.{length}
+use Rattle.fleet_text.proofs.Cuts.{ReadsRows}
 use Rattle.fleet_text.proofs.row.rows_at.Given as goal
 
-abbrev pub invariant-fields : goal.invariant-fields
-invariant-fields l = ReadsEach row_of row_text IsRow l.field-items l.field-index l.rows.items
+abbrev pub invariant-rows : goal.invariant-rows
+invariant-rows l = ReadsRows l.word l.rows.items l.rest
+
+abbrev pub decreases-rows : goal.decreases-rows
+decreases-rows l = length l.rest
