@@ -4,6 +4,7 @@ pub mod Lines
 pub mod Each
 pub mod Fields
 pub mod Cuts
+pub mod Filled
 pub mod Nodes
 pub mod First
 pub mod Joined

@@ -13,7 +13,7 @@ use crate::party_forms::{
 use crate::tree_forms::{
     drain_from, dump_from, flush_from, full_from, read_from, scan_from, submit_from, tables_from,
 };
-use crate::word::{is_word, number_of, parts};
+use crate::word::{fill_parts, is_word, number_of};
 use std::alloc::{AllocError, Global};
 
 fn one_from(verb: &[u8]) -> Option<Line>
@@ -237,6 +237,17 @@ fn line_from(alloc: Global, fields: &[&[u8]]) -> Result<Option<Line>, AllocError
 pub fn line_at(alloc: Global, text: &[u8]) -> Result<Option<Line>, AllocError>
     ensures { IfOk result (ReadsAs line_of line_text IsInBounds text.now) }
 {
-    let words = parts(alloc, text, b' ')?;
+    line_by(alloc, &mut Vec::new(alloc), text)
+}
+
+/// Reads a line as `line_at` does. The list is for its words, so that one list serves many lines.
+pub(crate) fn line_by<'a>(
+    alloc: Global,
+    words: &mut Vec<&'a [u8]>,
+    text: &'a [u8],
+) -> Result<Option<Line>, AllocError>
+    ensures { IfOk result (ReadsAs line_of line_text IsInBounds text.now) }
+{
+    fill_parts(words, text, b' ')?;
     line_from(alloc, words.as_slice())
 }

@@ -9,7 +9,7 @@ ghost use Rattle.fleet_text.specs.Reading.{ReadsAs, line_text};
 ghost use Rattle.fleet_text.specs.Starts.{MayFollow};
 
 use crate::TextError;
-use crate::forms::line_at;
+use crate::forms::line_by;
 use crate::line::{Line, LineList};
 use crate::served::is_of_one_job;
 use crate::started::Started;
@@ -40,9 +40,10 @@ fn read_lines(alloc: Global, text: &[u8]) -> Result<LineList, TextError>
         coordinator: false,
         worker: false,
     };
+    let mut words = Vec::new(alloc);
     let mut rest = text;
     'lines: while let Some((front, after)) = cut(rest, b'\n') {
-        let Some(line) = line_after(alloc, front, started)? else {
+        let Some(line) = line_after(alloc, &mut words, front, started)? else {
             return Err(bad_after(&lines));
         };
         started = started.with(&line);
@@ -55,11 +56,17 @@ fn read_lines(alloc: Global, text: &[u8]) -> Result<LineList, TextError>
     Ok(LineList::from_vec(lines))
 }
 
-// Reads a line that the program serves and that does not start a party a second time.
-fn line_after(alloc: Global, text: &[u8], started: Started) -> Result<Option<Line>, AllocError>
+// Reads a line that the program serves and that does not start a party a second time. The list is for
+// its words.
+fn line_after<'a>(
+    alloc: Global,
+    words: &mut Vec<&'a [u8]>,
+    text: &'a [u8],
+    started: Started,
+) -> Result<Option<Line>, AllocError>
     ensures { IfOk result (ReadsAs line_of line_text (MayFollow started) text.now) }
 {
-    let Some(line) = line_at(alloc, text)? else {
+    let Some(line) = line_by(alloc, words, text)? else {
         return Ok(None);
     };
     if !is_of_one_job(&line) || started.is_again(&line) {

@@ -1,6 +1,6 @@
 //! Reads the words of a line.
 
-ghost use Rattle.std.specs.Prelude.{◌≡◌, ◌≢◌, ◌++◌, ◌∷◌, [], MatchOption, All, ◌<◌, ◌≤◌, ◌^◌, ◌↔◌, IsTrue, IfOk, map, decimal};
+ghost use Rattle.std.specs.Prelude.{◌≡◌, ◌≢◌, ◌++◌, ◌∷◌, [], MatchOption, All, ◌<◌, ◌≤◌, ◌^◌, ◌↔◌, IsTrue, IfOk, OnOk, map, decimal};
 ghost use Rattle.std.specs.Fmt.{signed_decimal};
 ghost use Rattle.std.specs.List.{slice_split, list_all};
 ghost use Rattle.row_model.specs.Bounds.{AreBytes, AreShortBytes, IsKey, IsStamp, IsStampOrNone};
@@ -17,6 +17,14 @@ pub fn parts(alloc: Global, text: &[u8], cut: u8) -> Result<Vec<&[u8]>, AllocErr
     ensures { IfOk result (λ v. map (λ x. x.now) v.items ≡ slice_split (is_byte cut) text.now) }
 {
     text.split(|b| *b == cut).collect(alloc)
+}
+
+/// Fills a list with the parts of a text, split at each occurrence of a byte. What the list had goes.
+pub fn fill_parts<'a>(parts: &mut Vec<&'a [u8]>, text: &'a [u8], cut: u8) -> Result<(), AllocError>
+    ensures { OnOk result (map (λ x. x.now) parts.new.items ≡ slice_split (is_byte cut) text.now) }
+{
+    parts.clear();
+    parts.extend(text.split(|b| *b == cut))
 }
 
 /// Splits a text at the first occurrence of a byte. The byte is in neither part.
