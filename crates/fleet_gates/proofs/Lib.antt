@@ -1,0 +1,5 @@
+pub mod Validated
+pub mod ModelTrees
+pub mod FirstRules
+pub mod HeldNodes
+pub mod NodeTables

@@ -1,0 +1,5 @@
+use Rattle.fleet_gates.proofs.HeldNodes as law
+use Rattle.fleet_gates.proofs.laws.opened_jobs_hold_their_nodes.Goals as goal
+
+pub returns : goal.returns
+returns c = law.opened_jobs_hold_their_nodes

@@ -1,0 +1,5 @@
+pub mod Rules
+pub mod Shown
+pub mod Held
+pub mod Laws
+pub mod Tables

@@ -1,0 +1,150 @@
+//! The tables of the sources of a job.
+
+ghost use Rattle.std.specs.Prelude.{◌≡◌, ◌==◌, ◌++◌, ℕ, map, option_map, IfOk, None, OnOk, Some, if◌then◌else◌};
+ghost use Rattle.std.specs.BTreeMap.{get};
+ghost use Rattle.std.specs.Option.{option_copied, option_to_list};
+ghost use Rattle.std.specs.Ordering.{nat_cmp};
+ghost use Rattle.fleet_model.specs.Trees.{tables_now};
+ghost use Rattle.fleet_tree.specs.Trees.{RunFlushes, trees_of};
+ghost use Rattle.fleet_tree.specs.declared.tree.LsmTreeState.{LsmTreeState};
+ghost use Rattle.fleet_jobs.specs.Laws.{view_tables};
+ghost use Rattle.fleet_jobs.specs.Specs.{spec_of};
+ghost use Rattle.fleet_jobs.specs.Taken.{run_with};
+ghost use Rattle.fleet_gates.specs.Tables.{HasTables, first_of, flush_table, tables_if_there, tables_in, tables_of};
+
+use fleet_jobs::{CompactionSpec, SourceId};
+use fleet_rows::Ulid;
+use fleet_tree::{LsmTreeState, ManifestCore, SortedRun, SsTableView};
+use std::alloc::{AllocError, Global};
+use std::collections::BTreeMap;
+
+/// The ids of the tables that the sources of a job have now, source by source. A source that the
+/// tree of the job's segment does not have has none. A job keeps these ids when it is opened.
+pub fn source_tables(
+    alloc: Global,
+    core: &ManifestCore,
+    spec: &CompactionSpec,
+) -> Result<Vec<Ulid>, AllocError>
+    ensures { (flushes : RunFlushes) → IfOk result (λ tables. tables.items
+        ≡ tables_now (trees_of flushes core.now) (spec_of spec.now)) }
+{
+    match core.tree_for_segment(spec.segment().as_slice()) {
+        Some(tree) => tables_in(alloc, tree, spec.sources()),
+        None => Ok(Vec::new(alloc)),
+    }
+}
+
+fn tables_in(
+    alloc: Global,
+    tree: &LsmTreeState,
+    sources: &[SourceId],
+) -> Result<Vec<Ulid>, AllocError>
+    ensures { IfOk result (λ tables. tables.items ≡ tables_in tree.now sources.now) }
+{
+    let flushes = flush_tables(alloc, tree.l0.as_slice())?;
+    let runs = run_tables(alloc, tree.compacted.as_slice())?;
+    let mut tables = Vec::new(alloc);
+    'sources: for source in sources {
+        add_tables_of(&mut tables, *source, &flushes, &runs)?;
+    }
+    Ok(tables)
+}
+
+// The tables of flushes, by the ids of the flushes. Of flushes with one id the first counts.
+fn flush_tables(alloc: Global, views: &[SsTableView]) -> Result<BTreeMap<Ulid, Ulid>, AllocError>
+    ensures { IfOk result
+        (λ tables. (id : ℕ) → get nat_cmp tables id ≡ flush_table id views.now) }
+{
+    let mut tables = BTreeMap::new(alloc);
+    'views: for view in views {
+        add_flush(&mut tables, view)?;
+    }
+    Ok(tables)
+}
+
+// Adds the table of a flush, unless there is one of a flush with its id.
+fn add_flush(tables: &mut BTreeMap<Ulid, Ulid>, view: &SsTableView) -> Result<(), AllocError>
+    ensures { OnOk result ((id : ℕ) → get nat_cmp tables.new id ≡ first_of
+        (get nat_cmp tables.old id)
+        (if view.now.id == id then Some view.now.sst.id else None)) }
+{
+    if !tables.contains_key(&view.id) {
+        tables.insert(view.id, view.sst.id)?;
+    }
+    Ok(())
+}
+
+// The tables of runs, by the ids of the runs. Of runs with one id the first counts.
+fn run_tables(
+    alloc: Global,
+    runs: &[SortedRun],
+) -> Result<BTreeMap<u32, &[SsTableView]>, AllocError>
+    ensures { IfOk result (λ tables. (id : ℕ) → option_copied (get nat_cmp tables id)
+        ≡ option_map (λ run. run.views) (run_with (Some id) runs.now)) }
+{
+    let mut tables = BTreeMap::new(alloc);
+    'runs: for run in runs {
+        add_run(&mut tables, run)?;
+    }
+    Ok(tables)
+}
+
+// Adds the tables of a run, unless there are those of a run with its id.
+fn add_run<'a>(
+    tables: &mut BTreeMap<u32, &'a [SsTableView]>,
+    run: &'a SortedRun,
+) -> Result<(), AllocError>
+    ensures { OnOk result ((id : ℕ) → option_copied (get nat_cmp tables.new id) ≡ first_of
+        (option_copied (get nat_cmp tables.old id))
+        (if run.now.id == id then Some run.now.views else None)) }
+{
+    if !tables.contains_key(&run.id) {
+        tables.insert(run.id, run.sst_views())?;
+    }
+    Ok(())
+}
+
+// Adds the ids of the tables that a source has.
+fn add_tables_of(
+    tables: &mut Vec<Ulid>,
+    source: SourceId,
+    flushes: &BTreeMap<Ulid, Ulid>,
+    runs: &BTreeMap<u32, &[SsTableView]>,
+) -> Result<(), AllocError>
+    ensures { (tree : LsmTreeState) → HasTables flushes.now runs.now tree
+        → OnOk result (tables.new.items ≡ tables.old.items ++ tables_of tree source) }
+{
+    match source {
+        SourceId::SstView(id) => add_flush_table(tables, flushes.get(&id)),
+        SourceId::SortedRun(id) => add_run_tables(tables, runs.get(&id)),
+    }
+}
+
+fn add_flush_table(tables: &mut Vec<Ulid>, table: Option<&Ulid>) -> Result<(), AllocError>
+    ensures { OnOk result
+        (tables.new.items ≡ tables.old.items ++ option_to_list (option_copied table.entry)) }
+{
+    if let Some(table) = table {
+        tables.push(*table)?;
+    }
+    Ok(())
+}
+
+fn add_run_tables(tables: &mut Vec<Ulid>, views: Option<&&[SsTableView]>) -> Result<(), AllocError>
+    ensures { OnOk result (tables.new.items
+        ≡ tables.old.items ++ tables_if_there (option_copied (option_copied views.entry))) }
+{
+    if let Some(views) = views {
+        add_view_tables(tables, views)?;
+    }
+    Ok(())
+}
+
+fn add_view_tables(tables: &mut Vec<Ulid>, views: &[SsTableView]) -> Result<(), AllocError>
+    ensures { OnOk result (tables.new.items ≡ tables.old.items ++ view_tables views.now) }
+{
+    'views: for view in views {
+        tables.push(view.sst.id)?;
+    }
+    Ok(())
+}
