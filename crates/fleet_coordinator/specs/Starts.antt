@@ -1,12 +1,9 @@
 -- How a coordinator starts.
 use Rattle.std.specs.Prelude.{◌≡◌, ℕ, ◌+◌, max, Option, None, option_map}
-use Rattle.fleet_model.specs.History.{Coordinator, ManifestEpoch}
+use Rattle.fleet_model.specs.History.{Coordinator}
 use Rattle.fleet_model.specs.Jobs.{trimmed_jobs}
 use Rattle.fleet_model.specs.Store.{Store, jobs_in, records_epoch}
 use Rattle.fleet_model.specs.Exchanges.{records_version}
-use Rattle.step_model.specs.Course.{Course, gets_manifest, gets_records, puts_manifest}
-use Rattle.step_model.specs.PollSteps.{epoch_above, holds_at_start, puts_epoch}
-use Rattle.step_model.specs.StepEnds.{StepEnd}
 use Rattle.fleet_jobs.specs.Jobs.{jobs_of}
 use Rattle.fleet_book.specs.VersionedRecords.{VersionedRecords}
 use Rattle.fleet_book.specs.Versions.{records_of}
