@@ -1,3 +1,6 @@
 pub mod Starts
 pub mod NewJobs
 pub mod Submits
+pub mod FlushRules
+pub mod FlushPuts
+pub mod Flushes

@@ -1,8 +1,11 @@
-//! Coordinators and submitters: a coordinator decides what is merged, and a submitter asks for jobs.
+//! Coordinators, submitters and the writer: a coordinator decides what is merged, a submitter asks
+//! for jobs, and the writer flushes rows.
 #![tactic(auto)]
 
 mod coordinator;
+mod flushing;
 mod submission;
 
 pub use coordinator::start;
+pub use flushing::{FlushAsk, FlushFault, flush};
 pub use submission::submit;
