@@ -12,9 +12,10 @@ use Rattle.commit_laws.proofs.AllCalls.{calls_keep}
 use Rattle.course_laws.proofs.Releases.{releases, releases_are_lawful}
 use Rattle.worker_laws.proofs.Releases.{releases_keep_fit}
 use Rattle.step_model.specs.Views.{StoreView}
-use Rattle.fleet_worker.specs.Releases.{one_release, released_are}
-use Rattle.fleet_step.specs.Steps.{Leads, StepRan}
-use Rattle.fleet_worker.specs.Workers.{AttemptParts, MayStep, WorkerParts, attempt_of, live_of}
+use Rattle.std.specs.Bool.{OnFalse}
+use Rattle.fleet_worker.specs.Releases.{is_over, one_release, released_are}
+use Rattle.fleet_step.specs.Steps.{Leads, StepRan, stops}
+use Rattle.fleet_worker.specs.Workers.{AttemptParts, IsReady, MayStep, WorkerParts, attempt_of, live_of}
 use Rattle.fleet_worker.proofs.Ready.{IsSafe, worker_after}
 use Rattle.fleet_step.proofs.Steps.{begins, reports}
 
@@ -53,3 +54,9 @@ try_lawful view w may = releases view.who w w.attempts released_are may.party (�
 pub same_after : (w : WorkerParts) (result : Result (List ℕ) SlateDBError) → live_of w ≡ worker_after (λ jobs. (live_of w).attempts) (live_of w) result
 same_after w (Ok jobs) = refl
 same_after w (Err error) = refl
+
+-- A worker that is ready unless the release stops it is ready unless it is over.
+pub ready_unless_over : (view : StoreView) (w : WorkerParts) (result : Result (List ℕ) SlateDBError) → OnFalse (stops result) (IsReady view (record w { stopped = stops result }))
+    → OnFalse (is_over result) (IsReady view (record w { stopped = is_over result }))
+ready_unless_over view w (Ok jobs) ready = tt
+ready_unless_over view w (Err error) ready = ready

@@ -1,5 +1,5 @@
 -- How a worker gives jobs back.
-use Rattle.std.specs.Prelude.{◌≡◌, ◌==◌, ℕ, Bool, if◌then◌else◌, List, [], map, filter, Option, Some, None, option_map}
+use Rattle.std.specs.Prelude.{◌≡◌, ◌==◌, ℕ, Bool, true, if◌then◌else◌, List, [], map, filter, Option, Some, None, option_map, Result, Ok, Err}
 use Rattle.std.specs.List.{list_any}
 use Rattle.fleet_model.specs.History as model
 use Rattle.fleet_model.specs.Records.{jobs_after}
@@ -18,7 +18,8 @@ use Rattle.step_model.specs.StepEnds.{StepEnd, Reports}
 use Rattle.fleet_book.specs.VersionedRecords.{VersionedRecords}
 use Rattle.fleet_book.specs.Versions.{records_of}
 use Rattle.fleet_store.specs.Exchanges.{records_put}
-use Rattle.fleet_step.specs.Steps.{puts_and}
+use Rattle.fleet_rows.specs.declared.errors.SlateDBError.{SlateDBError}
+use Rattle.fleet_step.specs.Steps.{puts_and, stops}
 use Rattle.fleet_worker.specs.Workers.{AttemptParts, WorkerParts, attempt_of, live_of}
 use Rattle.fleet_worker.specs.declared.worker.ReleasePut.{ReleasePut}
 
@@ -70,3 +71,9 @@ IsReleaseOf w got None =
     (again : ℕ → Course (StepEnd (List ℕ)))
     → release_by (live_of w) (live_of w).attempts (option_map records_of got) released_are again ≡ released_are []
 IsReleaseOf w got (Some put) = GivesBack w got put
+
+-- True if the worker is stopped after the release with this result: it has given its jobs back, or a fault struck a
+-- call.
+abbrev pub is_over : {A : Type 0} → Result A SlateDBError → Bool
+is_over (Ok answer) = true
+is_over {A = A} (Err error) = stops {A = A} (Err error)

@@ -3,11 +3,12 @@
 ghost use Rattle.std.specs.Prelude.{◌≡◌, map, IfOk, IsOkUnless};
 ghost use Rattle.fleet_model.specs.History as model;
 ghost use Rattle.fleet_model.specs.Records.{firsts};
-ghost use Rattle.fleet_worker.specs.Releases.{MakesRecords, given_back, is_named};
+ghost use Rattle.fleet_worker.specs.Releases.{MakesRecords, given_back, is_named, is_over};
 
 use fleet_book::{Compactions, JobMap};
 use fleet_jobs::{Compaction, CompactionStatus};
 use fleet_rows::{JobList, SlateDBError, Ulid};
+use fleet_step::stops;
 use std::alloc::Global;
 
 // Whether the job is among these attempts.
@@ -74,4 +75,15 @@ pub(crate) fn jobs_of(alloc: Global, attempts: &[(Ulid, u64)]) -> Result<JobList
 {
     let jobs = attempts.iter().map(|attempt| attempt.0).collect(alloc)?;
     Ok(JobList::from_vec(jobs))
+}
+
+/// Whether a worker is stopped after the release with this result: it has given its jobs back, or a
+/// fault struck a call.
+pub(crate) fn is_over<T>(released: &Result<T, SlateDBError>) -> bool
+    ensures { result ≡ is_over released.now }
+{
+    match released {
+        Ok(_) => true,
+        Err(_) => stops(released),
+    }
 }

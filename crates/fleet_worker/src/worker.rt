@@ -7,7 +7,7 @@ ghost use Rattle.step_model.specs.StepEnds.{Reports};
 ghost use Rattle.fleet_store.specs.Records.{jobs_or_none};
 ghost use Rattle.fleet_worker.specs.Beats.{IsBeatOf, IsBeatPut, IsReport, beat_ends, beat_ends_over, live_parts};
 ghost use Rattle.fleet_worker.specs.Held.{all_held};
-ghost use Rattle.fleet_worker.specs.Releases.{IsReleaseOf, one_release};
+ghost use Rattle.fleet_worker.specs.Releases.{IsReleaseOf, is_over, one_release};
 ghost use Rattle.fleet_step.specs.Steps.{StepRan, TryRan, stops};
 ghost use Rattle.fleet_worker.specs.Workers.{IsReady, IsReadyAnywhere, live_of, ranges_at, started};
 
@@ -17,7 +17,7 @@ use crate::beat::{
     BeatPut, BeatReport, beaten_records, is_live_in, live_jobs, lost_jobs, no_report,
 };
 use crate::held::all_held;
-use crate::release::{jobs_of, released};
+use crate::release::{is_over, jobs_of, released};
 use fleet_book::{Compactions, VersionedCompactions};
 use fleet_jobs::Release;
 use fleet_rows::{IdList, JobList, ListOf, SlateDBError, Ulid};
@@ -170,23 +170,23 @@ impl Worker {
         Err(SlateDBError::Conflict { seen })
     }
 
-    /// Gives the live attempts back, so that their jobs wait for a worker again. The answer is
-    /// these jobs, in rising order. The worker still runs its attempts, which are not live any
-    /// more.
+    /// Gives the live attempts back, so that their jobs wait for a worker again, and stops the
+    /// worker. The answer is these jobs, in rising order. The worker keeps its attempts, of which
+    /// none is live any more.
     ///
-    /// `Conflict` means that 64 puts were refused in a row. After `StoreFault` the worker is
-    /// stopped, and the jobs may wait or not.
+    /// `Conflict` means that 64 puts were refused in a row. After `Conflict` and after `Memory` the
+    /// worker is not stopped. After `StoreFault` it is stopped, and the jobs may wait or not.
     pub fn release_all<S: Store>(&mut self, store: &mut S) -> Result<JobList, SlateDBError>
         requires running { self.old.stopped ≡ false }
         requires ready { IsReady (S.view store.old) self.old }
         ensures ran { StepRan Reports (release_all (live_of self.old))
             (S.view store.old) (S.view store.new) result }
-        ensures stopped { self.new ≡ record self.old { stopped = stops result } }
+        ensures stopped { self.new ≡ record self.old { stopped = is_over result } }
         ensures ready { OnFalse self.new.stopped
             (IsReady (S.view store.new) self.new) }
     {
         let released = self.releases(store);
-        self.stopped = stops(&released);
+        self.stopped = is_over(&released);
         released
     }
 
