@@ -1,0 +1,5 @@
+pub mod Choices
+pub mod Puts
+pub mod Sources
+pub mod Contexts
+pub mod Beginnings
