@@ -10,7 +10,8 @@ use Rattle.step_model.specs.Course.{Course}
 use Rattle.step_model.specs.StepEnds.{StepEnd}
 use Rattle.step_model.specs.ClaimSteps.{Claimed}
 use Rattle.step_model.specs.BeatSteps.{Beaten}
-use Rattle.step_model.specs.OutputSteps.{Written, FinishedJob}
+use Rattle.step_model.specs.OutputSteps.{Written}
+use Rattle.step_model.specs.FinishSteps.{FinishedJob}
 use Rattle.step_laws.specs.Runs.{RunKeeps}
 
 -- The runs of all lawful courses with such an answer keep the invariant, whatever calls of others

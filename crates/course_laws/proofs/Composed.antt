@@ -1,11 +1,11 @@
 -- Two courses, one after the other: their runs, and when both are lawful.
 use Rattle.std.proofs.Common.{◌≡◌, refl, sym, ◌∙◌, subst, true, [], Option, None, inl, inr}
-use Rattle.fleet_model.specs.Exchanges.{Exchange, Fault, event_of}
+use Rattle.fleet_model.specs.Exchanges.{Fault, event_of}
 use Rattle.fleet_model.specs.Store.{Store}
 use Rattle.step_model.specs.Past.{World}
 use Rattle.step_model.specs.Rivals.{Caller, Rivals, after_call}
 use Rattle.step_model.specs.Course.{Course, Ends, Calls, then_course}
-use Rattle.step_model.specs.CourseRuns.{End, Gives, MeetsFault, LacksMemory, HasRoom, StopsAt, Runs, IsLawfulCourse}
+use Rattle.step_model.specs.CourseRuns.{End, Gives, MeetsFault, LacksMemory, Runs, IsLawfulCourse}
 use Rattle.step_model.specs.Ran.{Ran, Spares, Strikes}
 use Rattle.course_laws.specs.Composed.{RanOn, RanThen, GoesOn, IsStruck, Lacks, Composes, LoopsCompose}
 

@@ -35,9 +35,9 @@ use Rattle.step_model.specs.LawfulRecords.{OfSome, FinishIsWhole}
 use Rattle.step_model.specs.Fits.{AttemptHeld, noted_tables, WorkerHolds}
 use Rattle.step_model.specs.Rivals.{Caller, after_call}
 use Rattle.step_model.specs.Keeps.{Keeps}
-use Rattle.step_model.specs.ClaimSteps.{WorkerOptions}
 use Rattle.step_model.specs.Tries.{tries}
-use Rattle.step_model.specs.OutputSteps.{gets_tables, FinishedJob, all_outputs, ends_job, ends_job_by, end_try, end_job, finish_or_give_back, finish}
+use Rattle.step_model.specs.OutputSteps.{gets_tables, unless_refused}
+use Rattle.step_model.specs.FinishSteps.{FinishAsk, FinishedJob, all_outputs, ends_job, ends_job_by, end_try, end_job, tables_left, puts_and_ends, finish}
 use Rattle.step_model.specs.StepEnds.{StepEnd, Reports, most_refused}
 use Rattle.step_model.specs.Course.{Course, Ends, calls_each}
 use Rattle.step_model.specs.CourseRuns.{IsLawfulCourse}
@@ -156,10 +156,6 @@ pub record Begins (who : Caller) (w : LiveWorker) (start : World) (a : Attempt) 
 -- The rows that a range makes at the start.
 abbrev range_made : Caller → World → Attempt → Range → List Row
 range_made who start a range = (range_rows who.merge start.store.tables a.context.settings a.sources range).rows
-
--- The tables that a finish puts.
-abbrev pieces_of : Caller → World → WorkerOptions → Attempt → List (List (List Row))
-pieces_of who start options a = map (λ range. cut_tables options.table_size (rows_left who.merge start.store.tables a.context.settings a.sources range).rows) a.context.ranges
 
 -- The rows that were left of a range at the start.
 abbrev pub left_of : Caller → World → Attempt → Range × List ℕ → List Row
@@ -305,24 +301,29 @@ begins who w start a by there kept holds whole = record {
   whole = whole;
 }
 
-made_lawful : (who : Caller) (w : LiveWorker) (start new : World) (options : WorkerOptions) (moment : ℕ) (a : Attempt) (refusal : Option (List ℕ)) → Relies who w → IsShort who.merge → who.party ≡ Worker w.number → IsIn a w.attempts
-    → Keeps who.merge start → WorkerHolds who.merge start w → WholeUnless who.merge start.store.tables a refusal → State who w start a [] new
-    → IsLawfulCourse who new (finish_or_give_back who.merge options moment w a refusal start.store.tables)
-made_lawful who w start new options moment a (Some message) r short by there kept holds whole s = back_lawful FinishedJob who w a message new by
-made_lawful who w start new options moment a None r short by there kept holds whole s =
+made_lawful : (who : Caller) (start new : World) (ask : FinishAsk) (refusal : Option (List ℕ)) → Relies who ask.worker → IsShort who.merge → who.party ≡ Worker ask.worker.number → IsIn ask.attempt ask.worker.attempts
+    → Keeps who.merge start → WorkerHolds who.merge start ask.worker → WholeUnless who.merge start.store.tables ask.attempt refusal → State who ask.worker start ask.attempt [] new
+    → IsLawfulCourse who new (unless_refused ask.worker ask.attempt refusal (puts_and_ends ask (tables_left who.merge start.store.tables ask)))
+made_lawful who start new ask (Some message) r short by there kept holds whole s = back_lawful FinishedJob who ask.worker ask.attempt message new by
+made_lawful who start new ask None r short by there kept holds whole s =
+    let w = ask.worker in
+    let a = ask.attempt in
+    let size = ask.table_size in
     let b = begins who w start a by there kept holds whole in
-    ranges_made {A = StepEnd FinishedJob} who w start a moment (pieces_of who start options a) [] (λ new. end_job moment w a (all_outputs a.context.ranges new)) new r
-    (all_map (AllByRecursion IsTable) (λ range. cut_tables options.table_size (rows_left who.merge start.store.tables a.context.settings a.sources range).rows) a.context.ranges
-    (all_from _ a.context.ranges (λ range one. cut_sound options.table_size (rows_left who.merge start.store.tables a.context.settings a.sources range).rows
+    ranges_made {A = StepEnd FinishedJob} who w start a ask.moment (tables_left who.merge start.store.tables ask) [] (λ new. end_job ask.moment w a (all_outputs a.context.ranges new)) new r
+    (all_map (AllByRecursion IsTable) (λ range. cut_tables size (rows_left who.merge start.store.tables a.context.settings a.sources range).rows) a.context.ranges
+    (all_from _ a.context.ranges (λ range one. cut_sound size (rows_left who.merge start.store.tables a.context.settings a.sources range).rows
     (left_good who.merge start.store.tables a.context.settings a.sources range short kept.stored.sound.tables b.ordered)))) s
-    (λ later made e all. end_lawful who w start moment a made r b (cut_left options.table_size (left_of who start a) a.context.ranges made e) later all)
+    (λ later made e all. end_lawful who w start ask.moment a made r b (cut_left size (left_of who start a) a.context.ranges made e) later all)
 
 pub finishes_are_lawful : FinishesAreLawful
 unfolding finish
-finishes_are_lawful who world options moment w a refusal keep operator by kept holds runs whole =
+finishes_are_lawful who world ask keep operator by kept holds runs whole =
+    let w = ask.worker in
+    let a = ask.attempt in
     let there = found_in w.attempts a.job a runs in
     let relies : Relies who w = record { keep = keep; own = by } in
     let held = (all_at _ w.attempts a (holds.fits kept.stored.replay.specs kept.faithful).each there).held in
-    gets_lawful who w world a (finish_or_give_back who.merge options moment w a refusal world.store.tables) a.sources world relies
+    gets_lawful who w world a (unless_refused w a ask.refusal (puts_and_ends ask (tables_left who.merge world.store.tables ask))) a.sources world relies
     (record { kept = kept; holds = holds; old = all_to _ _ (attempt_tables a) (λ id one is. record { held = is; same = refl }) (all_true_front (is_held world.store) (attempt_tables a) held); made = tt })
-    (λ new s. made_lawful who w world new options moment a refusal relies operator.short by there kept holds whole s)
+    (λ new s. made_lawful who world new ask ask.refusal relies operator.short by there kept holds whole s)

@@ -18,7 +18,7 @@ use Rattle.step_model.specs.Fits.{WorkerHolds}
 use Rattle.step_model.specs.Course.{Ends}
 use Rattle.step_model.specs.CourseRuns.{IsLawfulCourse}
 use Rattle.step_model.specs.StepEnds.{Reports, most_refused}
-use Rattle.step_model.specs.OutputSteps.{all_outputs, end_job}
+use Rattle.step_model.specs.FinishSteps.{all_outputs, end_job}
 use Rattle.step_model.specs.MessageSteps.{if_numbered, attempt_run, ends_run, take_finished, release_job, gives_run, take_failed, take_progress}
 use Rattle.step_laws.specs.Runs.{CallsKeep}
 use Rattle.step_laws.proofs.Elements.{IsIn, all_at, all_to, all_append, all_true_front}

@@ -1,8 +1,7 @@
 -- An output of a worker is a lawful course.
-use Rattle.std.proofs.Common.{◌≡◌, ℕ, List, [], ◌∷◌, cond, Bool, true, false, inl, inr, Option, Some, None, take}
+use Rattle.std.proofs.Common.{◌≡◌, ℕ, List, [], ◌∷◌, cond, Bool, true, false, inl, inr, Option, Some, None}
 use Rattle.std.specs.Prelude.{◌==◌, filter}
 use Rattle.row_model.specs.Rows.{Row, IsStrictlyOrdered}
-use Rattle.row_model.specs.Ranges.{Range}
 use Rattle.fleet_model.specs.TreesFit.{IsTable}
 use Rattle.fleet_model.specs.History.{Worker, GetTable}
 use Rattle.fleet_model.specs.Attempts.{source_rows, rows_left}
@@ -14,7 +13,7 @@ use Rattle.step_model.specs.Rivals.{Caller, after_call}
 use Rattle.step_model.specs.Keeps.{Keeps}
 use Rattle.step_model.specs.Fits.{AttemptHeld}
 use Rattle.step_model.specs.CourseRuns.{IsLawfulCourse}
-use Rattle.step_model.specs.OutputSteps.{meets, gets_tables, Written, with_noted, writes, gives_back, writes_or_gives_back, output}
+use Rattle.step_model.specs.OutputSteps.{OutputAsk, Written, meets, gets_tables, gives_back, unless_refused, with_noted, rows_written, writes, output}
 use Rattle.step_model.specs.StepEnds.{StepEnd, Reports, OperatorRefuses, most_refused}
 use Rattle.step_model.specs.Course.{Course, Ends, calls_each, puts_table}
 use Rattle.step_laws.specs.Runs.{CallsKeep}
@@ -61,23 +60,26 @@ found_in (first ∷ attempts) job a e = by (job == first.job) (found_in attempts
 pub back_lawful : (A : Type 0) (who : Caller) (w : LiveWorker) (a : Attempt) (message : List ℕ) (world : World) → who.party ≡ Worker w.number → IsLawfulCourse who world (gives_back {A = A} w a message)
 back_lawful A who w a message world by = releases {A = A} who w (a ∷ []) (λ released. Ends (OperatorRefuses message)) by (λ new released. tt) most_refused 0 world
 
-written_lawful : (who : Caller) (moment : ℕ) (w : LiveWorker) (a : Attempt) (place : ℕ) (rows : List Row) (world : World) → CallsKeep who.merge → Keeps who.merge world → AreGood rows → IsLawfulCourse who world (writes moment w a place rows)
-written_lawful who moment w a place [] world keep kept good = tt
-written_lawful who moment w a place (r ∷ rows) world keep kept good =
-    table_lawful {A = StepEnd Written} who moment (r ∷ rows) (λ table. Ends (Reports (record { table = Some (table, r ∷ rows); attempts = with_noted place table a w.attempts }))) world keep kept
+written_lawful : (who : Caller) (ask : OutputAsk) (rows : List Row) (world : World) → CallsKeep who.merge → Keeps who.merge world → AreGood rows → IsLawfulCourse who world (writes ask rows)
+written_lawful who ask [] world keep kept good = tt
+written_lawful who ask (r ∷ rows) world keep kept good =
+    table_lawful {A = StepEnd Written} who ask.moment (r ∷ rows) (λ table. Ends (Reports (record { table = Some (table, r ∷ rows); attempts = with_noted ask.place table ask.attempt ask.worker.attempts }))) world keep kept
     (record { some = λ e. cc e; ordered = good.ordered; bounds = good.bounds }) (λ new table there. tt)
 
-made_lawful : (who : Caller) (world new : World) (moment : ℕ) (w : LiveWorker) (a : Attempt) (place : ℕ) (range : Range × List ℕ) (rows : ℕ) (refusal : Option (List ℕ)) → CallsKeep who.merge → IsShort who.merge
-    → who.party ≡ Worker w.number → Keeps who.merge world → IsStrictlyOrdered (source_rows world.store.tables a.sources) → Keeps who.merge new
-    → IsLawfulCourse who new (writes_or_gives_back who.merge moment w a place range rows refusal world.store.tables)
-made_lawful who world new moment w a place range rows None keep short by kept ordered there =
-    written_lawful who moment w a place (take rows (rows_left who.merge world.store.tables a.context.settings a.sources range).rows) new keep there
-    (take_good rows (rows_left who.merge world.store.tables a.context.settings a.sources range).rows (left_good who.merge world.store.tables a.context.settings a.sources range short kept.stored.sound.tables ordered))
-made_lawful who world new moment w a place range rows (Some message) keep short by kept ordered there = back_lawful Written who w a message new by
+made_lawful : (who : Caller) (world new : World) (ask : OutputAsk) (refusal : Option (List ℕ)) → CallsKeep who.merge → IsShort who.merge
+    → who.party ≡ Worker ask.worker.number → Keeps who.merge world → IsStrictlyOrdered (source_rows world.store.tables ask.attempt.sources) → Keeps who.merge new
+    → IsLawfulCourse who new (unless_refused ask.worker ask.attempt refusal (writes ask (rows_written who.merge world.store.tables ask)))
+made_lawful who world new ask None keep short by kept ordered there =
+    let a = ask.attempt in
+    written_lawful who ask (rows_written who.merge world.store.tables ask) new keep there
+    (take_good ask.rows (rows_left who.merge world.store.tables a.context.settings a.sources ask.range).rows (left_good who.merge world.store.tables a.context.settings a.sources ask.range short kept.stored.sound.tables ordered))
+made_lawful who world new ask (Some message) keep short by kept ordered there = back_lawful Written who ask.worker ask.attempt message new by
 
 pub outputs_are_lawful : OutputsAreLawful
 unfolding output
-outputs_are_lawful who world moment w a place range rows refusal keep operator by kept holds runs =
-    gets_lawful who (writes_or_gives_back who.merge moment w a place range rows refusal world.store.tables) (filter (meets world.store.tables range.0) a.sources) world keep kept
-    (λ new there. made_lawful who world new moment w a place range rows refusal keep operator.short by kept
+outputs_are_lawful who world ask keep operator by kept holds runs =
+    let w = ask.worker in
+    let a = ask.attempt in
+    gets_lawful who (unless_refused w a ask.refusal (writes ask (rows_written who.merge world.store.tables ask))) (filter (meets world.store.tables ask.range.0) a.sources) world keep kept
+    (λ new there. made_lawful who world new ask ask.refusal keep operator.short by kept
     (all_at (AttemptHeld world w.number) w.attempts a holds.each (found_in w.attempts a.job a runs)).ordered there)

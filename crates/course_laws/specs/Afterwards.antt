@@ -11,7 +11,8 @@ use Rattle.step_model.specs.CourseRuns.{End, Runs}
 use Rattle.step_model.specs.StepEnds.{StepEnd}
 use Rattle.step_model.specs.ClaimSteps.{Claimed}
 use Rattle.step_model.specs.BeatSteps.{Beaten}
-use Rattle.step_model.specs.OutputSteps.{Written, FinishedJob}
+use Rattle.step_model.specs.OutputSteps.{Written}
+use Rattle.step_model.specs.FinishSteps.{FinishedJob}
 
 -- The new world comes after the old one: an object that has the same version is the same, tables were only
 -- added, and the history went on.

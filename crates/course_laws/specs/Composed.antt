@@ -1,5 +1,5 @@
 -- The laws on two courses, one after the other.
-use Rattle.std.specs.Prelude.{◌≡◌, ◌⊎◌, ℕ, Option}
+use Rattle.std.specs.Prelude.{◌≡◌, Option}
 use Rattle.fleet_model.specs.Exchanges.{Fault}
 use Rattle.fleet_model.specs.PollStates.{PollState}
 use Rattle.step_model.specs.Past.{World}

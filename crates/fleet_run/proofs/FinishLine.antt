@@ -26,7 +26,7 @@ use Rattle.fleet_model.specs.Exchanges.{records_version}
 use Rattle.step_model.specs.ClaimSteps.{WorkerOptions}
 use Rattle.step_model.specs.Tries.{tries}
 use Rattle.step_model.specs.Course.{Course, Ends, puts_ranges}
-use Rattle.step_model.specs.OutputSteps.{FinishedJob, all_outputs, ends_job, ends_job_by, end_try, end_job, finish}
+use Rattle.step_model.specs.FinishSteps.{FinishAsk, FinishedJob, all_outputs, ends_job, ends_job_by, end_try, end_job, finish}
 use Rattle.step_model.specs.StepEnds.{StepEnd, Reports}
 use Rattle.script_model.specs.Defaults.{default_options, with_quiet_scheduler}
 use Rattle.script_model.specs.LineCourses as courses
@@ -35,7 +35,7 @@ use Rattle.script_model.specs.LineRuns.{LineEnd, LineCourse, if_some, only_repli
 use Rattle.script_model.specs.Refusals.{FinishMay, left_in, is_whole}
 use Rattle.script_model.specs.Replies.{reply, ranges_text}
 use Rattle.script_model.specs.States.{State}
-use Rattle.script_model.specs.WorkLines.{worker_options, running, finish_line}
+use Rattle.script_model.specs.WorkLines.{worker_options, running, finish_asked, finish_line}
 use Rattle.fleet_run.specs.declared.jobs.AskedJob.{AskedJob}
 use Rattle.fleet_run.specs.Jobs.{Stage, Waits, Runs, Wrote, OpenJob, attempt_of}
 use Rattle.fleet_run.specs.FleetView.{FleetView, AreFlushes, IsFlushAbove, newest_name}
@@ -82,6 +82,16 @@ finishing cut = record { moment = 0; published = no_contexts; kept_cut = Some cu
 abbrev finished_records : Records → ℕ → ℕ → List ℕ → Records
 finished_records got id cut outputs = record got { version = got.version + 1; jobs = trimmed_jobs (changed_jobs (finished_by 1 (finishing cut) (outputs ∷ [])) (id ∷ []) got.jobs) }
 
+-- What a finish of the worker's only attempt is asked with. The operator refuses no fold.
+abbrev asked_of : AskedJob → Settings → FinishAsk
+asked_of job settings = record {
+  moment = 0;
+  worker = worker_of (attempt_of job settings ∷ []);
+  attempt = attempt_of job settings;
+  table_size = options.table_size;
+  refusal = None;
+}
+
 -- The end of a finish of the worker's only attempt, with these outputs.
 abbrev finish_end : List ℕ → StepEnd FinishedJob
 finish_end outputs = Reports (record { outputs = outputs ∷ []; attempts = [] })
@@ -117,7 +127,7 @@ finish_leads : (merge : Operator) (h : Held) (got : Records) (job : AskedJob) (s
     → without_attempts (job.id ∷ []) (attempt_of job settings ∷ []) ≡ []
     → (rows_left merge h.tables settings (job.source ∷ []) (all_keys, [])).rows ≡ kept
     → let tables = numbered_tables h.tables_drawn (cut_tables options.table_size kept) in
-    Leads (finish merge h.tables options 0 (worker_of (attempt_of job settings ∷ [])) (attempt_of job settings) None) h
+    Leads (finish merge h.tables (asked_of job settings)) h
     (record (after_puts tables h) { records = Some (finished_records got job.id settings.cut (firsts tables)) }) (finish_end (firsts tables))
 unfolding finish end_job
 finish_leads merge h got job settings kept here live gone makes = (refl, λ met same. subst (λ rows. Leads (puts rows) h last end) (sym makes) ends)
@@ -146,7 +156,7 @@ finish_leads merge h got job settings kept here live gone makes = (refl, λ met 
 
 -- The course of the line of a finish at which no fold refuses.
 abbrev line_by : Operator → State → Option (LiveWorker × Attempt) → LineCourse
-line_by merge s found = if_some found (only_replies s no_such_party) (λ f. finish_line (with_quiet_scheduler merge) s f.0 f.1 None)
+line_by merge s found = if_some found (only_replies s no_such_party) (λ f. finish_line (with_quiet_scheduler merge) s (finish_asked s None f))
 
 -- No fold refuses at the finish, and its line gives the fleet's reply and leaves the fleet after
 -- it.
@@ -306,9 +316,9 @@ module _ (merge : Operator) (number : ℕ) (fleet : FleetView) (store : Store) (
         }
 
     -- The finish leads to what the fleet after it holds.
-    leads : Leads (finish merge store.tables options 0 w attempt None) (held_parts store) last_held (finish_end (firsts tables))
+    leads : Leads (finish merge store.tables (asked_of job settings)) (held_parts store) last_held (finish_end (firsts tables))
     leads =
-        subst (λ n. Leads (finish merge store.tables options 0 w attempt None) (held_parts store)
+        subst (λ n. Leads (finish merge store.tables (asked_of job settings)) (held_parts store)
         (record (after_puts (numbered_tables n cut) (held_parts store)) { records = Some (finished_records there.got job.id settings.cut (firsts (numbered_tables n cut))) }) (finish_end (firsts (numbered_tables n cut)))) holds.tables_drawn
         (finish_leads merge (held_parts store) there.got job settings kept there.is still_live gone (ap (λ (made : JobRows). made.rows) makes))
 
@@ -326,14 +336,14 @@ module _ (merge : Operator) (number : ℕ) (fleet : FleetView) (store : Store) (
         let parties : running w s [] ≡ parties_of new = workers_one number fleet store holds [] (attempt ∷ []) live ∙ sym (ap (λ on. record { coordinators = coordinators fleet.coordinator; workers = workers on [] }) live) in
         let replied : List ℕ = reply (codes "ok" ∷ ranges_text (firsts tables ∷ []) ∷ []) in
         let ends : StepEnd FinishedJob → LineEnd = line_end (λ r. reply (codes "ok" ∷ ranges_text r.outputs ∷ [])) (λ r. running w s r.attempts) (running w s (without_attempts (job.id ∷ []) (attempt ∷ []))) in
-        let served = step_serves number fleet new store (Worker 1) (finish merge store.tables options 0 w attempt None) ends (without_worker 1 s.parties) (finish_end (firsts tables)) replied last_held leads
+        let served = step_serves number fleet new store (Worker 1) (finish merge store.tables (asked_of job settings)) ends (without_worker 1 s.parties) (finish_end (firsts tables)) replied last_held leads
         (ap (λ p. record { reply = replied; parties = p }) parties) finish_holds in
         let whole : is_whole (with_quiet_scheduler merge) s attempt ≡ true = ap (λ (made : JobRows). made.whole && true) makes in
         record {
           may = subst (λ f. FinishMay (with_quiet_scheduler merge) s f None) (sym run) whole;
           serves = subst (λ f. Serves number fleet store (line_by merge s f) (finish_answer fleet job_number) (after_finish fleet job_number)) (sym run)
-              (subst (λ text. Serves number fleet store (finish_line (with_quiet_scheduler merge) s w attempt None) text (after_finish fleet job_number)) answer
-              (subst (λ (f : FleetView). Serves number fleet store (finish_line (with_quiet_scheduler merge) s w attempt None) replied f) new_is served));
+              (subst (λ text. Serves number fleet store (finish_line (with_quiet_scheduler merge) s (finish_asked s None (w, attempt))) text (after_finish fleet job_number)) answer
+              (subst (λ (f : FleetView). Serves number fleet store (finish_line (with_quiet_scheduler merge) s (finish_asked s None (w, attempt))) replied f) new_is served));
         }
       where
         cond_run : Bool → Option (LiveWorker × Attempt)

@@ -21,7 +21,7 @@ use Rattle.script_model.specs.LineSteps.{OneCourse}
 use Rattle.script_model.specs.Replies.{reply, tables_text, jobs_text, poll_reply, commit_reply, claim_reply, beat_reply}
 use Rattle.script_model.specs.Starts.{only_notes}
 use Rattle.script_model.specs.PollLines.{poll_ask}
-use Rattle.script_model.specs.WorkLines.{worker_line, worker_options, output_line, finish_line}
+use Rattle.script_model.specs.WorkLines.{worker_line, worker_options, output_asked, output_line, finish_asked, finish_line}
 use Rattle.step_model.specs.PollSteps.{poll}
 use Rattle.step_model.specs.ClaimSteps.{claim}
 use Rattle.step_model.specs.BeatSteps.{heartbeat, release_all}
@@ -109,8 +109,8 @@ lines_call inputs (Poll n) refusal s = if_line (coordinator_with n s.parties) s 
 lines_call inputs (CommitOnly n) refusal s = if_line (coordinator_with n s.parties) s (λ c. let gone = without_coordinator n s.parties in step_line (Coordinator n) (poll (poll_ask inputs s c true)) (line_end commit_reply (λ reached. s.parties) gone) gone) (λ c. refl)
 lines_call inputs (ClaimJobs n) refusal s = if_line (worker_with n s.parties) s (λ w. worker_line w s (claim (worker_options s.options) s.moment w) (λ r. claim_reply r.begun r.stopped) (λ r. r.attempts) w.attempts) (λ w. refl)
 lines_call inputs (Heartbeat n) refusal s = if_line (worker_with n s.parties) s (λ w. worker_line w s (heartbeat s.moment w) (λ r. beat_reply r.beat r.not_owner) (λ r. r.attempts) w.attempts) (λ w. refl)
-lines_call inputs (Output n job place rows) refusal s = if_line (range_at s n job place) s (λ found. output_line inputs s found.0 found.1 place found.2 rows refusal) (λ found. refl)
-lines_call inputs (FinishJob n job) refusal s = if_line (job_at s n job) s (λ found. finish_line inputs s found.0 found.1 refusal) (λ found. refl)
+lines_call inputs (Output n job place rows) refusal s = if_line (range_at s n job place) s (λ found. output_line inputs s (output_asked s place rows refusal found)) (λ found. refl)
+lines_call inputs (FinishJob n job) refusal s = if_line (job_at s n job) s (λ found. finish_line inputs s (finish_asked s refusal found)) (λ found. refl)
 lines_call inputs Sweep refusal s = is_well (sweep_line s) (sweeps_call (pinned_tables s.parties) (λ tables. Ends (record { reply = reply (codes "ok" ∷ tables_text (by_number tables) ∷ []); parties = s.parties })) (λ tables. tt))
 
 -- ---- runs

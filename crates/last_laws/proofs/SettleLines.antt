@@ -15,7 +15,7 @@ use Rattle.fleet_model.specs.Claims.{claimed_jobs}
 use Rattle.fleet_model.specs.Gates.{is_nonempty}
 use Rattle.fleet_model.specs.JobsFit.{SourcesStand, OpenedStands}
 use Rattle.fleet_model.specs.PollStates.{PollInput, PollState, poll_begun, view_of}
-use Rattle.step_model.specs.OutputSteps.{all_outputs, unrecorded_of_finish}
+use Rattle.step_model.specs.FinishSteps.{all_outputs, unrecorded_of_finish}
 use Rattle.step_laws.proofs.Elements.{IsIn, all_at, all_to, in_contains}
 use Rattle.script_model.specs.Script.{ClaimJobs, FinishJob, Settle}
 use Rattle.script_model.specs.States.{Inputs, State, FleetOptions}

@@ -5,7 +5,7 @@ use Rattle.fleet_model.specs.History.{Worker}
 use Rattle.fleet_model.specs.Store.{Store, stored_jobs}
 use Rattle.fleet_model.specs.Parties.{Attempt, LiveWorker, worker_with, without_worker}
 use Rattle.step_model.specs.Rivals.{Caller}
-use Rattle.step_model.specs.OutputSteps.{FinishedJob, finish}
+use Rattle.step_model.specs.FinishSteps.{FinishedJob, finish}
 use Rattle.commit_laws.proofs.AllCalls.{calls_keep}
 use Rattle.course_laws.proofs.Finishes.{finishes_are_lawful}
 use Rattle.script_model.specs.Script.{FinishJob}
@@ -15,7 +15,7 @@ use Rattle.script_model.specs.Refusals.{FinishMay}
 use Rattle.script_model.specs.LineRuns.{run_line, no_such_party, if_some, LineCourse}
 use Rattle.script_model.specs.LineCourses.{course_of, job_at}
 use Rattle.script_model.specs.LineSteps.{OneCourse}
-use Rattle.script_model.specs.WorkLines.{worker_options, running, without_attempt, finish_line}
+use Rattle.script_model.specs.WorkLines.{running, without_attempt, finish_asked, finish_line}
 use Rattle.script_model.specs.Settles.{is_ok}
 use Rattle.line_laws.specs.FinishLines.{FinishRan, FinishesEnd}
 use Rattle.line_laws.proofs.Lines.{caller_of, world_of}
@@ -26,7 +26,7 @@ use Rattle.line_laws.proofs.FinishRuns.{finish_did}
 
 -- The line of a finish, given the worker and the attempt that it finds.
 abbrev finishing : Inputs → State → Option (List ℕ) → Option (LiveWorker × Attempt) → LineCourse
-finishing inputs s refusal o = if_some o (no_such_party s) (λ found. finish_line inputs s found.0 found.1 refusal)
+finishing inputs s refusal o = if_some o (no_such_party s) (λ found. finish_line inputs s (finish_asked s refusal found))
 
 finish_is : (inputs : Inputs) (number : ℕ) (old new : State) (n job : ℕ) (answer : List ℕ) (one : OneCourse inputs number old (FinishJob n job) answer new) → run_line number old (finishing inputs old one.does.refusal (job_at old n job)) ≡ (answer, new)
 unfolding course_of
@@ -45,11 +45,12 @@ finishes_end inputs old new n job answer c ok = by c.course.does.refusal (job_at
         let a = p.1 in
         let who : Caller = caller_of inputs.merge c.number (Worker w.number) in
         let at = is_attempt inputs.merge old c.keeps n job p there in
-        let step = finish inputs.merge old.store.tables (worker_options old.options) old.moment w a refusal in
+        let ask = finish_asked old refusal p in
+        let step = finish inputs.merge old.store.tables ask in
         let r = step_reported inputs.merge c.number old (Worker w.number) step spell (λ (r : FinishedJob). running w old r.attempts) (running w old (without_attempt w a)) (without_worker w.number old.parties) c.keeps answer new is c.had_room ok in
         let keep = calls_keep inputs.merge c.lawful in
-        let lawful = finishes_are_lawful who (world_of inputs.merge old c.keeps) (worker_options old.options) old.moment w a refusal keep c.lawful refl c.keeps.fleet.store at.holds at.runs (whole_unless inputs old w a refusal may) in
-        let f = finish_did who old.store.tables (worker_options old.options) old.moment w a refusal (world_of inputs.merge old c.keeps) r.left r.report keep refl (record { kept = c.keeps.fleet.store; lawful = lawful; run = r.run }) in
+        let lawful = finishes_are_lawful who (world_of inputs.merge old c.keeps) ask keep c.lawful refl c.keeps.fleet.store at.holds at.runs (whole_unless inputs old w a refusal may) in
+        let f = finish_did who old.store.tables ask (world_of inputs.merge old c.keeps) r.left r.report keep refl (record { kept = c.keeps.fleet.store; lawful = lawful; run = r.run }) in
         record {
           worker = w;
           attempt = a;

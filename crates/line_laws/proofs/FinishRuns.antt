@@ -1,14 +1,12 @@
 -- A finish that is alone and reports ends its attempt.
 use Rattle.std.proofs.Common.{◌≡◌, refl, sym, ◌∙◌, ap, subst, ℕ, zero, suc, List, [], ◌∷◌, cond, Bool, true, false, Option, Some, None}
-use Rattle.std.specs.Prelude.{◌==◌, filter, map}
+use Rattle.std.specs.Prelude.{◌==◌, filter}
 use Rattle.std.proofs.lemmas.Bool.Decides.{Decides-eqb}
 use Rattle.row_model.specs.Rows.{Row}
-use Rattle.row_model.specs.Ranges.{Range}
-use Rattle.row_model.specs.Tables.{cut_tables}
 use Rattle.fleet_model.specs.Nodes.{Tables}
 use Rattle.fleet_model.specs.Jobs.{changed_jobs, trimmed_jobs}
 use Rattle.fleet_model.specs.History.{Event, GetRecords, Finish, Release}
-use Rattle.fleet_model.specs.Attempts.{rows_left, finish_cut}
+use Rattle.fleet_model.specs.Attempts.{finish_cut}
 use Rattle.fleet_model.specs.Store.{Records, Store, stored_jobs, jobs_in}
 use Rattle.fleet_model.specs.Records.{finished_by, Unrecorded, no_contexts, jobs_after}
 use Rattle.fleet_model.specs.Parties.{Attempt, LiveWorker, named_attempts, without_attempts, is_live}
@@ -18,9 +16,10 @@ use Rattle.step_model.specs.Rivals.{Caller, after_call}
 use Rattle.step_model.specs.Course.{Course, Ends, Calls, calls_each, puts_tables, puts_ranges}
 use Rattle.step_model.specs.Tries.{tries}
 use Rattle.step_model.specs.StepEnds.{StepEnd, Reports, OperatorRefuses, most_refused}
-use Rattle.step_model.specs.ClaimSteps.{WorkerOptions, at_moment}
+use Rattle.step_model.specs.ClaimSteps.{at_moment}
 use Rattle.step_model.specs.BeatSteps.{release_live, release_by, release_try}
-use Rattle.step_model.specs.OutputSteps.{unrecorded_of_finish, gets_tables, FinishedJob, all_outputs, ends_job, ends_job_by, end_try, end_job, finish_or_give_back, finish}
+use Rattle.step_model.specs.OutputSteps.{gets_tables, unless_refused}
+use Rattle.step_model.specs.FinishSteps.{FinishAsk, FinishedJob, all_outputs, unrecorded_of_finish, ends_job, ends_job_by, end_try, end_job, tables_left, puts_and_ends, finish}
 use Rattle.step_laws.specs.Runs.{CallsKeep}
 use Rattle.line_laws.proofs.PollRuns.{Going, alone_next, RecordsPut, records_put}
 
@@ -176,16 +175,24 @@ pub record Finished (moment : ℕ) (w : LiveWorker) (a : Attempt) (old new : Sto
   pub made : List (List ℕ)
   pub end : Ended moment w a (all_outputs a.context.ranges made) old new report
 
-pub finish_did : (who : Caller) (tables : Tables) (options : WorkerOptions) (moment : ℕ) (w : LiveWorker) (a : Attempt) (refusal : Option (List ℕ)) (world new : World) (report : FinishedJob) → CallsKeep who.merge → who.alone ≡ true
-    → Going who (finish who.merge tables options moment w a refusal) world new (Reports report) → Finished moment w a world.store new.store report
+pub finish_did : (who : Caller) (tables : Tables) (ask : FinishAsk) (world new : World) (report : FinishedJob) → CallsKeep who.merge → who.alone ≡ true
+    → Going who (finish who.merge tables ask) world new (Reports report) → Finished ask.moment ask.worker ask.attempt world.store new.store report
 unfolding finish end_job
-finish_did who tables options moment w a refusal world new report keep alone going = by refusal (gets_done who (gets_tables a.sources) (finish_or_give_back who.merge options moment w a refusal tables) world new (Reports report) keep alone going)
+finish_did who tables ask world new report keep alone going = by ask.refusal (gets_done who (gets_tables a.sources) (unless_refused w a ask.refusal (puts_and_ends ask (tables_left who.merge tables ask))) world new (Reports report) keep alone going)
   where
-    by : (refusal : Option (List ℕ)) → On who (finish_or_give_back who.merge options moment w a refusal tables) world new (Reports report) → Finished moment w a world.store new.store report
+    moment : ℕ
+    moment = ask.moment
+
+    w : LiveWorker
+    w = ask.worker
+
+    a : Attempt
+    a = ask.attempt
+
+    by : (refusal : Option (List ℕ)) → On who (unless_refused w a refusal (puts_and_ends ask (tables_left who.merge tables ask))) world new (Reports report) → Finished moment w a world.store new.store report
     by (Some message) on = absurd (back_no_report who w a message most_refused 0 on.mid new report keep alone on.going)
     by None on =
-        let ranges = map (λ (range : Range × List ℕ). cut_tables options.table_size (rows_left who.merge tables a.context.settings a.sources range).rows) a.context.ranges in
-        let m = ranges_made who moment ranges (λ made. end_job moment w a (all_outputs a.context.ranges made)) on.mid new (Reports report) keep alone on.going in
+        let m = ranges_made who moment (tables_left who.merge tables ask) (λ made. end_job moment w a (all_outputs a.context.ranges made)) on.mid new (Reports report) keep alone on.going in
         let outputs = all_outputs a.context.ranges m.made in
         record {
           made = m.made;

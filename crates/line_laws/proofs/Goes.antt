@@ -1,5 +1,5 @@
 -- Each line goes on, unless the operator refuses a fold.
-use Rattle.std.proofs.Common.{◌≡◌, refl, sym, ap, subst, ℕ, zero, suc, ◌+◌, List, [], ◌∷◌, Bool, true, false, None}
+use Rattle.std.proofs.Common.{◌≡◌, refl, sym, subst, ℕ, zero, suc, ◌+◌, List, [], ◌∷◌, Bool, true, false, None}
 use Rattle.script_model.specs.Script.{Line, Output, FinishJob, Settle, Poll, ClaimJobs, Together}
 use Rattle.script_model.specs.States.{Inputs, State}
 use Rattle.script_model.specs.LineRuns.{run_line}
@@ -8,7 +8,7 @@ use Rattle.script_model.specs.Refusals.{FinishMay}
 use Rattle.script_model.specs.LineSteps.{MayRefuse, OneCourse}
 use Rattle.script_model.specs.Settles.{is_ok, are_live, jobs_run, has_active, has_added, settled_reply, all_taken, EndsOr, Step, FinishesInTurn, AfterPoll, Rounds}
 use Rattle.script_model.specs.Follows.{SettleStep}
-use Rattle.line_laws.specs.Goes.{Goes, LinesGo}
+use Rattle.line_laws.specs.Goes.{LinesGo}
 
 -- There is a reply and a state with this property.
 record Some2 (P : List ℕ → State → Type 0) : Type 0 where

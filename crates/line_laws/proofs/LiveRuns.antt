@@ -25,7 +25,8 @@ use Rattle.script_model.specs.Replies.{ok, reply, jobs_text, poll_reply, commit_
 use Rattle.script_model.specs.PollLines.{polls, poll_ask}
 use Rattle.step_model.specs.ClaimSteps.{claim}
 use Rattle.step_model.specs.BeatSteps.{heartbeat}
-use Rattle.step_model.specs.OutputSteps.{output, finish}
+use Rattle.step_model.specs.OutputSteps.{output}
+use Rattle.step_model.specs.FinishSteps.{finish}
 use Rattle.step_model.specs.SubmitSteps.{submit, submit_request}
 use Rattle.step_model.specs.FlushSteps.{flush}
 use Rattle.step_model.specs.SweepSteps.{sweep}
@@ -33,7 +34,7 @@ use Rattle.step_model.specs.Entries.{last_name}
 use Rattle.fleet_model.specs.Sweeps.{pinned_tables}
 use Rattle.script_model.specs.Submits.{submits, request_of}
 use Rattle.script_model.specs.Sweeps.{sweep_line, by_number}
-use Rattle.script_model.specs.WorkLines.{worker_options, worker_line, running, claim_line, heartbeat_line, output_line, finish_line, without_attempt, stop_worker}
+use Rattle.script_model.specs.WorkLines.{worker_options, worker_line, running, claim_line, heartbeat_line, output_asked, output_line, finish_asked, finish_line, without_attempt, stop_worker}
 use Rattle.line_laws.specs.PollRuns.{Answered, entry_of}
 use Rattle.line_laws.specs.Faults.{calls_made, answer_made, struck_answer}
 use Rattle.line_laws.specs.Live.{LiveWorkers}
@@ -240,22 +241,22 @@ beat_live number n s answer new is live = by (worker_with n s.parties) refl is
     by (Some w) e is = step_work number s w (heartbeat s.moment w) (λ r. beat_reply r.beat r.not_owner) (λ r. r.attempts) w.attempts answer new is (quiet_heartbeat s.moment w) (is_there n s.parties w e) live
 
 output_live : (inputs : Inputs) (number n job place rows : ℕ) (refusal : Option (List ℕ)) (s : State) (answer : List ℕ) (new : State)
-    → run_line number s (if_some (range_at s n job place) (no_such_party s) (λ found. output_line inputs s found.0 found.1 place found.2 rows refusal)) ≡ (answer, new) → IsLive s → IsLive new
+    → run_line number s (if_some (range_at s n job place) (no_such_party s) (λ found. output_line inputs s (output_asked s place rows refusal found))) ≡ (answer, new) → IsLive s → IsLive new
 output_live inputs number n job place rows refusal s answer new is live = by (range_at s n job place) refl is
   where
-    by : (o : Option (LiveWorker × Attempt × (Range × List ℕ))) → range_at s n job place ≡ o → run_line number s (if_some o (no_such_party s) (λ found. output_line inputs s found.0 found.1 place found.2 rows refusal)) ≡ (answer, new) → IsLive new
+    by : (o : Option (LiveWorker × Attempt × (Range × List ℕ))) → range_at s n job place ≡ o → run_line number s (if_some o (no_such_party s) (λ found. output_line inputs s (output_asked s place rows refusal found))) ≡ (answer, new) → IsLive new
     by None e is = refused_live number s answer new is live
-    by (Some q) e is = step_work number s q.0 (output inputs.merge s.store.tables s.moment q.0 q.1 place q.2 rows refusal) (λ r. output_reply r.table) (λ r. r.attempts) (without_attempt q.0 q.1) answer new is
-        (quiet_output inputs.merge s.store.tables s.moment q.0 q.1 place q.2 rows refusal) (range_live s n job place q e) live
+    by (Some q) e is = step_work number s q.0 (output inputs.merge s.store.tables (output_asked s place rows refusal q)) (λ r. output_reply r.table) (λ r. r.attempts) (without_attempt q.0 q.1) answer new is
+        (quiet_output inputs.merge s.store.tables (output_asked s place rows refusal q)) (range_live s n job place q e) live
 
 finish_live : (inputs : Inputs) (number n job : ℕ) (refusal : Option (List ℕ)) (s : State) (answer : List ℕ) (new : State)
-    → run_line number s (if_some (job_at s n job) (no_such_party s) (λ found. finish_line inputs s found.0 found.1 refusal)) ≡ (answer, new) → IsLive s → IsLive new
+    → run_line number s (if_some (job_at s n job) (no_such_party s) (λ found. finish_line inputs s (finish_asked s refusal found))) ≡ (answer, new) → IsLive s → IsLive new
 finish_live inputs number n job refusal s answer new is live = by (job_at s n job) refl is
   where
-    by : (o : Option (LiveWorker × Attempt)) → job_at s n job ≡ o → run_line number s (if_some o (no_such_party s) (λ found. finish_line inputs s found.0 found.1 refusal)) ≡ (answer, new) → IsLive new
+    by : (o : Option (LiveWorker × Attempt)) → job_at s n job ≡ o → run_line number s (if_some o (no_such_party s) (λ found. finish_line inputs s (finish_asked s refusal found))) ≡ (answer, new) → IsLive new
     by None e is = refused_live number s answer new is live
-    by (Some p) e is = step_work number s p.0 (finish inputs.merge s.store.tables (worker_options s.options) s.moment p.0 p.1 refusal) (λ r. reply (codes "ok" ∷ ranges_text r.outputs ∷ [])) (λ r. r.attempts) (without_attempt p.0 p.1) answer new is
-        (quiet_finish inputs.merge s.store.tables (worker_options s.options) s.moment p.0 p.1 refusal) (job_live s n job p e) live
+    by (Some p) e is = step_work number s p.0 (finish inputs.merge s.store.tables (finish_asked s refusal p)) (λ r. reply (codes "ok" ∷ ranges_text r.outputs ∷ [])) (λ r. r.attempts) (without_attempt p.0 p.1) answer new is
+        (quiet_finish inputs.merge s.store.tables (finish_asked s refusal p)) (job_live s n job p e) live
 
 start_coordinator_live : (number n : ℕ) (s : State) (answer : List ℕ) (new : State) → run_line number s (start_coordinator n s) ≡ (answer, new) → IsLive s → IsLive new
 start_coordinator_live number n s answer new is live =

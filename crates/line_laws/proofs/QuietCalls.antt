@@ -1,16 +1,14 @@
 -- The calls of a worker's steps note neither that a party comes nor that one goes.
 use Rattle.std.proofs.Common.{◌≡◌, refl, ℕ, zero, suc, List, [], ◌∷◌, cond, Bool, true, false, Option, Some, None}
-use Rattle.std.specs.Prelude.{⊤, map, filter, flat_map, ◌==◌}
+use Rattle.std.specs.Prelude.{⊤, filter, flat_map, ◌==◌}
 use Rattle.std.specs.List.{AllByRecursion}
 use Rattle.row_model.specs.Fold.{Operator}
 use Rattle.row_model.specs.Rows.{Row}
-use Rattle.row_model.specs.Ranges.{Range}
 use Rattle.fleet_model.specs.Nodes.{Tables}
 use Rattle.fleet_model.specs.Jobs.{Job, Jobs, Context}
 use Rattle.fleet_model.specs.History.{Event, Start, Kill}
 use Rattle.fleet_model.specs.Store.{Records}
-use Rattle.row_model.specs.Tables.{cut_tables}
-use Rattle.fleet_model.specs.Attempts.{ClaimInput, rows_left}
+use Rattle.fleet_model.specs.Attempts.{ClaimInput}
 use Rattle.fleet_model.specs.Parties.{Attempt, LiveWorker, live_attempts, is_live}
 use Rattle.fleet_model.specs.Claims.{claimed_jobs}
 use Rattle.fleet_model.specs.Gates.{is_nonempty}
@@ -20,7 +18,8 @@ use Rattle.step_model.specs.Tries.{Try, tries}
 use Rattle.step_model.specs.StepEnds.{StepEnd, most_refused}
 use Rattle.step_model.specs.ClaimSteps.{WorkerOptions, Claimed, can_start, plan_of, starts_claimed, claim_of, claim_by, claim_try, claim}
 use Rattle.step_model.specs.BeatSteps.{Beaten, beat_of, beat_by, beat_try, heartbeat, release_live, release_by, release_try, release_all}
-use Rattle.step_model.specs.OutputSteps.{FinishedJob, gets_tables, writes, writes_or_gives_back, output, all_outputs, ends_job, ends_job_by, end_try, end_job, finish_or_give_back, finish}
+use Rattle.step_model.specs.OutputSteps.{OutputAsk, gets_tables, unless_refused, rows_written, writes, output}
+use Rattle.step_model.specs.FinishSteps.{FinishAsk, FinishedJob, all_outputs, ends_job, ends_job_by, end_try, end_job, tables_left, puts_and_ends, finish}
 use Rattle.step_laws.proofs.Elements.{all_flat, all_from}
 use Rattle.line_laws.proofs.Courses.{AllCalls}
 
@@ -125,17 +124,17 @@ quiet_release_all w = quiet_either (is_nonempty w.attempts) _ _ (quiet_release w
 
 -- ---- outputs and finishes
 
-writes_quiet : (moment : ℕ) (w : LiveWorker) (a : Attempt) (place : ℕ) (rows : List Row) → AreQuiet (writes moment w a place rows)
-writes_quiet moment w a place [] = tt
-writes_quiet moment w a place (r ∷ rows) = (tt, λ met. (tt, λ after. tt))
+unless_quiet : {A : Type 0} (w : LiveWorker) (a : Attempt) (refusal : Option (List ℕ)) (next : Course (StepEnd A)) → AreQuiet next → AreQuiet (unless_refused w a refusal next)
+unless_quiet w a None next quiet = quiet
+unless_quiet w a (Some message) next quiet = quiet_release w (a ∷ []) _ (λ released. tt)
 
-writes_or_quiet : (merge : Operator) (moment : ℕ) (w : LiveWorker) (a : Attempt) (place : ℕ) (range : Range × List ℕ) (rows : ℕ) (refusal : Option (List ℕ)) (tables : Tables) → AreQuiet (writes_or_gives_back merge moment w a place range rows refusal tables)
-writes_or_quiet merge moment w a place range rows None tables = writes_quiet moment w a place _
-writes_or_quiet merge moment w a place range rows (Some message) tables = quiet_release w (a ∷ []) _ (λ released. tt)
+writes_quiet : (ask : OutputAsk) (rows : List Row) → AreQuiet (writes ask rows)
+writes_quiet ask [] = tt
+writes_quiet ask (r ∷ rows) = (tt, λ met. (tt, λ after. tt))
 
-pub quiet_output : (merge : Operator) (tables : Tables) (moment : ℕ) (w : LiveWorker) (a : Attempt) (place : ℕ) (range : Range × List ℕ) (rows : ℕ) (refusal : Option (List ℕ)) → AreQuiet (output merge tables moment w a place range rows refusal)
+pub quiet_output : (merge : Operator) (tables : Tables) (ask : OutputAsk) → AreQuiet (output merge tables ask)
 unfolding output
-quiet_output merge tables moment w a place range rows refusal = quiet_each _ _ (gets_quiet _) (writes_or_quiet merge moment w a place range rows refusal tables)
+quiet_output merge tables ask = quiet_each _ _ (gets_quiet _) (unless_quiet ask.worker ask.attempt ask.refusal _ (writes_quiet ask (rows_written merge tables ask)))
 
 ends_quiet : (moment : ℕ) (w : LiveWorker) (a : Attempt) (outputs : List (List ℕ)) (got : Records) (live : Bool) (again : Again FinishedJob) → ((seen : ℕ) → AreQuiet (again seen)) → AreQuiet (ends_job moment w a outputs got live again)
 ends_quiet moment w a outputs got false again h = tt
@@ -149,10 +148,10 @@ quiet_end : (moment : ℕ) (w : LiveWorker) (a : Attempt) (outputs : List (List 
 unfolding end_job
 quiet_end moment w a outputs = quiet_tries (end_try moment w a outputs) (λ again h. (refl, λ met. ends_by_quiet moment w a outputs met.records again h)) most_refused 0
 
-finish_or_quiet : (merge : Operator) (options : WorkerOptions) (moment : ℕ) (w : LiveWorker) (a : Attempt) (refusal : Option (List ℕ)) (tables : Tables) → AreQuiet (finish_or_give_back merge options moment w a refusal tables)
-finish_or_quiet merge options moment w a None tables = quiet_ranges moment (map (λ range. cut_tables options.table_size (rows_left merge tables a.context.settings a.sources range).rows) a.context.ranges) _ (λ new. quiet_end moment w a (all_outputs a.context.ranges new))
-finish_or_quiet merge options moment w a (Some message) tables = quiet_release w (a ∷ []) _ (λ released. tt)
+puts_quiet : (ask : FinishAsk) (tables : List (List (List Row))) → AreQuiet (puts_and_ends ask tables)
+puts_quiet ask tables = quiet_ranges ask.moment tables _ (λ new. quiet_end ask.moment ask.worker ask.attempt (all_outputs ask.attempt.context.ranges new))
 
-pub quiet_finish : (merge : Operator) (tables : Tables) (options : WorkerOptions) (moment : ℕ) (w : LiveWorker) (a : Attempt) (refusal : Option (List ℕ)) → AreQuiet (finish merge tables options moment w a refusal)
+pub quiet_finish : (merge : Operator) (tables : Tables) (ask : FinishAsk) → AreQuiet (finish merge tables ask)
 unfolding finish
-quiet_finish merge tables options moment w a refusal = quiet_each (gets_tables a.sources) _ (gets_quiet a.sources) (finish_or_quiet merge options moment w a refusal tables)
+quiet_finish merge tables ask =
+    quiet_each (gets_tables ask.attempt.sources) _ (gets_quiet ask.attempt.sources) (unless_quiet ask.worker ask.attempt ask.refusal _ (puts_quiet ask (tables_left merge tables ask)))

@@ -10,7 +10,8 @@ use Rattle.fleet_model.specs.Polls.{committed_poll}
 use Rattle.step_model.specs.PollSteps.{start, poll}
 use Rattle.step_model.specs.ClaimSteps.{claim}
 use Rattle.step_model.specs.BeatSteps.{heartbeat, release_all}
-use Rattle.step_model.specs.OutputSteps.{output, end_job, finish}
+use Rattle.step_model.specs.OutputSteps.{output}
+use Rattle.step_model.specs.FinishSteps.{end_job, finish}
 use Rattle.step_model.specs.SubmitSteps.{submit, submit_request}
 use Rattle.step_model.specs.FlushSteps.{flush}
 use Rattle.step_model.specs.SweepSteps.{sweep}

@@ -15,7 +15,8 @@ use Rattle.step_model.specs.CourseRuns.{End, Gives, MeetsFault, Runs, IsLawfulCo
 use Rattle.step_model.specs.StepEnds.{StepEnd, Reports}
 use Rattle.step_model.specs.ClaimSteps.{claim}
 use Rattle.step_model.specs.BeatSteps.{heartbeat, release_all}
-use Rattle.step_model.specs.OutputSteps.{output, finish}
+use Rattle.step_model.specs.OutputSteps.{output}
+use Rattle.step_model.specs.FinishSteps.{finish}
 use Rattle.step_laws.proofs.Elements.{all_at, all_true_front}
 use Rattle.commit_laws.proofs.AllCalls.{calls_keep}
 use Rattle.course_laws.specs.Outputs.{DoesRun}
@@ -35,7 +36,7 @@ use Rattle.worker_laws.proofs.Finishes.{finishes_keep_fit}
 use Rattle.script_model.specs.States.{Inputs, State}
 use Rattle.script_model.specs.Replies.{reply, jobs_text, claim_reply, beat_reply, output_reply, ranges_text}
 use Rattle.script_model.specs.LineRuns.{LineEnd, LineCourse, run_line, line_end, step_parties, no_such_party, if_some}
-use Rattle.script_model.specs.WorkLines.{worker_options, running, worker_line, claim_line, heartbeat_line, stop_worker, without_attempt, output_line, finish_line}
+use Rattle.script_model.specs.WorkLines.{worker_options, running, worker_line, claim_line, heartbeat_line, stop_worker, without_attempt, output_asked, output_line, finish_asked, finish_line}
 use Rattle.script_model.specs.LineCourses.{attempt_numbered, job_at, range_at}
 use Rattle.script_model.specs.Refusals.{left_in, FinishMay}
 use Rattle.line_laws.specs.Alone.{HadRoom}
@@ -158,28 +159,29 @@ whole_unless inputs s w a None may = all_true_front (λ (range : Range × List �
 whole_unless inputs s w a (Some message) may = tt
 
 pub finish_keeps : (inputs : Inputs) (number n job : ℕ) (refusal : Option (List ℕ)) (s : State) (k : StateKeeps inputs.merge s) → IsLawful inputs.merge → FinishMay inputs s (job_at s n job) refusal
-    → let c = if_some (job_at s n job) (no_such_party s) (λ found. finish_line inputs s found.0 found.1 refusal) in HadRoom (run_line number s c).1.store → StateKeeps inputs.merge (run_line number s c).1
+    → let c = if_some (job_at s n job) (no_such_party s) (λ found. finish_line inputs s (finish_asked s refusal found)) in HadRoom (run_line number s c).1.store → StateKeeps inputs.merge (run_line number s c).1
 finish_keeps inputs number n job refusal s k lawful may room = by (job_at s n job) refl may room
   where
     by : (o : Option (LiveWorker × Attempt)) → job_at s n job ≡ o → FinishMay inputs s o refusal
-        → let c = if_some o (no_such_party s) (λ found. finish_line inputs s found.0 found.1 refusal) in HadRoom (run_line number s c).1.store → StateKeeps inputs.merge (run_line number s c).1
+        → let c = if_some o (no_such_party s) (λ found. finish_line inputs s (finish_asked s refusal found)) in HadRoom (run_line number s c).1.store → StateKeeps inputs.merge (run_line number s c).1
     by None e may room = no_party_keeps inputs.merge number s k
     by (Some p) e may room =
         let w = p.0 in
         let a = p.1 in
         let is = is_attempt inputs.merge s k n job p e in
         let who : Caller = caller_of inputs.merge number (Worker w.number) in
-        let step = finish inputs.merge s.store.tables (worker_options s.options) s.moment w a refusal in
+        let ask = finish_asked s refusal p in
+        let step = finish inputs.merge s.store.tables ask in
         work_keeps inputs.merge number s k w step (λ r. reply (codes "ok" ∷ ranges_text r.outputs ∷ [])) (λ r. r.attempts) (without_attempt w a) lawful is.holds (λ t h. fewer_attempts_fit inputs.merge t w _ h)
-        (finishes_are_lawful who (world_of inputs.merge s k) (worker_options s.options) s.moment w a refusal (calls_keep inputs.merge lawful) lawful refl k.fleet.store is.holds is.runs (whole_unless inputs s w a refusal may))
-        (finishes_keep_fit who (world_of inputs.merge s k) (worker_options s.options) s.moment w a refusal (calls_keep inputs.merge lawful) lawful refl k.fleet.store is.holds is.runs (whole_unless inputs s w a refusal may)).0 room
+        (finishes_are_lawful who (world_of inputs.merge s k) ask (calls_keep inputs.merge lawful) lawful refl k.fleet.store is.holds is.runs (whole_unless inputs s w a refusal may))
+        (finishes_keep_fit who (world_of inputs.merge s k) ask (calls_keep inputs.merge lawful) lawful refl k.fleet.store is.holds is.runs (whole_unless inputs s w a refusal may)).0 room
 
 pub output_keeps : (inputs : Inputs) (number n job place rows : ℕ) (refusal : Option (List ℕ)) (s : State) (k : StateKeeps inputs.merge s) → IsLawful inputs.merge → 1 ≤ place
-    → let c = if_some (range_at s n job place) (no_such_party s) (λ found. output_line inputs s found.0 found.1 place found.2 rows refusal) in HadRoom (run_line number s c).1.store → StateKeeps inputs.merge (run_line number s c).1
+    → let c = if_some (range_at s n job place) (no_such_party s) (λ found. output_line inputs s (output_asked s place rows refusal found)) in HadRoom (run_line number s c).1.store → StateKeeps inputs.merge (run_line number s c).1
 output_keeps inputs number n job place rows refusal s k lawful counted room = at (job_at s n job) refl room
   where
     line : Option (LiveWorker × Attempt × (Range × List ℕ)) → LineCourse
-    line o = if_some o (no_such_party s) (λ found. output_line inputs s found.0 found.1 place found.2 rows refusal)
+    line o = if_some o (no_such_party s) (λ found. output_line inputs s (output_asked s place rows refusal found))
 
     in_range : LiveWorker × Attempt → Option (Range × List ℕ) → Option (LiveWorker × Attempt × (Range × List ℕ))
     in_range p o = if_some {B = Option (LiveWorker × Attempt × (Range × List ℕ))} o None (λ range. Some (p.0, p.1, range))
@@ -191,9 +193,10 @@ output_keeps inputs number n job place rows refusal s k lawful counted room = at
         let w = p.0 in
         let a = p.1 in
         let who : Caller = caller_of inputs.merge number (Worker w.number) in
-        work_keeps inputs.merge number s k w (output inputs.merge s.store.tables s.moment w a place range rows refusal) (λ r. output_reply r.table) (λ r. r.attempts) (without_attempt w a) lawful is.holds (λ t h. fewer_attempts_fit inputs.merge t w _ h)
-        (outputs_are_lawful who (world_of inputs.merge s k) s.moment w a place range rows refusal (calls_keep inputs.merge lawful) lawful refl k.fleet.store is.holds is.runs)
-        (outputs_keep_fit who (world_of inputs.merge s k) s.moment w a place range rows refusal (calls_keep inputs.merge lawful) lawful refl k.fleet.store is.holds is.runs (record { counted = omega (arith, counted); there = e })) room
+        let ask = output_asked s place rows refusal (p.0, p.1, range) in
+        work_keeps inputs.merge number s k w (output inputs.merge s.store.tables ask) (λ r. output_reply r.table) (λ r. r.attempts) (without_attempt w a) lawful is.holds (λ t h. fewer_attempts_fit inputs.merge t w _ h)
+        (outputs_are_lawful who (world_of inputs.merge s k) ask (calls_keep inputs.merge lawful) lawful refl k.fleet.store is.holds is.runs)
+        (outputs_keep_fit who (world_of inputs.merge s k) ask (calls_keep inputs.merge lawful) lawful refl k.fleet.store is.holds is.runs (record { counted = omega (arith, counted); there = e })) room
 
     at : (o : Option (LiveWorker × Attempt)) → job_at s n job ≡ o
         → let r = if_some {B = Option (LiveWorker × Attempt × (Range × List ℕ))} o None (λ found. in_range found (slice_get found.1.context.ranges (place - 1))) in HadRoom (run_line number s (line r)).1.store → StateKeeps inputs.merge (run_line number s (line r)).1

@@ -4,7 +4,7 @@ use Rattle.fleet_model.specs.Jobs.{changed_jobs, trimmed_jobs}
 use Rattle.fleet_model.specs.Store.{stored_jobs}
 use Rattle.fleet_model.specs.Records.{finished_by}
 use Rattle.fleet_model.specs.Parties.{Attempt, LiveWorker, worker_with, without_attempts, is_live}
-use Rattle.step_model.specs.OutputSteps.{all_outputs, unrecorded_of_finish}
+use Rattle.step_model.specs.FinishSteps.{all_outputs, unrecorded_of_finish}
 use Rattle.script_model.specs.Script.{FinishJob}
 use Rattle.script_model.specs.States.{Inputs, State}
 use Rattle.script_model.specs.LineCourses.{job_at}

@@ -14,7 +14,8 @@ use Rattle.step_model.specs.CourseRuns.{End, EndsAs, HasRoom, StopsAt, Runs, IsL
 use Rattle.step_model.specs.StepEnds.{StepEnd}
 use Rattle.step_model.specs.ClaimSteps.{Claimed}
 use Rattle.step_model.specs.BeatSteps.{Beaten}
-use Rattle.step_model.specs.OutputSteps.{Written, FinishedJob}
+use Rattle.step_model.specs.OutputSteps.{Written}
+use Rattle.step_model.specs.FinishSteps.{FinishedJob}
 use Rattle.step_laws.specs.Runs.{CallsKeep}
 use Rattle.rival_laws.specs.Free.{IsFree}
 

@@ -1,22 +1,20 @@
 -- Tests of a store against its history: the replay gives what is stored, and what lawful calls need of
 -- the history holds. These are the parts of the two that can be computed.
-use Rattle.std.specs.Prelude.{ℕ, ◌+◌, Bool, true, false, not, nat_lt, nat_le, ◌&&◌, ◌||◌, ◌==◌, List, [], ◌∷◌, map, flat_map, find, length, Option, Some, None, bytes_eq, is_none}
-use Rattle.std.specs.List.{list_any, list_all, concat}
+use Rattle.std.specs.Prelude.{ℕ, ◌+◌, Bool, true, false, not, nat_lt, nat_le, ◌&&◌, ◌||◌, ◌==◌, List, [], ◌∷◌, flat_map, find, length, Option, Some, None, bytes_eq, is_none}
+use Rattle.std.specs.List.{list_all}
 use Rattle.std.specs.Cmp.Lexicographic.{pointwise}
-use Rattle.fleet_model.specs.Nodes.{is_among, NodeName, L0, Run, Node, Trees, Segment, names, names_contain}
-use Rattle.fleet_model.specs.Jobs.{JobSpec, ids_eq, Job, Jobs, Submitted, Scheduled, Compacted, has_status, status_eq, is_active, is_finished, ids, trimmed_jobs, number_of, contains, drawn_base}
-use Rattle.fleet_model.specs.History.{Entry, stood}
-use Rattle.fleet_model.specs.Store.{Manifest, Records, Store, fresh_store, stored_jobs, jobs_in, records_epoch}
+use Rattle.fleet_model.specs.Nodes.{is_among, NodeName, L0, Run, Node, Segment, names, names_contain}
+use Rattle.fleet_model.specs.Jobs.{JobSpec, ids_eq, Job, Submitted, Scheduled, Compacted, has_status, status_eq, is_active, is_finished, ids, trimmed_jobs, number_of, contains, drawn_base}
+use Rattle.fleet_model.specs.History.{Entry}
+use Rattle.fleet_model.specs.Store.{Store, fresh_store, stored_jobs, jobs_in, records_epoch}
 use Rattle.fleet_model.specs.Handles.{tree_tables, job_tables}
-use Rattle.fleet_model.specs.Parties.{is_leased_to}
-use Rattle.fleet_model.specs.Records.{firsts}
-use Rattle.fleet_model.specs.Replay.{Objects, named_specs, replayed_objects, plain_objects}
+use Rattle.fleet_model.specs.Replay.{named_specs, replayed_objects, plain_objects}
 use Rattle.fleet_model.specs.AttemptsFit.{was_beaten}
 use Rattle.fleet_model.specs.JobsFit.{was_joined}
 use Rattle.fleet_model.specs.Exchanges.{records_version}
 use Rattle.step_model.specs.PollSteps.{same_tree}
 use Rattle.step_model.specs.Faithful.{spec_or}
-use Rattle.step_model.specs.Entries.{drawn_jobs, drawn_tables, mentioned_in, was_named, claimed_attempts, put_tables, put_epochs, was_flushed, is_in}
+use Rattle.step_model.specs.Entries.{drawn_jobs, drawn_tables, mentioned_in, was_named, claimed_attempts, put_tables, put_epochs, was_flushed}
 use Rattle.script_model.specs.TreeTests.{all_pairs}
 
 -- The spec of each job that an entry names. A job that none names has no sources.

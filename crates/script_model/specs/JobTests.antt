@@ -1,6 +1,6 @@
 -- Tests of the jobs of a store and of its live workers: the parts of the fleet's invariant that can be
 -- computed.
-use Rattle.std.specs.Prelude.{ℕ, Bool, true, false, not, nat_le, int_le, ℤ, ◌&&◌, ◌||◌, ◌==◌, List, [], ◌∷◌, map, Option, Some, None, bytes_eq, is_some}
+use Rattle.std.specs.Prelude.{ℕ, Bool, true, false, not, nat_le, int_le, ◌&&◌, ◌||◌, ◌==◌, List, [], ◌∷◌, map, Option, Some, None, bytes_eq, is_some}
 use Rattle.std.specs.List.{list_any, list_all, concat}
 use Rattle.std.specs.Cmp.Lexicographic.{pointwise}
 use Rattle.row_model.specs.Rows.{Row, Content, Value, Merge, Tombstone}
@@ -9,8 +9,8 @@ use Rattle.row_model.specs.FoldedRows.{same_stamp}
 use Rattle.row_model.specs.Ranges.{Bound, Unbounded, Included, Excluded, Range}
 use Rattle.row_model.specs.Settings.{Settings}
 use Rattle.row_model.specs.JobRows.{JobRows, job_rows}
-use Rattle.fleet_model.specs.Nodes.{Tables, NodeName, Tree, names, Trees, tree_at}
-use Rattle.fleet_model.specs.Jobs.{JobSpec, ids_eq, nodes_of, Context, Job, Jobs, Scheduled, Running, Compacted, has_status, job_with, knows_cut}
+use Rattle.fleet_model.specs.Nodes.{NodeName, Tree, names, Trees, tree_at}
+use Rattle.fleet_model.specs.Jobs.{JobSpec, ids_eq, nodes_of, Context, Job, Scheduled, Running, Compacted, has_status, job_with, knows_cut}
 use Rattle.fleet_model.specs.Trees.{source_pieces}
 use Rattle.fleet_model.specs.Sources.{run_ids, all_run_ids, older_nodes, is_whole_stretch, is_apart, is_lowest_or_above}
 use Rattle.fleet_model.specs.Gates.{reserves_nodes, is_nonempty}
@@ -21,7 +21,6 @@ use Rattle.fleet_model.specs.JobsFit.{was_joined, cut_or}
 use Rattle.fleet_model.specs.AttemptsFit.{was_beaten}
 use Rattle.fleet_model.specs.Claimed.{settings_of, ranges_of}
 use Rattle.fleet_model.specs.Sweeps.{attempt_tables}
-use Rattle.script_model.specs.TreeTests.{all_pairs}
 
 -- ---- equal values
 

@@ -13,7 +13,7 @@ use Rattle.script_model.specs.Looks.{read_line, show_tables, dump, show_jobs}
 use Rattle.script_model.specs.Scans.{scan}
 use Rattle.script_model.specs.Submits.{submit_line, full_line}
 use Rattle.script_model.specs.PollLines.{poll_line, commit_line}
-use Rattle.script_model.specs.WorkLines.{claim_line, heartbeat_line, output_line, finish_line, stop_worker}
+use Rattle.script_model.specs.WorkLines.{claim_line, heartbeat_line, output_asked, output_line, finish_asked, finish_line, stop_worker}
 use Rattle.script_model.specs.Sweeps.{sweep_line}
 
 -- The number, or `otherwise` if there is none.
@@ -65,8 +65,10 @@ course_of inputs (Poll n) refusal s = poll_line inputs n s
 course_of inputs (CommitOnly n) refusal s = commit_line inputs n s
 course_of inputs (ClaimJobs n) refusal s = claim_line n s
 course_of inputs (Heartbeat n) refusal s = heartbeat_line n s
-course_of inputs (Output n job place rows) refusal s = if_some (range_at s n job place) (no_such_party s) (λ found. output_line inputs s found.0 found.1 place found.2 rows refusal)
-course_of inputs (FinishJob n job) refusal s = if_some (job_at s n job) (no_such_party s) (λ found. finish_line inputs s found.0 found.1 refusal)
+course_of inputs (Output n job place rows) refusal s =
+    if_some (range_at s n job place) (no_such_party s) (λ found. output_line inputs s (output_asked s place rows refusal found))
+course_of inputs (FinishJob n job) refusal s =
+    if_some (job_at s n job) (no_such_party s) (λ found. finish_line inputs s (finish_asked s refusal found))
 course_of inputs (SetFault k stands) refusal s = only_replies s ok
 course_of inputs ShowTrees refusal s = only_replies s (trees_reply s.store.manifest.trees)
 course_of inputs ShowJobs refusal s = show_jobs s

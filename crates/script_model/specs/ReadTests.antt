@@ -1,10 +1,10 @@
 -- A test of the reads of a store: what its tables answer is what was flushed into them.
-use Rattle.std.specs.Prelude.{ℕ, Bool, true, false, nat_le, int_le, ℤ, ◌&&◌, List, [], ◌∷◌, ◌++◌, map, filter, filter_map, flat_map, Option, Some, None, bytes_eq}
+use Rattle.std.specs.Prelude.{ℕ, Bool, true, false, nat_le, int_le, ℤ, List, ◌∷◌, map, filter, filter_map, flat_map, Option, Some, None, bytes_eq}
 use Rattle.std.specs.List.{list_all}
 use Rattle.row_model.specs.Rows.{Row}
 use Rattle.row_model.specs.Fold.{Operator, Outcome, Merged, Refused}
 use Rattle.row_model.specs.Read.{read}
-use Rattle.fleet_model.specs.Nodes.{Tables, flushed_node_rows, flushed_rows, stored_rows, Segment}
+use Rattle.fleet_model.specs.Nodes.{flushed_node_rows, flushed_rows, stored_rows, Segment}
 use Rattle.fleet_model.specs.Store.{Manifest, Store}
 
 abbrev same_answer : Option Outcome → Option Outcome → Bool

@@ -1,10 +1,10 @@
 -- Tests of the trees and tables of a store: the parts of its invariant that can be computed.
-use Rattle.std.specs.Prelude.{ℕ, Bool, true, false, not, nat_lt, nat_le, ◌&&◌, ◌||◌, ◌==◌, List, [], ◌∷◌, map, flat_map, Option, Some, None, bytes_eq}
+use Rattle.std.specs.Prelude.{ℕ, Bool, true, false, not, nat_lt, nat_le, ◌&&◌, ◌||◌, ◌==◌, List, [], ◌∷◌, Option, Some, None, bytes_eq}
 use Rattle.std.specs.Ordering.{is_lt}
-use Rattle.std.specs.List.{list_any, list_all}
-use Rattle.row_model.specs.Rows.{Row, are_ordered, key_cmp}
+use Rattle.std.specs.List.{list_all}
+use Rattle.row_model.specs.Rows.{are_ordered, key_cmp}
 use Rattle.fleet_model.specs.Nodes.{Tables, is_among, NodeName, L0, Run, Node, names, node_rows, Segment, Trees}
-use Rattle.fleet_model.specs.Jobs.{Job, Jobs, is_active}
+use Rattle.fleet_model.specs.Jobs.{is_active}
 use Rattle.fleet_model.specs.Sources.{is_apart}
 use Rattle.fleet_model.specs.Gates.{is_nonempty}
 use Rattle.fleet_model.specs.Handles.{job_tables}

@@ -8,7 +8,8 @@ use Rattle.step_model.specs.Course.{Course}
 use Rattle.step_model.specs.StepEnds.{StepEnd}
 use Rattle.step_model.specs.ClaimSteps.{WorkerOptions, claim}
 use Rattle.step_model.specs.BeatSteps.{heartbeat, release_all}
-use Rattle.step_model.specs.OutputSteps.{output, finish}
+use Rattle.step_model.specs.OutputSteps.{OutputAsk, output}
+use Rattle.step_model.specs.FinishSteps.{FinishAsk, finish}
 use Rattle.script_model.specs.Replies.{reply, jobs_text, claim_reply, beat_reply, output_reply, ranges_text}
 use Rattle.script_model.specs.LineRuns.{LineCourse, no_such_party, if_some, step_line, noted_line, line_end}
 use Rattle.script_model.specs.States.{Inputs, State, FleetOptions}
@@ -49,14 +50,38 @@ stop_worker n s = at_worker n s (λ w.
 abbrev pub without_attempt : LiveWorker → Attempt → List Attempt
 without_attempt w a = without_attempts (a.job ∷ []) w.attempts
 
--- The worker writes the next rows of a range of its attempt. If a message is given, the operator
--- refuses with it.
-abbrev pub output_line : Inputs → State → LiveWorker → Attempt → ℕ → Range × List ℕ → ℕ → Option (List ℕ) → LineCourse
-output_line inputs s w a place range rows refusal =
-    worker_line w s (output inputs.merge s.store.tables s.moment w a place range rows refusal) (λ r. output_reply r.table) (λ r. r.attempts) (without_attempt w a)
+-- What the output of a line is asked with, given the worker, its attempt and the attempt's range that
+-- the line found.
+abbrev pub output_asked : State → (place rows : ℕ) → (refusal : Option (List ℕ))
+    → LiveWorker × Attempt × (Range × List ℕ) → OutputAsk
+output_asked s place rows refusal found = record {
+  moment = s.moment;
+  worker = found.0;
+  attempt = found.1;
+  place = place;
+  range = found.2;
+  rows = rows;
+  refusal = refusal;
+}
 
--- The worker writes all rows that are left of each range and ends the job. If a message is given,
--- the operator refuses with it.
-abbrev pub finish_line : Inputs → State → LiveWorker → Attempt → Option (List ℕ) → LineCourse
-finish_line inputs s w a refusal =
-    worker_line w s (finish inputs.merge s.store.tables (worker_options s.options) s.moment w a refusal) (λ r. reply (codes "ok" ∷ ranges_text r.outputs ∷ [])) (λ r. r.attempts) (without_attempt w a)
+-- The worker writes the next rows of a range of its attempt. If the operator refuses, the worker
+-- gives the attempt back.
+abbrev pub output_line : Inputs → State → OutputAsk → LineCourse
+output_line inputs s ask = worker_line ask.worker s (output inputs.merge s.store.tables ask)
+    (λ r. output_reply r.table) (λ r. r.attempts) (without_attempt ask.worker ask.attempt)
+
+-- What the finish of a line is asked with, given the worker and its attempt that the line found.
+abbrev pub finish_asked : State → (refusal : Option (List ℕ)) → LiveWorker × Attempt → FinishAsk
+finish_asked s refusal found = record {
+  moment = s.moment;
+  worker = found.0;
+  attempt = found.1;
+  table_size = s.options.table_size;
+  refusal = refusal;
+}
+
+-- The worker writes all rows that are left of each range and ends the job. If the operator refuses,
+-- the worker gives the attempt back.
+abbrev pub finish_line : Inputs → State → FinishAsk → LineCourse
+finish_line inputs s ask = worker_line ask.worker s (finish inputs.merge s.store.tables ask)
+    (λ r. reply (codes "ok" ∷ ranges_text r.outputs ∷ [])) (λ r. r.attempts) (without_attempt ask.worker ask.attempt)

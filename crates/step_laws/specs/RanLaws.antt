@@ -11,7 +11,8 @@ use Rattle.step_model.specs.Ran.{Ran}
 use Rattle.step_model.specs.StepEnds.{StepEnd}
 use Rattle.step_model.specs.ClaimSteps.{Claimed}
 use Rattle.step_model.specs.BeatSteps.{Beaten}
-use Rattle.step_model.specs.OutputSteps.{Written, FinishedJob}
+use Rattle.step_model.specs.OutputSteps.{Written}
+use Rattle.step_model.specs.FinishSteps.{FinishedJob}
 
 -- The end of a run says the end of the course that ran alone. If memory runs out, it says nothing.
 abbrev pub IsAloneEnd : {A : Type 0} → End A → World → Option Fault → AloneEnd A → Type 0

@@ -11,7 +11,8 @@ use Rattle.step_model.specs.CourseRuns.{End, Runs, IsLawfulCourse}
 use Rattle.step_model.specs.StepEnds.{StepEnd}
 use Rattle.step_model.specs.ClaimSteps.{Claimed}
 use Rattle.step_model.specs.BeatSteps.{Beaten}
-use Rattle.step_model.specs.OutputSteps.{Written, FinishedJob}
+use Rattle.step_model.specs.OutputSteps.{Written}
+use Rattle.step_model.specs.FinishSteps.{FinishedJob}
 use Rattle.step_laws.specs.CallLaws.{CallKeeps}
 
 -- Every lawful call keeps the invariant.

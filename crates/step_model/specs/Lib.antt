@@ -24,6 +24,7 @@ pub mod Tries
 pub mod ClaimSteps
 pub mod BeatSteps
 pub mod OutputSteps
+pub mod FinishSteps
 pub mod MessageSteps
 pub mod SubmitSteps
 pub mod PollSteps

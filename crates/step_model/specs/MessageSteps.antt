@@ -6,7 +6,7 @@ use Rattle.step_model.specs.Course.{Course, Ends}
 use Rattle.step_model.specs.Tries.{tries}
 use Rattle.step_model.specs.StepEnds.{StepEnd, Reports, NotOwner, most_refused}
 use Rattle.step_model.specs.BeatSteps.{release_try}
-use Rattle.step_model.specs.OutputSteps.{FinishedJob, end_job}
+use Rattle.step_model.specs.FinishSteps.{FinishedJob, end_job}
 
 -- The attempt, if there is one and it has this number.
 abbrev pub if_numbered : ℕ → Option Attempt → Option Attempt

@@ -4,7 +4,6 @@ use Rattle.std.specs.Prelude.{IsTrue, ◌==◌, not}
 use Rattle.std.specs.List.{AllByRecursion, concat}
 use Rattle.std.proofs.lemmas.Bool.Decides.{Decides-eqb}
 use Rattle.row_model.specs.Rows.{Row}
-use Rattle.row_model.specs.Tables.{cut_tables}
 use Rattle.row_model.specs.Fold.{Operator, IsLawful}
 use Rattle.step_model.specs.Keeps.{Keeps}
 use Rattle.step_laws.specs.Runs.{CallsKeep}
@@ -14,7 +13,7 @@ use Rattle.fleet_model.specs.Jobs.{Job, Jobs, contains, changed_jobs, trimmed_jo
 use Rattle.fleet_model.specs.History.{Worker, GetRecords, Finish}
 use Rattle.fleet_model.specs.Store.{Store, Records, jobs_in, stored_jobs}
 use Rattle.fleet_model.specs.Records.{Unrecorded, no_contexts, finished_by, jobs_after}
-use Rattle.fleet_model.specs.Attempts.{rows_left, finish_cut}
+use Rattle.fleet_model.specs.Attempts.{finish_cut}
 use Rattle.fleet_model.specs.Parties.{Attempt, LiveWorker, is_live, runs_attempt, live_attempts, without_attempts}
 use Rattle.fleet_model.specs.Exchanges.{Exchange, Plain, PutsRecords, records_version}
 use Rattle.step_model.specs.Past.{World}
@@ -25,8 +24,8 @@ use Rattle.step_model.specs.Course.{Course, Ends}
 use Rattle.step_model.specs.Tries.{tries}
 use Rattle.step_model.specs.CourseRuns.{End, Gives, Runs, IsLawfulCourse}
 use Rattle.step_model.specs.StepEnds.{StepEnd, Reports, GivesUp, NotOwner, most_refused}
-use Rattle.step_model.specs.ClaimSteps.{WorkerOptions}
-use Rattle.step_model.specs.OutputSteps.{FinishedJob, all_outputs, ends_job, ends_job_by, end_try, end_job, finish_or_give_back, finish}
+use Rattle.step_model.specs.OutputSteps.{unless_refused}
+use Rattle.step_model.specs.FinishSteps.{FinishAsk, FinishedJob, all_outputs, ends_job, ends_job_by, end_try, end_job, tables_left, puts_and_ends, finish}
 use Rattle.step_laws.proofs.Elements.{IsIn, all_at, all_from, all_to, in_contains}
 use Rattle.step_laws.proofs.Changed.{on_these, by_these, job_found}
 use Rattle.step_laws.proofs.Deletions.{in_filter}
@@ -176,37 +175,46 @@ end_fits who w moment a made r there lacks new end old fit lawful run = ends who
 
 -- ---- the finish
 
-made_fits : (who : Caller) (w : LiveWorker) (start : World) (options : WorkerOptions) (moment : ℕ) (a : Attempt) (refusal : Option (List ℕ)) → Relies who w → IsIn a w.attempts → (new : World) (end : End (StepEnd FinishedJob)) (world : World) → State who w start a [] world
-    → IsLawfulCourse who world (finish_or_give_back who.merge options moment w a refusal start.store.tables) → Runs who (finish_or_give_back who.merge options moment w a refusal start.store.tables) world new end
-    → Left who w (λ (report : FinishedJob). report.attempts) (FinishDid who moment w a) new end
-made_fits who w start options moment a (Some message) r there new end world s lawful run =
-    gives_back_left who w (λ (report : FinishedJob). report.attempts) (FinishDid who moment w a) a message world new end r (record { kept = s.kept; holds = s.holds }) lawful run
-made_fits who w start options moment a None r there new end world s lawful run =
-    puts_all {A = FinishedJob} (Left who w (λ (report : FinishedJob). report.attempts) (FinishDid who moment w a) new end) who w start a moment new end r (stops who moment w a new end)
-    (map (λ range. cut_tables options.table_size (rows_left who.merge start.store.tables a.context.settings a.sources range).rows) a.context.ranges) [] (λ ids. end_job moment w a (all_outputs a.context.ranges ids))
+-- What is so after the finish: the worker fits, and a report says what the finish did.
+abbrev FinishLeaves : Caller → FinishAsk → World → End (StepEnd FinishedJob) → Type 0
+FinishLeaves who ask new end = Left who ask.worker (λ (report : FinishedJob). report.attempts) (FinishDid who ask.moment ask.worker ask.attempt) new end
+
+made_fits : (who : Caller) (start : World) (ask : FinishAsk) (refusal : Option (List ℕ)) → Relies who ask.worker → IsIn ask.attempt ask.worker.attempts → (new : World) (end : End (StepEnd FinishedJob)) (world : World) → State who ask.worker start ask.attempt [] world
+    → let course = unless_refused ask.worker ask.attempt refusal (puts_and_ends ask (tables_left who.merge start.store.tables ask)) in
+    IsLawfulCourse who world course → Runs who course world new end → FinishLeaves who ask new end
+made_fits who start ask (Some message) r there new end world s lawful run =
+    gives_back_left who ask.worker (λ (report : FinishedJob). report.attempts) (FinishDid who ask.moment ask.worker ask.attempt) ask.attempt message world new end r (record { kept = s.kept; holds = s.holds }) lawful run
+made_fits who start ask None r there new end world s lawful run =
+    let w = ask.worker in
+    let a = ask.attempt in
+    let moment = ask.moment in
+    puts_all {A = FinishedJob} (FinishLeaves who ask new end) who w start a moment new end r (stops who moment w a new end)
+    (tables_left who.merge start.store.tables ask) [] (λ ids. end_job moment w a (all_outputs a.context.ranges ids))
     (λ later made state lacks further on. end_fits who w moment a made r there lacks new end later (record { kept = state.kept; holds = state.holds }) further on) world s lawful run
 
-finish_fits : (who : Caller) (w : LiveWorker) (start : World) (options : WorkerOptions) (moment : ℕ) (a : Attempt) (refusal : Option (List ℕ)) → Relies who w → IsIn a w.attempts → (new : World) (end : End (StepEnd FinishedJob)) → State who w start a [] start
-    → IsLawfulCourse who start (finish who.merge start.store.tables options moment w a refusal) → Runs who (finish who.merge start.store.tables options moment w a refusal) start new end → Left who w (λ (report : FinishedJob). report.attempts) (FinishDid who moment w a) new end
+finish_fits : (who : Caller) (start : World) (ask : FinishAsk) → Relies who ask.worker → IsIn ask.attempt ask.worker.attempts → (new : World) (end : End (StepEnd FinishedJob)) → State who ask.worker start ask.attempt [] start
+    → IsLawfulCourse who start (finish who.merge start.store.tables ask) → Runs who (finish who.merge start.store.tables ask) start new end → FinishLeaves who ask new end
 unfolding finish
-finish_fits who w start options moment a refusal r there new end s lawful run =
-    gets {A = FinishedJob} (Left who w (λ (report : FinishedJob). report.attempts) (FinishDid who moment w a) new end) who w start a (finish_or_give_back who.merge options moment w a refusal start.store.tables) new end r (stops who moment w a new end)
-    (λ world state further on. made_fits who w start options moment a refusal r there new end world state further on) a.sources start s lawful run
+finish_fits who start ask r there new end s lawful run =
+    let w = ask.worker in
+    let a = ask.attempt in
+    gets {A = FinishedJob} (FinishLeaves who ask new end) who w start a (unless_refused w a ask.refusal (puts_and_ends ask (tables_left who.merge start.store.tables ask))) new end r (stops who ask.moment w a new end)
+    (λ world state further on. made_fits who start ask ask.refusal r there new end world state further on) a.sources start s lawful run
 
 -- What is so after the finish of a worker that fits.
-afterwards : (who : Caller) (old : World) (options : WorkerOptions) (moment : ℕ) (w : LiveWorker) (a : Attempt) (refusal : Option (List ℕ)) → CallsKeep who.merge → IsLawful who.merge → who.party ≡ Worker w.number → Keeps who.merge old → WorkerHolds who.merge old w → DoesRun w a
-    → WholeUnless who.merge old.store.tables a refusal → (new : World) (end : End (StepEnd FinishedJob)) → Runs who (finish who.merge old.store.tables options moment w a refusal) old new end → Left who w (λ (report : FinishedJob). report.attempts) (FinishDid who moment w a) new end
-afterwards who old options moment w a refusal keep operator own kept holds runs whole new end run =
-    let there = found_in w.attempts a.job a runs in
-    finish_fits who w old options moment a refusal (record { keep = keep; own = own }) there new end (begins who w old a kept holds there)
-    (finishes_are_lawful who old options moment w a refusal keep operator own kept holds runs whole) run
+afterwards : (who : Caller) (old : World) (ask : FinishAsk) → CallsKeep who.merge → IsLawful who.merge → who.party ≡ Worker ask.worker.number → Keeps who.merge old → WorkerHolds who.merge old ask.worker → DoesRun ask.worker ask.attempt
+    → WholeUnless who.merge old.store.tables ask.attempt ask.refusal → (new : World) (end : End (StepEnd FinishedJob)) → Runs who (finish who.merge old.store.tables ask) old new end → FinishLeaves who ask new end
+afterwards who old ask keep operator own kept holds runs whole new end run =
+    let there = found_in ask.worker.attempts ask.attempt.job ask.attempt runs in
+    finish_fits who old ask (record { keep = keep; own = own }) there new end (begins who ask.worker old ask.attempt kept holds there)
+    (finishes_are_lawful who old ask keep operator own kept holds runs whole) run
 
 pub finishes_keep_fit : FinishesKeepFit
-finishes_keep_fit who old options moment w a refusal keep operator own kept holds runs whole = (
-  λ new end run. (afterwards who old options moment w a refusal keep operator own kept holds runs whole new end run).0,
-  λ new report run. (afterwards who old options moment w a refusal keep operator own kept holds runs whole new (Gives (Reports report)) run).1.over,
+finishes_keep_fit who old ask keep operator own kept holds runs whole = (
+  λ new end run. (afterwards who old ask keep operator own kept holds runs whole new end run).0,
+  λ new report run. (afterwards who old ask keep operator own kept holds runs whole new (Gives (Reports report)) run).1.over,
 )
 
 pub finishes_report : FinishesReport
-finishes_report who old new options moment w a refusal report keep operator own kept holds runs whole run =
-    (afterwards who old options moment w a refusal keep operator own kept holds runs whole new (Gives (Reports report)) run).1
+finishes_report who old new ask report keep operator own kept holds runs whole run =
+    (afterwards who old ask keep operator own kept holds runs whole new (Gives (Reports report)) run).1

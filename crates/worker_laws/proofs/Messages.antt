@@ -10,7 +10,7 @@ use Rattle.step_model.specs.Fits.{WorkerHolds, noted_tables}
 use Rattle.step_model.specs.Course.{Ends}
 use Rattle.step_model.specs.CourseRuns.{End, Gives, Runs, IsLawfulCourse}
 use Rattle.step_model.specs.StepEnds.{StepEnd, Reports, GivesUp, NotOwner, most_refused}
-use Rattle.step_model.specs.OutputSteps.{FinishedJob, end_job}
+use Rattle.step_model.specs.FinishSteps.{FinishedJob, end_job}
 use Rattle.step_model.specs.MessageSteps.{attempt_run, ends_run, take_finished, release_job, gives_run, take_failed, notes_run, take_progress}
 use Rattle.step_laws.proofs.Elements.{IsIn, all_at, in_contains}
 use Rattle.course_laws.specs.Messages.{ResultFits}

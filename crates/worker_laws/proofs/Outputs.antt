@@ -23,7 +23,7 @@ use Rattle.step_model.specs.Past.{World}
 use Rattle.step_model.specs.LawfulTables.{MayUse}
 use Rattle.step_model.specs.TablesKept.{AreApart}
 use Rattle.step_model.specs.Fits.{WorkerHolds, noted_tables}
-use Rattle.step_model.specs.OutputSteps.{noted_at, meets, Written, with_noted, writes, gives_back, writes_or_gives_back, output}
+use Rattle.step_model.specs.OutputSteps.{OutputAsk, Written, meets, gives_back, unless_refused, noted_at, noting, with_noted, rows_written, writes, output}
 use Rattle.step_model.specs.Keeps.{Keeps}
 use Rattle.step_model.specs.Course.{Ends}
 use Rattle.step_model.specs.CourseRuns.{End, Runs, IsLawfulCourse}
@@ -124,12 +124,8 @@ slice_in (y ∷ xs) (suc n) x e = inr (slice_in xs n x e)
 
 -- ---- the attempt with the table noted
 
--- The attempt with one more table noted.
-abbrev pub with_table : ℕ → ℕ → Attempt → Attempt
-with_table place table a = record a { context = record a.context { ranges = noted_at place table a.context.ranges } }
-
 -- The rows that an output puts.
-abbrev pub next_rows : Caller → World → Attempt → Range × List ℕ → ℕ → List Row
+abbrev next_rows : Caller → World → Attempt → Range × List ℕ → ℕ → List Row
 next_rows who start a range n = take n (rows_left who.merge start.store.tables a.context.settings a.sources range).rows
 
 -- What an output has as its table was put.
@@ -142,7 +138,7 @@ pub record IsPut (who : Caller) (w : LiveWorker) (start now : World) (a : Attemp
 
 -- The tables of the attempt fit still.
 fits_still : (who : Caller) (w : LiveWorker) (start now : World) (a : Attempt) (place : ℕ) (range : Range × List ℕ) (n table : ℕ) → IsPut who w start now a place range n table → TablesFit who.merge now.store.tables a.sources a.context
-    → TablesFit who.merge now.store.tables a.sources (with_table place table a).context
+    → TablesFit who.merge now.store.tables a.sources (noting place table a).context
 fits_still who w start now a place range n table p fits =
     noted_all (λ r. IsPrefixOf (noted_rows now.store.tables r.1) (range_rows who.merge now.store.tables a.context.settings a.sources r.0).rows) place table a.context.ranges range p.at.counted p.at.there
     (subst (λ xs. IsPrefixOf xs all) (sym rows) (take_prefix n noted all (all_at _ a.context.ranges range fits there))) fits
@@ -170,18 +166,18 @@ fits_still who w start now a place range n table p fits =
     rows = flat_push (table_rows now.store.tables) range.1 table
         ∙ ap (λ xs. noted ++ xs) (p.state.made.0.1.same ∙ (λ i. take n (drop (length (noted_same i)) (job_rows who.merge a.context.settings (rows_in range.0 (sources_same i))).rows)))
 
-claimed_still : (now : World) (specs : ℕ → JobSpec) (job number place table : ℕ) (a : Attempt) → IsClaimed now.store specs job number a.context → IsClaimed now.store specs job number (with_table place table a).context
+claimed_still : (now : World) (specs : ℕ → JobSpec) (job number place table : ℕ) (a : Attempt) → IsClaimed now.store specs job number a.context → IsClaimed now.store specs job number (noting place table a).context
 claimed_still now specs job number place table a c = record { settings = c.settings; ranges = c.ranges ∙ ap Some (sym (noted_ranges place table a.context.ranges)) }
 
 pub added : (who : Caller) (w : LiveWorker) (start now : World) (a : Attempt) (place : ℕ) (range : Range × List ℕ) (n table : ℕ) → IsPut who w start now a place range n table
-    → Added who.merge now (record w { attempts = without_attempts (a.job ∷ []) w.attempts }) (with_table place table a)
+    → Added who.merge now (record w { attempts = without_attempts (a.job ∷ []) w.attempts }) (noting place table a)
 added who w start now a place range n table p = record {
   cut = all_at _ w.attempts a (h.fits p.state.kept.stored.replay.specs p.state.kept.faithful).cuts p.runs;
   stands = λ specs faithful.
       let one = all_at _ w.attempts a (h.fits specs faithful).each p.runs in
       record {
         claimed = claimed_still now specs a.job a.number place table a one.claimed;
-        held = all_true_from (is_held now.store) (attempt_tables (with_table place table a)) (all_append _ a.sources _ (all_front _ a.sources _ (held one.held)) (noted_tables_all _ place table a.context.ranges p.state.made.0.1.held (all_back _ a.sources _ (held one.held))));
+        held = all_true_from (is_held now.store) (attempt_tables (noting place table a)) (all_append _ a.sources _ (all_front _ a.sources _ (held one.held)) (noted_tables_all _ place table a.context.ranges p.state.made.0.1.held (all_back _ a.sources _ (held one.held))));
         tables = fits_still who w start now a place range n table p one.tables;
       };
   live = λ specs faithful lives. if_some_to _ _ (job_with a.job (stored_jobs now.store)) (λ job one. live specs job one)
@@ -202,7 +198,7 @@ added who w start now a place range n table p = record {
     free : IsFree (Worker w.number) now table
     free = subst (λ party. IsFree party now table) p.own p.state.made.0.0
 
-    live : (specs : ℕ → JobSpec) (job : Job) → AttemptFits who.merge now.store specs job a → AttemptFits who.merge now.store specs job (with_table place table a)
+    live : (specs : ℕ → JobSpec) (job : Job) → AttemptFits who.merge now.store specs job a → AttemptFits who.merge now.store specs job (noting place table a)
     live specs job one = record {
       sources = one.sources;
       context = record {
@@ -210,18 +206,18 @@ added who w start now a place range n table p = record {
         settings = one.context.settings;
         cut = one.context.cut;
         ranges = (one.context.ranges.0, noted_ranges place table a.context.ranges ∙ one.context.ranges.1);
-        tables = subst (λ ids. TablesFit who.merge now.store.tables ids (with_table place table a).context) one.sources
+        tables = subst (λ ids. TablesFit who.merge now.store.tables ids (noting place table a).context) one.sources
             (fits_still who w start now a place range n table p (subst (λ ids. TablesFit who.merge now.store.tables ids a.context) (sym one.sources) one.context.tables));
       };
       published = if_some_to _ _ job.context (λ c ext. record { settings = ext.settings; ranges = noted_extends place table c.ranges a.context.ranges ext.ranges }) one.published;
     }
 
-    apart : is_live (stored_jobs now.store) w.number a ≡ true → (b : Attempt) → IsIn b (without_attempts (a.job ∷ []) w.attempts) × (is_live (stored_jobs now.store) w.number b ≡ true) → AreApart (noted_tables (with_table place table a)) (noted_tables b)
+    apart : is_live (stored_jobs now.store) w.number a ≡ true → (b : Attempt) → IsIn b (without_attempts (a.job ∷ []) w.attempts) × (is_live (stored_jobs now.store) w.number b ≡ true) → AreApart (noted_tables (noting place table a)) (noted_tables b)
     apart lives b found =
         let other = left_other a.job w.attempts b found.0 in
         let two = apart_two (live_attempts (stored_jobs now.store) w) a b h.apart (in_filter (is_live (stored_jobs now.store) w.number) w.attempts a p.runs lives)
         (in_filter (is_live (stored_jobs now.store) w.number) w.attempts b other.0 found.1) (λ same. other.1 (ap (λ (x : Attempt). x.job) (sym same))) in
-        apart_from (noted_tables (with_table place table a)) (noted_tables b) (λ t one. all_at (λ t. IsIn t (noted_tables b) → ⊥) (noted_tables (with_table place table a)) t
+        apart_from (noted_tables (noting place table a)) (noted_tables b) (λ t one. all_at (λ t. IsIn t (noted_tables b) → ⊥) (noted_tables (noting place table a)) t
         (noted_tables_all (λ t. IsIn t (noted_tables b) → ⊥) place table a.context.ranges (p.unnoted b other.0) (all_from _ (noted_tables a) (λ t there more. apart_at (noted_tables a) (noted_tables b) t two there more))) one)
 
 -- ---- the step
@@ -230,22 +226,29 @@ added who w start now a place range n table p = record {
 stops : (who : Caller) (w : LiveWorker) (new : World) (end : End (StepEnd Written)) → Stops (FitsAfterwards who.merge w (λ report. report.attempts) new end) who w new end
 stops who w new end x met fit stop = stopped who w (λ (report : Written). report.attempts) x met new end fit.holds stop
 
-written : (who : Caller) (w : LiveWorker) (start : World) (a : Attempt) (moment place : ℕ) (range : Range × List ℕ) (n : ℕ) (rows : List Row) (new : World) (end : End (StepEnd Written)) → Relies who w → IsIn a w.attempts → IsRangeAt a place range
-    → rows ≡ next_rows who start a range n → (world : World) → State who w start a [] world → IsLawfulCourse who world (writes moment w a place rows) → Runs who (writes moment w a place rows) world new end → FitsAfterwards who.merge w (λ report. report.attempts) new end
-written who w start a moment place range n [] new end r runs at is world s lawful run = reported who w (λ (report : Written). report.attempts) (record { table = None; attempts = w.attempts }) world new end s.holds s.holds run
-written who w start a moment place range n (row ∷ rows) new end r runs at is world s lawful run =
-    puts_one (FitsAfterwards who.merge w (λ (report : Written). report.attempts) new end) who w start a moment (row ∷ rows) [] (λ table. Ends (Reports (report table))) new end r (stops who w new end) noted world s lawful run
+written : (who : Caller) (start : World) (ask : OutputAsk) (rows : List Row) (new : World) (end : End (StepEnd Written)) → Relies who ask.worker → IsIn ask.attempt ask.worker.attempts → IsRangeAt ask.attempt ask.place ask.range
+    → rows ≡ rows_written who.merge start.store.tables ask → (world : World) → State who ask.worker start ask.attempt [] world → IsLawfulCourse who world (writes ask rows) → Runs who (writes ask rows) world new end
+    → FitsAfterwards who.merge ask.worker (λ report. report.attempts) new end
+written who start ask [] new end r runs at is world s lawful run = reported who ask.worker (λ (report : Written). report.attempts) (record { table = None; attempts = ask.worker.attempts }) world new end s.holds s.holds run
+written who start ask (row ∷ rows) new end r runs at is world s lawful run =
+    puts_one (FitsAfterwards who.merge w (λ (report : Written). report.attempts) new end) who w start a ask.moment (row ∷ rows) [] (λ table. Ends (Reports (report table))) new end r (stops who w new end) noted world s lawful run
   where
+    w : LiveWorker
+    w = ask.worker
+
+    a : Attempt
+    a = ask.attempt
+
     report : ℕ → Written
-    report table = record { table = Some (table, row ∷ rows); attempts = with_noted place table a w.attempts }
+    report table = record { table = Some (table, row ∷ rows); attempts = with_noted ask.place table a w.attempts }
 
     noted : (after : World) (table : ℕ) → State who w start a ((table, row ∷ rows) ∷ []) after → IsUnnoted w table → IsLawfulCourse who after (Ends (Reports (report table))) → Runs who (Ends (Reports (report table))) after new end
         → FitsAfterwards who.merge w (λ report. report.attempts) new end
     noted after table made unnoted lawful run =
         let fewer = holds_fewer who.merge after w (λ (b : Attempt). not (contains (a.job ∷ []) b.job)) made.holds in
-        let more = added who w start after a place range n table (record { own = r.own; runs = runs; at = at; state = subst (λ xs. State who w start a ((table, xs) ∷ []) after) is made; unnoted = unnoted }) in
+        let more = added who w start after a ask.place ask.range ask.rows table (record { own = r.own; runs = runs; at = at; state = subst (λ xs. State who w start a ((table, xs) ∷ []) after) is made; unnoted = unnoted }) in
         reported who w (λ (report : Written). report.attempts) (report table) after new end made.holds
-        (holds_added who.merge after (record w { attempts = without_attempts (a.job ∷ []) w.attempts }) (with_table place table a) more fewer) run
+        (holds_added who.merge after (record w { attempts = without_attempts (a.job ∷ []) w.attempts }) (noting ask.place table a) more fewer) run
 
 pub gives_back_left : {A : Type 0} (who : Caller) (w : LiveWorker) (attempts : A → List Attempt) (P : World → A → Type 0) (a : Attempt) (message : List ℕ) (old new : World) (end : End (StepEnd A)) → Relies who w → Fit who w old
     → IsLawfulCourse who old (gives_back {A = A} w a message) → Runs who (gives_back {A = A} w a message) old new end → Left who w attempts P new end
@@ -256,12 +259,12 @@ gives_back_left {A} who w attempts P a message old new end r fit lawful run =
       goes = λ world jobs fit over lawful run. left_ended who w attempts P (OperatorRefuses message) world new end (λ report e. absurd (cc e)) fit.holds run;
     }) most_refused 0 old fit lawful run
 
-made : (who : Caller) (w : LiveWorker) (start : World) (a : Attempt) (moment place : ℕ) (range : Range × List ℕ) (n : ℕ) (refusal : Option (List ℕ)) (new : World) (end : End (StepEnd Written)) → Relies who w → IsIn a w.attempts → IsRangeAt a place range
-    → (world : World) → State who w start a [] world → IsLawfulCourse who world (writes_or_gives_back who.merge moment w a place range n refusal start.store.tables)
-    → Runs who (writes_or_gives_back who.merge moment w a place range n refusal start.store.tables) world new end → FitsAfterwards who.merge w (λ report. report.attempts) new end
-made who w start a moment place range n None new end r runs at world s lawful run = written who w start a moment place range n (next_rows who start a range n) new end r runs at refl world s lawful run
-made who w start a moment place range n (Some message) new end r runs at world s lawful run =
-    (gives_back_left who w (λ (report : Written). report.attempts) (λ later report. ⊤) a message world new end r (record { kept = s.kept; holds = s.holds }) lawful run).0
+made : (who : Caller) (start : World) (ask : OutputAsk) (refusal : Option (List ℕ)) (new : World) (end : End (StepEnd Written)) → Relies who ask.worker → IsIn ask.attempt ask.worker.attempts → IsRangeAt ask.attempt ask.place ask.range
+    → (world : World) → State who ask.worker start ask.attempt [] world → let course = unless_refused ask.worker ask.attempt refusal (writes ask (rows_written who.merge start.store.tables ask)) in
+    IsLawfulCourse who world course → Runs who course world new end → FitsAfterwards who.merge ask.worker (λ report. report.attempts) new end
+made who start ask None new end r runs at world s lawful run = written who start ask (rows_written who.merge start.store.tables ask) new end r runs at refl world s lawful run
+made who start ask (Some message) new end r runs at world s lawful run =
+    (gives_back_left who ask.worker (λ (report : Written). report.attempts) (λ later report. ⊤) ask.attempt message world new end r (record { kept = s.kept; holds = s.holds }) lawful run).0
 
 -- What is so as a step at an attempt begins.
 pub begins : (who : Caller) (w : LiveWorker) (old : World) (a : Attempt) → Keeps who.merge old → WorkerHolds who.merge old w → IsIn a w.attempts → State who w old a [] old
@@ -272,16 +275,18 @@ begins who w old a kept holds there = record {
   made = tt;
 }
 
-output_fits : (who : Caller) (w : LiveWorker) (start : World) (a : Attempt) (moment place : ℕ) (range : Range × List ℕ) (n : ℕ) (refusal : Option (List ℕ)) (new : World) (end : End (StepEnd Written)) → Relies who w → IsIn a w.attempts → IsRangeAt a place range
-    → State who w start a [] start → IsLawfulCourse who start (output who.merge start.store.tables moment w a place range n refusal)
-    → Runs who (output who.merge start.store.tables moment w a place range n refusal) start new end → FitsAfterwards who.merge w (λ report. report.attempts) new end
+output_fits : (who : Caller) (start : World) (ask : OutputAsk) (new : World) (end : End (StepEnd Written)) → Relies who ask.worker → IsIn ask.attempt ask.worker.attempts → IsRangeAt ask.attempt ask.place ask.range
+    → State who ask.worker start ask.attempt [] start → IsLawfulCourse who start (output who.merge start.store.tables ask)
+    → Runs who (output who.merge start.store.tables ask) start new end → FitsAfterwards who.merge ask.worker (λ report. report.attempts) new end
 unfolding output
-output_fits who w start a moment place range n refusal new end r runs at s lawful run =
-    gets (FitsAfterwards who.merge w (λ (report : Written). report.attempts) new end) who w start a (writes_or_gives_back who.merge moment w a place range n refusal start.store.tables) new end r (stops who w new end)
-    (λ world state further on. made who w start a moment place range n refusal new end r runs at world state further on) (filter (meets start.store.tables range.0) a.sources) start s lawful run
+output_fits who start ask new end r runs at s lawful run =
+    let w = ask.worker in
+    let a = ask.attempt in
+    gets (FitsAfterwards who.merge w (λ (report : Written). report.attempts) new end) who w start a (unless_refused w a ask.refusal (writes ask (rows_written who.merge start.store.tables ask))) new end r (stops who w new end)
+    (λ world state further on. made who start ask ask.refusal new end r runs at world state further on) (filter (meets start.store.tables ask.range.0) a.sources) start s lawful run
 
 pub outputs_keep_fit : OutputsKeepFit
-outputs_keep_fit who old moment w a place range rows refusal keep operator own kept holds runs at new end run =
-    let there = found_in w.attempts a.job a runs in
-    output_fits who w old a moment place range rows refusal new end (record { keep = keep; own = own }) there at (begins who w old a kept holds there)
-    (outputs_are_lawful who old moment w a place range rows refusal keep operator own kept holds runs) run
+outputs_keep_fit who old ask keep operator own kept holds runs at new end run =
+    let there = found_in ask.worker.attempts ask.attempt.job ask.attempt runs in
+    output_fits who old ask new end (record { keep = keep; own = own }) there at (begins who ask.worker old ask.attempt kept holds there)
+    (outputs_are_lawful who old ask keep operator own kept holds runs) run

@@ -12,14 +12,14 @@ use Rattle.step_model.specs.Fits.{WorkerHolds}
 use Rattle.step_model.specs.CourseRuns.{Gives, Runs}
 use Rattle.step_model.specs.StepEnds.{StepEnd, Reports, GivesUp, Fenced, NotOwner, NoRecords, Invalid, Declined, OperatorRefuses, BadFlush}
 use Rattle.step_model.specs.ClaimSteps.{WorkerOptions, Claimed, claim}
-use Rattle.step_model.specs.OutputSteps.{FinishedJob, finish}
+use Rattle.step_model.specs.FinishSteps.{FinishAsk, FinishedJob, finish}
 use Rattle.step_laws.specs.Runs.{CallsKeep}
 use Rattle.step_laws.proofs.Runs.{runs_keep}
 use Rattle.commit_laws.proofs.AllCalls.{calls_keep}
 use Rattle.course_laws.proofs.Claims.{claims_are_lawful}
 use Rattle.course_laws.proofs.Finishes.{finishes_are_lawful}
 use Rattle.worker_laws.specs.After.{FitsAfterwards}
-use Rattle.worker_laws.specs.Turns.{after_claim, after_finish, FinishRan, FinishesRan, TurnRan, TurnsRan, IsFit, TurnsFit}
+use Rattle.worker_laws.specs.Turns.{after_claim, after_finish, FinishRan, FinishesRan, TurnRan, IsFit, TurnsFit}
 use Rattle.worker_laws.proofs.Attempts.{holds_fewer}
 use Rattle.worker_laws.proofs.Claims.{claims_keep_fit}
 use Rattle.worker_laws.proofs.Finishes.{finishes_keep_fit, finishes_report}
@@ -46,8 +46,8 @@ claim_fit who options moment old new w end keep fit run = by end ((claims_keep_f
 finish_fit : (who : Caller) (options : WorkerOptions) (moment job : ℕ) (old new : World) (w v : LiveWorker) → IsLawful who.merge → IsFit who old w → FinishRan who options moment job old w new v → IsFit who new v
 finish_fit who options moment job old new w v lawful fit r =
     subst (IsFit who new) (sym r.left) (record {
-      kept = runs_keep who (finish who.merge old.store.tables options moment w a r.refusal) keep old new (Gives r.end) fit.kept (finishes_are_lawful who old options moment w a r.refusal keep lawful fit.own fit.kept fit.holds r.runs r.whole) r.run;
-      holds = by r.end r.run ((finishes_keep_fit who old options moment w a r.refusal keep lawful fit.own fit.kept fit.holds r.runs r.whole).0 new (Gives r.end) r.run);
+      kept = runs_keep who (finish who.merge old.store.tables ask) keep old new (Gives r.end) fit.kept (finishes_are_lawful who old ask keep lawful fit.own fit.kept fit.holds r.runs r.whole) r.run;
+      holds = by r.end r.run ((finishes_keep_fit who old ask keep lawful fit.own fit.kept fit.holds r.runs r.whole).0 new (Gives r.end) r.run);
       own = own r.end;
     })
   where
@@ -56,6 +56,9 @@ finish_fit who options moment job old new w v lawful fit r =
 
     a : Attempt
     a = r.attempt
+
+    ask : FinishAsk
+    ask = record { moment = moment; worker = w; attempt = r.attempt; table_size = options.table_size; refusal = r.refusal }
 
     own : (end : StepEnd FinishedJob) → who.party ≡ Worker (after_finish w a end).number
     own (Reports report) = fit.own
@@ -71,10 +74,10 @@ finish_fit who options moment job old new w v lawful fit r =
     fewer : WorkerHolds who.merge new w → WorkerHolds who.merge new (after_finish w a NotOwner)
     fewer holds = holds_fewer who.merge new w (λ (b : Attempt). not (contains (a.job ∷ []) b.job)) holds
 
-    by : (end : StepEnd FinishedJob) → Runs who (finish who.merge old.store.tables options moment w a r.refusal) old new (Gives end) → FitsAfterwards who.merge w (λ (report : FinishedJob). report.attempts) new (Gives end)
+    by : (end : StepEnd FinishedJob) → Runs who (finish who.merge old.store.tables ask) old new (Gives end) → FitsAfterwards who.merge w (λ (report : FinishedJob). report.attempts) new (Gives end)
         → WorkerHolds who.merge new (after_finish w a end)
     by (Reports report) run holds =
-        subst (λ (attempts : List Attempt). WorkerHolds who.merge new (record w { attempts = attempts })) (finishes_report who old new options moment w a r.refusal report keep lawful fit.own fit.kept fit.holds r.runs r.whole run).attempts holds
+        subst (λ (attempts : List Attempt). WorkerHolds who.merge new (record w { attempts = attempts })) (finishes_report who old new ask report keep lawful fit.own fit.kept fit.holds r.runs r.whole run).attempts holds
     by (GivesUp seen) run holds = holds
     by (Fenced stored) run holds = fewer holds
     by NotOwner run holds = fewer holds

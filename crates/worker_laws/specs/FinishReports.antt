@@ -1,5 +1,5 @@
 -- The law on what a finish did that reports, over any store.
-use Rattle.std.specs.Prelude.{◌≡◌, ℕ, true, false, IsTrue, List, [], ◌∷◌, Option, Some, None}
+use Rattle.std.specs.Prelude.{◌≡◌, ℕ, true, false, IsTrue, List, [], ◌∷◌, Some, None}
 use Rattle.std.specs.List.{concat}
 use Rattle.row_model.specs.Fold.{Operator, IsLawful}
 use Rattle.row_model.specs.Settings.{Settings}
@@ -20,8 +20,7 @@ use Rattle.step_model.specs.Keeps.{Keeps}
 use Rattle.step_model.specs.Fits.{WorkerHolds}
 use Rattle.step_model.specs.CourseRuns.{Gives, Runs}
 use Rattle.step_model.specs.StepEnds.{Reports}
-use Rattle.step_model.specs.ClaimSteps.{WorkerOptions}
-use Rattle.step_model.specs.OutputSteps.{FinishedJob, all_outputs, unrecorded_of_finish, finish}
+use Rattle.step_model.specs.FinishSteps.{FinishAsk, FinishedJob, all_outputs, unrecorded_of_finish, finish}
 use Rattle.step_laws.specs.Runs.{CallsKeep}
 use Rattle.course_laws.specs.Outputs.{DoesRun}
 use Rattle.course_laws.specs.Finishes.{WholeUnless}
@@ -46,7 +45,7 @@ pub record IsFinished (merge : Operator) (store : Store) (id : ℕ) (outputs : L
 
 -- The put of the records by which a finish ends an attempt with these outputs, over the records that it
 -- got.
-abbrev pub finish_put : ℕ → LiveWorker → Attempt → List (List ℕ) → Records → Exchange
+abbrev pub finish_put : (moment : ℕ) → LiveWorker → Attempt → (outputs : List (List ℕ)) → (got : Records) → Exchange
 finish_put moment w a outputs got =
     let change = Finish w.number a.job a.number outputs in
     PutsRecords got.version change got.epoch (jobs_after (unrecorded_of_finish moment w a) change got.jobs)
@@ -69,9 +68,9 @@ pub record FinishDid (who : Caller) (moment : ℕ) (w : LiveWorker) (a : Attempt
 -- A finish of a worker that fits did so if it reports, under a lawful operator and if every lawful call
 -- keeps the invariant.
 abbrev pub FinishesReport : Type 0
-FinishesReport = (who : Caller) (old new : World) (options : WorkerOptions) (moment : ℕ) (w : LiveWorker) (a : Attempt)
-    (refusal : Option (List ℕ)) (report : FinishedJob)
-    → CallsKeep who.merge → IsLawful who.merge → who.party ≡ Worker w.number → Keeps who.merge old
-    → WorkerHolds who.merge old w → DoesRun w a → WholeUnless who.merge old.store.tables a refusal
-    → Runs who (finish who.merge old.store.tables options moment w a refusal) old new (Gives (Reports report))
-    → FinishDid who moment w a new report
+FinishesReport = (who : Caller) (old new : World) (ask : FinishAsk) (report : FinishedJob)
+    → CallsKeep who.merge → IsLawful who.merge → who.party ≡ Worker ask.worker.number → Keeps who.merge old
+    → WorkerHolds who.merge old ask.worker → DoesRun ask.worker ask.attempt
+    → WholeUnless who.merge old.store.tables ask.attempt ask.refusal
+    → Runs who (finish who.merge old.store.tables ask) old new (Gives (Reports report))
+    → FinishDid who ask.moment ask.worker ask.attempt new report

@@ -15,7 +15,7 @@ use Rattle.step_model.specs.Keeps.{Keeps}
 use Rattle.step_model.specs.Fits.{WorkerHolds}
 use Rattle.step_model.specs.CourseRuns.{Gives, Runs}
 use Rattle.step_model.specs.StepEnds.{Reports}
-use Rattle.step_model.specs.OutputSteps.{FinishedJob}
+use Rattle.step_model.specs.FinishSteps.{FinishedJob}
 use Rattle.step_model.specs.MessageSteps.{attempt_run, take_finished, take_failed, take_progress}
 use Rattle.step_laws.specs.Runs.{CallsKeep}
 use Rattle.course_laws.specs.Messages.{IsUnused, Each, ResultFits}

@@ -1,20 +1,19 @@
 -- The law on outputs.
-use Rattle.std.specs.Prelude.{◌≡◌, ℕ, ◌-◌, ◌<◌, IsTrue, IfSome, List, take, Option, Some, slice_get}
+use Rattle.std.specs.Prelude.{◌≡◌, ℕ, ◌-◌, ◌<◌, IsTrue, IfSome, List, Some, slice_get}
 use Rattle.row_model.specs.Rows.{Row}
 use Rattle.row_model.specs.Fold.{Operator, IsLawful}
 use Rattle.row_model.specs.Ranges.{Range}
 use Rattle.fleet_model.specs.Nodes.{table_rows}
 use Rattle.fleet_model.specs.History.{Worker}
 use Rattle.fleet_model.specs.Store.{is_held}
-use Rattle.fleet_model.specs.Attempts.{rows_left}
-use Rattle.fleet_model.specs.Parties.{Attempt, LiveWorker}
+use Rattle.fleet_model.specs.Parties.{Attempt}
 use Rattle.step_model.specs.Past.{World}
 use Rattle.step_model.specs.Rivals.{Caller}
 use Rattle.step_model.specs.Keeps.{Keeps}
 use Rattle.step_model.specs.Fits.{WorkerHolds}
 use Rattle.step_model.specs.CourseRuns.{Gives, Runs}
 use Rattle.step_model.specs.StepEnds.{Reports}
-use Rattle.step_model.specs.OutputSteps.{Written, with_noted, output}
+use Rattle.step_model.specs.OutputSteps.{OutputAsk, Written, with_noted, rows_written, output}
 use Rattle.step_laws.specs.Runs.{CallsKeep}
 use Rattle.course_laws.specs.Outputs.{DoesRun}
 use Rattle.worker_laws.specs.After.{FitsAfter}
@@ -28,21 +27,25 @@ pub record IsRangeAt (a : Attempt) (place : ℕ) (range : Range × List ℕ) : T
 -- keeps the invariant. The table that it put is noted for the range whose next rows it holds. If the
 -- operator refused a fold, the worker fits with the attempts that it ran before.
 abbrev pub OutputsKeepFit : Type 0
-OutputsKeepFit = (who : Caller) (old : World) (moment : ℕ) (w : LiveWorker) (a : Attempt) (place : ℕ) (range : Range × List ℕ) (rows : ℕ) (refusal : Option (List ℕ)) → CallsKeep who.merge → IsLawful who.merge
-    → who.party ≡ Worker w.number → Keeps who.merge old → WorkerHolds who.merge old w → DoesRun w a → IsRangeAt a place range
-    → FitsAfter who w (λ (report : Written). report.attempts) old (output who.merge old.store.tables moment w a place range rows refusal)
+OutputsKeepFit = (who : Caller) (old : World) (ask : OutputAsk) → CallsKeep who.merge → IsLawful who.merge
+    → who.party ≡ Worker ask.worker.number → Keeps who.merge old → WorkerHolds who.merge old ask.worker
+    → DoesRun ask.worker ask.attempt → IsRangeAt ask.attempt ask.place ask.range
+    → FitsAfter who ask.worker (λ (report : Written). report.attempts) old (output who.merge old.store.tables ask)
 
--- What is so of an output's report: its table is held and has the next rows of the range, at most so
--- many, and it is noted for the range of this place.
-pub record OutputSays (merge : Operator) (old new : World) (w : LiveWorker) (a : Attempt) (place : ℕ) (range : Range × List ℕ) (rows : ℕ) (report : Written) (table : ℕ × List Row) : Type 0 where
+-- What is so of an output's report: its table is held and has the next rows of the range, at most as
+-- many as were asked for, and it is noted for this range.
+pub record OutputSays (merge : Operator) (old new : World) (ask : OutputAsk) (report : Written) (table : ℕ × List Row)
+    : Type 0 where
   pub held : IsTrue (is_held new.store table.0)
   pub has : table_rows new.store.tables table.0 ≡ table.1
-  pub next : table.1 ≡ take rows (rows_left merge old.store.tables a.context.settings a.sources range).rows
-  pub noted : report.attempts ≡ with_noted place table.0 a w.attempts
+  pub next : table.1 ≡ rows_written merge old.store.tables ask
+  pub noted : report.attempts ≡ with_noted ask.place table.0 ask.attempt ask.worker.attempts
 
 -- A table that an output reports is as `OutputSays` says, under a lawful operator and if every lawful
 -- call keeps the invariant.
 abbrev pub OutputsSay : Type 0
-OutputsSay = (who : Caller) (old : World) (moment : ℕ) (w : LiveWorker) (a : Attempt) (place : ℕ) (range : Range × List ℕ) (rows : ℕ) (refusal : Option (List ℕ)) → CallsKeep who.merge → IsLawful who.merge
-    → who.party ≡ Worker w.number → Keeps who.merge old → WorkerHolds who.merge old w → DoesRun w a → (new : World) (report : Written)
-    → Runs who (output who.merge old.store.tables moment w a place range rows refusal) old new (Gives (Reports report)) → IfSome report.table (OutputSays who.merge old new w a place range rows report)
+OutputsSay = (who : Caller) (old : World) (ask : OutputAsk) → CallsKeep who.merge → IsLawful who.merge
+    → who.party ≡ Worker ask.worker.number → Keeps who.merge old → WorkerHolds who.merge old ask.worker
+    → DoesRun ask.worker ask.attempt → (new : World) (report : Written)
+    → Runs who (output who.merge old.store.tables ask) old new (Gives (Reports report))
+    → IfSome report.table (OutputSays who.merge old new ask report)

@@ -1,6 +1,5 @@
 -- The law on refusals of the operator.
 use Rattle.std.specs.Prelude.{◌≡◌, ℕ, false, List, Some}
-use Rattle.row_model.specs.Ranges.{Range}
 use Rattle.fleet_model.specs.History.{Worker}
 use Rattle.fleet_model.specs.Store.{stored_jobs}
 use Rattle.fleet_model.specs.Parties.{Attempt, LiveWorker, is_live}
@@ -10,22 +9,25 @@ use Rattle.step_model.specs.Keeps.{Keeps}
 use Rattle.step_model.specs.Fits.{WorkerHolds}
 use Rattle.step_model.specs.CourseRuns.{Gives, Runs}
 use Rattle.step_model.specs.StepEnds.{StepEnd, OperatorRefuses}
-use Rattle.step_model.specs.ClaimSteps.{WorkerOptions}
 use Rattle.step_model.specs.Course.{Course}
-use Rattle.step_model.specs.OutputSteps.{output, finish}
+use Rattle.step_model.specs.OutputSteps.{OutputAsk, output}
+use Rattle.step_model.specs.FinishSteps.{FinishAsk, finish}
 use Rattle.step_laws.specs.Runs.{CallsKeep}
 use Rattle.course_laws.specs.Outputs.{DoesRun}
 
 -- After a run of the course that ends with a refusal of the operator, the attempt is not live.
 abbrev pub GivesBack : {A : Type 0} → Caller → LiveWorker → Attempt → World → Course (StepEnd A) → Type 0
-GivesBack {A} who w a old course = (new : World) (said : List ℕ) → Runs who course old new (Gives (OperatorRefuses said)) → is_live (stored_jobs new.store) w.number a ≡ false
+GivesBack {A} who w a old course = (new : World) (said : List ℕ)
+    → Runs who course old new (Gives (OperatorRefuses said)) → is_live (stored_jobs new.store) w.number a ≡ false
 
 -- Where the operator refuses a fold, an output and a finish give the attempt back, if every lawful
 -- call keeps the invariant. The attempt is not live after them.
 pub record RefusalsGiveBack : Type 0 where
-  pub outputs : (who : Caller) (old : World) (moment : ℕ) (w : LiveWorker) (a : Attempt) (place : ℕ) (range : Range × List ℕ) (rows : ℕ) (message : List ℕ) → CallsKeep who.merge
-      → who.party ≡ Worker w.number → Keeps who.merge old → WorkerHolds who.merge old w → DoesRun w a
-      → GivesBack who w a old (output who.merge old.store.tables moment w a place range rows (Some message))
-  pub finishes : (who : Caller) (old : World) (options : WorkerOptions) (moment : ℕ) (w : LiveWorker) (a : Attempt) (message : List ℕ) → CallsKeep who.merge
-      → who.party ≡ Worker w.number → Keeps who.merge old → WorkerHolds who.merge old w → DoesRun w a
-      → GivesBack who w a old (finish who.merge old.store.tables options moment w a (Some message))
+  pub outputs : (who : Caller) (old : World) (ask : OutputAsk) (message : List ℕ) → ask.refusal ≡ Some message
+      → CallsKeep who.merge → who.party ≡ Worker ask.worker.number → Keeps who.merge old
+      → WorkerHolds who.merge old ask.worker → DoesRun ask.worker ask.attempt
+      → GivesBack who ask.worker ask.attempt old (output who.merge old.store.tables ask)
+  pub finishes : (who : Caller) (old : World) (ask : FinishAsk) (message : List ℕ) → ask.refusal ≡ Some message
+      → CallsKeep who.merge → who.party ≡ Worker ask.worker.number → Keeps who.merge old
+      → WorkerHolds who.merge old ask.worker → DoesRun ask.worker ask.attempt
+      → GivesBack who ask.worker ask.attempt old (finish who.merge old.store.tables ask)

@@ -1,5 +1,5 @@
 -- The law on the turns of a worker: a claim, and then a finish of each job that it runs.
-use Rattle.std.specs.Prelude.{◌≡◌, ℕ, List, [], ◌∷◌, Option, Some}
+use Rattle.std.specs.Prelude.{◌≡◌, ℕ, List, [], ◌∷◌, Option}
 use Rattle.row_model.specs.Fold.{IsLawful}
 use Rattle.fleet_model.specs.History.{Worker}
 use Rattle.fleet_model.specs.Parties.{Attempt, LiveWorker, attempt_jobs, without_attempts}
@@ -10,7 +10,7 @@ use Rattle.step_model.specs.Fits.{WorkerHolds}
 use Rattle.step_model.specs.CourseRuns.{Gives, Runs}
 use Rattle.step_model.specs.StepEnds.{StepEnd, Reports, GivesUp}
 use Rattle.step_model.specs.ClaimSteps.{WorkerOptions, Claimed, claim}
-use Rattle.step_model.specs.OutputSteps.{FinishedJob, finish}
+use Rattle.step_model.specs.FinishSteps.{FinishedJob, finish}
 use Rattle.course_laws.specs.Outputs.{DoesRun}
 use Rattle.course_laws.specs.Finishes.{WholeUnless}
 
@@ -33,7 +33,13 @@ pub record FinishRan (who : Caller) (options : WorkerOptions) (moment job : ℕ)
   pub refusal : Option (List ℕ)
   pub whole : WholeUnless who.merge old.store.tables attempt refusal
   pub end : StepEnd FinishedJob
-  pub run : Runs who (finish who.merge old.store.tables options moment w attempt refusal) old new (Gives end)
+  pub run : Runs who (finish who.merge old.store.tables (record {
+    moment = moment;
+    worker = w;
+    attempt = attempt;
+    table_size = options.table_size;
+    refusal = refusal;
+  })) old new (Gives end)
   pub left : v ≡ after_finish w attempt end
 
 -- Finishes of these jobs, one after the other, took the worker from what it ran in the old world to what it
