@@ -12,7 +12,8 @@ use Rattle.fleet_model.specs.Store.{fresh_store}
 use Rattle.fleet_model.specs.Replay.{Objects, after_event, after_entry, plain_objects, replayed_objects}
 use Rattle.fleet_model.specs.Live.{LiveParties, party_did, live_from}
 use Rattle.fleet_model.specs.Attempts.{claim_settings}
-use Rattle.fleet_model.specs.Claimed.{beaten_in, first_beaten, if_earlier, origin, claimant_in, is_worker, objects_found, objects_at_get, from_claim, objects_at_claim, planned_in, noted_plan}
+use Rattle.fleet_model.specs.Claimed.{beaten_in, first_beaten, if_earlier, origin, claimant_in, is_worker, objects_found, objects_at_get, planned_in, noted_plan, claimed_in}
+use Rattle.fleet_model.proofs.ClaimCuts.{at_claim_or, objects_got, claim_step}
 use Rattle.fleet_model.specs.JobsFit.{joins}
 use Rattle.fleet_model.specs.AttemptsFit.{beats}
 use Rattle.fleet_model.specs.Finished.{finishes_job, later_or, finished_after}
@@ -117,24 +118,27 @@ same_get tables specs worker (entry ∷ history) o h =
     (ap (cond (is_worker worker entry.party) (objects_found entry.event entry.answer o)) (same_get tables specs worker history (after_entry tables specs entry o) h.1))
 
 from_alike : (claimant : Option ℕ) (one other : ℕ → Option Objects) (a b : Option Objects) → ((worker : ℕ) → one worker ≡ other worker) → a ≡ b
-    → from_claim claimant one a ≡ from_claim claimant other b
+    → at_claim_or claimant one a ≡ at_claim_or claimant other b
 from_alike None one other a b each rest = rest
 from_alike (Some worker) one other a b each rest = each worker
 
 -- The objects that a claim got, entry by entry.
 same_claim : (tables : Tables) (specs : ℕ → JobSpec) (job attempt : ℕ) (history : List Entry) (o : Objects) → SweepersOnlySweep history
-    → objects_at_claim tables specs job attempt (without_sweeps history) o ≡ objects_at_claim tables specs job attempt history o
+    → objects_got tables specs job attempt (without_sweeps history) o ≡ objects_got tables specs job attempt history o
 same_claim tables specs job attempt [] o h = refl
 same_claim tables specs job attempt (entry ∷ history) o h =
     let after : Objects = after_entry tables specs entry o in
-    cases (λ history. objects_at_claim tables specs job attempt history o) entry history h.0
+    cases (λ history. objects_got tables specs job attempt history o) entry history h.0
     (λ s. same_claim tables specs job attempt history o h.1 ∙ sym (
-    ap (λ x. from_claim (cond (stood entry.answer) x None) (λ worker. objects_at_get tables specs worker history after) (objects_at_claim tables specs job attempt history after)) (s.event.claimed job attempt)
-    ∙ ap (λ x. from_claim x (λ worker. objects_at_get tables specs worker history after) (objects_at_claim tables specs job attempt history after)) (cond_same (stood entry.answer) None)
-    ∙ ap (objects_at_claim tables specs job attempt history) (objects_stay tables specs entry s o)))
-    (from_alike (cond (stood entry.answer) (claimant_in job attempt entry.event) None) (λ worker. objects_at_get tables specs worker (without_sweeps history) after) (λ worker. objects_at_get tables specs worker history after)
-    (objects_at_claim tables specs job attempt (without_sweeps history) after) (objects_at_claim tables specs job attempt history after)
-    (λ worker. same_get tables specs worker history after h.1) (same_claim tables specs job attempt history after h.1))
+    claim_step tables specs job attempt entry history o
+    ∙ ap (λ x. at_claim_or (cond (stood entry.answer) x None) (λ worker. objects_at_get tables specs worker history after) (objects_got tables specs job attempt history after)) (s.event.claimed job attempt)
+    ∙ ap (λ x. at_claim_or x (λ worker. objects_at_get tables specs worker history after) (objects_got tables specs job attempt history after)) (cond_same (stood entry.answer) None)
+    ∙ ap (objects_got tables specs job attempt history) (objects_stay tables specs entry s o)))
+    (claim_step tables specs job attempt entry (without_sweeps history) o
+    ∙ from_alike (claimed_in job attempt entry) (λ worker. objects_at_get tables specs worker (without_sweeps history) after) (λ worker. objects_at_get tables specs worker history after)
+    (objects_got tables specs job attempt (without_sweeps history) after) (objects_got tables specs job attempt history after)
+    (λ worker. same_get tables specs worker history after h.1) (same_claim tables specs job attempt history after h.1)
+    ∙ sym (claim_step tables specs job attempt entry history o))
 
 same_plan : (job attempt : ℕ) (history : List Entry) → SweepersOnlySweep history → noted_plan job attempt (without_sweeps history) ≡ noted_plan job attempt history
 same_plan job attempt [] h = refl
@@ -165,7 +169,7 @@ sweeps_are_transparent tables specs history h = record {
   objects = same_objects tables specs history (plain_objects fresh_store) h;
   live = same_live tables specs history (record { objects = plain_objects fresh_store; epochs = []; coordinators = []; workers = [] }) h;
   settings = λ job attempt. ap (option_map (λ o. claim_settings o.manifest 0 (specs job)))
-      (ap (λ first. objects_at_claim tables specs job (if_earlier attempt first) (without_sweeps history) (plain_objects fresh_store)) (same_beaten job history h)
+      (ap (λ first. objects_got tables specs job (if_earlier attempt first) (without_sweeps history) (plain_objects fresh_store)) (same_beaten job history h)
       ∙ same_claim tables specs job (origin history job attempt) history (plain_objects fresh_store) h);
   ranges = λ job attempt. ap (λ first. noted_plan job (if_earlier attempt first) (without_sweeps history)) (same_beaten job history h) ∙ same_plan job (origin history job attempt) history h;
   joined = λ job. same_any (joins job) history h (λ entry s. s.event.joined job);

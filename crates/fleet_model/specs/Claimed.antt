@@ -8,7 +8,7 @@ use Rattle.fleet_model.specs.Jobs.{JobSpec, Context}
 use Rattle.fleet_model.specs.History.{Party, Worker, Event, GetManifest, PutRecords, Claim, Beat, Plan, Answer, Done, Entry, stood}
 use Rattle.fleet_model.specs.Attempts.{claim_settings}
 use Rattle.fleet_model.specs.Store.{Store, fresh_store}
-use Rattle.fleet_model.specs.Replay.{Objects, after_entry, plain_objects}
+use Rattle.fleet_model.specs.Replay.{Objects, after_entry, plain_objects, replayed_objects}
 
 -- The number of an attempt that is given by its job and its number, if there is one.
 abbrev pub number_in : Option (ℕ × ℕ) → Option ℕ
@@ -50,6 +50,31 @@ abbrev pub claimant_in : ℕ → ℕ → Event → Option ℕ
 claimant_in job attempt (PutRecords (Claim worker attempts)) = if is_same attempt (attempt_number_at job attempts) then Some worker else None
 claimant_in job attempt _ = None
 
+-- The worker for which the entry claims this attempt, if it does and took effect.
+abbrev pub claimed_in : (job attempt : ℕ) → Entry → Option ℕ
+claimed_in job attempt entry = if stood entry.answer then claimant_in job attempt entry.event else None
+
+-- A history that is cut at a claim.
+pub record ClaimCut : Type 0 where
+  pub until : List Entry  -- the claim is the last of them
+  pub worker : ℕ  -- that made the claim
+  pub since : List Entry
+
+-- The cut with one more entry in front of the history.
+abbrev pub with_first : Entry → ClaimCut → ClaimCut
+with_first entry cut = record cut { until = entry ∷ cut.until }
+
+-- The cut at the first entry if a worker claims with it, and otherwise that of the later entries.
+abbrev pub cut_here_or : (claimed : Option ℕ) → Entry → (later : List Entry) → Option ClaimCut → Option ClaimCut
+cut_here_or (Some worker) entry later cut = Some (record { until = entry ∷ []; worker = worker; since = later })
+cut_here_or None entry later cut = option_map (with_first entry) cut
+
+-- The history, cut at the claim of this attempt that took effect. It is None if there is no such claim.
+abbrev pub cut_at_claim : (job attempt : ℕ) → List Entry → Option ClaimCut
+cut_at_claim job attempt [] = None
+cut_at_claim job attempt (entry ∷ history) =
+    cut_here_or (claimed_in job attempt entry) entry history (cut_at_claim job attempt history)
+
 -- True if the party is the worker with this number.
 abbrev pub is_worker : ℕ → Party → Bool
 is_worker n (Worker m) = n == m
@@ -68,26 +93,19 @@ objects_at_get tables specs worker [] o = None
 objects_at_get tables specs worker (entry ∷ history) o =
     if is_worker worker entry.party then objects_found entry.event entry.answer o else objects_at_get tables specs worker history (after_entry tables specs entry o)
 
--- If a claim is found, the objects at its worker's get, and otherwise what a search of the later entries
--- finds.
-abbrev pub from_claim : Option ℕ → (ℕ → Option Objects) → Option Objects → Option Objects
-from_claim None claimed later = later
-from_claim (Some worker) claimed later = claimed worker
-
--- The objects that the worker got after it claimed the attempt. It is None if it got none.
-abbrev pub objects_at_claim : Tables → (ℕ → JobSpec) → ℕ → ℕ → List Entry → Objects → Option Objects
-objects_at_claim tables specs job attempt [] o = None
-objects_at_claim tables specs job attempt (entry ∷ history) o =
-    let after = after_entry tables specs entry o in
-    from_claim (if stood entry.answer then claimant_in job attempt entry.event else None)
-    (λ worker. objects_at_get tables specs worker history after)
-    (objects_at_claim tables specs job attempt history after)
+-- The objects that the worker got after its claim, given those at the start of the history. It is None if
+-- there is no claim, or if the worker got none.
+abbrev pub objects_after_claim : Tables → (ℕ → JobSpec) → (start : Objects) → Option ClaimCut → Option Objects
+objects_after_claim tables specs start None = None
+objects_after_claim tables specs start (Some cut) =
+    objects_at_get tables specs cut.worker cut.since (replayed_objects tables specs cut.until start)
 
 -- The settings of an attempt: those that the claim of its origin took from the manifest that it got. It is
 -- None if that claim got none. The history does not give the cut, which is 0 here.
-abbrev pub settings_of : Tables → (ℕ → JobSpec) → List Entry → ℕ → ℕ → Option Settings
+abbrev pub settings_of : Tables → (ℕ → JobSpec) → List Entry → (job attempt : ℕ) → Option Settings
 settings_of tables specs history job attempt =
-    option_map (λ o. claim_settings o.manifest 0 (specs job)) (objects_at_claim tables specs job (origin history job attempt) history (plain_objects fresh_store))
+    option_map (λ o. claim_settings o.manifest 0 (specs job))
+    (objects_after_claim tables specs (plain_objects fresh_store) (cut_at_claim job (origin history job attempt) history))
 
 -- The ranges of the attempt, if the event notes them.
 abbrev pub planned_in : ℕ → ℕ → Event → Option (List Range)

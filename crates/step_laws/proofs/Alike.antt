@@ -8,7 +8,8 @@ use Rattle.fleet_model.specs.History.{Event, Entry, PutManifest, PutRecords, Man
 use Rattle.fleet_model.specs.Store.{fresh_store}
 use Rattle.fleet_model.specs.Replay.{Objects, after_event, after_entry, replayed_objects, plain_objects, plain_manifest}
 use Rattle.fleet_model.specs.Attempts.{claim_settings}
-use Rattle.fleet_model.specs.Claimed.{is_worker, objects_found, objects_at_get, from_claim, claimant_in, objects_at_claim, settings_of, origin}
+use Rattle.fleet_model.specs.Claimed.{is_worker, objects_found, objects_at_get, settings_of, origin, claimed_in}
+use Rattle.fleet_model.proofs.ClaimCuts.{at_claim_or, objects_got, claim_step}
 use Rattle.step_model.specs.Past.{World, manifest_with}
 use Rattle.step_model.specs.Faithful.{Faithful}
 use Rattle.step_laws.proofs.Replays.{replayed_push, replay_version}
@@ -79,14 +80,17 @@ get_same tables more one other worker (entry ∷ history) o p same =
     λ i. cond (is_worker worker entry.party) (objects_found entry.event entry.answer (start i)) (further i)
 
 pub claim_same : (tables more : Tables) (one other : ℕ → JobSpec) (job attempt : ℕ) (history : List Entry) (o p : Objects) → SameReplays tables one more other history o p
-    → objects_at_claim tables one job attempt history o ≡ objects_at_claim more other job attempt history p
+    → objects_got tables one job attempt history o ≡ objects_got more other job attempt history p
 claim_same tables more one other job attempt [] o p same = refl
 claim_same tables more one other job attempt (entry ∷ history) o p same =
     let next = λ (front back : List Entry) (e : front ++ back ≡ history). same (entry ∷ front) back (ap (λ es. entry ∷ es) e) in
     let further = claim_same tables more one other job attempt history (after_entry tables one entry o) (after_entry more other entry p) next in
-    λ i. from_claim (cond (stood entry.answer) (claimant_in job attempt entry.event) None)
-    (λ worker. get_same tables more one other worker history (after_entry tables one entry o) (after_entry more other entry p) next i)
-    (further i)
+    let o_next = after_entry tables one entry o in
+    let p_next = after_entry more other entry p in
+    let both : at_claim_or (claimed_in job attempt entry) (λ worker. objects_at_get tables one worker history o_next) (objects_got tables one job attempt history o_next)
+    ≡ at_claim_or (claimed_in job attempt entry) (λ worker. objects_at_get more other worker history p_next) (objects_got more other job attempt history p_next) =
+    λ i. at_claim_or (claimed_in job attempt entry) (λ worker. get_same tables more one other worker history o_next p_next next i) (further i) in
+    claim_step tables one job attempt entry history o ∙ both ∙ sym (claim_step more other job attempt entry history p)
 
 pub settings_same : (tables more : Tables) (one other : ℕ → JobSpec) (history : List Entry) (job attempt : ℕ)
     → SameReplays tables one more other history (plain_objects fresh_store) (plain_objects fresh_store) → one job ≡ other job

@@ -13,7 +13,8 @@ use Rattle.fleet_model.specs.Jobs.{JobSpec, Job, Jobs, job_with}
 use Rattle.fleet_model.specs.History.{Party, Worker, Event, GetManifest, PutRecords, Claim, Plan, Answer, Done, Entry, stood}
 use Rattle.fleet_model.specs.Store.{stored_jobs}
 use Rattle.fleet_model.specs.Replay.{Objects, after_entry, replayed_objects}
-use Rattle.fleet_model.specs.Claimed.{number_in, attempt_number_at, is_same, is_worker, objects_found, objects_at_get, from_claim, claimant_in, objects_at_claim, planned_in, noted_plan}
+use Rattle.fleet_model.specs.Claimed.{number_in, attempt_number_at, is_same, is_worker, objects_found, objects_at_get, claimant_in, planned_in, noted_plan, claimed_in}
+use Rattle.fleet_model.proofs.ClaimCuts.{at_claim_or, objects_got, claim_step}
 use Rattle.fleet_model.specs.Exchanges.{Exchange, Plain, DrawsJob, DrawsTable, PutsTable, PutsManifest, PutsRecords, ListsTables, DeletesTable, event_of}
 use Rattle.step_model.specs.Past.{World}
 use Rattle.step_model.specs.Entries.{is_claim_of, was_claimed, is_in, claimed_attempts, attempts_in, planned_attempts}
@@ -34,10 +35,6 @@ use Rattle.course_laws.proofs.Later.{entry_by, call_history}
 
 -- ---- the get that follows a claim
 
--- The worker that the entry claims this attempt for, if it does and took effect.
-abbrev claimed_in : ℕ → ℕ → Entry → Option ℕ
-claimed_in job attempt entry = if stood entry.answer then claimant_in job attempt entry.event else None
-
 -- The worker claimed the attempt, and made no call since.
 pub record AwaitsGet (worker job attempt : ℕ) (history : List Entry) : Type 0 where
   pub front : List Entry
@@ -56,21 +53,23 @@ get_after tables specs worker (entry ∷ since) get o others own =
 
 claim_then : (tables : Tables) (specs : ℕ → JobSpec) (worker job attempt : ℕ) (front : List Entry) (claim : Entry) (since : List Entry) (get : Entry) (o : Objects) → AllByRecursion (λ entry. claimed_in job attempt entry ≡ None) front
     → claimed_in job attempt claim ≡ Some worker → AllByRecursion (λ (entry : Entry). is_worker worker entry.party ≡ false) since → is_worker worker get.party ≡ true
-    → objects_at_claim tables specs job attempt (front ++ claim ∷ (since ++ get ∷ [])) o ≡ objects_found get.event get.answer (replayed_objects tables specs (front ++ claim ∷ since) o)
+    → objects_got tables specs job attempt (front ++ claim ∷ (since ++ get ∷ [])) o ≡ objects_found get.event get.answer (replayed_objects tables specs (front ++ claim ∷ since) o)
 claim_then tables specs worker job attempt [] claim since get o first is_claim_of others own =
     let after = after_entry tables specs claim o in
-    ap (λ c. from_claim c (λ w. objects_at_get tables specs w (since ++ get ∷ []) after) (objects_at_claim tables specs job attempt (since ++ get ∷ []) after)) is_claim_of ∙ get_after tables specs worker since get after others own
+    claim_step tables specs job attempt claim (since ++ get ∷ []) o
+    ∙ ap (λ c. at_claim_or c (λ w. objects_at_get tables specs w (since ++ get ∷ []) after) (objects_got tables specs job attempt (since ++ get ∷ []) after)) is_claim_of ∙ get_after tables specs worker since get after others own
 claim_then tables specs worker job attempt (entry ∷ front) claim since get o first is_claim_of others own =
     let after = after_entry tables specs entry o in
-    ap (λ c. from_claim c (λ w. objects_at_get tables specs w (front ++ claim ∷ (since ++ get ∷ [])) after) (objects_at_claim tables specs job attempt (front ++ claim ∷ (since ++ get ∷ [])) after)) first.0
+    claim_step tables specs job attempt entry (front ++ claim ∷ (since ++ get ∷ [])) o
+    ∙ ap (λ c. at_claim_or c (λ w. objects_at_get tables specs w (front ++ claim ∷ (since ++ get ∷ [])) after) (objects_got tables specs job attempt (front ++ claim ∷ (since ++ get ∷ [])) after)) first.0
     ∙ claim_then tables specs worker job attempt front claim since get after first.1 is_claim_of others own
 
 -- The objects that the worker gets with its next call.
-pub objects_got : (tables : Tables) (specs : ℕ → JobSpec) (worker job attempt line version : ℕ) (party : Party) (history : List Entry) (o : Objects) → AwaitsGet worker job attempt history → is_worker worker party ≡ true
-    → objects_at_claim tables specs job attempt (history ++ record { line = line; party = party; event = GetManifest; answer = Done version } ∷ []) o ≡ Some (replayed_objects tables specs history o)
-objects_got tables specs worker job attempt line version party history o a own =
+pub next_get : (tables : Tables) (specs : ℕ → JobSpec) (worker job attempt line version : ℕ) (party : Party) (history : List Entry) (o : Objects) → AwaitsGet worker job attempt history → is_worker worker party ≡ true
+    → objects_got tables specs job attempt (history ++ record { line = line; party = party; event = GetManifest; answer = Done version } ∷ []) o ≡ Some (replayed_objects tables specs history o)
+next_get tables specs worker job attempt line version party history o a own =
     let get : Entry = record { line = line; party = party; event = GetManifest; answer = Done version } in
-    ap (λ h. objects_at_claim tables specs job attempt h o) (ap (λ (h : List Entry). h ++ get ∷ []) a.is ∙ append_assoc a.front (a.claim ∷ a.since) (get ∷ []))
+    ap (λ h. objects_got tables specs job attempt h o) (ap (λ (h : List Entry). h ++ get ∷ []) a.is ∙ append_assoc a.front (a.claim ∷ a.since) (get ∷ []))
     ∙ claim_then tables specs worker job attempt a.front a.claim a.since get o a.first a.claims a.others own
     ∙ ap (λ h. Some (replayed_objects tables specs h o)) (sym a.is)
 

@@ -13,7 +13,8 @@ use Rattle.fleet_model.specs.Store.{Store, stored_jobs, fresh_store, AreHeld}
 use Rattle.fleet_model.specs.Replay.{Objects, replayed_objects, plain_objects, plain_manifest}
 use Rattle.fleet_model.specs.Attempts.{ClaimInput, claim_cut, claim_settings, fresh_context}
 use Rattle.fleet_model.specs.Parties.{Attempt, LiveWorker}
-use Rattle.fleet_model.specs.Claimed.{is_worker, objects_at_claim, settings_of, without_cut}
+use Rattle.fleet_model.specs.Claimed.{is_worker, settings_of, without_cut}
+use Rattle.fleet_model.proofs.ClaimCuts.{objects_got}
 use Rattle.fleet_model.specs.JobsFit.{SettingsFit}
 use Rattle.fleet_model.specs.Exchanges.{Plain, answer_of}
 use Rattle.step_model.specs.Past.{World}
@@ -33,7 +34,7 @@ use Rattle.course_laws.proofs.Calls.{all_map}
 use Rattle.worker_laws.proofs.Sources.{last_is_oldest}
 use Rattle.worker_laws.proofs.Begun.{single, Waits, waits_follow, Begun, IsFresh, fresh_noted}
 use Rattle.worker_laws.proofs.Taken.{attempt_with, taken_by, blank}
-use Rattle.worker_laws.proofs.Awaits.{AwaitsGet, objects_got}
+use Rattle.worker_laws.proofs.Awaits.{AwaitsGet, next_get}
 
 -- ---- own gets and notes
 
@@ -127,8 +128,8 @@ begins_at_get who w input moment met job k own is h awaits =
             let before = f.faithful specs faithful in
             let objects : replayed_objects met.store.tables specs met.store.history (plain_objects fresh_store) ≡ plain_objects met.store =
             replays_alike met specs k.stored.replay.specs before k.faithful met.store.history [] (append-nil met.store.history) ∙ sym k.stored.replay.objects in
-            let claimed = objects_got met.store.tables specs w.number job.id (job.attempt + 1) who.line met.store.manifest.version who.party met.store.history (plain_objects fresh_store) awaits (subst (λ p. is_worker w.number p ≡ true) (sym own) (is_itself w.number)) in
-            ap (λ n. option_map (λ (o : Objects). claim_settings o.manifest 0 (specs job.id)) (objects_at_claim met.store.tables specs job.id n now.store.history (plain_objects fresh_store))) waits.origin
+            let claimed = next_get met.store.tables specs w.number job.id (job.attempt + 1) who.line met.store.manifest.version who.party met.store.history (plain_objects fresh_store) awaits (subst (λ p. is_worker w.number p ≡ true) (sym own) (is_itself w.number)) in
+            ap (λ n. option_map (λ (o : Objects). claim_settings o.manifest 0 (specs job.id)) (objects_got met.store.tables specs job.id n now.store.history (plain_objects fresh_store))) waits.origin
             ∙ ap (option_map (λ (o : Objects). claim_settings o.manifest 0 (specs job.id))) (claimed ∙ ap Some objects)
             ∙ ap Some (same_settings (specs job.id) (waits.spec specs faithful))
 
