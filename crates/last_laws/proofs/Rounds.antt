@@ -4,7 +4,8 @@ use Rattle.std.specs.Prelude.{IsTrue, ⊤}
 use Rattle.script_model.specs.Script.{Line, Poll, ClaimJobs, FinishJob}
 use Rattle.script_model.specs.States.{Inputs, State}
 use Rattle.script_model.specs.LineSteps.{OneCourse}
-use Rattle.script_model.specs.Settles.{is_ok, has_active, has_added, jobs_run, EndsOr, Step, FinishesInTurn, AfterPoll, Rounds}
+use Rattle.script_model.specs.Settles.{is_ok, has_active, has_added, jobs_run}
+use Rattle.script_model.proofs.Rounds.{settle_unfolds, EndsOr, Step, FinishesInTurn, AfterPoll, Rounds}
 use Rattle.last_laws.specs.Rounds.{WentWell, FinishedAll, WorkedOn, Round, HasSettled, CountedRoundsSettle}
 
 -- A step of a line whose reply is ok went well.
@@ -150,4 +151,4 @@ all_rounds_settle inputs number coordinator worker Kept Fits count back lower ro
 
 pub counted_rounds_settle : CountedRoundsSettle
 counted_rounds_settle inputs number coordinator worker test count lower rounds old answer new kept low run ok =
-    all_rounds_settle inputs number coordinator worker (λ s. IsTrue (test s)) (λ s. ⊤) count (λ number line old answer new one fits. tt) (λ old new kept fits round. lower old new kept round) rounds old answer new kept tt low run ok
+    all_rounds_settle inputs number coordinator worker (λ s. IsTrue (test s)) (λ s. ⊤) count (λ number line old answer new one fits. tt) (λ old new kept fits round. lower old new kept round) rounds old answer new kept tt low (settle_unfolds inputs number coordinator worker rounds old answer new run) ok

@@ -23,7 +23,8 @@ use Rattle.script_model.specs.LineRuns.{if_some, no_such_party, run_line}
 use Rattle.script_model.specs.LineCourses.{attempt_numbered, job_at, course_of}
 use Rattle.script_model.specs.LineSteps.{OneCourse}
 use Rattle.script_model.specs.Follows.{SettleStep}
-use Rattle.script_model.specs.Settles.{is_ok, are_live, has_active, has_added, jobs_run, Rounds}
+use Rattle.script_model.specs.Settles.{is_ok, are_live, has_active, has_added, jobs_run, SettleRun}
+use Rattle.script_model.proofs.Rounds.{settle_unfolds}
 use Rattle.line_laws.specs.States.{StateKeeps}
 use Rattle.line_laws.specs.ClaimLines.{stopped_in, begun_in, with_claimed, ClaimRan}
 use Rattle.line_laws.specs.FinishLines.{FinishRan}
@@ -364,7 +365,7 @@ pub settle_lines_settle : SettleLinesSettle
 unfolding count
 settle_lines_settle inputs is_small old coordinator worker rounds answer new h = by (are_live coordinator worker old) refl h.ran
   where
-    settled : are_live coordinator worker old ≡ true → Rounds inputs h.number coordinator worker rounds 0 old answer new → SettledSmall is_small old answer new
+    settled : are_live coordinator worker old ≡ true → SettleRun inputs h.number coordinator worker rounds old answer new → SettledSmall is_small old answer new
     settled e run =
         let there = is_there coordinator worker old e in
         let kept : Kept inputs worker old = record {
@@ -380,7 +381,7 @@ settle_lines_settle inputs is_small old coordinator worker rounds answer new h =
         } in
         let fits : Fits new = record { room = h.had_room; free = h.free_ids } in
         let enough = h.enough in
-        let r = all_rounds_settle inputs h.number coordinator worker (Kept inputs worker) Fits count (fits_back inputs) (lower inputs is_small h.number coordinator worker h.lawful h.settling) rounds old answer new kept fits (omega (arith, enough)) run h.not_refused in
+        let r = all_rounds_settle inputs h.number coordinator worker (Kept inputs worker) Fits count (fits_back inputs) (lower inputs is_small h.number coordinator worker h.lawful h.settling) rounds old answer new kept fits (omega (arith, enough)) (settle_unfolds inputs h.number coordinator worker rounds old answer new run) h.not_refused in
         let last = r.polled in
         let p = poll_settles inputs is_small h.number coordinator r.last last.replied last.after h.lawful h.settling r.kept.ready (subst Fits last.rest fits) last.does last.ok in
         let time = r.in_time in

@@ -3,7 +3,7 @@ use Rattle.std.specs.Prelude.{◌≡◌, ℕ, ◌+◌, ◌<◌, ◌≤◌, Bool,
 use Rattle.script_model.specs.Script.{Line, Poll, ClaimJobs, FinishJob}
 use Rattle.script_model.specs.States.{Inputs, State}
 use Rattle.script_model.specs.LineSteps.{OneCourse}
-use Rattle.script_model.specs.Settles.{is_ok, has_active, has_added, jobs_run, settled_reply, Rounds}
+use Rattle.script_model.specs.Settles.{is_ok, has_active, has_added, jobs_run, settled_reply, SettleRun}
 
 -- One step of a settle line that is not refused. `Rest` holds of the state after it.
 pub record WentWell (inputs : Inputs) (number : ℕ) (line : Line) (old : State) (Rest : State → Type 0) : Type 0 where
@@ -50,5 +50,5 @@ RoundsLower inputs number coordinator worker Kept count = (old new : State) → 
 -- a step is refused. They do so in at most one round more than the count.
 abbrev pub CountedRoundsSettle : Type 0
 CountedRoundsSettle = (inputs : Inputs) (number coordinator worker : ℕ) (test : State → Bool) (count : State → ℕ) → RoundsLower inputs number coordinator worker (λ s. IsTrue (test s)) count
-    → (rounds : ℕ) (old : State) (answer : List ℕ) (new : State) → IsTrue (test old) → count old < rounds → Rounds inputs number coordinator worker rounds 0 old answer new → is_ok answer ≡ true
+    → (rounds : ℕ) (old : State) (answer : List ℕ) (new : State) → IsTrue (test old) → count old < rounds → SettleRun inputs number coordinator worker rounds old answer new → is_ok answer ≡ true
     → HasSettled inputs number coordinator (λ s. IsTrue (test s)) (count old + 1) answer new

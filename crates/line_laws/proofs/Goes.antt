@@ -6,7 +6,8 @@ use Rattle.script_model.specs.LineRuns.{run_line}
 use Rattle.script_model.specs.LineCourses.{prepared_state, course_of, job_at}
 use Rattle.script_model.specs.Refusals.{FinishMay}
 use Rattle.script_model.specs.LineSteps.{MayRefuse, OneCourse}
-use Rattle.script_model.specs.Settles.{is_ok, are_live, jobs_run, has_active, has_added, settled_reply, all_taken, EndsOr, Step, FinishesInTurn, AfterPoll, Rounds}
+use Rattle.script_model.specs.Settles.{is_ok, are_live, jobs_run, has_active, has_added, settled_reply, all_taken}
+use Rattle.script_model.proofs.Rounds.{settle_folds, EndsOr, Step, FinishesInTurn, AfterPoll, Rounds}
 use Rattle.script_model.specs.Follows.{SettleStep}
 use Rattle.line_laws.specs.Goes.{LinesGo}
 
@@ -68,7 +69,8 @@ rounds_go inputs number coordinator worker (suc left) taken s may =
     (λ next. rounds_go inputs number coordinator worker left (taken + 1) next may))
 
 settle_goes : (live : Bool) (inputs : Inputs) (number : ℕ) (old : State) (coordinator worker rounds : ℕ) → ((t : State) (job : ℕ) → FinishMay inputs t (job_at t worker job) None) → Some2 (SettleStep live inputs number old coordinator worker rounds)
-settle_goes true inputs number old coordinator worker rounds may = rounds_go inputs number coordinator worker rounds 0 old may
+settle_goes true inputs number old coordinator worker rounds may =
+    let g = rounds_go inputs number coordinator worker rounds 0 old may in record { answer = g.answer; new = g.new; has = settle_folds inputs number coordinator worker rounds old g.answer g.new g.has }
 settle_goes false inputs number old coordinator worker rounds may = once inputs number old (Settle coordinator worker rounds) refl
 
 -- ---- all lines

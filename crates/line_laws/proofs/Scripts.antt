@@ -15,7 +15,8 @@ use Rattle.script_model.specs.States.{Inputs, State, FleetOptions, fresh_state}
 use Rattle.script_model.specs.LineRuns.{run_line}
 use Rattle.script_model.specs.LineCourses.{prepared_state, course_of}
 use Rattle.script_model.specs.LineSteps.{MayRefuse, OneCourse}
-use Rattle.script_model.specs.Settles.{is_ok, are_live, has_active, has_added, jobs_run, EndsOr, Step, FinishesInTurn, AfterPoll, Rounds}
+use Rattle.script_model.specs.Settles.{is_ok, are_live, has_active, has_added, jobs_run}
+use Rattle.script_model.proofs.Rounds.{settle_unfolds, EndsOr, Step, FinishesInTurn, AfterPoll, Rounds}
 use Rattle.script_model.specs.Follows.{SettleStep, LineStep, ScriptRun}
 use Rattle.line_laws.specs.Alone.{HadRoom}
 use Rattle.line_laws.specs.States.{StateKeeps}
@@ -171,7 +172,7 @@ refused_same inputs number old coordinator worker rounds answer new one = sym (a
 
 pub settle_steps : (live : Bool) (inputs : Inputs) (number : ℕ) (old : State) (coordinator worker rounds : ℕ) (answer : List ℕ) (new : State) → SettleStep live inputs number old coordinator worker rounds answer new
     → Steps inputs number coordinator worker old answer new
-settle_steps true inputs number old coordinator worker rounds answer new step = rounds_steps inputs number coordinator worker rounds 0 old answer new step
+settle_steps true inputs number old coordinator worker rounds answer new step = rounds_steps inputs number coordinator worker rounds 0 old answer new (settle_unfolds inputs number coordinator worker rounds old answer new step)
 settle_steps false inputs number old coordinator worker rounds answer new step = no_steps inputs number coordinator worker old answer new (refused_same inputs number old coordinator worker rounds answer new step)
 
 step_asked_well : (coordinator worker : ℕ) (line : Line) → IsStepOf coordinator worker line → IsAskedWell line

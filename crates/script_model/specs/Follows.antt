@@ -6,13 +6,16 @@ use Rattle.fleet_model.specs.Store.{Store}
 use Rattle.script_model.specs.Script.{Line, Settle, Together, Grammar, IsScript}
 use Rattle.script_model.specs.States.{Inputs, State, FleetOptions, fresh_state}
 use Rattle.script_model.specs.LineSteps.{OneCourse}
-use Rattle.script_model.specs.Settles.{are_live, Rounds}
+use Rattle.script_model.specs.Settles.{are_live, SettleRun}
 
 -- How a settle line is run: in rounds if both its parties are live, and otherwise by one course,
 -- which refuses it.
-abbrev pub SettleStep : Bool → Inputs → ℕ → State → ℕ → ℕ → ℕ → List ℕ → State → Type 0
-SettleStep true inputs number old coordinator worker rounds answer new = Rounds inputs number coordinator worker rounds 0 old answer new
-SettleStep false inputs number old coordinator worker rounds answer new = OneCourse inputs number old (Settle coordinator worker rounds) answer new
+abbrev pub SettleStep : (live : Bool) → Inputs → (number : ℕ) → (old : State) → (coordinator worker rounds : ℕ)
+    → (answer : List ℕ) → (new : State) → Type 0
+SettleStep true inputs number old coordinator worker rounds answer new =
+    SettleRun inputs number coordinator worker rounds old answer new
+SettleStep false inputs number old coordinator worker rounds answer new =
+    OneCourse inputs number old (Settle coordinator worker rounds) answer new
 
 -- One line takes the old state to the new one with this reply. Lines are numbered from 1. A settle
 -- line may run several courses, and each other line runs one. Nothing here says what a together line

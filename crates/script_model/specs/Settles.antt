@@ -49,38 +49,74 @@ settled_reply round = reply (codes "ok" ∷ codes "settled" ∷ decimal round �
 abbrev pub all_taken : ℕ → List ℕ
 all_taken rounds = reply (codes "ok" ∷ codes "rounds" ∷ decimal rounds ∷ [])
 
--- What follows a step of a settle line. If the step's reply is ok, the rest of the line follows.
--- Otherwise the step's reply is that of the line, and the state after the step is the state after
--- the line.
-abbrev pub EndsOr : Bool → List ℕ → State → List ℕ → State → Type 0 → Type 0
-EndsOr true replied after answer new rest = rest
-EndsOr false replied after answer new rest = (answer ≡ replied) × (new ≡ after)
+-- ---- what comes next
 
--- One step of a settle line: it does what this line alone would do, and `Rest` goes on from the
--- state after it.
-pub record Step (inputs : Inputs) (number : ℕ) (line : Line) (old : State) (answer : List ℕ) (new : State) (Rest : State → Type 0) : Type 0 where
-  pub replied : List ℕ
+-- Where a settle line is, with the rounds that may still follow and those that were begun.
+pub data Place : Type 0 where
+  BeforePoll : (left begun : ℕ) → Place
+  HasPolled : (left begun : ℕ) → Place
+  HasClaimed : (left begun : ℕ) → Place
+  ToFinish : (jobs : List ℕ) → (left begun : ℕ) → Place
+
+-- What a settle line does next: a step that brings it to a place, or its own reply.
+pub data Turn : Type 0 where
+  Takes : (line : Line) → (to : Place) → Turn
+  Answers : (answer : List ℕ) → Turn
+
+-- A round begins with a poll of the coordinator. If no more rounds may follow, the reply says how many
+-- were begun.
+abbrev pub next_round : (coordinator left begun : ℕ) → Turn
+next_round coordinator zero begun = Answers (all_taken begun)
+next_round coordinator (suc left) begun = Takes (Poll coordinator) (HasPolled left (begun + 1))
+
+-- What follows the poll of a round. If a stored job is active, the worker claims jobs. If none is
+-- active but the poll added a job, the next round follows. Otherwise the line has settled.
+abbrev pub next_claim : (active added : Bool) → (coordinator worker left begun : ℕ) → Turn
+next_claim true added coordinator worker left begun = Takes (ClaimJobs worker) (HasClaimed left begun)
+next_claim false true coordinator worker left begun = next_round coordinator left begun
+next_claim false false coordinator worker left begun = Answers (settled_reply begun)
+
+-- The worker finishes the first of these jobs. If there is none, the next round follows.
+abbrev pub next_finish : (coordinator worker : ℕ) → (jobs : List ℕ) → (left begun : ℕ) → Turn
+next_finish coordinator worker [] left begun = next_round coordinator left begun
+next_finish coordinator worker (job ∷ jobs) left begun = Takes (FinishJob worker job) (ToFinish jobs left begun)
+
+-- What a settle line does next at this place and in this state. After its claim the worker finishes all
+-- jobs that it runs.
+abbrev pub next_turn : (coordinator worker : ℕ) → Place → State → Turn
+next_turn coordinator worker (BeforePoll left begun) s = next_round coordinator left begun
+next_turn coordinator worker (HasPolled left begun) s =
+    next_claim (has_active s) (has_added coordinator s) coordinator worker left begun
+next_turn coordinator worker (HasClaimed left begun) s =
+    next_finish coordinator worker (jobs_run worker s) left begun
+next_turn coordinator worker (ToFinish jobs left begun) s = next_finish coordinator worker jobs left begun
+
+-- ---- the steps
+
+-- A step of a settle line: the line that it does, the reply, and the state after it.
+pub record StepTaken : Type 0 where
+  pub line : Line
+  pub reply : List ℕ
   pub after : State
-  pub does : OneCourse inputs number old line replied after
-  pub rest : EndsOr (is_ok replied) replied after answer new (Rest after)
 
--- The worker finishes these jobs in order. Then `Rest` goes on.
-abbrev pub FinishesInTurn : Inputs → ℕ → ℕ → List ℕ → State → List ℕ → State → (State → Type 0) → Type 0
-FinishesInTurn inputs number worker [] s answer new Rest = Rest s
-FinishesInTurn inputs number worker (job ∷ jobs) s answer new Rest = Step inputs number (FinishJob worker job) s answer new (λ after. FinishesInTurn inputs number worker jobs after answer new Rest)
+-- Each step does what its line alone would do, in the state that the step before it left.
+abbrev pub StepsLead : Inputs → (number : ℕ) → (old : State) → List StepTaken → (new : State) → Type 0
+StepsLead inputs number old [] new = new ≡ old
+StepsLead inputs number old (step ∷ steps) new =
+    OneCourse inputs number old step.line step.reply step.after × StepsLead inputs number step.after steps new
 
--- What follows the poll of a round. If a stored job is active, the worker claims jobs and finishes
--- all that it runs, and the next round follows. If none is active but the poll added a job, the
--- next round follows. Otherwise the line has settled.
-abbrev pub AfterPoll : (active added : Bool) → Inputs → ℕ → ℕ → ℕ → State → List ℕ → State → (State → Type 0) → Type 0
-AfterPoll true added inputs number worker round s answer new Next = Step inputs number (ClaimJobs worker) s answer new (λ claimed. FinishesInTurn inputs number worker (jobs_run worker claimed) claimed answer new Next)
-AfterPoll false true inputs number worker round s answer new Next = Next s
-AfterPoll false false inputs number worker round s answer new Next = (answer ≡ settled_reply round) × (new ≡ s)
+-- The steps come in turn, from this place and state on, and then the settle line gives this reply. A
+-- step that is refused is the last one, and the line replies as this step does.
+abbrev pub ComeInTurn : (coordinator worker : ℕ) → Place → State → List StepTaken → (answer : List ℕ) → Type 0
+ComeInTurn coordinator worker place s [] answer = next_turn coordinator worker place s ≡ Answers answer
+ComeInTurn coordinator worker place s (step ∷ steps) answer = (to : Place)
+    × (next_turn coordinator worker place s ≡ Takes step.line to)
+    × (is_ok step.reply ≡ true → ComeInTurn coordinator worker to step.after steps answer)
+    × (is_ok step.reply ≡ false → (steps ≡ []) × (answer ≡ step.reply))
 
--- The rounds of a settle line, where `taken` rounds are over and `left` may follow. If no more may
--- follow, the reply says how many were taken.
-abbrev pub Rounds : Inputs → ℕ → ℕ → ℕ → (left taken : ℕ) → State → List ℕ → State → Type 0
-Rounds inputs number coordinator worker zero taken s answer new = (answer ≡ all_taken taken) × (new ≡ s)
-Rounds inputs number coordinator worker (suc left) taken s answer new =
-    Step inputs number (Poll coordinator) s answer new (λ after.
-    AfterPoll (has_active after) (has_added coordinator after) inputs number worker (taken + 1) after answer new (λ next. Rounds inputs number coordinator worker left (taken + 1) next answer new))
+-- A settle line of at most so many rounds takes the old state to the new one with this reply.
+pub record SettleRun (inputs : Inputs) (number coordinator worker rounds : ℕ) (old : State) (answer : List ℕ)
+    (new : State) : Type 0 where
+  pub steps : List StepTaken
+  pub lead : StepsLead inputs number old steps new
+  pub in_turn : ComeInTurn coordinator worker (BeforePoll rounds 0) old steps answer
