@@ -12,7 +12,7 @@ use Rattle.row_model.specs.Settings.{Settings}
 use Rattle.row_model.specs.Sizes.{content_len}
 use Rattle.row_model.specs.Bounds.{IsInBounds}
 use Rattle.row_model.specs.Ranges.{Range, rows_in, is_in_range}
-use Rattle.row_model.specs.FoldedRows.{opens_group, takes_next, operand_groups, group_operands, group_base, base_in, base_bytes, content_of, group_content, group_row, greatest_created, folded_chunk, cons_both, all_or_none, folded_rows}
+use Rattle.row_model.specs.FoldedRows.{GroupBase, NoBase, TombstoneBase, ValueBase, opens_group, takes_next, operand_groups, group_operands, group_base, base_in, base_bytes, content_of, group_content, group_row, greatest_created, folded_chunk, cons_both, all_or_none, folded_rows}
 use Rattle.row_model.specs.KeptRows.{as_tombstone_if_expired, retention_walk, before_old_tombstones, without_old_tombstones, kept_rows}
 use Rattle.row_model.specs.JobRows.{JobRows, key_rows, before_refusal, joined_keys, job_rows}
 use Rattle.row_laws.proofs.Order.{jobs_keep_order}
@@ -58,10 +58,10 @@ few_fold merge short key e (x ∷ xs) few = few_fold merge short key (Some (merg
 
 -- ---- groups
 
-abbrev FewBase : Option (Option (List ℕ)) → Type 0
-FewBase None = ⊤
-FewBase (Some None) = ⊤
-FewBase (Some (Some bytes)) = length bytes < 2 ^ 32
+abbrev FewBase : GroupBase → Type 0
+FewBase NoBase = ⊤
+FewBase TombstoneBase = ⊤
+FewBase (ValueBase bytes) = length bytes < 2 ^ 32
 
 base_few : (rows : List Row) → AreInBounds rows → FewBase (group_base rows)
 base_few [] h = tt
@@ -72,18 +72,17 @@ base_few (r ∷ rows) h = by r.content (h.0.content) (base_few rows h.1)
     by (Merge bytes) few rest = rest
     by Tombstone few rest = tt
 
-bytes_few : (base : Option (Option (List ℕ))) → FewBase base → IfSome (option_map Merged (base_bytes base)) IsFew
-bytes_few None few = tt
-bytes_few (Some None) few = tt
-bytes_few (Some (Some bytes)) few = few
+bytes_few : (base : GroupBase) → FewBase base → IfSome (option_map Merged (base_bytes base)) IsFew
+bytes_few NoBase few = tt
+bytes_few TombstoneBase few = tt
+bytes_few (ValueBase bytes) few = few
 
-content_few : (base : Option (Option (List ℕ))) (o : Option Outcome) → IfSome o IsFew → IfSome (content_of base o) (λ content. content_len content < 2 ^ 32)
-content_few (Some base) (Some (Merged bytes)) few = few
-content_few None (Some (Merged bytes)) few = few
-content_few (Some base) (Some (Refused message)) few = tt
-content_few None (Some (Refused message)) few = tt
-content_few (Some base) None few = tt
-content_few None None few = tt
+content_few : (base : GroupBase) (o : Option Outcome) → IfSome o IsFew → IfSome (content_of base o) (λ content. content_len content < 2 ^ 32)
+content_few (ValueBase base) (Some (Merged bytes)) few = few
+content_few TombstoneBase (Some (Merged bytes)) few = few
+content_few NoBase (Some (Merged bytes)) few = few
+content_few base (Some (Refused message)) few = tt
+content_few base None few = tt
 
 chunk_in_bounds : (merge : Operator) → IsShort merge → (cut : ℕ) (g : Chunk Row) → AreInBounds (elements g) → IfSome (folded_chunk merge cut g) IsInBounds
 chunk_in_bounds merge short cut g h = by (opens_group cut g.0)

@@ -7,7 +7,7 @@ use Rattle.std.proofs.lemmas.Option.{same_Some}
 use Rattle.row_model.specs.Bounds.{IsInBounds}
 use Rattle.row_model.specs.Chunks.{Chunk, elements, chunk_by, put_before}
 use Rattle.row_model.specs.Fold.{Operator, Outcome, Merged, Refused, merge_one, fold, fold_bytes, IsLawful}
-use Rattle.row_model.specs.FoldedRows.{opens_group, takes_next, operand_groups, group_operands, group_base, base_in, base_bytes, content_of, group_content, group_row, greatest_created, folded_chunk, all_or_none, folded_rows}
+use Rattle.row_model.specs.FoldedRows.{GroupBase, NoBase, TombstoneBase, ValueBase, opens_group, takes_next, operand_groups, group_operands, group_base, base_in, base_bytes, content_of, group_content, group_row, greatest_created, folded_chunk, all_or_none, folded_rows}
 use Rattle.row_model.specs.JobRows.{JobRows, key_rows, before_refusal, joined_keys, job_rows}
 use Rattle.row_model.specs.KeptRows.{kept_rows, as_tombstone_if_expired}
 use Rattle.row_model.specs.Ranges.{Range, is_in_range}
@@ -81,10 +81,10 @@ module _ (merge : Operator) (lawful : IsLawful merge) (key : List ℕ) where
 
 -- ---- the row of a group
 
-abbrev IsShortBase : Option (Option (List ℕ)) → Type 0
+abbrev IsShortBase : GroupBase → Type 0
 IsShortBase base = IsShortOrNone (option_map Merged (base_bytes base))
 
-base_step : (content : Content) (older : Option (Option (List ℕ))) → content_len content < 2 ^ 32 → IsShortBase older → IsShortBase (base_in content older)
+base_step : (content : Content) (older : GroupBase) → content_len content < 2 ^ 32 → IsShortBase older → IsShortBase (base_in content older)
 base_step (Value bytes) older h rest = h
 base_step (Merge bytes) older h rest = rest
 base_step Tombstone older h rest = tt
@@ -93,13 +93,12 @@ base_short : (rows : List Row) → AreInBounds rows → IsShortBase (group_base 
 base_short [] h = tt
 base_short (r ∷ rows) h = base_step r.content (group_base rows) h.0.content (base_short rows h.1)
 
-content_short : (base : Option (Option (List ℕ))) (answer : Option Outcome) (content : Content) → IsShortOrNone answer → content_of base answer ≡ Some content → content_len content < 2 ^ 32
-content_short (Some base) (Some (Merged bytes)) content h is = subst (λ (c : Content). content_len c < 2 ^ 32) (same_Some _ _ is) h
-content_short None (Some (Merged bytes)) content h is = subst (λ (c : Content). content_len c < 2 ^ 32) (same_Some _ _ is) h
-content_short (Some base) (Some (Refused message)) content h is = absurd (cc is)
-content_short None (Some (Refused message)) content h is = absurd (cc is)
-content_short (Some base) None content h is = absurd (cc is)
-content_short None None content h is = absurd (cc is)
+content_short : (base : GroupBase) (answer : Option Outcome) (content : Content) → IsShortOrNone answer → content_of base answer ≡ Some content → content_len content < 2 ^ 32
+content_short (ValueBase base) (Some (Merged bytes)) content h is = subst (λ (c : Content). content_len c < 2 ^ 32) (same_Some _ _ is) h
+content_short TombstoneBase (Some (Merged bytes)) content h is = subst (λ (c : Content). content_len c < 2 ^ 32) (same_Some _ _ is) h
+content_short NoBase (Some (Merged bytes)) content h is = subst (λ (c : Content). content_len c < 2 ^ 32) (same_Some _ _ is) h
+content_short base (Some (Refused message)) content h is = absurd (cc is)
+content_short base None content h is = absurd (cc is)
 
 module _ (merge : Operator) (lawful : IsLawful merge) where
   group_bounds : (g : Chunk Row) (x : Row) → AreInBounds (elements g) → group_row merge g ≡ Some x → IsInBounds x

@@ -4,7 +4,7 @@ use Rattle.std.specs.Prelude.{Result}
 use Rattle.std.specs.Option.{option_or}
 use Rattle.row_model.specs.Rows.{Row, Content, Value, Merge, Tombstone, is_merge, is_operand}
 use Rattle.row_model.specs.Fold.{Operator, fold_bytes}
-use Rattle.row_model.specs.FoldedRows.{group_base, base_in, base_bytes, greatest_created, greater_stamp}
+use Rattle.row_model.specs.FoldedRows.{GroupBase, NoBase, merged_content, group_base, base_in, base_bytes, greatest_created, greater_stamp}
 use Rattle.std.proofs.lemmas.List.{append-nil}
 use Rattle.row_laws.specs.Batches.{batches}
 use Rattle.fleet_rows.specs.declared.errors.SlateDBError.TheVariants.{InvalidSequenceOrder}
@@ -14,7 +14,7 @@ use Rattle.fleet_rows.specs.declared.row.ValueDeletable.{ValueDeletable}
 use Rattle.fleet_rows.specs.declared.row.ValueDeletable.TheVariants as value
 use Rattle.fleet_rows.specs.declared.errors.SlateDBError.{SlateDBError}
 use Rattle.fleet_fold.specs.declared.group.Group.{Group}
-use Rattle.fleet_fold.specs.Folded.{above, in_order, answer_of, batch_answer, batch_len, all_answers, over_base, operands_in, base_among, lesser_stamp, least_expiry, group_answer, merged_content, row_of_answer}
+use Rattle.fleet_fold.specs.Folded.{above, in_order, answer_of, batch_answer, batch_len, all_answers, over_base, operands_in, base_among, lesser_stamp, least_expiry, group_answer, row_of_answer}
 use Rattle.fleet_fold.specs.Groups.{IsMerged, Notes, Flushes, RefusesFlush, RefusesAs, Closes, RefusesClose, with_value}
 use Rattle.fleet_fold.proofs.GroupRows.{greatest-snoc, least-snoc, operands_in-append, base_among-append, group_base-append, no_operand, own_base}
 use Rattle.fleet_fold.proofs.GroupBatches.{all_ok}
@@ -32,12 +32,12 @@ operand_has_bytes (value.Value bytes) is h = cc is
 operand_has_bytes (value.Merge bytes) is h = cc h
 operand_has_bytes value.Tombstone is h = cc is
 
-pub base_is : (v : ValueDeletable) → is_merge (row.content_of v) ≡ false → base_bytes (base_in (row.content_of v) None) ≡ bytes_of v
+pub base_is : (v : ValueDeletable) → is_merge (row.content_of v) ≡ false → base_bytes (base_in (row.content_of v) NoBase) ≡ bytes_of v
 base_is (value.Value bytes) is = refl
 base_is (value.Merge bytes) is = absurd (cc is)
 base_is value.Tombstone is = refl
 
-over_a_base : (c : Content) (bytes : List ℕ) → is_merge c ≡ false → merged_content (base_in c None) bytes ≡ Value bytes
+over_a_base : (c : Content) (bytes : List ℕ) → is_merge c ≡ false → merged_content (base_in c NoBase) bytes ≡ Value bytes
 over_a_base (Value own) bytes is = refl
 over_a_base (Merge own) bytes is = absurd (cc is)
 over_a_base Tombstone bytes is = refl
@@ -68,7 +68,7 @@ module _ (merge : Operator) where
       let h = all_merged merge old g first taken gathers flushes in
       ap (row_of_answer (first, taken ++ [])) (answer_at first taken [] g h refl refl ∙ (ap (λ (k : List ℕ). answer_of (fold_bytes merge k None (reverse g.folded.items))) (sym h.key) ∙ is))
       ∙ ap Ok (same_row (merged_content (group_base (taken ++ [])) bytes) (Merge bytes) first.key g.key first.seq g.seq _ g.created _ g.expires
-      (ap (λ (o : Option (Option (List ℕ))). merged_content o bytes) (group_base-append taken [] h.operands.1))
+      (ap (λ (o : GroupBase). merged_content o bytes) (group_base-append taken [] h.operands.1))
       (sym h.key) (sym h.seq)
       (ap (λ (w : List Row). greatest_created (first ∷ w)) (append-nil taken) ∙ sym h.created)
       (ap (λ (w : List Row). least_expiry (first ∷ w)) (append-nil taken) ∙ sym h.expires))
@@ -103,7 +103,7 @@ module _ (merge : Operator) where
       let h = all_merged merge old g first taken gathers flushes in
       ap (row_of_answer (first, taken ++ r ∷ [])) (noted_answer first taken g noted r h notes plain ∙ (in_order_is noted.seq noted.late _ checked ∙ is))
       ∙ ap Ok (same_row (merged_content (group_base (taken ++ r ∷ [])) bytes) (Value bytes) first.key noted.key first.seq noted.seq _ noted.created _ noted.expires
-      (ap (λ (o : Option (Option (List ℕ))). merged_content o bytes) (group_base-append taken (r ∷ []) h.operands.1) ∙ over_a_base r.content bytes plain)
+      (ap (λ (o : GroupBase). merged_content o bytes) (group_base-append taken (r ∷ []) h.operands.1) ∙ over_a_base r.content bytes plain)
       (sym (notes.key ∙ h.key)) (sym (notes.seq ∙ h.seq))
       (greatest-snoc (first ∷ taken) r ∙ sym (notes.created ∙ ap (λ (w : Option ℤ). greater_stamp w r.created) h.created))
       (least-snoc (first ∷ taken) r ∙ sym (notes.expires ∙ ap (λ (w : Option ℤ). lesser_stamp w r.expires) h.expires)))

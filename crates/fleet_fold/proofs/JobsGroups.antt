@@ -9,7 +9,7 @@ use Rattle.std.proofs.lemmas.Bool.{leb-true, le-leb}
 use Rattle.std.proofs.lemmas.List.{reverse-append, reverse-reverse}
 use Rattle.row_model.specs.Chunks.{Chunk, elements}
 use Rattle.row_model.specs.Fold.{Operator, Outcome, Merged, Refused, fold_bytes, IsLawful}
-use Rattle.row_model.specs.FoldedRows.{same_stamp, with_group_operand, group_operands, base_in, group_base, base_bytes, content_of, group_content, group_row, greatest_created, cons_both}
+use Rattle.row_model.specs.FoldedRows.{GroupBase, merged_content, same_stamp, with_group_operand, group_operands, base_in, group_base, base_bytes, content_of, group_content, group_row, greatest_created, cons_both}
 use Rattle.row_model.specs.Rows.{Row, Content, Value, Merge, Tombstone, is_merge, is_operand}
 use Rattle.row_laws.specs.Batches.{bytes_of, batch_results, content_over, batches}
 use Rattle.row_laws.specs.Walks.{taken_rows}
@@ -18,7 +18,7 @@ use Rattle.row_laws.proofs.Batches.{folds_by_batches}
 use Rattle.row_laws.proofs.Elements.{all_weaken}
 use Rattle.row_laws.proofs.GroupReads.{and_left, and_right}
 use Rattle.fleet_rows.specs.declared.errors.SlateDBError.{SlateDBError}
-use Rattle.fleet_fold.specs.Folded.{above, last_above, in_order, answer_of, batch_answer, all_answers, over_base, batch_len, operands_in, base_among, group_answer, lesser_stamp, least_expiry, merged_content, merged_row, row_of_answer, merged_group}
+use Rattle.fleet_fold.specs.Folded.{above, last_above, in_order, answer_of, batch_answer, all_answers, over_base, batch_len, operands_in, base_among, group_answer, lesser_stamp, least_expiry, merged_row, row_of_answer, merged_group}
 use Rattle.fleet_fold.proofs.JobsBatches.{AllIn, batches_mapped, batches_all, more_ok}
 
 -- ---- the operands of a group
@@ -44,7 +44,7 @@ no_operand (Value bytes) h = refl
 no_operand (Merge bytes) h = absurd (cc h)
 no_operand Tombstone h = refl
 
-no_base : (c : Content) (older : Option (Option (List ℕ))) → is_merge c ≡ true → base_in c older ≡ older
+no_base : (c : Content) (older : GroupBase) → is_merge c ≡ true → base_in c older ≡ older
 no_base (Value bytes) older h = absurd (cc h)
 no_base (Merge bytes) older h = refl
 no_base Tombstone older h = absurd (cc h)
@@ -152,13 +152,10 @@ answer_ok None = refl
 answer_ok (Some (Merged bytes)) = refl
 answer_ok (Some (Refused message)) = refl
 
-merged_as : (base : Option (Option (List ℕ))) (o : Option Outcome) → option_map (merged_content base) (bytes_of o) ≡ content_of base o
-merged_as None None = refl
-merged_as None (Some (Merged bytes)) = refl
-merged_as None (Some (Refused message)) = refl
-merged_as (Some base) None = refl
-merged_as (Some base) (Some (Merged bytes)) = refl
-merged_as (Some base) (Some (Refused message)) = refl
+merged_as : (base : GroupBase) (o : Option Outcome) → option_map (merged_content base) (bytes_of o) ≡ content_of base o
+merged_as base None = refl
+merged_as base (Some (Merged bytes)) = refl
+merged_as base (Some (Refused message)) = refl
 
 abbrev pub UpTo : ℕ → Row → Type 0
 UpTo seq q = q.seq ≤ seq
@@ -187,13 +184,13 @@ module _ (merge : Operator) (first : Row) where
       ∙ (ap (λ (o : Option (List ℕ)). cons_both o (result_ok (all_answers (map (batch_answer merge first) bs)))) (batch_ok b lower.0 operands.0)
       ∙ ap (cons_both (bytes_of (fold_bytes merge first.key None (reverse (map row_bytes b))))) (batches_ok bs lower.1 operands.1))
 
-  over_ok : (base : List Row) (found : Option (Option (List ℕ))) (results : Result (List (List ℕ)) SlateDBError) → AllByRecursion (UpTo first.seq) base → group_base base ≡ found
+  over_ok : (base : List Row) (found : GroupBase) (results : Result (List (List ℕ)) SlateDBError) → AllByRecursion (UpTo first.seq) base → group_base base ≡ found
       → option_map (merged_content found) (result_ok (over_base merge first base results)) ≡ content_over merge first.key found (result_ok results)
   over_ok base found (Err e) lower is = refl
   over_ok base found (Ok results) lower is =
       ap (λ (a : Result (List ℕ) SlateDBError). option_map (merged_content found) (result_ok a)) (ordered first.seq base (answer_of (fold_bytes merge first.key (base_bytes (group_base base)) (reverse results))) lower)
       ∙ (ap (option_map (merged_content found)) (answer_ok (fold_bytes merge first.key (base_bytes (group_base base)) (reverse results)))
-      ∙ (ap (λ (b : Option (Option (List ℕ))). option_map (merged_content found) (bytes_of (fold_bytes merge first.key (base_bytes b) (reverse results)))) is
+      ∙ (ap (λ (b : GroupBase). option_map (merged_content found) (bytes_of (fold_bytes merge first.key (base_bytes b) (reverse results)))) is
       ∙ merged_as found (fold_bytes merge first.key (base_bytes found) (reverse results))))
 
 -- ---- the row
@@ -205,18 +202,18 @@ row_ok : (g : Chunk Row) (answer : Result (List ℕ) SlateDBError) → result_ok
 row_ok g (Ok bytes) = refl
 row_ok g (Err e) = refl
 
-same_row : (g : Chunk Row) (base : Option (Option (List ℕ))) (o : Option (List ℕ)) → group_base g.1 ≡ base → least_expiry (elements g) ≡ g.0.expires
+same_row : (g : Chunk Row) (base : GroupBase) (o : Option (List ℕ)) → group_base g.1 ≡ base → least_expiry (elements g) ≡ g.0.expires
     → option_map (merged_row g) o ≡ option_map (λ content. record g.0 { content = content; created = greatest_created (elements g) }) (option_map (merged_content base) o)
 same_row g base None is stamp = refl
 same_row g base (Some bytes) is stamp =
-    ap (λ (b : Option (Option (List ℕ))). Some (row_with g.0 (merged_content b bytes) (greatest_created (elements g)) (least_expiry (elements g)))) is
+    ap (λ (b : GroupBase). Some (row_with g.0 (merged_content b bytes) (greatest_created (elements g)) (least_expiry (elements g)))) is
     ∙ ap (λ (s : Option ℤ). Some (row_with g.0 (merged_content base bytes) (greatest_created (elements g)) s)) stamp
 
 module _ (merge : Operator) (lawful : IsLawful merge) (first : Row) (rows : List Row) (operand : is_operand first ≡ true) (lower : AllByRecursion (λ q. q.seq < first.seq) rows) where
   abbrev g : Chunk Row
   g = (first, taken_rows first.expires rows)
 
-  abbrev base : Option (Option (List ℕ))
+  abbrev base : GroupBase
   base = group_base (elements g)
 
   abbrev found : List Row

@@ -3,7 +3,7 @@ use Rattle.std.specs.Prelude.{ℕ, zero, suc, length, Bool, true, not, ◌&&◌,
 use Rattle.std.specs.Option.{option_or}
 use Rattle.row_model.specs.Chunks.{Chunk, elements}
 use Rattle.row_model.specs.Fold.{Operator, Outcome, Merged, Refused, fold_bytes}
-use Rattle.row_model.specs.FoldedRows.{same_stamp, group_operands, group_base, base_bytes, greatest_created}
+use Rattle.row_model.specs.FoldedRows.{same_stamp, group_operands, group_base, merged_content, base_bytes, greatest_created}
 use Rattle.row_model.specs.Rows.{Row, Content, Value, Merge, is_operand}
 use Rattle.row_laws.specs.Batches.{batches}
 use Rattle.fleet_rows.specs.declared.errors.MergeOperatorError.TheVariants.{EmptyBatch, Callback}
@@ -103,11 +103,6 @@ lesser_stamp (Some a) (Some b) = if int_le b a then Some b else Some a
 abbrev pub least_expiry : List Row → Option ℤ
 least_expiry [] = None
 least_expiry (r ∷ rows) = lesser_stamp r.expires (least_expiry rows)
-
--- The content of a group's row: a value if the group has a base, and otherwise an operand.
-abbrev pub merged_content : Option (Option (List ℕ)) → List ℕ → Content
-merged_content None bytes = Merge bytes
-merged_content (Some base) bytes = Value bytes
 
 -- The row of a group with these bytes. It has the key and the sequence of the group's first row, the greatest
 -- time of creation and the least expiry.
