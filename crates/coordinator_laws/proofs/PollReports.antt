@@ -4,7 +4,7 @@ use Rattle.std.specs.Prelude.{IsTrue, ◌==◌, ◌&&◌, nat_lt, map, is_some}
 use Rattle.std.specs.List.{AllByRecursion}
 use Rattle.std.proofs.lemmas.Bool.Decides.{Decides-eqb}
 use Rattle.row_model.specs.Lists.{Pairs}
-use Rattle.row_model.specs.Fold.{IsLawful}
+use Rattle.row_model.specs.Fold.{Operator, IsLawful}
 use Rattle.fleet_model.specs.Nodes.{Trees}
 use Rattle.fleet_model.specs.Jobs.{JobSpec, Job, Jobs, trimmed_jobs}
 use Rattle.fleet_model.specs.History.{Party, Step, Join, GetManifest, GetRecords, Commit, Polled, Entry}
@@ -27,29 +27,29 @@ use Rattle.step_model.specs.StepEnds.{StepEnd, Reports, GivesUp, Fenced, most_re
 use Rattle.step_model.specs.PollSteps.{PollAsk, poll, poll_try, polls_over, puts_trees, puts_polled, unless_fenced, records_or_none, first_steps, proposed_specs, merged_into, is_unchanged}
 use Rattle.step_laws.specs.Runs.{CallsKeep}
 use Rattle.step_laws.proofs.Elements.{all_front, all_to, any_front}
-use Rattle.commit_laws.specs.After.{joined_by}
+use Rattle.commit_laws.specs.After.{trees_after, joined_by}
 use Rattle.commit_laws.proofs.AllCalls.{calls_keep}
 use Rattle.commit_laws.proofs.StepForms.{joins_replace}
 use Rattle.course_laws.specs.Afterwards.{ComesAfter}
 use Rattle.course_laws.proofs.Afterwards.{comes_itself, comes_then, comes_by, comes_met, comes_called, runs_come}
 use Rattle.course_laws.proofs.Going.{Going, Gone, goes}
 use Rattle.course_laws.proofs.NewIds.{AreFresh, rivals_fresh, drawn_fresh}
-use Rattle.coordinator_laws.specs.PollReports.{input_got, state_reached, CommitDone, merged_with, IsKept, freed_by, polled_put, JobsPut, PollDid, PollsReport}
+use Rattle.coordinator_laws.specs.PollReports.{input_got, state_reached, JoinDone, CommitDone, merged_with, IsKept, freed_by, polled_put, JobsPut, PollDid, PollsReport}
 use Rattle.coordinator_laws.proofs.Course.{polls_are_lawful}
 use Rattle.coordinator_laws.proofs.PollSays.{poll_says}
 
 -- ---- the steps of a commit
 
 -- The steps of a commit that come first fit, and so does the one after them.
-record FitsAt (world : World) (specs : ℕ → JobSpec) (trees : Trees) (joined : List ℕ) (first : List Step) (step : Step) (at : Trees) : Type 0 where
+pub record FitsAt (world : World) (specs : ℕ → JobSpec) (trees : Trees) (joined : List ℕ) (first : List Step) (step : Step) (at : Trees) : Type 0 where
   pub front : StepsFit world specs trees joined first
   pub here : StepFits world at (joined_by first joined) (specs (job_of step)) step
 
 -- The trees after the first steps, from any trees on.
-abbrev after_from : World → (ℕ → JobSpec) → List Step → Trees → Trees
+abbrev pub after_from : World → (ℕ → JobSpec) → List Step → Trees → Trees
 after_from world specs first trees = stepped_all world.store.tables (λ id. (specs id, outputs_in world.store.records id)) first trees
 
-fits_at : (world : World) (specs : ℕ → JobSpec) (trees : Trees) (joined : List ℕ) (first rest : List Step) (step : Step) → StepsFit world specs trees joined (first ++ step ∷ rest) → FitsAt world specs trees joined first step (after_from world specs first trees)
+pub fits_at : (world : World) (specs : ℕ → JobSpec) (trees : Trees) (joined : List ℕ) (first rest : List Step) (step : Step) → StepsFit world specs trees joined (first ++ step ∷ rest) → FitsAt world specs trees joined first step (after_from world specs first trees)
 fits_at world specs trees joined [] rest step fits = record { front = tt; here = fits.0 }
 fits_at world specs trees joined (s ∷ first) rest step fits =
     let r = fits_at world specs (stepped_in world.store.tables s (specs (job_of s)) (outputs_in world.store.records (job_of s)) trees) (joined_after s joined) first rest step fits.1 in
@@ -60,6 +60,21 @@ map_append [] rest = refl
 map_append (x ∷ first) rest = ap (λ (steps : List Step). Join x ∷ steps) (map_append first rest)
 
 -- Each join of a commit does what a join is to do.
+pub joins_done : (merge : Operator) (at : World) (party : Party) (specs : ℕ → JobSpec) (all_steps : List Step) (done : List ℕ) (others : List Step) → IsLawful merge → all_steps ≡ map Join done ++ others → Keeps merge at
+    → AllByRecursion (λ step. IsKnownTo party at specs (job_of step)) all_steps → StepsFit at specs at.store.manifest.trees [] all_steps
+    → (first : List ℕ) (id : ℕ) (rest : List ℕ) → first ++ id ∷ rest ≡ done → JoinDone merge at (trees_after at specs (map Join first)) id
+joins_done merge at party specs all_steps done others lawful steps kept knows each first id rest parts =
+    let all : all_steps ≡ map Join first ++ Join id ∷ (map Join rest ++ others) = steps ∙ ap (λ (ids : List ℕ). map Join ids ++ others) (sym parts) ∙ ap (λ (s : List Step). s ++ others) (map_append first (id ∷ rest)) ∙ append_assoc (map Join first) (map Join (id ∷ rest)) others in
+    let known = all_front (λ (step : Step). IsKnownTo party at specs (job_of step)) (map Join first) (Join id ∷ (map Join rest ++ others)) (subst (AllByRecursion (λ (step : Step). IsKnownTo party at specs (job_of step))) all knows) in
+    let f = fits_at at specs at.store.manifest.trees [] (map Join first) (map Join rest ++ others) (Join id) (subst (StepsFit at specs at.store.manifest.trees []) all each) in
+    record {
+      job = f.here.job;
+      stored = f.here.stored;
+      first_time = λ none. joins_replace merge lawful at party specs (map Join first) id kept known f.front f.here none;
+      again = f.here.again;
+    }
+
+-- What a commit does.
 commit_done : (who : Caller) (shown at : World) (p : PollState) (others : List Step) → IsLawful who.merge → p.steps ≡ map Join p.done ++ others → ComesAfter shown at → Keeps who.merge at → at.store.manifest ≡ shown.store.manifest
     → CommitFits who.party at p.steps (record shown.store.manifest { trees = p.trees; horizon = p.horizon }) → CommitDone who shown p
 commit_done who shown at p others lawful steps after kept same fits = record {
@@ -69,16 +84,7 @@ commit_done who shown at p others lawful steps after kept same fits = record {
   same = same;
   fits = fits;
   trees = ap (λ (m : Manifest). m.trees) fits.makes;
-  joins = λ first id rest parts.
-      let all : p.steps ≡ map Join first ++ Join id ∷ (map Join rest ++ others) = steps ∙ ap (λ (done : List ℕ). map Join done ++ others) (sym parts) ∙ ap (λ (s : List Step). s ++ others) (map_append first (id ∷ rest)) ∙ append_assoc (map Join first) (map Join (id ∷ rest)) others in
-      let known = all_front (λ (step : Step). IsKnownTo who.party at fits.specs (job_of step)) (map Join first) (Join id ∷ (map Join rest ++ others)) (subst (AllByRecursion (λ (step : Step). IsKnownTo who.party at fits.specs (job_of step))) all fits.known) in
-      let f = fits_at at fits.specs at.store.manifest.trees [] (map Join first) (map Join rest ++ others) (Join id) (subst (StepsFit at fits.specs at.store.manifest.trees []) all fits.each) in
-      record {
-        job = f.here.job;
-        stored = f.here.stored;
-        first_time = λ none. joins_replace who.merge lawful at who.party fits.specs (map Join first) id kept known f.front f.here none;
-        again = f.here.again;
-      };
+  joins = joins_done who.merge at who.party fits.specs p.steps p.done others lawful steps kept fits.known fits.each;
 }
 
 -- ---- ends and draws
@@ -128,7 +134,7 @@ got_version : (records : Option Records) → (records_or_none records).version �
 got_version None = refl
 got_version (Some records) = refl
 
-got_jobs : (records : Option Records) → (records_or_none records).jobs ≡ jobs_in records
+pub got_jobs : (records : Option Records) → (records_or_none records).jobs ≡ jobs_in records
 got_jobs None = refl
 got_jobs (Some records) = refl
 

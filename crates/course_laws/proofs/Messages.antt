@@ -1,7 +1,7 @@
 -- The steps by which a worker takes messages are lawful courses.
 use Rattle.std.proofs.Common.{◌≡◌, refl, sym, ◌∙◌, ap, subst, ℕ, List, [], ◌∷◌, ◌++◌, cond, Bool, true, false, Option, Some, None, drop, length}
 use Rattle.std.specs.Prelude.{◌==◌, map, flat_map, IfSome}
-use Rattle.std.specs.List.{AllByRecursion}
+use Rattle.std.specs.List.{AllZip, AllByRecursion}
 use Rattle.row_model.specs.Rows.{Row}
 use Rattle.row_model.specs.Fold.{Operator}
 use Rattle.row_model.specs.Ranges.{Range}
@@ -23,7 +23,7 @@ use Rattle.step_model.specs.MessageSteps.{if_numbered, attempt_run, ends_run, ta
 use Rattle.step_laws.specs.Runs.{CallsKeep}
 use Rattle.step_laws.proofs.Elements.{IsIn, all_at, all_to, all_append, all_true_front}
 use Rattle.rival_laws.specs.Free.{IsFree}
-use Rattle.course_laws.specs.Messages.{IsUnused, IsWhole, Each, ResultFits, MessagesAreLawful}
+use Rattle.course_laws.specs.Messages.{IsUnused, IsWhole, ResultFits, MessagesAreLawful}
 use Rattle.course_laws.proofs.Calls.{all_map}
 use Rattle.course_laws.proofs.Held.{HasRows}
 use Rattle.course_laws.proofs.Made.{State, ids_of, tables_of, all_of}
@@ -52,7 +52,7 @@ abbrev pub with_rows : World → List ℕ → List (ℕ × List Row)
 with_rows world tables = map (λ table. (table, table_rows world.store.tables table)) tables
 
 -- The tables of a result that the attempt had not noted.
-abbrev pub new_tables : (merge : Operator) (world : World) (w : LiveWorker) (a : Attempt) (ranges : List (Range × List ℕ)) (result : List (List ℕ)) → Each (IsWhole merge world w a) ranges result → List (List (ℕ × List Row))
+abbrev pub new_tables : (merge : Operator) (world : World) (w : LiveWorker) (a : Attempt) (ranges : List (Range × List ℕ)) (result : List (List ℕ)) → AllZip (IsWhole merge world w a) ranges result → List (List (ℕ × List Row))
 new_tables merge world w a [] [] each = []
 new_tables merge world w a [] (tables ∷ result) each = []
 new_tables merge world w a (r ∷ ranges) [] each = []
@@ -67,7 +67,7 @@ rows_with world [] = refl
 rows_with world (table ∷ tables) = ap (λ (rows : List Row). table_rows world.store.tables table ++ rows) (rows_with world tables)
 
 -- The result is what an attempt had noted, and then these tables.
-pub result_is : (merge : Operator) (world : World) (w : LiveWorker) (a : Attempt) (ranges : List (Range × List ℕ)) (result : List (List ℕ)) (each : Each (IsWhole merge world w a) ranges result)
+pub result_is : (merge : Operator) (world : World) (w : LiveWorker) (a : Attempt) (ranges : List (Range × List ℕ)) (result : List (List ℕ)) (each : AllZip (IsWhole merge world w a) ranges result)
     → result ≡ all_outputs ranges (map ids_of (new_tables merge world w a ranges result each))
 result_is merge world w a [] [] each = refl
 result_is merge world w a [] (tables ∷ result) each = absurd each
@@ -78,7 +78,7 @@ result_is merge world w a (r ∷ ranges) (tables ∷ result) each =
     λ i. first i ∷ rest i
 
 -- They have the rows that were left.
-result_left : (merge : Operator) (world : World) (w : LiveWorker) (a : Attempt) (ranges : List (Range × List ℕ)) (result : List (List ℕ)) (each : Each (IsWhole merge world w a) ranges result)
+result_left : (merge : Operator) (world : World) (w : LiveWorker) (a : Attempt) (ranges : List (Range × List ℕ)) (result : List (List ℕ)) (each : AllZip (IsWhole merge world w a) ranges result)
     → AreLeft (λ range. (rows_left merge world.store.tables a.context.settings a.sources range).rows) ranges (new_tables merge world w a ranges result each)
 result_left merge world w a [] [] each = tt
 result_left merge world w a [] (tables ∷ result) each = absurd each
@@ -89,7 +89,7 @@ result_left merge world w a (r ∷ ranges) (tables ∷ result) each =
     one.rows ∙ ap (noted_rows world.store.tables) one.begins ∙ flat_append (table_rows world.store.tables) r.1 one.new in
     (rows_with world one.new ∙ sym (ap (drop (length (noted_rows world.store.tables r.1))) all ∙ drop_front (noted_rows world.store.tables r.1) (noted_rows world.store.tables one.new)), result_left merge world w a ranges result each.1)
 
-result_whole : (merge : Operator) (world : World) (w : LiveWorker) (a : Attempt) (ranges : List (Range × List ℕ)) (result : List (List ℕ)) → Each (IsWhole merge world w a) ranges result
+result_whole : (merge : Operator) (world : World) (w : LiveWorker) (a : Attempt) (ranges : List (Range × List ℕ)) (result : List (List ℕ)) → AllZip (IsWhole merge world w a) ranges result
     → AllByRecursion (λ range. (range_rows merge world.store.tables a.context.settings a.sources range.0).whole ≡ true) ranges
 result_whole merge world w a [] [] each = tt
 result_whole merge world w a [] (tables ∷ result) each = tt
@@ -98,7 +98,7 @@ result_whole merge world w a (r ∷ ranges) (tables ∷ result) each = (each.0.r
 
 -- What all unused tables have, all of them have.
 pub result_all : (P : ℕ × List Row → Type 0) (merge : Operator) (world : World) (w : LiveWorker) (a : Attempt) → ((table : ℕ) → IsUnused world w table → P (table, table_rows world.store.tables table))
-    → (ranges : List (Range × List ℕ)) (result : List (List ℕ)) (each : Each (IsWhole merge world w a) ranges result) → AllByRecursion P (all_of (new_tables merge world w a ranges result each))
+    → (ranges : List (Range × List ℕ)) (result : List (List ℕ)) (each : AllZip (IsWhole merge world w a) ranges result) → AllByRecursion P (all_of (new_tables merge world w a ranges result each))
 result_all P merge world w a have [] [] each = tt
 result_all P merge world w a have [] (tables ∷ result) each = tt
 result_all P merge world w a have (r ∷ ranges) [] each = absurd each

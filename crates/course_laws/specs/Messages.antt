@@ -1,6 +1,6 @@
 -- The laws on messages about a worker's attempts.
 use Rattle.std.specs.Prelude.{◌≡◌, ℕ, false, true, IsTrue, IfSome, List, [], ◌∷◌, ◌++◌, ⊤}
-use Rattle.std.specs.List.{AllByRecursion}
+use Rattle.std.specs.List.{AllZip, AllByRecursion}
 use Rattle.row_model.specs.Fold.{Operator}
 use Rattle.row_model.specs.Ranges.{Range}
 use Rattle.fleet_model.specs.Jobs.{Context, contains}
@@ -33,17 +33,9 @@ pub record IsWhole (merge : Operator) (world : World) (w : LiveWorker) (a : Atte
   pub rows : (range_rows merge world.store.tables a.context.settings a.sources range.0).rows ≡ noted_rows world.store.tables tables
   pub refuses_none : (range_rows merge world.store.tables a.context.settings a.sources range.0).whole ≡ true
 
--- The relation holds of the first elements, of the second ones, and so on, and the lists are of one
--- length.
-abbrev pub Each : {A B : Type 0} → (A → B → Type 0) → List A → List B → Type 0
-Each R [] [] = ⊤
-Each R [] (y ∷ ys) = ⊥
-Each R (x ∷ xs) [] = ⊥
-Each R (x ∷ xs) (y ∷ ys) = R x y × Each R xs ys
-
 -- The result of an attempt has one list of tables for each of its ranges, and each is whole.
 abbrev pub ResultFits : Operator → World → LiveWorker → List (List ℕ) → Attempt → Type 0
-ResultFits merge world w result a = Each (IsWhole merge world w a) a.context.ranges result
+ResultFits merge world w result a = AllZip (IsWhole merge world w a) a.context.ranges result
 
 -- The step by which a worker that fits takes a message about an attempt is a lawful course, if every
 -- lawful call keeps the invariant. The result of an attempt that the worker runs must be whole.

@@ -1,9 +1,9 @@
 -- A handle describes a table without its rows.
-use Rattle.std.specs.Prelude.{◌≡◌, ℕ, IsTrue, List, [], ◌∷◌, ◌++◌, map, flat_map, length, Option, Some, None}
-use Rattle.std.specs.List.{concat, AllByRecursion}
+use Rattle.std.specs.Prelude.{ℕ, List, [], ◌∷◌, ◌++◌, map, flat_map, length, Option, Some, None}
+use Rattle.std.specs.List.{concat}
 use Rattle.row_model.specs.Rows.{Row}
 use Rattle.row_model.specs.Sizes.{Block, blocks, table_size}
-use Rattle.fleet_model.specs.Nodes.{Tables, table_rows, is_among, Segment, Trees}
+use Rattle.fleet_model.specs.Nodes.{Tables, table_rows, Segment, Trees}
 use Rattle.fleet_model.specs.Jobs.{Context, Job, Jobs}
 use Rattle.fleet_model.specs.Trees.{first_key, last_key}
 
@@ -55,11 +55,3 @@ job_tables job = context_tables job.context ++ concat job.outputs
 -- The tables that trees and jobs name.
 abbrev pub named_tables : Trees → Jobs → List ℕ
 named_tables trees jobs = flat_map tree_tables trees ++ flat_map job_tables jobs
-
--- A table among these has this handle.
-abbrev pub HandleFits : Tables → Handle → Type 0
-HandleFits tables h = IsTrue (is_among tables h.id) × (h ≡ describe h.id (table_rows tables h.id))
-
--- Each of these handles is the handle of a table among these.
-abbrev pub HandlesFit : Tables → List Handle → Type 0
-HandlesFit tables handles = AllByRecursion (HandleFits tables) handles

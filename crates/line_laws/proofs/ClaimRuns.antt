@@ -28,23 +28,11 @@ use Rattle.step_laws.proofs.Elements.{all_at, all_to, all_true_from}
 use Rattle.step_laws.proofs.PollJobs.{stretch_named}
 use Rattle.commit_laws.proofs.Stretches.{filter_all}
 use Rattle.course_laws.proofs.Calls.{all_take, filtered, and_first}
+use Rattle.worker_laws.proofs.CanStart.{stands_starts}
 use Rattle.line_laws.specs.ClaimLines.{with_claimed}
 use Rattle.line_laws.proofs.PollRuns.{Going, alone_next, RecordsPut, records_put}
 
 -- ---- jobs that can start
-
--- A job that stands can start.
-stands_starts : (manifest : Manifest) (job : Job) → SourcesStand manifest.trees job → can_start manifest job ≡ true
-stands_starts manifest job s = by (older_nodes job.spec.sources (names (tree_at job.spec.segment manifest.trees))) refl s.stretch
-  where
-    both : (a b : Bool) → a ≡ true → b ≡ true → (a && b) ≡ true
-    both a b e f = rw (e, f) refl
-
-    by : (o : Option (List NodeName)) → older_nodes job.spec.sources (names (tree_at job.spec.segment manifest.trees)) ≡ o → IsTrue (reaches_oldest job.spec.sources o) → can_start manifest job ≡ true
-    by None e h = absurd (cc h)
-    by (Some rest) e h =
-        let tree = tree_at job.spec.segment manifest.trees in
-        both (list_all (names_contain (names tree)) job.spec.sources) _ (all_true_from (names_contain (names tree)) job.spec.sources (stretch_named job.spec.sources (names tree) rest e)) ((bytes_eq-Decides _ job.source_tables).1 s.source_tables)
 
 waiting_opened : (job : Job) → is_waiting job ≡ true → IsTrue (has_status Scheduled job || has_status Running job)
 waiting_opened job h = by (has_status Scheduled job) (has_status Running job) (and_first (has_status Scheduled job) (is_none job.lease) h)

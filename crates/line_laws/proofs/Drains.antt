@@ -33,7 +33,7 @@ use Rattle.commit_laws.proofs.Steps.{found_there}
 use Rattle.commit_laws.proofs.CommitSteps.{steps_keep}
 use Rattle.commit_laws.proofs.Commits.{start}
 use Rattle.commit_laws.proofs.StepForms.{joins_replace, moves_replace}
-use Rattle.line_laws.proofs.CommitSteps.{fits_at}
+use Rattle.coordinator_laws.proofs.PollReports.{fits_at}
 use Rattle.line_laws.proofs.Parties.{found}
 use Rattle.line_laws.specs.Undrained.{flushes_in, taken_by, without_flushes, left_by}
 

@@ -18,7 +18,8 @@ use Rattle.course_laws.proofs.Calls.{and_first, filtered, all_map, in_map}
 use Rattle.line_laws.specs.States.{awaits_commit}
 use Rattle.line_laws.specs.FinishedJobs.{FinishedJobsWait}
 use Rattle.line_laws.specs.PollRuns.{input_at}
-use Rattle.line_laws.specs.PollLines.{verdicts, all_verdicts, before_commits}
+use Rattle.coordinator_laws.specs.PollSays.{verdicts, all_verdicts, before_commits}
+use Rattle.coordinator_laws.proofs.PollReports.{got_jobs}
 use Rattle.line_laws.proofs.FinishedJobs.{awaits, none_awaits, other_awaits_none, stored_has, status_not}
 
 -- ---- one job
@@ -75,13 +76,9 @@ none_freed : (jobs : Jobs) → changed_jobs to_waiting [] jobs ≡ jobs
 none_freed [] = refl
 none_freed (job ∷ jobs) = ap (λ (rest : Jobs). job ∷ rest) (none_freed jobs)
 
-got_jobs : (records : Option Records) → (records_or_none records).jobs ≡ jobs_in records
-got_jobs None = refl
-got_jobs (Some records) = refl
-
 judged : (ask : PollAsk) (store : Store) → Pairs (λ a b. a.id < b.id) (stored_jobs store) → AllByRecursion (λ job. is_finished_by store.history job.id ≡ has_status Compacted job) (stored_jobs store)
-    → map (λ verdict. verdict.0) (all_verdicts ask (input_at ask store)) ≡ filter (is_finished_by store.history) (ids (stored_jobs store))
-judged ask store rise are = verdict_ids input (filter (has_status Compacted) (before_commits ask input).jobs) (before_commits ask input) ∙ by ask.commits_only
+    → map (λ verdict. verdict.0) (all_verdicts ask.commits_only (input_at ask store)) ≡ filter (is_finished_by store.history) (ids (stored_jobs store))
+judged ask store rise are = verdict_ids input (filter (has_status Compacted) (before_commits ask.commits_only input).jobs) (before_commits ask.commits_only input) ∙ by ask.commits_only
   where
     input : PollInput
     input = input_at ask store

@@ -1,7 +1,6 @@
 pub mod AloneRuns
 pub mod Courses
 pub mod FinishedJobs
-pub mod CommitSteps
 pub mod Drains
 pub mod Undrained
 pub mod Parties
@@ -17,7 +16,6 @@ pub mod Scripts
 pub mod Ran
 pub mod ReadLines
 pub mod Reports
-pub mod PollSays
 pub mod PollLines
 pub mod PollCalls
 pub mod ClaimRuns

@@ -11,7 +11,8 @@ use Rattle.step_laws.proofs.Elements.{IsIn, all_at, all_true_from}
 use Rattle.step_laws.proofs.Bodies.{whole_of}
 use Rattle.commit_laws.proofs.Joins.{not_was}
 use Rattle.worker_laws.proofs.Sources.{sources_held}
-use Rattle.line_laws.specs.Outputs.{OneMerge, OutputsAreWhole}
+use Rattle.worker_laws.specs.FinishReports.{OneMerge}
+use Rattle.line_laws.specs.Outputs.{OutputsAreWhole}
 use Rattle.line_laws.proofs.Parties.{found}
 use Rattle.line_laws.proofs.Lines.{world_of}
 

@@ -1,11 +1,12 @@
 -- What a poll does that is not refused.
-use Rattle.std.proofs.Common.{◌≡◌, refl, sym, ◌∙◌, ap, subst, ℕ, List, [], ◌∷◌, ◌++◌, Bool, true, false, Option, Some, None, append_assoc}
+use Rattle.std.proofs.Common.{◌≡◌, refl, sym, ◌∙◌, ap, subst, ℕ, ◌<◌, List, [], ◌∷◌, ◌++◌, Bool, true, false, Option, Some, None, append_assoc}
 use Rattle.std.specs.Prelude.{◌==◌, map, IsTrue}
 use Rattle.std.specs.List.{AllByRecursion}
 use Rattle.std.proofs.lemmas.Bool.Decides.{Decides-eqb}
+use Rattle.row_model.specs.Lists.{Pairs}
 use Rattle.row_model.specs.Fold.{Operator, IsLawful}
 use Rattle.fleet_model.specs.Nodes.{tree_at}
-use Rattle.fleet_model.specs.Jobs.{JobSpec}
+use Rattle.fleet_model.specs.Jobs.{JobSpec, Job}
 use Rattle.fleet_model.specs.History.{Party, Coordinator, Step, Join}
 use Rattle.fleet_model.specs.Store.{Manifest, Store}
 use Rattle.fleet_model.specs.Parties.{LiveCoordinator, coordinator_with, without_coordinator}
@@ -20,7 +21,10 @@ use Rattle.step_laws.proofs.Elements.{all_at, all_front}
 use Rattle.commit_laws.proofs.AllCalls.{calls_keep}
 use Rattle.step_model.specs.Entries.{did_put_epoch}
 use Rattle.coordinator_laws.proofs.Quiet.{HasEpoch}
+use Rattle.coordinator_laws.specs.PollSays.{PollSays}
 use Rattle.coordinator_laws.proofs.Course.{polls_are_lawful}
+use Rattle.coordinator_laws.proofs.PollSays.{poll_says}
+use Rattle.coordinator_laws.proofs.PollReports.{joins_done, got_jobs}
 use Rattle.commit_laws.proofs.StepForms.{joins_replace}
 use Rattle.script_model.specs.Script.{Poll, CommitOnly}
 use Rattle.script_model.specs.States.{Inputs, State}
@@ -32,22 +36,16 @@ use Rattle.script_model.specs.PollLines.{poll_ask, polls}
 use Rattle.script_model.specs.Settles.{is_ok}
 use Rattle.line_laws.specs.Alone.{HadRoom}
 use Rattle.line_laws.specs.States.{StateKeeps}
-use Rattle.line_laws.specs.PollRuns.{drawn_at, CommitPut}
-use Rattle.line_laws.specs.PollLines.{spell_poll, PollSays, CommitsRight, PollRan, PollsCommit}
+use Rattle.line_laws.specs.PollRuns.{input_at, drawn_at, CommitPut}
+use Rattle.line_laws.specs.PollLines.{spell_poll, CommitsRight, PollRan, PollsCommit}
 use Rattle.line_laws.specs.Undrained.{flushes_in}
-use Rattle.line_laws.proofs.CommitSteps.{fits_at}
 use Rattle.line_laws.proofs.Drains.{commit_flushes}
 use Rattle.line_laws.proofs.Parties.{found}
 use Rattle.line_laws.proofs.Lines.{caller_of, world_of}
 use Rattle.line_laws.proofs.Reports.{StepReported, step_reported}
 use Rattle.line_laws.proofs.PollRuns.{poll_did}
-use Rattle.line_laws.proofs.PollSays.{poll_says}
 
 -- ---- the steps of a commit
-
-map_append : (first rest : List ℕ) → map Join (first ++ rest) ≡ map Join first ++ map Join rest
-map_append [] rest = refl
-map_append (x ∷ first) rest = ap (λ (steps : List Step). Join x ∷ steps) (map_append first rest)
 
 -- Each join of a commit does what a join is to do.
 commits_right : (merge : Operator) (line : ℕ) (party : Party) (old : Store) (drawn : List (ℕ × JobSpec)) (p : PollState) (others : List Step) → IsLawful merge → p.steps ≡ map Join p.done ++ others → CommitPut merge line party old drawn p
@@ -56,16 +54,7 @@ commits_right merge line party old drawn p others lawful steps put = record {
   put = put;
   trees = ap (λ (m : Manifest). m.trees) put.fits.makes;
   flushes = λ prefix. ap (λ (m : Manifest). flushes_in (tree_at prefix m.trees)) put.fits.makes ∙ commit_flushes merge put.at party put.fits.specs p.steps lawful put.kept put.fits.known put.fits.each prefix;
-  joins = λ first id rest parts.
-      let all : p.steps ≡ map Join first ++ Join id ∷ (map Join rest ++ others) = steps ∙ ap (λ (done : List ℕ). map Join done ++ others) (sym parts) ∙ ap (λ (s : List Step). s ++ others) (map_append first (id ∷ rest)) ∙ append_assoc (map Join first) (map Join (id ∷ rest)) others in
-      let known = all_front (λ (step : Step). IsKnownTo party put.at put.fits.specs (job_of step)) (map Join first) (Join id ∷ (map Join rest ++ others)) (subst (AllByRecursion (λ (step : Step). IsKnownTo party put.at put.fits.specs (job_of step))) all put.fits.known) in
-      let f = fits_at put.at put.fits.specs put.at.store.manifest.trees [] (map Join first) (map Join rest ++ others) (Join id) (subst (StepsFit put.at put.fits.specs put.at.store.manifest.trees []) all put.fits.each) in
-      record {
-        job = f.here.job;
-        stored = f.here.stored;
-        first_time = λ none. joins_replace merge lawful put.at party put.fits.specs (map Join first) id put.kept known f.front f.here none;
-        again = f.here.again;
-      };
+  joins = joins_done merge put.at party put.fits.specs p.steps p.done others lawful steps put.kept put.fits.known put.fits.each;
 }
 
 -- ---- the line
@@ -106,7 +95,8 @@ ran inputs number commits_only n old k answer new lawful r =
     let own : HasEpoch (Coordinator n) ask.epoch world = record { put = subst (λ party. IsTrue (did_put_epoch party old.store.history ask.epoch)) (sym same) holds.put; recorded = holds.recorded } in
     let d = poll_did who ask world r.step.left r.step.report (calls_keep inputs.merge lawful) refl lawful holds.counted own (record { kept = k.fleet.store; lawful = is; run = r.step.run }) in
     let drawn = drawn_at ask old.store in
-    let says = subst (PollSays ask old.store drawn) (sym d.did.is) (poll_says ask old.store drawn k.fleet.store.stored.sound.job_ids) in
+    let rise = subst (Pairs (λ (a b : Job). a.id < b.id)) (sym (got_jobs old.store.records)) k.fleet.store.stored.sound.job_ids in
+    let says = subst (PollSays commits_only (input_at ask old.store) drawn) (sym d.did.is) (poll_says ask (input_at ask old.store) drawn rise) in
     record {
       coordinator = r.coordinator;
       live = r.live;

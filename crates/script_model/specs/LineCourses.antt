@@ -1,5 +1,6 @@
 -- The course of each line of a script.
 use Rattle.std.specs.Prelude.{ℕ, ◌-◌, List, Option, Some, None, slice_get, find, ◌==◌}
+use Rattle.std.specs.Option.{unwrap_or}
 use Rattle.row_model.specs.Ranges.{Range}
 use Rattle.fleet_model.specs.Jobs.{number_of}
 use Rattle.fleet_model.specs.Parties.{Attempt, LiveWorker, worker_with}
@@ -16,16 +17,11 @@ use Rattle.script_model.specs.PollLines.{poll_line, commit_line}
 use Rattle.script_model.specs.WorkLines.{claim_line, heartbeat_line, output_asked, output_line, finish_asked, finish_line, stop_worker}
 use Rattle.script_model.specs.Sweeps.{sweep_line}
 
--- The number, or `otherwise` if there is none.
-abbrev pub number_or : ℕ → Option ℕ → ℕ
-number_or otherwise None = otherwise
-number_or otherwise (Some n) = n
-
 -- The state in which the line's course runs. Options, Clock and SetFault set the options, the
 -- moment or the fault that waits. Other lines change nothing here.
 abbrev pub prepared_state : Line → State → State
 prepared_state (Options timeout concurrent slots ranges table_size moves retention) s =
-    record s { options = record { timeout = timeout; concurrent = concurrent; slots = slots; ranges = ranges; table_size = table_size; moves = moves; retention = number_or 0 retention } }
+    record s { options = record { timeout = timeout; concurrent = concurrent; slots = slots; ranges = ranges; table_size = table_size; moves = moves; retention = unwrap_or retention 0 } }
 prepared_state (Clock moment) s = record s { moment = moment }
 prepared_state (SetFault k stands) s = record s { fault = Some (record { k = k; stands = stands }) }
 prepared_state _ s = s

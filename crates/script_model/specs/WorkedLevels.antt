@@ -1,39 +1,14 @@
 -- Scripts and examples of a fleet with a levelled scheduler.
-use Rattle.std.specs.Prelude.{◌≡◌, ℕ, true, false, List, [], ◌∷◌, map, codes, Some, None}
-use Rattle.fleet_model.specs.Nodes.{Run, Node}
+use Rattle.std.specs.Prelude.{◌≡◌, ℕ, true, false, List, [], ◌∷◌, map, codes}
+use Rattle.fleet_model.specs.Nodes.{Run}
 use Rattle.fleet_model.specs.Jobs.{JobSpec}
-use Rattle.fleet_model.specs.Store.{fresh_store}
-use Rattle.fleet_model.specs.Handles.{Handle}
-use Rattle.fleet_model.specs.Scheduler.{View}
-use Rattle.sched_model.specs.Levels.{LevelOptions, level_picks, is_within}
+use Rattle.sched_model.specs.Levels.{level_picks, is_within}
+use Rattle.sched_model.specs.Worked.{sized_table, small_run, view_of_runs, into, small_levels}
 use Rattle.script_model.specs.Worked.{Conversation}
 
--- Options of levels: the newest run may have 20 bytes, and each older one twice as many. The last
--- one has no limit.
-abbrev pub levels : LevelOptions
-levels = record { l0_trigger = 2; base = 20; ratio = 2 }
-
--- A run of one table. The pair is the run's id, which is also the table's id, and its size.
-abbrev pub run_of_one : ℕ × ℕ → Node
-run_of_one run = record { name = Run run.0; flushes = []; pieces = run.0 ∷ [] }
-
--- The handle of the table of a run of one table. The pair is the run's id and its size, in bytes.
-abbrev pub handle_of_one : ℕ × ℕ → Handle
-handle_of_one run = record { id = run.0; first_key = codes "a"; last_key = codes "a"; last_seq = 1; rows = 1; size = run.1; blocks = [] }
-
--- A view of these runs of the root, newest first, and of no jobs.
-abbrev pub view_of_runs : List (ℕ × ℕ) → View
-view_of_runs runs = record {
-  manifest = record fresh_store.manifest { trees = record { prefix = []; tree = map run_of_one runs; last_seq = None; watermark = None } ∷ [] };
-  records_version = 1;
-  records_epoch = 1;
-  jobs = [];
-  handles = map handle_of_one runs;
-}
-
 -- The job that compacts a run and the next one into the next one.
-abbrev pub pair_job : ℕ → ℕ → JobSpec
-pair_job run next = record { segment = []; sources = Run run ∷ Run next ∷ []; destination = Some next }
+abbrev pub pair_job : (run next : ℕ) → JobSpec
+pair_job run next = into [] (Run run ∷ Run next ∷ []) next
 
 -- Runs of which two are above their sizes. Each pair is a run's id and its size.
 abbrev pub runs_above : List (ℕ × ℕ)
@@ -46,11 +21,11 @@ runs_within = (3, 20) ∷ (2, 40) ∷ (1, 80) ∷ (0, 500) ∷ []
 -- Two of four runs are above their sizes, and the scheduler picks each of them with the next run.
 -- With one slot it picks the first pair only. If all runs are within their sizes, it picks nothing.
 pub record LevelsArePicked : Type 0 where
-  pub pairs : level_picks levels 4 (view_of_runs runs_above) ≡ pair_job 3 2 ∷ pair_job 1 0 ∷ []
-  pub one_slot : level_picks levels 1 (view_of_runs runs_above) ≡ pair_job 3 2 ∷ []
-  pub nothing : level_picks levels 4 (view_of_runs runs_within) ≡ []
-  pub above : is_within levels (map handle_of_one runs_above) (map run_of_one runs_above) ≡ false
-  pub within : is_within levels (map handle_of_one runs_within) (map run_of_one runs_within) ≡ true
+  pub pairs : level_picks small_levels 4 (view_of_runs runs_above) ≡ pair_job 3 2 ∷ pair_job 1 0 ∷ []
+  pub one_slot : level_picks small_levels 1 (view_of_runs runs_above) ≡ pair_job 3 2 ∷ []
+  pub nothing : level_picks small_levels 4 (view_of_runs runs_within) ≡ []
+  pub above : is_within small_levels (map sized_table runs_above) (map small_run runs_above) ≡ false
+  pub within : is_within small_levels (map sized_table runs_within) (map small_run runs_within) ≡ true
 
 -- Flushes are compacted until a poll finds nothing to do. A settle line of one round does not
 -- settle if its poll adds a job. The next settle line settles.

@@ -1,7 +1,7 @@
 -- A worker fits after progress of an attempt: the attempt has noted more tables for its ranges.
 use Rattle.std.proofs.Common.{◌≡◌, refl, sym, ◌∙◌, ap, subst, ℕ, List, [], ◌∷◌, ◌++◌, Bool, true, false, inr, Some}
 use Rattle.std.specs.Prelude.{IsTrue, not, map, flat_map}
-use Rattle.std.specs.List.{AllByRecursion}
+use Rattle.std.specs.List.{AllZip, AllByRecursion}
 use Rattle.std.proofs.lemmas.List.{append_assoc}
 use Rattle.row_model.specs.Lists.{IsPrefixOf}
 use Rattle.row_model.specs.Fold.{Operator}
@@ -27,7 +27,7 @@ use Rattle.step_laws.proofs.MuteBodies.{if_some_to}
 use Rattle.step_laws.proofs.OwnTables.{apart_from, apart_at}
 use Rattle.rival_laws.proofs.FreeTables.{free_own}
 use Rattle.rival_laws.proofs.WorkerFollows.{from_filter}
-use Rattle.course_laws.specs.Messages.{IsUnused, Each}
+use Rattle.course_laws.specs.Messages.{IsUnused}
 use Rattle.course_laws.proofs.Held.{refused}
 use Rattle.worker_laws.specs.Messages.{GoesOn, ProgressFits}
 use Rattle.worker_laws.proofs.Attempts.{Added, holds_fewer, holds_added, apart_two, left_other}
@@ -35,7 +35,7 @@ use Rattle.worker_laws.proofs.Attempts.{Added, holds_fewer, holds_added, apart_t
 -- ---- ranges that go on
 
 -- The ranges stay.
-ranges_stay : (merge : Operator) (world : World) (w : LiveWorker) (a : Attempt) (old now : List (Range × List ℕ)) → Each (GoesOn merge world w a) old now → map (λ range. range.0) now ≡ map (λ range. range.0) old
+ranges_stay : (merge : Operator) (world : World) (w : LiveWorker) (a : Attempt) (old now : List (Range × List ℕ)) → AllZip (GoesOn merge world w a) old now → map (λ range. range.0) now ≡ map (λ range. range.0) old
 ranges_stay merge world w a [] [] each = refl
 ranges_stay merge world w a [] (n ∷ now) each = absurd each
 ranges_stay merge world w a (o ∷ old) [] each = absurd each
@@ -45,7 +45,7 @@ ranges_stay merge world w a (o ∷ old) (n ∷ now) each =
     λ i. first i ∷ rest i
 
 -- What the noted tables have and unused ones have, all tables have that are noted now.
-tables_now : (P : ℕ → Type 0) (merge : Operator) (world : World) (w : LiveWorker) (a : Attempt) → ((table : ℕ) → IsUnused world w table → P table) → (old now : List (Range × List ℕ)) → Each (GoesOn merge world w a) old now
+tables_now : (P : ℕ → Type 0) (merge : Operator) (world : World) (w : LiveWorker) (a : Attempt) → ((table : ℕ) → IsUnused world w table → P table) → (old now : List (Range × List ℕ)) → AllZip (GoesOn merge world w a) old now
     → AllByRecursion P (flat_map (λ (range : Range × List ℕ). range.1) old) → AllByRecursion P (flat_map (λ (range : Range × List ℕ). range.1) now)
 tables_now P merge world w a have [] [] each all = tt
 tables_now P merge world w a have [] (n ∷ now) each all = absurd each
@@ -54,7 +54,7 @@ tables_now P merge world w a have (o ∷ old) (n ∷ now) each all =
     all_append P n.1 _ (subst (AllByRecursion P) (sym each.0.begins) (all_append P o.1 each.0.new (all_front P o.1 _ all) (all_to (IsUnused world w) P each.0.new (λ table there one. have table one) each.0.unused)))
     (tables_now P merge world w a have old now each.1 (all_back P o.1 _ all))
 
-first_rows : (merge : Operator) (world : World) (w : LiveWorker) (a : Attempt) (old now : List (Range × List ℕ)) → Each (GoesOn merge world w a) old now
+first_rows : (merge : Operator) (world : World) (w : LiveWorker) (a : Attempt) (old now : List (Range × List ℕ)) → AllZip (GoesOn merge world w a) old now
     → AllByRecursion (λ range. IsPrefixOf (noted_rows world.store.tables range.1) (range_rows merge world.store.tables a.context.settings a.sources range.0).rows) now
 first_rows merge world w a [] [] each = tt
 first_rows merge world w a [] (n ∷ now) each = absurd each
@@ -62,7 +62,7 @@ first_rows merge world w a (o ∷ old) [] each = absurd each
 first_rows merge world w a (o ∷ old) (n ∷ now) each = (each.0.first, first_rows merge world w a old now each.1)
 
 -- What the old ranges extend, the new ones extend too.
-extends_on : (merge : Operator) (world : World) (w : LiveWorker) (a : Attempt) (published old now : List (Range × List ℕ)) → Each (GoesOn merge world w a) old now → Extends published old → Extends published now
+extends_on : (merge : Operator) (world : World) (w : LiveWorker) (a : Attempt) (published old now : List (Range × List ℕ)) → AllZip (GoesOn merge world w a) old now → Extends published old → Extends published now
 extends_on merge world w a [] [] [] each h = tt
 extends_on merge world w a [] [] (n ∷ now) each h = absurd each
 extends_on merge world w a published (o ∷ old) [] each h = absurd each
@@ -86,7 +86,7 @@ claimed_on : (now : World) (specs : ℕ → JobSpec) (job number : ℕ) (a : Att
 claimed_on now specs job number a ranges same c = record { settings = c.settings; ranges = c.ranges ∙ ap Some (sym same) }
 
 -- What the attempt has, it has with the ranges that go on.
-progressed : (merge : Operator) (world : World) (w : LiveWorker) (a : Attempt) (ranges : List (Range × List ℕ)) → Keeps merge world → WorkerHolds merge world w → IsIn a w.attempts → Each (GoesOn merge world w a) a.context.ranges ranges
+progressed : (merge : Operator) (world : World) (w : LiveWorker) (a : Attempt) (ranges : List (Range × List ℕ)) → Keeps merge world → WorkerHolds merge world w → IsIn a w.attempts → AllZip (GoesOn merge world w a) a.context.ranges ranges
     → Added merge world (record w { attempts = without_attempts (a.job ∷ []) w.attempts }) (with_ranges ranges a)
 progressed merge world w a ranges kept h runs each = record {
   cut = all_at _ w.attempts a (h.fits kept.stored.replay.specs kept.faithful).cuts runs;

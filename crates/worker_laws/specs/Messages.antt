@@ -1,6 +1,6 @@
 -- The laws on what a worker holds after messages about its attempts.
 use Rattle.std.specs.Prelude.{◌≡◌, ℕ, false, IfSome, List, ◌++◌}
-use Rattle.std.specs.List.{AllByRecursion}
+use Rattle.std.specs.List.{AllZip, AllByRecursion}
 use Rattle.row_model.specs.Lists.{IsPrefixOf}
 use Rattle.row_model.specs.Fold.{Operator}
 use Rattle.row_model.specs.Ranges.{Range}
@@ -18,7 +18,7 @@ use Rattle.step_model.specs.StepEnds.{Reports}
 use Rattle.step_model.specs.FinishSteps.{FinishedJob}
 use Rattle.step_model.specs.MessageSteps.{attempt_run, take_finished, take_failed, take_progress}
 use Rattle.step_laws.specs.Runs.{CallsKeep}
-use Rattle.course_laws.specs.Messages.{IsUnused, Each, ResultFits}
+use Rattle.course_laws.specs.Messages.{IsUnused, ResultFits}
 use Rattle.worker_laws.specs.After.{FitsAfter}
 use Rattle.worker_laws.specs.FinishReports.{FinishDid}
 
@@ -35,7 +35,7 @@ pub record GoesOn (merge : Operator) (world : World) (w : LiveWorker) (a : Attem
 pub record ProgressFits (merge : Operator) (world : World) (w : LiveWorker) (context : Context) (a : Attempt) : Type 0 where
   pub settings : context.settings ≡ a.context.settings
   pub has_cut : context.has_cut ≡ a.context.has_cut
-  pub ranges : Each (GoesOn merge world w a) a.context.ranges context.ranges
+  pub ranges : AllZip (GoesOn merge world w a) a.context.ranges context.ranges
 
 -- After a message that an attempt failed, the attempt is not live if the step reports.
 abbrev pub EndsLive : World → LiveWorker → Attempt → Type 0
