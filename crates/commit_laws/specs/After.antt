@@ -10,7 +10,9 @@ use Rattle.step_model.specs.LawfulManifests.{joined_after}
 
 -- The trees after the first steps of a commit.
 abbrev pub trees_after : World → (ℕ → JobSpec) → List Step → Trees
-trees_after world specs first = stepped_all world.store.tables (λ id. (specs id, outputs_in world.store.records id)) first world.store.manifest.trees
+trees_after world specs first =
+    stepped_all world.store.tables
+    (λ id. (specs id, outputs_in world.store.records id)) first world.store.manifest.trees
 
 -- The jobs that are joined after these steps, with those joined before them.
 abbrev pub joined_by : List Step → List ℕ → List ℕ

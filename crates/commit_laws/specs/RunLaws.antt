@@ -22,7 +22,8 @@ LawfulCoursesKeep A = (who : Caller) (course : Course A) → IsLawful who.merge 
 -- Under a lawful operator, calls of others keep the invariant, and so do the runs of all steps that
 -- are lawful courses.
 pub record CoursesKeep : Type 0 where
-  pub rivals : (who : Caller) (old new : World) → IsLawful who.merge → Keeps who.merge old → Rivals who old new → Keeps who.merge new
+  pub rivals : (who : Caller) (old new : World) → IsLawful who.merge → Keeps who.merge old → Rivals who old new
+      → Keeps who.merge new
   pub starts : LawfulCoursesKeep (StepEnd ℕ)
   pub polls : LawfulCoursesKeep (StepEnd PollState)
   pub submits : LawfulCoursesKeep (StepEnd (List ℕ))

@@ -16,14 +16,19 @@ use Rattle.fleet_model.specs.ReadsFit.{NodeKeepsReads}
 
 -- The run of these tables that replaces some nodes. It has all their flushes.
 abbrev pub run_for : ℕ → List ℕ → Tree → Node
-run_for id pieces taken = record { name = Run id; flushes = flat_map (λ (node : Node). node.flushes) taken; pieces = pieces }
+run_for id pieces taken = record {
+  name = Run id;
+  flushes = flat_map (λ (node : Node). node.flushes) taken;
+  pieces = pieces;
+}
 
 -- Each node of a part of a tree keeps reads. The flag says that no node of the tree is older than the
 -- part.
 abbrev pub PartKeepsReads : Operator → Store → Bool → Tree → Type 0
 PartKeepsReads merge store oldest [] = ⊤
 PartKeepsReads merge store oldest (node ∷ []) = NodeKeepsReads merge store oldest node
-PartKeepsReads merge store oldest (node ∷ other ∷ tree) = NodeKeepsReads merge store false node × PartKeepsReads merge store oldest (other ∷ tree)
+PartKeepsReads merge store oldest (node ∷ other ∷ tree) =
+    NodeKeepsReads merge store false node × PartKeepsReads merge store oldest (other ∷ tree)
 
 -- Some nodes of a tree, newest first: their rows are ordered, and they keep reads.
 pub record IsPart (merge : Operator) (store : Store) (oldest : Bool) (nodes : Tree) : Type 0 where
@@ -33,15 +38,18 @@ pub record IsPart (merge : Operator) (store : Store) (oldest : Bool) (nodes : Tr
 
 -- The outputs of a join are all rows that the settings make of the nodes' tables. The cut is at most
 -- the horizon, the tick is at most the stored one, and only a run of the oldest nodes is a last run.
-pub record JoinMakes (merge : Operator) (store : Store) (oldest : Bool) (taken : Tree) (outputs : List ℕ) (settings : Settings) : Type 0 where
-  pub rows : job_rows merge settings (source_rows store.tables (flat_map (λ (node : Node). node.pieces) taken)) ≡ record { rows = noted_rows store.tables outputs; whole = true }
+pub record JoinMakes (merge : Operator) (store : Store) (oldest : Bool) (taken : Tree) (outputs : List ℕ)
+    (settings : Settings) : Type 0 where
+  pub rows : job_rows merge settings (source_rows store.tables (flat_map (λ (node : Node). node.pieces) taken))
+      ≡ record { rows = noted_rows store.tables outputs; whole = true }
   pub cut : settings.cut ≤ store.manifest.horizon
   pub tick : IsTrue (int_le settings.tick store.manifest.tick)
   pub last_run : settings.last_run ≡ true → oldest ≡ true
 
 -- Each table is ordered and not empty.
 abbrev pub AreTables : Tables → List ℕ → Type 0
-AreTables tables pieces = AllByRecursion (λ t. (table_rows tables t ≢ []) × IsStrictlyOrdered (table_rows tables t)) pieces
+AreTables tables pieces =
+    AllByRecursion (λ t. (table_rows tables t ≢ []) × IsStrictlyOrdered (table_rows tables t)) pieces
 
 -- The tables of the nodes, in the order of their first keys.
 abbrev pub moved_tables : Tables → Tree → List ℕ
@@ -50,8 +58,13 @@ moved_tables tables taken = by_first_key tables (flat_map (λ (node : Node). nod
 -- A run that a join or a move makes of some nodes keeps reads as they did. So every read from the
 -- horizon and the tick on answers as the flushes in the run, whatever rows are above and below.
 pub record RunsKeepReads (merge : Operator) : Type 0 where
-  pub joins : (store : Store) (oldest : Bool) (node : Node) (nodes : Tree) (id : ℕ) (outputs : List ℕ) (settings : Settings) → IsPart merge store oldest (node ∷ nodes)
-      → JoinMakes merge store oldest (node ∷ nodes) outputs settings → NodeKeepsReads merge store oldest (run_for id outputs (node ∷ nodes))
-  pub moves : (store : Store) (oldest : Bool) (node : Node) (nodes : Tree) (id : ℕ) → IsPart merge store oldest (node ∷ nodes)
-      → AreTables store.tables (flat_map (λ (n : Node). n.pieces) (node ∷ nodes)) → IsTrue (are_apart store.tables (moved_tables store.tables (node ∷ nodes)))
+  pub joins : (store : Store) (oldest : Bool) (node : Node) (nodes : Tree) (id : ℕ) (outputs : List ℕ)
+      (settings : Settings)
+      → IsPart merge store oldest (node ∷ nodes)
+      → JoinMakes merge store oldest (node ∷ nodes) outputs settings
+      → NodeKeepsReads merge store oldest (run_for id outputs (node ∷ nodes))
+  pub moves : (store : Store) (oldest : Bool) (node : Node) (nodes : Tree) (id : ℕ)
+      → IsPart merge store oldest (node ∷ nodes)
+      → AreTables store.tables (flat_map (λ (n : Node). n.pieces) (node ∷ nodes))
+      → IsTrue (are_apart store.tables (moved_tables store.tables (node ∷ nodes)))
       → NodeKeepsReads merge store oldest (run_for id (moved_tables store.tables (node ∷ nodes)) (node ∷ nodes))

@@ -16,8 +16,12 @@ use Rattle.commit_laws.specs.After.{trees_after}
 -- A job whose join took effect is Compacted still, since the records were lost. If it passes the
 -- gate, be it after the first steps of a commit, a second join of it changes no tree.
 abbrev pub SecondJoinsRest : Operator → Type 0
-SecondJoinsRest merge = (world : World) (party : Party) (specs : ℕ → JobSpec) (first : List Step) (job : Job) → Keeps merge world
-    → AllByRecursion (λ step. IsKnownTo party world specs (job_of step)) first → StepsFit world specs world.store.manifest.trees [] first
-    → job_with job.id (stored_jobs world.store) ≡ Some job → IsTrue (has_status Compacted job) → IsTrue (was_joined world.store.history job.id)
+SecondJoinsRest merge = (world : World) (party : Party) (specs : ℕ → JobSpec) (first : List Step) (job : Job)
+    → Keeps merge world
+    → AllByRecursion (λ step. IsKnownTo party world specs (job_of step)) first
+    → StepsFit world specs world.store.manifest.trees [] first
+    → job_with job.id (stored_jobs world.store) ≡ Some job → IsTrue (has_status Compacted job)
+    → IsTrue (was_joined world.store.history job.id)
     → commit_gate (trees_after world specs first) (λ spec. true) job ≡ None
-    → stepped_in world.store.tables (Join job.id) job.spec (concat job.outputs) (trees_after world specs first) ≡ trees_after world specs first
+    → stepped_in world.store.tables (Join job.id) job.spec (concat job.outputs) (trees_after world specs first)
+    ≡ trees_after world specs first

@@ -14,9 +14,12 @@ use Rattle.step_model.specs.Keeps.{Keeps}
 -- job was opened. Settings that fit the job fit it still: a last run stays one of the oldest nodes.
 pub record IsSpared (world : World) (value : Manifest) (job : Job) : Type 0 where
   pub stands : SourcesStand value.trees job
-  pub settings : (settings : Settings) → SettingsFit world.store.manifest job.spec settings → SettingsFit value job.spec settings
+  pub settings : (settings : Settings) → SettingsFit world.store.manifest job.spec settings
+      → SettingsFit value job.spec settings
 
 -- A lawful commit spares each stored job that is Scheduled or Running.
 abbrev pub CommitsSpareJobs : Operator → Type 0
-CommitsSpareJobs merge = (world : World) (party : Party) (steps : List Step) (value : Manifest) (job : Job) → Keeps merge world → CommitFits party world steps value
-    → job_with job.id (stored_jobs world.store) ≡ Some job → IsTrue (has_status Scheduled job || has_status Running job) → IsSpared world value job
+CommitsSpareJobs merge = (world : World) (party : Party) (steps : List Step) (value : Manifest) (job : Job)
+    → Keeps merge world → CommitFits party world steps value
+    → job_with job.id (stored_jobs world.store) ≡ Some job
+    → IsTrue (has_status Scheduled job || has_status Running job) → IsSpared world value job

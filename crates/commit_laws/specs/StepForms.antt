@@ -34,19 +34,25 @@ pub record RunReplaces (trees others : Trees) (spec : JobSpec) (pieces : List �
 -- The run of a join has the job's rows: all rows that the settings of one claim make of the sources,
 -- by whichever faithful replay that claim is found.
 pub record JoinReplaces (merge : Operator) (world : World) (trees : Trees) (job : Job) : Type 0 where
-  pub run : RunReplaces trees (stepped_in world.store.tables (Join job.id) job.spec (concat job.outputs) trees) job.spec (concat job.outputs)
+  pub run : RunReplaces trees
+      (stepped_in world.store.tables (Join job.id) job.spec (concat job.outputs) trees) job.spec (concat job.outputs)
   pub settings : Settings
-  pub claimed : (specs : ℕ → JobSpec) → Faithful world specs → settings_of world.store.tables specs world.store.history job.id job.attempt ≡ Some (without_cut settings)
+  pub claimed : (specs : ℕ → JobSpec) → Faithful world specs
+      → settings_of world.store.tables specs world.store.history job.id job.attempt ≡ Some (without_cut settings)
   pub cut : settings.cut ≡ cut_or settings.floor job.kept_cut
-  pub rows : job_rows merge settings (source_rows world.store.tables (flat_map (λ (node : Node). node.pieces) run.taken))
+  pub rows : job_rows merge settings
+      (source_rows world.store.tables (flat_map (λ (node : Node). node.pieces) run.taken))
       ≡ record { rows = noted_rows world.store.tables (concat job.outputs); whole = true }
 
 -- A join of a commit, be it after other steps, replaces the sources by the run of the job's rows,
 -- unless the job was joined by an earlier commit.
 abbrev pub JoinsReplace : Operator → Type 0
-JoinsReplace merge = (world : World) (party : Party) (specs : ℕ → JobSpec) (first : List Step) (id : ℕ) → Keeps merge world
-    → AllByRecursion (λ step. IsKnownTo party world specs (job_of step)) first → StepsFit world specs world.store.manifest.trees [] first
-    → (fits : JoinFits world (trees_after world specs first) (joined_by first []) id) → was_joined world.store.history id ≡ false
+JoinsReplace merge = (world : World) (party : Party) (specs : ℕ → JobSpec) (first : List Step) (id : ℕ)
+    → Keeps merge world
+    → AllByRecursion (λ step. IsKnownTo party world specs (job_of step)) first
+    → StepsFit world specs world.store.manifest.trees [] first
+    → (fits : JoinFits world (trees_after world specs first) (joined_by first []) id)
+    → was_joined world.store.history id ≡ false
     → JoinReplaces merge world (trees_after world specs first) fits.job
 
 -- The tables of the sources, in the order of their first keys.
@@ -56,11 +62,17 @@ tables_in_order world trees spec = by_first_key world.store.tables (tables_now t
 -- The run of a move has the sources' own tables. One after the other, these hold the sources' rows in
 -- order.
 pub record MoveReplaces (world : World) (trees : Trees) (spec : JobSpec) (id : ℕ) (outputs : List ℕ) : Type 0 where
-  pub run : RunReplaces trees (stepped_in world.store.tables (Move id) spec outputs trees) spec (tables_in_order world trees spec)
-  pub rows : noted_rows world.store.tables (tables_in_order world trees spec) ≡ source_rows world.store.tables (tables_now trees spec)
+  pub run : RunReplaces trees (stepped_in world.store.tables (Move id) spec outputs trees) spec
+      (tables_in_order world trees spec)
+  pub rows : noted_rows world.store.tables (tables_in_order world trees spec)
+      ≡ source_rows world.store.tables (tables_now trees spec)
 
 -- A move of a commit, be it after other steps, replaces the sources by a run of their own tables.
 abbrev pub MovesReplace : Operator → Type 0
-MovesReplace merge = (world : World) (party : Party) (specs : ℕ → JobSpec) (first : List Step) (id : ℕ) (outputs : List ℕ) → Keeps merge world
-    → AllByRecursion (λ step. IsKnownTo party world specs (job_of step)) first → StepsFit world specs world.store.manifest.trees [] first
-    → MoveFits world (trees_after world specs first) (joined_by first []) (specs id) id → MoveReplaces world (trees_after world specs first) (specs id) id outputs
+MovesReplace merge = (world : World) (party : Party) (specs : ℕ → JobSpec) (first : List Step) (id : ℕ)
+    (outputs : List ℕ)
+    → Keeps merge world
+    → AllByRecursion (λ step. IsKnownTo party world specs (job_of step)) first
+    → StepsFit world specs world.store.manifest.trees [] first
+    → MoveFits world (trees_after world specs first) (joined_by first []) (specs id) id
+    → MoveReplaces world (trees_after world specs first) (specs id) id outputs

@@ -18,7 +18,8 @@ pub record LoopsFit : Type 0 where
       → IsLawful who.merge → who.party ≡ Coordinator number → Keeps who.merge world
       → CoordinatorHolds world (record { number = number; epoch = ask.epoch }) local
       → IsLawfulCourse who world (polls_at ask moments)
-  pub fits : (who : Caller) (old new : World) (number : ℕ) (ask : PollAsk) (moments : List ℕ) (local : Option Local) (end : End LoopEnd)
+  pub fits : (who : Caller) (old new : World) (number : ℕ) (ask : PollAsk) (moments : List ℕ) (local : Option Local)
+      (end : End LoopEnd)
       → IsLawful who.merge → who.party ≡ Coordinator number → Keeps who.merge old
       → CoordinatorHolds old (record { number = number; epoch = ask.epoch }) local
       → Runs who (polls_at ask moments) old new end

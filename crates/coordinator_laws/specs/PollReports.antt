@@ -110,7 +110,8 @@ pub record PollDid (who : Caller) (ask : PollAsk) (old new : World) (p : PollSta
   pub others : Rivals who (after_call who.line who.party (Plain GetManifest) None shown) found
   pub drawn : List (ℕ × JobSpec)
   pub proposed : map (λ d. d.1) drawn
-      ≡ proposed_specs ask (input_got ask shown.store found.store) (first_steps ask (input_got ask shown.store found.store))
+      ≡ proposed_specs ask (input_got ask shown.store found.store)
+      (first_steps ask (input_got ask shown.store found.store))
   pub drew : AllByRecursion (λ d. IsTrue (drew_job who.party new.store.history d.0)) drawn
   pub reached : PollState
   pub is : reached ≡ state_reached ask (input_got ask shown.store found.store) drawn

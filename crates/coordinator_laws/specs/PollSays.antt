@@ -18,7 +18,8 @@ before_commits commits_only input =
 -- fails, if one does, on the trees that the commits before it left.
 abbrev pub verdicts : PollInput → Jobs → PollState → List (ℕ × Option ℕ)
 verdicts input [] p = []
-verdicts input (job ∷ jobs) p = (job.id, commit_gate p.trees (accepts input p) job) ∷ verdicts input jobs (commit_job input job p)
+verdicts input (job ∷ jobs) p =
+    (job.id, commit_gate p.trees (accepts input p) job) ∷ verdicts input jobs (commit_job input job p)
 
 -- The verdicts on all finished jobs that a poll finds.
 abbrev pub all_verdicts : (commits_only : Bool) → PollInput → List (ℕ × Option ℕ)
@@ -143,7 +144,8 @@ SaysBeside false input drawn p = WholeSays input drawn p
 -- Each poll commits, in the order of their ids, exactly the finished jobs that pass the gate, and each other
 -- finished job fails with its rule. The joins of the committed jobs come first among its steps, in this
 -- order.
-pub record PollSays (commits_only : Bool) (input : PollInput) (drawn : List (ℕ × JobSpec)) (p : PollState) : Type 0 where
+pub record PollSays (commits_only : Bool) (input : PollInput) (drawn : List (ℕ × JobSpec)) (p : PollState)
+    : Type 0 where
   pub beside : SaysBeside commits_only input drawn p
   pub commits : p.done ≡ flat_map passed_in (all_verdicts commits_only input)
   pub loses : p.lost ≡ flat_map failed_in (all_verdicts commits_only input)

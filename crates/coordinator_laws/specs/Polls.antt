@@ -12,5 +12,6 @@ use Rattle.step_model.specs.PollSteps.{PollAsk, poll}
 
 -- A poll of a coordinator that fits is a lawful course under a lawful operator.
 abbrev pub PollsAreLawful : Type 0
-PollsAreLawful = (who : Caller) (world : World) (number : ℕ) (ask : PollAsk) (local : Option Local) → IsLawful who.merge → who.party ≡ Coordinator number → Keeps who.merge world
+PollsAreLawful = (who : Caller) (world : World) (number : ℕ) (ask : PollAsk) (local : Option Local)
+    → IsLawful who.merge → who.party ≡ Coordinator number → Keeps who.merge world
     → CoordinatorHolds world (record { number = number; epoch = ask.epoch }) local → IsLawfulCourse who world (poll ask)

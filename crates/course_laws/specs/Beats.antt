@@ -12,5 +12,6 @@ use Rattle.step_laws.specs.Runs.{CallsKeep}
 
 -- A heartbeat of a worker that fits is a lawful course, if every lawful call keeps the invariant.
 abbrev pub BeatsAreLawful : Type 0
-BeatsAreLawful = (who : Caller) (world : World) (moment : ℕ) (w : LiveWorker) → CallsKeep who.merge → who.party ≡ Worker w.number → Keeps who.merge world → WorkerHolds who.merge world w
+BeatsAreLawful = (who : Caller) (world : World) (moment : ℕ) (w : LiveWorker) → CallsKeep who.merge
+    → who.party ≡ Worker w.number → Keeps who.merge world → WorkerHolds who.merge world w
     → IsLawfulCourse who world (heartbeat moment w)

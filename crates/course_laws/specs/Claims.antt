@@ -12,5 +12,6 @@ use Rattle.step_laws.specs.Runs.{CallsKeep}
 -- A worker's claim is a lawful course over any store that meets the invariant, if every lawful call
 -- keeps the invariant.
 abbrev pub ClaimsAreLawful : Type 0
-ClaimsAreLawful = (who : Caller) (world : World) (options : WorkerOptions) (moment : ℕ) (w : LiveWorker) → CallsKeep who.merge → Keeps who.merge world → who.party ≡ Worker w.number
+ClaimsAreLawful = (who : Caller) (world : World) (options : WorkerOptions) (moment : ℕ) (w : LiveWorker)
+    → CallsKeep who.merge → Keeps who.merge world → who.party ≡ Worker w.number
     → IsLawfulCourse who world (claim options moment w)

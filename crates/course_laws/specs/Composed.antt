@@ -11,14 +11,16 @@ use Rattle.step_model.specs.StepEnds.{StepEnd}
 use Rattle.step_model.specs.LoopSteps.{LoopEnd}
 
 -- The first course gave an answer, and the second one ran on from there.
-pub record RanOn {A B : Type 0} (who : Caller) (first : Course A) (second : A → Course B) (old new : World) (end : End B) : Type 0 where
+pub record RanOn {A B : Type 0} (who : Caller) (first : Course A) (second : A → Course B) (old new : World)
+    (end : End B) : Type 0 where
   pub answer : A
   pub mid : World
   pub begins : Runs who first old mid (Gives answer)
   pub goes : Runs who (second answer) mid new end
 
 -- Or a fault struck the first course, or memory ran out in it.
-pub data RanThen {A B : Type 0} (who : Caller) (first : Course A) (second : A → Course B) (old new : World) (end : End B) : Type 0 where
+pub data RanThen {A B : Type 0} (who : Caller) (first : Course A) (second : A → Course B) (old new : World)
+    (end : End B) : Type 0 where
   GoesOn : RanOn who first second old new end → RanThen who first second old new end
   IsStruck : end ≡ MeetsFault → Runs who first old new MeetsFault → RanThen who first second old new end
   Lacks : end ≡ LacksMemory → Runs who first old new LacksMemory → RanThen who first second old new end
@@ -41,9 +43,11 @@ pub record Composes (A B : Type 0) : Type 0 where
   pub ran : (who : Caller) (first : Course A) (second : A → Course B) (old mid new : World) (answer : A)
       (waits between left : Option Fault) (end : End B) → Ran who first old mid waits between (Gives answer)
       → Ran who (second answer) mid new between left end → Ran who (then_course first second) old new waits left end
-  pub ran_struck : (who : Caller) (first : Course A) (second : A → Course B) (old new : World) (waits left : Option Fault)
+  pub ran_struck : (who : Caller) (first : Course A) (second : A → Course B) (old new : World)
+      (waits left : Option Fault)
       → Ran who first old new waits left MeetsFault → Ran who (then_course first second) old new waits left MeetsFault
-  pub ran_lacks : (who : Caller) (first : Course A) (second : A → Course B) (old new : World) (waits left : Option Fault)
+  pub ran_lacks : (who : Caller) (first : Course A) (second : A → Course B) (old new : World)
+      (waits left : Option Fault)
       → Ran who first old new waits left LacksMemory → Ran who (then_course first second) old new waits left LacksMemory
 
 -- So it is with the polls of a loop.

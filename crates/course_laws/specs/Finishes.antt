@@ -17,7 +17,8 @@ use Rattle.course_laws.specs.Outputs.{DoesRun}
 
 -- If the operator refused no fold, all ranges of the attempt are whole.
 abbrev pub WholeUnless : Operator → Tables → Attempt → (refusal : Option (List ℕ)) → Type 0
-WholeUnless merge tables a None = AllByRecursion (λ range. (unwritten merge tables a range).whole ≡ true) a.context.ranges
+WholeUnless merge tables a None =
+    AllByRecursion (λ range. (unwritten merge tables a range).whole ≡ true) a.context.ranges
 WholeUnless merge tables a (Some message) = ⊤
 
 -- A finish of a worker that fits is a lawful course under a lawful operator, if every lawful call

@@ -21,5 +21,6 @@ pub record MayAsk (ask : FlushAsk) : Type 0 where
 -- A flush is a lawful course over any store that meets the invariant, if every lawful call keeps the
 -- invariant. `last` is at least the greatest name that flushes have used.
 abbrev pub FlushesAreLawful : Type 0
-FlushesAreLawful = (who : Caller) (world : World) (moment retention last : ℕ) (ask : FlushAsk) → CallsKeep who.merge → Keeps who.merge world → who.party ≡ Writer → MayAsk ask → last_name world.store.history ≤ last
+FlushesAreLawful = (who : Caller) (world : World) (moment retention last : ℕ) (ask : FlushAsk) → CallsKeep who.merge
+    → Keeps who.merge world → who.party ≡ Writer → MayAsk ask → last_name world.store.history ≤ last
     → IsLawfulCourse who world (flush moment retention last ask)

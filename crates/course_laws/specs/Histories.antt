@@ -66,4 +66,5 @@ pub record HistoriesCount : Type 0 where
   pub commits : (first rest : List Entry)
       → committed_jobs (first ++ rest) ≡ committed_jobs first ++ committed_from (finished_jobs first) rest
   pub commits_number : (first rest : List Entry)
-      → length (committed_jobs (first ++ rest)) ≡ length (committed_jobs first) + length (committed_from (finished_jobs first) rest)
+      → length (committed_jobs (first ++ rest))
+      ≡ length (committed_jobs first) + length (committed_from (finished_jobs first) rest)

@@ -1,5 +1,5 @@
 -- The laws on messages about a worker's attempts.
-use Rattle.std.specs.Prelude.{◌≡◌, ℕ, false, true, IsTrue, IfSome, List, [], ◌∷◌, ◌++◌, ⊤}
+use Rattle.std.specs.Prelude.{◌≡◌, ℕ, false, true, IsTrue, IfSome, List, ◌++◌}
 use Rattle.std.specs.List.{AllZip, AllByRecursion}
 use Rattle.row_model.specs.Fold.{Operator}
 use Rattle.row_model.specs.Ranges.{Range}
@@ -26,11 +26,13 @@ pub record IsUnused (world : World) (w : LiveWorker) (table : ℕ) : Type 0 wher
 
 -- The tables of a range begin with those that the attempt has noted for it. The others are unused.
 -- Together they have all rows that the range makes, and the operator refuses no fold of them.
-pub record IsWhole (merge : Operator) (world : World) (w : LiveWorker) (a : Attempt) (range : Range × List ℕ) (tables : List ℕ) : Type 0 where
+pub record IsWhole (merge : Operator) (world : World) (w : LiveWorker) (a : Attempt) (range : Range × List ℕ)
+    (tables : List ℕ) : Type 0 where
   pub new : List ℕ
   pub begins : tables ≡ range.1 ++ new
   pub unused : AllByRecursion (IsUnused world w) new
-  pub rows : (range_rows merge world.store.tables a.context.settings a.sources range.0).rows ≡ noted_rows world.store.tables tables
+  pub rows : (range_rows merge world.store.tables a.context.settings a.sources range.0).rows
+      ≡ noted_rows world.store.tables tables
   pub refuses_none : (range_rows merge world.store.tables a.context.settings a.sources range.0).whole ≡ true
 
 -- The result of an attempt has one list of tables for each of its ranges, and each is whole.

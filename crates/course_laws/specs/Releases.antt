@@ -9,4 +9,5 @@ use Rattle.step_model.specs.BeatSteps.{release_all}
 
 -- The step by which a worker gives its live attempts back is a lawful course over any store.
 abbrev pub ReleasesAreLawful : Type 0
-ReleasesAreLawful = (who : Caller) (world : World) (w : LiveWorker) → who.party ≡ Worker w.number → IsLawfulCourse who world (release_all w)
+ReleasesAreLawful = (who : Caller) (world : World) (w : LiveWorker) → who.party ≡ Worker w.number
+    → IsLawfulCourse who world (release_all w)

@@ -8,4 +8,5 @@ use Rattle.step_model.specs.PollSteps.{start}
 
 -- A start of a coordinator is a lawful course over any store.
 abbrev pub StartsAreLawful : Type 0
-StartsAreLawful = (who : Caller) (world : World) (number : ℕ) → who.party ≡ Coordinator number → IsLawfulCourse who world start
+StartsAreLawful = (who : Caller) (world : World) (number : ℕ) → who.party ≡ Coordinator number
+    → IsLawfulCourse who world start

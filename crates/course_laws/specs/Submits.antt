@@ -13,5 +13,7 @@ use Rattle.step_laws.specs.Runs.{CallsKeep}
 -- Submissions of jobs and of requests are lawful courses over any store that meets the invariant, if
 -- every lawful call keeps the invariant.
 pub record SubmitsAreLawful (who : Caller) (world : World) : Type 0 where
-  pub submits : (moment : ℕ) (specs : List JobSpec) → CallsKeep who.merge → Keeps who.merge world → who.party ≡ Submitter → IsLawfulCourse who world (submit moment specs)
-  pub requests : (moment : ℕ) (asked : Scheduler) (request : Request) → CallsKeep who.merge → Keeps who.merge world → who.party ≡ Submitter → IsLawfulCourse who world (submit_request moment asked request)
+  pub submits : (moment : ℕ) (specs : List JobSpec) → CallsKeep who.merge → Keeps who.merge world
+      → who.party ≡ Submitter → IsLawfulCourse who world (submit moment specs)
+  pub requests : (moment : ℕ) (asked : Scheduler) (request : Request) → CallsKeep who.merge → Keeps who.merge world
+      → who.party ≡ Submitter → IsLawfulCourse who world (submit_request moment asked request)

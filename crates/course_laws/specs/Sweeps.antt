@@ -11,5 +11,6 @@ use Rattle.step_model.specs.SweepSteps.{sweep}
 -- A sweep is a lawful course over a store that meets the invariant, if nobody else calls the store
 -- and no flush is about to bring a table to a tree.
 abbrev pub SweepsAreLawful : Type 0
-SweepsAreLawful = (who : Caller) (world : World) (pins : List ℕ) → who.alone ≡ true → who.party ≡ Sweeper → Keeps who.merge world → ((table : ℕ) → is_pending world.store.history table ≡ false)
+SweepsAreLawful = (who : Caller) (world : World) (pins : List ℕ) → who.alone ≡ true → who.party ≡ Sweeper
+    → Keeps who.merge world → ((table : ℕ) → is_pending world.store.history table ≡ false)
     → IsLawfulCourse who world (sweep pins)

@@ -13,7 +13,10 @@ use Rattle.fleet_laws.specs.Midway.{midway_store}
 -- before the flush stays readable.
 pub record CutsAreLow (manifest : Manifest) (moment retention : ℕ) : Type 0 where
   pub floor : (release : Release) → claim_cut release manifest moment retention ≤ manifest.floor
-  pub flushes : retention ≢ 0 → AllByRecursion (λ flush. IsTrue (is_retained moment retention flush) → cut_at manifest moment retention ≤ flush.least_seq - 1) manifest.tracker
+  pub flushes : retention ≢ 0
+      → AllByRecursion
+      (λ flush. IsTrue (is_retained moment retention flush)
+      → cut_at manifest moment retention ≤ flush.least_seq - 1) manifest.tracker
 
 -- A flush with the least sequence 3 came at moment 0, and the retention is 1,000 ms. Before moment 1,000,
 -- that flush holds the cut of a worker of release 2 at 2, and from then on the cut is the floor 4. A worker

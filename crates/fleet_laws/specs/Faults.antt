@@ -9,6 +9,8 @@ use Rattle.fleet_model.specs.Exchanges.{PutsManifest, PutsRecords, records_versi
 -- fault lets puts stand or not.
 pub record OldPutsAreLost (line : ℕ) (party : Party) (version : ℕ) (store : Store) : Type 0 where
   pub manifest : (change : ManifestChange) (value : Manifest) → (version == store.manifest.version) ≡ false
-      → struck_by true line party (PutsManifest version change value) store ≡ struck_by false line party (PutsManifest version change value) store
+      → struck_by true line party (PutsManifest version change value) store
+      ≡ struck_by false line party (PutsManifest version change value) store
   pub records : (change : RecordChange) (epoch : ℕ) (jobs : Jobs) → (version == records_version store.records) ≡ false
-      → struck_by true line party (PutsRecords version change epoch jobs) store ≡ struck_by false line party (PutsRecords version change epoch jobs) store
+      → struck_by true line party (PutsRecords version change epoch jobs) store
+      ≡ struck_by false line party (PutsRecords version change epoch jobs) store

@@ -21,11 +21,16 @@ drawn_id = drawn_base + 1
 
 -- The tables that were put: the flush's table and the worker's table.
 abbrev pub tables : Tables
-tables = (1, version 0x35 5 ∷ version 0x34 4 ∷ version 0x33 3 ∷ []) ∷ (drawn_id, version 0x35 5 ∷ version 0x34 4 ∷ []) ∷ []
+tables =
+    (1, version 0x35 5 ∷ version 0x34 4 ∷ version 0x33 3 ∷ []) ∷ (drawn_id, version 0x35 5 ∷ version 0x34 4 ∷ []) ∷ []
 
 -- The context that the worker published.
 abbrev pub context : Context
-context = record { settings = record { floor = 4; tick = pos 0; last_run = true; cut = 2 }; has_cut = true; ranges = (all_keys, drawn_id ∷ []) ∷ [] }
+context = record {
+  settings = record { floor = 4; tick = pos 0; last_run = true; cut = 2 };
+  has_cut = true;
+  ranges = (all_keys, drawn_id ∷ []) ∷ [];
+}
 
 -- The spec of the job, which makes the run 0 of the flush.
 abbrev pub spec : JobSpec
@@ -74,7 +79,14 @@ midway_store = record {
   manifest = record {
     version = 3;
     epoch = 1;
-    trees = record { prefix = []; tree = record { name = L0 1; flushes = 1 ∷ []; pieces = 1 ∷ [] } ∷ []; last_seq = Some 5; watermark = None } ∷ [];
+    trees =
+        record {
+          prefix = [];
+          tree = record { name = L0 1; flushes = 1 ∷ []; pieces = 1 ∷ [] } ∷ [];
+          last_seq = Some 5;
+          watermark = None;
+        }
+        ∷ [];
     floor = 4;
     tick = pos 0;
     tracker = record { least_seq = 3; moment = 0 } ∷ [];
@@ -92,5 +104,11 @@ midway_store = record {
 abbrev pub midway_parties : Parties
 midway_parties = record {
   coordinators = record { number = 1; epoch = 1 } ∷ [];
-  workers = record { number = 1; release = Two; attempts = record { job = 1; number = 1; sources = 1 ∷ []; context = context } ∷ [] } ∷ [];
+  workers =
+      record {
+        number = 1;
+        release = Two;
+        attempts = record { job = 1; number = 1; sources = 1 ∷ []; context = context } ∷ [];
+      }
+      ∷ [];
 }

@@ -51,7 +51,14 @@ joined_store = record {
   manifest = record {
     version = 4;
     epoch = 1;
-    trees = record { prefix = []; tree = record { name = Run 0; flushes = 1 ∷ []; pieces = drawn_id ∷ last_drawn ∷ [] } ∷ []; last_seq = Some 5; watermark = Some 1 } ∷ [];
+    trees =
+        record {
+          prefix = [];
+          tree = record { name = Run 0; flushes = 1 ∷ []; pieces = drawn_id ∷ last_drawn ∷ [] } ∷ [];
+          last_seq = Some 5;
+          watermark = Some 1;
+        }
+        ∷ [];
     floor = 4;
     tick = pos 0;
     tracker = record { least_seq = 3; moment = 0 } ∷ [];

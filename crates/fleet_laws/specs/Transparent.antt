@@ -28,7 +28,8 @@ is_of_sweep _ = false
 
 -- Each call that a sweeper made is one of a sweep.
 abbrev pub SweepersOnlySweep : List Entry → Type 0
-SweepersOnlySweep history = AllByRecursion (λ entry. IsTrue (is_sweeper entry.party) → IsTrue (is_of_sweep entry.event)) history
+SweepersOnlySweep history =
+    AllByRecursion (λ entry. IsTrue (is_sweeper entry.party) → IsTrue (is_of_sweep entry.event)) history
 
 -- The history without the sweepers' entries.
 abbrev pub without_sweeps : List Entry → List Entry
@@ -38,9 +39,11 @@ without_sweeps history = filter (λ entry. not (is_sweeper entry.party)) history
 -- same live parties. It gives the same settings and ranges of each attempt. And it says the same of joins,
 -- heartbeats and finishes.
 pub record SweepsLeaveNoTrace (tables : Tables) (specs : ℕ → JobSpec) (history : List Entry) : Type 0 where
-  pub objects : replayed_objects tables specs (without_sweeps history) (plain_objects fresh_store) ≡ replayed_objects tables specs history (plain_objects fresh_store)
+  pub objects : replayed_objects tables specs (without_sweeps history) (plain_objects fresh_store)
+      ≡ replayed_objects tables specs history (plain_objects fresh_store)
   pub live : live_after tables specs (without_sweeps history) ≡ live_after tables specs history
-  pub settings : (job attempt : ℕ) → settings_of tables specs (without_sweeps history) job attempt ≡ settings_of tables specs history job attempt
+  pub settings : (job attempt : ℕ)
+      → settings_of tables specs (without_sweeps history) job attempt ≡ settings_of tables specs history job attempt
   pub ranges : (job attempt : ℕ) → ranges_of (without_sweeps history) job attempt ≡ ranges_of history job attempt
   pub joined : (job : ℕ) → was_joined (without_sweeps history) job ≡ was_joined history job
   pub beaten : (job : ℕ) → was_beaten (without_sweeps history) job ≡ was_beaten history job
@@ -48,4 +51,5 @@ pub record SweepsLeaveNoTrace (tables : Tables) (specs : ℕ → JobSpec) (histo
 
 -- Sweepers that only sweep leave no trace.
 abbrev pub SweepsAreTransparent : Type 0
-SweepsAreTransparent = (tables : Tables) (specs : ℕ → JobSpec) (history : List Entry) → SweepersOnlySweep history → SweepsLeaveNoTrace tables specs history
+SweepsAreTransparent = (tables : Tables) (specs : ℕ → JobSpec) (history : List Entry) → SweepersOnlySweep history
+    → SweepsLeaveNoTrace tables specs history

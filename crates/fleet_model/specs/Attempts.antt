@@ -44,13 +44,19 @@ claim_cut Two manifest moment retention = cut_at manifest moment retention
 -- makes the last run of its tree.
 abbrev pub claim_settings : Manifest → ℕ → JobSpec → Settings
 claim_settings manifest cut spec =
-    record { floor = manifest.floor; tick = manifest.tick; last_run = is_last_run spec.destination (tree_at spec.segment manifest.trees); cut = cut }
+    record {
+      floor = manifest.floor;
+      tick = manifest.tick;
+      last_run = is_last_run spec.destination (tree_at spec.segment manifest.trees);
+      cut = cut;
+    }
 
 -- The context of a claim that takes over no published context. It plans the ranges of the job's source
 -- tables, and no range has a table yet.
 abbrev pub fresh_context : ClaimInput → Job → Context
 fresh_context input job = record {
-  settings = claim_settings input.manifest (claim_cut input.release input.manifest input.moment input.retention) job.spec;
+  settings =
+      claim_settings input.manifest (claim_cut input.release input.manifest input.moment input.retention) job.spec;
   has_cut = knows_cut input.release;
   ranges = map (λ range. (range, [])) (planned_ranges input.most (map (table_rows input.tables) job.source_tables));
 }

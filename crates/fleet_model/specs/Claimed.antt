@@ -27,7 +27,8 @@ beaten_in job _ = None
 -- The number of the attempt in the first heartbeat that names the job and took effect.
 abbrev pub first_beaten : ℕ → List Entry → Option ℕ
 first_beaten job [] = None
-first_beaten job (entry ∷ history) = option_or (if stood entry.answer then beaten_in job entry.event else None) (first_beaten job history)
+first_beaten job (entry ∷ history) =
+    option_or (if stood entry.answer then beaten_in job entry.event else None) (first_beaten job history)
 
 -- The lower of two attempt numbers, or the first if there is no second.
 abbrev pub if_earlier : ℕ → Option ℕ → ℕ
@@ -47,7 +48,8 @@ is_same n (Some m) = n == m
 
 -- The worker that claims this attempt, if the event is such a claim.
 abbrev pub claimant_in : ℕ → ℕ → Event → Option ℕ
-claimant_in job attempt (PutRecords (Claim worker attempts)) = if is_same attempt (attempt_number_at job attempts) then Some worker else None
+claimant_in job attempt (PutRecords (Claim worker attempts)) =
+    if is_same attempt (attempt_number_at job attempts) then Some worker else None
 claimant_in job attempt _ = None
 
 -- The worker for which the entry claims this attempt, if it does and took effect.
@@ -91,7 +93,8 @@ objects_found _ _ o = None
 abbrev pub objects_at_get : Tables → (ℕ → JobSpec) → ℕ → List Entry → Objects → Option Objects
 objects_at_get tables specs worker [] o = None
 objects_at_get tables specs worker (entry ∷ history) o =
-    if is_worker worker entry.party then objects_found entry.event entry.answer o else objects_at_get tables specs worker history (after_entry tables specs entry o)
+    if is_worker worker entry.party then objects_found entry.event entry.answer o
+    else objects_at_get tables specs worker history (after_entry tables specs entry o)
 
 -- The objects that the worker got after its claim, given those at the start of the history. It is None if
 -- there is no claim, or if the worker got none.
@@ -105,7 +108,8 @@ objects_after_claim tables specs start (Some cut) =
 abbrev pub settings_of : Tables → (ℕ → JobSpec) → List Entry → (job attempt : ℕ) → Option Settings
 settings_of tables specs history job attempt =
     option_map (λ o. claim_settings o.manifest 0 (specs job))
-    (objects_after_claim tables specs (plain_objects fresh_store) (cut_at_claim job (origin history job attempt) history))
+    (objects_after_claim tables specs (plain_objects fresh_store)
+    (cut_at_claim job (origin history job attempt) history))
 
 -- The ranges of the attempt, if the event notes them.
 abbrev pub planned_in : ℕ → ℕ → Event → Option (List Range)
@@ -115,7 +119,8 @@ planned_in job attempt _ = None
 -- The ranges in the first note that names the attempt.
 abbrev pub noted_plan : ℕ → ℕ → List Entry → Option (List Range)
 noted_plan job attempt [] = None
-noted_plan job attempt (entry ∷ history) = option_or (planned_in job attempt entry.event) (noted_plan job attempt history)
+noted_plan job attempt (entry ∷ history) =
+    option_or (planned_in job attempt entry.event) (noted_plan job attempt history)
 
 -- The ranges of an attempt, which are in the note of its origin.
 abbrev pub ranges_of : List Entry → ℕ → ℕ → Option (List Range)

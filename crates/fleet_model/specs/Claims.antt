@@ -25,8 +25,15 @@ may_take release job = knows_cut release || has_no_cut job.context
 -- The jobs that a claim takes: the first waiting jobs that the worker does not run and may take. They are
 -- at most as many as the slots that were free when the claim began.
 abbrev pub claimed_jobs : ℕ → LiveWorker → Jobs → Jobs
-claimed_jobs slots w jobs = take (slots - length w.attempts) (filter (λ job. is_waiting job && not (contains (attempt_jobs w.attempts) job.id) && may_take w.release job) jobs)
+claimed_jobs slots w jobs =
+    take (slots - length w.attempts)
+    (filter (λ job. is_waiting job && not (contains (attempt_jobs w.attempts) job.id) && may_take w.release job) jobs)
 
 -- The attempt at the job that a claim begins.
 abbrev pub claimed_attempt : ClaimInput → Job → Attempt
-claimed_attempt input job = record { job = job.id; number = job.attempt + 1; sources = job.source_tables; context = attempt_context input job }
+claimed_attempt input job = record {
+  job = job.id;
+  number = job.attempt + 1;
+  sources = job.source_tables;
+  context = attempt_context input job;
+}

@@ -72,18 +72,26 @@ after_exchange (Plain event) store = store
 after_exchange (DrawsJob moment) store = record store { jobs_drawn = store.jobs_drawn + 1 }
 after_exchange (DrawsTable moment) store = record store { tables_drawn = store.tables_drawn + 1 }
 after_exchange (PutsTable table rows) store = record store { tables = store.tables ++ (table, rows) ∷ [] }
-after_exchange (PutsManifest version change value) store = if version == store.manifest.version then record store { manifest = record value { version = version + 1 } } else store
-after_exchange (PutsRecords version change epoch jobs) store = if version == records_version store.records then record store { records = Some (record { version = version + 1; epoch = epoch; jobs = jobs }) } else store
+after_exchange (PutsManifest version change value) store =
+    if version == store.manifest.version then record store { manifest = record value { version = version + 1 } }
+    else store
+after_exchange (PutsRecords version change epoch jobs) store =
+    if version == records_version store.records
+    then record store { records = Some (record { version = version + 1; epoch = epoch; jobs = jobs }) }
+    else store
 after_exchange ListsTables store = store
 after_exchange (DeletesTable table) store = record store { deleted = store.deleted ++ table ∷ [] }
 
 -- Adds an entry to the end of the history.
 abbrev pub with_entry : ℕ → Party → Event → Answer → Store → Store
-with_entry line party event answer store = record store { history = store.history ++ record { line = line; party = party; event = event; answer = answer } ∷ [] }
+with_entry line party event answer store = record store {
+  history = store.history ++ record { line = line; party = party; event = event; answer = answer } ∷ [];
+}
 
 -- The store after a call that no fault strikes, with the call's entry in the history.
 abbrev pub after_answered : ℕ → Party → Exchange → Store → Store
-after_answered line party x store = with_entry line party (event_of x store) (answer_of x store) (after_exchange x store)
+after_answered line party x store =
+    with_entry line party (event_of x store) (answer_of x store) (after_exchange x store)
 
 -- A fault waits for the k-th get or put from now on. A put that it strikes stands, which means that it
 -- takes effect, or is lost.
@@ -120,5 +128,6 @@ stands_or_lost _ = Stands
 -- in conflict is lost. If the flag is false, the call is lost. In both cases the history has an entry for
 -- the call.
 abbrev pub struck_by : Bool → ℕ → Party → Exchange → Store → Store
-struck_by true line party x store = with_entry line party (event_of x store) (stands_or_lost (answer_of x store)) (after_exchange x store)
+struck_by true line party x store =
+    with_entry line party (event_of x store) (stands_or_lost (answer_of x store)) (after_exchange x store)
 struck_by false line party x store = with_entry line party (event_of x store) Lost store

@@ -8,7 +8,8 @@ use Rattle.fleet_model.specs.Store.{Store, stored_jobs}
 -- An event may finish the job, which gives true, or end it, which gives false. Any other event gives None.
 abbrev pub finishes_job : ℕ → Event → Option Bool
 finishes_job job (PutRecords (Finish worker other attempt outputs)) = if job == other then Some true else None
-finishes_job job (PutRecords (Polled change)) = if contains (change.completed ++ change.failed) job then Some false else None
+finishes_job job (PutRecords (Polled change)) =
+    if contains (change.completed ++ change.failed) job then Some false else None
 finishes_job job _ = None
 
 -- The answer of the later of two events if it has one, and otherwise the earlier answer.
@@ -20,7 +21,9 @@ later_or earlier (Some finished) = finished
 -- answer stays.
 abbrev pub finished_after : Bool → List Entry → ℕ → Bool
 finished_after finished [] job = finished
-finished_after finished (entry ∷ history) job = finished_after (if stood entry.answer then later_or finished (finishes_job job entry.event) else finished) history job
+finished_after finished (entry ∷ history) job =
+    finished_after
+    (if stood entry.answer then later_or finished (finishes_job job entry.event) else finished) history job
 
 -- True if the last put that took effect and that finishes or ends the job finishes it.
 abbrev pub is_finished_by : List Entry → ℕ → Bool
@@ -28,4 +31,5 @@ is_finished_by history job = finished_after false history job
 
 -- A stored job waits for its commit, according to the history, exactly if it is Compacted.
 abbrev pub FinishedAreCompacted : Store → Type 0
-FinishedAreCompacted store = AllByRecursion (λ job. is_finished_by store.history job.id ≡ has_status Compacted job) (stored_jobs store)
+FinishedAreCompacted store =
+    AllByRecursion (λ job. is_finished_by store.history job.id ≡ has_status Compacted job) (stored_jobs store)

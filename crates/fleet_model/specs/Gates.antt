@@ -25,14 +25,17 @@ is_nonempty (x ∷ xs) = true
 -- True if every flush that is older than the newest named flush is named too.
 abbrev pub names_older : List NodeName → List NodeName → Bool
 names_older sources [] = true
-names_older sources (L0 name ∷ rest) = if names_contain sources (L0 name) then list_all (λ other. not (is_l0 other) || names_contain sources other) rest else names_older sources rest
+names_older sources (L0 name ∷ rest) =
+    if names_contain sources (L0 name) then list_all (λ other. not (is_l0 other) || names_contain sources other) rest
+    else names_older sources rest
 names_older sources (Run id ∷ rest) = names_older sources rest
 
 -- True if there is no destination, or if it passes rule 7. It must not be 4,294,967,295. It must be the
 -- lowest source run or, if no run is a source, above all runs of all trees.
 abbrev pub destination_fits : Trees → List NodeName → Option ℕ → Bool
 destination_fits trees sources None = true
-destination_fits trees sources (Some id) = not (id == 4294967295) && is_lowest_or_above id (run_ids sources) (all_run_ids trees)
+destination_fits trees sources (Some id) =
+    not (id == 4294967295) && is_lowest_or_above id (run_ids sources) (all_run_ids trees)
 
 -- True if the job holds its sources and its destination. A Scheduled, Running or Compacted job holds them.
 abbrev pub reserves_nodes : Job → Bool
@@ -41,7 +44,10 @@ reserves_nodes job = has_status Scheduled job || has_status Running job || has_s
 -- True if the job touches no node that another job holds. A job whose commit failed in this poll by the
 -- scheduler's rule still holds its nodes.
 abbrev pub is_free : Jobs → List ℕ → Job → Bool
-is_free jobs lost job = list_all (λ other. (job.id == other.id) || not (reserves_nodes other || contains lost other.id) || is_apart (nodes_of job.spec) (nodes_of other.spec)) jobs
+is_free jobs lost job =
+    list_all (λ other.
+    (job.id == other.id) || not (reserves_nodes other || contains lost other.id)
+    || is_apart (nodes_of job.spec) (nodes_of other.spec)) jobs
 
 -- The rules for a submitted job, in the order in which they are asked. A reply gives the number of the first
 -- rule that fails.
@@ -72,7 +78,8 @@ submitted_rules trees jobs lost accepts job tree =
 
 -- The number of the first rule that a submitted job fails, or None if the job passes the gate.
 abbrev pub submit_gate : Trees → Jobs → List ℕ → (JobSpec → Bool) → Job → Option ℕ
-submit_gate trees jobs lost accepts job = first_failing (submitted_rules trees jobs lost accepts job (tree_at job.spec.segment trees))
+submit_gate trees jobs lost accepts job =
+    first_failing (submitted_rules trees jobs lost accepts job (tree_at job.spec.segment trees))
 
 -- The number of the first rule that a Compacted job fails, or None if the job passes the gate. Rule 10 says
 -- that its sources have the tables that they had when the job was opened.

@@ -177,4 +177,6 @@ finished_later (job ∷ jobs) = is_finished job.status || finished_later jobs
 -- greatest id.
 abbrev pub trimmed_jobs : Jobs → Jobs
 trimmed_jobs [] = []
-trimmed_jobs (job ∷ jobs) = if is_active job then job ∷ trimmed_jobs jobs else (if finished_later jobs then trimmed_jobs jobs else job ∷ trimmed_jobs jobs)
+trimmed_jobs (job ∷ jobs) =
+    if is_active job then job ∷ trimmed_jobs jobs
+    else (if finished_later jobs then trimmed_jobs jobs else job ∷ trimmed_jobs jobs)

@@ -39,12 +39,27 @@ pub record PollState : Type 0 where
 
 -- The state of a poll before its first step, with the trees, the horizon and the jobs that it got.
 abbrev pub poll_begun : Trees → ℕ → Jobs → PollState
-poll_begun trees horizon jobs = record { trees = trees; horizon = horizon; jobs = jobs; steps = []; freed = []; done = []; lost = []; added = []; dropped = []; opened = []; moved = []; drained = []; refused = [] }
+poll_begun trees horizon jobs = record {
+  trees = trees;
+  horizon = horizon;
+  jobs = jobs;
+  steps = [];
+  freed = [];
+  done = [];
+  lost = [];
+  added = [];
+  dropped = [];
+  opened = [];
+  moved = [];
+  drained = [];
+  refused = [];
+}
 
 -- The view that the scheduler is shown: it has the trees, the horizon and the jobs that the poll has
 -- reached so far.
 abbrev pub view_of : PollInput → PollState → View
-view_of input p = shown_view input.tables (record input.manifest { trees = p.trees; horizon = p.horizon }) input.records p.jobs
+view_of input p =
+    shown_view input.tables (record input.manifest { trees = p.trees; horizon = p.horizon }) input.records p.jobs
 
 -- True if the scheduler accepts the spec on the poll's present view.
 abbrev pub accepts : PollInput → PollState → JobSpec → Bool

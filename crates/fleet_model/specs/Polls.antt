@@ -21,7 +21,10 @@ free_stale input p = with_freed (ids (filter (is_stale input.options.timeout inp
 -- The horizon rises to the cut that the job kept, or to the floor if it kept none, unless it is higher
 -- already.
 abbrev pub commit_by : PollInput → Job → Option ℕ → PollState → PollState
-commit_by input job (Some rule) p = record p { jobs = changed_jobs to_failed (job.id ∷ []) p.jobs; lost = p.lost ++ (job.id, rule) ∷ [] }
+commit_by input job (Some rule) p = record p {
+  jobs = changed_jobs to_failed (job.id ∷ []) p.jobs;
+  lost = p.lost ++ (job.id, rule) ∷ [];
+}
 commit_by input job None p = record p {
   trees = stepped_in input.tables (Join job.id) job.spec (concat job.outputs) p.trees;
   horizon = horizon_after input.manifest.floor (Join job.id) job.kept_cut p.horizon;
@@ -53,22 +56,28 @@ same_target (Some a) (Some b) same_segment = a == b
 -- True if the job is active and has the target of the spec: both make the same run, or both are drains of
 -- one segment.
 abbrev pub clashes : JobSpec → Job → Bool
-clashes spec job = is_active job && same_target spec.destination job.spec.destination (bytes_eq spec.segment job.spec.segment)
+clashes spec job =
+    is_active job && same_target spec.destination job.spec.destination (bytes_eq spec.segment job.spec.segment)
 
 -- Step 3, for one proposal. It is dropped if it clashes with an active job, and becomes a job otherwise.
 abbrev pub add_by : ℕ → ℕ → JobSpec → Bool → PollState → PollState
 add_by id place spec true p = record p { dropped = p.dropped ++ place ∷ [] }
-add_by id place spec false p = record p { jobs = put_job (new_job (id, spec)) p.jobs; added = p.added ++ (id, spec) ∷ [] }
+add_by id place spec false p = record p {
+  jobs = put_job (new_job (id, spec)) p.jobs;
+  added = p.added ++ (id, spec) ∷ [];
+}
 
 -- Step 3 adds the proposals. An id was drawn for each of them, even for one that is dropped. Their places
 -- count on from the given one.
 abbrev pub add_drawn : ℕ → List (ℕ × JobSpec) → PollState → PollState
 add_drawn place [] p = p
-add_drawn place (drawn ∷ others) p = add_drawn (place + 1) others (add_by drawn.0 place drawn.1 (list_any (clashes drawn.1) p.jobs) p)
+add_drawn place (drawn ∷ others) p =
+    add_drawn (place + 1) others (add_by drawn.0 place drawn.1 (list_any (clashes drawn.1) p.jobs) p)
 
 -- The proposals that a poll takes, at most as many as the Running jobs leave room for.
 abbrev pub proposals : PollInput → PollState → List JobSpec
-proposals input p = take (input.options.concurrent - count_by (has_status Running) p.jobs) (input.scheduler.propose (view_of input p))
+proposals input p =
+    take (input.options.concurrent - count_by (has_status Running) p.jobs) (input.scheduler.propose (view_of input p))
 
 -- True if step 4 can move a job: moves are allowed, its sources have at least one table, and, in order of
 -- first key, each table ends before the next one begins.
@@ -99,12 +108,18 @@ move_job input job p = let q = at_once input (Move job.id) job p in record q { m
 
 -- Opens a job with the tables that its sources have now. The job then waits for a worker.
 abbrev pub schedule_job : Job → PollState → PollState
-schedule_job job p = record p { jobs = changed_jobs (to_scheduled (tables_now p.trees)) (job.id ∷ []) p.jobs; opened = p.opened ++ job.id ∷ [] }
+schedule_job job p = record p {
+  jobs = changed_jobs (to_scheduled (tables_now p.trees)) (job.id ∷ []) p.jobs;
+  opened = p.opened ++ job.id ∷ [];
+}
 
 -- Step 4, for one job. If a rule of the gate failed, the job fails. Otherwise it is drained, moved or
 -- opened.
 abbrev pub open_by : PollInput → Job → Option ℕ → PollState → PollState
-open_by input job (Some rule) p = record p { jobs = changed_jobs to_failed (job.id ∷ []) p.jobs; refused = p.refused ++ (job.id, rule) ∷ [] }
+open_by input job (Some rule) p = record p {
+  jobs = changed_jobs to_failed (job.id ∷ []) p.jobs;
+  refused = p.refused ++ (job.id, rule) ∷ [];
+}
 open_by input job None p =
     if is_drain job.spec then drain_job input job p
     else (if can_move input p.trees job.spec then move_job input job p else schedule_job job p)
@@ -133,4 +148,6 @@ change_of p = record {
 
 -- True if the change names no job.
 abbrev pub is_nothing : PollChange → Bool
-is_nothing c = not (is_nonempty c.freed || is_nonempty c.completed || is_nonempty c.failed || is_nonempty (firsts c.added) || is_nonempty c.scheduled)
+is_nothing c =
+    not (is_nonempty c.freed || is_nonempty c.completed || is_nonempty c.failed || is_nonempty (firsts c.added)
+    || is_nonempty c.scheduled)

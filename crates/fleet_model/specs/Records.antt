@@ -21,7 +21,17 @@ firsts pairs = map (λ p. p.0) pairs
 
 -- The record of a job that is submitted or that a poll adds.
 abbrev pub new_job : ℕ × JobSpec → Job
-new_job p = record { id = p.0; spec = p.1; status = Submitted; lease = None; attempt = 0; source_tables = []; context = None; outputs = []; kept_cut = None }
+new_job p = record {
+  id = p.0;
+  spec = p.1;
+  status = Submitted;
+  lease = None;
+  attempt = 0;
+  source_tables = [];
+  context = None;
+  outputs = [];
+  kept_cut = None;
+}
 
 -- Inserts new jobs among the jobs, by their ids.
 abbrev pub with_new : List (ℕ × JobSpec) → Jobs → Jobs
@@ -30,11 +40,18 @@ with_new (p ∷ specs) jobs = with_new specs (put_job (new_job p) jobs)
 
 -- The job after a claim: it is Running with this worker, and its attempt number is raised by one.
 abbrev pub claimed_by : ℕ → ℕ → Job → Job
-claimed_by worker moment job = record job { status = Running; lease = Some (record { worker = worker; heartbeat = moment }); attempt = job.attempt + 1 }
+claimed_by worker moment job = record job {
+  status = Running;
+  lease = Some (record { worker = worker; heartbeat = moment });
+  attempt = job.attempt + 1;
+}
 
 -- The job after a heartbeat, which renews the lease and publishes the context.
 abbrev pub beaten_by : ℕ → Unrecorded → Job → Job
-beaten_by worker unrecorded job = record job { lease = Some (record { worker = worker; heartbeat = unrecorded.moment }); context = unrecorded.published job.id }
+beaten_by worker unrecorded job = record job {
+  lease = Some (record { worker = worker; heartbeat = unrecorded.moment });
+  context = unrecorded.published job.id;
+}
 
 -- The job after its attempt finished: it is Compacted, with outputs and without a context.
 abbrev pub finished_by : ℕ → Unrecorded → List (List ℕ) → Job → Job
@@ -65,15 +82,20 @@ to_failed job = record job { status = Failed; context = None }
 -- The jobs after a poll. The jobs that it adds come first, since it may open or end them at once.
 abbrev pub after_poll : Unrecorded → PollChange → Jobs → Jobs
 after_poll unrecorded change jobs =
-    changed_jobs to_failed change.failed (changed_jobs to_completed change.completed (changed_jobs (to_scheduled unrecorded.tables_of) change.scheduled (changed_jobs to_waiting change.freed (with_new change.added jobs))))
+    changed_jobs to_failed change.failed
+    (changed_jobs to_completed change.completed
+    (changed_jobs (to_scheduled unrecorded.tables_of) change.scheduled
+    (changed_jobs to_waiting change.freed (with_new change.added jobs))))
 
 -- The jobs after a change, before finished jobs are dropped.
 abbrev pub after_change : Unrecorded → RecordChange → Jobs → Jobs
 after_change unrecorded (RecordsEpoch epoch) jobs = jobs
 after_change unrecorded (Submit specs) jobs = with_new specs jobs
-after_change unrecorded (Claim worker attempts) jobs = changed_jobs (claimed_by worker unrecorded.moment) (firsts attempts) jobs
+after_change unrecorded (Claim worker attempts) jobs =
+    changed_jobs (claimed_by worker unrecorded.moment) (firsts attempts) jobs
 after_change unrecorded (Beat worker attempts) jobs = changed_jobs (beaten_by worker unrecorded) (firsts attempts) jobs
-after_change unrecorded (Finish worker job attempt outputs) jobs = changed_jobs (finished_by worker unrecorded outputs) (job ∷ []) jobs
+after_change unrecorded (Finish worker job attempt outputs) jobs =
+    changed_jobs (finished_by worker unrecorded outputs) (job ∷ []) jobs
 after_change unrecorded (Release worker attempts) jobs = changed_jobs to_waiting (firsts attempts) jobs
 after_change unrecorded (Polled change) jobs = after_poll unrecorded change jobs
 

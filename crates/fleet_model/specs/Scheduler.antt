@@ -58,7 +58,13 @@ lowest_of ids = fold lower None ids
 -- The spec that merges all runs of the tree into the given run, if one is given.
 abbrev pub into_lowest : Segment → Option ℕ → Option JobSpec
 into_lowest s None = None
-into_lowest s (Some lowest) = Some (record { segment = s.prefix; sources = filter (λ name. not (is_l0 name)) (names s.tree); destination = Some lowest })
+into_lowest s (Some lowest) =
+    Some
+    (record {
+      segment = s.prefix;
+      sources = filter (λ name. not (is_l0 name)) (names s.tree);
+      destination = Some lowest;
+    })
 
 -- The spec that merges all runs of a tree into the lowest one. It is None if the tree has no runs.
 abbrev pub full_spec : Segment → Option JobSpec

@@ -50,7 +50,8 @@ is_whole_stretch tree sources = reaches_oldest sources (older_nodes sources (nam
 -- True if the id is the lowest source run or, if no run is a source, is above all these runs.
 abbrev pub is_lowest_or_above : ℕ → List ℕ → List ℕ → Bool
 is_lowest_or_above id [] runs = list_all (λ run. nat_lt run id) runs
-is_lowest_or_above id (source ∷ sources) runs = contains (source ∷ sources) id && list_all (λ run. nat_le id run) (source ∷ sources)
+is_lowest_or_above id (source ∷ sources) runs =
+    contains (source ∷ sources) id && list_all (λ run. nat_le id run) (source ∷ sources)
 
 -- True if no name is in both lists.
 abbrev pub is_apart : List NodeName → List NodeName → Bool

@@ -44,7 +44,16 @@ least_tick = negsuc (2 ^ 63 - 1)
 -- A fresh store, with an empty root tree and no job records.
 abbrev pub fresh_store : Store
 fresh_store = record {
-  manifest = record { version = 1; epoch = 0; trees = empty_segment [] ∷ []; floor = 0; tick = least_tick; tracker = []; horizon = 0 };
+  manifest =
+      record {
+        version = 1;
+        epoch = 0;
+        trees = empty_segment [] ∷ [];
+        floor = 0;
+        tick = least_tick;
+        tracker = [];
+        horizon = 0;
+      };
   records = None;
   tables = [];
   deleted = [];
@@ -86,4 +95,5 @@ WerePut store named = IsTrue (list_all (is_among store.tables) named)
 -- The cut of a compaction job that begins at this moment. Without a retention it is the floor. Otherwise
 -- the retained flushes may lower it.
 abbrev pub cut_at : Manifest → (moment retention : ℕ) → ℕ
-cut_at manifest moment retention = if retention == 0 then manifest.floor else cut_before manifest.floor moment retention manifest.tracker
+cut_at manifest moment retention =
+    if retention == 0 then manifest.floor else cut_before manifest.floor moment retention manifest.tracker

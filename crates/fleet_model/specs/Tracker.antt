@@ -25,11 +25,13 @@ is_retained moment retention flush = nat_lt moment (flush.moment + retention)
 -- flush is tracked.
 abbrev pub tracked_after : (moment retention least_seq : ℕ) → List Tracked → List Tracked
 tracked_after moment retention least_seq tracker =
-    if retention == 0 then [] else filter (is_retained moment retention) tracker ++ record { least_seq = least_seq; moment = moment } ∷ []
+    if retention == 0 then []
+    else filter (is_retained moment retention) tracker ++ record { least_seq = least_seq; moment = moment } ∷ []
 
 -- The cut is the least of the floor and, for each retained flush, the sequence before the flush's least
 -- one. That sequence is 0 if the flush's least one is 0.
 abbrev pub cut_before : (floor moment retention : ℕ) → List Tracked → ℕ
 cut_before floor moment retention [] = floor
 cut_before floor moment retention (flush ∷ tracker) =
-    if is_retained moment retention flush then min (flush.least_seq - 1) (cut_before floor moment retention tracker) else cut_before floor moment retention tracker
+    if is_retained moment retention flush then min (flush.least_seq - 1) (cut_before floor moment retention tracker)
+    else cut_before floor moment retention tracker

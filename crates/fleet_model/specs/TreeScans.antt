@@ -9,8 +9,10 @@ use Rattle.fleet_model.specs.Store.{Store}
 
 -- The answers of a scan over the rows of all flushes that went into the segment's tree.
 abbrev pub flushed_scan : Operator → Store → List ℕ → Range → ℕ → ℤ → List (List ℕ × Outcome)
-flushed_scan merge store segment range seq now = scanned_pairs merge range seq now (flat_map (flushed_node_rows store.tables) (tree_at segment store.manifest.trees))
+flushed_scan merge store segment range seq now =
+    scanned_pairs merge range seq now (flat_map (flushed_node_rows store.tables) (tree_at segment store.manifest.trees))
 
 -- The answers of a scan over the rows that the nodes of the segment's tree hold.
 abbrev pub stored_scan : Operator → Store → List ℕ → Range → ℕ → ℤ → List (List ℕ × Outcome)
-stored_scan merge store segment range seq now = scanned_pairs merge range seq now (flat_map (node_rows store.tables) (tree_at segment store.manifest.trees))
+stored_scan merge store segment range seq now =
+    scanned_pairs merge range seq now (flat_map (node_rows store.tables) (tree_at segment store.manifest.trees))

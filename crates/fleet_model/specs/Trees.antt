@@ -27,7 +27,9 @@ put_run id run (node ∷ tree) = if is_run_below id node.name then run ∷ node 
 -- Replaces the sources of a tree by one run with these tables. The run has all flushes of the sources.
 abbrev pub with_run_for : List NodeName → ℕ → List ℕ → Tree → Tree
 with_run_for sources id pieces tree =
-    put_run id (record { name = Run id; flushes = flat_map (λ node. node.flushes) (source_nodes sources tree); pieces = pieces }) (without_nodes sources tree)
+    put_run id
+    (record { name = Run id; flushes = flat_map (λ node. node.flushes) (source_nodes sources tree); pieces = pieces })
+    (without_nodes sources tree)
 
 -- The key of the first row, or the empty key if there are no rows.
 abbrev pub first_key : List Row → List ℕ
@@ -38,7 +40,9 @@ first_key (r ∷ rows) = r.key
 abbrev pub put_by_first_key : Tables → ℕ → List ℕ → List ℕ
 put_by_first_key tables piece [] = piece ∷ []
 put_by_first_key tables piece (q ∷ pieces) =
-    if is_lt (key_cmp (first_key (table_rows tables q)) (first_key (table_rows tables piece))) then q ∷ put_by_first_key tables piece pieces else piece ∷ q ∷ pieces
+    if is_lt (key_cmp (first_key (table_rows tables q)) (first_key (table_rows tables piece)))
+    then q ∷ put_by_first_key tables piece pieces
+    else piece ∷ q ∷ pieces
 
 -- The tables, sorted by rising first key.
 abbrev pub by_first_key : Tables → List ℕ → List ℕ
@@ -58,8 +62,11 @@ to_run change (Some id) tree = change id tree
 -- replaces the sources by a run of the recorded tables, and a move replaces them by a run of their own
 -- tables. A drain drops the sources.
 abbrev pub stepped_tree : Tables → Step → JobSpec → List ℕ → Tree → Tree
-stepped_tree tables (Join job) spec outputs tree = to_run (λ id. with_run_for spec.sources id outputs) spec.destination tree
-stepped_tree tables (Move job) spec outputs tree = to_run (λ id. with_run_for spec.sources id (by_first_key tables (source_pieces spec.sources tree))) spec.destination tree
+stepped_tree tables (Join job) spec outputs tree =
+    to_run (λ id. with_run_for spec.sources id outputs) spec.destination tree
+stepped_tree tables (Move job) spec outputs tree =
+    to_run
+    (λ id. with_run_for spec.sources id (by_first_key tables (source_pieces spec.sources tree))) spec.destination tree
 stepped_tree tables (Drain job) spec outputs tree = without_nodes spec.sources tree
 
 -- The name of a flush, or the given mark for a run.
@@ -71,17 +78,23 @@ l0_or mark (Run id) = mark
 -- flush.
 abbrev pub watermark_after : List NodeName → Tree → Option ℕ → Option ℕ
 watermark_after sources [] mark = mark
-watermark_after sources (node ∷ tree) mark = if names_contain sources node.name then l0_or mark node.name else watermark_after sources tree mark
+watermark_after sources (node ∷ tree) mark =
+    if names_contain sources node.name then l0_or mark node.name else watermark_after sources tree mark
 
 -- Changes the tree and the watermark of the segment with this prefix, and leaves any other segment as it
 -- is.
 abbrev pub on_segment : List ℕ → List NodeName → (Tree → Tree) → Segment → Segment
 on_segment prefix sources change s =
-    if bytes_eq prefix s.prefix then record s { tree = change s.tree; watermark = watermark_after sources s.tree s.watermark } else s
+    if bytes_eq prefix s.prefix then record s {
+      tree = change s.tree;
+      watermark = watermark_after sources s.tree s.watermark;
+    }
+    else s
 
 -- The trees after a step, which changes only the tree of its job's segment.
 abbrev pub stepped_in : Tables → Step → JobSpec → List ℕ → Trees → Trees
-stepped_in tables step spec outputs trees = map (on_segment spec.segment spec.sources (stepped_tree tables step spec outputs)) trees
+stepped_in tables step spec outputs trees =
+    map (on_segment spec.segment spec.sources (stepped_tree tables step spec outputs)) trees
 
 -- The greater of two sequences, or the second if there is no first.
 abbrev pub greater_seq : Option ℕ → ℕ → Option ℕ
@@ -95,7 +108,10 @@ greatest_seq last (r ∷ rows) = greatest_seq (greater_seq last r.seq) rows
 
 -- The segment after a flush, which comes to the front of its tree.
 abbrev pub flushed_on : ℕ → List Row → Segment → Segment
-flushed_on name rows s = record s { tree = record { name = L0 name; flushes = name ∷ []; pieces = name ∷ [] } ∷ s.tree; last_seq = greatest_seq s.last_seq rows }
+flushed_on name rows s = record s {
+  tree = record { name = L0 name; flushes = name ∷ []; pieces = name ∷ [] } ∷ s.tree;
+  last_seq = greatest_seq s.last_seq rows;
+}
 
 -- A new segment, with an empty tree and no flush so far.
 abbrev pub empty_segment : List ℕ → Segment
@@ -106,7 +122,8 @@ abbrev pub flushed_trees : List ℕ → ℕ → List Row → Trees → Trees
 flushed_trees prefix name rows [] = flushed_on name rows (empty_segment prefix) ∷ []
 flushed_trees prefix name rows (s ∷ trees) =
     if bytes_eq prefix s.prefix then flushed_on name rows s ∷ trees
-    else (if is_lt (key_cmp prefix s.prefix) then flushed_on name rows (empty_segment prefix) ∷ s ∷ trees else s ∷ flushed_trees prefix name rows trees)
+    else (if is_lt (key_cmp prefix s.prefix) then flushed_on name rows (empty_segment prefix) ∷ s ∷ trees
+    else s ∷ flushed_trees prefix name rows trees)
 
 -- The job that a step is taken for.
 abbrev pub job_of : Step → ℕ
@@ -131,7 +148,8 @@ horizon_after floor (Drain job) kept_cut horizon = horizon
 -- The horizon after the steps of a commit, taken in order, given the cut that each job kept.
 abbrev pub horizon_after_all : ℕ → (ℕ → Option ℕ) → List Step → ℕ → ℕ
 horizon_after_all floor cuts [] horizon = horizon
-horizon_after_all floor cuts (step ∷ steps) horizon = horizon_after_all floor cuts steps (horizon_after floor step (cuts (job_of step)) horizon)
+horizon_after_all floor cuts (step ∷ steps) horizon =
+    horizon_after_all floor cuts steps (horizon_after floor step (cuts (job_of step)) horizon)
 
 -- The key of the last row, or the given key if there are no rows.
 abbrev pub last_key : List ℕ → List Row → List ℕ
@@ -142,7 +160,9 @@ last_key key (r ∷ rows) = last_key r.key rows
 abbrev pub are_apart : Tables → List ℕ → Bool
 are_apart tables [] = true
 are_apart tables (a ∷ []) = true
-are_apart tables (a ∷ b ∷ pieces) = is_lt (key_cmp (last_key [] (table_rows tables a)) (first_key (table_rows tables b))) && are_apart tables (b ∷ pieces)
+are_apart tables (a ∷ b ∷ pieces) =
+    is_lt (key_cmp (last_key [] (table_rows tables a)) (first_key (table_rows tables b)))
+    && are_apart tables (b ∷ pieces)
 
 -- The tables that the sources of a job have in the trees now.
 abbrev pub tables_now : Trees → JobSpec → List ℕ

@@ -7,7 +7,8 @@ use Rattle.script_model.specs.Scans.{Page, first_page, StopsBefore, keys_between
 
 -- The page of a scan of a segment from the one key on and before the other, up to the limit.
 abbrev pub scanned_page : Operator → Store → (segment from to : List ℕ) → ℕ → ℤ → (limit : ℕ) → Page
-scanned_page merge store segment from to seq now limit = first_page limit (flushed_scan merge store segment (keys_between from to) seq now)
+scanned_page merge store segment from to seq now limit =
+    first_page limit (flushed_scan merge store segment (keys_between from to) seq now)
 
 -- A page and the page that goes on after it, as one page.
 abbrev pub joined_pages : Page → Page → Page
@@ -18,4 +19,6 @@ joined_pages first second = record { pairs = first.pairs ++ second.pairs; ends =
 abbrev pub ScansResume : Type 0
 ScansResume = (merge : Operator) (store : Store) (segment from to key : List ℕ) (seq : ℕ) (now : ℤ) (limit other : ℕ)
     → (scanned_page merge store segment from to seq now limit).ends ≡ StopsBefore key
-    → joined_pages (scanned_page merge store segment from to seq now limit) (scanned_page merge store segment key to seq now other) ≡ scanned_page merge store segment from to seq now (limit + other)
+    → joined_pages (scanned_page merge store segment from to seq now limit)
+    (scanned_page merge store segment key to seq now other)
+    ≡ scanned_page merge store segment from to seq now (limit + other)

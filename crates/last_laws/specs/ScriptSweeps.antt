@@ -15,4 +15,5 @@ pub record IsSweptClean (store : Store) : Type 0 where
 
 -- So it is after each line of a script.
 abbrev pub ScriptsSweepClean : Type 0
-ScriptsSweepClean = (inputs : Inputs) (lines : List Line) (last : State) → HasRun inputs lines last → IsSweptClean last.store
+ScriptsSweepClean = (inputs : Inputs) (lines : List Line) (last : State) → HasRun inputs lines last
+    → IsSweptClean last.store

@@ -31,18 +31,23 @@ HasFreeId named = named.1.destination ≢ Some 4294967295
 -- An active job lightens the trees. It waits for a worker and has no context, or it is finished and its sources
 -- are in the trees as they were.
 abbrev pub WaitsOrStands : Trees → Job → Type 0
-WaitsOrStands trees job = IsTrue (is_active job) → Lightens job.spec × ((IsTrue (has_status Scheduled job) × (job.context ≡ None)) ⊎ (IsTrue (has_status Compacted job) × SourcesStand trees job))
+WaitsOrStands trees job = IsTrue (is_active job)
+    → Lightens job.spec
+    × ((IsTrue (has_status Scheduled job) × (job.context ≡ None))
+    ⊎ (IsTrue (has_status Compacted job) × SourcesStand trees job))
 
 -- A poll of a store that keeps the invariant and has such jobs alone. The poll drew rising ids for what the
 -- scheduler proposed. The jobs that it adds are new, and each of them has a free id of a run.
-pub record CalmPoll (merge : Operator) (scheduler : Scheduler) (ask : PollAsk) (store : Store) (drawn : List (ℕ × JobSpec)) : Type 0 where
+pub record CalmPoll (merge : Operator) (scheduler : Scheduler) (ask : PollAsk) (store : Store)
+    (drawn : List (ℕ × JobSpec)) : Type 0 where
   pub asks : ask.scheduler ≡ scheduler
   pub whole : ask.commits_only ≡ false
   pub stored : StoreInvariant merge store
   pub jobs : AllByRecursion (WaitsOrStands store.manifest.trees) (stored_jobs store)
   pub each : map (λ d. d.1) drawn ≡ proposed_specs ask (input_at ask store) (first_steps ask (input_at ask store))
   pub rise : Pairs (λ a b. a.0 < b.0) drawn
-  pub fresh : AllByRecursion (λ q. AllByRecursion (λ job. job.id ≢ q.0) (stored_jobs store)) (reached_state ask store drawn).added
+  pub fresh : AllByRecursion (λ q. AllByRecursion (λ job. job.id ≢ q.0) (stored_jobs store))
+      (reached_state ask store drawn).added
   pub free_ids : AllByRecursion HasFreeId (reached_state ask store drawn).added
 
 -- A scheduler settles trees to sizes that this test gives, if it accepts each job, and if all that it proposes is
@@ -51,20 +56,24 @@ pub record CalmPoll (merge : Operator) (scheduler : Scheduler) (ask : PollAsk) (
 pub record Settling (scheduler : Scheduler) (is_small : List Handle → Tree → Bool) : Type 0 where
   pub accepts : (view : View) (spec : JobSpec) → scheduler.validate view spec ≡ true
   pub heavy : (view : View) → AllByRecursion IsHeavy (scheduler.propose view)
-  pub quiet : (view : View) → view.jobs ≡ [] → scheduler.propose view ≡ [] → AllByRecursion (λ s. IsTrue (is_small view.handles s.tree)) view.manifest.trees
-  pub passes : (merge : Operator) (ask : PollAsk) (store : Store) (drawn : List (ℕ × JobSpec)) → CalmPoll merge scheduler ask store drawn → (reached_state ask store drawn).refused ≡ []
+  pub quiet : (view : View) → view.jobs ≡ [] → scheduler.propose view ≡ []
+      → AllByRecursion (λ s. IsTrue (is_small view.handles s.tree)) view.manifest.trees
+  pub passes : (merge : Operator) (ask : PollAsk) (store : Store) (drawn : List (ℕ × JobSpec))
+      → CalmPoll merge scheduler ask store drawn → (reached_state ask store drawn).refused ≡ []
 
 -- ---- the line
 
 -- Each tree passes the test, which is given the handles of all tables that the trees name.
 abbrev pub AreSmall : (List Handle → Tree → Bool) → Tables → Trees → Type 0
-AreSmall is_small tables trees = AllByRecursion (λ s. IsTrue (is_small (handles_of tables (flat_map tree_tables trees)) s.tree)) trees
+AreSmall is_small tables trees =
+    AllByRecursion (λ s. IsTrue (is_small (handles_of tables (flat_map tree_tables trees)) s.tree)) trees
 
 -- A settle line ran from a state that keeps the invariant, and no step of it was refused. The scheduler is
 -- settling, a poll may add a job, and the worker has a slot. Before the line no job is active, and the worker
 -- runs none. No poll adds a job that makes the greatest run. There are more rounds than the trees weigh, which is
 -- twice their flushes and their runs.
-pub record SettleLine (inputs : Inputs) (is_small : List Handle → Tree → Bool) (old : State) (coordinator worker rounds : ℕ) (answer : List ℕ) (new : State) : Type 0 where
+pub record SettleLine (inputs : Inputs) (is_small : List Handle → Tree → Bool) (old : State)
+    (coordinator worker rounds : ℕ) (answer : List ℕ) (new : State) : Type 0 where
   pub lawful : IsLawful inputs.merge
   pub settling : Settling inputs.scheduler is_small
   pub keeps : StateKeeps inputs.merge old
@@ -80,7 +89,8 @@ pub record SettleLine (inputs : Inputs) (is_small : List Handle → Tree → Boo
   pub enough : trees_weight old.store.manifest.trees < rounds
 
 -- The line settled in time. No job is active, and each tree passes the test.
-pub record SettledSmall (is_small : List Handle → Tree → Bool) (old : State) (answer : List ℕ) (new : State) : Type 0 where
+pub record SettledSmall (is_small : List Handle → Tree → Bool) (old : State) (answer : List ℕ) (new : State)
+    : Type 0 where
   pub round : ℕ
   pub says : answer ≡ settled_reply round
   pub in_time : round ≤ trees_weight old.store.manifest.trees + 1
@@ -89,4 +99,6 @@ pub record SettledSmall (is_small : List Handle → Tree → Bool) (old : State)
 
 -- Such a settle line settles.
 abbrev pub SettleLinesSettle : Type 0
-SettleLinesSettle = (inputs : Inputs) (is_small : List Handle → Tree → Bool) (old : State) (coordinator worker rounds : ℕ) (answer : List ℕ) (new : State) → SettleLine inputs is_small old coordinator worker rounds answer new → SettledSmall is_small old answer new
+SettleLinesSettle = (inputs : Inputs) (is_small : List Handle → Tree → Bool) (old : State)
+    (coordinator worker rounds : ℕ) (answer : List ℕ) (new : State)
+    → SettleLine inputs is_small old coordinator worker rounds answer new → SettledSmall is_small old answer new

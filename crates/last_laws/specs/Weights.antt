@@ -41,8 +41,10 @@ PrefixesRise trees = IsStrictlySortedBy key_cmp (map (λ s. s.prefix) trees)
 
 -- A step for such a spec makes the trees lighter, if the sources are in their tree.
 abbrev pub StepsLighten : Type 0
-StepsLighten = (tables : Tables) (step : Step) (spec : JobSpec) (outputs : List ℕ) (trees : Trees) → PrefixesRise trees → Lightens spec
-    → IsTrue (list_all (names_contain (names (tree_at spec.segment trees))) spec.sources) → trees_weight (stepped_in tables step spec outputs trees) < trees_weight trees
+StepsLighten = (tables : Tables) (step : Step) (spec : JobSpec) (outputs : List ℕ) (trees : Trees) → PrefixesRise trees
+    → Lightens spec
+    → IsTrue (list_all (names_contain (names (tree_at spec.segment trees))) spec.sources)
+    → trees_weight (stepped_in tables step spec outputs trees) < trees_weight trees
 
 -- A job that waits to be opened is heavy, and one that waits for its commit lightens the trees.
 pub record WaitsToLighten (job : Job) : Type 0 where
@@ -54,4 +56,6 @@ pub record WaitsToLighten (job : Job) : Type 0 where
 abbrev pub PollsLighten : Type 0
 PollsLighten = (ask : PollAsk) (input : PollInput) (drawn : List (ℕ × JobSpec)) → PrefixesRise input.manifest.trees
     → AllByRecursion WaitsToLighten input.records.jobs → AllByRecursion (λ d. IsHeavy d.1) drawn
-    → let p = last_steps ask input drawn (first_steps ask input) in trees_weight p.trees + length p.steps ≤ trees_weight input.manifest.trees
+    → let p =
+    last_steps ask input drawn (first_steps ask input) in trees_weight p.trees + length p.steps
+    ≤ trees_weight input.manifest.trees

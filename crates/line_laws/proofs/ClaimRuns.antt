@@ -1,19 +1,17 @@
 -- A claim that is alone takes and stops the jobs of its rule, and starts all that it takes.
 use Rattle.std.proofs.Common.{◌≡◌, refl, sym, ◌∙◌, ap, subst, ℕ, zero, suc, ◌+◌, List, [], ◌∷◌, cond, Bool, true, false, Option, Some, None, take, length}
 use Rattle.std.specs.Prelude.{IsTrue, ◌==◌, ◌&&◌, ◌||◌, not, map, filter, flat_map, is_none, ◌-◌}
-use Rattle.std.specs.List.{AllByRecursion, list_all}
+use Rattle.std.specs.List.{AllByRecursion}
 use Rattle.std.proofs.lemmas.Bool.Decides.{Decides-eqb}
-use Rattle.std.proofs.lemmas.Slice.Eq.{bytes_eq-Decides}
 use Rattle.row_model.specs.Fold.{Operator}
-use Rattle.fleet_model.specs.Nodes.{NodeName, Tables, names_contain, names, tree_at}
+use Rattle.fleet_model.specs.Nodes.{Tables}
 use Rattle.fleet_model.specs.Jobs.{Job, Jobs, Scheduled, Running, has_status, ids, contains}
 use Rattle.fleet_model.specs.History.{Event, GetManifest, GetRecords, Claim}
 use Rattle.fleet_model.specs.Store.{Manifest, Records, Store, stored_jobs, jobs_in}
 use Rattle.fleet_model.specs.Attempts.{ClaimInput}
 use Rattle.fleet_model.specs.Records.{jobs_after}
 use Rattle.fleet_model.specs.Parties.{Attempt, LiveWorker, attempt_jobs, with_attempts, without_attempts}
-use Rattle.fleet_model.specs.Sources.{older_nodes, reaches_oldest}
-use Rattle.fleet_model.specs.JobsFit.{SourcesStand, OpenedStands}
+use Rattle.fleet_model.specs.JobsFit.{OpenedStands}
 use Rattle.fleet_model.specs.Claims.{is_waiting, may_take, stopped_jobs, claimed_jobs, claimed_attempt}
 use Rattle.fleet_model.specs.Exchanges.{Plain, PutsRecords, records_version, after_exchange}
 use Rattle.step_model.specs.Past.{World}
@@ -24,8 +22,7 @@ use Rattle.step_model.specs.Tries.{tries}
 use Rattle.step_model.specs.StepEnds.{StepEnd, Reports, most_refused}
 use Rattle.step_model.specs.ClaimSteps.{WorkerOptions, Claimed, at_moment, can_start, plan_of, starts_claimed, claim_of, claim_by, claim_try, claim}
 use Rattle.step_laws.specs.Runs.{CallsKeep}
-use Rattle.step_laws.proofs.Elements.{all_at, all_to, all_true_from}
-use Rattle.step_laws.proofs.PollJobs.{stretch_named}
+use Rattle.step_laws.proofs.Elements.{all_at, all_to}
 use Rattle.commit_laws.proofs.Stretches.{filter_all}
 use Rattle.course_laws.proofs.Calls.{all_take, filtered, and_first}
 use Rattle.worker_laws.proofs.CanStart.{stands_starts}

@@ -1,5 +1,5 @@
 -- In each state the history says which jobs wait for their commit.
-use Rattle.std.proofs.Common.{◌≡◌, refl, sym, ◌∙◌, ap, subst, ℕ, ◌<◌, List, [], ◌∷◌, cond, Bool, true, false, inl, inr, Option, Some, None, arith}
+use Rattle.std.proofs.Common.{◌≡◌, refl, sym, ◌∙◌, ap, subst, ℕ, ◌<◌, List, [], ◌∷◌, cond, Bool, true, false, inl, inr, arith}
 use Rattle.std.specs.Prelude.{◌==◌, ◌&&◌, ◌||◌, IsTrue, map, filter}
 use Rattle.std.specs.List.{AllByRecursion}
 use Rattle.std.proofs.lemmas.Bool.Decides.{Decides-eqb}
@@ -7,10 +7,10 @@ use Rattle.row_model.specs.Lists.{Pairs}
 use Rattle.fleet_model.specs.Jobs.{Job, Jobs, Running, Compacted, has_status, contains, ids, changed_jobs, is_stale, job_with}
 use Rattle.fleet_model.specs.Records.{to_waiting}
 use Rattle.fleet_model.specs.Finished.{is_finished_by}
-use Rattle.fleet_model.specs.Store.{Store, Records, stored_jobs, jobs_in}
+use Rattle.fleet_model.specs.Store.{Store, stored_jobs}
 use Rattle.fleet_model.specs.PollStates.{PollInput, PollState, poll_begun}
 use Rattle.fleet_model.specs.Polls.{free_stale, commit_job}
-use Rattle.step_model.specs.PollSteps.{PollAsk, records_or_none}
+use Rattle.step_model.specs.PollSteps.{PollAsk}
 use Rattle.step_model.specs.LawfulRecords.{OfSome}
 use Rattle.step_laws.proofs.Elements.{IsIn, all_at, all_from, all_to, is_itself, any_element, in_contains, contains_in}
 use Rattle.step_laws.proofs.Changed.{found_job}

@@ -1,7 +1,6 @@
 -- What a poll does that is not refused.
-use Rattle.std.proofs.Common.{◌≡◌, refl, sym, ◌∙◌, ap, subst, ℕ, ◌<◌, List, [], ◌∷◌, ◌++◌, Bool, true, false, Option, Some, None, append_assoc}
+use Rattle.std.proofs.Common.{◌≡◌, refl, sym, ◌∙◌, ap, subst, ℕ, ◌<◌, List, ◌++◌, Bool, true, false, Option, Some, None}
 use Rattle.std.specs.Prelude.{◌==◌, map, IsTrue}
-use Rattle.std.specs.List.{AllByRecursion}
 use Rattle.std.proofs.lemmas.Bool.Decides.{Decides-eqb}
 use Rattle.row_model.specs.Lists.{Pairs}
 use Rattle.row_model.specs.Fold.{Operator, IsLawful}
@@ -10,14 +9,12 @@ use Rattle.fleet_model.specs.Jobs.{JobSpec, Job}
 use Rattle.fleet_model.specs.History.{Party, Coordinator, Step, Join}
 use Rattle.fleet_model.specs.Store.{Manifest, Store}
 use Rattle.fleet_model.specs.Parties.{LiveCoordinator, coordinator_with, without_coordinator}
-use Rattle.fleet_model.specs.Trees.{job_of}
 use Rattle.fleet_model.specs.PollStates.{PollState}
 use Rattle.step_model.specs.Rivals.{Caller}
 use Rattle.step_model.specs.Fits.{CoordinatorHolds}
-use Rattle.step_model.specs.LawfulManifests.{IsKnownTo, StepsFit}
 use Rattle.step_model.specs.CourseRuns.{IsLawfulCourse}
 use Rattle.step_model.specs.PollSteps.{poll}
-use Rattle.step_laws.proofs.Elements.{all_at, all_front}
+use Rattle.step_laws.proofs.Elements.{all_at}
 use Rattle.commit_laws.proofs.AllCalls.{calls_keep}
 use Rattle.step_model.specs.Entries.{did_put_epoch}
 use Rattle.coordinator_laws.proofs.Quiet.{HasEpoch}
@@ -25,7 +22,6 @@ use Rattle.coordinator_laws.specs.PollSays.{PollSays}
 use Rattle.coordinator_laws.proofs.Course.{polls_are_lawful}
 use Rattle.coordinator_laws.proofs.PollSays.{poll_says}
 use Rattle.coordinator_laws.proofs.PollReports.{joins_done, got_jobs}
-use Rattle.commit_laws.proofs.StepForms.{joins_replace}
 use Rattle.script_model.specs.Script.{Poll, CommitOnly}
 use Rattle.script_model.specs.States.{Inputs, State}
 use Rattle.script_model.specs.Replies.{poll_reply, commit_reply}

@@ -28,5 +28,6 @@ pub record IsRun {A : Type 0} (who : Caller) (course : Course A) (world : World)
 
 -- A course that runs alone over a store runs as courses do, if the history had room for its draws.
 abbrev pub AloneRuns : Type 0
-AloneRuns = (who : Caller) (course : Course LineEnd) (world : World) (fault : Option Fault) → HadRoom (run_alone who.line who.party course fault world.store).store
+AloneRuns = (who : Caller) (course : Course LineEnd) (world : World) (fault : Option Fault)
+    → HadRoom (run_alone who.line who.party course fault world.store).store
     → IsRun who course world (run_alone who.line who.party course fault world.store)

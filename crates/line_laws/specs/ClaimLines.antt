@@ -34,7 +34,10 @@ begun_in s w = map (claimed_attempt (record {
 
 -- The stored jobs after a claim of these jobs: each of them runs with the worker at its next attempt.
 abbrev pub with_claimed : ℕ → LiveWorker → Jobs → Jobs → Jobs
-with_claimed moment w these jobs = if is_nonempty these then jobs_after (at_moment moment) (Claim w.number (map (λ job. (job.id, job.attempt + 1)) these)) jobs else jobs
+with_claimed moment w these jobs =
+    if is_nonempty these then jobs_after (at_moment moment)
+    (Claim w.number (map (λ job. (job.id, job.attempt + 1)) these)) jobs
+    else jobs
 
 -- A live worker claims and stops exactly the jobs of its rule, and the reply has them. After the claim
 -- it runs what it ran and did not stop, and the attempts that it began.
@@ -43,8 +46,14 @@ pub record ClaimRan (n : ℕ) (old : State) (answer : List ℕ) (new : State) : 
   pub live : worker_with n old.parties ≡ Some worker
   pub printed : answer ≡ claim_reply (begun_in old worker) (stopped_in old worker)
   pub jobs : stored_jobs new.store ≡ with_claimed old.moment worker (taken_in old worker) (stored_jobs old.store)
-  pub runs : worker_with n new.parties ≡ Some (record worker { attempts = with_attempts (begun_in old worker) (without_attempts (stopped_in old worker) worker.attempts) })
+  pub runs : worker_with n new.parties
+      ≡ Some
+      (record worker {
+        attempts = with_attempts (begun_in old worker)
+            (without_attempts (stopped_in old worker) worker.attempts);
+      })
 
 -- Each course of a claim that is not refused does so.
 abbrev pub ClaimsTake : Type 0
-ClaimsTake = (inputs : Inputs) (old new : State) (n : ℕ) (answer : List ℕ) → CourseRan inputs old (ClaimJobs n) answer new → is_ok answer ≡ true → ClaimRan n old answer new
+ClaimsTake = (inputs : Inputs) (old new : State) (n : ℕ) (answer : List ℕ)
+    → CourseRan inputs old (ClaimJobs n) answer new → is_ok answer ≡ true → ClaimRan n old answer new

@@ -13,7 +13,8 @@ use Rattle.line_laws.specs.PollRuns.{Answered, entry_of}
 -- Its calls, in order, each with its answer.
 abbrev pub calls_made : {A : Type 0} → ℕ → Party → Course A → Store → List Answered
 calls_made line party (Ends answer) store = []
-calls_made line party (Calls x next) store = (event_of x store, answer_of x store) ∷ calls_made line party (next store) (after_answered line party x store)
+calls_made line party (Calls x next) store =
+    (event_of x store, answer_of x store) ∷ calls_made line party (next store) (after_answered line party x store)
 
 -- What it answers.
 abbrev pub answer_made : {A : Type 0} → ℕ → Party → Course A → Store → A
@@ -30,16 +31,20 @@ struck_answer false answer = Lost
 -- What was made of these calls: all of them, or the first ones up to a get or a put that a fault struck.
 pub data MadeOf (stands : Bool) (calls made : List Answered) : Type 0 where
   AllMade : made ≡ calls → MadeOf stands calls made
-  CutAt : (before : List Answered) (event : Event) (answer : Answer) (after : List Answered) → IsTrue (is_get_or_put event) → calls ≡ before ++ (event, answer) ∷ after → made ≡ before ++ (event, struck_answer stands answer) ∷ [] → MadeOf stands calls made
+  CutAt : (before : List Answered) (event : Event) (answer : Answer) (after : List Answered)
+      → IsTrue (is_get_or_put event) → calls ≡ before ++ (event, answer) ∷ after
+      → made ≡ before ++ (event, struck_answer stands answer) ∷ [] → MadeOf stands calls made
 
 -- The answer of a course, if no fault struck it.
-abbrev pub answer_if : {A : Type 0} {stands : Bool} {calls made : List Answered} → MadeOf stands calls made → A → Option A
+abbrev pub answer_if : {A : Type 0} {stands : Bool} {calls made : List Answered} → MadeOf stands calls made → A
+    → Option A
 answer_if (AllMade same) answer = Some answer
 answer_if (CutAt before event answer after counts whole cut) given = None
 
 -- The run of a course alone, with a fault that may strike it. Its entries are those of the calls that were
 -- made. It answers as the course does without a fault, unless a fault struck it.
-pub record RunsCut {A : Type 0} (line : ℕ) (party : Party) (course : Course A) (fault : Option Fault) (store : Store) (run : AloneEnd A) : Type 0 where
+pub record RunsCut {A : Type 0} (line : ℕ) (party : Party) (course : Course A) (fault : Option Fault) (store : Store)
+    (run : AloneEnd A) : Type 0 where
   pub made : List Answered
   pub of : MadeOf (does_stand fault) (calls_made line party course store) made
   pub history : run.store.history ≡ store.history ++ map (entry_of line party) made
@@ -47,4 +52,5 @@ pub record RunsCut {A : Type 0} (line : ℕ) (party : Party) (course : Course A)
 
 -- So runs each course of a line.
 abbrev pub FaultsCut : Type 0
-FaultsCut = (line : ℕ) (party : Party) (course : Course LineEnd) (fault : Option Fault) (store : Store) → RunsCut line party course fault store (run_alone line party course fault store)
+FaultsCut = (line : ℕ) (party : Party) (course : Course LineEnd) (fault : Option Fault) (store : Store)
+    → RunsCut line party course fault store (run_alone line party course fault store)

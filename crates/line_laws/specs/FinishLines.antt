@@ -23,10 +23,15 @@ pub record FinishRan (n job : ℕ) (old : State) (answer : List ℕ) (new : Stat
   pub live : is_live (stored_jobs old.store) worker.number attempt ≡ true
   pub made : List (List ℕ)
   pub printed : answer ≡ reply (codes "ok" ∷ ranges_text (all_outputs attempt.context.ranges made) ∷ [])
-  pub jobs : stored_jobs new.store ≡ trimmed_jobs (changed_jobs (finished_by worker.number (unrecorded_of_finish old.moment worker attempt) (all_outputs attempt.context.ranges made)) (attempt.job ∷ []) (stored_jobs old.store))
+  pub jobs : stored_jobs new.store
+      ≡ trimmed_jobs
+      (changed_jobs (finished_by worker.number (unrecorded_of_finish old.moment worker attempt)
+      (all_outputs attempt.context.ranges made)) (attempt.job ∷ []) (stored_jobs old.store))
   pub manifest : new.store.manifest ≡ old.store.manifest
-  pub runs : worker_with n new.parties ≡ Some (record worker { attempts = without_attempts (attempt.job ∷ []) worker.attempts })
+  pub runs : worker_with n new.parties
+      ≡ Some (record worker { attempts = without_attempts (attempt.job ∷ []) worker.attempts })
 
 -- Each course of a finish that is not refused does so.
 abbrev pub FinishesEnd : Type 0
-FinishesEnd = (inputs : Inputs) (old new : State) (n job : ℕ) (answer : List ℕ) → CourseRan inputs old (FinishJob n job) answer new → is_ok answer ≡ true → FinishRan n job old answer new
+FinishesEnd = (inputs : Inputs) (old new : State) (n job : ℕ) (answer : List ℕ)
+    → CourseRan inputs old (FinishJob n job) answer new → is_ok answer ≡ true → FinishRan n job old answer new

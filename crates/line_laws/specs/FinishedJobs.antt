@@ -15,7 +15,9 @@ use Rattle.coordinator_laws.specs.PollSays.{all_verdicts}
 pub record FinishedWait (store : Store) : Type 0 where
   pub compacted : FinishedAreCompacted store
   pub stored : (id : ℕ) → IsTrue (is_finished_by store.history id) → IsTrue (contains (ids (stored_jobs store)) id)
-  pub judged : (ask : PollAsk) → map (λ verdict. verdict.0) (all_verdicts ask.commits_only (input_at ask store)) ≡ filter (is_finished_by store.history) (ids (stored_jobs store))
+  pub judged : (ask : PollAsk)
+      → map (λ verdict. verdict.0) (all_verdicts ask.commits_only (input_at ask store))
+      ≡ filter (is_finished_by store.history) (ids (stored_jobs store))
 
 -- So it is in each state that keeps the invariant.
 abbrev pub FinishedJobsWait : Type 0

@@ -1,4 +1,5 @@
--- The law on completeness: each line but a together line goes on, unless the operator refuses a fold that the line needs.
+-- The law on completeness: each line but a together line goes on, unless the operator refuses a fold that the
+-- line needs.
 use Rattle.std.specs.Prelude.{ℕ, List, None, ⊤}
 use Rattle.script_model.specs.Script.{Line, Output, FinishJob, Settle, Together}
 use Rattle.script_model.specs.States.{Inputs, State}
@@ -11,7 +12,8 @@ use Rattle.script_model.specs.Follows.{LineStep}
 abbrev pub NoneRefuses : Inputs → Line → State → Type 0
 NoneRefuses inputs (Output n job place rows) s = OutputMay inputs s rows (range_at s n job place) None
 NoneRefuses inputs (FinishJob n job) s = FinishMay inputs s (job_at s n job) None
-NoneRefuses inputs (Settle coordinator worker rounds) s = (t : State) (job : ℕ) → FinishMay inputs t (job_at t worker job) None
+NoneRefuses inputs (Settle coordinator worker rounds) s = (t : State) (job : ℕ)
+    → FinishMay inputs t (job_at t worker job) None
 NoneRefuses inputs (Together workers turns) s = ⊥
 NoneRefuses inputs line s = ⊤
 
@@ -23,4 +25,5 @@ pub record Goes (inputs : Inputs) (number : ℕ) (old : State) (line : Line) : T
 
 -- So a fleet that runs lines is never stuck at one.
 abbrev pub LinesGo : Type 0
-LinesGo = (inputs : Inputs) (number : ℕ) (old : State) (line : Line) → NoneRefuses inputs line (prepared_state line old) → Goes inputs number old line
+LinesGo = (inputs : Inputs) (number : ℕ) (old : State) (line : Line)
+    → NoneRefuses inputs line (prepared_state line old) → Goes inputs number old line

@@ -10,7 +10,8 @@ use Rattle.line_laws.specs.Scripts.{HasRun}
 
 -- The workers that are live by the history are those of the state. This depends on no table and on no spec.
 abbrev pub WorkersAreLive : State → Type 0
-WorkersAreLive s = (tables : Tables) (specs : ℕ → JobSpec) (n : ℕ) → contains (live_after tables specs s.store.history).workers n ≡ is_some (worker_with n s.parties)
+WorkersAreLive s = (tables : Tables) (specs : ℕ → JobSpec) (n : ℕ)
+    → contains (live_after tables specs s.store.history).workers n ≡ is_some (worker_with n s.parties)
 
 -- So it is in the state after each line of a script.
 abbrev pub LiveWorkers : Type 0

@@ -1,15 +1,9 @@
 -- The law on outputs: a job that finished has what one merge makes, whichever attempts wrote it.
-use Rattle.std.specs.Prelude.{◌≡◌, true, false, IsTrue, Some}
-use Rattle.std.specs.List.{concat}
+use Rattle.std.specs.Prelude.{◌≡◌, false, IsTrue, Some}
 use Rattle.row_model.specs.Fold.{Operator}
-use Rattle.row_model.specs.Settings.{Settings}
-use Rattle.row_model.specs.JobRows.{job_rows}
 use Rattle.fleet_model.specs.Jobs.{Job, Compacted, has_status, job_with}
-use Rattle.fleet_model.specs.Store.{Store, stored_jobs}
-use Rattle.fleet_model.specs.Attempts.{noted_rows, source_rows}
-use Rattle.fleet_model.specs.Claimed.{settings_of, without_cut}
-use Rattle.fleet_model.specs.JobsFit.{cut_or, was_joined}
-use Rattle.fleet_model.specs.Replay.{IsReplayed}
+use Rattle.fleet_model.specs.Store.{stored_jobs}
+use Rattle.fleet_model.specs.JobsFit.{was_joined}
 use Rattle.worker_laws.specs.FinishReports.{OneMerge}
 use Rattle.script_model.specs.States.{State}
 use Rattle.line_laws.specs.States.{StateKeeps}
@@ -17,4 +11,6 @@ use Rattle.line_laws.specs.States.{StateKeeps}
 -- In each state that keeps the invariant each job that finished and waits for its commit has such outputs,
 -- however often it was taken over.
 abbrev pub OutputsAreWhole : Type 0
-OutputsAreWhole = (merge : Operator) (s : State) (job : Job) → StateKeeps merge s → job_with job.id (stored_jobs s.store) ≡ Some job → IsTrue (has_status Compacted job) → was_joined s.store.history job.id ≡ false → OneMerge merge s.store job
+OutputsAreWhole = (merge : Operator) (s : State) (job : Job) → StateKeeps merge s
+    → job_with job.id (stored_jobs s.store) ≡ Some job → IsTrue (has_status Compacted job)
+    → was_joined s.store.history job.id ≡ false → OneMerge merge s.store job

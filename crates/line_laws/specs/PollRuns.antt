@@ -31,7 +31,9 @@ with_ids moment before (spec ∷ specs) = (id_of moment (before + 1), spec) ∷ 
 
 -- The proposals of the scheduler that a poll takes, up to its capacity, each with the next id.
 abbrev pub drawn_at : PollAsk → Store → List (ℕ × JobSpec)
-drawn_at ask store = with_ids ask.moment store.jobs_drawn (proposed_specs ask (input_at ask store) (first_steps ask (input_at ask store)))
+drawn_at ask store =
+    with_ids ask.moment store.jobs_drawn
+    (proposed_specs ask (input_at ask store) (first_steps ask (input_at ask store)))
 
 -- ---- its calls
 
@@ -53,11 +55,14 @@ draw_of drawn = (DrawJob drawn.0, Done 0)
 
 -- It puts the manifest only if it changed the trees or the horizon.
 abbrev pub manifest_puts : Manifest → PollState → List Answered
-manifest_puts manifest p = if is_unchanged manifest p then [] else (PutManifest (Commit p.steps), Done (manifest.version + 1)) ∷ []
+manifest_puts manifest p =
+    if is_unchanged manifest p then [] else (PutManifest (Commit p.steps), Done (manifest.version + 1)) ∷ []
 
 -- It puts the records only if it changed a job.
 abbrev pub records_puts : Option Records → PollState → List Answered
-records_puts records p = if is_nothing (change_of p) then [] else (PutRecords (Polled (change_of p)), Done (records_version records + 1)) ∷ []
+records_puts records p =
+    if is_nothing (change_of p) then []
+    else (PutRecords (Polled (change_of p)), Done (records_version records + 1)) ∷ []
 
 -- The calls of a poll before its puts: its gets, and then its draws.
 abbrev pub calls_before : Store → List (ℕ × JobSpec) → List Answered
@@ -71,15 +76,23 @@ puts_of old p = manifest_puts old.manifest p ++ records_puts old.records p
 
 -- The store after a poll's gets and draws.
 abbrev pub store_before : ℕ → Party → Store → List (ℕ × JobSpec) → Store
-store_before line party old drawn = record old { jobs_drawn = old.jobs_drawn + length drawn; history = old.history ++ map (entry_of line party) (calls_before old drawn) }
+store_before line party old drawn = record old {
+  jobs_drawn = old.jobs_drawn + length drawn;
+  history = old.history ++ map (entry_of line party) (calls_before old drawn);
+}
 
 -- The manifest after a poll that reached this state. It is put only if the poll changed it.
 abbrev pub manifest_after : Manifest → PollState → Manifest
-manifest_after manifest p = if is_unchanged manifest p then manifest else record manifest { version = manifest.version + 1; trees = p.trees; horizon = p.horizon }
+manifest_after manifest p =
+    if is_unchanged manifest p then manifest
+    else record manifest { version = manifest.version + 1; trees = p.trees; horizon = p.horizon }
 
 -- The records after a poll that reached this state. They are put only if the poll changed a job.
 abbrev pub records_after : Option Records → PollState → Option Records
-records_after records p = if is_nothing (change_of p) then records else Some (record { version = records_version records + 1; epoch = records_epoch records; jobs = trimmed_jobs p.jobs })
+records_after records p =
+    if is_nothing (change_of p) then records
+    else Some
+    (record { version = records_version records + 1; epoch = records_epoch records; jobs = trimmed_jobs p.jobs })
 
 -- The store after a poll that reached this state, with the poll's calls in its history. Nothing else
 -- changed, and if the poll changed nothing, it put nothing.
@@ -88,7 +101,8 @@ store_after line party old drawn p = record old {
   manifest = manifest_after old.manifest p;
   records = records_after old.records p;
   jobs_drawn = old.jobs_drawn + length drawn;
-  history = (old.history ++ map (entry_of line party) (calls_before old drawn)) ++ map (entry_of line party) (puts_of old p);
+  history =
+      (old.history ++ map (entry_of line party) (calls_before old drawn)) ++ map (entry_of line party) (puts_of old p);
 }
 
 -- The poll drew the next id for each proposal, reached this state, and left this store.
@@ -98,7 +112,8 @@ pub record PollDid (line : ℕ) (party : Party) (ask : PollAsk) (old new : Store
 
 -- The commit of a poll that reached this state. It is lawful over the store after the poll's gets and
 -- draws. The history there is the old one with these calls, and a front of the new one.
-pub record CommitPut (merge : Operator) (line : ℕ) (party : Party) (old : Store) (drawn : List (ℕ × JobSpec)) (p : PollState) : Type 0 where
+pub record CommitPut (merge : Operator) (line : ℕ) (party : Party) (old : Store) (drawn : List (ℕ × JobSpec))
+    (p : PollState) : Type 0 where
   pub at : World
   pub is : at.store ≡ store_before line party old drawn
   pub kept : Keeps merge at

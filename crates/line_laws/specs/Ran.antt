@@ -13,7 +13,8 @@ use Rattle.line_laws.specs.States.{StateKeeps}
 
 -- A fresh fleet ran these lines, and then this line, which took the old state to the new one with this
 -- reply. The history had room for all draws.
-pub record ThenRan (inputs : Inputs) (lines : List Line) (old : State) (line : Line) (answer : List ℕ) (new : State) : Type 0 where
+pub record ThenRan (inputs : Inputs) (lines : List Line) (old : State) (line : Line) (answer : List ℕ) (new : State)
+    : Type 0 where
   pub before : HasRun inputs lines old
   pub number : ℕ
   pub step : LineStep inputs number old line answer new
@@ -36,7 +37,9 @@ StopsIfRefused replied others answer = is_ok replied ≡ false → (others ≡ [
 -- whose steps they are has this reply.
 abbrev pub StepsRan : Inputs → State → List Line → List ℕ → State → Type 0
 StepsRan inputs old [] answer new = new ≡ old
-StepsRan inputs old (step ∷ others) answer new = (replied : List ℕ) × (mid : State) × CourseRan inputs old step replied mid × StopsIfRefused replied others answer × StepsRan inputs mid others answer new
+StepsRan inputs old (step ∷ others) answer new =
+    (replied : List ℕ) × (mid : State) × CourseRan inputs old step replied mid × StopsIfRefused replied others answer
+    × StepsRan inputs mid others answer new
 
 -- The step is a poll of this coordinator, or a claim or a finish of this worker.
 abbrev pub IsStepOf : (coordinator worker : ℕ) → Line → Type 0
@@ -46,7 +49,8 @@ IsStepOf coordinator worker (FinishJob n job) = n ≡ worker
 IsStepOf coordinator worker line = ⊥
 
 -- The steps of a settle line are polls, claims and finishes of its parties, and each is one course.
-pub record SettleRan (inputs : Inputs) (old : State) (coordinator worker : ℕ) (answer : List ℕ) (new : State) : Type 0 where
+pub record SettleRan (inputs : Inputs) (old : State) (coordinator worker : ℕ) (answer : List ℕ) (new : State)
+    : Type 0 where
   pub steps : List Line
   pub each : AllByRecursion (IsStepOf coordinator worker) steps
   pub ran : StepsRan inputs old steps answer new
@@ -59,4 +63,5 @@ LineRan inputs old line answer new = CourseRan inputs old line answer new
 -- Each line of a script runs so. So a law on one course speaks of each line of its own, and of each step
 -- of a settle line.
 abbrev pub LinesRunCourses : Type 0
-LinesRunCourses = (inputs : Inputs) (lines : List Line) (old new : State) (line : Line) (answer : List ℕ) → ThenRan inputs lines old line answer new → LineRan inputs old line answer new
+LinesRunCourses = (inputs : Inputs) (lines : List Line) (old new : State) (line : Line) (answer : List ℕ)
+    → ThenRan inputs lines old line answer new → LineRan inputs old line answer new

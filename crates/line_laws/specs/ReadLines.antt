@@ -17,7 +17,8 @@ use Rattle.line_laws.specs.Ran.{CourseRan}
 
 -- The answer of a read over the rows of these flushes.
 abbrev pub read_of : Operator → Tables → List ℕ → List ℕ → ℕ → ℤ → Option Outcome
-read_of merge tables flushes key seq now = read merge key seq now (sorted_rows (rows_of_key key (flat_map (table_rows tables) flushes)))
+read_of merge tables flushes key seq now =
+    read merge key seq now (sorted_rows (rows_of_key key (flat_map (table_rows tables) flushes)))
 
 -- The flushes of the segment that the history counts. The history of a store with its past gives them by
 -- specs that are faithful.
@@ -31,15 +32,21 @@ pub record Counted (s : State) (segment : List ℕ) : Type 0 where
 -- A read below the horizon or before the tick is refused. Each other read prints the fold over the rows of
 -- all flushes of its segment whose puts stood and that no drain took, and the tables that are stored read
 -- alike. A read changes nothing.
-pub record ReadAnswers (merge : Operator) (old : State) (segment key : List ℕ) (seq : ℕ) (now : ℤ) (answer : List ℕ) (new : State) : Type 0 where
-  pub refused : is_not_retained old.store.manifest seq now ≡ true → answer ≡ not_retained old.store.manifest.horizon old.store.manifest.tick
+pub record ReadAnswers (merge : Operator) (old : State) (segment key : List ℕ) (seq : ℕ) (now : ℤ) (answer : List ℕ)
+    (new : State) : Type 0 where
+  pub refused : is_not_retained old.store.manifest seq now ≡ true
+      → answer ≡ not_retained old.store.manifest.horizon old.store.manifest.tick
   pub counted : Counted old segment
-  pub flushed : flushed_read merge old.store segment key seq now ≡ read_of merge old.store.tables counted.flushes key seq now
-  pub printed : is_not_retained old.store.manifest seq now ≡ false → answer ≡ read_reply (flushed_read merge old.store segment key seq now)
-  pub stored : is_not_retained old.store.manifest seq now ≡ false → stored_read merge old.store segment key seq now ≡ flushed_read merge old.store segment key seq now
+  pub flushed : flushed_read merge old.store segment key seq now
+      ≡ read_of merge old.store.tables counted.flushes key seq now
+  pub printed : is_not_retained old.store.manifest seq now ≡ false
+      → answer ≡ read_reply (flushed_read merge old.store segment key seq now)
+  pub stored : is_not_retained old.store.manifest seq now ≡ false
+      → stored_read merge old.store segment key seq now ≡ flushed_read merge old.store segment key seq now
   pub same : new ≡ old
 
 -- Each course of a line that reads a key answers so.
 abbrev pub ReadsAnswer : Type 0
-ReadsAnswer = (inputs : Inputs) (old new : State) (segment key : List ℕ) (seq : ℕ) (now : ℤ) (answer : List ℕ) → CourseRan inputs old (ReadKey segment key seq now) answer new
+ReadsAnswer = (inputs : Inputs) (old new : State) (segment key : List ℕ) (seq : ℕ) (now : ℤ) (answer : List ℕ)
+    → CourseRan inputs old (ReadKey segment key seq now) answer new
     → ReadAnswers inputs.merge old segment key seq now answer new

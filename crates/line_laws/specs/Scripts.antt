@@ -20,7 +20,8 @@ pub record HasRun (inputs : Inputs) (lines : List Line) (last : State) : Type 0 
 
 -- The first lines ran too, in a run of their own with the same options and the first replies, and then the
 -- others from the state that they left.
-pub record RanFirst (inputs : Inputs) (first others : List Line) (last : State) (run : HasRun inputs (first ++ others) last) : Type 0 where
+pub record RanFirst (inputs : Inputs) (first others : List Line) (last : State)
+    (run : HasRun inputs (first ++ others) last) : Type 0 where
   pub mid : State
   pub before : HasRun inputs first mid
   pub options : before.options ≡ run.options
@@ -31,8 +32,10 @@ pub record RanFirst (inputs : Inputs) (first others : List Line) (last : State) 
 -- Lines that ran may be cut in two anywhere. So what is said of the last state of a run is said of the
 -- state after each of its lines.
 abbrev pub FirstLinesRun : Type 0
-FirstLinesRun = (inputs : Inputs) (first others : List Line) (last : State) (run : HasRun inputs (first ++ others) last) → RanFirst inputs first others last run
+FirstLinesRun = (inputs : Inputs) (first others : List Line) (last : State) (run : HasRun inputs (first ++ others) last)
+    → RanFirst inputs first others last run
 
 -- The state after each line of a script keeps the invariant, and each live party fits.
 abbrev pub ScriptsKeep : Type 0
-ScriptsKeep = (inputs : Inputs) (lines : List Line) (last : State) → HasRun inputs lines last → StateKeeps inputs.merge last
+ScriptsKeep = (inputs : Inputs) (lines : List Line) (last : State) → HasRun inputs lines last
+    → StateKeeps inputs.merge last

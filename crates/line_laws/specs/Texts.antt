@@ -26,13 +26,15 @@ OptionsComeFirst (line ∷ lines) = AllByRecursion (λ later. is_options later �
 -- Lines whose options come first leave these options. The first lines of such lines are such lines too, so
 -- the options hold after each of them.
 abbrev pub OptionsStay : Type 0
-OptionsStay = (inputs : Inputs) (lines : List Line) (last : State) (run : HasRun inputs lines last) → OptionsComeFirst lines → last.options ≡ options_of lines run.options
+OptionsStay = (inputs : Inputs) (lines : List Line) (last : State) (run : HasRun inputs lines last)
+    → OptionsComeFirst lines → last.options ≡ options_of lines run.options
 
 -- ---- texts
 
 -- A fresh fleet with these options ran the lines that the text spells, and left this store. Its replies, in
 -- the order of the lines, are what was written.
-pub record RanText (inputs : Inputs) (options : FleetOptions) (text : List ℕ) (store : Store) (written : List ℕ) : Type 0 where
+pub record RanText (inputs : Inputs) (options : FleetOptions) (text : List ℕ) (store : Store) (written : List ℕ)
+    : Type 0 where
   pub lines : List Line
   pub spelt : text ≡ script_text lines
   pub last : State
@@ -45,5 +47,7 @@ pub record RanText (inputs : Inputs) (options : FleetOptions) (text : List ℕ) 
 -- A fleet that follows a script of the one grammar or of the other ran its lines, if the operator is
 -- lawful and the history had room. So the laws on runs of lines hold for it.
 pub record TextsRun (inputs : Inputs) (options : FleetOptions) : Type 0 where
-  pub full : (text : List ℕ) (store : Store) (written : List ℕ) → IsLawful inputs.merge → HadRoom store → Follows full_grammar inputs options text store written → RanText inputs options text store written
-  pub jobs : (text : List ℕ) (store : Store) (written : List ℕ) → IsLawful inputs.merge → HadRoom store → Follows job_grammar inputs options text store written → RanText inputs options text store written
+  pub full : (text : List ℕ) (store : Store) (written : List ℕ) → IsLawful inputs.merge → HadRoom store
+      → Follows full_grammar inputs options text store written → RanText inputs options text store written
+  pub jobs : (text : List ℕ) (store : Store) (written : List ℕ) → IsLawful inputs.merge → HadRoom store
+      → Follows job_grammar inputs options text store written → RanText inputs options text store written

@@ -21,7 +21,8 @@ flushes_in tree = flat_map (λ node. node.flushes) tree
 abbrev pub taken_by : List ℕ → Trees → Step → JobSpec → List ℕ
 taken_by prefix trees (Join job) spec = []
 taken_by prefix trees (Move job) spec = []
-taken_by prefix trees (Drain job) spec = if bytes_eq prefix spec.segment then flushes_in (source_nodes spec.sources (tree_at prefix trees)) else []
+taken_by prefix trees (Drain job) spec =
+    if bytes_eq prefix spec.segment then flushes_in (source_nodes spec.sources (tree_at prefix trees)) else []
 
 -- These flushes, but for the taken ones.
 abbrev pub without_flushes : List ℕ → List ℕ → List ℕ
@@ -31,7 +32,8 @@ without_flushes taken flushes = filter (λ flush. not (contains taken flush)) fl
 abbrev pub left_by : Tables → (ℕ → JobSpec × List ℕ) → List ℕ → List Step → Trees → List ℕ → List ℕ
 left_by tables jobs prefix [] trees flushes = flushes
 left_by tables jobs prefix (step ∷ steps) trees flushes =
-    left_by tables jobs prefix steps (stepped_in tables step (jobs (job_of step)).0 (jobs (job_of step)).1 trees) (without_flushes (taken_by prefix trees step (jobs (job_of step)).0) flushes)
+    left_by tables jobs prefix steps (stepped_in tables step (jobs (job_of step)).0 (jobs (job_of step)).1 trees)
+    (without_flushes (taken_by prefix trees step (jobs (job_of step)).0) flushes)
 
 -- ---- the history
 
@@ -44,8 +46,10 @@ is_drain_step step = false
 -- it. A flush counts from its put on. Where a commit drains, those count no more that no node names then.
 abbrev pub counted_after : List ℕ → ManifestChange → Trees → List ℕ → List ℕ
 counted_after prefix (ManifestEpoch epoch) trees flushes = flushes
-counted_after prefix (Flush name segment floor tick) trees flushes = if bytes_eq prefix segment then name ∷ flushes else flushes
-counted_after prefix (Commit steps) trees flushes = if list_any is_drain_step steps then filter (contains (flushes_in (tree_at prefix trees))) flushes else flushes
+counted_after prefix (Flush name segment floor tick) trees flushes =
+    if bytes_eq prefix segment then name ∷ flushes else flushes
+counted_after prefix (Commit steps) trees flushes =
+    if list_any is_drain_step steps then filter (contains (flushes_in (tree_at prefix trees))) flushes else flushes
 
 -- Only puts of the manifest change what counts.
 abbrev pub counted_in : List ℕ → Event → Trees → List ℕ → List ℕ
@@ -57,7 +61,8 @@ abbrev pub counted_from : Tables → (ℕ → JobSpec) → List ℕ → Objects 
 counted_from tables specs prefix o flushes [] = flushes
 counted_from tables specs prefix o flushes (entry ∷ history) =
     let after = after_entry tables specs entry o in
-    counted_from tables specs prefix after (if stood entry.answer then counted_in prefix entry.event after.manifest.trees flushes else flushes) history
+    counted_from tables specs prefix after
+    (if stood entry.answer then counted_in prefix entry.event after.manifest.trees flushes else flushes) history
 
 -- The flushes of a segment whose puts stood, but for those that a drain took, the last one first.
 abbrev pub undrained : Tables → (ℕ → JobSpec) → List ℕ → List Entry → List ℕ
@@ -65,4 +70,6 @@ undrained tables specs prefix history = counted_from tables specs prefix (plain_
 
 -- The nodes of each tree name exactly the undrained flushes of its segment, by any faithful specs.
 abbrev pub FlushesCount : World → Type 0
-FlushesCount world = (specs : ℕ → JobSpec) → Faithful world specs → (prefix : List ℕ) → flushes_in (tree_at prefix world.store.manifest.trees) ≡ undrained world.store.tables specs prefix world.store.history
+FlushesCount world = (specs : ℕ → JobSpec) → Faithful world specs → (prefix : List ℕ)
+    → flushes_in (tree_at prefix world.store.manifest.trees)
+    ≡ undrained world.store.tables specs prefix world.store.history

@@ -24,7 +24,8 @@ pub record IsFree (party : Party) (world : World) (table : ℕ) : Type 0 where
 -- A lawful call of another party names no table that the worker put and nothing names, whether a
 -- fault strikes the call or not.
 abbrev pub CallKeepsFree : Operator → Exchange → Type 0
-CallKeepsFree merge x = (line : ℕ) (party : Party) (strike : Strike) (world : World) (worker table : ℕ) → Keeps merge world → party ≢ Worker worker → Lawful merge party world x → MayStrike x world strike
+CallKeepsFree merge x = (line : ℕ) (party : Party) (strike : Strike) (world : World) (worker table : ℕ)
+    → Keeps merge world → party ≢ Worker worker → Lawful merge party world x → MayStrike x world strike
     → IsFree (Worker worker) world table → IsFree (Worker worker) (after_call line party x strike world) table
 
 -- No lawful call of another party names a free table of a worker.
@@ -34,4 +35,5 @@ FreeTablesStay merge = (x : Exchange) → CallKeepsFree merge x
 -- Calls of others that come between two calls of a worker name none of its free tables, if each
 -- lawful call keeps the invariant.
 abbrev pub RivalsKeepFree : Type 0
-RivalsKeepFree = (who : Caller) (old new : World) (worker table : ℕ) → CallsKeep who.merge → who.party ≡ Worker worker → Keeps who.merge old → Rivals who old new → IsFree who.party old table → IsFree who.party new table
+RivalsKeepFree = (who : Caller) (old new : World) (worker table : ℕ) → CallsKeep who.merge → who.party ≡ Worker worker
+    → Keeps who.merge old → Rivals who old new → IsFree who.party old table → IsFree who.party new table

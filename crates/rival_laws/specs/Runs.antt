@@ -31,7 +31,8 @@ RunsBeside party who (Calls x next) old new end =
     ⊎ (HasRoom met x × RunsBeside party who (next met.store) (after_call who.line who.party x None met) new end))))
 
 -- A run of a lawful course that this party does not disturb. Only a sweeper deletes tables.
-pub record RunBeside {A : Type 0} (party : Party) (who : Caller) (course : Course A) (old new : World) (end : End A) : Type 0 where
+pub record RunBeside {A : Type 0} (party : Party) (who : Caller) (course : Course A) (old new : World) (end : End A)
+    : Type 0 where
   pub other : who.party ≢ party
   pub no_sweeper : who.party ≢ Sweeper
   pub lawful : IsLawfulCourse who old course
@@ -47,7 +48,9 @@ pub record OthersRun (A : Type 0) : Type 0 where
       → CallsKeep who.merge
       → Keeps who.merge old → RunBeside (Worker w.number) who course old new end → WorkerHolds who.merge old w
       → WorkerHolds who.merge new w
-  pub coordinators : (who : Caller) (course : Course A) (old new : World) (end : End A) (c : LiveCoordinator) (local : Option Local) → CallsKeep who.merge
+  pub coordinators : (who : Caller) (course : Course A) (old new : World) (end : End A) (c : LiveCoordinator)
+      (local : Option Local)
+      → CallsKeep who.merge
       → Keeps who.merge old → RunBeside (Coordinator c.number) who course old new end → CoordinatorHolds old c local
       → CoordinatorHolds new c local
   pub free_tables : (who : Caller) (course : Course A) (old new : World) (end : End A) (worker table : ℕ)

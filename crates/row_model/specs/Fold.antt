@@ -32,6 +32,8 @@ fold_bytes merge key e xs = fold merge key (option_map Merged e) (map Merged xs)
 -- An operator is lawful if two things hold. The newest operands `ys` may be folded first, from none, and
 -- their result then counts as one operand. The merged bytes that it answers are fewer than 2^32.
 pub record IsLawful (merge : Operator) : Type 0 where
-  pub joins : (key : List ℕ) (e : Option (List ℕ)) (xs ys : List (List ℕ)) (one : Outcome) → fold_bytes merge key None ys ≡ Some one
+  pub joins : (key : List ℕ) (e : Option (List ℕ)) (xs ys : List (List ℕ)) (one : Outcome)
+      → fold_bytes merge key None ys ≡ Some one
       → fold_bytes merge key e (xs ++ ys) ≡ fold merge key (option_map Merged e) (map Merged xs ++ one ∷ [])
-  pub short : (key : List ℕ) (e : Option (List ℕ)) (x bytes : List ℕ) → merge key e x ≡ Merged bytes → length bytes < 2 ^ 32
+  pub short : (key : List ℕ) (e : Option (List ℕ)) (x bytes : List ℕ) → merge key e x ≡ Merged bytes
+      → length bytes < 2 ^ 32

@@ -22,7 +22,8 @@ written_value_size Tombstone = 0
 
 -- The number of bytes in which a row is written if its key shares `prefix` bytes with an earlier key.
 abbrev pub encoded_size : Row → ℕ → ℕ
-encoded_size r prefix = 13 + (length r.key - prefix) + stamp_size r.created + stamp_size r.expires + written_value_size r.content
+encoded_size r prefix =
+    13 + (length r.key - prefix) + stamp_size r.created + stamp_size r.expires + written_value_size r.content
 
 -- A sum of sizes, or the greatest unsigned 64-bit number if the sum is greater.
 abbrev pub saturated_sum : ℕ → ℕ
@@ -50,7 +51,9 @@ block_at offset filled r later = if filled == 0 then record { first_key = r.key;
 
 abbrev pub blocks_from : ℕ → ℕ → List Row → List Block
 blocks_from offset filled [] = []
-blocks_from offset filled (r ∷ rows) = block_at offset filled r (blocks_from (saturated_sum (offset + estimated_size r)) (or_full (filled + estimated_size r)) rows)
+blocks_from offset filled (r ∷ rows) =
+    block_at offset filled r
+    (blocks_from (saturated_sum (offset + estimated_size r)) (or_full (filled + estimated_size r)) rows)
 
 abbrev pub blocks : List Row → List Block
 blocks rows = blocks_from 0 0 rows

@@ -40,7 +40,9 @@ content_bytes Tombstone = []
 
 -- What follows the key of a row.
 abbrev pub fields_bytes : Row → List ℕ
-fields_bytes r = to_be_bytes w64 r.seq ++ row_flags r ∷ [] ++ stamp_bytes r.created ++ stamp_bytes r.expires ++ content_bytes r.content
+fields_bytes r =
+    to_be_bytes w64 r.seq ++ row_flags r ∷ [] ++ stamp_bytes r.created ++ stamp_bytes r.expires
+    ++ content_bytes r.content
 
 -- A row in a block with this first key. The block's first row itself is written after the empty key, so it
 -- shares nothing.
@@ -60,7 +62,9 @@ header_bytes rows = to_be_bytes w16 (length rows) ++ to_be_bytes w64 (length (ro
 -- already has `filled` bytes.
 abbrev pub blocks_of_rows : ℕ → List Row → List (List Row)
 blocks_of_rows filled [] = []
-blocks_of_rows filled (r ∷ rows) = with_row (nat_le block_bytes (filled + estimated_size r)) r (blocks_of_rows (or_full (filled + estimated_size r)) rows)
+blocks_of_rows filled (r ∷ rows) =
+    with_row (nat_le block_bytes (filled + estimated_size r)) r
+    (blocks_of_rows (or_full (filled + estimated_size r)) rows)
 
 -- The number of blocks, then a header of each block, then the rows of each block.
 abbrev pub bytes_of_blocks : List (List Row) → List ℕ

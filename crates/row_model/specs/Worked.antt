@@ -61,12 +61,18 @@ pub record TheCutKeepsVersions : Type 0 where
 -- ---- operands
 
 abbrev pub two_stamps : List Row
-two_stamps = a_row (Merge (codes "z")) 3 None ∷ a_row (Merge (codes "y")) 2 None ∷ a_row (Merge (codes "x")) 1 (Some (pos 10)) ∷ []
+two_stamps =
+    a_row (Merge (codes "z")) 3 None ∷ a_row (Merge (codes "y")) 2 None ∷ a_row (Merge (codes "x")) 1 (Some (pos 10))
+    ∷ []
 
 -- Operands with the same stamp are folded, oldest first. An operand with another stamp stays apart and
 -- expires by itself.
 pub record StampsStayApart : Type 0 where
-  pub made : job_rows append (settings 5 (pos 0) true) two_stamps ≡ record { rows = a_row (Merge (codes "yz")) 3 None ∷ a_row (Merge (codes "x")) 1 (Some (pos 10)) ∷ []; whole = true }
+  pub made : job_rows append (settings 5 (pos 0) true) two_stamps
+      ≡ record {
+        rows = a_row (Merge (codes "yz")) 3 None ∷ a_row (Merge (codes "x")) 1 (Some (pos 10)) ∷ [];
+        whole = true;
+      }
   pub read_before : read append (codes "a") 5 (pos 5) two_stamps ≡ Some (Merged (codes "xyz"))
   pub read_after : read append (codes "a") 5 (pos 20) two_stamps ≡ Some (Merged (codes "yz"))
 
@@ -79,18 +85,22 @@ expiring = a_row (Merge (codes "m")) 2 (Some (pos 10)) ∷ a_row (Value (codes "
 pub record FoldedAndThenExpired : Type 0 where
   pub folded : folded_rows append 5 expiring ≡ Some (a_row (Value (codes "vm")) 2 (Some (pos 10)) ∷ [])
   pub made : job_rows append (settings 5 (pos 10) true) expiring ≡ record { rows = []; whole = true }
-  pub made_above_a_run : job_rows append (settings 5 (pos 10) false) expiring ≡ record { rows = a_row Tombstone 2 None ∷ []; whole = true }
+  pub made_above_a_run : job_rows append (settings 5 (pos 10) false) expiring
+      ≡ record { rows = a_row Tombstone 2 None ∷ []; whole = true }
   pub read_at_5 : read append (codes "a") 5 (pos 10) expiring ≡ None
 
 abbrev pub three_operands : List Row
-three_operands = a_row (Merge (codes "3")) 3 None ∷ a_row (Merge (codes "2")) 2 None ∷ a_row (Merge (codes "1")) 1 None ∷ []
+three_operands =
+    a_row (Merge (codes "3")) 3 None ∷ a_row (Merge (codes "2")) 2 None ∷ a_row (Merge (codes "1")) 1 None ∷ []
 
 -- Operands above the cut are not folded, even if they are at or below the floor.
 pub record TheCutKeepsOperands : Type 0 where
   pub at_3 : folded_rows append 3 three_operands ≡ Some (a_row (Merge (codes "123")) 3 None ∷ [])
-  pub at_2 : folded_rows append 2 three_operands ≡ Some (a_row (Merge (codes "3")) 3 None ∷ a_row (Merge (codes "12")) 2 None ∷ [])
+  pub at_2 : folded_rows append 2 three_operands
+      ≡ Some (a_row (Merge (codes "3")) 3 None ∷ a_row (Merge (codes "12")) 2 None ∷ [])
   pub at_0 : folded_rows append 0 three_operands ≡ Some three_operands
-  pub below_the_floor : job_rows append (settings_under 3 2) three_operands ≡ record { rows = a_row (Merge (codes "3")) 3 None ∷ a_row (Merge (codes "12")) 2 None ∷ []; whole = true }
+  pub below_the_floor : job_rows append (settings_under 3 2) three_operands
+      ≡ record { rows = a_row (Merge (codes "3")) 3 None ∷ a_row (Merge (codes "12")) 2 None ∷ []; whole = true }
 
 -- ---- sizes, blocks and tables
 
@@ -107,7 +117,9 @@ pub record RowsHaveSizes : Type 0 where
 
 -- Five rows of ten bytes each.
 abbrev pub five_versions : List Row
-five_versions = a_row (Value (codes "5")) 5 None ∷ a_row (Value (codes "4")) 4 None ∷ a_row (Value (codes "3")) 3 None ∷ a_row (Value (codes "2")) 2 None ∷ a_row (Value (codes "1")) 1 None ∷ []
+five_versions =
+    a_row (Value (codes "5")) 5 None ∷ a_row (Value (codes "4")) 4 None ∷ a_row (Value (codes "3")) 3 None
+    ∷ a_row (Value (codes "2")) 2 None ∷ a_row (Value (codes "1")) 1 None ∷ []
 
 -- The five rows make one block. Cut at 15 bytes, they make tables of two, two and one rows: a table ends
 -- with the row with which it exceeds the size.
@@ -157,12 +169,19 @@ from n = record { from = Included (key n); to = Unbounded }
 -- a large one may be small. There is one range if all bytes are at most the least share. Sums of bytes stop
 -- at 2^64 - 1.
 pub record KeysAreCut : Type 0 where
-  pub even : select_boundaries (anchor 0 100 ∷ anchor 10 100 ∷ anchor 20 100 ∷ anchor 30 100 ∷ []) 4 1 ≡ below 10 ∷ between 10 20 ∷ between 20 30 ∷ from 30 ∷ []
-  pub one_key_thrice : select_boundaries (anchor 0 400 ∷ anchor 0 400 ∷ anchor 0 400 ∷ anchor 10 400 ∷ anchor 20 400 ∷ []) 4 1 ≡ below 10 ∷ between 10 20 ∷ from 20 ∷ []
-  pub heavy_first : select_boundaries (anchor 0 1000 ∷ anchor 10 10 ∷ anchor 20 10 ∷ anchor 30 10 ∷ anchor 40 10 ∷ []) 2 1 ≡ below 10 ∷ from 10 ∷ []
-  pub small_after_heavy : select_boundaries (anchor 0 1000 ∷ anchor 10 10 ∷ anchor 20 10 ∷ []) 3 100 ≡ below 10 ∷ between 10 20 ∷ from 20 ∷ []
+  pub even : select_boundaries (anchor 0 100 ∷ anchor 10 100 ∷ anchor 20 100 ∷ anchor 30 100 ∷ []) 4 1
+      ≡ below 10 ∷ between 10 20 ∷ between 20 30 ∷ from 30 ∷ []
+  pub one_key_thrice : select_boundaries
+      (anchor 0 400 ∷ anchor 0 400 ∷ anchor 0 400 ∷ anchor 10 400 ∷ anchor 20 400 ∷ []) 4 1
+      ≡ below 10 ∷ between 10 20 ∷ from 20 ∷ []
+  pub heavy_first : select_boundaries
+      (anchor 0 1000 ∷ anchor 10 10 ∷ anchor 20 10 ∷ anchor 30 10 ∷ anchor 40 10 ∷ []) 2 1
+      ≡ below 10 ∷ from 10 ∷ []
+  pub small_after_heavy : select_boundaries (anchor 0 1000 ∷ anchor 10 10 ∷ anchor 20 10 ∷ []) 3 100
+      ≡ below 10 ∷ between 10 20 ∷ from 20 ∷ []
   pub too_small : select_boundaries (anchor 0 100 ∷ anchor 10 100 ∷ []) 4 1000 ≡ all_keys ∷ []
-  pub huge : select_boundaries (anchor 0 (2 ^ 63) ∷ anchor 10 (2 ^ 63) ∷ anchor 20 (2 ^ 63) ∷ []) 2 1 ≡ below 10 ∷ from 10 ∷ []
+  pub huge : select_boundaries (anchor 0 (2 ^ 63) ∷ anchor 10 (2 ^ 63) ∷ anchor 20 (2 ^ 63) ∷ []) 2 1
+      ≡ below 10 ∷ from 10 ∷ []
 
 abbrev pub block : ℕ → ℕ → Block
 block n offset = record { first_key = key n; offset = offset }

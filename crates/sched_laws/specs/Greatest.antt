@@ -28,7 +28,13 @@ high_trees = record {
 
 -- A view of this tree, without jobs.
 abbrev pub high_view : View
-high_view = record { manifest = record fresh_store.manifest { trees = high_trees }; records_version = 1; records_epoch = 0; jobs = []; handles = [] }
+high_view = record {
+  manifest = record fresh_store.manifest { trees = high_trees };
+  records_version = 1;
+  records_epoch = 0;
+  jobs = [];
+  handles = [];
+}
 
 -- A job has two to four sources, and a similar run is at most one and a half times as large.
 abbrev pub some_options : TieredOptions
@@ -37,4 +43,5 @@ some_options = record { least = 2; most = 4; numerator = 3; denominator = 2 }
 -- The view stands, and the scheduler proposes the greatest id on it.
 pub record GreatestIdIsProposed : Type 0 where
   pub stands : ViewStands high_view
-  pub proposed : tiered_proposals some_options 1 high_view ≡ record { segment = []; sources = L0 3 ∷ L0 2 ∷ []; destination = Some 4294967295 } ∷ []
+  pub proposed : tiered_proposals some_options 1 high_view
+      ≡ record { segment = []; sources = L0 3 ∷ L0 2 ∷ []; destination = Some 4294967295 } ∷ []

@@ -13,7 +13,8 @@ use Rattle.sched_laws.specs.Views.{ViewStands}
 
 -- There are at most as many proposals as jobs may be added to those under way.
 abbrev pub ProposalsAreFew : Type 0
-ProposalsAreFew = (o : TieredOptions) (most : ℕ) (view : View) → length (tiered_proposals o most view) ≤ free_slots most view.jobs
+ProposalsAreFew = (o : TieredOptions) (most : ℕ) (view : View)
+    → length (tiered_proposals o most view) ≤ free_slots most view.jobs
 
 -- The job has sources, and it makes a run of them.
 pub record MakesRun (spec : JobSpec) : Type 0 where
@@ -22,7 +23,8 @@ pub record MakesRun (spec : JobSpec) : Type 0 where
 
 -- Each proposal has sources, and makes a run of them.
 abbrev pub ProposalsMakeRuns : Type 0
-ProposalsMakeRuns = (o : TieredOptions) → are_tiered o ≡ true → (most : ℕ) (view : View) → AllByRecursion MakesRun (tiered_proposals o most view)
+ProposalsMakeRuns = (o : TieredOptions) → are_tiered o ≡ true → (most : ℕ) (view : View)
+    → AllByRecursion MakesRun (tiered_proposals o most view)
 
 -- The job has at least the least number of sources of the options, and at most the greatest.
 pub record HasSourcesWithin (o : TieredOptions) (spec : JobSpec) : Type 0 where
@@ -44,7 +46,8 @@ AreApart a b = HasFreeId a → HasFreeId b → IsTrue (is_apart (nodes_of a) (no
 
 -- No two proposals hold the same node, unless the destination of one of them is 4,294,967,295.
 abbrev pub ProposalsAreApart : Type 0
-ProposalsAreApart = (o : TieredOptions) → are_tiered o ≡ true → (most : ℕ) (view : View) → ViewStands view → Pairs AreApart (tiered_proposals o most view)
+ProposalsAreApart = (o : TieredOptions) → are_tiered o ≡ true → (most : ℕ) (view : View) → ViewStands view
+    → Pairs AreApart (tiered_proposals o most view)
 
 -- A job that may be there when the job with this id is opened: that job itself, a job that holds no nodes,
 -- a known job, or a job that was opened for one of the other proposals.
@@ -59,7 +62,8 @@ pub data MayBeThere (known : Jobs) (others : List JobSpec) (id : ℕ) (job : Job
 -- scheduler may be shown a later view, with the same trees.
 abbrev pub ProposalsPassTheGate : Type 0
 ProposalsPassTheGate = (o : TieredOptions) → are_tiered o ≡ true → (most : ℕ) (view : View) → ViewStands view
-    → (before after : List JobSpec) (job : Job) → tiered_proposals o most view ≡ before ++ job.spec ∷ after → HasFreeId job.spec
+    → (before after : List JobSpec) (job : Job) → tiered_proposals o most view ≡ before ++ job.spec ∷ after
+    → HasFreeId job.spec
     → (jobs : Jobs) → AllByRecursion (MayBeThere view.jobs (before ++ after) job.id) jobs
     → (later : View) → later.manifest.trees ≡ view.manifest.trees
     → submit_gate later.manifest.trees jobs [] (tiered_validate later) job ≡ None

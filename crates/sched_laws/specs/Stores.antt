@@ -23,11 +23,13 @@ store_view store records = shown_view store.tables store.manifest records record
 pub record StoreStands (merge : Operator) (store : Store) (records : Records) : Type 0 where
   pub invariant : StoreInvariant merge store
   pub stored : store.records ≡ Some records
-  pub compacted : AllByRecursion (λ job. IsTrue (has_status Compacted job) → SourcesStand store.manifest.trees job) records.jobs
+  pub compacted : AllByRecursion
+      (λ job. IsTrue (has_status Compacted job) → SourcesStand store.manifest.trees job) records.jobs
 
 -- The view of a store that stands is as the laws on views ask.
 abbrev pub ViewsOfStoresStand : Operator → Type 0
-ViewsOfStoresStand merge = (store : Store) (records : Records) → StoreStands merge store records → ViewStands (store_view store records)
+ViewsOfStoresStand merge = (store : Store) (records : Records) → StoreStands merge store records
+    → ViewStands (store_view store records)
 
 -- A job for a proposal on the view of a store passes the gate of submitted jobs, unless its destination is
 -- 4,294,967,295. It passes beside the stored jobs, and beside jobs that were opened for the other proposals.
@@ -35,7 +37,8 @@ ViewsOfStoresStand merge = (store : Store) (records : Records) → StoreStands m
 abbrev pub StoresAcceptProposals : Operator → Type 0
 StoresAcceptProposals merge = (store : Store) (records : Records) → StoreStands merge store records
     → (o : TieredOptions) → are_tiered o ≡ true → (most : ℕ)
-    → (before after : List JobSpec) (job : Job) → tiered_proposals o most (store_view store records) ≡ before ++ job.spec ∷ after → HasFreeId job.spec
+    → (before after : List JobSpec) (job : Job)
+    → tiered_proposals o most (store_view store records) ≡ before ++ job.spec ∷ after → HasFreeId job.spec
     → (jobs : Jobs) → AllByRecursion (MayBeThere records.jobs (before ++ after) job.id) jobs
     → (later : View) → later.manifest.trees ≡ store.manifest.trees
     → submit_gate later.manifest.trees jobs [] (tiered_validate later) job ≡ None

@@ -1,4 +1,5 @@
--- What every scheduler that counts run ids and places of jobs shares: the id of a fresh run, and which jobs are under way.
+-- What every scheduler that counts run ids and places of jobs shares: the id of a fresh run, and which jobs are
+-- under way.
 use Rattle.std.specs.Prelude.{ℕ, ◌+◌, ◌||◌, Bool, min, max, List, [], ◌∷◌, ◌++◌, flat_map, Option, Some, None}
 use Rattle.fleet_model.specs.Jobs.{Job, Submitted, Scheduled, Running, has_status}
 use Rattle.fleet_model.specs.Sources.{all_run_ids}
@@ -21,7 +22,9 @@ capped_id id = min id 4294967295
 -- The id of a fresh run. It is above each run of each tree and each destination of a job in the view, but
 -- at most the greatest unsigned 32-bit number.
 abbrev pub fresh_run_id : View → ℕ
-fresh_run_id view = capped_id (above_all (all_run_ids view.manifest.trees ++ flat_map (λ job. destination_list job.spec.destination) view.jobs))
+fresh_run_id view =
+    capped_id
+    (above_all (all_run_ids view.manifest.trees ++ flat_map (λ job. destination_list job.spec.destination) view.jobs))
 
 -- True if the job is Submitted, Scheduled or Running. Such a job takes one of the places for jobs under
 -- way.

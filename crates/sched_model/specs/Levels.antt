@@ -42,7 +42,8 @@ node_size handles node = saturated_sum (sum_by (size_of_table handles) node.piec
 abbrev pub are_runs_within : LevelOptions → List Handle → ℕ → List Node → Bool
 are_runs_within o handles place [] = true
 are_runs_within o handles place (run ∷ []) = true
-are_runs_within o handles place (run ∷ next ∷ runs) = nat_le (node_size handles run) (limit o place) && are_runs_within o handles (place + 1) (next ∷ runs)
+are_runs_within o handles place (run ∷ next ∷ runs) =
+    nat_le (node_size handles run) (limit o place) && are_runs_within o handles (place + 1) (next ∷ runs)
 
 -- True if a tree has fewer flushes than the trigger and each of its runs, except the oldest, is within its
 -- limit.
@@ -63,7 +64,8 @@ with_level_pick spec p = record p { used = nodes_of spec ++ p.used; picks = p.pi
 -- Adds a pick into the fresh run, and raises the id of the next fresh run.
 abbrev pub with_fresh_pick : List ℕ → List NodeName → LevelPicking → LevelPicking
 with_fresh_pick segment sources p =
-    let q = with_level_pick (record { segment = segment; sources = sources; destination = Some p.fresh }) p in record q { fresh = capped_id (p.fresh + 1) }
+    let q = with_level_pick (record { segment = segment; sources = sources; destination = Some p.fresh }) p in
+    record q { fresh = capped_id (p.fresh + 1) }
 
 -- The id of a node that is a run, or None for a flush.
 abbrev pub run_id : NodeName → Option ℕ
@@ -73,46 +75,60 @@ run_id (Run id) = Some id
 -- Picks all flushes into the newest run, unless that run is used.
 abbrev pub pick_into_run : List ℕ → List NodeName → NodeName → LevelPicking → LevelPicking
 pick_into_run segment flushes run p =
-    if names_contain p.used run then p else with_level_pick (record { segment = segment; sources = flushes ++ run ∷ []; destination = run_id run }) p
+    if names_contain p.used run then p
+    else with_level_pick (record { segment = segment; sources = flushes ++ run ∷ []; destination = run_id run }) p
 
 -- Picks all flushes into the newest run if its size is at most the base, and otherwise into a fresh run.
-abbrev pub pick_flushes_into : LevelOptions → List Handle → List ℕ → List NodeName → List Node → LevelPicking → LevelPicking
+abbrev pub pick_flushes_into : LevelOptions → List Handle → List ℕ → List NodeName → List Node → LevelPicking
+    → LevelPicking
 pick_flushes_into o handles segment flushes [] p = with_fresh_pick segment flushes p
 pick_flushes_into o handles segment flushes (run ∷ runs) p =
-    if nat_le (node_size handles run) o.base then pick_into_run segment flushes run.name p else with_fresh_pick segment flushes p
+    if nat_le (node_size handles run) o.base then pick_into_run segment flushes run.name p
+    else with_fresh_pick segment flushes p
 
 -- Picks the flushes of a tree if they reach the trigger and none of them is used.
 abbrev pub pick_flushes : LevelOptions → List Handle → Segment → LevelPicking → LevelPicking
 pick_flushes o handles s p =
     let flushes = names (flushes_of s.tree) in
-    if nat_le o.l0_trigger (length flushes) && not (list_any (names_contain p.used) flushes) then pick_flushes_into o handles s.prefix flushes (runs_of s.tree) p else p
+    if nat_le o.l0_trigger (length flushes) && not (list_any (names_contain p.used) flushes)
+    then pick_flushes_into o handles s.prefix flushes (runs_of s.tree) p
+    else p
 
 -- Picks a run into the next older one if the run is above its limit and neither of them is used.
 abbrev pub pick_pair : LevelOptions → List Handle → List ℕ → ℕ → Node → Node → LevelPicking → LevelPicking
 pick_pair o handles segment place run next p =
-    if nat_lt (limit o place) (node_size handles run) && not (names_contain p.used run.name || names_contain p.used next.name)
-    then with_level_pick (record { segment = segment; sources = run.name ∷ next.name ∷ []; destination = run_id next.name }) p
+    if nat_lt (limit o place) (node_size handles run)
+    && not (names_contain p.used run.name || names_contain p.used next.name)
+    then with_level_pick
+    (record { segment = segment; sources = run.name ∷ next.name ∷ []; destination = run_id next.name }) p
     else p
 
 -- Looks at each run of a tree except the oldest, from the newest on, and picks it if it is above its limit.
 abbrev pub pick_runs : LevelOptions → List Handle → List ℕ → ℕ → List Node → LevelPicking → LevelPicking
 pick_runs o handles segment place [] p = p
 pick_runs o handles segment place (run ∷ []) p = p
-pick_runs o handles segment place (run ∷ next ∷ runs) p = pick_runs o handles segment (place + 1) (next ∷ runs) (pick_pair o handles segment place run next p)
+pick_runs o handles segment place (run ∷ next ∷ runs) p =
+    pick_runs o handles segment (place + 1) (next ∷ runs) (pick_pair o handles segment place run next p)
 
 -- Looks at the trees in their order, and in each tree at the flushes first and then at the runs.
 abbrev pub pick_trees : LevelOptions → List Handle → Trees → LevelPicking → LevelPicking
 pick_trees o handles [] p = p
-pick_trees o handles (s ∷ trees) p = pick_trees o handles trees (pick_runs o handles s.prefix 0 (runs_of s.tree) (pick_flushes o handles s p))
+pick_trees o handles (s ∷ trees) p =
+    pick_trees o handles trees (pick_runs o handles s.prefix 0 (runs_of s.tree) (pick_flushes o handles s p))
 
 -- The picks that the scheduler makes on a view, at most as many as there are free places for jobs under
 -- way.
 unfoldable pub level_picks : LevelOptions → ℕ → View → List JobSpec
 level_picks o most view =
-    let begun : LevelPicking = record { used = flat_map (λ job. nodes_of job.spec) view.jobs; fresh = fresh_run_id view; picks = [] } in
+    let begun : LevelPicking =
+    record { used = flat_map (λ job. nodes_of job.spec) view.jobs; fresh = fresh_run_id view; picks = [] } in
     take (most - count_by is_under_way view.jobs) (pick_trees o view.handles view.manifest.trees begun).picks
 
 -- The level scheduler. It proposes its picks and accepts each job. It answers a request with
 -- `default_generate`.
 abbrev pub level_scheduler : LevelOptions → ℕ → Scheduler
-level_scheduler o most = record { propose = level_picks o most; validate = λ view spec. true; generate = default_generate }
+level_scheduler o most = record {
+  propose = level_picks o most;
+  validate = λ view spec. true;
+  generate = default_generate;
+}

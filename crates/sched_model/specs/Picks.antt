@@ -22,7 +22,8 @@ pub record Picking : Type 0 where
 abbrev pub flush_pick : TieredOptions → ℕ → Planned → Option JobSpec
 flush_pick o fresh t =
     let chosen = oldest o.most t.tree.flushes in
-    if nat_le o.least (length t.tree.flushes) && is_allowed o t.used (flush_names chosen) (total_size chosen) (Run fresh) t.tree.runs
+    if nat_le o.least (length t.tree.flushes)
+    && is_allowed o t.used (flush_names chosen) (total_size chosen) (Run fresh) t.tree.runs
     then Some (record { segment = t.tree.segment; sources = flush_names chosen; destination = Some fresh })
     else None
 
@@ -34,7 +35,11 @@ last_of (x ∷ y ∷ xs) = last_of (y ∷ xs)
 
 -- The spec that joins these runs of a segment into the last of them.
 abbrev pub into_last : List ℕ → List Sized → JobSpec
-into_last segment runs = record { segment = segment; sources = run_names runs; destination = last_of (map (λ run. run.id) runs) }
+into_last segment runs = record {
+  segment = segment;
+  sources = run_names runs;
+  destination = last_of (map (λ run. run.id) runs);
+}
 
 -- The pick of runs of a tree, if there is one.
 abbrev pub run_pick : TieredOptions → Planned → Option JobSpec

@@ -38,7 +38,8 @@ is_similar o (Some size) run = nat_le run.size (threshold o size)
 -- may be added. The test is given the series so far, the run, and the older runs.
 abbrev pub longest : (List Sized → Sized → List Sized → Bool) → List Sized → List Sized → List Sized
 longest may_add series [] = series
-longest may_add series (run ∷ older) = if may_add series run older then longest may_add (series ++ run ∷ []) older else series
+longest may_add series (run ∷ older) =
+    if may_add series run older then longest may_add (series ++ run ∷ []) older else series
 
 -- The longest series of similar sizes from the first of these runs on. Each run is similar to the least one
 -- before it.
@@ -49,12 +50,14 @@ similar_series o runs = longest (λ series run older. is_similar o (least_size s
 -- similar sizes that is long enough for a whole job. A run of this size would at once be taken again.
 abbrev pub is_taken_again : TieredOptions → ℕ → List Sized → Bool
 is_taken_again o size [] = false
-is_taken_again o size (next ∷ older) = is_similar o (Some size) next && nat_le o.most (length (similar_series o (next ∷ older)))
+is_taken_again o size (next ∷ older) =
+    is_similar o (Some size) next && nat_le o.most (length (similar_series o (next ∷ older)))
 
 -- True if these sources may be joined into the destination: none of these nodes is used, and the run that is
 -- made would not at once be taken again with the older runs.
 abbrev pub is_allowed : TieredOptions → List NodeName → List NodeName → ℕ → NodeName → List Sized → Bool
-is_allowed o used sources size destination older = is_apart (destination ∷ sources) used && not (is_taken_again o size older)
+is_allowed o used sources size destination older =
+    is_apart (destination ∷ sources) used && not (is_taken_again o size older)
 
 -- True if the run may be added to the series: it is similar to the least run so far, and the series up to it
 -- may be joined into it.

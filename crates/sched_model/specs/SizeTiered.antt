@@ -22,7 +22,9 @@ unplanned_tree jobs tree = record { tree = tree; used = nodes_used jobs tree.seg
 -- Inserts a tree in front of the first tree with at most as many flushes.
 abbrev pub put_by_flushes : Planned → List Planned → List Planned
 put_by_flushes t [] = t ∷ []
-put_by_flushes t (other ∷ others) = if nat_lt (length t.tree.flushes) (length other.tree.flushes) then other ∷ put_by_flushes t others else t ∷ other ∷ others
+put_by_flushes t (other ∷ others) =
+    if nat_lt (length t.tree.flushes) (length other.tree.flushes) then other ∷ put_by_flushes t others
+    else t ∷ other ∷ others
 
 -- The trees by falling number of flushes. Trees with one number keep their order.
 abbrev pub by_flushes : List Planned → List Planned
@@ -38,7 +40,8 @@ free_slots most jobs = most - count_by is_under_way jobs
 unfoldable pub tiered_proposals : TieredOptions → ℕ → View → List JobSpec
 tiered_proposals o most view =
     let slots = free_slots most view.jobs in
-    passes o slots slots (by_flushes (map (unplanned_tree view.jobs) (sized_trees view.handles view.manifest.trees))) (record { fresh = fresh_run_id view; picks = [] })
+    passes o slots slots (by_flushes (map (unplanned_tree view.jobs) (sized_trees view.handles view.manifest.trees)))
+    (record { fresh = fresh_run_id view; picks = [] })
 
 -- The lowest run among the sources, if a run is a source.
 abbrev pub lowest_run : List NodeName → Option ℕ
@@ -65,4 +68,8 @@ tiered_validate view spec =
 
 -- The size-tiered scheduler with these options.
 abbrev pub tiered_scheduler : TieredOptions → ℕ → Scheduler
-tiered_scheduler o most = record { propose = tiered_proposals o most; validate = tiered_validate; generate = default_generate }
+tiered_scheduler o most = record {
+  propose = tiered_proposals o most;
+  validate = tiered_validate;
+  generate = default_generate;
+}

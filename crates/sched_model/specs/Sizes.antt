@@ -51,10 +51,15 @@ sized_run (Run id, size) = Some (record { id = id; size = size })
 
 -- The flushes and the runs among these nodes.
 abbrev pub sized_tree : List ℕ → List (NodeName × ℕ) → SizedTree
-sized_tree segment nodes = record { segment = segment; flushes = filter_map sized_flush nodes; runs = filter_map sized_run nodes }
+sized_tree segment nodes = record {
+  segment = segment;
+  flushes = filter_map sized_flush nodes;
+  runs = filter_map sized_run nodes;
+}
 
 -- The trees with the sizes of their nodes. The handles of the trees' tables come first in the list, tree by
 -- tree.
 abbrev pub sized_trees : List Handle → Trees → List SizedTree
 sized_trees handles [] = []
-sized_trees handles (s ∷ trees) = sized_tree s.prefix (sized_nodes handles s.tree) ∷ sized_trees (drop (length (tree_tables s)) handles) trees
+sized_trees handles (s ∷ trees) =
+    sized_tree s.prefix (sized_nodes handles s.tree) ∷ sized_trees (drop (length (tree_tables s)) handles) trees

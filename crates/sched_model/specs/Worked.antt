@@ -77,7 +77,8 @@ four_flushes = (14, 16) ∷ (13, 16) ∷ (12, 16) ∷ (11, 16) ∷ []
 -- A view of these flushes.
 abbrev pub view_of_flushes : View
 view_of_flushes =
-    let segments : List Segment = small_segment [] ten_flushes [] ∷ small_segment (codes "user1:") four_flushes [] ∷ [] in
+    let segments : List Segment =
+    small_segment [] ten_flushes [] ∷ small_segment (codes "user1:") four_flushes [] ∷ [] in
     view_of segments (ten_flushes ++ four_flushes)
 
 -- The job of the eight oldest flushes of the root.
@@ -142,5 +143,6 @@ with_flushes runs =
 -- not held to a limit.
 pub record FlushesGoToLevels : Type 0 where
   pub newest : with_flushes ((0, 20) ∷ []) ≡ into [] (L0 12 ∷ L0 11 ∷ Run 0 ∷ []) 0 ∷ []
-  pub fresh : with_flushes ((1, 21) ∷ (0, 1000) ∷ []) ≡ into [] (L0 12 ∷ L0 11 ∷ []) 2 ∷ into [] (Run 1 ∷ Run 0 ∷ []) 0 ∷ []
+  pub fresh : with_flushes ((1, 21) ∷ (0, 1000) ∷ [])
+      ≡ into [] (L0 12 ∷ L0 11 ∷ []) 2 ∷ into [] (Run 1 ∷ Run 0 ∷ []) 0 ∷ []
   pub oldest : level_picks small_levels 4 (view_of_runs ((1, 20) ∷ (0, 1000) ∷ [])) ≡ []

@@ -21,7 +21,8 @@ SettleStep false inputs number old coordinator worker rounds answer new =
 -- line may run several courses, and each other line runs one. Nothing here says what a together line
 -- does, so no run has one.
 abbrev pub LineStep : Inputs → ℕ → State → Line → List ℕ → State → Type 0
-LineStep inputs number old (Settle coordinator worker rounds) answer new = SettleStep (are_live coordinator worker old) inputs number old coordinator worker rounds answer new
+LineStep inputs number old (Settle coordinator worker rounds) answer new =
+    SettleStep (are_live coordinator worker old) inputs number old coordinator worker rounds answer new
 LineStep inputs number old (Together workers turns) answer new = ⊥
 LineStep inputs number old line answer new = OneCourse inputs number old line answer new
 
@@ -29,13 +30,15 @@ LineStep inputs number old line answer new = OneCourse inputs number old line an
 -- first line.
 abbrev pub ScriptRun : Inputs → ℕ → State → List Line → List (List ℕ) → State → Type 0
 ScriptRun inputs number old [] [] new = new ≡ old
-ScriptRun inputs number old (line ∷ lines) (answer ∷ answers) new = (mid : State) × LineStep inputs number old line answer mid × ScriptRun inputs (number + 1) mid lines answers new
+ScriptRun inputs number old (line ∷ lines) (answer ∷ answers) new =
+    (mid : State) × LineStep inputs number old line answer mid × ScriptRun inputs (number + 1) mid lines answers new
 ScriptRun inputs number old [] (answer ∷ answers) new = ⊥
 ScriptRun inputs number old (line ∷ lines) [] new = ⊥
 
 -- The text is a script of the grammar. A fresh fleet that runs it gives one reply for each line,
 -- and ends with this store, which includes the store's history.
-pub record Follows (grammar : Grammar) (inputs : Inputs) (options : FleetOptions) (text : List ℕ) (store : Store) (written : List ℕ) : Type 0 where
+pub record Follows (grammar : Grammar) (inputs : Inputs) (options : FleetOptions) (text : List ℕ) (store : Store)
+    (written : List ℕ) : Type 0 where
   pub lines : List Line
   pub answers : List (List ℕ)
   pub last : State

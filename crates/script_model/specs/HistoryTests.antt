@@ -19,7 +19,9 @@ use Rattle.script_model.specs.TreeTests.{all_pairs}
 
 -- The spec of each job that an entry names. A job that none names has no sources.
 abbrev pub specs_in : List Entry → ℕ → JobSpec
-specs_in history id = spec_or (record { segment = []; sources = []; destination = None }) (find (λ p. id == p.0) (flat_map (λ entry. named_specs entry.event) history))
+specs_in history id =
+    spec_or (record { segment = []; sources = []; destination = None })
+    (find (λ p. id == p.0) (flat_map (λ entry. named_specs entry.event) history))
 
 -- ---- the replay
 
@@ -29,10 +31,13 @@ same_seq (Some a) (Some b) = a == b
 same_seq _ _ = false
 
 abbrev same_segment : Segment → Segment → Bool
-same_segment a b = bytes_eq a.prefix b.prefix && same_tree a b && same_seq a.last_seq b.last_seq && same_seq a.watermark b.watermark
+same_segment a b =
+    bytes_eq a.prefix b.prefix && same_tree a b && same_seq a.last_seq b.last_seq && same_seq a.watermark b.watermark
 
 abbrev same_job : Job → Job → Bool
-same_job a b = (a.id == b.id) && status_eq a.status b.status && (a.attempt == b.attempt) && ids_eq a.source_tables b.source_tables && pointwise ids_eq a.outputs b.outputs
+same_job a b =
+    (a.id == b.id) && status_eq a.status b.status && (a.attempt == b.attempt) && ids_eq a.source_tables b.source_tables
+    && pointwise ids_eq a.outputs b.outputs
 
 -- The versions, the epochs, the trees and the jobs are those that the history gives.
 abbrev pub is_replayed : Store → Bool
@@ -53,7 +58,8 @@ are_draws store =
     all_pairs (λ a b. nat_lt (number_of a) (number_of b)) (drawn_jobs store.history)
     && list_all (λ id. nat_le (number_of id) store.jobs_drawn) (drawn_jobs store.history)
     && all_pairs (λ a b. nat_lt (number_of a) (number_of b)) (drawn_tables store.history)
-    && list_all (λ id. nat_lt drawn_base (number_of id) && nat_le (number_of id) (drawn_base + store.tables_drawn)) (drawn_tables store.history)
+    && list_all (λ id. nat_lt drawn_base (number_of id) && nat_le (number_of id) (drawn_base + store.tables_drawn))
+    (drawn_tables store.history)
     && nat_le (store.jobs_drawn + store.tables_drawn) (length store.history)
 
 -- Each job that an entry mentions was drawn, each stored job was named, and the records keep one
@@ -69,12 +75,14 @@ abbrev pub are_attempts : Store → Bool
 are_attempts store =
     all_pairs (λ a b. not ((a.0 == b.0) && (a.1 == b.1))) (claimed_attempts store.history)
     && list_all (λ job. not (has_status Submitted job) || not (was_beaten store.history job.id)) (stored_jobs store)
-    && list_all (λ job. not (has_status Submitted job || has_status Scheduled job) || is_none job.lease) (stored_jobs store)
+    && list_all (λ job. not (has_status Submitted job || has_status Scheduled job) || is_none job.lease)
+    (stored_jobs store)
 
 -- ---- tables, joins and epochs
 
 abbrev is_flush : List Entry → Node → NodeName → Bool
-is_flush history node (L0 name) = was_flushed history name && ids_eq node.pieces (name ∷ []) && ids_eq node.flushes (name ∷ [])
+is_flush history node (L0 name) =
+    was_flushed history name && ids_eq node.pieces (name ∷ []) && ids_eq node.flushes (name ∷ [])
 is_flush history node (Run id) = list_all (was_flushed history) node.flushes
 
 abbrev is_passed : List Entry → List NodeName → Option ℕ → Bool
@@ -90,15 +98,19 @@ abbrev pub are_puts : Store → Bool
 are_puts store =
     all_pairs (λ a b. not (a == b)) (put_tables store.history)
     && list_all (is_among store.tables) (put_tables store.history)
-    && list_all (λ s. list_all (λ node. is_flush store.history node node.name) s.tree && is_passed store.history (names s.tree) s.watermark) store.manifest.trees
+    && list_all
+    (λ s. list_all (λ node. is_flush store.history node node.name) s.tree
+    && is_passed store.history (names s.tree) s.watermark) store.manifest.trees
     && all_pairs (λ a b. list_all (λ t. not (contains (tree_tables b) t)) (tree_tables a)) store.manifest.trees
     && all_pairs name_apart (stored_jobs store)
-    && list_all (λ job. not (is_active job) || list_all (contains (drawn_tables store.history)) (job_tables job)) (stored_jobs store)
+    && list_all (λ job. not (is_active job) || list_all (contains (drawn_tables store.history)) (job_tables job))
+    (stored_jobs store)
 
 -- A job whose join took effect is Compacted or finished. The epochs that were put rise up to the
 -- stored one.
 abbrev pub are_joins_and_epochs : Store → Bool
 are_joins_and_epochs store =
-    list_all (λ job. not (was_joined store.history job.id) || has_status Compacted job || is_finished job.status) (stored_jobs store)
+    list_all (λ job. not (was_joined store.history job.id) || has_status Compacted job || is_finished job.status)
+    (stored_jobs store)
     && list_all (λ epoch. nat_le epoch store.manifest.epoch) (put_epochs store.history)
     && all_pairs nat_lt (put_epochs store.history)

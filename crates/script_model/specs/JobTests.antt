@@ -31,7 +31,9 @@ same_content Tombstone Tombstone = true
 same_content _ _ = false
 
 abbrev same_row : Row → Row → Bool
-same_row a b = bytes_eq a.key b.key && same_content a.content b.content && (a.seq == b.seq) && same_stamp a.created b.created && same_stamp a.expires b.expires
+same_row a b =
+    bytes_eq a.key b.key && same_content a.content b.content && (a.seq == b.seq) && same_stamp a.created b.created
+    && same_stamp a.expires b.expires
 
 -- The first rows are a prefix of the second ones.
 abbrev pub begin_rows : List Row → List Row → Bool
@@ -55,7 +57,8 @@ same_flag false b = not b
 -- Settings are equal, but for the cut, which the history does not give.
 abbrev same_but_cut : Settings → Option Settings → Bool
 same_but_cut a None = false
-same_but_cut a (Some b) = (a.floor == b.floor) && int_le a.tick b.tick && int_le b.tick a.tick && same_flag a.last_run b.last_run
+same_but_cut a (Some b) =
+    (a.floor == b.floor) && int_le a.tick b.tick && int_le b.tick a.tick && same_flag a.last_run b.last_run
 
 abbrev are_ranges : List Range → Option (List Range) → Bool
 are_ranges ranges None = false
@@ -70,7 +73,8 @@ hold_apart a b = not (reserves_nodes a && reserves_nodes b) || is_apart (nodes_o
 abbrev destination_stands : Trees → Tree → List NodeName → Option ℕ → Bool
 destination_stands trees tree sources None = false
 destination_stands trees tree sources (Some id) =
-    is_lowest_or_above id (run_ids sources) (run_ids (names tree)) && (is_nonempty (run_ids sources) || not (list_any (λ run. run == id) (all_run_ids trees)))
+    is_lowest_or_above id (run_ids sources) (run_ids (names tree))
+    && (is_nonempty (run_ids sources) || not (list_any (λ run. run == id) (all_run_ids trees)))
 
 -- The job has sources, which are in its tree one after the other with the tables that they had, and the
 -- destination fits.
@@ -85,7 +89,9 @@ stands trees job =
 -- joined.
 abbrev pub opened_stands : Store → Job → Bool
 opened_stands store job =
-    not (has_status Scheduled job || has_status Running job || (has_status Compacted job && not (was_joined store.history job.id))) || stands store.manifest.trees job
+    not (has_status Scheduled job || has_status Running job
+    || (has_status Compacted job && not (was_joined store.history job.id)))
+    || stands store.manifest.trees job
 
 -- ---- settings, contexts and outputs
 
@@ -108,17 +114,21 @@ context_stands merge store specs job attempt sources context =
     same_but_cut context.settings (settings_of store.tables specs store.history job attempt)
     && are_ranges (map (λ range. range.0) context.ranges) (ranges_of store.history job attempt)
     && (context.has_cut || (context.settings.cut == context.settings.floor))
-    && list_all (λ range. begin_rows (noted_rows store.tables range.1) (range_rows merge store.tables context.settings sources range.0).rows) context.ranges
+    && list_all
+    (λ range. begin_rows (noted_rows store.tables range.1)
+    (range_rows merge store.tables context.settings sources range.0).rows) context.ranges
 
 abbrev context_fits : Operator → Store → (ℕ → JobSpec) → Job → Option Context → Bool
 context_fits merge store specs job None = true
 context_fits merge store specs job (Some context) =
-    context_stands merge store specs job.id job.attempt job.source_tables context && settings_fit store.manifest job.spec context.settings
+    context_stands merge store specs job.id job.attempt job.source_tables context
+    && settings_fit store.manifest job.spec context.settings
 
 -- A job has a context exactly if it waits or runs and was beaten, and the context fits.
 abbrev pub has_context : Operator → Store → (ℕ → JobSpec) → Job → Bool
 has_context merge store specs job =
-    same_flag (is_some job.context) ((has_status Scheduled job || has_status Running job) && was_beaten store.history job.id)
+    same_flag (is_some job.context)
+    ((has_status Scheduled job || has_status Running job) && was_beaten store.history job.id)
     && context_fits merge store specs job job.context
 
 abbrev makes_all : JobRows → List Row → Bool
@@ -135,12 +145,14 @@ outputs_fit_by merge store job (Some found) =
     nat_le settings.cut store.manifest.floor
     && (was_joined store.history job.id || settings_fit store.manifest job.spec settings)
     && (not (list_all (is_held store) job.source_tables)
-    || makes_all (job_rows merge settings (source_rows store.tables job.source_tables)) (noted_rows store.tables (concat job.outputs)))
+    || makes_all (job_rows merge settings (source_rows store.tables job.source_tables))
+    (noted_rows store.tables (concat job.outputs)))
 
 -- The outputs of a Compacted job hold all rows that the settings of its last claim make of its sources.
 abbrev pub outputs_fit : Operator → Store → (ℕ → JobSpec) → Job → Bool
 outputs_fit merge store specs job =
-    not (has_status Compacted job) || outputs_fit_by merge store job (settings_of store.tables specs store.history job.id job.attempt)
+    not (has_status Compacted job)
+    || outputs_fit_by merge store job (settings_of store.tables specs store.history job.id job.attempt)
 
 -- ---- workers
 
@@ -155,5 +167,7 @@ lives_if_stored (Some job) a = lives job a
 -- tables of its job.
 abbrev pub worker_fits : Operator → Store → (ℕ → JobSpec) → LiveWorker → Bool
 worker_fits merge store specs w =
-    list_all (λ a. context_stands merge store specs a.job a.number a.sources a.context && list_all (is_held store) (attempt_tables a) && same_flag a.context.has_cut (knows_cut w.release)) w.attempts
+    list_all
+    (λ a. context_stands merge store specs a.job a.number a.sources a.context
+    && list_all (is_held store) (attempt_tables a) && same_flag a.context.has_cut (knows_cut w.release)) w.attempts
     && list_all (λ a. lives_if_stored (job_with a.job (stored_jobs store)) a) (live_attempts (stored_jobs store) w)

@@ -21,7 +21,18 @@ use Rattle.script_model.specs.Sweeps.{sweep_line}
 -- moment or the fault that waits. Other lines change nothing here.
 abbrev pub prepared_state : Line → State → State
 prepared_state (Options timeout concurrent slots ranges table_size moves retention) s =
-    record s { options = record { timeout = timeout; concurrent = concurrent; slots = slots; ranges = ranges; table_size = table_size; moves = moves; retention = unwrap_or retention 0 } }
+    record s {
+      options =
+          record {
+            timeout = timeout;
+            concurrent = concurrent;
+            slots = slots;
+            ranges = ranges;
+            table_size = table_size;
+            moves = moves;
+            retention = unwrap_or retention 0;
+          };
+    }
 prepared_state (Clock moment) s = record s { moment = moment }
 prepared_state (SetFault k stands) s = record s { fault = Some (record { k = k; stands = stands }) }
 prepared_state _ s = s
@@ -33,12 +44,15 @@ attempt_numbered number attempts = find (λ a. number == number_of a.job) attemp
 
 -- The live worker of this number, with the attempt that it runs at the job of this number.
 abbrev pub job_at : State → (worker job : ℕ) → Option (LiveWorker × Attempt)
-job_at s worker job = if_some (worker_with worker s.parties) None (λ w. if_some (attempt_numbered job w.attempts) None (λ a. Some (w, a)))
+job_at s worker job =
+    if_some (worker_with worker s.parties) None (λ w. if_some (attempt_numbered job w.attempts) None (λ a. Some (w, a)))
 
 -- The live worker of this number, the attempt that it runs at the job of this number, and the
 -- attempt's range at this place, counted from 1.
 abbrev pub range_at : State → (worker job place : ℕ) → Option (LiveWorker × Attempt × (Range × List ℕ))
-range_at s worker job place = if_some (job_at s worker job) None (λ found. if_some (slice_get found.1.context.ranges (place - 1)) None (λ range. Some (found.0, found.1, range)))
+range_at s worker job place =
+    if_some (job_at s worker job) None
+    (λ found. if_some (slice_get found.1.context.ranges (place - 1)) None (λ range. Some (found.0, found.1, range)))
 
 -- The course of a line. The message is given if the operator refuses at a line that writes tables.
 -- A settle line has this course only if one of its parties is not live; otherwise it is a run of
@@ -54,15 +68,18 @@ course_of inputs (StopCoordinator n) refusal s = end_coordinator n s
 course_of inputs (StopWorker n) refusal s = stop_worker n s
 course_of inputs (FlushRows name segment floor tick rows) refusal s = flush_line name segment floor tick rows s
 course_of inputs (ReadKey segment key seq now) refusal s = read_line inputs segment key seq now s
-course_of inputs (SubmitJob segment destination sources) refusal s = submit_line (record { segment = segment; sources = sources; destination = Some destination }) s
-course_of inputs (SubmitDrain segment sources) refusal s = submit_line (record { segment = segment; sources = sources; destination = None }) s
+course_of inputs (SubmitJob segment destination sources) refusal s =
+    submit_line (record { segment = segment; sources = sources; destination = Some destination }) s
+course_of inputs (SubmitDrain segment sources) refusal s =
+    submit_line (record { segment = segment; sources = sources; destination = None }) s
 course_of inputs (SubmitFull segment) refusal s = full_line inputs segment s
 course_of inputs (Poll n) refusal s = poll_line inputs n s
 course_of inputs (CommitOnly n) refusal s = commit_line inputs n s
 course_of inputs (ClaimJobs n) refusal s = claim_line n s
 course_of inputs (Heartbeat n) refusal s = heartbeat_line n s
 course_of inputs (Output n job place rows) refusal s =
-    if_some (range_at s n job place) (no_such_party s) (λ found. output_line inputs s (output_asked s place rows refusal found))
+    if_some (range_at s n job place) (no_such_party s)
+    (λ found. output_line inputs s (output_asked s place rows refusal found))
 course_of inputs (FinishJob n job) refusal s =
     if_some (job_at s n job) (no_such_party s) (λ found. finish_line inputs s (finish_asked s refusal found))
 course_of inputs (SetFault k stands) refusal s = only_replies s ok

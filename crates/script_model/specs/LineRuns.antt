@@ -36,14 +36,19 @@ after_line s end run = (end.reply, record s { store = run.store; fault = run.fau
 
 -- The run of a line with this number, counted from 1: its reply, and the state after it.
 abbrev pub run_line : ℕ → State → LineCourse → List ℕ × State
-run_line number s c = let run = run_alone number c.party c.course s.fault s.store in after_line s (end_or_fault c.struck run.answer) run
+run_line number s c =
+    let run = run_alone number c.party c.course s.fault s.store in after_line s (end_or_fault c.struck run.answer) run
 
 -- ---- lines that call nothing
 
 -- A line that only replies. It calls nothing and leaves the parties as they are, so the party that
 -- it names does not matter.
 abbrev pub only_replies : State → List ℕ → LineCourse
-only_replies s answer = record { party = Writer; course = Ends (record { reply = answer; parties = s.parties }); struck = s.parties }
+only_replies s answer = record {
+  party = Writer;
+  course = Ends (record { reply = answer; parties = s.parties });
+  struck = s.parties;
+}
 
 -- The reply to a line whose party is not live, or whose worker does not run the job.
 abbrev pub no_such_party : State → LineCourse
@@ -86,11 +91,19 @@ step_parties reported refused _ = refused
 
 -- The end of a line whose step ends so: its reply, and the parties that are live.
 abbrev pub line_end : {A : Type 0} → (A → List ℕ) → (A → Parties) → Parties → StepEnd A → LineEnd
-line_end spell reported refused end = record { reply = step_reply spell end; parties = step_parties reported refused end }
+line_end spell reported refused end = record {
+  reply = step_reply spell end;
+  parties = step_parties reported refused end;
+}
 
 -- A line that does one step of its party and then makes these notes.
-abbrev pub noted_line : {A : Type 0} → Party → Course (StepEnd A) → (StepEnd A → List Event) → (StepEnd A → LineEnd) → Parties → LineCourse
-noted_line party step notes ends struck = record { party = party; course = then_course step (λ end. calls_each (notes end) (Ends (ends end))); struck = struck }
+abbrev pub noted_line : {A : Type 0} → Party → Course (StepEnd A) → (StepEnd A → List Event) → (StepEnd A → LineEnd)
+    → Parties → LineCourse
+noted_line party step notes ends struck = record {
+  party = party;
+  course = then_course step (λ end. calls_each (notes end) (Ends (ends end)));
+  struck = struck;
+}
 
 -- A line that does one step of its party and makes no notes.
 abbrev pub step_line : {A : Type 0} → Party → Course (StepEnd A) → (StepEnd A → LineEnd) → Parties → LineCourse

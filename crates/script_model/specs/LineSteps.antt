@@ -21,7 +21,8 @@ pub record Does (inputs : Inputs) (line : Line) (s : State) (course : LineCourse
 
 -- One course takes the old state to the new one and gives the reply. It is a course that the line
 -- may have. `number` is the line's number, from 1.
-pub record OneCourse (inputs : Inputs) (number : ℕ) (old : State) (line : Line) (answer : List ℕ) (new : State) : Type 0 where
+pub record OneCourse (inputs : Inputs) (number : ℕ) (old : State) (line : Line) (answer : List ℕ) (new : State)
+    : Type 0 where
   pub course : LineCourse
   pub does : Does inputs line (prepared_state line old) course
   pub ends : run_line number (prepared_state line old) course ≡ (answer, new)

@@ -32,8 +32,10 @@ passes inputs s =
     && reads_stand inputs.merge s.store
 
 -- Each line of the run leaves a state that passes the tests.
-abbrev pub PassesAlong : (inputs : Inputs) (number : ℕ) (old : State) (lines : List Line) (answers : List (List ℕ)) (new : State) → ScriptRun inputs number old lines answers new → Type 0
+abbrev pub PassesAlong : (inputs : Inputs) (number : ℕ) (old : State) (lines : List Line) (answers : List (List ℕ))
+    (new : State) → ScriptRun inputs number old lines answers new → Type 0
 PassesAlong inputs number old [] [] new run = ⊤
-PassesAlong inputs number old (line ∷ lines) (answer ∷ answers) new (mid, step, run) = IsTrue (passes inputs mid) × PassesAlong inputs (number + 1) mid lines answers new run
+PassesAlong inputs number old (line ∷ lines) (answer ∷ answers) new (mid, step, run) =
+    IsTrue (passes inputs mid) × PassesAlong inputs (number + 1) mid lines answers new run
 PassesAlong inputs number old [] (answer ∷ answers) new run = ⊤
 PassesAlong inputs number old (line ∷ lines) [] new run = ⊤

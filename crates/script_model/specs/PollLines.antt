@@ -24,7 +24,8 @@ poll_ask inputs s c commits_only = record {
 abbrev pub polls : Bool → (PollState → List ℕ) → Inputs → ℕ → State → LineCourse
 polls commits_only spell inputs n s = if_some (coordinator_with n s.parties) (no_such_party s) (λ c.
     let gone = without_coordinator n s.parties in
-    step_line (Coordinator n) (poll (poll_ask inputs s c commits_only)) (line_end spell (λ reached. s.parties) gone) gone)
+    step_line (Coordinator n) (poll (poll_ask inputs s c commits_only))
+    (line_end spell (λ reached. s.parties) gone) gone)
 
 -- The line of a whole poll.
 abbrev pub poll_line : Inputs → ℕ → State → LineCourse

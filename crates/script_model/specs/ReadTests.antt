@@ -23,13 +23,18 @@ moments_from manifest rows = manifest.tick ∷ filter (int_le manifest.tick) (fi
 
 -- A read of the key answers from the tables what it answers from the flushed rows.
 abbrev reads_alike : Operator → Store → Segment → List ℕ → ℕ → ℤ → Bool
-reads_alike merge store s key seq now = same_answer (read merge key seq now (flushed_rows store.tables s.tree key)) (read merge key seq now (stored_rows store.tables s.tree key))
+reads_alike merge store s key seq now =
+    same_answer (read merge key seq now (flushed_rows store.tables s.tree key))
+    (read merge key seq now (stored_rows store.tables s.tree key))
 
 -- So does each read of a flushed key, at each of these sequences and moments.
 abbrev segment_reads : Operator → Store → List Row → Segment → Bool
 segment_reads merge store rows s =
-    list_all (λ r. list_all (λ seq. list_all (reads_alike merge store s r.key seq) (moments_from store.manifest rows)) (seqs_from store.manifest rows)) rows
+    list_all
+    (λ r. list_all (λ seq. list_all (reads_alike merge store s r.key seq) (moments_from store.manifest rows))
+    (seqs_from store.manifest rows)) rows
 
 -- Each segment reads as it was flushed, from the horizon and the tick on.
 abbrev pub reads_stand : Operator → Store → Bool
-reads_stand merge store = list_all (λ s. segment_reads merge store (flat_map (flushed_node_rows store.tables) s.tree) s) store.manifest.trees
+reads_stand merge store =
+    list_all (λ s. segment_reads merge store (flat_map (flushed_node_rows store.tables) s.tree) s) store.manifest.trees

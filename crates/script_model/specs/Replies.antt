@@ -29,7 +29,9 @@ jobs_text jobs = numbers_text (map number_of jobs)
 -- The text of a table: the letter t and the number of its draw, or the letter l and the name of its
 -- flush.
 abbrev pub table_text : ℕ → List ℕ
-table_text table = if nat_le drawn_base (number_of table) then codes "t" ++ decimal (number_of table - drawn_base) else codes "l" ++ decimal table
+table_text table =
+    if nat_le drawn_base (number_of table) then codes "t" ++ decimal (number_of table - drawn_base)
+    else codes "l" ++ decimal table
 
 -- The text of tables: a list with commas.
 abbrev pub tables_text : List ℕ → List ℕ
@@ -73,8 +75,9 @@ not_retained horizon tick = reply (codes "notretained" ∷ decimal horizon ∷ s
 abbrev pub poll_reply : PollState → List ℕ
 poll_reply p = reply (codes "ok"
     ∷ codes "freed" ∷ jobs_text p.freed ∷ codes "done" ∷ jobs_text p.done ∷ codes "lost" ∷ rules_text p.lost
-    ∷ codes "added" ∷ jobs_text (map (λ a. a.0) p.added) ∷ codes "dropped" ∷ places_text p.dropped ∷ codes "open" ∷ jobs_text p.opened
-    ∷ codes "moved" ∷ jobs_text p.moved ∷ codes "drained" ∷ jobs_text p.drained ∷ codes "bad" ∷ rules_text p.refused ∷ [])
+    ∷ codes "added" ∷ jobs_text (map (λ a. a.0) p.added) ∷ codes "dropped" ∷ places_text p.dropped
+    ∷ codes "open" ∷ jobs_text p.opened ∷ codes "moved" ∷ jobs_text p.moved
+    ∷ codes "drained" ∷ jobs_text p.drained ∷ codes "bad" ∷ rules_text p.refused ∷ [])
 
 -- The reply to a poll that only commits: the jobs that it committed, and those that failed with
 -- their rules.
@@ -99,7 +102,10 @@ semicolon = 59
 
 -- The reply to a claim: the attempts that it began, and the jobs that it stopped.
 abbrev pub claim_reply : List Attempt → List ℕ → List ℕ
-claim_reply claimed stopped = reply (codes "ok" ∷ codes "claimed" ∷ list_text semicolon (map attempt_text claimed) ∷ codes "stopped" ∷ jobs_text stopped ∷ [])
+claim_reply claimed stopped =
+    reply
+    (codes "ok" ∷ codes "claimed" ∷ list_text semicolon (map attempt_text claimed) ∷ codes "stopped" ∷ jobs_text stopped
+    ∷ [])
 
 -- The reply to a heartbeat: the jobs that the worker owns, and the jobs that it no longer owns.
 abbrev pub beat_reply : List ℕ → List ℕ → List ℕ
@@ -113,12 +119,14 @@ output_reply (Some table) = reply (codes "ok" ∷ table_text table.0 ∷ decimal
 -- The reply to a together line after which no stored job is active: how many jobs were claimed, and how
 -- many finished jobs were committed, in this line.
 abbrev pub idle_reply : (claims commits : ℕ) → List ℕ
-idle_reply claims commits = reply (codes "ok" ∷ codes "idle" ∷ codes "claims" ∷ decimal claims ∷ codes "commits" ∷ decimal commits ∷ [])
+idle_reply claims commits =
+    reply (codes "ok" ∷ codes "idle" ∷ codes "claims" ∷ decimal claims ∷ codes "commits" ∷ decimal commits ∷ [])
 
 -- The reply to a together line after which a stored job is active, so its live parties took all their
 -- turns. The numbers are those of `idle_reply`.
 abbrev pub turns_reply : (claims commits : ℕ) → List ℕ
-turns_reply claims commits = reply (codes "ok" ∷ codes "turns" ∷ codes "claims" ∷ decimal claims ∷ codes "commits" ∷ decimal commits ∷ [])
+turns_reply claims commits =
+    reply (codes "ok" ∷ codes "turns" ∷ codes "claims" ∷ decimal claims ∷ codes "commits" ∷ decimal commits ∷ [])
 
 -- The text of a segment: its prefix and the nodes of its tree.
 abbrev pub segment_text : Segment → List ℕ
@@ -152,12 +160,17 @@ cut_text false cut = codes "-"
 abbrev pub context_text : Option Context → List ℕ
 context_text None = codes "-"
 context_text (Some c) =
-    join_with_byte 47 (decimal c.settings.floor ∷ signed_decimal c.settings.tick ∷ flag_text c.settings.last_run ∷ cut_text c.has_cut c.settings.cut ∷ ranges_text (tables_by_range c) ∷ [])
+    join_with_byte 47
+    (decimal c.settings.floor ∷ signed_decimal c.settings.tick ∷ flag_text c.settings.last_run
+    ∷ cut_text c.has_cut c.settings.cut ∷ ranges_text (tables_by_range c) ∷ [])
 
 -- The text of a job: its number, status, attempt, worker and context, with a colon between each
 -- two.
 abbrev pub job_text : Job → List ℕ
-job_text job = join_with_byte 58 (decimal (number_of job.id) ∷ status_text job.status ∷ decimal job.attempt ∷ worker_text job.lease ∷ context_text job.context ∷ [])
+job_text job =
+    join_with_byte 58
+    (decimal (number_of job.id) ∷ status_text job.status ∷ decimal job.attempt ∷ worker_text job.lease
+    ∷ context_text job.context ∷ [])
 
 -- The reply that shows the jobs: a list with semicolons.
 abbrev pub jobs_reply : Jobs → List ℕ

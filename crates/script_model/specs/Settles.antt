@@ -20,7 +20,8 @@ is_ok answer = starts_with nat_eq answer (codes "ok")
 
 -- The coordinator and the worker of these numbers are both live.
 abbrev pub are_live : ℕ → ℕ → State → Bool
-are_live coordinator worker s = is_some (coordinator_with coordinator s.parties) && is_some (worker_with worker s.parties)
+are_live coordinator worker s =
+    is_some (coordinator_with coordinator s.parties) && is_some (worker_with worker s.parties)
 
 -- Some stored job is active.
 abbrev pub has_active : State → Bool

@@ -25,13 +25,19 @@ start_notes n _ = []
 abbrev pub start_coordinator : ℕ → State → LineCourse
 start_coordinator n s =
     let others = without_coordinator n s.parties in
-    noted_line (Coordinator n) (calls_each (killed_first (is_some (coordinator_with n s.parties)) (Coordinator n)) start) (start_notes n)
-    (line_end (λ epoch. reply (codes "ok" ∷ codes "epoch" ∷ decimal epoch ∷ [])) (λ epoch. with_coordinator (record { number = n; epoch = epoch }) s.parties) others)
+    noted_line (Coordinator n)
+    (calls_each (killed_first (is_some (coordinator_with n s.parties)) (Coordinator n)) start) (start_notes n)
+    (line_end (λ epoch. reply (codes "ok" ∷ codes "epoch" ∷ decimal epoch ∷ []))
+    (λ epoch. with_coordinator (record { number = n; epoch = epoch }) s.parties) others)
     others
 
 -- A line that makes these notes, replies ok, and leaves these parties live.
 abbrev pub only_notes : Party → List Event → State → Parties → LineCourse
-only_notes party notes s parties = record { party = party; course = calls_each notes (Ends (record { reply = ok; parties = parties })); struck = s.parties }
+only_notes party notes s parties = record {
+  party = party;
+  course = calls_each notes (Ends (record { reply = ok; parties = parties }));
+  struck = s.parties;
+}
 
 -- The release of a worker that a line starts: the first for 1, and the second for another number or
 -- none.
@@ -47,8 +53,12 @@ start_worker n release s =
 
 -- The line that kills or stops a coordinator. The stored objects stay as they are.
 abbrev pub end_coordinator : ℕ → State → LineCourse
-end_coordinator n s = if_some (coordinator_with n s.parties) (no_such_party s) (λ c. only_notes (Coordinator n) (Kill (Coordinator n) ∷ []) s (without_coordinator n s.parties))
+end_coordinator n s =
+    if_some (coordinator_with n s.parties) (no_such_party s)
+    (λ c. only_notes (Coordinator n) (Kill (Coordinator n) ∷ []) s (without_coordinator n s.parties))
 
 -- The line that kills a worker. The stored objects stay as they are.
 abbrev pub kill_worker : ℕ → State → LineCourse
-kill_worker n s = if_some (worker_with n s.parties) (no_such_party s) (λ w. only_notes (Worker n) (Kill (Worker n) ∷ []) s (without_worker n s.parties))
+kill_worker n s =
+    if_some (worker_with n s.parties) (no_such_party s)
+    (λ w. only_notes (Worker n) (Kill (Worker n) ∷ []) s (without_worker n s.parties))

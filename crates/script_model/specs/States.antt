@@ -32,4 +32,10 @@ pub record State : Type 0 where
 
 -- The state of a fresh fleet: the moment is 0, the store is fresh, and no party is live.
 abbrev pub fresh_state : FleetOptions → State
-fresh_state options = record { options = options; moment = 0; store = fresh_store; parties = record { coordinators = []; workers = [] }; fault = None }
+fresh_state options = record {
+  options = options;
+  moment = 0;
+  store = fresh_store;
+  parties = record { coordinators = []; workers = [] };
+  fault = None;
+}

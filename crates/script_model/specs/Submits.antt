@@ -13,7 +13,9 @@ use Rattle.script_model.specs.States.{Inputs, State}
 -- A line that does a step of a submitter. Its reply lists the submitted jobs after `word`. No party
 -- changes.
 abbrev pub submits : State → List ℕ → Course (StepEnd (List ℕ)) → LineCourse
-submits s word step = step_line Submitter step (line_end (λ jobs. reply (codes "ok" ∷ word ∷ jobs_text jobs ∷ [])) (λ jobs. s.parties) s.parties) s.parties
+submits s word step =
+    step_line Submitter step
+    (line_end (λ jobs. reply (codes "ok" ∷ word ∷ jobs_text jobs ∷ [])) (λ jobs. s.parties) s.parties) s.parties
 
 -- The line that submits one job.
 abbrev pub submit_line : JobSpec → State → LineCourse

@@ -27,7 +27,9 @@ is_before (Run a) (Run b) = nat_lt b a
 -- Every row of the newer node and its flushes has a greater sequence than every row of the older node
 -- and its flushes.
 abbrev pub is_newer : Tables → Node → Node → Bool
-is_newer tables newer older = list_all (λ r. list_all (λ q. nat_lt q.seq r.seq) (node_and_flushed_rows tables older)) (node_and_flushed_rows tables newer)
+is_newer tables newer older =
+    list_all (λ r. list_all (λ q. nat_lt q.seq r.seq) (node_and_flushed_rows tables older))
+    (node_and_flushed_rows tables newer)
 
 -- There is a last sequence, and the given sequence is at most the last one.
 abbrev pub is_at_most : Option ℕ → ℕ → Bool
@@ -64,11 +66,17 @@ are_trees store =
 
 -- Each table has rows, in strict order, and an id of its own.
 abbrev pub are_tables : Tables → Bool
-are_tables tables = list_all (λ t. is_nonempty t.1 && are_ordered t.1) tables && all_pairs (λ a b. not (a.0 == b.0)) tables
+are_tables tables =
+    list_all (λ t. is_nonempty t.1 && are_ordered t.1) tables && all_pairs (λ a b. not (a.0 == b.0)) tables
 
 -- The tables that trees and active jobs name are held. The flushes that went into nodes and the source
 -- tables of active jobs were put.
 abbrev pub are_named_held : Store → Bool
 are_named_held store =
-    list_all (λ s. list_all (λ node. list_all (is_held store) node.pieces && list_all (is_among store.tables) node.flushes) s.tree) store.manifest.trees
-    && list_all (λ job. not (is_active job) || (list_all (is_held store) (job_tables job) && list_all (is_among store.tables) job.source_tables)) (stored_jobs store)
+    list_all
+    (λ s. list_all (λ node. list_all (is_held store) node.pieces && list_all (is_among store.tables) node.flushes)
+    s.tree) store.manifest.trees
+    && list_all
+    (λ job. not (is_active job)
+    || (list_all (is_held store) (job_tables job) && list_all (is_among store.tables) job.source_tables))
+    (stored_jobs store)

@@ -31,7 +31,10 @@ content_text Tombstone = codes "-"
 -- The spelling of a row: key, kind, content, sequence, time of creation and expiry, with a colon
 -- between each two.
 abbrev pub row_text : Row → List ℕ
-row_text r = join_with_byte 58 (bytes_text r.key ∷ kind_text r.content ∷ content_text r.content ∷ decimal r.seq ∷ stamp_text r.created ∷ stamp_text r.expires ∷ [])
+row_text r =
+    join_with_byte 58
+    (bytes_text r.key ∷ kind_text r.content ∷ content_text r.content ∷ decimal r.seq ∷ stamp_text r.created
+    ∷ stamp_text r.expires ∷ [])
 
 -- The spelling of a list: its words with the separator between each two, or a dash if the list is
 -- empty.

@@ -20,7 +20,12 @@ at_worker n s act = if_some (worker_with n s.parties) (no_such_party s) act
 
 -- The options of a worker, as the fleet's options set them.
 abbrev pub worker_options : FleetOptions → WorkerOptions
-worker_options o = record { slots = o.slots; most_ranges = o.ranges; table_size = o.table_size; retention = o.retention }
+worker_options o = record {
+  slots = o.slots;
+  most_ranges = o.ranges;
+  table_size = o.table_size;
+  retention = o.retention;
+}
 
 -- The live parties after the worker's attempts were replaced by these.
 abbrev pub running : LiveWorker → State → List Attempt → Parties
@@ -29,22 +34,31 @@ running w s attempts = with_worker (record w { attempts = attempts }) s.parties
 -- A line that does one step of a worker. After a report the worker runs the attempts that the step
 -- reports. After a refusal it runs the attempts of `refused`. If a fault strikes a call, the worker
 -- is no longer live.
-abbrev pub worker_line : {A : Type 0} → LiveWorker → State → Course (StepEnd A) → (A → List ℕ) → (A → List Attempt) → List Attempt → LineCourse
-worker_line w s step spell reported refused = step_line (Worker w.number) step (line_end spell (λ report. running w s (reported report)) (running w s refused)) (without_worker w.number s.parties)
+abbrev pub worker_line : {A : Type 0} → LiveWorker → State → Course (StepEnd A) → (A → List ℕ) → (A → List Attempt)
+    → List Attempt → LineCourse
+worker_line w s step spell reported refused =
+    step_line (Worker w.number) step (line_end spell (λ report. running w s (reported report)) (running w s refused))
+    (without_worker w.number s.parties)
 
 -- The worker claims jobs.
 abbrev pub claim_line : ℕ → State → LineCourse
-claim_line n s = at_worker n s (λ w. worker_line w s (claim (worker_options s.options) s.moment w) (λ r. claim_reply r.begun r.stopped) (λ r. r.attempts) w.attempts)
+claim_line n s =
+    at_worker n s
+    (λ w. worker_line w s (claim (worker_options s.options) s.moment w) (λ r. claim_reply r.begun r.stopped)
+    (λ r. r.attempts) w.attempts)
 
 -- The worker sends a heartbeat.
 abbrev pub heartbeat_line : ℕ → State → LineCourse
-heartbeat_line n s = at_worker n s (λ w. worker_line w s (heartbeat s.moment w) (λ r. beat_reply r.beat r.not_owner) (λ r. r.attempts) w.attempts)
+heartbeat_line n s =
+    at_worker n s
+    (λ w. worker_line w s (heartbeat s.moment w) (λ r. beat_reply r.beat r.not_owner) (λ r. r.attempts) w.attempts)
 
 -- The worker gives its live attempts back and stops. It is no longer live afterwards.
 abbrev pub stop_worker : ℕ → State → LineCourse
 stop_worker n s = at_worker n s (λ w.
     let others = without_worker n s.parties in
-    noted_line (Worker n) (release_all w) (λ end. Kill (Worker n) ∷ []) (line_end (λ jobs. reply (codes "ok" ∷ codes "released" ∷ jobs_text jobs ∷ [])) (λ jobs. others) others) others)
+    noted_line (Worker n) (release_all w) (λ end. Kill (Worker n) ∷ [])
+    (line_end (λ jobs. reply (codes "ok" ∷ codes "released" ∷ jobs_text jobs ∷ [])) (λ jobs. others) others) others)
 
 -- The worker's attempts without those at the job of this attempt.
 abbrev pub without_attempt : LiveWorker → Attempt → List Attempt

@@ -37,4 +37,5 @@ pub record MayReply (inputs : Inputs) (conversation : Conversation) : Type 0 whe
 -- its lines, and no others.
 pub record MustReply (inputs : Inputs) (conversation : Conversation) : Type 0 where
   pub may : MayReply inputs conversation
-  pub only : (answers : List (List ℕ)) (end : State) → ScriptRun inputs 1 (fresh_state default_options) may.lines answers end → answers ≡ replies conversation
+  pub only : (answers : List (List ℕ)) (end : State)
+      → ScriptRun inputs 1 (fresh_state default_options) may.lines answers end → answers ≡ replies conversation

@@ -15,7 +15,11 @@ holds_first_flush view = names_contain (names (tree_at [] view.manifest.trees)) 
 
 -- The job that compacts the eight oldest flushes of the root into run 0.
 abbrev pub root_pick : JobSpec
-root_pick = record { segment = []; sources = L0 8 ∷ L0 7 ∷ L0 6 ∷ L0 5 ∷ L0 4 ∷ L0 3 ∷ L0 2 ∷ L0 1 ∷ []; destination = Some 0 }
+root_pick = record {
+  segment = [];
+  sources = L0 8 ∷ L0 7 ∷ L0 6 ∷ L0 5 ∷ L0 4 ∷ L0 3 ∷ L0 2 ∷ L0 1 ∷ [];
+  destination = Some 0;
+}
 
 -- The job that compacts all four flushes of a segment into run 1.
 abbrev pub segment_pick : JobSpec
@@ -27,7 +31,10 @@ two_picks view = if holds_first_flush view then root_pick ∷ segment_pick ∷ [
 
 -- Inputs whose scheduler proposes both jobs and accepts every job.
 abbrev pub with_two_picks : Inputs
-with_two_picks = record { merge = append; scheduler = record { propose = two_picks; validate = λ view spec. true; generate = default_generate } }
+with_two_picks = record {
+  merge = append;
+  scheduler = record { propose = two_picks; validate = λ view spec. true; generate = default_generate };
+}
 
 -- The job that compacts flush 1 of the root into run 0.
 abbrev pub first_pick : JobSpec
@@ -39,7 +46,15 @@ one_pick_twice view = if holds_first_flush view then first_pick ∷ first_pick �
 
 -- Inputs whose scheduler proposes one job twice and declines every request with "no".
 abbrev pub with_one_proposed_twice : Inputs
-with_one_proposed_twice = record { merge = append; scheduler = record { propose = one_pick_twice; validate = λ view spec. true; generate = λ view request. Declined (codes "no") } }
+with_one_proposed_twice = record {
+  merge = append;
+  scheduler =
+      record {
+        propose = one_pick_twice;
+        validate = λ view spec. true;
+        generate = λ view request. Declined (codes "no");
+      };
+}
 
 -- Inputs of a levelled scheduler: it compacts two flushes, and the newest run may have 20 bytes and
 -- each older one twice as many.

@@ -15,7 +15,8 @@ use Rattle.step_model.specs.Keeps.{Keeps}
 -- holds, whether a fault strikes the call or not.
 abbrev pub CallKeepsIf : Operator → Exchange → (Party → World → Type 0) → Type 0
 CallKeepsIf merge x Fits = (line : ℕ) (party : Party) (strike : Strike) (world : World)
-    → Keeps merge world → Fits party world → MayStrike x world strike → Keeps merge (after_call line party x strike world)
+    → Keeps merge world → Fits party world → MayStrike x world strike
+    → Keeps merge (after_call line party x strike world)
 
 -- A call that is lawful where it comes keeps the invariant and the facts.
 abbrev pub CallKeeps : Operator → Exchange → Type 0
@@ -38,11 +39,19 @@ pub record DrawsKeep (merge : Operator) : Type 0 where
 -- Puts that a fault strikes and that are lost keep the invariant, and so do puts of the manifest and
 -- of the records that are refused because another version is stored.
 pub record VainPutsKeep (merge : Operator) : Type 0 where
-  pub lost : (x : Exchange) (line : ℕ) (party : Party) (world : World) → Keeps merge world → Lawful merge party world x → MayStrike x world (Some false) → Keeps merge (after_call line party x (Some false) world)
-  pub refused : (line : ℕ) (party : Party) (strike : Strike) (world : World) (version : ℕ) (change : ManifestChange) (value : Manifest) → Keeps merge world
-      → (version ≡ world.store.manifest.version → ⊥) → Keeps merge (after_call line party (PutsManifest version change value) strike world)
-  pub records_refused : (line : ℕ) (party : Party) (strike : Strike) (world : World) (version : ℕ) (change : RecordChange) (epoch : ℕ) (jobs : Jobs) → Keeps merge world
-      → Lawful merge party world (PutsRecords version change epoch jobs) → (version ≡ records_version world.store.records → ⊥) → Keeps merge (after_call line party (PutsRecords version change epoch jobs) strike world)
+  pub lost : (x : Exchange) (line : ℕ) (party : Party) (world : World) → Keeps merge world → Lawful merge party world x
+      → MayStrike x world (Some false) → Keeps merge (after_call line party x (Some false) world)
+  pub refused : (line : ℕ) (party : Party) (strike : Strike) (world : World) (version : ℕ) (change : ManifestChange)
+      (value : Manifest)
+      → Keeps merge world
+      → (version ≡ world.store.manifest.version → ⊥)
+      → Keeps merge (after_call line party (PutsManifest version change value) strike world)
+  pub records_refused : (line : ℕ) (party : Party) (strike : Strike) (world : World) (version : ℕ)
+      (change : RecordChange) (epoch : ℕ) (jobs : Jobs)
+      → Keeps merge world
+      → Lawful merge party world (PutsRecords version change epoch jobs)
+      → (version ≡ records_version world.store.records → ⊥)
+      → Keeps merge (after_call line party (PutsRecords version change epoch jobs) strike world)
 
 -- ---- tables
 
@@ -59,7 +68,8 @@ ManifestPutKeeps merge change = (version : ℕ) (value : Manifest) → CallKeeps
 
 -- A put of the records with this change keeps the invariant.
 abbrev pub RecordsPutKeeps : Operator → RecordChange → Type 0
-RecordsPutKeeps merge change = (version epoch : ℕ) (jobs : Jobs) → CallKeeps merge (PutsRecords version change epoch jobs)
+RecordsPutKeeps merge change = (version epoch : ℕ) (jobs : Jobs)
+    → CallKeeps merge (PutsRecords version change epoch jobs)
 
 -- Puts of epochs keep the invariant, in the manifest and in the records.
 pub record EpochsKeep (merge : Operator) : Type 0 where
@@ -68,13 +78,15 @@ pub record EpochsKeep (merge : Operator) : Type 0 where
 
 -- Flushes keep the invariant.
 abbrev pub FlushesKeep : Operator → Type 0
-FlushesKeep merge = (name : ℕ) (segment : List ℕ) (floor : ℕ) (tick : ℤ) → ManifestPutKeeps merge (Flush name segment floor tick)
+FlushesKeep merge = (name : ℕ) (segment : List ℕ) (floor : ℕ) (tick : ℤ)
+    → ManifestPutKeeps merge (Flush name segment floor tick)
 
 -- A worker's puts of the records keep the invariant.
 pub record WorkerPutsKeep (merge : Operator) : Type 0 where
   pub claims : (worker : ℕ) (attempts : List (ℕ × ℕ)) → RecordsPutKeeps merge (Claim worker attempts)
   pub beats : (worker : ℕ) (attempts : List (ℕ × ℕ)) → RecordsPutKeeps merge (Beat worker attempts)
-  pub finishes : (worker job attempt : ℕ) (outputs : List (List ℕ)) → RecordsPutKeeps merge (Finish worker job attempt outputs)
+  pub finishes : (worker job attempt : ℕ) (outputs : List (List ℕ))
+      → RecordsPutKeeps merge (Finish worker job attempt outputs)
   pub releases : (worker : ℕ) (attempts : List (ℕ × ℕ)) → RecordsPutKeeps merge (Release worker attempts)
 
 -- Submissions and polls keep the invariant in the records.

@@ -18,6 +18,7 @@ pub record TableStays (id : ℕ) (old new : Store) : Type 0 where
 pub record CallsLeadLater : Type 0 where
   pub itself : (store : Store) → IsLater store store
   pub on : (first second third : Store) → IsLater first second → IsLater second third → IsLater first third
-  pub call : (line : ℕ) (party : Party) (x : Exchange) (strike : Strike) (store : Store) → IsLater store (store_after_call line party x strike store)
+  pub call : (line : ℕ) (party : Party) (x : Exchange) (strike : Strike) (store : Store)
+      → IsLater store (store_after_call line party x strike store)
   pub rivals : (who : Caller) (old new : World) → Rivals who old new → IsLater old.store new.store
   pub tables : (id : ℕ) (old new : Store) → IsLater old new → IsTrue (is_among old.tables id) → TableStays id old new

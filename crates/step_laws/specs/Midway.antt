@@ -58,7 +58,11 @@ spec_of id = if id == 1 then spec prefix 1 0 else spec [] 2 1
 
 -- The context that worker 1 published for job 1.
 abbrev pub context : Context
-context = record { settings = record { floor = 4; tick = pos 0; last_run = true; cut = 4 }; has_cut = true; ranges = (all_keys, published_table ∷ []) ∷ [] }
+context = record {
+  settings = record { floor = 4; tick = pos 0; last_run = true; cut = 4 };
+  has_cut = true;
+  ranges = (all_keys, published_table ∷ []) ∷ [];
+}
 
 -- The record of job 1, which runs at its second attempt.
 abbrev pub running : Job
@@ -125,7 +129,15 @@ joined_root = record {
 
 -- A manifest of the coordinator's epoch, without tracked flushes.
 abbrev pub manifest : (version : ℕ) → Trees → (floor horizon : ℕ) → Manifest
-manifest version trees floor horizon = record { version = version; epoch = 1; trees = trees; floor = floor; tick = pos 0; tracker = []; horizon = horizon }
+manifest version trees floor horizon = record {
+  version = version;
+  epoch = 1;
+  trees = trees;
+  floor = floor;
+  tick = pos 0;
+  tracker = [];
+  horizon = horizon;
+}
 
 -- The manifest that is stored now.
 abbrev pub joined_manifest : Manifest
@@ -154,7 +166,13 @@ entry line party event answer = record { line = line; party = party; event = eve
 
 -- The change of a poll that frees, completes and opens these jobs.
 abbrev pub poll : (freed completed scheduled : List ℕ) → PollChange
-poll freed completed scheduled = record { freed = freed; completed = completed; failed = []; added = []; scheduled = scheduled }
+poll freed completed scheduled = record {
+  freed = freed;
+  completed = completed;
+  failed = [];
+  added = [];
+  scheduled = scheduled;
+}
 
 -- The history up to the beat of worker 1.
 abbrev pub first_entries : List Entry

@@ -26,7 +26,13 @@ one_job status held attempt noted = record running { status = status; lease = he
 
 -- Job 2 from its opening to its finish, with this status, lease and attempt.
 abbrev pub two : Status → Option Lease → ℕ → Job
-two status held attempt = record compacted_job { status = status; lease = held; attempt = attempt; outputs = []; kept_cut = None }
+two status held attempt = record compacted_job {
+  status = status;
+  lease = held;
+  attempt = attempt;
+  outputs = [];
+  kept_cut = None;
+}
 
 -- The jobs after each change.
 abbrev pub submitted_jobs : Jobs
@@ -118,7 +124,12 @@ last_calls =
     ∷ call 14 Writer (table_put 3)
     ∷ call 14 Writer (PutsManifest 4 (Flush 3 [] 5 (pos 0)) (manifest 4 (twice_flushed_root ∷ side ∷ []) 5 0))
     ∷ call 15 (Coordinator 1) (PutsManifest 5 (Commit (Join 2 ∷ [])) (manifest 5 (joined_root ∷ side ∷ []) 5 4))
-    ∷ record { line = 15; party = Coordinator 1; exchange = PutsRecords 9 (Polled (poll [] (2 ∷ []) [])) 1 completed_jobs; strike = Some false }
+    ∷ record {
+      line = 15;
+      party = Coordinator 1;
+      exchange = PutsRecords 9 (Polled (poll [] (2 ∷ []) [])) 1 completed_jobs;
+      strike = Some false;
+    }
     ∷ []
 
 -- All calls, in their order.

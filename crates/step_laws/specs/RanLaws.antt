@@ -25,8 +25,10 @@ IsAloneEnd LacksMemory new left alone = ⊤
 pub record RanLaws (A : Type 0) : Type 0 where
   pub are_runs : (who : Caller) (course : Course A) (old new : World) (waits left : Option Fault) (end : End A)
       → Ran who course old new waits left end → Runs who course old new end
-  pub alone : (who : Caller) (course : Course A) (old new : World) (waits left : Option Fault) (end : End A) → who.alone ≡ true
-      → Ran who course old new waits left end → IsAloneEnd end new left (run_alone who.line who.party course waits old.store)
+  pub alone : (who : Caller) (course : Course A) (old new : World) (waits left : Option Fault) (end : End A)
+      → who.alone ≡ true
+      → Ran who course old new waits left end
+      → IsAloneEnd end new left (run_alone who.line who.party course waits old.store)
 
 -- So it is with each kind of step.
 pub record StepsRan : Type 0 where

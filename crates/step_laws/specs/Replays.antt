@@ -9,5 +9,7 @@ use Rattle.step_model.specs.Faithful.{Faithful}
 
 -- Two faithful choices of specs give the same objects after each part of the history.
 abbrev pub FaithfulAlike : Type 0
-FaithfulAlike = (world : World) (one other : ℕ → JobSpec) → Faithful world one → Faithful world other → (front back : List Entry) → front ++ back ≡ world.store.history
-    → replayed_objects world.store.tables one front (plain_objects fresh_store) ≡ replayed_objects world.store.tables other front (plain_objects fresh_store)
+FaithfulAlike = (world : World) (one other : ℕ → JobSpec) → Faithful world one → Faithful world other
+    → (front back : List Entry) → front ++ back ≡ world.store.history
+    → replayed_objects world.store.tables one front (plain_objects fresh_store)
+    ≡ replayed_objects world.store.tables other front (plain_objects fresh_store)

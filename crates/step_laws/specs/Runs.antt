@@ -21,7 +21,8 @@ CallsKeep merge = (x : Exchange) → CallKeeps merge x
 
 -- A run of a lawful course keeps the invariant, however it ends.
 abbrev pub RunKeeps : {A : Type 0} → Caller → Course A → Type 0
-RunKeeps {A} who course = (old new : World) (end : End A) → Keeps who.merge old → IsLawfulCourse who old course → Runs who course old new end → Keeps who.merge new
+RunKeeps {A} who course = (old new : World) (end : End A) → Keeps who.merge old → IsLawfulCourse who old course
+    → Runs who course old new end → Keeps who.merge new
 
 -- The runs of all lawful courses with such an answer keep the invariant, if every lawful call does.
 abbrev pub CoursesKeep : Type 0 → Type 0
@@ -30,7 +31,8 @@ CoursesKeep A = (who : Caller) (course : Course A) → CallsKeep who.merge → R
 -- If every lawful call keeps the invariant, then so do calls of others, and so do the runs of all
 -- steps that are lawful courses.
 pub record LawfulRunsKeep : Type 0 where
-  pub rivals : (who : Caller) (old new : World) → CallsKeep who.merge → Keeps who.merge old → Rivals who old new → Keeps who.merge new
+  pub rivals : (who : Caller) (old new : World) → CallsKeep who.merge → Keeps who.merge old → Rivals who old new
+      → Keeps who.merge new
   pub starts : CoursesKeep (StepEnd ℕ)
   pub polls : CoursesKeep (StepEnd PollState)
   pub submits : CoursesKeep (StepEnd (List ℕ))

@@ -31,7 +31,11 @@ published_by attempts job = context_of (attempt_at job attempts)
 -- The report of a heartbeat over the stored jobs. The worker keeps its live attempts and stops the
 -- others.
 abbrev pub beat_report : LiveWorker → Jobs → Beaten
-beat_report w jobs = record { beat = attempt_jobs (live_attempts jobs w); not_owner = attempt_jobs (not_owned jobs w); attempts = live_attempts jobs w }
+beat_report w jobs = record {
+  beat = attempt_jobs (live_attempts jobs w);
+  not_owner = attempt_jobs (not_owned jobs w);
+  attempts = live_attempts jobs w;
+}
 
 -- A heartbeat with these live attempts. If there is at least one, the heartbeat puts the records:
 -- it renews the leases of the attempts to the moment and publishes their contexts.
@@ -39,8 +43,10 @@ abbrev pub beat_of : ℕ → LiveWorker → Records → List Attempt → (ℕ �
 beat_of moment w got [] again = Ends (Reports (beat_report w got.jobs))
 beat_of moment w got (a ∷ live) again =
     let change = Beat w.number (named_attempts (a ∷ live)) in
-    let unrecorded : Unrecorded = record { moment = moment; published = published_by (a ∷ live); kept_cut = None; tables_of = λ spec. [] } in
-    puts_records got change got.epoch (jobs_after unrecorded change got.jobs) (Ends (Reports (beat_report w got.jobs))) again
+    let unrecorded : Unrecorded =
+    record { moment = moment; published = published_by (a ∷ live); kept_cut = None; tables_of = λ spec. [] } in
+    puts_records got change got.epoch (jobs_after unrecorded change got.jobs)
+    (Ends (Reports (beat_report w got.jobs))) again
 
 -- A heartbeat after its get of the records. If there are no records, no attempt is live.
 abbrev pub beat_by : ℕ → LiveWorker → Option Records → (ℕ → Course (StepEnd Beaten)) → Course (StepEnd Beaten)
@@ -54,11 +60,13 @@ beat_try moment w again = gets_records (λ got. beat_by moment w got again)
 -- A heartbeat renews the leases of the worker's live attempts to the moment and publishes their
 -- contexts. A worker without attempts calls nothing.
 unfoldable pub heartbeat : ℕ → LiveWorker → Course (StepEnd Beaten)
-heartbeat moment w = if is_nonempty w.attempts then tries (beat_try moment w) most_refused 0 else Ends (Reports (beat_report w []))
+heartbeat moment w =
+    if is_nonempty w.attempts then tries (beat_try moment w) most_refused 0 else Ends (Reports (beat_report w []))
 
 -- The release of these live attempts. The step puts the records if there is at least one, and then
 -- goes on with the released jobs.
-abbrev pub release_live : {A : Type 0} → LiveWorker → Records → List Attempt → (List ℕ → Course (StepEnd A)) → (ℕ → Course (StepEnd A)) → Course (StepEnd A)
+abbrev pub release_live : {A : Type 0} → LiveWorker → Records → List Attempt → (List ℕ → Course (StepEnd A))
+    → (ℕ → Course (StepEnd A)) → Course (StepEnd A)
 release_live w got [] next again = next []
 release_live w got (a ∷ live) next again =
     let change = Release w.number (named_attempts (a ∷ live)) in
@@ -66,9 +74,11 @@ release_live w got (a ∷ live) next again =
 
 -- A release after its get of the records. It gives back the live ones of these attempts, and none
 -- if there are no records.
-abbrev pub release_by : {A : Type 0} → LiveWorker → List Attempt → Option Records → (List ℕ → Course (StepEnd A)) → (ℕ → Course (StepEnd A)) → Course (StepEnd A)
+abbrev pub release_by : {A : Type 0} → LiveWorker → List Attempt → Option Records → (List ℕ → Course (StepEnd A))
+    → (ℕ → Course (StepEnd A)) → Course (StepEnd A)
 release_by w attempts None next again = next []
-release_by w attempts (Some got) next again = release_live w got (filter (is_live got.jobs w.number) attempts) next again
+release_by w attempts (Some got) next again =
+    release_live w got (filter (is_live got.jobs w.number) attempts) next again
 
 -- One try of a release.
 abbrev pub release_try : {A : Type 0} → LiveWorker → List Attempt → (List ℕ → Course (StepEnd A)) → Try A
@@ -77,4 +87,6 @@ release_try w attempts next again = gets_records (λ got. release_by w attempts 
 -- A worker that stops gives back its live attempts and reports their jobs. A worker without
 -- attempts calls nothing.
 unfoldable pub release_all : LiveWorker → Course (StepEnd (List ℕ))
-release_all w = if is_nonempty w.attempts then tries (release_try w w.attempts (λ released. Ends (Reports released))) most_refused 0 else Ends (Reports [])
+release_all w =
+    if is_nonempty w.attempts then tries (release_try w w.attempts (λ released. Ends (Reports released))) most_refused 0
+    else Ends (Reports [])

@@ -40,7 +40,8 @@ pub record Claimed : Type 0 where
 abbrev pub can_start : Manifest → Job → Bool
 can_start manifest job =
     let tree = tree_at job.spec.segment manifest.trees in
-    list_all (names_contain (names tree)) job.spec.sources && ids_eq (source_pieces job.spec.sources tree) job.source_tables
+    list_all (names_contain (names tree)) job.spec.sources
+    && ids_eq (source_pieces job.spec.sources tree) job.source_tables
 
 -- The note of the ranges that an attempt begins with. It is made only if the job's record has no
 -- context.
@@ -66,8 +67,11 @@ starts_claimed input w claimed stopped =
 
 -- The claim of these jobs. If there is at least one, the step puts the records, gets the manifest,
 -- and starts the jobs under it.
-abbrev pub claim_of : WorkerOptions → ℕ → LiveWorker → Records → Jobs → List ℕ → (ℕ → Course (StepEnd Claimed)) → Course (StepEnd Claimed)
-claim_of options moment w got [] stopped again = Ends (Reports (record { begun = []; stopped = stopped; released = []; attempts = without_attempts stopped w.attempts }))
+abbrev pub claim_of : WorkerOptions → ℕ → LiveWorker → Records → Jobs → List ℕ → (ℕ → Course (StepEnd Claimed))
+    → Course (StepEnd Claimed)
+claim_of options moment w got [] stopped again =
+    Ends
+    (Reports (record { begun = []; stopped = stopped; released = []; attempts = without_attempts stopped w.attempts }))
 claim_of options moment w got (job ∷ jobs) stopped again =
     let change = Claim w.number (map (λ job. (job.id, job.attempt + 1)) (job ∷ jobs)) in
     puts_records got change got.epoch (jobs_after (at_moment moment) change got.jobs)
@@ -82,9 +86,12 @@ claim_of options moment w got (job ∷ jobs) stopped again =
     again
 
 -- A claim after its get of the records. If there are no records, it claims and stops nothing.
-abbrev pub claim_by : WorkerOptions → ℕ → LiveWorker → Option Records → (ℕ → Course (StepEnd Claimed)) → Course (StepEnd Claimed)
-claim_by options moment w None again = Ends (Reports (record { begun = []; stopped = []; released = []; attempts = w.attempts }))
-claim_by options moment w (Some got) again = claim_of options moment w got (claimed_jobs options.slots w got.jobs) (ids (stopped_jobs w got.jobs)) again
+abbrev pub claim_by : WorkerOptions → ℕ → LiveWorker → Option Records → (ℕ → Course (StepEnd Claimed))
+    → Course (StepEnd Claimed)
+claim_by options moment w None again =
+    Ends (Reports (record { begun = []; stopped = []; released = []; attempts = w.attempts }))
+claim_by options moment w (Some got) again =
+    claim_of options moment w got (claimed_jobs options.slots w got.jobs) (ids (stopped_jobs w got.jobs)) again
 
 -- One try of a claim.
 abbrev pub claim_try : WorkerOptions → (moment : ℕ) → LiveWorker → Try Claimed

@@ -44,28 +44,34 @@ draws_jobs moment (x ∷ xs) next = draws_job moment (λ id. draws_jobs moment x
 
 -- A course that draws an id for a table, puts the table under it, and goes on with the id.
 abbrev pub puts_table : {A : Type 0} → ℕ → List Row → (ℕ → Course A) → Course A
-puts_table moment rows next = Calls (DrawsTable moment) (λ met. let table = next_table_id moment met in Calls (PutsTable table rows) (λ after. next table))
+puts_table moment rows next =
+    Calls (DrawsTable moment)
+    (λ met. let table = next_table_id moment met in Calls (PutsTable table rows) (λ after. next table))
 
 -- A course that puts tables in order and goes on with their ids.
 abbrev pub puts_tables : {A : Type 0} → ℕ → List (List Row) → (List ℕ → Course A) → Course A
 puts_tables moment [] next = next []
-puts_tables moment (rows ∷ tables) next = puts_table moment rows (λ table. puts_tables moment tables (λ ids. next (table ∷ ids)))
+puts_tables moment (rows ∷ tables) next =
+    puts_table moment rows (λ table. puts_tables moment tables (λ ids. next (table ∷ ids)))
 
 -- A course that puts the tables of each range, range after range, and goes on with the ids of each
 -- range.
 abbrev pub puts_ranges : {A : Type 0} → ℕ → List (List (List Row)) → (List (List ℕ) → Course A) → Course A
 puts_ranges moment [] next = next []
-puts_ranges moment (tables ∷ ranges) next = puts_tables moment tables (λ ids. puts_ranges moment ranges (λ others. next (ids ∷ others)))
+puts_ranges moment (tables ∷ ranges) next =
+    puts_tables moment tables (λ ids. puts_ranges moment ranges (λ others. next (ids ∷ others)))
 
 -- A course that puts the manifest for a version. If the stored manifest has this version, the
 -- course goes on with `next`. Otherwise it goes on with `refused`, given the stored version.
 abbrev pub puts_manifest : {A : Type 0} → ℕ → ManifestChange → Manifest → Course A → (ℕ → Course A) → Course A
 puts_manifest version change value next refused =
-    Calls (PutsManifest version change value) (λ met. if version == met.manifest.version then next else refused met.manifest.version)
+    Calls (PutsManifest version change value)
+    (λ met. if version == met.manifest.version then next else refused met.manifest.version)
 
 -- A course that puts the records for the version that was got. If the stored records have this
 -- version, the course goes on with `next`. Otherwise it goes on with `refused`, given the stored
 -- version.
 abbrev pub puts_records : {A : Type 0} → Records → RecordChange → ℕ → Jobs → Course A → (ℕ → Course A) → Course A
 puts_records got change epoch jobs next refused =
-    Calls (PutsRecords got.version change epoch jobs) (λ met. if got.version == records_version met.records then next else refused (records_version met.records))
+    Calls (PutsRecords got.version change epoch jobs)
+    (λ met. if got.version == records_version met.records then next else refused (records_version met.records))

@@ -32,7 +32,9 @@ HasRoom world _ = ⊤
 -- `met` is the world before the call, and `new` what the run leaves.
 abbrev pub StopsAt : {A : Type 0} → Caller → Exchange → (met new : World) → End A → Type 0
 StopsAt who x met new (Gives answer) = ⊥
-StopsAt who x met new MeetsFault = IsTrue (is_get_or_put (event_of x met.store)) × ((stands : Bool) × (new ≡ after_call who.line who.party x (Some stands) met))
+StopsAt who x met new MeetsFault =
+    IsTrue (is_get_or_put (event_of x met.store))
+    × ((stands : Bool) × (new ≡ after_call who.line who.party x (Some stands) met))
 StopsAt who x met new LacksMemory = met ≡ new
 
 -- A run of the course leads from the old to the new and ends so. Before each call there may be calls
@@ -41,11 +43,15 @@ StopsAt who x met new LacksMemory = met ≡ new
 abbrev pub Runs : {A : Type 0} → Caller → Course A → (old new : World) → End A → Type 0
 Runs who (Ends answer) old new end = (old ≡ new) × EndsAs answer end
 Runs who (Calls x next) old new end =
-    (met : World) × (Rivals who old met × (StopsAt who x met new end ⊎ (HasRoom met x × Runs who (next met.store) (after_call who.line who.party x None met) new end)))
+    (met : World) × (Rivals who old met
+    × (StopsAt who x met new end
+    ⊎ (HasRoom met x × Runs who (next met.store) (after_call who.line who.party x None met) new end)))
 
 -- Each call of the course that the history has room for is lawful, whatever calls of others come
 -- before it.
 abbrev pub IsLawfulCourse : {A : Type 0} → Caller → World → Course A → Type 0
 IsLawfulCourse who old (Ends answer) = ⊤
 IsLawfulCourse who old (Calls x next) =
-    (met : World) → Rivals who old met → HasRoom met x → Lawful who.merge who.party met x × IsLawfulCourse who (after_call who.line who.party x None met) (next met.store)
+    (met : World) → Rivals who old met → HasRoom met x
+    → Lawful who.merge who.party met x
+    × IsLawfulCourse who (after_call who.line who.party x None met) (next met.store)

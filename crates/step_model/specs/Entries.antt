@@ -19,7 +19,8 @@ party_eq _ _ = false
 -- The party's last entry in the list, or `last` if the list has none of that party.
 abbrev pub last_from : Option Entry → Party → List Entry → Option Entry
 last_from last party [] = last
-last_from last party (entry ∷ history) = last_from (if party_eq party entry.party then Some entry else last) party history
+last_from last party (entry ∷ history) =
+    last_from (if party_eq party entry.party then Some entry else last) party history
 
 -- The party's last entry in the history.
 abbrev pub last_entry : Party → List Entry → Option Entry
@@ -48,7 +49,8 @@ made_event is party history = list_any (λ entry. party_eq party entry.party && 
 
 -- True if the party made a put of this kind that took effect.
 abbrev pub did_event : (Event → Bool) → Party → List Entry → Bool
-did_event is party history = list_any (λ entry. party_eq party entry.party && is entry.event && stood entry.answer) history
+did_event is party history =
+    list_any (λ entry. party_eq party entry.party && is entry.event && stood entry.answer) history
 
 -- True if a put of this kind took effect, whoever made it.
 abbrev pub was_done : (Event → Bool) → List Entry → Bool

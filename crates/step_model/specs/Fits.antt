@@ -36,7 +36,9 @@ noted_tables a = context_tables (Some a.context)
 
 -- The worker may name the tables that it has noted for the attempt, if the attempt's job is stored.
 abbrev pub NotesOwn : World → ℕ → Attempt → Type 0
-NotesOwn world worker a = IfSome (job_with a.job (stored_jobs world.store)) (λ job. AllByRecursion (MayUse (Worker worker) world job) (noted_tables a))
+NotesOwn world worker a =
+    IfSome (job_with a.job (stored_jobs world.store))
+    (λ job. AllByRecursion (MayUse (Worker worker) world job) (noted_tables a))
 
 -- A worker holds what fits by every faithful replay. It runs each job once, it may name the tables
 -- that it has noted for its live attempts, and it has noted each of them for one live attempt.
@@ -97,5 +99,7 @@ pub record CoordinatorHolds (world : World) (c : LiveCoordinator) (local : Optio
   pub counted : 0 < c.epoch
   pub put : IsTrue (did_put_epoch (Coordinator c.number) world.store.history c.epoch)
   pub recorded : c.epoch ≤ records_epoch world.store.records
-  pub merges : world.store.manifest.epoch ≤ c.epoch → records_epoch world.store.records ≤ c.epoch → MergesIfThere local world.store
-  pub known : world.store.manifest.epoch ≤ c.epoch → records_epoch world.store.records ≤ c.epoch → KnownIfThere world local
+  pub merges : world.store.manifest.epoch ≤ c.epoch → records_epoch world.store.records ≤ c.epoch
+      → MergesIfThere local world.store
+  pub known : world.store.manifest.epoch ≤ c.epoch → records_epoch world.store.records ≤ c.epoch
+      → KnownIfThere world local

@@ -40,7 +40,8 @@ is_above (Some last) seq = nat_lt last seq
 -- floor or the tick.
 abbrev pub fault_after_get : Manifest → FlushAsk → Option FlushFault
 fault_after_get manifest ask =
-    if not (list_all (λ r. is_above (last_seq_of (segment_at ask.segment manifest.trees)) r.seq) ask.rows) then Some BadSequence
+    if not (list_all (λ r. is_above (last_seq_of (segment_at ask.segment manifest.trees)) r.seq) ask.rows)
+    then Some BadSequence
     else (if nat_lt ask.floor manifest.floor then Some BadFloor
     else (if int_lt ask.tick manifest.tick then Some BadTick else None))
 
@@ -70,14 +71,17 @@ puts_unless_put false ask next = Calls (PutsTable ask.name ask.rows) (λ met. ne
 -- A flush that may put the manifest at most `left` more times. Each try gets the manifest, puts the
 -- table unless it is put already, and puts the manifest with the flush. It ends with a fault of the
 -- flush, or once a put takes effect. `seen` is the version that the last refused put met.
-abbrev pub flushes_from : (moment retention : ℕ) → FlushAsk → (left : ℕ) → (is_put : Bool) → (seen : ℕ) → Course (StepEnd ⊤)
+abbrev pub flushes_from : (moment retention : ℕ) → FlushAsk → (left : ℕ) → (is_put : Bool) → (seen : ℕ)
+    → Course (StepEnd ⊤)
 flushes_from moment retention ask zero is_put seen = Ends (GivesUp seen)
 flushes_from moment retention ask (suc left) is_put seen = gets_manifest (λ manifest.
     unless_bad (fault_after_get manifest ask) (puts_unless_put is_put ask (
-    puts_manifest manifest.version (Flush ask.name ask.segment ask.floor ask.tick) (with_flush moment retention ask manifest)
+    puts_manifest manifest.version (Flush ask.name ask.segment ask.floor ask.tick)
+    (with_flush moment retention ask manifest)
     (Ends (Reports tt)) (flushes_from moment retention ask left true))))
 
 -- A flush puts its rows as a table, and then puts the manifest with the flush in its tree. `last`
 -- is the greatest name that a flush has used.
 unfoldable pub flush : (moment retention last : ℕ) → FlushAsk → Course (StepEnd ⊤)
-flush moment retention last ask = unless_bad (fault_before_get last ask) (flushes_from moment retention ask most_refused false 0)
+flush moment retention last ask =
+    unless_bad (fault_before_get last ask) (flushes_from moment retention ask most_refused false 0)

@@ -19,9 +19,12 @@ IsGone past trees table = IsTrue (was_piece past table) × (contains (flat_map t
 -- gone or no longer empty; or the job made an empty run out of the same run.
 pub data JoinStands (past : List Manifest) (trees : Trees) (job : Job) : Type 0 where
   Gone : (table : ℕ) → IsTrue (contains job.source_tables table) → IsGone past trees table → JoinStands past trees job
-  NotEmpty : (run : ℕ) → IsTrue (names_contain job.spec.sources (Run run)) → job.spec.destination ≢ Some run → job.source_tables ≡ []
-      → IfSome (node_named (Run run) (tree_at job.spec.segment trees)) (λ node. node.pieces ≢ []) → JoinStands past trees job
-  Itself : (run : ℕ) → job.spec.sources ≡ Run run ∷ [] → job.spec.destination ≡ Some run → job.source_tables ≡ [] → concat job.outputs ≡ [] → JoinStands past trees job
+  NotEmpty : (run : ℕ) → IsTrue (names_contain job.spec.sources (Run run)) → job.spec.destination ≢ Some run
+      → job.source_tables ≡ []
+      → IfSome (node_named (Run run) (tree_at job.spec.segment trees)) (λ node. node.pieces ≢ [])
+      → JoinStands past trees job
+  Itself : (run : ℕ) → job.spec.sources ≡ Run run ∷ [] → job.spec.destination ≡ Some run → job.source_tables ≡ []
+      → concat job.outputs ≡ [] → JoinStands past trees job
 
 -- The job that a step joins, if it is a join.
 abbrev pub join_of : Step → List ℕ
@@ -37,6 +40,10 @@ joins_in _ = []
 -- Each job whose join took effect was named by a put. If it is stored, it is Compacted or finished.
 -- If it is Compacted, a second join of it changes no tree.
 pub record JoinsKept (history : List Entry) (past : List Manifest) (trees : Trees) (jobs : Jobs) : Type 0 where
-  pub named : AllByRecursion (λ entry. IsTrue (stood entry.answer) → AllByRecursion (λ id. IsTrue (was_named history id)) (joins_in entry.event)) history
-  pub late : AllByRecursion (λ job. IsTrue (was_joined history job.id) → IsTrue (has_status Compacted job || is_finished job.status)) jobs
-  pub stand : AllByRecursion (λ job. IsTrue (has_status Compacted job) → IsTrue (was_joined history job.id) → JoinStands past trees job) jobs
+  pub named : AllByRecursion
+      (λ entry. IsTrue (stood entry.answer)
+      → AllByRecursion (λ id. IsTrue (was_named history id)) (joins_in entry.event)) history
+  pub late : AllByRecursion
+      (λ job. IsTrue (was_joined history job.id) → IsTrue (has_status Compacted job || is_finished job.status)) jobs
+  pub stand : AllByRecursion
+      (λ job. IsTrue (has_status Compacted job) → IsTrue (was_joined history job.id) → JoinStands past trees job) jobs

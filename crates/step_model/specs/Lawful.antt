@@ -17,8 +17,10 @@ Lawful merge party world (Plain event) = PlainFits party world.store event
 Lawful merge party world (DrawsJob moment) = DrawFits world.store
 Lawful merge party world (DrawsTable moment) = DrawFits world.store
 Lawful merge party world (PutsTable table rows) = TableFits party world.store table rows
-Lawful merge party world (PutsManifest version change value) = version ≡ world.store.manifest.version → ManifestFits party world change value
+Lawful merge party world (PutsManifest version change value) = version ≡ world.store.manifest.version
+    → ManifestFits party world change value
 Lawful merge party world (PutsRecords version change epoch jobs) =
-    NamesFit party world (named_specs (PutRecords change)) × (version ≡ records_version world.store.records → RecordsFit merge party world change epoch jobs)
+    NamesFit party world (named_specs (PutRecords change))
+    × (version ≡ records_version world.store.records → RecordsFit merge party world change epoch jobs)
 Lawful merge party world ListsTables = ⊤
 Lawful merge party world (DeletesTable table) = DeletionFits party world.store table

@@ -34,12 +34,14 @@ IsAbove (Some last) seq = last < seq
 -- The writer may bring a table to a tree if the table is held and was never flushed before, and if
 -- its sequences are above the last one of the tree. The floor and the tick may rise and may not
 -- fall.
-pub record FlushFits (party : Party) (world : World) (name : ℕ) (segment : List ℕ) (floor : ℕ) (tick : ℤ) (value : Manifest) : Type 0 where
+pub record FlushFits (party : Party) (world : World) (name : ℕ) (segment : List ℕ) (floor : ℕ) (tick : ℤ)
+    (value : Manifest) : Type 0 where
   pub by : party ≡ Writer
   pub held : IsTrue (is_held world.store name)
   pub is_name : name < drawn_base
   pub once : was_flushed world.store.history name ≡ false
-  pub newer : AllByRecursion (λ r. IsAbove (last_seq_of (segment_at segment world.store.manifest.trees)) r.seq) (table_rows world.store.tables name)
+  pub newer : AllByRecursion (λ r. IsAbove (last_seq_of (segment_at segment world.store.manifest.trees)) r.seq)
+      (table_rows world.store.tables name)
   pub floor_stays : world.store.manifest.floor ≤ floor
   pub tick_stays : IsTrue (int_le world.store.manifest.tick tick)
   pub moment : ℕ
@@ -48,7 +50,8 @@ pub record FlushFits (party : Party) (world : World) (name : ℕ) (segment : Lis
     trees = flushed_trees segment name (table_rows world.store.tables name) world.store.manifest.trees;
     floor = floor;
     tick = tick;
-    tracker = tracked_after moment retention (least_seq_of (table_rows world.store.tables name)) world.store.manifest.tracker;
+    tracker =
+        tracked_after moment retention (least_seq_of (table_rows world.store.tables name)) world.store.manifest.tracker;
   }
 
 -- ---- a commit
@@ -66,20 +69,24 @@ pub record JoinFits (world : World) (trees : Trees) (joined : List ℕ) (id : �
   pub finished : IsTrue (has_status Compacted job)
   pub gate : commit_gate trees (λ spec. true) job ≡ None
   pub once : contains joined id ≡ false
-  pub again : IsTrue (was_joined world.store.history id) → stepped_in world.store.tables (Join id) job.spec (concat job.outputs) trees ≡ trees
+  pub again : IsTrue (was_joined world.store.history id)
+      → stepped_in world.store.tables (Join id) job.spec (concat job.outputs) trees ≡ trees
 
 -- A commit may do a job at once, without a worker, if the job is Submitted or not stored yet and
 -- passes the rules on nodes.
 pub record AtOnceFits (world : World) (trees : Trees) (joined : List ℕ) (spec : JobSpec) (id : ℕ) : Type 0 where
   pub open_yet : IfSome (job_with id (stored_jobs world.store)) (λ job. IsTrue (has_status Submitted job))
-  pub gate : submit_gate trees (holding world.store.history joined (stored_jobs world.store)) [] (λ other. true) (new_job (id, spec)) ≡ None
+  pub gate : submit_gate trees (holding world.store.history joined (stored_jobs world.store)) [] (λ other. true)
+      (new_job (id, spec)) ≡ None
 
 -- A commit may move a job's sources into a run at once if they have tables, which lie apart.
 pub record MoveFits (world : World) (trees : Trees) (joined : List ℕ) (spec : JobSpec) (id : ℕ) : Type 0 where
   pub at_once : AtOnceFits world trees joined spec id
   pub kind : is_drain spec ≡ false
   pub pieces : IsTrue (is_nonempty (source_pieces spec.sources (tree_at spec.segment trees)))
-  pub apart : IsTrue (are_apart world.store.tables (by_first_key world.store.tables (source_pieces spec.sources (tree_at spec.segment trees))))
+  pub apart : IsTrue
+      (are_apart world.store.tables
+      (by_first_key world.store.tables (source_pieces spec.sources (tree_at spec.segment trees))))
 
 -- A commit does a drain at once.
 pub record DrainFits (world : World) (trees : Trees) (joined : List ℕ) (spec : JobSpec) (id : ℕ) : Type 0 where
@@ -104,13 +111,17 @@ abbrev pub StepsFit : World → (ℕ → JobSpec) → Trees → (joined : List �
 StepsFit world specs trees joined [] = ⊤
 StepsFit world specs trees joined (step ∷ steps) =
     StepFits world trees joined (specs (job_of step)) step
-    × StepsFit world specs (stepped_in world.store.tables step (specs (job_of step)) (outputs_in world.store.records (job_of step)) trees) (joined_after step joined) steps
+    × StepsFit world specs
+    (stepped_in world.store.tables step (specs (job_of step)) (outputs_in world.store.records (job_of step)) trees)
+    (joined_after step joined) steps
 
 -- Only the coordinator that put the stored epoch may commit a step, and only if the records have
 -- that epoch too. Any party may commit no step.
 abbrev pub MayCommit : Party → World → List Step → Type 0
 MayCommit party world [] = ⊤
-MayCommit party world (step ∷ steps) = IsTrue (did_put_epoch party world.store.history world.store.manifest.epoch) × (records_epoch world.store.records ≡ world.store.manifest.epoch)
+MayCommit party world (step ∷ steps) =
+    IsTrue (did_put_epoch party world.store.history world.store.manifest.epoch)
+    × (records_epoch world.store.records ≡ world.store.manifest.epoch)
 
 -- The specs are right for a job that a commit does. A stored job has its own spec. A job that is
 -- not stored has an id that the party drew, and no entry mentions it yet.
@@ -134,8 +145,12 @@ pub record CommitFits (party : Party) (world : World) (steps : List Step) (value
   pub known : AllByRecursion (λ step. IsKnownTo party world specs (job_of step)) steps
   pub each : StepsFit world specs world.store.manifest.trees [] steps
   pub makes : value ≡ record world.store.manifest {
-    trees = stepped_all world.store.tables (λ id. (specs id, outputs_in world.store.records id)) steps world.store.manifest.trees;
-    horizon = horizon_after_all world.store.manifest.floor (λ id. cut_of (job_with id (stored_jobs world.store))) steps world.store.manifest.horizon;
+    trees =
+        stepped_all world.store.tables
+        (λ id. (specs id, outputs_in world.store.records id)) steps world.store.manifest.trees;
+    horizon =
+        horizon_after_all world.store.manifest.floor
+        (λ id. cut_of (job_with id (stored_jobs world.store))) steps world.store.manifest.horizon;
   }
 
 -- ---- all changes

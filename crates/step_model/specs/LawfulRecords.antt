@@ -67,7 +67,8 @@ pub record SubmitFits (party : Party) (world : World) (named : List (ℕ × JobS
 pub record ClaimFits (party : Party) (world : World) (worker : ℕ) (attempts : List (ℕ × ℕ)) : Type 0 where
   pub by : party ≡ Worker worker
   pub once : Pairs (λ a b. a.0 ≢ b.0) attempts
-  pub each : AllByRecursion (λ a. IsStoredAs world a.0 (λ job. IsTrue (is_waiting job) × (a.1 ≡ job.attempt + 1))) attempts
+  pub each : AllByRecursion
+      (λ a. IsStoredAs world a.0 (λ job. IsTrue (is_waiting job) × (a.1 ≡ job.attempt + 1))) attempts
 
 -- A worker may give back attempts of its own that are live.
 pub record ReleaseFits (party : Party) (world : World) (worker : ℕ) (attempts : List (ℕ × ℕ)) : Type 0 where
@@ -84,25 +85,32 @@ pub record Publishes (merge : Operator) (party : Party) (world : World) (job : J
 
 -- The tables of the contexts that are published for two jobs are apart.
 abbrev pub PublishedApart : Unrecorded → ℕ × ℕ → ℕ × ℕ → Type 0
-PublishedApart unrecorded a b = AreApart (context_tables (unrecorded.published a.0)) (context_tables (unrecorded.published b.0))
+PublishedApart unrecorded a b =
+    AreApart (context_tables (unrecorded.published a.0)) (context_tables (unrecorded.published b.0))
 
 -- A worker may publish contexts for attempts of its own that are live. No table may be in two of
 -- them: a table that is new to both jobs would get two uses.
-pub record BeatFits (merge : Operator) (party : Party) (world : World) (unrecorded : Unrecorded) (worker : ℕ) (attempts : List (ℕ × ℕ)) : Type 0 where
+pub record BeatFits (merge : Operator) (party : Party) (world : World) (unrecorded : Unrecorded) (worker : ℕ)
+    (attempts : List (ℕ × ℕ)) : Type 0 where
   pub by : party ≡ Worker worker
-  pub each : AllByRecursion (λ a. IsStoredAs world a.0 (λ job. IsLiveAt worker a.1 job × OfSome (Publishes merge party world job) (unrecorded.published a.0))) attempts
+  pub each : AllByRecursion
+      (λ a. IsStoredAs world a.0 (λ job. IsLiveAt worker a.1 job
+      × OfSome (Publishes merge party world job) (unrecorded.published a.0))) attempts
   pub apart : Pairs (PublishedApart unrecorded) attempts
 
 -- A live attempt may finish with outputs that hold all rows that its settings make of the job's
 -- sources. The outputs must be held, and the party must be allowed to name them.
-pub record FinishIsWhole (merge : Operator) (party : Party) (world : World) (unrecorded : Unrecorded) (worker attempt : ℕ) (outputs : List (List ℕ)) (job : Job) : Type 0 where
+pub record FinishIsWhole (merge : Operator) (party : Party) (world : World) (unrecorded : Unrecorded)
+    (worker attempt : ℕ) (outputs : List (List ℕ)) (job : Job) : Type 0 where
   pub live : IsLiveAt worker attempt job
-  pub fits : (specs : ℕ → JobSpec) → Faithful world specs → OutputsFit merge world.store specs (finished_by worker unrecorded outputs job)
+  pub fits : (specs : ℕ → JobSpec) → Faithful world specs
+      → OutputsFit merge world.store specs (finished_by worker unrecorded outputs job)
   pub held : AreHeld world.store (concat outputs)
   pub own : AllByRecursion (MayUse party world job) (concat outputs)
 
 -- A worker may finish an attempt of its own that is live.
-pub record FinishFits (merge : Operator) (party : Party) (world : World) (unrecorded : Unrecorded) (worker id attempt : ℕ) (outputs : List (List ℕ)) : Type 0 where
+pub record FinishFits (merge : Operator) (party : Party) (world : World) (unrecorded : Unrecorded)
+    (worker id attempt : ℕ) (outputs : List (List ℕ)) : Type 0 where
   pub by : party ≡ Worker worker
   pub finishes : IsStoredAs world id (FinishIsWhole merge party world unrecorded worker attempt outputs)
 
@@ -115,14 +123,22 @@ may_end job = has_status Submitted job || has_status Compacted job
 -- The coordinator that put the epoch of the records may free Running jobs, open Submitted ones, and
 -- end Submitted and Compacted ones. The sources of a job that it opens must be in the trees, and
 -- no two jobs may hold the same node afterwards.
-pub record PollFits (party : Party) (world : World) (unrecorded : Unrecorded) (change : PollChange) (jobs : Jobs) : Type 0 where
+pub record PollFits (party : Party) (world : World) (unrecorded : Unrecorded) (change : PollChange) (jobs : Jobs)
+    : Type 0 where
   pub by : IsTrue (did_put_epoch party world.store.history (records_epoch world.store.records))
   pub new : AreNew world change.added
   pub freed : AllByRecursion (λ id. IsStoredAs world id (λ job. IsTrue (has_status Running job))) change.freed
   pub opened : AllByRecursion (λ id.
-      OfSome (λ job. IsTrue (has_status Submitted job) × (unrecorded.tables_of job.spec ≡ tables_now world.store.manifest.trees job.spec)) (job_with id (with_new change.added (stored_jobs world.store)))) change.scheduled
-  pub ended : AllByRecursion (λ id. OfSome (λ job. IsTrue (may_end job)) (job_with id (with_new change.added (stored_jobs world.store)))) (change.completed ++ change.failed)
-  pub stand : AllByRecursion (λ job. IsTrue (contains change.scheduled job.id && has_status Scheduled job) → SourcesStand world.store.manifest.trees job) jobs
+      OfSome
+      (λ job. IsTrue (has_status Submitted job)
+      × (unrecorded.tables_of job.spec ≡ tables_now world.store.manifest.trees job.spec))
+      (job_with id (with_new change.added (stored_jobs world.store)))) change.scheduled
+  pub ended : AllByRecursion
+      (λ id. OfSome (λ job. IsTrue (may_end job)) (job_with id (with_new change.added (stored_jobs world.store))))
+      (change.completed ++ change.failed)
+  pub stand : AllByRecursion
+      (λ job. IsTrue (contains change.scheduled job.id && has_status Scheduled job)
+      → SourcesStand world.store.manifest.trees job) jobs
   pub apart : NodesHeldOnce jobs
 
 -- ---- all changes
@@ -132,8 +148,10 @@ abbrev pub ChangeFits : Operator → Party → World → Unrecorded → (jobs : 
 ChangeFits merge party world unrecorded jobs (RecordsEpoch epoch) = RecordsEpochFits party world epoch
 ChangeFits merge party world unrecorded jobs (Submit named) = SubmitFits party world named
 ChangeFits merge party world unrecorded jobs (Claim worker attempts) = ClaimFits party world worker attempts
-ChangeFits merge party world unrecorded jobs (Beat worker attempts) = BeatFits merge party world unrecorded worker attempts
-ChangeFits merge party world unrecorded jobs (Finish worker id attempt outputs) = FinishFits merge party world unrecorded worker id attempt outputs
+ChangeFits merge party world unrecorded jobs (Beat worker attempts) =
+    BeatFits merge party world unrecorded worker attempts
+ChangeFits merge party world unrecorded jobs (Finish worker id attempt outputs) =
+    FinishFits merge party world unrecorded worker id attempt outputs
 ChangeFits merge party world unrecorded jobs (Release worker attempts) = ReleaseFits party world worker attempts
 ChangeFits merge party world unrecorded jobs (Polled change) = PollFits party world unrecorded change jobs
 
@@ -145,7 +163,8 @@ may_make world change = is_some world.store.records
 
 -- A put of the records fits if its jobs and its epoch are what the change makes of the stored ones,
 -- and the change fits.
-pub record RecordsFit (merge : Operator) (party : Party) (world : World) (change : RecordChange) (epoch : ℕ) (jobs : Jobs) : Type 0 where
+pub record RecordsFit (merge : Operator) (party : Party) (world : World) (change : RecordChange) (epoch : ℕ)
+    (jobs : Jobs) : Type 0 where
   pub there : IsTrue (may_make world change)
   pub unrecorded : Unrecorded
   pub makes_jobs : jobs ≡ jobs_after unrecorded change (stored_jobs world.store)

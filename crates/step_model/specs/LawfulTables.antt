@@ -43,7 +43,9 @@ DrawFits store = length store.history + 1 < drawn_base
 -- A party may put a table under the id that it drew with its last call. The writer may put a flush's
 -- table under a name that is above all names that flushes have used.
 abbrev pub MayName : Party → List Entry → ℕ → Type 0
-MayName party history table = (last_event party history ≡ Some (DrawTable table)) ⊎ ((party ≡ Writer) × (last_name history < table) × (table < drawn_base))
+MayName party history table =
+    (last_event party history ≡ Some (DrawTable table))
+    ⊎ ((party ≡ Writer) × (last_name history < table) × (table < drawn_base))
 
 -- A party may put a table that is not empty, ordered and in bounds, under an id that it may name and
 -- under which no table was ever put. It is not enough that no table is held under the id: the id of

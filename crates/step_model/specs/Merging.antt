@@ -19,13 +19,18 @@ is_watermark (Some flush) name = name_eq (L0 flush) name
 -- The flushes of a tree that are newer than the watermark.
 abbrev pub flushes_before : Option ℕ → Tree → Tree
 flushes_before watermark [] = []
-flushes_before watermark (node ∷ tree) = if is_watermark watermark node.name then [] else (if is_l0 node.name then node ∷ flushes_before watermark tree else [])
+flushes_before watermark (node ∷ tree) =
+    if is_watermark watermark node.name then []
+    else (if is_l0 node.name then node ∷ flushes_before watermark tree else [])
 
 -- A merged segment: the stored flushes that are newer than the local watermark, then the local
 -- runs, with the local watermark. A stored segment without a local one stays as it is.
 abbrev pub merged_segment : Option Segment → Segment → Segment
 merged_segment None remote = remote
-merged_segment (Some local) remote = record remote { tree = flushes_before local.watermark remote.tree ++ runs_of local.tree; watermark = local.watermark }
+merged_segment (Some local) remote = record remote {
+  tree = flushes_before local.watermark remote.tree ++ runs_of local.tree;
+  watermark = local.watermark;
+}
 
 -- The merged trees: each stored segment merged with the local segment of its prefix.
 abbrev pub merged_trees : Trees → Trees → Trees

@@ -35,7 +35,9 @@ take_finished moment w job number result = ends_run moment w result (attempt_run
 
 -- A worker gives the attempt back if it is live, and reports the attempts that it runs from now on.
 unfoldable pub release_job : LiveWorker → Attempt → Course (StepEnd (List Attempt))
-release_job w a = tries (release_try w (a ∷ []) (λ released. Ends (Reports (without_attempts (a.job ∷ []) w.attempts)))) most_refused 0
+release_job w a =
+    tries
+    (release_try w (a ∷ []) (λ released. Ends (Reports (without_attempts (a.job ∷ []) w.attempts)))) most_refused 0
 
 -- The release of an attempt that failed.
 abbrev pub gives_run : LiveWorker → Option Attempt → Course (StepEnd (List Attempt))

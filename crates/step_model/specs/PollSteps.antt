@@ -28,7 +28,9 @@ unless_fenced epoch stored next = if nat_lt epoch stored then Ends (Fenced store
 -- The end of a start: the coordinator gets both objects again, so that it holds them as they are.
 -- If a stored epoch is above its own, the coordinator is fenced.
 abbrev pub holds_at_start : ℕ → Course (StepEnd ℕ)
-holds_at_start epoch = gets_manifest (λ manifest. gets_records (λ records. unless_fenced epoch (max manifest.epoch (records_epoch records)) (Ends (Reports epoch))))
+holds_at_start epoch =
+    gets_manifest (λ manifest. gets_records (λ records.
+    unless_fenced epoch (max manifest.epoch (records_epoch records)) (Ends (Reports epoch))))
 
 -- The records of a store. If the store has none, they have version 0, epoch 0 and no jobs.
 abbrev pub records_or_none : Option Records → Records
@@ -39,7 +41,9 @@ records_or_none (Some records) = records
 -- 0.
 abbrev pub puts_epoch : Option Records → ℕ → Course (StepEnd ℕ) → (ℕ → Course (StepEnd ℕ)) → Course (StepEnd ℕ)
 puts_epoch records epoch next again =
-    Calls (PutsRecords (records_version records) (RecordsEpoch epoch) epoch (trimmed_jobs (jobs_in records))) (λ met. if records_version records == records_version met.records then next else again (records_version met.records))
+    Calls (PutsRecords (records_version records) (RecordsEpoch epoch) epoch (trimmed_jobs (jobs_in records)))
+    (λ met. if records_version records == records_version met.records then next
+    else again (records_version met.records))
 
 -- One try of a start. A refused put of either object begins the start again.
 abbrev pub start_try : Try ℕ
@@ -77,11 +81,19 @@ is_unchanged manifest p = pointwise same_tree manifest.trees p.trees && (manifes
 
 -- The input of a poll: the objects that it got, with its options, scheduler and moment.
 abbrev pub input_of : PollAsk → Tables → Manifest → Records → PollInput
-input_of ask tables manifest records = record { options = ask.options; scheduler = ask.scheduler; tables = tables; manifest = manifest; records = records; moment = ask.moment }
+input_of ask tables manifest records = record {
+  options = ask.options;
+  scheduler = ask.scheduler;
+  tables = tables;
+  manifest = manifest;
+  records = records;
+  moment = ask.moment;
+}
 
 -- The first two steps of a poll: it frees stale jobs and commits Compacted ones.
 abbrev pub freed_and_committed : PollInput → PollState
-freed_and_committed input = commit_finished input (free_stale input (poll_begun input.manifest.trees input.manifest.horizon input.records.jobs))
+freed_and_committed input =
+    commit_finished input (free_stale input (poll_begun input.manifest.trees input.manifest.horizon input.records.jobs))
 
 -- The steps of a poll before ids are drawn. A poll with `commits_only` commits and frees nothing.
 abbrev pub first_steps : PollAsk → PollInput → PollState
@@ -118,21 +130,26 @@ puts_polled epoch p got (suc left) seen =
 -- A poll puts the manifest if it changed the trees or the horizon, and then the records. If the put
 -- of the manifest is refused, the poll begins again. If it takes effect, the count of refused puts
 -- begins again.
-abbrev pub puts_trees : ℕ → PollState → Manifest → Records → ℕ → ℕ → (ℕ → Course (StepEnd PollState)) → Course (StepEnd PollState)
+abbrev pub puts_trees : ℕ → PollState → Manifest → Records → ℕ → ℕ → (ℕ → Course (StepEnd PollState))
+    → Course (StepEnd PollState)
 puts_trees epoch p manifest got left seen again =
     if is_unchanged manifest p then puts_polled epoch p got left seen
-    else puts_manifest manifest.version (Commit p.steps) (record manifest { trees = p.trees; horizon = p.horizon }) (puts_polled epoch p got most_refused 0) again
+    else puts_manifest manifest.version (Commit p.steps) (record manifest { trees = p.trees; horizon = p.horizon })
+    (puts_polled epoch p got most_refused 0) again
 
 -- A poll after its two gets: it draws an id for each proposal, and puts what it changed.
-abbrev pub polls_over : PollAsk → Tables → Manifest → Records → ℕ → ℕ → (ℕ → Course (StepEnd PollState)) → Course (StepEnd PollState)
+abbrev pub polls_over : PollAsk → Tables → Manifest → Records → ℕ → ℕ → (ℕ → Course (StepEnd PollState))
+    → Course (StepEnd PollState)
 polls_over ask tables manifest got left seen again =
     let input = input_of ask tables manifest got in
     let p = first_steps ask input in
-    draws_jobs ask.moment (proposed_specs ask input p) (λ drawn. puts_trees ask.epoch (last_steps ask input drawn p) manifest got left seen again)
+    draws_jobs ask.moment (proposed_specs ask input p)
+    (λ drawn. puts_trees ask.epoch (last_steps ask input drawn p) manifest got left seen again)
 
 -- One try of a poll. `left` and `seen` are those of `counted_tries`: its puts of the records count on.
 abbrev pub poll_try : PollAsk → (left seen : ℕ) → Try PollState
-poll_try ask left seen again = gets_manifest (λ manifest. unless_fenced ask.epoch manifest.epoch (Calls (Plain GetRecords) (λ met.
+poll_try ask left seen again =
+    gets_manifest (λ manifest. unless_fenced ask.epoch manifest.epoch (Calls (Plain GetRecords) (λ met.
     let got = records_or_none met.records in
     unless_fenced ask.epoch got.epoch (polls_over ask met.tables manifest got (suc left) seen again))))
 

@@ -20,7 +20,8 @@ pub record Strikes (event : Event) (waits left : Option Fault) (stands : Bool) :
   pub used : left ≡ None
 
 -- The run stops at this call, as `StopsAt` says. A caller that is alone knows the fault that waits.
-abbrev pub StopsHere : {A : Type 0} → Caller → Exchange → (met new : World) → (waits left : Option Fault) → End A → Type 0
+abbrev pub StopsHere : {A : Type 0} → Caller → Exchange → (met new : World) → (waits left : Option Fault) → End A
+    → Type 0
 StopsHere who x met new waits left (Gives answer) = ⊥
 StopsHere who x met new waits left MeetsFault =
     IsTrue (is_get_or_put (event_of x met.store))

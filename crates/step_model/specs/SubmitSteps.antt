@@ -14,11 +14,13 @@ use Rattle.step_model.specs.ClaimSteps.{at_moment}
 
 -- The submission of these jobs, each with its id. If there is at least one, the step puts the
 -- records and reports the ids.
-abbrev pub submits_drawn : ℕ → Records → List (ℕ × JobSpec) → (ℕ → Course (StepEnd (List ℕ))) → Course (StepEnd (List ℕ))
+abbrev pub submits_drawn : ℕ → Records → List (ℕ × JobSpec) → (ℕ → Course (StepEnd (List ℕ)))
+    → Course (StepEnd (List ℕ))
 submits_drawn moment got [] again = Ends (Reports [])
 submits_drawn moment got (p ∷ specs) again =
     let change = Submit (p ∷ specs) in
-    puts_records got change got.epoch (jobs_after (at_moment moment) change got.jobs) (Ends (Reports (firsts (p ∷ specs)))) again
+    puts_records got change got.epoch (jobs_after (at_moment moment) change got.jobs)
+    (Ends (Reports (firsts (p ∷ specs)))) again
 
 -- A submission that draws an id for each spec and puts the jobs.
 abbrev pub submits_specs : ℕ → Records → List JobSpec → (ℕ → Course (StepEnd (List ℕ))) → Course (StepEnd (List ℕ))
@@ -46,10 +48,13 @@ submits_generated moment got (scheduler.Declined message) again = Ends (Declined
 
 -- A request after its get of the records. It gets the manifest, and the scheduler generates specs
 -- by both. If there are no records, it ends with NoRecords.
-abbrev pub request_by : ℕ → Scheduler → Request → Option Records → (ℕ → Course (StepEnd (List ℕ))) → Course (StepEnd (List ℕ))
+abbrev pub request_by : ℕ → Scheduler → Request → Option Records → (ℕ → Course (StepEnd (List ℕ)))
+    → Course (StepEnd (List ℕ))
 request_by moment asked request None again = Ends NoRecords
 request_by moment asked request (Some got) again =
-    Calls (Plain GetManifest) (λ met. submits_generated moment got (asked.generate (shown_view met.tables met.manifest got got.jobs) request) again)
+    Calls (Plain GetManifest)
+    (λ met. submits_generated moment got
+    (asked.generate (shown_view met.tables met.manifest got got.jobs) request) again)
 
 -- One try of a request.
 abbrev pub request_try : (moment : ℕ) → Scheduler → Request → Try (List ℕ)

@@ -24,7 +24,9 @@ pub record PutsKept (history : List Entry) (tables : Tables) : Type 0 where
   pub known : AllByRecursion (λ table. IsKnownTable history table.0) tables
   pub put : AllByRecursion (λ id. IsTrue (is_among tables id)) (put_tables history)
   pub once : Pairs (λ a b. a ≢ b) (put_tables history)
-  pub brought : AllByRecursion (λ entry. AllByRecursion (λ id. IsTrue (is_among tables id)) (tables_brought_in (stood entry.answer) entry.event)) history
+  pub brought : AllByRecursion
+      (λ entry. AllByRecursion (λ id. IsTrue (is_among tables id))
+      (tables_brought_in (stood entry.answer) entry.event)) history
 
 -- ---- tables of nodes
 
@@ -34,7 +36,8 @@ IsKnownPiece history table = IsTrue (contains (drawn_tables history) table) ⊎ 
 
 -- The flushes that went into a node took effect. A node that is a flush has its table alone.
 abbrev pub IsFlush : List Entry → Node → NodeName → Type 0
-IsFlush history node (L0 name) = IsTrue (was_flushed history name) × (node.pieces ≡ name ∷ []) × (node.flushes ≡ name ∷ [])
+IsFlush history node (L0 name) =
+    IsTrue (was_flushed history name) × (node.pieces ≡ name ∷ []) × (node.flushes ≡ name ∷ [])
 IsFlush history node (Run id) = AllByRecursion (λ name. IsTrue (was_flushed history name)) node.flushes
 
 -- The watermark of a tree is a flush that took effect and is no node of the tree any more. So a
@@ -50,7 +53,8 @@ AreApart xs ys = IsTrue (list_all (λ x. not (contains ys x)) xs)
 -- Each table that a node of a past manifest holds is known. In the stored trees the flushes of each
 -- node took effect, the watermarks are passed, and no table is in two trees.
 pub record PiecesKept (history : List Entry) (past : List Manifest) (trees : Trees) : Type 0 where
-  pub pieces : AllByRecursion (λ manifest. AllByRecursion (IsKnownPiece history) (flat_map tree_tables manifest.trees)) past
+  pub pieces : AllByRecursion
+      (λ manifest. AllByRecursion (IsKnownPiece history) (flat_map tree_tables manifest.trees)) past
   pub flushes : AllByRecursion (λ s. AllByRecursion (λ node. IsFlush history node node.name) s.tree) trees
   pub watermarks : AllByRecursion (λ s. IsPassed history (names s.tree) s.watermark) trees
   pub apart : Pairs (λ a b. AreApart (tree_tables a) (tree_tables b)) trees
@@ -74,7 +78,12 @@ NameApart a b = IsTrue (is_active a) → IsTrue (is_active b) → AreApart (job_
 -- job names were drawn, no other active job names them, and no node ever held them before the job's
 -- join.
 pub record JobTablesKept (history : List Entry) (past : List Manifest) (jobs : Jobs) : Type 0 where
-  pub sources : AllByRecursion (λ job. IsTrue (reserves_nodes job) → AllByRecursion (IsFlushed history) job.spec.sources) jobs
+  pub sources : AllByRecursion
+      (λ job. IsTrue (reserves_nodes job) → AllByRecursion (IsFlushed history) job.spec.sources) jobs
   pub apart : Pairs NameApart jobs
-  pub drawn : AllByRecursion (λ job. IsTrue (is_active job) → AllByRecursion (λ table. IsTrue (contains (drawn_tables history) table)) (job_tables job)) jobs
-  pub unused : AllByRecursion (λ job. IsTrue (is_unjoined history job) → AllByRecursion (λ table. was_piece past table ≡ false) (job_tables job)) jobs
+  pub drawn : AllByRecursion
+      (λ job. IsTrue (is_active job)
+      → AllByRecursion (λ table. IsTrue (contains (drawn_tables history) table)) (job_tables job)) jobs
+  pub unused : AllByRecursion
+      (λ job. IsTrue (is_unjoined history job)
+      → AllByRecursion (λ table. was_piece past table ≡ false) (job_tables job)) jobs

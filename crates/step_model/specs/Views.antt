@@ -6,8 +6,9 @@ use Rattle.step_model.specs.Rivals.{Caller}
 
 -- What a caller sees of a store: who calls, the store with its past, how many faults struck calls of this caller,
 -- and the fault that waits, if one does. `processed` are the bytes that the stored records say each job has
--- processed, in the order of the jobs; no law speaks of them. `lent` is the name of a reference inside, if there is one. `place` is a
--- list of numbers by which an implementation tells which store it is, and whatever else must outlast a call.
+-- processed, in the order of the jobs; no law speaks of them. `lent` is the name of a reference inside, if there
+-- is one. `place` is a list of numbers by which an implementation tells which store it is, and whatever else must
+-- outlast a call.
 pub record StoreView : Type 0 where
   pub who : Caller
   pub world : World

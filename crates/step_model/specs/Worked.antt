@@ -24,7 +24,8 @@ started_end = run_alone 1 (Coordinator 1) start None fresh_store
 -- A start gets both objects, puts its epoch into both, and gets them again.
 pub record Starts (run : AloneEnd (StepEnd ℕ)) : Type 0 where
   pub calls : calls_in run.store
-      ≡ (GetManifest, Done 1) ∷ (GetRecords, Absent) ∷ (PutManifest (ManifestEpoch 1), Done 2) ∷ (PutRecords (RecordsEpoch 1), Done 1) ∷ (GetManifest, Done 2) ∷ (GetRecords, Done 1) ∷ []
+      ≡ (GetManifest, Done 1) ∷ (GetRecords, Absent) ∷ (PutManifest (ManifestEpoch 1), Done 2)
+      ∷ (PutRecords (RecordsEpoch 1), Done 1) ∷ (GetManifest, Done 2) ∷ (GetRecords, Done 1) ∷ []
   pub answer : run.answer ≡ Some (Reports 1)
 
 -- A job that made a run out of the same run, which is empty, and now waits for its commit.
@@ -47,7 +48,14 @@ waiting_store = record fresh_store {
   manifest = record fresh_store.manifest {
     version = 3;
     epoch = 1;
-    trees = record { prefix = []; tree = record { name = Run 0; flushes = []; pieces = [] } ∷ []; last_seq = None; watermark = None } ∷ [];
+    trees =
+        record {
+          prefix = [];
+          tree = record { name = Run 0; flushes = []; pieces = [] } ∷ [];
+          last_seq = None;
+          watermark = None;
+        }
+        ∷ [];
     floor = 5;
   };
   records = Some (record { version = 2; epoch = 1; jobs = finished_job ∷ [] });
@@ -72,7 +80,9 @@ polled_end epoch fault = run_alone 1 (Coordinator 1) (poll (ask_of epoch)) fault
 pub record Commits (run : AloneEnd (StepEnd PollState)) : Type 0 where
   pub calls : calls_in run.store
       ≡ (GetManifest, Done 3) ∷ (GetRecords, Done 2) ∷ (PutManifest (Commit (Join 1 ∷ [])), Done 4)
-      ∷ (PutRecords (Polled (record { freed = []; completed = 1 ∷ []; failed = []; added = []; scheduled = [] })), Done 3) ∷ []
+      ∷
+      (PutRecords (Polled (record { freed = []; completed = 1 ∷ []; failed = []; added = []; scheduled = [] })), Done 3)
+      ∷ []
   pub horizon : run.store.manifest.horizon ≡ 5
 
 -- A coordinator of an older epoch is fenced after its first get.
@@ -83,7 +93,8 @@ pub record Fences (run : AloneEnd (StepEnd PollState)) : Type 0 where
 -- A fault strikes the third call of a poll, the put of the manifest. The poll ends there, and the
 -- put takes effect.
 pub record StopsStruck (run : AloneEnd (StepEnd PollState)) : Type 0 where
-  pub calls : calls_in run.store ≡ (GetManifest, Done 3) ∷ (GetRecords, Done 2) ∷ (PutManifest (Commit (Join 1 ∷ [])), Stands) ∷ []
+  pub calls : calls_in run.store
+      ≡ (GetManifest, Done 3) ∷ (GetRecords, Done 2) ∷ (PutManifest (Commit (Join 1 ∷ [])), Stands) ∷ []
   pub horizon : run.store.manifest.horizon ≡ 5
   pub answer : run.answer ≡ None
 
@@ -99,7 +110,12 @@ local_root = record { prefix = []; tree = bare (Run 0) ∷ []; last_seq = Some 2
 
 -- The root as it is stored: flushes 3 and 4 have come meanwhile.
 abbrev pub stored_root : Segment
-stored_root = record { prefix = []; tree = bare (L0 4) ∷ bare (L0 3) ∷ bare (L0 2) ∷ bare (L0 1) ∷ []; last_seq = Some 4; watermark = None }
+stored_root = record {
+  prefix = [];
+  tree = bare (L0 4) ∷ bare (L0 3) ∷ bare (L0 2) ∷ bare (L0 1) ∷ [];
+  last_seq = Some 4;
+  watermark = None;
+}
 
 -- The merged root has the flushes that are newer than the watermark, and then the local run.
 pub record MergesUpToWatermark (merged : Segment) : Type 0 where

@@ -13,11 +13,13 @@ use Rattle.step_model.specs.StepEnds.{StepEnd, Reports}
 -- the attempts of the report. If it ends otherwise, or memory runs out, the worker fits with those
 -- that it ran before. A worker whose call met a fault runs nothing any more.
 abbrev pub FitsAfterwards : {A : Type 0} → Operator → LiveWorker → (A → List Attempt) → World → End (StepEnd A) → Type 0
-FitsAfterwards merge w attempts new (Gives (Reports report)) = WorkerHolds merge new (record w { attempts = attempts report })
+FitsAfterwards merge w attempts new (Gives (Reports report)) =
+    WorkerHolds merge new (record w { attempts = attempts report })
 FitsAfterwards merge w attempts new (Gives answer) = WorkerHolds merge new w
 FitsAfterwards merge w attempts new MeetsFault = ⊤
 FitsAfterwards merge w attempts new LacksMemory = WorkerHolds merge new w
 
 -- The worker fits after each run of the course, whatever calls of others come in between.
 abbrev pub FitsAfter : {A : Type 0} → Caller → LiveWorker → (A → List Attempt) → World → Course (StepEnd A) → Type 0
-FitsAfter {A} who w attempts old course = (new : World) (end : End (StepEnd A)) → Runs who course old new end → FitsAfterwards who.merge w attempts new end
+FitsAfter {A} who w attempts old course = (new : World) (end : End (StepEnd A)) → Runs who course old new end
+    → FitsAfterwards who.merge w attempts new end

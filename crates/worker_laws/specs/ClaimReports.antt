@@ -43,7 +43,8 @@ IsLost w shown job = can_start shown.manifest job ≡ false
 
 -- A claim that took these jobs put the records that it got, and then got a manifest. It began an attempt at
 -- each job that can start under this manifest, and released the others. Their attempts were lost by then.
-pub record TookJobs (who : Caller) (options : WorkerOptions) (moment : ℕ) (w : LiveWorker) (found : World) (got : Records) (these : Jobs) (report : Claimed) : Type 0 where
+pub record TookJobs (who : Caller) (options : WorkerOptions) (moment : ℕ) (w : LiveWorker) (found : World)
+    (got : Records) (these : Jobs) (report : Claimed) : Type 0 where
   pub at : World
   pub after : ComesAfter found at
   pub stored : at.store.records ≡ Some got
@@ -57,7 +58,8 @@ pub record TookJobs (who : Caller) (options : WorkerOptions) (moment : ℕ) (w :
 -- A claim that took no job put nothing, and began and released nothing.
 abbrev pub TookThese : Caller → WorkerOptions → ℕ → LiveWorker → World → Records → Jobs → Claimed → Type 0
 TookThese who options moment w found got [] report = (report.begun ≡ []) × (report.released ≡ [])
-TookThese who options moment w found got (job ∷ jobs) report = TookJobs who options moment w found got (job ∷ jobs) report
+TookThese who options moment w found got (job ∷ jobs) report =
+    TookJobs who options moment w found got (job ∷ jobs) report
 
 -- A claim takes the jobs of its rule, if there are records.
 abbrev pub TookOf : Caller → WorkerOptions → ℕ → LiveWorker → World → Option Records → Claimed → Type 0
@@ -67,7 +69,8 @@ TookOf who options moment w found (Some got) report =
 
 -- A claim that reports found some records at its last try. It stopped and took exactly the jobs of its rule
 -- by these records. It runs what it ran and did not stop, and the attempts that it began.
-pub record ClaimDid (who : Caller) (options : WorkerOptions) (moment : ℕ) (w : LiveWorker) (old : World) (report : Claimed) : Type 0 where
+pub record ClaimDid (who : Caller) (options : WorkerOptions) (moment : ℕ) (w : LiveWorker) (old : World)
+    (report : Claimed) : Type 0 where
   pub found : World
   pub after : ComesAfter old found
   pub stopped : report.stopped ≡ ids (stopped_jobs w (stored_jobs found.store))
@@ -76,7 +79,8 @@ pub record ClaimDid (who : Caller) (options : WorkerOptions) (moment : ℕ) (w :
 
 -- A claim of a worker that fits did so if it reports, if every lawful call keeps the invariant.
 abbrev pub ClaimsReport : Type 0
-ClaimsReport = (who : Caller) (old new : World) (options : WorkerOptions) (moment : ℕ) (w : LiveWorker) (report : Claimed)
+ClaimsReport =
+    (who : Caller) (old new : World) (options : WorkerOptions) (moment : ℕ) (w : LiveWorker) (report : Claimed)
     → CallsKeep who.merge → who.party ≡ Worker w.number → Keeps who.merge old → WorkerHolds who.merge old w
     → Runs who (claim options moment w) old new (Gives (Reports report))
     → ClaimDid who options moment w old report

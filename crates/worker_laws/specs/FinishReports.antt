@@ -53,7 +53,8 @@ finish_put moment w a outputs got =
 -- A finish that reports has for each range the tables that the attempt had noted, and then those that it
 -- made. The attempt was live as it put the records, and this was its last call. The attempt is over, and
 -- its job waits for its commit. The worker runs its other attempts.
-pub record FinishDid (who : Caller) (moment : ℕ) (w : LiveWorker) (a : Attempt) (new : World) (report : FinishedJob) : Type 0 where
+pub record FinishDid (who : Caller) (moment : ℕ) (w : LiveWorker) (a : Attempt) (new : World) (report : FinishedJob)
+    : Type 0 where
   pub made : List (List ℕ)
   pub outputs : report.outputs ≡ all_outputs a.context.ranges made
   pub attempts : report.attempts ≡ without_attempts (a.job ∷ []) w.attempts

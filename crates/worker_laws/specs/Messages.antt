@@ -24,15 +24,18 @@ use Rattle.worker_laws.specs.FinishReports.{FinishDid}
 
 -- The range stays, and unused tables are noted after its old ones. Together they have the first rows that
 -- the range makes.
-pub record GoesOn (merge : Operator) (world : World) (w : LiveWorker) (a : Attempt) (old now : Range × List ℕ) : Type 0 where
+pub record GoesOn (merge : Operator) (world : World) (w : LiveWorker) (a : Attempt) (old now : Range × List ℕ)
+    : Type 0 where
   pub range : now.0 ≡ old.0
   pub new : List ℕ
   pub begins : now.1 ≡ old.1 ++ new
   pub unused : AllByRecursion (IsUnused world w) new
-  pub first : IsPrefixOf (noted_rows world.store.tables now.1) (range_rows merge world.store.tables a.context.settings a.sources now.0).rows
+  pub first : IsPrefixOf (noted_rows world.store.tables now.1)
+      (range_rows merge world.store.tables a.context.settings a.sources now.0).rows
 
 -- A context is progress of an attempt if it has the attempt's settings and each of its ranges goes on.
-pub record ProgressFits (merge : Operator) (world : World) (w : LiveWorker) (context : Context) (a : Attempt) : Type 0 where
+pub record ProgressFits (merge : Operator) (world : World) (w : LiveWorker) (context : Context) (a : Attempt)
+    : Type 0 where
   pub settings : context.settings ≡ a.context.settings
   pub has_cut : context.has_cut ≡ a.context.has_cut
   pub ranges : AllZip (GoesOn merge world w a) a.context.ranges context.ranges
@@ -49,12 +52,15 @@ pub record MessagesKeepFit : Type 0 where
       → CallsKeep who.merge → who.party ≡ Worker w.number → Keeps who.merge old
       → WorkerHolds who.merge old w → IfSome (attempt_run w job number) (ResultFits who.merge old w result)
       → FitsAfter who w (λ (report : FinishedJob). report.attempts) old (take_finished moment w job number result)
-      × ((new : World) (report : FinishedJob) → Runs who (take_finished moment w job number result) old new (Gives (Reports report))
+      × ((new : World) (report : FinishedJob)
+      → Runs who (take_finished moment w job number result) old new (Gives (Reports report))
       → IfSome (attempt_run w job number) (λ a. FinishDid who moment w a new report))
   pub failed : (who : Caller) (old : World) (w : LiveWorker) (job number : ℕ) → CallsKeep who.merge
       → who.party ≡ Worker w.number → Keeps who.merge old → WorkerHolds who.merge old w
       → FitsAfter who w (λ (attempts : List Attempt). attempts) old (take_failed w job number)
-      × ((new : World) (attempts : List Attempt) → Runs who (take_failed w job number) old new (Gives (Reports attempts)) → IfSome (attempt_run w job number) (EndsLive new w))
+      × ((new : World) (attempts : List Attempt)
+      → Runs who (take_failed w job number) old new (Gives (Reports attempts))
+      → IfSome (attempt_run w job number) (EndsLive new w))
   pub progress : (who : Caller) (old : World) (w : LiveWorker) (job number : ℕ) (context : Context)
       → Keeps who.merge old → WorkerHolds who.merge old w
       → IfSome (attempt_run w job number) (ProgressFits who.merge old w context)

@@ -22,22 +22,29 @@ use Rattle.step_model.specs.Fits.{WorkerHolds, noted_tables}
 abbrev pub SparesOwn : World → LiveWorker → (jobs : Jobs) → RecordChange → Type 0
 SparesOwn world w jobs (Claim worker attempts) = ⊤
 SparesOwn world w jobs (Beat worker attempts) =
-    AllByRecursion (λ a. IsTrue (contains (firsts attempts) a.job) × OfSome (λ job. job.context ≡ Some a.context) (job_with a.job jobs)) (live_attempts (stored_jobs world.store) w)
-SparesOwn world w jobs (Finish worker id attempt outputs) = AllByRecursion (λ a. (id ≡ a.job → ⊥) → AreApart (concat outputs) (noted_tables a)) (live_attempts (stored_jobs world.store) w)
+    AllByRecursion
+    (λ a. IsTrue (contains (firsts attempts) a.job)
+    × OfSome (λ job. job.context ≡ Some a.context) (job_with a.job jobs))
+    (live_attempts (stored_jobs world.store) w)
+SparesOwn world w jobs (Finish worker id attempt outputs) =
+    AllByRecursion (λ a. (id ≡ a.job → ⊥) → AreApart (concat outputs) (noted_tables a))
+    (live_attempts (stored_jobs world.store) w)
 SparesOwn world w jobs (Release worker attempts) = ⊤
 SparesOwn world w jobs _ = ⊥
 
 -- What a worker's call has to see to. A put of a version that is no longer stored changes nothing. A
 -- worker puts no manifest and deletes no table.
 abbrev pub IsOwnCall : World → LiveWorker → Exchange → Type 0
-IsOwnCall world w (PutsRecords version change epoch jobs) = version ≡ records_version world.store.records → SparesOwn world w jobs change
+IsOwnCall world w (PutsRecords version change epoch jobs) = version ≡ records_version world.store.records
+    → SparesOwn world w jobs change
 IsOwnCall world w (PutsManifest version change value) = ⊥
 IsOwnCall world w (DeletesTable table) = ⊥
 IsOwnCall world w _ = ⊤
 
 -- A lawful call of the worker itself keeps what it holds.
 abbrev pub OwnCallKeeps : Operator → Exchange → Type 0
-OwnCallKeeps merge x = (line : ℕ) (party : Party) (world : World) (w : LiveWorker) → Keeps merge world → party ≡ Worker w.number → Lawful merge party world x → IsOwnCall world w x
+OwnCallKeeps merge x = (line : ℕ) (party : Party) (world : World) (w : LiveWorker) → Keeps merge world
+    → party ≡ Worker w.number → Lawful merge party world x → IsOwnCall world w x
     → WorkerHolds merge world w → WorkerHolds merge (after_call line party x None world) w
 
 -- Every lawful call that a worker makes keeps what it holds.

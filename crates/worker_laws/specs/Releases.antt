@@ -15,10 +15,12 @@ use Rattle.worker_laws.specs.After.{FitsAfter}
 
 -- After a release that reports, no attempt of the worker is live.
 abbrev pub NoneIsLive : Caller → LiveWorker → World → Type 0
-NoneIsLive who w old = (new : World) (released : List ℕ) → Runs who (release_all w) old new (Gives (Reports released)) → live_attempts (stored_jobs new.store) w ≡ []
+NoneIsLive who w old = (new : World) (released : List ℕ) → Runs who (release_all w) old new (Gives (Reports released))
+    → live_attempts (stored_jobs new.store) w ≡ []
 
 -- A worker that fits also fits after the step by which it gives its live attempts back, if every
 -- lawful call keeps the invariant. None of its attempts is live any more.
 abbrev pub ReleasesKeepFit : Type 0
-ReleasesKeepFit = (who : Caller) (old : World) (w : LiveWorker) → CallsKeep who.merge → who.party ≡ Worker w.number → Keeps who.merge old → WorkerHolds who.merge old w
+ReleasesKeepFit = (who : Caller) (old : World) (w : LiveWorker) → CallsKeep who.merge → who.party ≡ Worker w.number
+    → Keeps who.merge old → WorkerHolds who.merge old w
     → FitsAfter who w (λ (released : List ℕ). w.attempts) old (release_all w) × NoneIsLive who w old

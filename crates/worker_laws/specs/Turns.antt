@@ -26,7 +26,8 @@ after_finish w a (GivesUp seen) = w
 after_finish w a end = record w { attempts = without_attempts (a.job ∷ []) w.attempts }
 
 -- A finish of the attempt at this job, by a worker that runs it.
-pub record FinishRan (who : Caller) (options : WorkerOptions) (moment job : ℕ) (old : World) (w : LiveWorker) (new : World) (v : LiveWorker) : Type 0 where
+pub record FinishRan (who : Caller) (options : WorkerOptions) (moment job : ℕ) (old : World) (w : LiveWorker)
+    (new : World) (v : LiveWorker) : Type 0 where
   pub attempt : Attempt
   pub runs : DoesRun w attempt
   pub at_job : attempt.job ≡ job
@@ -48,14 +49,17 @@ abbrev pub FinishesRan : Caller → WorkerOptions → ℕ → (jobs : List ℕ) 
 FinishesRan who options moment [] old w new v = (new ≡ old) × (v ≡ w)
 FinishesRan who options moment (job ∷ jobs) old w new v =
     (mid : World)
-    × ((u : LiveWorker) × (FinishRan who options moment job old w mid u × FinishesRan who options moment jobs mid u new v))
+    × ((u : LiveWorker)
+    × (FinishRan who options moment job old w mid u × FinishesRan who options moment jobs mid u new v))
 
 -- A turn: a claim, and then a finish of each job that the worker runs, in the order of their ids.
-pub record TurnRan (who : Caller) (options : WorkerOptions) (moment : ℕ) (old : World) (w : LiveWorker) (new : World) (v : LiveWorker) : Type 0 where
+pub record TurnRan (who : Caller) (options : WorkerOptions) (moment : ℕ) (old : World) (w : LiveWorker) (new : World)
+    (v : LiveWorker) : Type 0 where
   pub mid : World
   pub end : StepEnd Claimed
   pub claims : Runs who (claim options moment w) old mid (Gives end)
-  pub finishes : FinishesRan who options moment (attempt_jobs (after_claim w end).attempts) mid (after_claim w end) new v
+  pub finishes : FinishesRan who options moment (attempt_jobs (after_claim w end).attempts) mid
+      (after_claim w end) new v
 
 -- Turns at these moments, one after the other.
 abbrev pub TurnsRan : Caller → WorkerOptions → (moments : List ℕ) → World → LiveWorker → World → LiveWorker → Type 0
