@@ -12,5 +12,5 @@ pub mod Index
 pub mod Decoded
 pub mod Tells
 pub mod Stand
-pub mod Glances
+pub mod Comparisons
 pub mod Places

@@ -2,5 +2,5 @@ pub mod Cuts
 pub mod Decoded
 pub mod Finds
 pub mod Laws
-pub mod Glances
+pub mod Comparisons
 pub mod Places

@@ -7,7 +7,7 @@ ghost use Rattle.row_model.specs.Sizes.{content_len};
 ghost use Rattle.row_model.specs.TableBytes.{content_bytes, content_flag, key_bytes, shared_len, stamp_bytes};
 ghost use Rattle.fleet_rows.specs.Row.{content_of};
 ghost use Rattle.fleet_block.specs.Finds.{Finds};
-ghost use Rattle.fleet_block.specs.Glances.{key_of};
+ghost use Rattle.fleet_block.specs.Comparisons.{key_of};
 
 use crate::number::{u16_at, u32_at, u64_at};
 use bytes::Bytes;

@@ -2,10 +2,10 @@
 #![tactic(auto)]
 
 mod block;
+mod comparing;
 mod cut;
 mod field;
 mod fits;
-mod glance;
 mod laws;
 mod number;
 mod place;
@@ -16,8 +16,8 @@ mod shared;
 mod write;
 
 pub use block::block_at;
+pub use comparing::compared_at;
 pub use cut::split_block;
-pub use glance::compared_at;
 pub use laws::{
     blocks_stand_in_bytes, bytes_are_decoded, bytes_tell_rows, rows_are_cut_into_blocks,
     rows_have_encoded_sizes,

@@ -9,7 +9,7 @@ ghost use Rattle.fleet_fold.specs.Groups.{TakesRows, RefusesRows, RefusesGroup, 
 
 use crate::BatchMerger;
 use crate::group::{Group, GroupRule, opens};
-use crate::kept::is_operand;
+use crate::keeping::is_operand;
 use fleet_iter::RowSource;
 use fleet_rows::{RowEntry, SlateDBError};
 use std::alloc::Global;

@@ -10,7 +10,7 @@ ghost use Rattle.fleet_fold.specs.Folded.{lesser_stamp, same_group, opens, in_or
 ghost use Rattle.fleet_fold.specs.Groups.{RefusesAs, with_value, Gathers, Notes, Flushes, RefusesFlush, FlushesFull, RefusesFull, Pushes, Adds, RefusesAdd, Closes, RefusesClose};
 
 use crate::BatchMerger;
-use crate::kept::is_operand;
+use crate::keeping::is_operand;
 use bytes::Bytes;
 use fleet_rows::{RowEntry, SlateDBError, ValueDeletable};
 use std::alloc::{AllocError, Global};

@@ -7,7 +7,7 @@ mod filtering;
 mod fold;
 mod group;
 mod job;
-mod kept;
+mod keeping;
 pub mod laws;
 mod merging;
 mod operator;

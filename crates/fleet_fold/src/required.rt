@@ -4,7 +4,7 @@ ghost use Rattle.std.specs.Prelude.{◌≡◌, None, OnOk};
 ghost use Rattle.fleet_iter.specs.Iteration.{Inits, Nexts, Seeks, HandsOn, AreRising};
 ghost use Rattle.fleet_fold.specs.Required.{without_operands, state_of, IsSound, Sought, MissesOperator};
 
-use crate::kept::is_operand;
+use crate::keeping::is_operand;
 use fleet_iter::{Failure, RowEntryIterator, TrackedRowEntryIterator};
 use fleet_rows::{RowEntry, SlateDBError};
 use std::alloc::Global;

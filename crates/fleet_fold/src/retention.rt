@@ -8,7 +8,7 @@ ghost use Rattle.fleet_rows.specs.Settings.{settings_of};
 ghost use Rattle.fleet_fold.specs.Retention.{kept_given, joins, IsReadable, ReadsOn, Begins, RefusesBeginning, ReadsKey, RefusesKey, Fills, RefusesFill};
 ghost use Rattle.fleet_fold.specs.State.{state_of, IsSound, Sought};
 
-use crate::kept::kept_rows;
+use crate::keeping::kept_rows;
 use fleet_iter::{Failure, RowEntryIterator, RowSource, TrackedRowEntryIterator};
 use fleet_rows::{RowEntry, Settings, SlateDBError};
 use std::alloc::Global;

@@ -13,7 +13,7 @@ use Rattle.fleet_run.specs.FleetView.{FleetView, fresh_fleet}
 use Rattle.fleet_run.specs.Holds.{held_parts, Holds, state_of}
 use Rattle.fleet_run.specs.Serve.{reply_to, fleet_after}
 use Rattle.fleet_run.specs.Program.{ReadWhole, ReadFront, RunsFirst}
-use Rattle.fleet_run.specs.Outside.{SourceView, SinkView, Took, TookShort, TookNothing}
+use Rattle.fleet_run.specs.SourceAndSink.{SourceView, SinkView, Took, TookShort, TookNothing}
 use Rattle.fleet_run.specs.Served.{Ran, RanButTheEnd, RunsUpToFault, RunsFront, Served, ServedUpToFault, ServedFront}
 use Rattle.fleet_run.proofs.Steps.{AreStarted, LineServes, line_serves, started_more}
 use Rattle.fleet_run.proofs.Written.{took_none, took_more, took_kept}

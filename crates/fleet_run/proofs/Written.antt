@@ -2,7 +2,7 @@
 use Rattle.std.proofs.Common.{◌≡◌, ℕ, ◌+◌, ◌≤◌, List, [], ◌++◌, length, take, drop, Option, Some, None, sym, ap, ◌∙◌, append_assoc, append-nil, take-append-drop, length-append, arith, ◌-◌, length-drop}
 use Rattle.std.proofs.lemmas.List.{take_all, length-take-le}
 use Rattle.std.specs.Io.KnownBytes.{Appends, Keeps}
-use Rattle.fleet_run.specs.Outside.{SinkView, counted_bytes, Rose, Took, TookNothing}
+use Rattle.fleet_run.specs.SourceAndSink.{SinkView, counted_bytes, Rose, Took, TookNothing}
 
 appends_none : (a : Option (List ℕ)) → Appends a a []
 appends_none None = tt

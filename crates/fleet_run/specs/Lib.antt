@@ -1,6 +1,6 @@
-pub mod Outside
+pub mod SourceAndSink
 pub mod Memory
-pub mod Safe
+pub mod SliceStreams
 pub mod Streams
 pub mod Jobs
 pub mod Outputs

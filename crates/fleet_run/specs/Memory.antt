@@ -1,6 +1,6 @@
 -- How contracts see the source and the sink in memory.
 use Rattle.std.specs.Prelude.{ℕ, List, Some}
-use Rattle.fleet_run.specs.Outside.{SourceView, SinkView}
+use Rattle.fleet_run.specs.SourceAndSink.{SourceView, SinkView}
 use Rattle.fleet_run.specs.declared.memory.MemSource.{MemSource}
 use Rattle.fleet_run.specs.declared.memory.MemSink.{MemSink}
 

@@ -6,7 +6,7 @@ use Rattle.row_model.specs.Fold.{Operator}
 use Rattle.script_model.specs.Script.{Line, IsBadAt}
 use Rattle.script_model.specs.Grammars.{job_grammar}
 use Rattle.fleet_run.specs.FleetView.{FleetView}
-use Rattle.fleet_run.specs.Outside.{SourceView, SinkView}
+use Rattle.fleet_run.specs.SourceAndSink.{SourceView, SinkView}
 use Rattle.fleet_run.specs.Served.{Served, ServedUpToFault, Ran, BeginsScript}
 
 -- The most bytes that a script may have: 64 MiB.

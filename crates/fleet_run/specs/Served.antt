@@ -10,7 +10,7 @@ use Rattle.script_model.specs.Defaults.{default_options, with_quiet_scheduler}
 use Rattle.script_model.specs.Follows.{ScriptRun, Follows}
 use Rattle.fleet_run.specs.FleetView.{FleetView}
 use Rattle.fleet_run.specs.Holds.{held_parts, Holds, parties_of}
-use Rattle.fleet_run.specs.Outside.{SinkView, Took}
+use Rattle.fleet_run.specs.SourceAndSink.{SinkView, Took}
 
 -- The text is a script. A fresh fleet ran it, and the sink took exactly the replies. The fleet
 -- holds the store at the end of the run, and has the parties that are live then.

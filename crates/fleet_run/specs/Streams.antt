@@ -1,6 +1,6 @@
 -- How contracts see streams as a source and a sink. They do not see the bytes.
 use Rattle.std.specs.Prelude.{None}
-use Rattle.fleet_run.specs.Outside.{SourceView, SinkView}
+use Rattle.fleet_run.specs.SourceAndSink.{SourceView, SinkView}
 use Rattle.fleet_run.specs.declared.stream.StreamSource.{StreamSource}
 use Rattle.fleet_run.specs.declared.stream.StreamSink.{StreamSink}
 

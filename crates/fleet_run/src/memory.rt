@@ -1,9 +1,9 @@
 //! A source and a sink in memory.
 
 ghost use Rattle.std.specs.Prelude.{◌≡◌, [], Some, false};
-ghost use Rattle.fleet_run.specs.Outside.{SourceView, SinkView};
+ghost use Rattle.fleet_run.specs.SourceAndSink.{SourceView, SinkView};
 
-use crate::outside::{Failed, Sink, Source};
+use crate::source_and_sink::{Failed, Sink, Source};
 use std::alloc::Global;
 
 /// A source that gives the bytes of a slice, as many as the buffer takes. It fails at the calls

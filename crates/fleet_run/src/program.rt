@@ -6,13 +6,13 @@ ghost use Rattle.script_model.specs.Script.{IsScript};
 ghost use Rattle.script_model.specs.Script as model;
 ghost use Rattle.script_model.specs.Grammars.{job_grammar};
 ghost use Rattle.fleet_run.specs.FleetView.{fresh_fleet};
-ghost use Rattle.fleet_run.specs.Outside.{Rose, TookNothing};
+ghost use Rattle.fleet_run.specs.SourceAndSink.{Rose, TookNothing};
 ghost use Rattle.fleet_run.specs.Program.{ReadWhole, ReadFront, IsStatus, RunsNothing, RunsScript, HasBadLine, RunsUpTo, RunsFirst, longest};
 ghost use Rattle.fleet_run.specs.declared.script.FleetError.TheVariants.{Memory, TooLong, ReadFault};
 
 use crate::fleet::Fleet;
-use crate::outside::{Sink, Source};
 use crate::script::{FleetError, run_script};
+use crate::source_and_sink::{Sink, Source};
 use std::alloc::Global;
 
 const LONGEST: usize = 67_108_864;

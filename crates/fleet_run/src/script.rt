@@ -7,14 +7,14 @@ ghost use Rattle.script_model.specs.Script as model;
 ghost use Rattle.script_model.specs.Grammars.{job_grammar};
 ghost use Rattle.fleet_text.specs.Lines.{line_of, lines_of};
 ghost use Rattle.fleet_run.specs.FleetView.{fresh_fleet};
-ghost use Rattle.fleet_run.specs.Outside.{Rose, Took, TookShort, TookNothing};
+ghost use Rattle.fleet_run.specs.SourceAndSink.{Rose, Took, TookShort, TookNothing};
 ghost use Rattle.fleet_run.specs.Serve.{reply_to, fleet_after, IsServed};
 ghost use Rattle.fleet_run.specs.Served.{Served, ServedUpToFault, ServedFront, Ran, RunsUpToFault, RunsFront};
 ghost use Rattle.fleet_run.specs.Errors.{IsScriptError, as_fleet_error};
 ghost use Rattle.fleet_run.specs.declared.script.FleetError.TheVariants.{BadLine, WriteFault, Memory};
 
 use crate::fleet::Fleet;
-use crate::outside::Sink;
+use crate::source_and_sink::Sink;
 use fleet_rows::SlateDBError;
 use fleet_text::{Line, LineList, TextError, read_script};
 use std::alloc::Global;

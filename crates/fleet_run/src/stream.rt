@@ -3,9 +3,9 @@
 //! taken, and how many calls failed.
 
 ghost use Rattle.std.specs.Prelude.{◌≡◌, None, false};
-ghost use Rattle.fleet_run.specs.Outside.{SourceView, SinkView};
+ghost use Rattle.fleet_run.specs.SourceAndSink.{SourceView, SinkView};
 
-use crate::outside::{Failed, Sink, Source};
+use crate::source_and_sink::{Failed, Sink, Source};
 use std::io::{Read, Write};
 
 /// A source that reads from a stream. It counts the bytes that the stream gave and the reads that

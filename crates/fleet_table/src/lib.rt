@@ -4,11 +4,11 @@
 mod cursor;
 mod cutting;
 mod iterator;
-mod kept;
 mod order;
 mod run_data;
 mod span;
 mod table;
+mod table_bytes;
 
 pub use fleet_rows::{are_in_bounds, are_strictly_ordered};
 pub use iterator::TableIterator;

@@ -9,7 +9,7 @@ ghost use Rattle.fleet_table.specs.Cursors.{IsCursor, Takes};
 ghost use Rattle.fleet_table.specs.Order.{is_before_range, is_not_after_range};
 
 use crate::cursor::{Cursor, Ties};
-use crate::kept::Kept;
+use crate::table_bytes::TableBytes;
 use fleet_range::{ByteRangeBounds, BytesRange};
 use fleet_rows::{RowEntry, SlateDBError};
 use std::alloc::Global;
@@ -20,7 +20,7 @@ use std::ops::Bound;
 /// the rows.
 #[derive(Debug, Drop)]
 pub(crate) struct Span<'a> {
-    table: &'a Kept,
+    table: &'a TableBytes,
     cursor: Cursor,
     // The number of rows of the table up to the last row.
     end: usize,
@@ -40,7 +40,7 @@ impl<'a> Model for Span<'a> {
 
 impl<'a> Span<'a> {
     /// The rows of a table whose keys lie in the range.
-    pub(crate) fn new(table: &'a Kept, range: &BytesRange) -> Span<'a>
+    pub(crate) fn new(table: &'a TableBytes, range: &BytesRange) -> Span<'a>
         ensures { result ≡ rows_in (range_of range.now) table.now }
     {
         table.know_table();
@@ -52,7 +52,7 @@ impl<'a> Span<'a> {
     }
 
     /// All rows of a table.
-    pub(crate) fn all(table: &'a Kept) -> Span<'a>
+    pub(crate) fn all(table: &'a TableBytes) -> Span<'a>
         ensures { result ≡ table.now }
     {
         table.know_table();
@@ -98,7 +98,7 @@ impl Span<'_> {
 }
 
 // Where the first row stands that is not before the range.
-fn start_of(table: &Kept, range: &BytesRange) -> Cursor
+fn start_of(table: &TableBytes, range: &BytesRange) -> Cursor
     ensures row { result.row ≡ prefix_len (is_before_range (range_of range.now)) table.now }
     ensures stands { IsCursor table.now result }
 {
@@ -111,7 +111,7 @@ fn start_of(table: &Kept, range: &BytesRange) -> Cursor
 }
 
 // The number of rows that are not after the range.
-fn end_of(table: &Kept, range: &BytesRange) -> usize
+fn end_of(table: &TableBytes, range: &BytesRange) -> usize
     ensures value { result ≡ prefix_len (is_not_after_range (range_of range.now)) table.now }
     ensures within { result ≤ length table.now }
 {

@@ -18,9 +18,9 @@ ghost use Rattle.fleet_tree.specs.Handles.{blocks_of, handle_of};
 ghost use Rattle.fleet_table.specs.Table.{AreEndKeys, IsTableRows};
 
 use crate::TableIterator;
-use crate::kept::Kept;
 use crate::order::{first_of, last_of};
 use crate::span::Span;
+use crate::table_bytes::TableBytes;
 use bytes::Bytes;
 use fleet_block::rows_from_bytes;
 use fleet_range::BytesRange;
@@ -37,7 +37,7 @@ pub struct TableData {
     // without a look at what is kept.
     first_key: Bytes,
     last_key: Bytes,
-    kept: Arc<Kept>,
+    kept: Arc<TableBytes>,
 }
 
 impl Model for TableData {
@@ -62,7 +62,7 @@ impl TableData {
         ensures table { IfOk result (λ table. table ≡ rows_of rows.items) }
         ensures memory { IsOkUnless result SlateDBError.Memory }
     {
-        let kept = Kept::from_rows(alloc, &rows)?;
+        let kept = TableBytes::from_rows(alloc, &rows)?;
         table_of(alloc, &rows, kept)
     }
 
@@ -75,7 +75,7 @@ impl TableData {
         let Some((rows, places)) = rows_from_bytes(alloc, &copy)? else {
             return Ok(None);
         };
-        let kept = Kept::of_written(alloc, &rows, copy, places)?;
+        let kept = TableBytes::of_written(alloc, &rows, copy, places)?;
         Ok(Some(table_of(alloc, &rows, kept)?))
     }
 
@@ -200,7 +200,7 @@ impl Copies for TableData {
 }
 
 // The table that keeps these rows.
-fn table_of(alloc: Global, rows: &[RowEntry], kept: Kept) -> Result<TableData, SlateDBError>
+fn table_of(alloc: Global, rows: &[RowEntry], kept: TableBytes) -> Result<TableData, SlateDBError>
     requires some { rows.now ≢ [] }
     requires kept { kept ≡ rows_of rows.now }
     ensures table { IfOk result (λ table. table ≡ rows_of rows.now) }

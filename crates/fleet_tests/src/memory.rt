@@ -1,7 +1,7 @@
 //! Tests of the program when memory runs out.
 
 ghost use Rattle.std.specs.Prelude.{None};
-ghost use Rattle.fleet_run.specs.Outside.{SinkView};
+ghost use Rattle.fleet_run.specs.SourceAndSink.{SinkView};
 
 use fleet_run::{Failed, Fleet, SafeSource, Sink, fleet_main};
 use std::alloc::Global;
