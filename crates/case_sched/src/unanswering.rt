@@ -12,7 +12,7 @@ pub struct Unanswering;
 
 impl CompactionScheduler for Unanswering {
     ghost use Rattle.std.specs.Prelude.{[], true};
-    ghost use Rattle.fleet_model.specs.Scheduler.{default_generate};
+    ghost use Rattle.fleet_model.specs.Work.Scheduler.{default_generate};
 
     ghost answers = { λ _. record {
       propose = λ view. [];

@@ -8,20 +8,20 @@ use Rattle.row_model.specs.Lists.{Pairs}
 use Rattle.row_model.specs.Fold.{Operator}
 use Rattle.row_model.specs.Rows.{IsStrictlyOrdered, key_cmp}
 use Rattle.std.specs.Ordering.{is_lt}
-use Rattle.fleet_model.specs.Records.{new_job}
+use Rattle.fleet_model.specs.Work.Records.{new_job}
 use Rattle.fleet_model.specs.Nodes.{Tables, table_rows, Node, Tree, Segment, Trees, names, NodeName, segment_at, tree_at}
 use Rattle.fleet_model.specs.Jobs.{JobSpec, nodes_of, is_drain, is_drain_to, Job, Jobs, Status, Submitted, Scheduled, Running, Compacted, Completed, Failed, status_eq, has_status, job_with, contains}
-use Rattle.fleet_model.specs.Gates.{first_failing, is_nonempty, are_distinct, destination_fits, reserves_nodes, submitted_rules, submit_gate}
+use Rattle.fleet_model.specs.Work.Gates.{first_failing, is_nonempty, are_distinct, destination_fits, reserves_nodes, submitted_rules, submit_gate}
 use Rattle.fleet_model.specs.Handles.{tree_tables}
 use Rattle.fleet_model.specs.History.{Move, Drain}
 use Rattle.fleet_model.specs.Sources.{run_ids, all_run_ids, is_whole_stretch, is_lowest_or_above, is_apart}
 use Rattle.fleet_model.specs.Store.{stored_jobs, is_held}
 use Rattle.fleet_model.specs.Trees.{stepped_tree, stepped_in, to_run, with_run_for, source_pieces, without_nodes, first_key, by_first_key, put_by_first_key, are_apart}
-use Rattle.fleet_model.specs.TreesFit.{IsNewer}
-use Rattle.fleet_model.specs.JobsFit.{was_joined}
+use Rattle.fleet_model.specs.Invariants.TreesFit.{IsNewer}
+use Rattle.fleet_model.specs.Invariants.JobsFit.{was_joined}
 use Rattle.step_model.specs.Past.{World}
 use Rattle.step_model.specs.LawfulManifests.{AtOnceFits, MoveFits, DrainFits, holding}
-use Rattle.step_model.specs.TablesKept.{IsKnownPiece}
+use Rattle.step_model.specs.Kept.TablesKept.{IsKnownPiece}
 use Rattle.step_laws.proofs.Elements.{IsIn, all_at, all_from, all_to, all_flat, all_true_front, all_true_from}
 use Rattle.step_laws.proofs.Deletions.{in_flat, in_filter}
 use Rattle.step_laws.proofs.Bodies.{Body}

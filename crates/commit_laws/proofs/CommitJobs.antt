@@ -7,17 +7,17 @@ use Rattle.row_model.specs.Fold.{Operator}
 use Rattle.fleet_model.specs.Nodes.{Trees}
 use Rattle.fleet_model.specs.Jobs.{JobSpec, Job, Context, Status, Submitted, Scheduled, Running, Compacted, Completed, Failed, status_eq, is_finished, has_status, is_active, job_with, contains}
 use Rattle.fleet_model.specs.History.{Party, Entry, Answer, Step, PutManifest, Commit, stood}
-use Rattle.fleet_model.specs.Gates.{reserves_nodes}
+use Rattle.fleet_model.specs.Work.Gates.{reserves_nodes}
 use Rattle.fleet_model.specs.Handles.{tree_tables, job_tables}
 use Rattle.fleet_model.specs.Store.{Manifest, stored_jobs}
-use Rattle.fleet_model.specs.Replay.{outputs_in}
+use Rattle.fleet_model.specs.Past.Replay.{outputs_in}
 use Rattle.fleet_model.specs.Trees.{stepped_all, horizon_after_all, job_of}
-use Rattle.fleet_model.specs.JobsFit.{SourcesStand, SettingsFit, OutputsFit, was_joined, is_join_of, joins}
-use Rattle.fleet_model.specs.AttemptsFit.{ContextFits}
+use Rattle.fleet_model.specs.Invariants.JobsFit.{SourcesStand, SettingsFit, OutputsFit, was_joined, is_join_of, joins}
+use Rattle.fleet_model.specs.Invariants.AttemptsFit.{ContextFits}
 use Rattle.step_model.specs.Past.{World}
 use Rattle.step_model.specs.LawfulManifests.{StepsFit, IsKnownTo, cut_of}
 use Rattle.step_model.specs.LawfulTables.{was_piece}
-use Rattle.step_model.specs.JoinsKept.{JoinStands, Gone, NotEmpty, Itself}
+use Rattle.step_model.specs.Kept.JoinsKept.{JoinStands, Gone, NotEmpty, Itself}
 use Rattle.step_laws.proofs.Elements.{IsIn, all_at, all_to, contains_in, contains_no}
 use Rattle.step_laws.proofs.Worlds.{settings_stay, ranges_stay}
 use Rattle.step_laws.proofs.Grown.{named_grows, drawn_table_grows, source_grows, beaten_stays_so}

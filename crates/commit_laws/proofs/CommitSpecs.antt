@@ -6,13 +6,13 @@ use Rattle.row_model.specs.Fold.{Operator}
 use Rattle.fleet_model.specs.Nodes.{Tables}
 use Rattle.fleet_model.specs.Jobs.{JobSpec, contains}
 use Rattle.fleet_model.specs.History.{Party, Event, Entry, PutManifest, PutRecords, ManifestEpoch, Flush, Commit, Step, stood}
-use Rattle.fleet_model.specs.Records.{firsts}
+use Rattle.fleet_model.specs.Work.Records.{firsts}
 use Rattle.fleet_model.specs.Store.{stored_jobs, fresh_store}
-use Rattle.fleet_model.specs.Replay.{Objects, outputs_in, named_specs, after_event, after_entry, replayed_objects, plain_objects, plain_manifest}
+use Rattle.fleet_model.specs.Past.Replay.{Objects, outputs_in, named_specs, after_event, after_entry, replayed_objects, plain_objects, plain_manifest}
 use Rattle.fleet_model.specs.Trees.{job_of}
 use Rattle.step_model.specs.Past.{World, manifest_with}
 use Rattle.step_model.specs.Entries.{steps_in, mentioned_in, is_mentioned}
-use Rattle.step_model.specs.Faithful.{Faithful, AgreesWith}
+use Rattle.step_model.specs.Kept.Faithful.{Faithful, AgreesWith}
 use Rattle.step_model.specs.LawfulManifests.{IsKnownTo}
 use Rattle.step_laws.proofs.Elements.{all_at, all_from, all_to, all_front, all_back, any_of, in_contains}
 use Rattle.step_laws.proofs.Bodies.{Body, JobKept}

@@ -8,12 +8,12 @@ use Rattle.fleet_model.specs.Nodes.{Tables, Trees}
 use Rattle.fleet_model.specs.Jobs.{JobSpec, Job, Jobs, Compacted, has_status, job_with, contains}
 use Rattle.fleet_model.specs.History.{Party, Step, Join, Move, Drain}
 use Rattle.fleet_model.specs.Store.{Records, stored_jobs, jobs_in}
-use Rattle.fleet_model.specs.Replay.{outputs_in, outputs_of, plain_job, plain_records}
+use Rattle.fleet_model.specs.Past.Replay.{outputs_in, outputs_of, plain_job, plain_records}
 use Rattle.fleet_model.specs.Trees.{stepped_in, stepped_all, horizon_after, horizon_after_all, job_of}
-use Rattle.fleet_model.specs.JobsFit.{is_join_of}
+use Rattle.fleet_model.specs.Invariants.JobsFit.{is_join_of}
 use Rattle.step_model.specs.Past.{World}
 use Rattle.step_model.specs.LawfulManifests.{StepsFit, StepFits, joined_after, IsKnownTo, cut_of}
-use Rattle.step_model.specs.JoinsKept.{join_of}
+use Rattle.step_model.specs.Kept.JoinsKept.{join_of}
 use Rattle.commit_laws.specs.After.{joined_by}
 use Rattle.step_laws.proofs.Bodies.{Body}
 use Rattle.commit_laws.proofs.Stretches.{never_both}

@@ -8,18 +8,18 @@ use Rattle.fleet_model.specs.Nodes.{Node, Segment, names}
 use Rattle.fleet_model.specs.Jobs.{JobSpec, contains}
 use Rattle.fleet_model.specs.Handles.{tree_tables}
 use Rattle.fleet_model.specs.History.{Party, Entry, Answer, Step, PutManifest, Commit, stood}
-use Rattle.fleet_model.specs.Records.{firsts}
+use Rattle.fleet_model.specs.Work.Records.{firsts}
 use Rattle.fleet_model.specs.Store.{Manifest, stored_jobs, fresh_store, AreHeld, WerePut}
-use Rattle.fleet_model.specs.Replay.{Objects, outputs_in, named_specs, after_event, after_entry, replayed_objects, plain_objects, plain_manifest, plain_records}
+use Rattle.fleet_model.specs.Past.Replay.{Objects, outputs_in, named_specs, after_event, after_entry, replayed_objects, plain_objects, plain_manifest, plain_records}
 use Rattle.fleet_model.specs.Trees.{job_of}
-use Rattle.fleet_model.specs.ReadsFit.{TreeKeepsReads}
+use Rattle.fleet_model.specs.Invariants.ReadsFit.{TreeKeepsReads}
 use Rattle.step_model.specs.Past.{World, manifest_with}
 use Rattle.step_model.specs.Entries.{drawn_jobs, mentioned_in, planned_attempts, attempts_in, attempts_claimed_in, epoch_in, was_named}
-use Rattle.step_model.specs.Faithful.{Faithful}
+use Rattle.step_model.specs.Kept.Faithful.{Faithful}
 use Rattle.step_model.specs.LawfulManifests.{IsKnownTo, StepsFit}
-use Rattle.step_model.specs.TablesKept.{IsKnownPiece, IsFlush, IsPassed}
-use Rattle.step_model.specs.JoinsKept.{join_of}
-use Rattle.step_model.specs.Keeps.{Keeps}
+use Rattle.step_model.specs.Kept.TablesKept.{IsKnownPiece, IsFlush, IsPassed}
+use Rattle.step_model.specs.Kept.JoinsKept.{join_of}
+use Rattle.step_model.specs.Kept.Keeps.{Keeps}
 use Rattle.step_laws.proofs.Elements.{IsIn, in_front, all_at, all_from, all_to, all_push, all_flat, all_unflat, any_element, contains_in, in_contains, flat_push_none, found_front, Cut, Whole, Before, cut_where}
 use Rattle.step_laws.proofs.Replays.{replayed_push}
 use Rattle.step_laws.proofs.Grown.{named_grows, drawn_job_grows, up_to_grows, pieces_grow, piece_grows, flush_grows, passed_grows}

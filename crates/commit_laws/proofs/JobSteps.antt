@@ -5,15 +5,15 @@ use Rattle.std.specs.List.{AllByRecursion}
 use Rattle.std.proofs.lemmas.Slice.Eq.{bytes_eq-Decides}
 use Rattle.fleet_model.specs.Nodes.{NodeName, Run, name_eq, names_contain, Node, Tree, Segment, Trees, names, segment_at, tree_at, tree_or_empty}
 use Rattle.fleet_model.specs.Jobs.{JobSpec, nodes_of, with_destination, Job, Compacted, has_status, is_active, contains}
-use Rattle.fleet_model.specs.Gates.{is_nonempty, reserves_nodes}
+use Rattle.fleet_model.specs.Work.Gates.{is_nonempty, reserves_nodes}
 use Rattle.fleet_model.specs.Handles.{tree_tables, job_tables}
 use Rattle.fleet_model.specs.History.{Entry}
 use Rattle.fleet_model.specs.Sources.{is_apart, all_run_ids, run_ids, begins_with_run, is_whole_stretch}
 use Rattle.fleet_model.specs.Trees.{on_segment, without_nodes, source_pieces}
-use Rattle.fleet_model.specs.JobsFit.{SourcesStand, DestinationFits, AreOldest, was_joined}
+use Rattle.fleet_model.specs.Invariants.JobsFit.{SourcesStand, DestinationFits, AreOldest, was_joined}
 use Rattle.step_model.specs.Past.{World}
 use Rattle.step_model.specs.LawfulTables.{was_piece}
-use Rattle.step_model.specs.JoinsKept.{JoinStands}
+use Rattle.step_model.specs.Kept.JoinsKept.{JoinStands}
 use Rattle.step_laws.proofs.Elements.{IsIn, all_from, in_front, in_back}
 use Rattle.step_laws.proofs.Deletions.{in_flat}
 use Rattle.step_laws.proofs.FlushTrees.{Rising}

@@ -4,14 +4,14 @@ use Rattle.std.specs.Prelude.{◌≢◌, IsTrue, ◌||◌, ◌==◌, map, flat_m
 use Rattle.std.proofs.lemmas.Bool.Decides.{Decides-eqb}
 use Rattle.fleet_model.specs.Nodes.{Run, Node, Tree, Trees}
 use Rattle.fleet_model.specs.Jobs.{JobSpec, nodes_of, Job, Compacted, has_status, is_active, contains}
-use Rattle.fleet_model.specs.Gates.{reserves_nodes}
+use Rattle.fleet_model.specs.Work.Gates.{reserves_nodes}
 use Rattle.fleet_model.specs.Handles.{tree_tables, job_tables}
 use Rattle.fleet_model.specs.History.{Entry}
 use Rattle.fleet_model.specs.Trees.{on_segment, without_nodes}
-use Rattle.fleet_model.specs.JobsFit.{was_joined}
+use Rattle.fleet_model.specs.Invariants.JobsFit.{was_joined}
 use Rattle.step_model.specs.Past.{World}
 use Rattle.step_model.specs.LawfulTables.{was_piece}
-use Rattle.step_model.specs.JoinsKept.{JoinStands}
+use Rattle.step_model.specs.Kept.JoinsKept.{JoinStands}
 use Rattle.step_laws.proofs.Elements.{IsIn}
 use Rattle.step_laws.proofs.Deletions.{in_flat}
 use Rattle.step_laws.proofs.FlushTrees.{Rising}

@@ -8,19 +8,19 @@ use Rattle.row_model.specs.Fold.{Operator, IsLawful}
 use Rattle.row_model.specs.JobRows.{job_rows}
 use Rattle.fleet_model.specs.Nodes.{table_rows, Node, Tree, Trees, names, tree_at}
 use Rattle.fleet_model.specs.Jobs.{JobSpec, nodes_of, Job, Status, Submitted, Scheduled, Running, Compacted, Completed, Failed, status_eq, is_finished, has_status, is_active, contains}
-use Rattle.fleet_model.specs.Attempts.{noted_rows, source_rows}
-use Rattle.fleet_model.specs.Gates.{reserves_nodes}
+use Rattle.fleet_model.specs.Work.Attempts.{noted_rows, source_rows}
+use Rattle.fleet_model.specs.Work.Gates.{reserves_nodes}
 use Rattle.fleet_model.specs.Handles.{tree_tables, job_tables, context_tables}
 use Rattle.fleet_model.specs.History.{Join}
 use Rattle.fleet_model.specs.Sources.{run_ids, all_run_ids, is_lowest_or_above}
 use Rattle.fleet_model.specs.Store.{Store, Manifest, stored_jobs, is_held, AreHeld}
 use Rattle.fleet_model.specs.Trees.{stepped_tree, stepped_in, to_run, with_run_for, source_pieces, horizon_after}
-use Rattle.fleet_model.specs.TreesFit.{IsTable, IsNewer}
-use Rattle.fleet_model.specs.JobsFit.{SourcesStand, DestinationFits, OutputsFit, SettingsFit, AreOldest, HoldApart, was_joined, cut_or}
+use Rattle.fleet_model.specs.Invariants.TreesFit.{IsTable, IsNewer}
+use Rattle.fleet_model.specs.Invariants.JobsFit.{SourcesStand, DestinationFits, OutputsFit, SettingsFit, AreOldest, HoldApart, was_joined, cut_or}
 use Rattle.step_model.specs.Past.{World}
 use Rattle.step_model.specs.LawfulTables.{was_piece}
 use Rattle.step_model.specs.LawfulManifests.{JoinFits}
-use Rattle.step_model.specs.TablesKept.{NameApart}
+use Rattle.step_model.specs.Kept.TablesKept.{NameApart}
 use Rattle.step_laws.proofs.Elements.{IsIn, all_at, all_from, all_to, all_back, all_flat, in_back, in_contains, all_true_front, all_true_from, any_of}
 use Rattle.step_laws.proofs.Deletions.{in_flat}
 use Rattle.step_laws.proofs.OwnTables.{apart_at}

@@ -11,10 +11,10 @@ use Rattle.fleet_model.specs.Handles.{tree_tables}
 use Rattle.fleet_model.specs.Store.{Manifest}
 use Rattle.fleet_model.specs.History.{Entry}
 use Rattle.fleet_model.specs.Trees.{on_segment}
-use Rattle.fleet_model.specs.TreesFit.{IsNewer}
+use Rattle.fleet_model.specs.Invariants.TreesFit.{IsNewer}
 use Rattle.step_model.specs.LawfulTables.{was_piece}
-use Rattle.step_model.specs.TablesKept.{AreApart, IsFlush}
-use Rattle.step_model.specs.JoinsKept.{JoinStands, Gone, NotEmpty, Itself}
+use Rattle.step_model.specs.Kept.TablesKept.{AreApart, IsFlush}
+use Rattle.step_model.specs.Kept.JoinsKept.{JoinStands, Gone, NotEmpty, Itself}
 use Rattle.step_laws.proofs.Elements.{IsIn, all_at, all_from, in_contains, contains_no, in_front, in_back, in_append}
 use Rattle.step_laws.proofs.Deletions.{in_flat}
 use Rattle.step_laws.proofs.OwnTables.{apart_at}

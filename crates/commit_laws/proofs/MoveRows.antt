@@ -14,8 +14,8 @@ use Rattle.row_model.specs.Fold.{Operator}
 use Rattle.fleet_model.specs.Nodes.{Tables, table_rows, Node, Tree, node_rows, flushed_node_rows}
 use Rattle.fleet_model.specs.Store.{Store}
 use Rattle.fleet_model.specs.Trees.{first_key, last_key, put_by_first_key, by_first_key, are_apart}
-use Rattle.fleet_model.specs.TreesFit.{IsNewer}
-use Rattle.fleet_model.specs.ReadsFit.{SameReads}
+use Rattle.fleet_model.specs.Invariants.TreesFit.{IsNewer}
+use Rattle.fleet_model.specs.Invariants.ReadsFit.{SameReads}
 use Rattle.row_laws.specs.Merges.{AreApart}
 use Rattle.row_laws.proofs.Order.{row_total}
 use Rattle.row_laws.proofs.KeyRows.{exact}

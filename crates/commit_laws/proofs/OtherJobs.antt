@@ -4,11 +4,11 @@ use Rattle.std.specs.Prelude.{IsTrue, ◌||◌, not, filter, flat_map, nat_lt, o
 use Rattle.std.specs.List.{AllByRecursion, list_any}
 use Rattle.fleet_model.specs.Nodes.{NodeName, L0, Run, is_l0, names_contain, Node, Tree, Trees, names, tree_at}
 use Rattle.fleet_model.specs.Jobs.{Job, contains}
-use Rattle.fleet_model.specs.Gates.{is_nonempty}
+use Rattle.fleet_model.specs.Work.Gates.{is_nonempty}
 use Rattle.fleet_model.specs.Sources.{run_ids, all_run_ids, or_later, older_nodes, begins_with_run, reaches_oldest, is_whole_stretch, is_lowest_or_above}
 use Rattle.fleet_model.specs.Trees.{source_pieces, without_nodes}
-use Rattle.fleet_model.specs.TreesFit.{StandsBefore}
-use Rattle.fleet_model.specs.JobsFit.{SourcesStand, DestinationFits, AreOldest}
+use Rattle.fleet_model.specs.Invariants.TreesFit.{StandsBefore}
+use Rattle.fleet_model.specs.Invariants.JobsFit.{SourcesStand, DestinationFits, AreOldest}
 use Rattle.step_laws.proofs.Elements.{IsIn, all_at, all_from, in_front, in_back, in_append, all_true_front, all_true_from, in_contains, contains_no}
 use Rattle.step_laws.proofs.PollJobs.{stretch_named}
 use Rattle.commit_laws.proofs.Stretches.{Named, InOrder, Stretch, stretch_of, never_both, names_in, node_of, pairs_of, pairs_second, begins_runs, all_flushes}

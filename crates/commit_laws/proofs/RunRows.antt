@@ -15,9 +15,9 @@ use Rattle.row_model.specs.Settings.{Settings}
 use Rattle.row_model.specs.JobRows.{job_rows}
 use Rattle.fleet_model.specs.Nodes.{Tables, table_rows, Node, Tree, node_rows, flushed_node_rows}
 use Rattle.fleet_model.specs.Store.{Store}
-use Rattle.fleet_model.specs.Attempts.{source_rows}
-use Rattle.fleet_model.specs.TreesFit.{IsNewer, node_and_flushed_rows}
-use Rattle.fleet_model.specs.ReadsFit.{SameReads}
+use Rattle.fleet_model.specs.Work.Attempts.{source_rows}
+use Rattle.fleet_model.specs.Invariants.TreesFit.{IsNewer, node_and_flushed_rows}
+use Rattle.fleet_model.specs.Invariants.ReadsFit.{SameReads}
 use Rattle.row_laws.specs.Parts.{HasPlace}
 use Rattle.row_laws.specs.Resume.{place}
 use Rattle.row_laws.specs.Merges.{AreApart}

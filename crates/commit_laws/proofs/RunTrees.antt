@@ -6,9 +6,9 @@ use Rattle.row_model.specs.Lists.{Pairs}
 use Rattle.row_model.specs.Rows.{Row, IsStrictlyOrdered}
 use Rattle.fleet_model.specs.Nodes.{Tables, table_rows, NodeName, L0, Run, name_eq, Node, Tree, Segment, names, node_rows}
 use Rattle.fleet_model.specs.Trees.{source_nodes, source_pieces, without_nodes, put_run, with_run_for}
-use Rattle.fleet_model.specs.TreesFit.{StandsBefore, IsNewer, IsTree, IsAtMost, node_and_flushed_rows}
+use Rattle.fleet_model.specs.Invariants.TreesFit.{StandsBefore, IsNewer, IsTree, IsAtMost, node_and_flushed_rows}
 use Rattle.fleet_model.specs.History.{Entry}
-use Rattle.step_model.specs.TablesKept.{IsFlush}
+use Rattle.step_model.specs.Kept.TablesKept.{IsFlush}
 use Rattle.step_laws.proofs.Elements.{IsIn, all_at, all_from, in_front}
 use Rattle.step_laws.proofs.Deletions.{in_flat}
 use Rattle.commit_laws.proofs.Stretches.{Named, InOrder, Stretch, Between, other_or, name_same, pairs_names, names_pairs, pairs_of, pairs_replaced, all_replaced, all_taken, pairs_second, nodes_named, without_stretch, put_between}

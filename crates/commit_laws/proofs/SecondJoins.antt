@@ -7,15 +7,15 @@ use Rattle.std.proofs.lemmas.List.{append-nil}
 use Rattle.row_model.specs.Fold.{Operator, IsLawful}
 use Rattle.fleet_model.specs.Nodes.{NodeName, L0, Run, names_contain, Node, Tree, Segment, Trees, names, node_named, tree_at}
 use Rattle.fleet_model.specs.Jobs.{Job, contains}
-use Rattle.fleet_model.specs.Gates.{first_failing, commit_gate}
+use Rattle.fleet_model.specs.Work.Gates.{first_failing, commit_gate}
 use Rattle.fleet_model.specs.Handles.{tree_tables}
 use Rattle.fleet_model.specs.History.{Join}
 use Rattle.fleet_model.specs.Store.{stored_jobs}
 use Rattle.fleet_model.specs.Trees.{on_segment, stepped_tree, stepped_in, to_run, with_run_for, source_nodes, source_pieces, watermark_after, l0_or}
-use Rattle.fleet_model.specs.TreesFit.{StandsBefore}
-use Rattle.fleet_model.specs.JobsFit.{was_joined}
+use Rattle.fleet_model.specs.Invariants.TreesFit.{StandsBefore}
+use Rattle.fleet_model.specs.Invariants.JobsFit.{was_joined}
 use Rattle.step_model.specs.Past.{World}
-use Rattle.step_model.specs.JoinsKept.{JoinStands, Gone, NotEmpty, Itself}
+use Rattle.step_model.specs.Kept.JoinsKept.{JoinStands, Gone, NotEmpty, Itself}
 use Rattle.fleet_model.specs.Sources.{older_nodes}
 use Rattle.step_laws.proofs.Elements.{IsIn, all_at, all_from, all_to, all_true_front, contains_in, in_contains}
 use Rattle.step_laws.proofs.Deletions.{in_flat}

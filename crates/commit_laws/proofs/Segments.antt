@@ -9,11 +9,11 @@ use Rattle.fleet_model.specs.Nodes.{Tables, table_rows, rows_or_none, is_among, 
 use Rattle.fleet_model.specs.History.{Entry}
 use Rattle.fleet_model.specs.Store.{Store, AreHeld, WerePut, is_held}
 use Rattle.fleet_model.specs.Trees.{without_nodes, watermark_after, l0_or}
-use Rattle.fleet_model.specs.TreesFit.{StandsBefore, IsTree, IsTable, IsNewer}
-use Rattle.fleet_model.specs.ReadsFit.{SameReads, NodeKeepsReads, TreeKeepsReads}
+use Rattle.fleet_model.specs.Invariants.TreesFit.{StandsBefore, IsTree, IsTable, IsNewer}
+use Rattle.fleet_model.specs.Invariants.ReadsFit.{SameReads, NodeKeepsReads, TreeKeepsReads}
 use Rattle.fleet_model.proofs.Joins.{same_reads-chain}
 use Rattle.step_model.specs.Entries.{was_flushed}
-use Rattle.step_model.specs.TablesKept.{IsKnownPiece, IsFlush, IsPassed}
+use Rattle.step_model.specs.Kept.TablesKept.{IsKnownPiece, IsFlush, IsPassed}
 use Rattle.step_laws.proofs.Elements.{IsIn, all_at, all_from, all_to, all_flat, all_true_front, all_true_from}
 use Rattle.step_laws.proofs.Held.{held_put}
 use Rattle.commit_laws.proofs.Stretches.{Named, InOrder, Between, never_both, in_names, names_no, node_in_names, node_of, pairs_names, names_pairs, pairs_first, pairs_second, pairs_filter, all_replaced, all_taken}

@@ -3,10 +3,10 @@ use Rattle.std.proofs.Common.{◌≡◌, sym, subst, ℕ, List, [], false}
 use Rattle.std.specs.Prelude.{IsTrue, ◌||◌}
 use Rattle.row_model.specs.Fold.{Operator, IsLawful}
 use Rattle.fleet_model.specs.Jobs.{JobSpec, Job, Scheduled, Running, Compacted, has_status}
-use Rattle.fleet_model.specs.Gates.{reserves_nodes}
+use Rattle.fleet_model.specs.Work.Gates.{reserves_nodes}
 use Rattle.fleet_model.specs.History.{Party, Step}
 use Rattle.fleet_model.specs.Store.{Manifest, stored_jobs}
-use Rattle.fleet_model.specs.JobsFit.{SourcesStand}
+use Rattle.fleet_model.specs.Invariants.JobsFit.{SourcesStand}
 use Rattle.step_model.specs.Past.{World}
 use Rattle.step_laws.proofs.Elements.{IsIn, all_at}
 use Rattle.step_laws.proofs.Bodies.{JobKept}

@@ -7,11 +7,11 @@ use Rattle.row_model.specs.Fold.{Operator, IsLawful}
 use Rattle.row_model.specs.JobRows.{job_rows}
 use Rattle.fleet_model.specs.Nodes.{Node, table_rows, NodeName, Tree, Segment, Trees, segment_at, tree_at, tree_or_empty}
 use Rattle.fleet_model.specs.Jobs.{JobSpec, Job, contains}
-use Rattle.fleet_model.specs.Attempts.{noted_rows, source_rows}
+use Rattle.fleet_model.specs.Work.Attempts.{noted_rows, source_rows}
 use Rattle.fleet_model.specs.Store.{stored_jobs}
 use Rattle.fleet_model.specs.History.{Move}
 use Rattle.fleet_model.specs.Trees.{on_segment, stepped_in, by_first_key, source_pieces, tables_now}
-use Rattle.fleet_model.specs.JobsFit.{SourcesStand, DestinationFits, was_joined}
+use Rattle.fleet_model.specs.Invariants.JobsFit.{SourcesStand, DestinationFits, was_joined}
 use Rattle.step_model.specs.Past.{World}
 use Rattle.step_laws.proofs.Elements.{IsIn, all_at}
 use Rattle.step_laws.proofs.Bodies.{Body, JobKept, whole_of}
@@ -19,7 +19,7 @@ use Rattle.step_laws.proofs.Alike.{replays_alike, settings_same}
 use Rattle.step_laws.proofs.FlushTrees.{Rising}
 use Rattle.commit_laws.specs.After.{trees_after, joined_by}
 use Rattle.row_model.specs.Lists.{Pairs}
-use Rattle.fleet_model.specs.TreesFit.{IsNewer}
+use Rattle.fleet_model.specs.Invariants.TreesFit.{IsNewer}
 use Rattle.row_laws.specs.Merges.{AreApart}
 use Rattle.row_laws.proofs.Merges.{ordered_stay}
 use Rattle.commit_laws.specs.StepForms.{RunReplaces, JoinReplaces, JoinsReplace, MoveReplaces, MovesReplace}

@@ -14,8 +14,8 @@ use Rattle.fleet_model.specs.History.{Entry}
 use Rattle.fleet_model.specs.Store.{Store}
 use Rattle.fleet_model.specs.Sources.{is_apart}
 use Rattle.fleet_model.specs.Trees.{on_segment, watermark_after}
-use Rattle.fleet_model.specs.TreesFit.{NoneShared, RootIsFirst}
-use Rattle.step_model.specs.TablesKept.{AreApart}
+use Rattle.fleet_model.specs.Invariants.TreesFit.{NoneShared, RootIsFirst}
+use Rattle.step_model.specs.Kept.TablesKept.{AreApart}
 use Rattle.step_laws.proofs.Elements.{IsIn, all_at, all_from, all_to, pairs_map, all_true_front, all_true_from, in_append, in_front, in_back}
 use Rattle.step_laws.proofs.OwnTables.{apart_from, apart_at, pairs_both}
 use Rattle.step_laws.proofs.FlushTrees.{Rising}

@@ -6,13 +6,13 @@ use Rattle.std.proofs.lemmas.Slice.Eq.{bytes_eq-Decides}
 use Rattle.row_model.specs.Fold.{Operator}
 use Rattle.fleet_model.specs.Nodes.{NodeName, Run, is_l0, Node, Tree, Segment, Trees, names, segment_at, tree_at, tree_or_empty}
 use Rattle.fleet_model.specs.Jobs.{JobSpec, contains}
-use Rattle.fleet_model.specs.Gates.{is_nonempty}
+use Rattle.fleet_model.specs.Work.Gates.{is_nonempty}
 use Rattle.fleet_model.specs.Handles.{tree_tables}
 use Rattle.fleet_model.specs.History.{Entry}
 use Rattle.fleet_model.specs.Sources.{run_ids, all_run_ids, older_nodes, begins_with_run, reaches_oldest, is_whole_stretch, is_lowest_or_above}
 use Rattle.fleet_model.specs.Store.{Store, AreHeld}
 use Rattle.fleet_model.specs.Trees.{without_nodes, with_run_for, watermark_after}
-use Rattle.step_model.specs.TablesKept.{IsKnownPiece}
+use Rattle.step_model.specs.Kept.TablesKept.{IsKnownPiece}
 use Rattle.step_laws.proofs.Elements.{IsIn, all_at, in_front, in_back, contains_in}
 use Rattle.step_laws.proofs.Deletions.{in_flat}
 use Rattle.step_laws.proofs.FlushTrees.{Rising}

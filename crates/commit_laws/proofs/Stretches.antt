@@ -9,7 +9,7 @@ use Rattle.fleet_model.specs.Nodes.{NodeName, L0, Run, name_eq, is_l0, names_con
 use Rattle.fleet_model.specs.Jobs.{contains}
 use Rattle.fleet_model.specs.Sources.{run_ids, after_front, or_later, older_nodes, begins_with_run, reaches_oldest, is_lowest_or_above}
 use Rattle.fleet_model.specs.Trees.{source_nodes, without_nodes, is_run_below, put_run}
-use Rattle.fleet_model.specs.TreesFit.{StandsBefore}
+use Rattle.fleet_model.specs.Invariants.TreesFit.{StandsBefore}
 use Rattle.step_laws.proofs.Elements.{IsIn, all_at, all_from, all_to, all_append, all_front, all_back, in_front, contains_in}
 
 -- ---- names

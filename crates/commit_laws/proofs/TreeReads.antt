@@ -12,8 +12,8 @@ use Rattle.row_model.specs.Rows.{Row, key_cmp, row_cmp, rows_of_key, sorted_rows
 use Rattle.row_model.specs.Fold.{Operator}
 use Rattle.fleet_model.specs.Nodes.{Tables, Node, Tree, node_rows, flushed_node_rows}
 use Rattle.fleet_model.specs.Store.{Store}
-use Rattle.fleet_model.specs.TreesFit.{IsNewer, node_and_flushed_rows}
-use Rattle.fleet_model.specs.ReadsFit.{SameReads, NodeKeepsReads, TreeKeepsReads}
+use Rattle.fleet_model.specs.Invariants.TreesFit.{IsNewer, node_and_flushed_rows}
+use Rattle.fleet_model.specs.Invariants.ReadsFit.{SameReads, NodeKeepsReads, TreeKeepsReads}
 use Rattle.fleet_model.proofs.Joins.{same_reads-append, same_reads-oldest}
 use Rattle.row_laws.specs.Merges.{AllBefore}
 use Rattle.row_laws.proofs.Merges.{newer_rows_come_first}

@@ -3,7 +3,7 @@ use Rattle.std.specs.Prelude.{ℕ, List, [], ◌∷◌}
 use Rattle.fleet_model.specs.Nodes.{Trees}
 use Rattle.fleet_model.specs.Jobs.{JobSpec}
 use Rattle.fleet_model.specs.History.{Step}
-use Rattle.fleet_model.specs.Replay.{outputs_in}
+use Rattle.fleet_model.specs.Past.Replay.{outputs_in}
 use Rattle.fleet_model.specs.Trees.{stepped_all}
 use Rattle.step_model.specs.Past.{World}
 use Rattle.step_model.specs.LawfulManifests.{joined_after}

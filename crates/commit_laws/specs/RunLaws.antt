@@ -2,16 +2,16 @@
 -- invariant.
 use Rattle.std.specs.Prelude.{ℕ, List, ⊤}
 use Rattle.row_model.specs.Fold.{IsLawful}
-use Rattle.fleet_model.specs.PollStates.{PollState}
+use Rattle.fleet_model.specs.Work.PollStates.{PollState}
 use Rattle.step_model.specs.Past.{World}
 use Rattle.step_model.specs.Rivals.{Caller, Rivals}
-use Rattle.step_model.specs.Keeps.{Keeps}
-use Rattle.step_model.specs.Course.{Course}
-use Rattle.step_model.specs.StepEnds.{StepEnd}
-use Rattle.step_model.specs.ClaimSteps.{Claimed}
-use Rattle.step_model.specs.BeatSteps.{Beaten}
-use Rattle.step_model.specs.OutputSteps.{Written}
-use Rattle.step_model.specs.FinishSteps.{FinishedJob}
+use Rattle.step_model.specs.Kept.Keeps.{Keeps}
+use Rattle.step_model.specs.Courses.Course.{Course}
+use Rattle.step_model.specs.Courses.StepEnds.{StepEnd}
+use Rattle.step_model.specs.Steps.ClaimSteps.{Claimed}
+use Rattle.step_model.specs.Steps.BeatSteps.{Beaten}
+use Rattle.step_model.specs.Steps.OutputSteps.{Written}
+use Rattle.step_model.specs.Steps.FinishSteps.{FinishedJob}
 use Rattle.step_laws.specs.Runs.{RunKeeps}
 
 -- The runs of all lawful courses with such an answer keep the invariant, whatever calls of others

@@ -9,10 +9,10 @@ use Rattle.row_model.specs.Settings.{Settings}
 use Rattle.row_model.specs.JobRows.{job_rows}
 use Rattle.fleet_model.specs.Nodes.{Tables, table_rows, Run, Node, Tree, node_rows}
 use Rattle.fleet_model.specs.Store.{Store}
-use Rattle.fleet_model.specs.Attempts.{noted_rows, source_rows}
+use Rattle.fleet_model.specs.Work.Attempts.{noted_rows, source_rows}
 use Rattle.fleet_model.specs.Trees.{by_first_key, are_apart}
-use Rattle.fleet_model.specs.TreesFit.{IsNewer}
-use Rattle.fleet_model.specs.ReadsFit.{NodeKeepsReads}
+use Rattle.fleet_model.specs.Invariants.TreesFit.{IsNewer}
+use Rattle.fleet_model.specs.Invariants.ReadsFit.{NodeKeepsReads}
 
 -- The run of these tables that replaces some nodes. It has all their flushes.
 abbrev pub run_for : ℕ → List ℕ → Tree → Node

@@ -6,11 +6,11 @@ use Rattle.fleet_model.specs.Jobs.{JobSpec, Job, Compacted, has_status, job_with
 use Rattle.fleet_model.specs.History.{Party, Step, Join}
 use Rattle.fleet_model.specs.Store.{stored_jobs}
 use Rattle.fleet_model.specs.Trees.{stepped_in, job_of}
-use Rattle.fleet_model.specs.Gates.{commit_gate}
-use Rattle.fleet_model.specs.JobsFit.{was_joined}
+use Rattle.fleet_model.specs.Work.Gates.{commit_gate}
+use Rattle.fleet_model.specs.Invariants.JobsFit.{was_joined}
 use Rattle.step_model.specs.Past.{World}
 use Rattle.step_model.specs.LawfulManifests.{IsKnownTo, StepsFit}
-use Rattle.step_model.specs.Keeps.{Keeps}
+use Rattle.step_model.specs.Kept.Keeps.{Keeps}
 use Rattle.commit_laws.specs.After.{trees_after}
 
 -- A job whose join took effect is Compacted still, since the records were lost. If it passes the

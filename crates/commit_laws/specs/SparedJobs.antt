@@ -5,10 +5,10 @@ use Rattle.row_model.specs.Settings.{Settings}
 use Rattle.fleet_model.specs.Jobs.{Job, Scheduled, Running, has_status, job_with}
 use Rattle.fleet_model.specs.History.{Party, Step}
 use Rattle.fleet_model.specs.Store.{Manifest, stored_jobs}
-use Rattle.fleet_model.specs.JobsFit.{SourcesStand, SettingsFit}
+use Rattle.fleet_model.specs.Invariants.JobsFit.{SourcesStand, SettingsFit}
 use Rattle.step_model.specs.Past.{World}
 use Rattle.step_model.specs.LawfulManifests.{CommitFits}
-use Rattle.step_model.specs.Keeps.{Keeps}
+use Rattle.step_model.specs.Kept.Keeps.{Keeps}
 
 -- The sources of the job are in their tree one after the other, with the tables that they had when the
 -- job was opened. Settings that fit the job fit it still: a last run stays one of the oldest nodes.

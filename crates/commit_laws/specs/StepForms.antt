@@ -7,14 +7,14 @@ use Rattle.row_model.specs.JobRows.{job_rows}
 use Rattle.fleet_model.specs.Nodes.{Node, Tree, Trees, names, tree_at}
 use Rattle.fleet_model.specs.Jobs.{JobSpec, Job}
 use Rattle.fleet_model.specs.History.{Party, Step, Join, Move}
-use Rattle.fleet_model.specs.Attempts.{noted_rows, source_rows}
-use Rattle.fleet_model.specs.Claimed.{settings_of, without_cut}
+use Rattle.fleet_model.specs.Work.Attempts.{noted_rows, source_rows}
+use Rattle.fleet_model.specs.Past.Claimed.{settings_of, without_cut}
 use Rattle.fleet_model.specs.Trees.{stepped_in, job_of, by_first_key, tables_now}
-use Rattle.fleet_model.specs.JobsFit.{cut_or, was_joined}
+use Rattle.fleet_model.specs.Invariants.JobsFit.{cut_or, was_joined}
 use Rattle.step_model.specs.Past.{World}
-use Rattle.step_model.specs.Faithful.{Faithful}
+use Rattle.step_model.specs.Kept.Faithful.{Faithful}
 use Rattle.step_model.specs.LawfulManifests.{IsKnownTo, StepsFit, JoinFits, MoveFits}
-use Rattle.step_model.specs.Keeps.{Keeps}
+use Rattle.step_model.specs.Kept.Keeps.{Keeps}
 use Rattle.commit_laws.specs.After.{trees_after, joined_by}
 use Rattle.commit_laws.specs.RunReads.{run_for}
 

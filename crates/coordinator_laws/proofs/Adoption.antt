@@ -7,12 +7,12 @@ use Rattle.row_model.specs.Lists.{Pairs}
 use Rattle.fleet_model.specs.Jobs.{JobSpec, Job, Jobs, Status, Submitted, Scheduled, Running, Compacted, Completed, Failed, status_eq, has_status, job_with, contains, put_job, nodes_of}
 use Rattle.fleet_model.specs.Nodes.{Trees}
 use Rattle.fleet_model.specs.Sources.{is_apart}
-use Rattle.fleet_model.specs.Records.{new_job, with_new, to_waiting, firsts}
-use Rattle.fleet_model.specs.Gates.{reserves_nodes}
-use Rattle.fleet_model.specs.JobsFit.{SourcesStand}
-use Rattle.fleet_model.specs.PollStates.{PollState}
-use Rattle.step_model.specs.Merging.{adopts, is_taken_new, taken_job, with_replaced, take_in, merged_jobs}
-use Rattle.step_model.specs.PollSteps.{merged_into}
+use Rattle.fleet_model.specs.Work.Records.{new_job, with_new, to_waiting, firsts}
+use Rattle.fleet_model.specs.Work.Gates.{reserves_nodes}
+use Rattle.fleet_model.specs.Invariants.JobsFit.{SourcesStand}
+use Rattle.fleet_model.specs.Work.PollStates.{PollState}
+use Rattle.step_model.specs.Steps.Merging.{adopts, is_taken_new, taken_job, with_replaced, take_in, merged_jobs}
+use Rattle.step_model.specs.Steps.PollSteps.{merged_into}
 use Rattle.step_laws.proofs.Elements.{IsIn, all_at, all_from, all_to, contains_in, in_contains, contains_no, pairs_map}
 use Rattle.step_laws.proofs.Changed.{IsFound, found_job, job_found}
 use Rattle.step_laws.proofs.NewJobs.{in_new, rise_put, rise_new}

@@ -8,7 +8,7 @@ use Rattle.fleet_model.specs.Exchanges.{Plain, DrawsJob}
 use Rattle.step_model.specs.Past.{World}
 use Rattle.step_model.specs.Entries.{did_put_epoch}
 use Rattle.step_model.specs.Rivals.{Caller, after_call}
-use Rattle.step_model.specs.PollSteps.{PollAsk, input_of, records_or_none}
+use Rattle.step_model.specs.Steps.PollSteps.{PollAsk, input_of, records_or_none}
 use Rattle.step_laws.specs.Runs.{CallsKeep}
 use Rattle.rival_laws.proofs.Coordinators.{put_low}
 use Rattle.course_laws.proofs.NewIds.{AreFresh, rivals_fresh, drawn_fresh}

@@ -9,14 +9,14 @@ use Rattle.step_model.specs.Past.{World}
 use Rattle.step_model.specs.Entries.{did_put_epoch, is_epoch_put}
 use Rattle.step_model.specs.Lawful.{Lawful}
 use Rattle.step_model.specs.Rivals.{Caller, after_call}
-use Rattle.step_model.specs.Keeps.{Keeps}
+use Rattle.step_model.specs.Kept.Keeps.{Keeps}
 use Rattle.step_model.specs.Fits.{CoordinatorHolds}
-use Rattle.step_model.specs.Course.{Course, Ends, Calls}
-use Rattle.step_model.specs.Tries.{tries}
-use Rattle.step_model.specs.CourseRuns.{End, Gives, MeetsFault, LacksMemory, HasRoom, StopsAt, Runs, IsLawfulCourse}
-use Rattle.step_model.specs.StepEnds.{StepEnd, Reports, GivesUp, Fenced, most_refused}
-use Rattle.step_model.specs.PollSteps.{start, start_try, epoch_above, holds_at_start, unless_fenced}
-use Rattle.step_model.specs.PollSteps as step
+use Rattle.step_model.specs.Courses.Course.{Course, Ends, Calls}
+use Rattle.step_model.specs.Courses.Tries.{tries}
+use Rattle.step_model.specs.Courses.CourseRuns.{End, Gives, MeetsFault, LacksMemory, HasRoom, StopsAt, Runs, IsLawfulCourse}
+use Rattle.step_model.specs.Courses.StepEnds.{StepEnd, Reports, GivesUp, Fenced, most_refused}
+use Rattle.step_model.specs.Steps.PollSteps.{start, start_try, epoch_above, holds_at_start, unless_fenced}
+use Rattle.step_model.specs.Steps.PollSteps as step
 use Rattle.step_laws.specs.Runs.{CallsKeep}
 use Rattle.step_laws.proofs.Runs.{rivals_keep, struck_has_room}
 use Rattle.course_laws.proofs.Calls.{keeps_after}

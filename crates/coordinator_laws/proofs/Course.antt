@@ -12,23 +12,23 @@ use Rattle.fleet_model.specs.Jobs.{JobSpec, Job, Jobs, Scheduled, has_status, jo
 use Rattle.fleet_model.specs.History.{Party, ManifestChange, GetManifest, GetRecords, PutManifest, Commit, Step, Conflict, Done, Entry}
 use Rattle.fleet_model.specs.Store.{Manifest, Records, stored_jobs, jobs_in, records_epoch}
 use Rattle.fleet_model.specs.Trees.{job_of, stepped_all, horizon_after_all}
-use Rattle.fleet_model.specs.Records.{firsts}
-use Rattle.fleet_model.specs.Replay.{outputs_in}
-use Rattle.fleet_model.specs.JobsFit.{SourcesStand}
-use Rattle.fleet_model.specs.TreesFit.{EpochFits}
-use Rattle.fleet_model.specs.PollStates.{PollInput, PollState}
+use Rattle.fleet_model.specs.Work.Records.{firsts}
+use Rattle.fleet_model.specs.Past.Replay.{outputs_in}
+use Rattle.fleet_model.specs.Invariants.JobsFit.{SourcesStand}
+use Rattle.fleet_model.specs.Invariants.TreesFit.{EpochFits}
+use Rattle.fleet_model.specs.Work.PollStates.{PollInput, PollState}
 use Rattle.fleet_model.specs.Exchanges.{Exchange, Plain, DrawsJob, PutsManifest, next_job_id, with_entry}
 use Rattle.step_model.specs.Past.{World, world_after}
 use Rattle.step_model.specs.Entries.{did_put_epoch, is_mentioned, drew_job}
 use Rattle.step_model.specs.Lawful.{Lawful}
 use Rattle.step_model.specs.LawfulManifests.{cut_of, MayCommit, CommitFits, IsKnownTo, StepsFit}
 use Rattle.step_model.specs.Rivals.{Caller, Rivals, after_call}
-use Rattle.step_model.specs.Keeps.{Keeps}
-use Rattle.step_model.specs.CourseRuns.{IsLawfulCourse}
-use Rattle.step_model.specs.Tries.{counted_tries, tries}
-use Rattle.step_model.specs.Course.{Course, Ends, Calls, draws_jobs, puts_manifest}
-use Rattle.step_model.specs.PollSteps.{PollAsk, poll, poll_try, polls_over, puts_trees, puts_polled, input_of, first_steps, last_steps, proposed_specs, is_unchanged, same_tree, records_or_none, unless_fenced}
-use Rattle.step_model.specs.StepEnds.{StepEnd, Fenced, most_refused}
+use Rattle.step_model.specs.Kept.Keeps.{Keeps}
+use Rattle.step_model.specs.Courses.CourseRuns.{IsLawfulCourse}
+use Rattle.step_model.specs.Courses.Tries.{counted_tries, tries}
+use Rattle.step_model.specs.Courses.Course.{Course, Ends, Calls, draws_jobs, puts_manifest}
+use Rattle.step_model.specs.Steps.PollSteps.{PollAsk, poll, poll_try, polls_over, puts_trees, puts_polled, input_of, first_steps, last_steps, proposed_specs, is_unchanged, same_tree, records_or_none, unless_fenced}
+use Rattle.step_model.specs.Courses.StepEnds.{StepEnd, Fenced, most_refused}
 use Rattle.step_laws.specs.Runs.{CallsKeep}
 use Rattle.step_laws.proofs.Elements.{IsIn, all_at, all_from, all_to}
 use Rattle.step_laws.proofs.Changed.{found_job}

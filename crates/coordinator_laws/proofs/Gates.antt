@@ -9,9 +9,9 @@ use Rattle.fleet_model.specs.Nodes.{Trees, Segment, names, names_contain, tree_a
 use Rattle.fleet_model.specs.Jobs.{JobSpec, nodes_of, is_drain, is_drain_to, Job, Jobs, contains}
 use Rattle.fleet_model.specs.Trees.{source_pieces, tables_now}
 use Rattle.fleet_model.specs.Sources.{run_ids, all_run_ids, is_whole_stretch, is_lowest_or_above, is_apart}
-use Rattle.fleet_model.specs.Records.{new_job, to_scheduled}
-use Rattle.fleet_model.specs.Gates.{first_failing, is_nonempty, are_distinct, destination_fits, reserves_nodes, is_free, submitted_rules, submit_gate, commit_gate}
-use Rattle.fleet_model.specs.JobsFit.{SourcesStand, DestinationFits}
+use Rattle.fleet_model.specs.Work.Records.{new_job, to_scheduled}
+use Rattle.fleet_model.specs.Work.Gates.{first_failing, is_nonempty, are_distinct, destination_fits, reserves_nodes, is_free, submitted_rules, submit_gate, commit_gate}
+use Rattle.fleet_model.specs.Invariants.JobsFit.{SourcesStand, DestinationFits}
 use Rattle.step_laws.proofs.Elements.{IsIn, all_at, all_from, all_true_front, all_true_from, contains_no}
 use Rattle.step_laws.proofs.Deletions.{in_flat}
 use Rattle.step_laws.proofs.PollJobs.{stretch_in, tree_has}

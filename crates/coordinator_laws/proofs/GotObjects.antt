@@ -8,17 +8,17 @@ use Rattle.fleet_model.specs.Nodes.{segment_at}
 use Rattle.fleet_model.specs.Jobs.{JobSpec, Job, Jobs, job_with, trimmed_jobs, changed_jobs}
 use Rattle.fleet_model.specs.History.{Party, Coordinator, RecordChange, RecordsEpoch, Submit, Claim, Beat, Finish, Release, Polled, GetManifest, Entry}
 use Rattle.fleet_model.specs.Store.{Manifest, stored_jobs, jobs_in, records_epoch}
-use Rattle.fleet_model.specs.Claims.{is_waiting}
-use Rattle.fleet_model.specs.Records.{firsts, claimed_by, beaten_by, finished_by, to_waiting}
-use Rattle.fleet_model.specs.Parties.{LiveCoordinator}
+use Rattle.fleet_model.specs.Work.Claims.{is_waiting}
+use Rattle.fleet_model.specs.Work.Records.{firsts, claimed_by, beaten_by, finished_by, to_waiting}
+use Rattle.fleet_model.specs.Work.Parties.{LiveCoordinator}
 use Rattle.fleet_model.specs.Exchanges.{Exchange, Plain}
 use Rattle.step_model.specs.Past.{World}
 use Rattle.step_model.specs.Entries.{was_named, did_put_epoch}
 use Rattle.step_model.specs.LawfulRecords.{RecordsFit, IsStoredAs, OfSome, Publishes, IsLiveAt, FinishIsWhole, AreNew}
-use Rattle.step_model.specs.Merging.{Local, merged_trees, taken_job}
+use Rattle.step_model.specs.Steps.Merging.{Local, merged_trees, taken_job}
 use Rattle.step_model.specs.Fits.{JobsMerge, MergesIfThere, KnownIfThere}
 use Rattle.step_model.specs.Rivals.{Caller, RivalCall, IsRival, after_call, after_rival}
-use Rattle.step_model.specs.Keeps.{Keeps}
+use Rattle.step_model.specs.Kept.Keeps.{Keeps}
 use Rattle.step_laws.proofs.Elements.{IsIn, all_at, all_to}
 use Rattle.step_laws.proofs.Bodies.{Body, whole_of}
 use Rattle.step_laws.proofs.Changed.{job_found}

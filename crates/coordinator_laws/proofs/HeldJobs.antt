@@ -6,7 +6,7 @@ use Rattle.std.specs.Option.{option_or}
 use Rattle.std.proofs.lemmas.Bool.{lt-ltb, ltb-true}
 use Rattle.row_model.specs.Lists.{Pairs}
 use Rattle.fleet_model.specs.Jobs.{Job, Jobs, Status, Submitted, Scheduled, Running, Compacted, Completed, Failed, job_with, trimmed_jobs, is_active, is_finished, finished_later}
-use Rattle.step_model.specs.Merging.{Local, adopts, is_taken_new, taken_job}
+use Rattle.step_model.specs.Steps.Merging.{Local, adopts, is_taken_new, taken_job}
 use Rattle.step_model.specs.Fits.{IsOutlived, IsStillStored, JobsMerge}
 use Rattle.step_laws.proofs.Elements.{IsIn, all_at, all_from, all_to, any_element, any_of}
 use Rattle.step_laws.proofs.Changed.{in_trimmed, job_found}

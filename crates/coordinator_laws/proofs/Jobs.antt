@@ -5,11 +5,11 @@ use Rattle.std.specs.List.{AllByRecursion}
 use Rattle.std.proofs.lemmas.Bool.Decides.{Decides-eqb}
 use Rattle.row_model.specs.Lists.{Pairs}
 use Rattle.fleet_model.specs.Jobs.{JobSpec, Job, Jobs, Submitted, Running, Compacted, nodes_of, has_status, contains, changed_jobs, put_job}
-use Rattle.fleet_model.specs.Records.{to_scheduled, to_completed, to_failed, firsts, new_job, with_new}
+use Rattle.fleet_model.specs.Work.Records.{to_scheduled, to_completed, to_failed, firsts, new_job, with_new}
 use Rattle.fleet_model.specs.Sources.{is_apart}
-use Rattle.fleet_model.specs.Gates.{reserves_nodes}
-use Rattle.fleet_model.specs.JobsFit.{HoldApart}
-use Rattle.fleet_model.specs.PollStates.{PollState}
+use Rattle.fleet_model.specs.Work.Gates.{reserves_nodes}
+use Rattle.fleet_model.specs.Invariants.JobsFit.{HoldApart}
+use Rattle.fleet_model.specs.Work.PollStates.{PollState}
 use Rattle.step_model.specs.LawfulRecords.{may_end}
 use Rattle.step_laws.proofs.Elements.{IsIn, all_at, all_to, all_push, contains_no}
 use Rattle.step_laws.proofs.NewJobs.{in_put, rise_put}

@@ -8,13 +8,13 @@ use Rattle.fleet_model.specs.Nodes.{Trees, segment_at}
 use Rattle.fleet_model.specs.Jobs.{Jobs}
 use Rattle.fleet_model.specs.History.{Party, Coordinator, PutManifest, ManifestChange, Conflict, Done, Entry}
 use Rattle.fleet_model.specs.Store.{Manifest, stored_jobs, records_epoch}
-use Rattle.fleet_model.specs.Parties.{LiveCoordinator}
+use Rattle.fleet_model.specs.Work.Parties.{LiveCoordinator}
 use Rattle.fleet_model.specs.Exchanges.{PutsManifest, with_entry}
 use Rattle.step_model.specs.Past.{World, world_after}
-use Rattle.step_model.specs.Merging.{Local, taken_job, merged_trees}
+use Rattle.step_model.specs.Steps.Merging.{Local, taken_job, merged_trees}
 use Rattle.step_model.specs.Fits.{CoordinatorHolds, MergesIfThere, KnownIfThere, JobsMerge, IsStillStored}
 use Rattle.step_model.specs.Rivals.{Caller, Rivals, after_call}
-use Rattle.step_model.specs.Keeps.{Keeps}
+use Rattle.step_model.specs.Kept.Keeps.{Keeps}
 use Rattle.step_laws.specs.Runs.{CallsKeep}
 use Rattle.step_laws.proofs.Elements.{all_from, all_to}
 use Rattle.step_laws.proofs.Changed.{found_job}

@@ -3,18 +3,18 @@ use Rattle.std.proofs.Common.{◌≡◌, sym, subst, ℕ, List, [], ◌∷◌, c
 use Rattle.std.specs.Prelude.{IsTrue}
 use Rattle.row_model.specs.Fold.{IsLawful}
 use Rattle.fleet_model.specs.History.{Coordinator}
-use Rattle.fleet_model.specs.PollStates.{PollState}
+use Rattle.fleet_model.specs.Work.PollStates.{PollState}
 use Rattle.step_model.specs.Past.{World}
 use Rattle.step_model.specs.Entries.{did_put_epoch}
-use Rattle.step_model.specs.Merging.{Local}
+use Rattle.step_model.specs.Steps.Merging.{Local}
 use Rattle.step_model.specs.Rivals.{Caller}
-use Rattle.step_model.specs.Keeps.{Keeps}
+use Rattle.step_model.specs.Kept.Keeps.{Keeps}
 use Rattle.step_model.specs.Fits.{CoordinatorHolds}
-use Rattle.step_model.specs.Course.{Course, Ends}
-use Rattle.step_model.specs.CourseRuns.{End, Gives, Runs, IsLawfulCourse}
-use Rattle.step_model.specs.StepEnds.{StepEnd, Reports, GivesUp, Fenced, NotOwner, NoRecords, Invalid, Declined, OperatorRefuses, BadFlush}
-use Rattle.step_model.specs.PollSteps.{PollAsk, poll}
-use Rattle.step_model.specs.LoopSteps.{LoopEnd, IsIdle, leaves_none, goes_on, polls_at}
+use Rattle.step_model.specs.Courses.Course.{Course, Ends}
+use Rattle.step_model.specs.Courses.CourseRuns.{End, Gives, Runs, IsLawfulCourse}
+use Rattle.step_model.specs.Courses.StepEnds.{StepEnd, Reports, GivesUp, Fenced, NotOwner, NoRecords, Invalid, Declined, OperatorRefuses, BadFlush}
+use Rattle.step_model.specs.Steps.PollSteps.{PollAsk, poll}
+use Rattle.step_model.specs.Steps.LoopSteps.{LoopEnd, IsIdle, leaves_none, goes_on, polls_at}
 use Rattle.step_laws.proofs.Runs.{runs_keep}
 use Rattle.commit_laws.proofs.AllCalls.{calls_keep}
 use Rattle.course_laws.proofs.Composed.{then_lawful}

@@ -3,8 +3,8 @@ use Rattle.std.proofs.Common.{◌≡◌, refl, sym, ◌∙◌, ap, ℕ, List, []
 use Rattle.std.specs.Prelude.{IsTrue, ◌==◌, ◌||◌, map}
 use Rattle.std.proofs.lemmas.Bool.Decides.{Decides-eqb}
 use Rattle.fleet_model.specs.Jobs.{Job, Jobs, contains, changed_jobs}
-use Rattle.fleet_model.specs.Records.{to_waiting, to_scheduled, to_completed, to_failed, firsts}
-use Rattle.fleet_model.specs.PollStates.{PollState}
+use Rattle.fleet_model.specs.Work.Records.{to_waiting, to_scheduled, to_completed, to_failed, firsts}
+use Rattle.fleet_model.specs.Work.PollStates.{PollState}
 use Rattle.step_model.specs.LawfulRecords.{may_end}
 use Rattle.step_laws.proofs.Elements.{IsIn, is_itself}
 

@@ -12,17 +12,17 @@ use Rattle.fleet_model.specs.Jobs.{JobSpec, job_with, contains}
 use Rattle.fleet_model.specs.History.{Party, Step, Answer, Entry, stood}
 use Rattle.fleet_model.specs.Store.{fresh_store, stored_jobs}
 use Rattle.fleet_model.specs.Trees.{job_of}
-use Rattle.fleet_model.specs.Records.{firsts}
-use Rattle.fleet_model.specs.Replay.{named_specs, plain_objects, replayed_objects, after_entry}
+use Rattle.fleet_model.specs.Work.Records.{firsts}
+use Rattle.fleet_model.specs.Past.Replay.{named_specs, plain_objects, replayed_objects, after_entry}
 use Rattle.fleet_model.specs.Exchanges.{Exchange}
 use Rattle.step_model.specs.Past.{World}
 use Rattle.step_model.specs.Entries.{drew_job, mentioned_in, was_named}
-use Rattle.step_model.specs.Faithful.{Faithful, AgreesWith, with_specs, spec_or}
+use Rattle.step_model.specs.Kept.Faithful.{Faithful, AgreesWith, with_specs, spec_or}
 use Rattle.step_model.specs.LawfulRecords.{NamesFit}
 use Rattle.step_model.specs.LawfulManifests.{IsKnownTo, StepsFit}
 use Rattle.step_model.specs.Rivals.{Caller, Rivals, after_rival}
-use Rattle.step_model.specs.Keeps.{Keeps}
-use Rattle.step_model.specs.TablesKept.{PutsKept}
+use Rattle.step_model.specs.Kept.Keeps.{Keeps}
+use Rattle.step_model.specs.Kept.TablesKept.{PutsKept}
 use Rattle.step_laws.specs.Runs.{CallsKeep}
 use Rattle.step_laws.proofs.Elements.{IsIn, all_at, all_from, all_to, all_push, any_push_no, contains_no, in_front, in_contains, Cut, Whole, Before, cut_where}
 use Rattle.step_laws.proofs.Alike.{replays_alike}

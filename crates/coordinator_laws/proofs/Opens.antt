@@ -12,12 +12,12 @@ use Rattle.fleet_model.specs.History.{Party, Move, Drain}
 use Rattle.fleet_model.specs.Sources.{is_apart}
 use Rattle.fleet_model.specs.Store.{stored_jobs}
 use Rattle.fleet_model.specs.Trees.{stepped_in, stepped_all, source_pieces, by_first_key, put_by_first_key, first_key, last_key, are_apart, to_run, with_run_for, watermark_after, tables_now}
-use Rattle.fleet_model.specs.Records.{firsts, new_job, with_new, to_scheduled, to_completed, to_failed}
-use Rattle.fleet_model.specs.Replay.{outputs_in}
-use Rattle.fleet_model.specs.Gates.{reserves_nodes, is_nonempty, submit_gate}
-use Rattle.fleet_model.specs.JobsFit.{SourcesStand, was_joined}
-use Rattle.fleet_model.specs.PollStates.{PollInput, PollState, accepts}
-use Rattle.fleet_model.specs.Polls.{open_by, drain_job, move_job, schedule_job, can_move, lost_to_scheduler}
+use Rattle.fleet_model.specs.Work.Records.{firsts, new_job, with_new, to_scheduled, to_completed, to_failed}
+use Rattle.fleet_model.specs.Past.Replay.{outputs_in}
+use Rattle.fleet_model.specs.Work.Gates.{reserves_nodes, is_nonempty, submit_gate}
+use Rattle.fleet_model.specs.Invariants.JobsFit.{SourcesStand, was_joined}
+use Rattle.fleet_model.specs.Work.PollStates.{PollInput, PollState, accepts}
+use Rattle.fleet_model.specs.Work.Polls.{open_by, drain_job, move_job, schedule_job, can_move, lost_to_scheduler}
 use Rattle.step_model.specs.Past.{World}
 use Rattle.step_model.specs.LawfulManifests.{AtOnceFits, MoveFits, DrainFits, holding}
 use Rattle.step_laws.proofs.Elements.{IsIn, all_at, all_to, all_push, contains_in, in_contains}

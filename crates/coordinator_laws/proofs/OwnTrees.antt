@@ -11,11 +11,11 @@ use Rattle.row_model.specs.Fold.{Operator}
 use Rattle.row_laws.proofs.KeyRows.{key_alike}
 use Rattle.fleet_model.specs.Nodes.{NodeName, L0, Run, name_eq, is_l0, names_contain, Tree, names, Segment, Trees, segment_at, runs_of}
 use Rattle.fleet_model.specs.History.{Entry}
-use Rattle.fleet_model.specs.TreesFit.{StandsBefore}
+use Rattle.fleet_model.specs.Invariants.TreesFit.{StandsBefore}
 use Rattle.step_model.specs.Past.{World}
-use Rattle.step_model.specs.TablesKept.{IsPassed}
-use Rattle.step_model.specs.Keeps.{Keeps}
-use Rattle.step_model.specs.Merging.{is_watermark, flushes_before, merged_segment, merged_trees}
+use Rattle.step_model.specs.Kept.TablesKept.{IsPassed}
+use Rattle.step_model.specs.Kept.Keeps.{Keeps}
+use Rattle.step_model.specs.Steps.Merging.{is_watermark, flushes_before, merged_segment, merged_trees}
 use Rattle.step_laws.proofs.Elements.{IsIn, all_at, all_from}
 use Rattle.step_laws.proofs.FlushTrees.{Rising, rising_from}
 use Rattle.rival_laws.proofs.TreesMerged.{Stays, each_merges}

@@ -8,23 +8,23 @@ use Rattle.row_model.specs.Fold.{Operator, IsLawful}
 use Rattle.fleet_model.specs.Nodes.{Trees}
 use Rattle.fleet_model.specs.Jobs.{JobSpec, Job, Jobs, trimmed_jobs}
 use Rattle.fleet_model.specs.History.{Party, Step, Join, GetManifest, GetRecords, Commit, Polled, Entry}
-use Rattle.fleet_model.specs.Records.{jobs_after}
-use Rattle.fleet_model.specs.Replay.{outputs_in}
+use Rattle.fleet_model.specs.Work.Records.{jobs_after}
+use Rattle.fleet_model.specs.Past.Replay.{outputs_in}
 use Rattle.fleet_model.specs.Store.{Manifest, Records, Store, stored_jobs, jobs_in}
 use Rattle.fleet_model.specs.Trees.{stepped_in, stepped_all, job_of}
-use Rattle.fleet_model.specs.PollStates.{PollState}
-use Rattle.fleet_model.specs.Polls.{change_of, is_nothing}
+use Rattle.fleet_model.specs.Work.PollStates.{PollState}
+use Rattle.fleet_model.specs.Work.Polls.{change_of, is_nothing}
 use Rattle.fleet_model.specs.Exchanges.{Exchange, Plain, DrawsJob, PutsManifest, records_version, next_job_id}
 use Rattle.step_model.specs.Past.{World}
 use Rattle.step_model.specs.Entries.{party_eq, is_draw_of, drew_job}
 use Rattle.step_model.specs.Lawful.{Lawful}
 use Rattle.step_model.specs.LawfulManifests.{IsKnownTo, StepFits, StepsFit, CommitFits, joined_after}
 use Rattle.step_model.specs.Rivals.{Caller, Rivals, after_call}
-use Rattle.step_model.specs.Keeps.{Keeps}
-use Rattle.step_model.specs.Course.{Course, Ends, Calls, draws_jobs, gets_records, puts_manifest, puts_records}
-use Rattle.step_model.specs.Tries.{counted_tries}
-use Rattle.step_model.specs.StepEnds.{StepEnd, Reports, GivesUp, Fenced, most_refused}
-use Rattle.step_model.specs.PollSteps.{PollAsk, poll, poll_try, polls_over, puts_trees, puts_polled, unless_fenced, records_or_none, first_steps, proposed_specs, merged_into, is_unchanged}
+use Rattle.step_model.specs.Kept.Keeps.{Keeps}
+use Rattle.step_model.specs.Courses.Course.{Course, Ends, Calls, draws_jobs, gets_records, puts_manifest, puts_records}
+use Rattle.step_model.specs.Courses.Tries.{counted_tries}
+use Rattle.step_model.specs.Courses.StepEnds.{StepEnd, Reports, GivesUp, Fenced, most_refused}
+use Rattle.step_model.specs.Steps.PollSteps.{PollAsk, poll, poll_try, polls_over, puts_trees, puts_polled, unless_fenced, records_or_none, first_steps, proposed_specs, merged_into, is_unchanged}
 use Rattle.step_laws.specs.Runs.{CallsKeep}
 use Rattle.step_laws.proofs.Elements.{all_front, all_to, any_front}
 use Rattle.commit_laws.specs.After.{trees_after, joined_by}

@@ -10,22 +10,22 @@ use Rattle.row_model.specs.Fold.{IsLawful}
 use Rattle.fleet_model.specs.Jobs.{JobSpec, job_with, trimmed_jobs}
 use Rattle.fleet_model.specs.History.{Coordinator, GetManifest, GetRecords, PutManifest, Commit, Polled, Done, Entry}
 use Rattle.fleet_model.specs.Store.{Manifest, Records, records_epoch}
-use Rattle.fleet_model.specs.Parties.{LiveCoordinator}
-use Rattle.fleet_model.specs.PollStates.{PollInput, PollState}
-use Rattle.fleet_model.specs.Polls.{change_of, is_nothing}
+use Rattle.fleet_model.specs.Work.Parties.{LiveCoordinator}
+use Rattle.fleet_model.specs.Work.PollStates.{PollInput, PollState}
+use Rattle.fleet_model.specs.Work.Polls.{change_of, is_nothing}
 use Rattle.fleet_model.specs.Exchanges.{Exchange, Plain, DrawsJob, PutsManifest, PutsRecords, next_job_id, records_version}
 use Rattle.step_model.specs.Past.{World}
 use Rattle.step_model.specs.Entries.{did_put_epoch}
-use Rattle.step_model.specs.Merging.{Local}
+use Rattle.step_model.specs.Steps.Merging.{Local}
 use Rattle.step_model.specs.Lawful.{Lawful}
 use Rattle.step_model.specs.Rivals.{Caller, after_call}
-use Rattle.step_model.specs.Keeps.{Keeps}
+use Rattle.step_model.specs.Kept.Keeps.{Keeps}
 use Rattle.step_model.specs.Fits.{CoordinatorHolds}
-use Rattle.step_model.specs.Course.{Course, Ends, Calls, draws_jobs, gets_records, puts_records, puts_manifest}
-use Rattle.step_model.specs.Tries.{counted_tries, tries}
-use Rattle.step_model.specs.CourseRuns.{Gives, Runs}
-use Rattle.step_model.specs.StepEnds.{StepEnd, Reports, GivesUp, Fenced, most_refused}
-use Rattle.step_model.specs.PollSteps.{PollAsk, poll, poll_try, polls_over, puts_trees, puts_polled, input_of, first_steps, last_steps, proposed_specs, is_unchanged, records_or_none, unless_fenced, merged_into}
+use Rattle.step_model.specs.Courses.Course.{Course, Ends, Calls, draws_jobs, gets_records, puts_records, puts_manifest}
+use Rattle.step_model.specs.Courses.Tries.{counted_tries, tries}
+use Rattle.step_model.specs.Courses.CourseRuns.{Gives, Runs}
+use Rattle.step_model.specs.Courses.StepEnds.{StepEnd, Reports, GivesUp, Fenced, most_refused}
+use Rattle.step_model.specs.Steps.PollSteps.{PollAsk, poll, poll_try, polls_over, puts_trees, puts_polled, input_of, first_steps, last_steps, proposed_specs, is_unchanged, records_or_none, unless_fenced, merged_into}
 use Rattle.step_laws.specs.Runs.{CallsKeep}
 use Rattle.step_laws.proofs.Elements.{IsIn, all_from}
 use Rattle.step_laws.proofs.Changed.{found_job, in_trimmed}

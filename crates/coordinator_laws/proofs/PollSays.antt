@@ -5,12 +5,12 @@ use Rattle.std.specs.List.{AllByRecursion, list_any}
 use Rattle.row_model.specs.Lists.{Pairs}
 use Rattle.fleet_model.specs.Jobs.{JobSpec, is_drain, Job, Jobs, Submitted, Compacted, has_status, contains, changed_jobs}
 use Rattle.fleet_model.specs.History.{Step, Join, Move, Drain}
-use Rattle.fleet_model.specs.Records.{to_waiting}
-use Rattle.fleet_model.specs.Gates.{commit_gate, submit_gate}
-use Rattle.fleet_model.specs.Scheduler.{Scheduler}
-use Rattle.fleet_model.specs.PollStates.{PollOptions, PollInput, PollState, poll_begun, accepts}
-use Rattle.fleet_model.specs.Polls.{free_stale, commit_by, commit_job, each, commit_finished, clashes, add_by, add_drawn, lost_to_scheduler, can_move, drain_job, move_job, schedule_job, open_by, open_job, open_submitted, committed_poll}
-use Rattle.step_model.specs.PollSteps.{PollAsk, first_steps, last_steps}
+use Rattle.fleet_model.specs.Work.Records.{to_waiting}
+use Rattle.fleet_model.specs.Work.Gates.{commit_gate, submit_gate}
+use Rattle.fleet_model.specs.Work.Scheduler.{Scheduler}
+use Rattle.fleet_model.specs.Work.PollStates.{PollOptions, PollInput, PollState, poll_begun, accepts}
+use Rattle.fleet_model.specs.Work.Polls.{free_stale, commit_by, commit_job, each, commit_finished, clashes, add_by, add_drawn, lost_to_scheduler, can_move, drain_job, move_job, schedule_job, open_by, open_job, open_submitted, committed_poll}
+use Rattle.step_model.specs.Steps.PollSteps.{PollAsk, first_steps, last_steps}
 use Rattle.step_laws.proofs.Elements.{pairs_map, all_append}
 use Rattle.course_laws.proofs.Calls.{pairs_filter}
 use Rattle.coordinator_laws.specs.PollSays.{verdicts, passed_in, failed_in, added_by, additions, added_in, dropped_in, Fate, fate_by, fates, opened_in, moved_in, drained_in, refused_in, IsAtOnce, PollSays}

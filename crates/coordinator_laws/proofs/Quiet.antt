@@ -10,11 +10,11 @@ use Rattle.fleet_model.specs.History.{Party, PutManifest, PutRecords, ManifestCh
 use Rattle.fleet_model.specs.Sources.{older_nodes}
 use Rattle.fleet_model.specs.Store.{Manifest, jobs_in, stored_jobs, records_epoch}
 use Rattle.fleet_model.specs.Trees.{flushed_trees}
-use Rattle.fleet_model.specs.Records.{Unrecorded, firsts, new_job, with_new, claimed_by, beaten_by, finished_by, to_waiting, jobs_after}
-use Rattle.fleet_model.specs.JobsFit.{SourcesStand, was_joined, joins}
-use Rattle.fleet_model.specs.Gates.{is_nonempty}
-use Rattle.fleet_model.specs.Replay.{epoch_after}
-use Rattle.fleet_model.specs.Claims.{is_waiting}
+use Rattle.fleet_model.specs.Work.Records.{Unrecorded, firsts, new_job, with_new, claimed_by, beaten_by, finished_by, to_waiting, jobs_after}
+use Rattle.fleet_model.specs.Invariants.JobsFit.{SourcesStand, was_joined, joins}
+use Rattle.fleet_model.specs.Work.Gates.{is_nonempty}
+use Rattle.fleet_model.specs.Past.Replay.{epoch_after}
+use Rattle.fleet_model.specs.Work.Claims.{is_waiting}
 use Rattle.fleet_model.specs.Exchanges.{Exchange}
 use Rattle.step_model.specs.Past.{World}
 use Rattle.step_model.specs.Entries.{did_put_epoch}
@@ -22,7 +22,7 @@ use Rattle.step_model.specs.Lawful.{Lawful}
 use Rattle.step_model.specs.LawfulManifests.{ManifestFits}
 use Rattle.step_model.specs.LawfulRecords.{ChangeFits, OfSome, IsLiveAt, Publishes, FinishIsWhole}
 use Rattle.step_model.specs.Rivals.{Caller, Strike, MayStrike, after_call, RivalCall, RivalsFrom, Rivals, after_rival, is_deletion}
-use Rattle.step_model.specs.Keeps.{Keeps}
+use Rattle.step_model.specs.Kept.Keeps.{Keeps}
 use Rattle.step_laws.specs.Runs.{CallsKeep}
 use Rattle.step_laws.proofs.Elements.{IsIn, all_from, all_to}
 use Rattle.step_laws.proofs.Bodies.{Body, whole_of}

@@ -9,16 +9,16 @@ use Rattle.fleet_model.specs.Jobs.{JobSpec, Job, Jobs, Scheduled, Running, Compa
 use Rattle.fleet_model.specs.History.{Party, Step, Join}
 use Rattle.fleet_model.specs.Store.{stored_jobs}
 use Rattle.fleet_model.specs.Trees.{job_of, stepped_in, stepped_all, horizon_after, horizon_after_all}
-use Rattle.fleet_model.specs.Records.{new_job, to_completed, to_failed}
-use Rattle.fleet_model.specs.Replay.{outputs_in}
-use Rattle.fleet_model.specs.Gates.{reserves_nodes, commit_gate}
-use Rattle.fleet_model.specs.JobsFit.{SourcesStand, was_joined}
-use Rattle.fleet_model.specs.PollStates.{PollInput, PollState, accepts}
-use Rattle.fleet_model.specs.Polls.{commit_by}
+use Rattle.fleet_model.specs.Work.Records.{new_job, to_completed, to_failed}
+use Rattle.fleet_model.specs.Past.Replay.{outputs_in}
+use Rattle.fleet_model.specs.Work.Gates.{reserves_nodes, commit_gate}
+use Rattle.fleet_model.specs.Invariants.JobsFit.{SourcesStand, was_joined}
+use Rattle.fleet_model.specs.Work.PollStates.{PollInput, PollState, accepts}
+use Rattle.fleet_model.specs.Work.Polls.{commit_by}
 use Rattle.step_model.specs.Past.{World}
 use Rattle.step_model.specs.Entries.{drew_job, is_mentioned}
 use Rattle.step_model.specs.LawfulManifests.{StepsFit, StepFits, JoinFits, joined_after, IsKnownTo, cut_of}
-use Rattle.step_model.specs.Keeps.{Keeps}
+use Rattle.step_model.specs.Kept.Keeps.{Keeps}
 use Rattle.step_laws.proofs.Elements.{IsIn, all_at, all_to, all_push}
 use Rattle.step_laws.proofs.Bodies.{Body, JobKept, whole_of}
 use Rattle.step_laws.proofs.Changed.{by_these, all_on_these}

@@ -8,11 +8,11 @@ use Rattle.fleet_model.specs.Jobs.{Job, Jobs, Scheduled, has_status, job_with, c
 use Rattle.fleet_model.specs.History.{Party, PollChange, Polled}
 use Rattle.fleet_model.specs.Store.{Records, stored_jobs, jobs_in, records_epoch}
 use Rattle.fleet_model.specs.Trees.{tables_now}
-use Rattle.fleet_model.specs.Records.{Unrecorded, no_contexts, firsts, with_new, to_waiting, to_scheduled, to_completed, to_failed, after_poll, jobs_after}
-use Rattle.fleet_model.specs.Replay.{epoch_after}
-use Rattle.fleet_model.specs.JobsFit.{SourcesStand, HoldApart}
-use Rattle.fleet_model.specs.PollStates.{PollState}
-use Rattle.fleet_model.specs.Polls.{change_of}
+use Rattle.fleet_model.specs.Work.Records.{Unrecorded, no_contexts, firsts, with_new, to_waiting, to_scheduled, to_completed, to_failed, after_poll, jobs_after}
+use Rattle.fleet_model.specs.Past.Replay.{epoch_after}
+use Rattle.fleet_model.specs.Invariants.JobsFit.{SourcesStand, HoldApart}
+use Rattle.fleet_model.specs.Work.PollStates.{PollState}
+use Rattle.fleet_model.specs.Work.Polls.{change_of}
 use Rattle.step_model.specs.Past.{World}
 use Rattle.step_model.specs.Entries.{did_put_epoch}
 use Rattle.step_model.specs.LawfulRecords.{OfSome, AreNew, RecordsFit}

@@ -9,16 +9,16 @@ use Rattle.fleet_model.specs.Nodes.{segment_at}
 use Rattle.fleet_model.specs.Jobs.{JobSpec, Job, Jobs, job_with, trimmed_jobs, contains, is_finished, put_id, in_id_order}
 use Rattle.fleet_model.specs.History.{Party, PutRecords, RecordChange, Polled, Conflict, Done, Entry, stood}
 use Rattle.fleet_model.specs.Store.{Records, stored_jobs, jobs_in, records_epoch}
-use Rattle.fleet_model.specs.Records.{firsts, new_job, with_new}
-use Rattle.fleet_model.specs.Replay.{named_specs}
-use Rattle.fleet_model.specs.Gates.{is_nonempty}
-use Rattle.fleet_model.specs.Parties.{LiveCoordinator}
-use Rattle.fleet_model.specs.PollStates.{PollState}
-use Rattle.fleet_model.specs.Polls.{change_of, is_nothing}
+use Rattle.fleet_model.specs.Work.Records.{firsts, new_job, with_new}
+use Rattle.fleet_model.specs.Past.Replay.{named_specs}
+use Rattle.fleet_model.specs.Work.Gates.{is_nonempty}
+use Rattle.fleet_model.specs.Work.Parties.{LiveCoordinator}
+use Rattle.fleet_model.specs.Work.PollStates.{PollState}
+use Rattle.fleet_model.specs.Work.Polls.{change_of, is_nothing}
 use Rattle.fleet_model.specs.Exchanges.{PutsRecords, records_version, with_entry}
 use Rattle.step_model.specs.Past.{World, world_after}
 use Rattle.step_model.specs.Entries.{was_named}
-use Rattle.step_model.specs.Merging.{Local, merged_trees}
+use Rattle.step_model.specs.Steps.Merging.{Local, merged_trees}
 use Rattle.step_model.specs.Fits.{Merges, MergesIfThere, KnownIfThere, LocalIsKnown, JobsMerge, IsOutlived, IsStillStored}
 use Rattle.step_model.specs.Rivals.{Caller, after_call}
 use Rattle.step_laws.proofs.Elements.{IsIn, all_at, all_to, any_push_yes, in_contains}

@@ -10,12 +10,12 @@ use Rattle.fleet_model.specs.Jobs.{JobSpec, is_drain, Job, Scheduled, Running, C
 use Rattle.fleet_model.specs.History.{Party, Step, Join, Move, Drain}
 use Rattle.fleet_model.specs.Store.{stored_jobs}
 use Rattle.fleet_model.specs.Trees.{without_nodes, is_run_below, put_run, with_run_for, to_run, by_first_key, source_pieces, l0_or, watermark_after, stepped_tree, stepped_in, stepped_all, job_of}
-use Rattle.fleet_model.specs.JobsFit.{DestinationFits, SourcesStand, was_joined}
-use Rattle.fleet_model.specs.Replay.{outputs_in}
+use Rattle.fleet_model.specs.Invariants.JobsFit.{DestinationFits, SourcesStand, was_joined}
+use Rattle.fleet_model.specs.Past.Replay.{outputs_in}
 use Rattle.step_model.specs.Past.{World}
 use Rattle.step_model.specs.LawfulManifests.{StepsFit, StepFits, joined_after, IsKnownTo}
-use Rattle.step_model.specs.Keeps.{Keeps}
-use Rattle.step_model.specs.PollSteps.{node_eq, same_tree}
+use Rattle.step_model.specs.Kept.Keeps.{Keeps}
+use Rattle.step_model.specs.Steps.PollSteps.{node_eq, same_tree}
 use Rattle.step_laws.proofs.Elements.{IsIn, all_at}
 use Rattle.rival_laws.proofs.CommitsOldest.{outputs_are}
 use Rattle.commit_laws.proofs.Stretches.{name_same}

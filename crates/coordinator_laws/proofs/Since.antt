@@ -9,19 +9,19 @@ use Rattle.fleet_model.specs.Jobs.{JobSpec, Job, is_active, job_with, contains, 
 use Rattle.fleet_model.specs.History.{Event, GetManifest, GetRecords, DrawJob, Done, Entry, stood}
 use Rattle.fleet_model.specs.Store.{Records, stored_jobs, jobs_in, records_epoch, is_held}
 use Rattle.fleet_model.specs.Handles.{job_tables, context_tables}
-use Rattle.fleet_model.specs.Replay.{named_specs}
-use Rattle.fleet_model.specs.Records.{firsts}
-use Rattle.fleet_model.specs.Invariant.{JobTablesHeld}
+use Rattle.fleet_model.specs.Past.Replay.{named_specs}
+use Rattle.fleet_model.specs.Work.Records.{firsts}
+use Rattle.fleet_model.specs.Invariants.Invariant.{JobTablesHeld}
 use Rattle.rival_laws.proofs.Outcomes.{Notes}
-use Rattle.fleet_model.specs.Gates.{reserves_nodes}
-use Rattle.fleet_model.specs.JobsFit.{HoldApart, NodesHeldOnce}
+use Rattle.fleet_model.specs.Work.Gates.{reserves_nodes}
+use Rattle.fleet_model.specs.Invariants.JobsFit.{HoldApart, NodesHeldOnce}
 use Rattle.fleet_model.specs.Exchanges.{Plain, DrawsJob, next_job_id, answer_of}
 use Rattle.step_model.specs.Past.{World}
 use Rattle.step_model.specs.Entries.{was_named, is_mentioned, drew_job}
 use Rattle.step_model.specs.LawfulTables.{DrawFits}
 use Rattle.step_model.specs.Rivals.{Caller, Rivals, after_call}
-use Rattle.step_model.specs.Keeps.{Keeps}
-use Rattle.step_model.specs.PollSteps.{PollAsk, input_of}
+use Rattle.step_model.specs.Kept.Keeps.{Keeps}
+use Rattle.step_model.specs.Steps.PollSteps.{PollAsk, input_of}
 use Rattle.step_laws.specs.Runs.{CallsKeep}
 use Rattle.step_laws.proofs.Elements.{IsIn, all_at, all_from, all_to, all_back, all_true_front}
 use Rattle.step_laws.proofs.Changed.{found_job}

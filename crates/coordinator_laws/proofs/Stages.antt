@@ -7,13 +7,13 @@ use Rattle.row_model.specs.Fold.{Operator}
 use Rattle.fleet_model.specs.Nodes.{Trees}
 use Rattle.fleet_model.specs.Jobs.{JobSpec, is_drain, Job, Jobs, Submitted, Scheduled, Running, Compacted, Status, status_eq, has_status, changed_jobs, put_job, is_stale, is_overdue, ids}
 use Rattle.fleet_model.specs.History.{Party}
-use Rattle.fleet_model.specs.Records.{new_job, with_new, to_waiting, to_scheduled, to_completed, to_failed}
+use Rattle.fleet_model.specs.Work.Records.{new_job, with_new, to_waiting, to_scheduled, to_completed, to_failed}
 use Rattle.fleet_model.specs.Trees.{tables_now}
-use Rattle.fleet_model.specs.Gates.{commit_gate, submit_gate}
-use Rattle.fleet_model.specs.PollStates.{PollInput, PollState, poll_begun, accepts}
-use Rattle.fleet_model.specs.Polls.{free_stale, each, commit_by, commit_job, commit_finished, committed_poll, open_by, open_job, open_submitted, drain_job, move_job, schedule_job, can_move, lost_to_scheduler, add_by, add_drawn, clashes}
+use Rattle.fleet_model.specs.Work.Gates.{commit_gate, submit_gate}
+use Rattle.fleet_model.specs.Work.PollStates.{PollInput, PollState, poll_begun, accepts}
+use Rattle.fleet_model.specs.Work.Polls.{free_stale, each, commit_by, commit_job, commit_finished, committed_poll, open_by, open_job, open_submitted, drain_job, move_job, schedule_job, can_move, lost_to_scheduler, add_by, add_drawn, clashes}
 use Rattle.step_model.specs.Past.{World}
-use Rattle.step_model.specs.PollSteps.{PollAsk, first_steps, freed_and_committed, last_steps}
+use Rattle.step_model.specs.Steps.PollSteps.{PollAsk, first_steps, freed_and_committed, last_steps}
 use Rattle.step_laws.proofs.Elements.{IsIn, all_at, all_from, all_to, all_push, pairs_push, pairs_map, contains_in, in_front}
 use Rattle.step_laws.proofs.NewJobs.{in_put, in_new}
 use Rattle.step_laws.proofs.Changed.{by_these, all_on_these}

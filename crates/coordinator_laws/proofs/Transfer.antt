@@ -10,15 +10,15 @@ use Rattle.fleet_model.specs.Jobs.{Job, Scheduled, Running, Compacted, status_eq
 use Rattle.fleet_model.specs.History.{Party, ManifestChange, ManifestEpoch, Flush, Commit, Entry}
 use Rattle.fleet_model.specs.Store.{Manifest, Store, stored_jobs, is_held}
 use Rattle.fleet_model.specs.Handles.{tree_tables}
-use Rattle.fleet_model.specs.Gates.{reserves_nodes}
-use Rattle.fleet_model.specs.JobsFit.{SourcesStand, was_joined}
+use Rattle.fleet_model.specs.Work.Gates.{reserves_nodes}
+use Rattle.fleet_model.specs.Invariants.JobsFit.{SourcesStand, was_joined}
 use Rattle.fleet_model.specs.Exchanges.{Exchange}
 use Rattle.step_model.specs.Past.{World}
 use Rattle.step_model.specs.LawfulTables.{was_piece}
 use Rattle.step_model.specs.LawfulManifests.{ManifestFits}
-use Rattle.step_model.specs.JoinsKept.{JoinStands, Gone, NotEmpty, Itself}
+use Rattle.step_model.specs.Kept.JoinsKept.{JoinStands, Gone, NotEmpty, Itself}
 use Rattle.step_model.specs.Rivals.{Caller, RivalCall, RivalsFrom, Rivals, after_rival, is_deletion}
-use Rattle.step_model.specs.Keeps.{Keeps}
+use Rattle.step_model.specs.Kept.Keeps.{Keeps}
 use Rattle.step_laws.proofs.Elements.{IsIn, all_at, all_from, all_to, any_front, all_true_front, all_true_from, in_contains}
 use Rattle.step_laws.proofs.Bodies.{Body, JobKept, whole_of}
 use Rattle.step_laws.proofs.FlushFollows.{reads_fewer}

@@ -7,19 +7,19 @@ use Rattle.row_model.specs.Lists.{Pairs}
 use Rattle.fleet_model.specs.Jobs.{JobSpec, Job, Jobs, Scheduled, has_status, job_with, trimmed_jobs}
 use Rattle.fleet_model.specs.History.{Party, GetRecords, PutRecords, RecordChange, Polled, Conflict, Done, Entry, stood}
 use Rattle.fleet_model.specs.Store.{Records, stored_jobs, jobs_in, records_epoch}
-use Rattle.fleet_model.specs.JobsFit.{SourcesStand}
-use Rattle.fleet_model.specs.PollStates.{PollState}
-use Rattle.fleet_model.specs.Polls.{change_of, is_nothing}
+use Rattle.fleet_model.specs.Invariants.JobsFit.{SourcesStand}
+use Rattle.fleet_model.specs.Work.PollStates.{PollState}
+use Rattle.fleet_model.specs.Work.Polls.{change_of, is_nothing}
 use Rattle.fleet_model.specs.Exchanges.{Plain, PutsRecords, records_version, with_entry, answer_of}
 use Rattle.step_model.specs.Past.{World, world_after}
 use Rattle.step_model.specs.Entries.{was_named, did_put_epoch}
 use Rattle.step_model.specs.Lawful.{Lawful}
 use Rattle.step_model.specs.Rivals.{Caller, Rivals, after_call}
-use Rattle.step_model.specs.Keeps.{Keeps}
-use Rattle.step_model.specs.CourseRuns.{IsLawfulCourse}
-use Rattle.step_model.specs.Course.{Ends, gets_records, puts_records}
-use Rattle.step_model.specs.PollSteps.{puts_polled, merged_into, records_or_none, unless_fenced}
-use Rattle.step_model.specs.StepEnds.{Reports, GivesUp, Fenced}
+use Rattle.step_model.specs.Kept.Keeps.{Keeps}
+use Rattle.step_model.specs.Courses.CourseRuns.{IsLawfulCourse}
+use Rattle.step_model.specs.Courses.Course.{Ends, gets_records, puts_records}
+use Rattle.step_model.specs.Steps.PollSteps.{puts_polled, merged_into, records_or_none, unless_fenced}
+use Rattle.step_model.specs.Courses.StepEnds.{Reports, GivesUp, Fenced}
 use Rattle.step_laws.specs.Runs.{CallsKeep}
 use Rattle.step_laws.proofs.Elements.{IsIn, all_at, all_to}
 use Rattle.step_laws.proofs.Changed.{found_job}

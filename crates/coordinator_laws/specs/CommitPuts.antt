@@ -6,17 +6,17 @@ use Rattle.fleet_model.specs.Jobs.{JobSpec, Job, Jobs, job_with}
 use Rattle.fleet_model.specs.History.{Coordinator, GetManifest, GetRecords}
 use Rattle.fleet_model.specs.Store.{Records, stored_jobs}
 use Rattle.fleet_model.specs.Trees.{job_of, horizon_after_all}
-use Rattle.fleet_model.specs.PollStates.{PollState}
+use Rattle.fleet_model.specs.Work.PollStates.{PollState}
 use Rattle.fleet_model.specs.Exchanges.{Plain, DrawsJob, next_job_id}
 use Rattle.step_model.specs.Past.{World}
-use Rattle.step_model.specs.Faithful.{with_specs}
+use Rattle.step_model.specs.Kept.Faithful.{with_specs}
 use Rattle.step_model.specs.LawfulManifests.{IsKnownTo, cut_of}
 use Rattle.step_model.specs.LawfulTables.{DrawFits}
-use Rattle.step_model.specs.Merging.{Local}
+use Rattle.step_model.specs.Steps.Merging.{Local}
 use Rattle.step_model.specs.Rivals.{Caller, Rivals, after_call}
-use Rattle.step_model.specs.Keeps.{Keeps}
+use Rattle.step_model.specs.Kept.Keeps.{Keeps}
 use Rattle.step_model.specs.Fits.{CoordinatorHolds}
-use Rattle.step_model.specs.PollSteps.{PollAsk}
+use Rattle.step_model.specs.Steps.PollSteps.{PollAsk}
 use Rattle.commit_laws.specs.After.{trees_after}
 use Rattle.coordinator_laws.specs.PollReports.{input_got, state_reached}
 

@@ -2,15 +2,15 @@
 use Rattle.std.specs.Prelude.{◌≡◌, ℕ, Option, None}
 use Rattle.row_model.specs.Fold.{IsLawful}
 use Rattle.fleet_model.specs.History.{Coordinator}
-use Rattle.fleet_model.specs.PollStates.{PollState}
+use Rattle.fleet_model.specs.Work.PollStates.{PollState}
 use Rattle.step_model.specs.Past.{World}
-use Rattle.step_model.specs.Merging.{Local}
+use Rattle.step_model.specs.Steps.Merging.{Local}
 use Rattle.step_model.specs.Rivals.{Caller}
-use Rattle.step_model.specs.Keeps.{Keeps}
+use Rattle.step_model.specs.Kept.Keeps.{Keeps}
 use Rattle.step_model.specs.Fits.{CoordinatorHolds}
-use Rattle.step_model.specs.CourseRuns.{End, Gives, Runs}
-use Rattle.step_model.specs.StepEnds.{StepEnd, Reports}
-use Rattle.step_model.specs.PollSteps.{PollAsk, start, poll}
+use Rattle.step_model.specs.Courses.CourseRuns.{End, Gives, Runs}
+use Rattle.step_model.specs.Courses.StepEnds.{StepEnd, Reports}
+use Rattle.step_model.specs.Steps.PollSteps.{PollAsk, start, poll}
 
 -- Under a lawful operator, a coordinator that started fits with the epoch that its start reports. It
 -- holds no local state yet.

@@ -5,15 +5,15 @@ use Rattle.std.specs.Option.{option_or}
 use Rattle.row_model.specs.Fold.{IsLawful}
 use Rattle.fleet_model.specs.Jobs.{Job, Jobs, job_with, trimmed_jobs}
 use Rattle.fleet_model.specs.History.{Coordinator}
-use Rattle.fleet_model.specs.PollStates.{PollState}
+use Rattle.fleet_model.specs.Work.PollStates.{PollState}
 use Rattle.step_model.specs.Past.{World}
-use Rattle.step_model.specs.Merging.{Local}
+use Rattle.step_model.specs.Steps.Merging.{Local}
 use Rattle.step_model.specs.Rivals.{Caller}
-use Rattle.step_model.specs.Keeps.{Keeps}
+use Rattle.step_model.specs.Kept.Keeps.{Keeps}
 use Rattle.step_model.specs.Fits.{CoordinatorHolds}
-use Rattle.step_model.specs.CourseRuns.{Gives, Runs}
-use Rattle.step_model.specs.StepEnds.{Reports}
-use Rattle.step_model.specs.PollSteps.{PollAsk, poll}
+use Rattle.step_model.specs.Courses.CourseRuns.{Gives, Runs}
+use Rattle.step_model.specs.Courses.StepEnds.{Reports}
+use Rattle.step_model.specs.Steps.PollSteps.{PollAsk, poll}
 
 -- ---- the trees and the jobs that the poll reached
 

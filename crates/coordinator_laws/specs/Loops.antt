@@ -3,13 +3,13 @@ use Rattle.std.specs.Prelude.{◌≡◌, ℕ, List, Option, None}
 use Rattle.row_model.specs.Fold.{IsLawful}
 use Rattle.fleet_model.specs.History.{Coordinator}
 use Rattle.step_model.specs.Past.{World}
-use Rattle.step_model.specs.Merging.{Local}
+use Rattle.step_model.specs.Steps.Merging.{Local}
 use Rattle.step_model.specs.Rivals.{Caller}
-use Rattle.step_model.specs.Keeps.{Keeps}
+use Rattle.step_model.specs.Kept.Keeps.{Keeps}
 use Rattle.step_model.specs.Fits.{CoordinatorHolds}
-use Rattle.step_model.specs.CourseRuns.{End, Runs, IsLawfulCourse}
-use Rattle.step_model.specs.PollSteps.{PollAsk}
-use Rattle.step_model.specs.LoopSteps.{LoopEnd, polls_at}
+use Rattle.step_model.specs.Courses.CourseRuns.{End, Runs, IsLawfulCourse}
+use Rattle.step_model.specs.Steps.PollSteps.{PollAsk}
+use Rattle.step_model.specs.Steps.LoopSteps.{LoopEnd, polls_at}
 
 -- A loop of polls of a coordinator that fits is a lawful course under a lawful operator, and the coordinator
 -- fits after it, however the loop ends, if it holds no local state from then on.

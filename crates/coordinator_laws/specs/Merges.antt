@@ -5,12 +5,12 @@ use Rattle.row_model.specs.Lists.{Pairs}
 use Rattle.fleet_model.specs.Jobs.{Jobs, job_with}
 use Rattle.fleet_model.specs.History.{Party, Coordinator, GetManifest}
 use Rattle.fleet_model.specs.Store.{stored_jobs, records_epoch}
-use Rattle.fleet_model.specs.Parties.{LiveCoordinator}
+use Rattle.fleet_model.specs.Work.Parties.{LiveCoordinator}
 use Rattle.fleet_model.specs.Exchanges.{Exchange, Plain}
 use Rattle.step_model.specs.Past.{World}
-use Rattle.step_model.specs.Merging.{Local, merged_trees, merged_jobs}
+use Rattle.step_model.specs.Steps.Merging.{Local, merged_trees, merged_jobs}
 use Rattle.step_model.specs.Rivals.{Caller, Rivals, Strike, after_call}
-use Rattle.step_model.specs.Keeps.{Keeps}
+use Rattle.step_model.specs.Kept.Keeps.{Keeps}
 use Rattle.step_model.specs.Fits.{JobsMerge, CoordinatorHolds}
 use Rattle.step_laws.specs.Runs.{CallsKeep}
 

@@ -5,23 +5,23 @@ use Rattle.row_model.specs.Fold.{Operator, IsLawful}
 use Rattle.fleet_model.specs.Nodes.{Trees}
 use Rattle.fleet_model.specs.Jobs.{JobSpec, Job, Jobs, job_with, trimmed_jobs}
 use Rattle.fleet_model.specs.History.{Coordinator, GetManifest, Join, Polled}
-use Rattle.fleet_model.specs.Records.{Unrecorded, jobs_after}
+use Rattle.fleet_model.specs.Work.Records.{Unrecorded, jobs_after}
 use Rattle.fleet_model.specs.Store.{Records, Store, stored_jobs}
 use Rattle.fleet_model.specs.Trees.{stepped_in}
-use Rattle.fleet_model.specs.JobsFit.{was_joined}
-use Rattle.fleet_model.specs.PollStates.{PollInput, PollState}
-use Rattle.fleet_model.specs.Polls.{change_of, is_nothing}
+use Rattle.fleet_model.specs.Invariants.JobsFit.{was_joined}
+use Rattle.fleet_model.specs.Work.PollStates.{PollInput, PollState}
+use Rattle.fleet_model.specs.Work.Polls.{change_of, is_nothing}
 use Rattle.fleet_model.specs.Exchanges.{Exchange, Plain, PutsRecords}
 use Rattle.step_model.specs.Past.{World}
 use Rattle.step_model.specs.Entries.{drew_job}
-use Rattle.step_model.specs.Merging.{Local}
+use Rattle.step_model.specs.Steps.Merging.{Local}
 use Rattle.step_model.specs.LawfulManifests.{CommitFits}
 use Rattle.step_model.specs.Rivals.{Caller, Rivals, after_call}
-use Rattle.step_model.specs.Keeps.{Keeps}
+use Rattle.step_model.specs.Kept.Keeps.{Keeps}
 use Rattle.step_model.specs.Fits.{CoordinatorHolds}
-use Rattle.step_model.specs.CourseRuns.{Gives, Runs}
-use Rattle.step_model.specs.StepEnds.{Reports}
-use Rattle.step_model.specs.PollSteps.{PollAsk, poll, input_of, records_or_none, first_steps, proposed_specs, last_steps, is_unchanged, merged_into}
+use Rattle.step_model.specs.Courses.CourseRuns.{Gives, Runs}
+use Rattle.step_model.specs.Courses.StepEnds.{Reports}
+use Rattle.step_model.specs.Steps.PollSteps.{PollAsk, poll, input_of, records_or_none, first_steps, proposed_specs, last_steps, is_unchanged, merged_into}
 use Rattle.course_laws.specs.Afterwards.{ComesAfter}
 use Rattle.commit_laws.specs.After.{trees_after}
 use Rattle.commit_laws.specs.StepForms.{JoinReplaces}

@@ -4,9 +4,9 @@ use Rattle.std.specs.List.{AllByRecursion, list_any}
 use Rattle.row_model.specs.Lists.{Pairs}
 use Rattle.fleet_model.specs.Jobs.{JobSpec, is_drain, Job, Jobs, Submitted, Compacted, has_status, ids, is_stale}
 use Rattle.fleet_model.specs.History.{Step, Join, Move, Drain}
-use Rattle.fleet_model.specs.Gates.{commit_gate, submit_gate}
-use Rattle.fleet_model.specs.PollStates.{PollInput, PollState, poll_begun, accepts}
-use Rattle.fleet_model.specs.Polls.{free_stale, commit_job, commit_finished, clashes, add_by, add_drawn, lost_to_scheduler, can_move, open_job}
+use Rattle.fleet_model.specs.Work.Gates.{commit_gate, submit_gate}
+use Rattle.fleet_model.specs.Work.PollStates.{PollInput, PollState, poll_begun, accepts}
+use Rattle.fleet_model.specs.Work.Polls.{free_stale, commit_job, commit_finished, clashes, add_by, add_drawn, lost_to_scheduler, can_move, open_job}
 
 -- The state of a poll as its commits begin. A whole poll has freed the stale jobs by then.
 abbrev pub before_commits : (commits_only : Bool) → PollInput → PollState

@@ -5,8 +5,8 @@ use Rattle.fleet_model.specs.History.{Party, Entry}
 use Rattle.fleet_model.specs.Exchanges.{Exchange}
 use Rattle.step_model.specs.Past.{World}
 use Rattle.step_model.specs.Rivals.{Caller, RivalCall, RivalsFrom, Rivals, Strike, after_call, after_rival}
-use Rattle.step_model.specs.Course.{Course, Ends, Calls}
-use Rattle.step_model.specs.CourseRuns.{End, Gives, MeetsFault, LacksMemory, StopsAt, Runs}
+use Rattle.step_model.specs.Courses.Course.{Course, Ends, Calls}
+use Rattle.step_model.specs.Courses.CourseRuns.{End, Gives, MeetsFault, LacksMemory, StopsAt, Runs}
 use Rattle.step_laws.proofs.Later as store
 use Rattle.course_laws.specs.Afterwards.{ComesAfter, RunsComeAfter, WorldsComeAfter}
 use Rattle.course_laws.proofs.Later.{entry_by, call_history}

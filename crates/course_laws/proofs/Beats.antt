@@ -8,26 +8,26 @@ use Rattle.fleet_model.specs.Jobs.{JobSpec, Job, job_with}
 use Rattle.fleet_model.specs.History.{Worker, GetRecords, Beat}
 use Rattle.fleet_model.specs.Store.{Store, Records, jobs_in, stored_jobs, is_held, AreHeld}
 use Rattle.fleet_model.specs.Handles.{context_tables}
-use Rattle.fleet_model.specs.Records.{Unrecorded, jobs_after}
+use Rattle.fleet_model.specs.Work.Records.{Unrecorded, jobs_after}
 use Rattle.fleet_model.specs.Sweeps.{attempt_tables}
-use Rattle.fleet_model.specs.Parties.{Attempt, LiveWorker, attempt_at, is_live, runs_attempt, named_attempts, live_attempts}
-use Rattle.fleet_model.specs.AttemptsFit.{AttemptFits}
-use Rattle.fleet_model.specs.Gates.{is_nonempty}
+use Rattle.fleet_model.specs.Work.Parties.{Attempt, LiveWorker, attempt_at, is_live, runs_attempt, named_attempts, live_attempts}
+use Rattle.fleet_model.specs.Invariants.AttemptsFit.{AttemptFits}
+use Rattle.fleet_model.specs.Work.Gates.{is_nonempty}
 use Rattle.fleet_model.specs.Exchanges.{Plain, PutsRecords, records_version}
 use Rattle.step_model.specs.Past.{World}
-use Rattle.step_model.specs.Faithful.{Faithful}
+use Rattle.step_model.specs.Kept.Faithful.{Faithful}
 use Rattle.step_model.specs.Lawful.{Lawful}
 use Rattle.step_model.specs.LawfulTables.{MayUse}
 use Rattle.step_model.specs.LawfulRecords.{OfSome, IsLiveAt, Publishes, PublishedApart, BeatFits}
-use Rattle.step_model.specs.TablesKept.{AreApart}
+use Rattle.step_model.specs.Kept.TablesKept.{AreApart}
 use Rattle.step_model.specs.Fits.{noted_tables, WorkerHolds}
 use Rattle.step_model.specs.Rivals.{Caller, Rivals, after_call}
-use Rattle.step_model.specs.Keeps.{Keeps}
-use Rattle.step_model.specs.CourseRuns.{IsLawfulCourse}
-use Rattle.step_model.specs.Tries.{tries}
-use Rattle.step_model.specs.BeatSteps.{Beaten, context_of, published_by, beat_report, beat_of, beat_by, beat_try, heartbeat}
-use Rattle.step_model.specs.StepEnds.{StepEnd, Reports, most_refused}
-use Rattle.step_model.specs.Course.{Course, Ends}
+use Rattle.step_model.specs.Kept.Keeps.{Keeps}
+use Rattle.step_model.specs.Courses.CourseRuns.{IsLawfulCourse}
+use Rattle.step_model.specs.Courses.Tries.{tries}
+use Rattle.step_model.specs.Steps.BeatSteps.{Beaten, context_of, published_by, beat_report, beat_of, beat_by, beat_try, heartbeat}
+use Rattle.step_model.specs.Courses.StepEnds.{StepEnd, Reports, most_refused}
+use Rattle.step_model.specs.Courses.Course.{Course, Ends}
 use Rattle.step_laws.specs.Runs.{CallsKeep}
 use Rattle.step_laws.proofs.Runs.{rivals_keep}
 use Rattle.step_laws.proofs.Elements.{IsIn, all_at, all_from, all_back, all_true_front, all_true_from, is_itself, pairs_map}

@@ -10,9 +10,9 @@ use Rattle.step_model.specs.Entries.{was_done}
 use Rattle.step_model.specs.Lawful.{Lawful}
 use Rattle.step_model.specs.LawfulTables.{PlainFits}
 use Rattle.step_model.specs.Rivals.{Caller, RivalCall, IsRival, RivalsFrom, Rivals, after_call, after_rival}
-use Rattle.step_model.specs.Keeps.{Keeps}
-use Rattle.step_model.specs.CourseRuns.{IsLawfulCourse}
-use Rattle.step_model.specs.Course.{Course, calls_each}
+use Rattle.step_model.specs.Kept.Keeps.{Keeps}
+use Rattle.step_model.specs.Courses.CourseRuns.{IsLawfulCourse}
+use Rattle.step_model.specs.Courses.Course.{Course, calls_each}
 use Rattle.step_laws.specs.Runs.{CallsKeep}
 use Rattle.step_laws.proofs.Elements.{IsIn, all_to, any_front}
 use Rattle.step_laws.proofs.TableReplays.{all_filter}

@@ -6,10 +6,10 @@ use Rattle.row_model.specs.Lists.{Pairs}
 use Rattle.fleet_model.specs.Jobs.{Job, Jobs, Context, job_with, contains, ids}
 use Rattle.fleet_model.specs.History.{Worker, GetManifest, GetRecords, Claim, Entry, stood}
 use Rattle.fleet_model.specs.Store.{Records, jobs_in}
-use Rattle.fleet_model.specs.Records.{jobs_after}
-use Rattle.fleet_model.specs.Attempts.{ClaimInput}
-use Rattle.fleet_model.specs.Claims.{is_waiting, may_take, claimed_jobs, stopped_jobs}
-use Rattle.fleet_model.specs.Parties.{LiveWorker, attempt_jobs}
+use Rattle.fleet_model.specs.Work.Records.{jobs_after}
+use Rattle.fleet_model.specs.Work.Attempts.{ClaimInput}
+use Rattle.fleet_model.specs.Work.Claims.{is_waiting, may_take, claimed_jobs, stopped_jobs}
+use Rattle.fleet_model.specs.Work.Parties.{LiveWorker, attempt_jobs}
 use Rattle.fleet_model.specs.Exchanges.{Plain, PutsRecords, records_version}
 use Rattle.step_model.specs.Past.{World}
 use Rattle.step_model.specs.Entries.{was_claimed, is_claim_of, is_in}
@@ -17,12 +17,12 @@ use Rattle.step_model.specs.Lawful.{Lawful}
 use Rattle.step_model.specs.LawfulTables.{PlainFits}
 use Rattle.step_model.specs.LawfulRecords.{OfSome, ClaimFits}
 use Rattle.step_model.specs.Rivals.{Caller, after_call}
-use Rattle.step_model.specs.Keeps.{Keeps}
-use Rattle.step_model.specs.CourseRuns.{IsLawfulCourse}
-use Rattle.step_model.specs.Tries.{tries}
-use Rattle.step_model.specs.ClaimSteps.{WorkerOptions, Claimed, at_moment, can_start, plan_of, starts_claimed, claim_of, claim_by, claim_try, claim}
-use Rattle.step_model.specs.StepEnds.{StepEnd, most_refused}
-use Rattle.step_model.specs.Course.{Course, Calls}
+use Rattle.step_model.specs.Kept.Keeps.{Keeps}
+use Rattle.step_model.specs.Courses.CourseRuns.{IsLawfulCourse}
+use Rattle.step_model.specs.Courses.Tries.{tries}
+use Rattle.step_model.specs.Steps.ClaimSteps.{WorkerOptions, Claimed, at_moment, can_start, plan_of, starts_claimed, claim_of, claim_by, claim_try, claim}
+use Rattle.step_model.specs.Courses.StepEnds.{StepEnd, most_refused}
+use Rattle.step_model.specs.Courses.Course.{Course, Calls}
 use Rattle.step_laws.specs.Runs.{CallsKeep}
 use Rattle.step_laws.proofs.Runs.{rivals_keep}
 use Rattle.step_laws.proofs.Elements.{all_from, all_to, all_flat, any_of, any_push_yes, is_itself, pairs_map}

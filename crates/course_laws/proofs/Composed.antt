@@ -4,9 +4,9 @@ use Rattle.fleet_model.specs.Exchanges.{Fault, event_of}
 use Rattle.fleet_model.specs.Store.{Store}
 use Rattle.step_model.specs.Past.{World}
 use Rattle.step_model.specs.Rivals.{Caller, Rivals, after_call}
-use Rattle.step_model.specs.Course.{Course, Ends, Calls, then_course}
-use Rattle.step_model.specs.CourseRuns.{End, Gives, MeetsFault, LacksMemory, Runs, IsLawfulCourse}
-use Rattle.step_model.specs.Ran.{Ran, Spares, Strikes}
+use Rattle.step_model.specs.Courses.Course.{Course, Ends, Calls, then_course}
+use Rattle.step_model.specs.Courses.CourseRuns.{End, Gives, MeetsFault, LacksMemory, Runs, IsLawfulCourse}
+use Rattle.step_model.specs.Courses.Ran.{Ran, Spares, Strikes}
 use Rattle.course_laws.specs.Composed.{RanOn, RanThen, GoesOn, IsStruck, Lacks, Composes, LoopsCompose}
 
 -- ---- runs of both

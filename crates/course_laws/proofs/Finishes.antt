@@ -8,7 +8,7 @@ use Rattle.std.proofs.lemmas.List.{append_assoc}
 use Rattle.row_model.specs.Lists.{IsPrefixOf}
 use Rattle.row_model.specs.Rows.{Row, row_cmp, IsStrictlyOrdered, sorted_rows}
 use Rattle.row_model.specs.Ranges.{Range, Unbounded}
-use Rattle.row_model.specs.Tables.{cut_tables}
+use Rattle.row_model.specs.Written.Tables.{cut_tables}
 use Rattle.row_model.specs.Bounds.{IsInBounds}
 use Rattle.row_model.specs.JobRows.{job_rows}
 use Rattle.row_laws.specs.Ranges.{ranges_between}
@@ -17,30 +17,30 @@ use Rattle.row_laws.proofs.Turns.{plans_cover}
 use Rattle.row_laws.proofs.Tables.{tables_have_all}
 use Rattle.fleet_model.specs.Nodes.{Tables, table_rows}
 use Rattle.fleet_model.specs.Jobs.{JobSpec, Job, Context, Release, One, Two, knows_cut, job_with}
-use Rattle.fleet_model.specs.TreesFit.{IsTable}
-use Rattle.fleet_model.specs.JobsFit.{OutputsFit, cut_or}
-use Rattle.fleet_model.specs.AttemptsFit.{AttemptFits, CutFits}
+use Rattle.fleet_model.specs.Invariants.TreesFit.{IsTable}
+use Rattle.fleet_model.specs.Invariants.JobsFit.{OutputsFit, cut_or}
+use Rattle.fleet_model.specs.Invariants.AttemptsFit.{AttemptFits, CutFits}
 use Rattle.fleet_model.specs.History.{Worker, GetRecords, GetTable, Finish}
 use Rattle.fleet_model.specs.Store.{Records, jobs_in, stored_jobs, is_held}
-use Rattle.fleet_model.specs.Records.{Unrecorded, no_contexts, jobs_after, finished_by}
+use Rattle.fleet_model.specs.Work.Records.{Unrecorded, no_contexts, jobs_after, finished_by}
 use Rattle.fleet_model.specs.Sweeps.{attempt_tables}
-use Rattle.fleet_model.specs.Attempts.{source_rows, range_rows, rows_left, noted_rows, finish_cut}
-use Rattle.fleet_model.specs.Parties.{Attempt, LiveWorker, is_live, runs_attempt, live_attempts, without_attempts}
+use Rattle.fleet_model.specs.Work.Attempts.{source_rows, range_rows, rows_left, noted_rows, finish_cut}
+use Rattle.fleet_model.specs.Work.Parties.{Attempt, LiveWorker, is_live, runs_attempt, live_attempts, without_attempts}
 use Rattle.fleet_model.specs.Exchanges.{Plain, PutsRecords, records_version}
 use Rattle.step_model.specs.Past.{World}
-use Rattle.step_model.specs.Faithful.{Faithful}
+use Rattle.step_model.specs.Kept.Faithful.{Faithful}
 use Rattle.step_model.specs.Lawful.{Lawful}
 use Rattle.step_model.specs.LawfulTables.{MayUse}
 use Rattle.step_model.specs.LawfulRecords.{OfSome, FinishIsWhole}
 use Rattle.step_model.specs.Fits.{AttemptHeld, noted_tables, WorkerHolds}
 use Rattle.step_model.specs.Rivals.{Caller, after_call}
-use Rattle.step_model.specs.Keeps.{Keeps}
-use Rattle.step_model.specs.Tries.{tries}
-use Rattle.step_model.specs.OutputSteps.{gets_tables, unless_refused}
-use Rattle.step_model.specs.FinishSteps.{FinishAsk, FinishedJob, all_outputs, ends_job, ends_job_by, end_try, end_job, tables_left, puts_and_ends, finish}
-use Rattle.step_model.specs.StepEnds.{StepEnd, Reports, most_refused}
-use Rattle.step_model.specs.Course.{Course, Ends, calls_each}
-use Rattle.step_model.specs.CourseRuns.{IsLawfulCourse}
+use Rattle.step_model.specs.Kept.Keeps.{Keeps}
+use Rattle.step_model.specs.Courses.Tries.{tries}
+use Rattle.step_model.specs.Steps.OutputSteps.{gets_tables, unless_refused}
+use Rattle.step_model.specs.Steps.FinishSteps.{FinishAsk, FinishedJob, all_outputs, ends_job, ends_job_by, end_try, end_job, tables_left, puts_and_ends, finish}
+use Rattle.step_model.specs.Courses.StepEnds.{StepEnd, Reports, most_refused}
+use Rattle.step_model.specs.Courses.Course.{Course, Ends, calls_each}
+use Rattle.step_model.specs.Courses.CourseRuns.{IsLawfulCourse}
 use Rattle.step_laws.proofs.Elements.{IsIn, all_at, all_from, all_to, all_append, all_front, all_back, all_unflat, all_true_front, all_true_from}
 use Rattle.step_laws.proofs.Deletions.{in_filter}
 use Rattle.course_laws.specs.Finishes.{WholeUnless, FinishesAreLawful}

@@ -18,20 +18,20 @@ use Rattle.fleet_model.specs.History.{Party, Writer, Event, GetManifest, PutTabl
 use Rattle.fleet_model.specs.Store.{Manifest}
 use Rattle.fleet_model.specs.Tracker.{tracked_after, least_seq_of}
 use Rattle.fleet_model.specs.Trees.{flushed_trees}
-use Rattle.fleet_model.specs.TreesFit.{IsTable}
+use Rattle.fleet_model.specs.Invariants.TreesFit.{IsTable}
 use Rattle.fleet_model.specs.Exchanges.{Exchange, Plain, DrawsJob, DrawsTable, PutsTable, PutsManifest, PutsRecords, ListsTables, DeletesTable, event_of}
 use Rattle.step_model.specs.Past.{World}
 use Rattle.step_model.specs.Entries.{last_name, name_in, was_flushed, is_flush_of, tables_brought_in}
-use Rattle.step_model.specs.TablesKept.{IsKnownTable}
+use Rattle.step_model.specs.Kept.TablesKept.{IsKnownTable}
 use Rattle.step_model.specs.Lawful.{Lawful}
 use Rattle.step_model.specs.LawfulTables.{TableFits, MayName}
 use Rattle.step_model.specs.LawfulManifests.{FlushFits, IsAbove}
 use Rattle.step_model.specs.Rivals.{Caller, Strike, Rivals, after_call, is_deletion}
-use Rattle.step_model.specs.Keeps.{Keeps}
-use Rattle.step_model.specs.CourseRuns.{IsLawfulCourse}
-use Rattle.step_model.specs.FlushSteps.{FlushAsk, fault_before_get, fault_after_get, is_above, unless_bad, with_flush, puts_unless_put, flushes_from, flush}
-use Rattle.step_model.specs.StepEnds.{StepEnd, Reports, FlushFault, BadName, BadSegment, BadOrder, BadSequence, BadFloor, BadTick, most_refused}
-use Rattle.step_model.specs.Course.{Course, Ends, puts_manifest}
+use Rattle.step_model.specs.Kept.Keeps.{Keeps}
+use Rattle.step_model.specs.Courses.CourseRuns.{IsLawfulCourse}
+use Rattle.step_model.specs.Steps.FlushSteps.{FlushAsk, fault_before_get, fault_after_get, is_above, unless_bad, with_flush, puts_unless_put, flushes_from, flush}
+use Rattle.step_model.specs.Courses.StepEnds.{StepEnd, Reports, FlushFault, BadName, BadSegment, BadOrder, BadSequence, BadFloor, BadTick, most_refused}
+use Rattle.step_model.specs.Courses.Course.{Course, Ends, puts_manifest}
 use Rattle.step_laws.specs.Runs.{CallsKeep}
 use Rattle.step_laws.proofs.Runs.{rivals_keep}
 use Rattle.step_laws.proofs.Elements.{all_at, all_to, all_true_front, any_push_no, any_element, Passes}

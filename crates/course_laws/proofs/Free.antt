@@ -13,9 +13,9 @@ use Rattle.fleet_model.specs.Exchanges.{Exchange, DrawsTable, PutsTable, next_ta
 use Rattle.step_model.specs.Past.{World}
 use Rattle.step_model.specs.Entries.{party_eq, is_put_of}
 use Rattle.step_model.specs.LawfulTables.{DrawFits, was_piece}
-use Rattle.step_model.specs.TablesKept.{IsKnownPiece}
+use Rattle.step_model.specs.Kept.TablesKept.{IsKnownPiece}
 use Rattle.step_model.specs.Rivals.{Caller, Strike, Rivals, store_after_call, after_call}
-use Rattle.step_model.specs.Keeps.{Keeps}
+use Rattle.step_model.specs.Kept.Keeps.{Keeps}
 use Rattle.step_laws.specs.Runs.{CallsKeep}
 use Rattle.step_laws.proofs.Elements.{all_at, all_from, all_flat, all_true_front, any_element, any_front, any_push_no, any_push_yes, Passes, is_itself, contains_in, contains_no}
 use Rattle.step_laws.proofs.Grown.{drawn_table_grows}

@@ -5,9 +5,9 @@ use Rattle.fleet_model.specs.Exchanges.{Exchange}
 use Rattle.step_model.specs.Past.{World}
 use Rattle.step_model.specs.Lawful.{Lawful}
 use Rattle.step_model.specs.Rivals.{Caller, Rivals, after_call}
-use Rattle.step_model.specs.Keeps.{Keeps}
-use Rattle.step_model.specs.Course.{Course, Calls}
-use Rattle.step_model.specs.CourseRuns.{Gives, HasRoom, Runs, IsLawfulCourse}
+use Rattle.step_model.specs.Kept.Keeps.{Keeps}
+use Rattle.step_model.specs.Courses.Course.{Course, Calls}
+use Rattle.step_model.specs.Courses.CourseRuns.{Gives, HasRoom, Runs, IsLawfulCourse}
 use Rattle.step_laws.specs.Runs.{CallsKeep}
 use Rattle.step_laws.proofs.Runs.{rivals_keep}
 use Rattle.course_laws.proofs.Calls.{keeps_after}

@@ -12,7 +12,7 @@ use Rattle.fleet_model.specs.Exchanges.{Exchange, Plain, DrawsJob, DrawsTable, P
 use Rattle.step_model.specs.Past.{World}
 use Rattle.step_model.specs.Entries.{party_eq, last_from, last_event, drawn_tables, table_drawn_in}
 use Rattle.step_model.specs.Rivals.{Strike, store_after_call, is_deletion}
-use Rattle.step_model.specs.Keeps.{Keeps}
+use Rattle.step_model.specs.Kept.Keeps.{Keeps}
 use Rattle.step_laws.proofs.Elements.{IsIn, all_at, all_true_front, any_push_yes, is_itself, contains_in, in_contains, in_front, in_back}
 use Rattle.step_laws.proofs.Held.{is_held_so, held_grows, held_put, rows_stay}
 

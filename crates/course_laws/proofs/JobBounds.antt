@@ -9,7 +9,7 @@ use Rattle.row_model.specs.Chunks.{Chunk, elements, chunk_by, put_before}
 use Rattle.row_model.specs.Rows.{Row, Content, Value, Merge, Tombstone, row_cmp, same_key, sorted_rows, insert_row, is_operand, is_tombstone, is_expired, IsStrictlyOrdered}
 use Rattle.row_model.specs.Fold.{Operator, Outcome, Merged, Refused, merge_one, fold, fold_bytes}
 use Rattle.row_model.specs.Settings.{Settings}
-use Rattle.row_model.specs.Sizes.{content_len}
+use Rattle.row_model.specs.Written.Sizes.{content_len}
 use Rattle.row_model.specs.Bounds.{IsInBounds}
 use Rattle.row_model.specs.Ranges.{Range, rows_in, is_in_range}
 use Rattle.row_model.specs.FoldedRows.{GroupBase, NoBase, TombstoneBase, ValueBase, opens_group, takes_next, operand_groups, group_operands, group_base, base_in, base_bytes, content_of, group_content, group_row, greatest_created, folded_chunk, cons_both, all_or_none, folded_rows}
@@ -18,8 +18,8 @@ use Rattle.row_model.specs.JobRows.{JobRows, key_rows, before_refusal, joined_ke
 use Rattle.row_laws.proofs.Order.{jobs_keep_order}
 use Rattle.row_laws.proofs.ApartRows.{ordered_filter}
 use Rattle.fleet_model.specs.Nodes.{Tables, table_rows, rows_or_none}
-use Rattle.fleet_model.specs.TreesFit.{IsTable}
-use Rattle.fleet_model.specs.Attempts.{source_rows, range_rows, rows_left, noted_rows}
+use Rattle.fleet_model.specs.Invariants.TreesFit.{IsTable}
+use Rattle.fleet_model.specs.Work.Attempts.{source_rows, range_rows, rows_left, noted_rows}
 use Rattle.step_laws.proofs.Elements.{all_append}
 use Rattle.step_laws.proofs.TableReplays.{all_filter}
 use Rattle.course_laws.proofs.Calls.{all_take}

@@ -6,18 +6,18 @@ use Rattle.std.proofs.lemmas.List.{append-nil, append_assoc}
 use Rattle.row_model.specs.Rows.{Row}
 use Rattle.fleet_model.specs.Nodes.{table_rows}
 use Rattle.fleet_model.specs.Jobs.{Jobs}
-use Rattle.fleet_model.specs.TreesFit.{IsTable}
+use Rattle.fleet_model.specs.Invariants.TreesFit.{IsTable}
 use Rattle.fleet_model.specs.History.{Worker, GetRecords, GetTable, PutRecords, RecordChange, Done, Conflict, Entry, stood}
 use Rattle.fleet_model.specs.Sweeps.{attempt_tables}
-use Rattle.fleet_model.specs.Parties.{Attempt, LiveWorker}
+use Rattle.fleet_model.specs.Work.Parties.{Attempt, LiveWorker}
 use Rattle.fleet_model.specs.Exchanges.{Plain, DrawsTable, PutsTable, PutsRecords, records_version, with_entry, answer_of, next_table_id}
 use Rattle.step_model.specs.Past.{World, world_after}
 use Rattle.step_model.specs.LawfulTables.{DrawFits, TableFits}
 use Rattle.step_model.specs.Fits.{WorkerHolds}
 use Rattle.step_model.specs.Rivals.{Caller, Rivals, after_call}
-use Rattle.step_model.specs.Keeps.{Keeps}
-use Rattle.step_model.specs.Course.{Course, puts_table, puts_tables, puts_ranges}
-use Rattle.step_model.specs.CourseRuns.{IsLawfulCourse}
+use Rattle.step_model.specs.Kept.Keeps.{Keeps}
+use Rattle.step_model.specs.Courses.Course.{Course, puts_table, puts_tables, puts_ranges}
+use Rattle.step_model.specs.Courses.CourseRuns.{IsLawfulCourse}
 use Rattle.step_laws.specs.Runs.{CallsKeep}
 use Rattle.step_laws.proofs.Runs.{rivals_keep}
 use Rattle.step_laws.proofs.Elements.{all_to, all_push}

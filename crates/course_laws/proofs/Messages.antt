@@ -8,18 +8,18 @@ use Rattle.row_model.specs.Ranges.{Range}
 use Rattle.fleet_model.specs.Nodes.{table_rows}
 use Rattle.fleet_model.specs.History.{Worker}
 use Rattle.fleet_model.specs.Store.{is_held}
-use Rattle.fleet_model.specs.Attempts.{noted_rows, range_rows, rows_left}
-use Rattle.fleet_model.specs.Parties.{Attempt, LiveWorker, attempt_at, without_attempts}
+use Rattle.fleet_model.specs.Work.Attempts.{noted_rows, range_rows, rows_left}
+use Rattle.fleet_model.specs.Work.Parties.{Attempt, LiveWorker, attempt_at, without_attempts}
 use Rattle.fleet_model.specs.Sweeps.{attempt_tables}
 use Rattle.step_model.specs.Past.{World}
 use Rattle.step_model.specs.Rivals.{Caller}
-use Rattle.step_model.specs.Keeps.{Keeps}
+use Rattle.step_model.specs.Kept.Keeps.{Keeps}
 use Rattle.step_model.specs.Fits.{WorkerHolds}
-use Rattle.step_model.specs.Course.{Ends}
-use Rattle.step_model.specs.CourseRuns.{IsLawfulCourse}
-use Rattle.step_model.specs.StepEnds.{Reports, most_refused}
-use Rattle.step_model.specs.FinishSteps.{all_outputs, end_job}
-use Rattle.step_model.specs.MessageSteps.{if_numbered, attempt_run, ends_run, take_finished, release_job, gives_run, take_failed, take_progress}
+use Rattle.step_model.specs.Courses.Course.{Ends}
+use Rattle.step_model.specs.Courses.CourseRuns.{IsLawfulCourse}
+use Rattle.step_model.specs.Courses.StepEnds.{Reports, most_refused}
+use Rattle.step_model.specs.Steps.FinishSteps.{all_outputs, end_job}
+use Rattle.step_model.specs.Steps.MessageSteps.{if_numbered, attempt_run, ends_run, take_finished, release_job, gives_run, take_failed, take_progress}
 use Rattle.step_laws.specs.Runs.{CallsKeep}
 use Rattle.step_laws.proofs.Elements.{IsIn, all_at, all_to, all_append, all_true_front}
 use Rattle.rival_laws.specs.Free.{IsFree}

@@ -11,18 +11,18 @@ use Rattle.fleet_model.specs.Jobs.{JobSpec, Job, job_with, contains, number_of, 
 use Rattle.fleet_model.specs.History.{Party, Writer, Submitter, Coordinator, Worker, Sweeper, Event, DrawJob, PutManifest, PutRecords, ManifestChange, ManifestEpoch, Flush, Commit, RecordChange, Step, Entry, stood}
 use Rattle.fleet_model.specs.Store.{Manifest, stored_jobs, fresh_store}
 use Rattle.fleet_model.specs.Trees.{job_of, stepped_in, stepped_all}
-use Rattle.fleet_model.specs.Records.{firsts}
-use Rattle.fleet_model.specs.Replay.{Objects, named_specs, outputs_in, after_event, after_entry, replayed_objects, plain_objects, plain_manifest}
+use Rattle.fleet_model.specs.Work.Records.{firsts}
+use Rattle.fleet_model.specs.Past.Replay.{Objects, named_specs, outputs_in, after_event, after_entry, replayed_objects, plain_objects, plain_manifest}
 use Rattle.fleet_model.specs.Exchanges.{Exchange, Plain, DrawsJob, DrawsTable, PutsTable, PutsManifest, PutsRecords, ListsTables, DeletesTable, event_of, next_job_id}
 use Rattle.step_model.specs.Past.{World, manifest_with}
 use Rattle.step_model.specs.Entries.{party_eq, drew_job, is_draw_of, drawn_jobs, job_drawn_in, mentioned_in, is_mentioned, was_named, steps_in}
-use Rattle.step_model.specs.Faithful.{Faithful, AgreesWith, with_specs, spec_or}
+use Rattle.step_model.specs.Kept.Faithful.{Faithful, AgreesWith, with_specs, spec_or}
 use Rattle.step_model.specs.LawfulTables.{DrawFits}
 use Rattle.step_model.specs.LawfulManifests.{IsKnownTo}
 use Rattle.step_model.specs.LawfulRecords.{NamesFit, AreNew}
 use Rattle.step_model.specs.Lawful.{Lawful}
 use Rattle.step_model.specs.Rivals.{Caller, Strike, Rivals, after_call}
-use Rattle.step_model.specs.Keeps.{Keeps}
+use Rattle.step_model.specs.Kept.Keeps.{Keeps}
 use Rattle.step_laws.specs.Runs.{CallsKeep}
 use Rattle.step_laws.proofs.Elements.{IsIn, all_at, all_from, all_to, all_push, all_front, all_back, pairs_push, any_front, any_push_no, any_push_yes, any_of, any_element, Passes, is_itself, contains_in, in_contains, contains_no, contains_front, in_append, in_front}
 use Rattle.step_laws.proofs.Respecs.{drew_drawn, all_firsts}

@@ -14,11 +14,11 @@ use Rattle.fleet_model.specs.Store.{Store}
 use Rattle.fleet_model.specs.Exchanges.{Exchange, Plain, DrawsJob, DrawsTable, PutsTable, PutsManifest, PutsRecords, ListsTables, DeletesTable, records_version, after_exchange, next_table_id}
 use Rattle.step_model.specs.Past.{World}
 use Rattle.step_model.specs.Entries.{party_eq, last_from, last_event, last_name, name_in, was_flushed, drawn_tables, table_drawn_in}
-use Rattle.step_model.specs.TablesKept.{IsKnownTable, IsKnownPiece}
+use Rattle.step_model.specs.Kept.TablesKept.{IsKnownTable, IsKnownPiece}
 use Rattle.step_model.specs.LawfulTables.{DrawFits, MayName}
 use Rattle.step_model.specs.Lawful.{Lawful}
 use Rattle.step_model.specs.Rivals.{Caller, Strike, RivalCall, IsRival, Rivals, store_after_call, after_call, after_rival}
-use Rattle.step_model.specs.Keeps.{Keeps}
+use Rattle.step_model.specs.Kept.Keeps.{Keeps}
 use Rattle.step_laws.specs.Runs.{CallsKeep}
 use Rattle.step_laws.proofs.Elements.{IsIn, all_at, any_element, any_push_no, Passes, contains_in, in_front, in_back}
 use Rattle.course_laws.proofs.Later.{entry_by, call_history}

@@ -2,20 +2,20 @@
 use Rattle.std.proofs.Common.{◌≡◌, ℕ, List, [], ◌∷◌, cond, Bool, true, false, inl, inr, Option, Some, None}
 use Rattle.std.specs.Prelude.{◌==◌, filter}
 use Rattle.row_model.specs.Rows.{Row, IsStrictlyOrdered}
-use Rattle.fleet_model.specs.TreesFit.{IsTable}
+use Rattle.fleet_model.specs.Invariants.TreesFit.{IsTable}
 use Rattle.fleet_model.specs.History.{Worker, GetTable}
-use Rattle.fleet_model.specs.Attempts.{source_rows, rows_left}
-use Rattle.fleet_model.specs.Parties.{Attempt, LiveWorker, attempt_at}
+use Rattle.fleet_model.specs.Work.Attempts.{source_rows, rows_left}
+use Rattle.fleet_model.specs.Work.Parties.{Attempt, LiveWorker, attempt_at}
 use Rattle.fleet_model.specs.Exchanges.{Plain, DrawsTable, PutsTable, next_table_id}
 use Rattle.step_model.specs.Past.{World}
 use Rattle.step_model.specs.LawfulTables.{TableFits}
 use Rattle.step_model.specs.Rivals.{Caller, after_call}
-use Rattle.step_model.specs.Keeps.{Keeps}
+use Rattle.step_model.specs.Kept.Keeps.{Keeps}
 use Rattle.step_model.specs.Fits.{AttemptHeld}
-use Rattle.step_model.specs.CourseRuns.{IsLawfulCourse}
-use Rattle.step_model.specs.OutputSteps.{OutputAsk, Written, meets, gets_tables, gives_back, unless_refused, with_noted, rows_written, writes, output}
-use Rattle.step_model.specs.StepEnds.{StepEnd, Reports, OperatorRefuses, most_refused}
-use Rattle.step_model.specs.Course.{Course, Ends, calls_each, puts_table}
+use Rattle.step_model.specs.Courses.CourseRuns.{IsLawfulCourse}
+use Rattle.step_model.specs.Steps.OutputSteps.{OutputAsk, Written, meets, gets_tables, gives_back, unless_refused, with_noted, rows_written, writes, output}
+use Rattle.step_model.specs.Courses.StepEnds.{StepEnd, Reports, OperatorRefuses, most_refused}
+use Rattle.step_model.specs.Courses.Course.{Course, Ends, calls_each, puts_table}
 use Rattle.step_laws.specs.Runs.{CallsKeep}
 use Rattle.step_laws.proofs.Runs.{rivals_keep}
 use Rattle.step_laws.proofs.Elements.{IsIn, all_at}

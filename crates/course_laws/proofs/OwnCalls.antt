@@ -5,15 +5,15 @@ use Rattle.row_model.specs.Fold.{Operator}
 use Rattle.fleet_model.specs.Jobs.{JobSpec, Job, Jobs, Context, job_with}
 use Rattle.fleet_model.specs.History.{Party, Worker, GetRecords, GetTable, PutRecords, RecordChange, Done, Conflict, Entry, stood}
 use Rattle.fleet_model.specs.Store.{stored_jobs}
-use Rattle.fleet_model.specs.Parties.{LiveWorker, live_attempts}
-use Rattle.fleet_model.specs.AttemptsFit.{ContextFits, WorkerFits}
+use Rattle.fleet_model.specs.Work.Parties.{LiveWorker, live_attempts}
+use Rattle.fleet_model.specs.Invariants.AttemptsFit.{ContextFits, WorkerFits}
 use Rattle.fleet_model.specs.Exchanges.{Plain, PutsRecords, records_version, with_entry, answer_of}
 use Rattle.step_model.specs.Past.{World, world_after}
 use Rattle.step_model.specs.Entries.{is_claim_of, is_put_of, party_eq}
 use Rattle.step_model.specs.LawfulTables.{MayUse}
 use Rattle.step_model.specs.Fits.{noted_tables, WorkerHolds}
 use Rattle.step_model.specs.Rivals.{Caller, Rivals, after_call}
-use Rattle.step_model.specs.Keeps.{Keeps}
+use Rattle.step_model.specs.Kept.Keeps.{Keeps}
 use Rattle.step_laws.specs.Runs.{CallsKeep}
 use Rattle.step_laws.proofs.Elements.{all_to, any_front}
 use Rattle.step_laws.proofs.Mute.{IsQuiet, quiet_for, mute_event, mute_refused}

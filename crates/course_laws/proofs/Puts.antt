@@ -5,8 +5,8 @@ use Rattle.std.specs.List.{AllByRecursion}
 use Rattle.row_model.specs.Fold.{Operator}
 use Rattle.fleet_model.specs.History.{Party, Writer, Submitter, Coordinator, Worker, Sweeper, Event, Entry, stood, RecordChange}
 use Rattle.fleet_model.specs.Store.{Records, jobs_in}
-use Rattle.fleet_model.specs.Records.{Unrecorded, jobs_after}
-use Rattle.fleet_model.specs.Replay.{epoch_after}
+use Rattle.fleet_model.specs.Work.Records.{Unrecorded, jobs_after}
+use Rattle.fleet_model.specs.Past.Replay.{epoch_after}
 use Rattle.fleet_model.specs.Exchanges.{records_version}
 use Rattle.step_model.specs.Past.{World}
 use Rattle.step_model.specs.Entries.{party_eq, did_event}

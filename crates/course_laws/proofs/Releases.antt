@@ -5,20 +5,20 @@ use Rattle.std.specs.List.{AllByRecursion}
 use Rattle.fleet_model.specs.Jobs.{Job, job_with}
 use Rattle.fleet_model.specs.History.{Worker, GetRecords, Release}
 use Rattle.fleet_model.specs.Store.{Records, jobs_in}
-use Rattle.fleet_model.specs.Records.{jobs_after}
-use Rattle.fleet_model.specs.Parties.{Attempt, LiveWorker, is_live, runs_attempt, named_attempts, attempt_jobs}
-use Rattle.fleet_model.specs.Gates.{is_nonempty}
+use Rattle.fleet_model.specs.Work.Records.{jobs_after}
+use Rattle.fleet_model.specs.Work.Parties.{Attempt, LiveWorker, is_live, runs_attempt, named_attempts, attempt_jobs}
+use Rattle.fleet_model.specs.Work.Gates.{is_nonempty}
 use Rattle.fleet_model.specs.Exchanges.{Plain, PutsRecords, records_version}
 use Rattle.step_model.specs.Past.{World}
 use Rattle.step_model.specs.Lawful.{Lawful}
 use Rattle.step_model.specs.LawfulRecords.{OfSome, IsLiveAt, IsStoredAs}
 use Rattle.step_model.specs.Rivals.{Caller, after_call}
-use Rattle.step_model.specs.CourseRuns.{IsLawfulCourse}
-use Rattle.step_model.specs.Tries.{tries}
-use Rattle.step_model.specs.ClaimSteps.{at_moment}
-use Rattle.step_model.specs.BeatSteps.{release_live, release_by, release_try, release_all}
-use Rattle.step_model.specs.StepEnds.{StepEnd, Reports, most_refused}
-use Rattle.step_model.specs.Course.{Course, Ends}
+use Rattle.step_model.specs.Courses.CourseRuns.{IsLawfulCourse}
+use Rattle.step_model.specs.Courses.Tries.{tries}
+use Rattle.step_model.specs.Steps.ClaimSteps.{at_moment}
+use Rattle.step_model.specs.Steps.BeatSteps.{release_live, release_by, release_try, release_all}
+use Rattle.step_model.specs.Courses.StepEnds.{StepEnd, Reports, most_refused}
+use Rattle.step_model.specs.Courses.Course.{Course, Ends}
 use Rattle.course_laws.specs.Releases.{ReleasesAreLawful}
 use Rattle.course_laws.proofs.Later.{Later, later_itself, later_met}
 use Rattle.course_laws.proofs.Puts.{got_records, no_names, over_got, filter_passes}

@@ -11,13 +11,13 @@ use Rattle.step_model.specs.Lawful.{Lawful}
 use Rattle.step_model.specs.LawfulManifests.{ManifestEpochFits}
 use Rattle.step_model.specs.LawfulRecords.{RecordsFit}
 use Rattle.step_model.specs.Rivals.{Caller, after_call}
-use Rattle.step_model.specs.CourseRuns.{IsLawfulCourse}
-use Rattle.step_model.specs.Tries.{tries}
-use Rattle.step_model.specs.ClaimSteps.{at_moment}
-use Rattle.step_model.specs.PollSteps.{start, start_try, epoch_above, holds_at_start, unless_fenced}
-use Rattle.step_model.specs.PollSteps as step
-use Rattle.step_model.specs.StepEnds.{StepEnd, Reports, Fenced, most_refused}
-use Rattle.step_model.specs.Course.{Course, Ends}
+use Rattle.step_model.specs.Courses.CourseRuns.{IsLawfulCourse}
+use Rattle.step_model.specs.Courses.Tries.{tries}
+use Rattle.step_model.specs.Steps.ClaimSteps.{at_moment}
+use Rattle.step_model.specs.Steps.PollSteps.{start, start_try, epoch_above, holds_at_start, unless_fenced}
+use Rattle.step_model.specs.Steps.PollSteps as step
+use Rattle.step_model.specs.Courses.StepEnds.{StepEnd, Reports, Fenced, most_refused}
+use Rattle.step_model.specs.Courses.Course.{Course, Ends}
 use Rattle.step_laws.proofs.Elements.{any_push_yes, is_itself}
 use Rattle.course_laws.specs.Starts.{StartsAreLawful}
 use Rattle.course_laws.proofs.Later.{Later, later_itself, rivals_later, later_met, call_history}

@@ -5,20 +5,20 @@ use Rattle.std.proofs.lemmas.List.{append-nil, append_assoc}
 use Rattle.fleet_model.specs.Jobs.{JobSpec}
 use Rattle.fleet_model.specs.History.{Submitter, GetManifest, GetRecords, Submit}
 use Rattle.fleet_model.specs.Store.{Records}
-use Rattle.fleet_model.specs.Records.{jobs_after, firsts}
-use Rattle.fleet_model.specs.Scheduler.{Scheduler, Request, Generated, Specs, shown_view}
-use Rattle.fleet_model.specs.Scheduler as scheduler
+use Rattle.fleet_model.specs.Work.Records.{jobs_after, firsts}
+use Rattle.fleet_model.specs.Work.Scheduler.{Scheduler, Request, Generated, Specs, shown_view}
+use Rattle.fleet_model.specs.Work.Scheduler as scheduler
 use Rattle.fleet_model.specs.Exchanges.{Plain, DrawsJob, PutsRecords, records_version, next_job_id}
 use Rattle.step_model.specs.Past.{World}
 use Rattle.step_model.specs.Lawful.{Lawful}
 use Rattle.step_model.specs.Rivals.{Caller, after_call}
-use Rattle.step_model.specs.Keeps.{Keeps}
-use Rattle.step_model.specs.ClaimSteps.{at_moment}
-use Rattle.step_model.specs.Tries.{tries}
-use Rattle.step_model.specs.SubmitSteps.{submits_drawn, submits_specs, submit_by, submit_try, submit, submits_generated, request_by, request_try, submit_request}
-use Rattle.step_model.specs.StepEnds.{StepEnd, Reports, most_refused}
-use Rattle.step_model.specs.Course.{Course, Ends, draws_jobs}
-use Rattle.step_model.specs.CourseRuns.{IsLawfulCourse}
+use Rattle.step_model.specs.Kept.Keeps.{Keeps}
+use Rattle.step_model.specs.Steps.ClaimSteps.{at_moment}
+use Rattle.step_model.specs.Courses.Tries.{tries}
+use Rattle.step_model.specs.Steps.SubmitSteps.{submits_drawn, submits_specs, submit_by, submit_try, submit, submits_generated, request_by, request_try, submit_request}
+use Rattle.step_model.specs.Courses.StepEnds.{StepEnd, Reports, most_refused}
+use Rattle.step_model.specs.Courses.Course.{Course, Ends, draws_jobs}
+use Rattle.step_model.specs.Courses.CourseRuns.{IsLawfulCourse}
 use Rattle.step_laws.specs.Runs.{CallsKeep}
 use Rattle.step_laws.proofs.Runs.{rivals_keep}
 use Rattle.course_laws.specs.Submits.{SubmitsAreLawful}

@@ -16,9 +16,9 @@ use Rattle.step_model.specs.Entries.{party_eq, last_from, is_pending, is_pending
 use Rattle.step_model.specs.Lawful.{Lawful}
 use Rattle.step_model.specs.LawfulTables.{DeletionFits}
 use Rattle.step_model.specs.Rivals.{Caller, RivalsFrom, Rivals, after_call}
-use Rattle.step_model.specs.CourseRuns.{IsLawfulCourse}
-use Rattle.step_model.specs.SweepSteps.{deletes_each, sweep}
-use Rattle.step_model.specs.Course.{Course, Ends, Calls}
+use Rattle.step_model.specs.Courses.CourseRuns.{IsLawfulCourse}
+use Rattle.step_model.specs.Steps.SweepSteps.{deletes_each, sweep}
+use Rattle.step_model.specs.Courses.Course.{Course, Ends, Calls}
 use Rattle.step_laws.proofs.Elements.{all_from, in_contains, pairs_map}
 use Rattle.step_laws.proofs.Held.{held_but}
 use Rattle.course_laws.specs.Sweeps.{SweepsAreLawful}

@@ -5,23 +5,23 @@ use Rattle.std.specs.List.{AllByRecursion}
 use Rattle.row_model.specs.Rows.{Row, IsStrictlyOrdered, sorted_rows}
 use Rattle.row_model.specs.Ranges.{Range}
 use Rattle.row_model.specs.Fold.{Operator}
-use Rattle.row_model.specs.Plan.{planned_ranges}
+use Rattle.row_model.specs.Written.Plan.{planned_ranges}
 use Rattle.fleet_model.specs.Nodes.{Tables, table_rows, is_among}
 use Rattle.fleet_model.specs.Jobs.{JobSpec, Job, Context, job_with}
 use Rattle.fleet_model.specs.History.{Party, Worker, DrawTable, PutTable, Done, Entry, stood}
 use Rattle.fleet_model.specs.Store.{Store, stored_jobs, is_held, AreHeld}
-use Rattle.fleet_model.specs.Attempts.{source_rows, noted_rows}
-use Rattle.fleet_model.specs.Claimed.{IsClaimed}
-use Rattle.fleet_model.specs.Parties.{Attempt, LiveWorker, is_live, live_attempts}
+use Rattle.fleet_model.specs.Work.Attempts.{source_rows, noted_rows}
+use Rattle.fleet_model.specs.Past.Claimed.{IsClaimed}
+use Rattle.fleet_model.specs.Work.Parties.{Attempt, LiveWorker, is_live, live_attempts}
 use Rattle.fleet_model.specs.Sweeps.{attempt_tables}
-use Rattle.fleet_model.specs.AttemptsFit.{AttemptFits, WorkerFits, TablesFit}
+use Rattle.fleet_model.specs.Invariants.AttemptsFit.{AttemptFits, WorkerFits, TablesFit}
 use Rattle.fleet_model.specs.Exchanges.{DrawsTable, PutsTable, next_table_id}
 use Rattle.step_model.specs.Past.{World}
-use Rattle.step_model.specs.Faithful.{Faithful}
+use Rattle.step_model.specs.Kept.Faithful.{Faithful}
 use Rattle.step_model.specs.LawfulTables.{MayUse}
-use Rattle.step_model.specs.TablesKept.{PutsKept}
+use Rattle.step_model.specs.Kept.TablesKept.{PutsKept}
 use Rattle.step_model.specs.Fits.{noted_tables, WorkerHolds}
-use Rattle.step_model.specs.Keeps.{Keeps}
+use Rattle.step_model.specs.Kept.Keeps.{Keeps}
 use Rattle.step_model.specs.Rivals.{after_call}
 use Rattle.step_laws.proofs.Elements.{IsIn, all_at, all_from, all_to, all_front, all_back, all_unflat, all_true_front, all_true_from}
 use Rattle.step_laws.proofs.Alike.{settings_same}

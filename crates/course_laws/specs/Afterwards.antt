@@ -2,17 +2,17 @@
 use Rattle.std.specs.Prelude.{◌≡◌, ℕ, List, ◌++◌}
 use Rattle.fleet_model.specs.History.{Party, Entry}
 use Rattle.fleet_model.specs.Exchanges.{Exchange}
-use Rattle.fleet_model.specs.PollStates.{PollState}
+use Rattle.fleet_model.specs.Work.PollStates.{PollState}
 use Rattle.step_model.specs.Past.{World}
 use Rattle.step_model.specs.Later.{IsLater}
 use Rattle.step_model.specs.Rivals.{Caller, Rivals, Strike, after_call}
-use Rattle.step_model.specs.Course.{Course}
-use Rattle.step_model.specs.CourseRuns.{End, Runs}
-use Rattle.step_model.specs.StepEnds.{StepEnd}
-use Rattle.step_model.specs.ClaimSteps.{Claimed}
-use Rattle.step_model.specs.BeatSteps.{Beaten}
-use Rattle.step_model.specs.OutputSteps.{Written}
-use Rattle.step_model.specs.FinishSteps.{FinishedJob}
+use Rattle.step_model.specs.Courses.Course.{Course}
+use Rattle.step_model.specs.Courses.CourseRuns.{End, Runs}
+use Rattle.step_model.specs.Courses.StepEnds.{StepEnd}
+use Rattle.step_model.specs.Steps.ClaimSteps.{Claimed}
+use Rattle.step_model.specs.Steps.BeatSteps.{Beaten}
+use Rattle.step_model.specs.Steps.OutputSteps.{Written}
+use Rattle.step_model.specs.Steps.FinishSteps.{FinishedJob}
 
 -- The new world comes after the old one: an object that has the same version is the same, tables were only
 -- added, and the history went on.

@@ -1,14 +1,14 @@
 -- The laws on two courses, one after the other.
 use Rattle.std.specs.Prelude.{◌≡◌, Option}
 use Rattle.fleet_model.specs.Exchanges.{Fault}
-use Rattle.fleet_model.specs.PollStates.{PollState}
+use Rattle.fleet_model.specs.Work.PollStates.{PollState}
 use Rattle.step_model.specs.Past.{World}
 use Rattle.step_model.specs.Rivals.{Caller}
-use Rattle.step_model.specs.Course.{Course, then_course}
-use Rattle.step_model.specs.CourseRuns.{End, Gives, MeetsFault, LacksMemory, Runs, IsLawfulCourse}
-use Rattle.step_model.specs.Ran.{Ran}
-use Rattle.step_model.specs.StepEnds.{StepEnd}
-use Rattle.step_model.specs.LoopSteps.{LoopEnd}
+use Rattle.step_model.specs.Courses.Course.{Course, then_course}
+use Rattle.step_model.specs.Courses.CourseRuns.{End, Gives, MeetsFault, LacksMemory, Runs, IsLawfulCourse}
+use Rattle.step_model.specs.Courses.Ran.{Ran}
+use Rattle.step_model.specs.Courses.StepEnds.{StepEnd}
+use Rattle.step_model.specs.Steps.LoopSteps.{LoopEnd}
 
 -- The first course gave an answer, and the second one ran on from there.
 pub record RanOn {A B : Type 0} (who : Caller) (first : Course A) (second : A → Course B) (old new : World)

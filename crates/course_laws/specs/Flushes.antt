@@ -7,9 +7,9 @@ use Rattle.fleet_model.specs.History.{Writer}
 use Rattle.step_model.specs.Past.{World}
 use Rattle.step_model.specs.Entries.{last_name}
 use Rattle.step_model.specs.Rivals.{Caller}
-use Rattle.step_model.specs.Keeps.{Keeps}
-use Rattle.step_model.specs.CourseRuns.{IsLawfulCourse}
-use Rattle.step_model.specs.FlushSteps.{FlushAsk, flush}
+use Rattle.step_model.specs.Kept.Keeps.{Keeps}
+use Rattle.step_model.specs.Courses.CourseRuns.{IsLawfulCourse}
+use Rattle.step_model.specs.Steps.FlushSteps.{FlushAsk, flush}
 use Rattle.step_laws.specs.Runs.{CallsKeep}
 
 -- A flush may be asked for if its name is one of flushes, it has rows, and these are in bounds.

@@ -8,7 +8,7 @@ use Rattle.fleet_model.specs.History.{Party, Event, PutRecords, Finish, Polled, 
 use Rattle.step_model.specs.Past.{World}
 use Rattle.step_model.specs.Entries.{claimed_attempts}
 use Rattle.step_model.specs.Rivals.{Caller, Rivals}
-use Rattle.step_model.specs.Keeps.{Keeps}
+use Rattle.step_model.specs.Kept.Keeps.{Keeps}
 
 -- ---- whose entries
 

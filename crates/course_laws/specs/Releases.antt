@@ -1,11 +1,11 @@
 -- The law on the steps by which workers give attempts back.
 use Rattle.std.specs.Prelude.{◌≡◌}
 use Rattle.fleet_model.specs.History.{Worker}
-use Rattle.fleet_model.specs.Parties.{LiveWorker}
+use Rattle.fleet_model.specs.Work.Parties.{LiveWorker}
 use Rattle.step_model.specs.Past.{World}
 use Rattle.step_model.specs.Rivals.{Caller}
-use Rattle.step_model.specs.CourseRuns.{IsLawfulCourse}
-use Rattle.step_model.specs.BeatSteps.{release_all}
+use Rattle.step_model.specs.Courses.CourseRuns.{IsLawfulCourse}
+use Rattle.step_model.specs.Steps.BeatSteps.{release_all}
 
 -- The step by which a worker gives its live attempts back is a lawful course over any store.
 abbrev pub ReleasesAreLawful : Type 0

@@ -2,12 +2,12 @@
 use Rattle.std.specs.Prelude.{◌≡◌, ℕ, List}
 use Rattle.fleet_model.specs.Jobs.{JobSpec}
 use Rattle.fleet_model.specs.History.{Submitter}
-use Rattle.fleet_model.specs.Scheduler.{Scheduler, Request}
+use Rattle.fleet_model.specs.Work.Scheduler.{Scheduler, Request}
 use Rattle.step_model.specs.Past.{World}
 use Rattle.step_model.specs.Rivals.{Caller}
-use Rattle.step_model.specs.Keeps.{Keeps}
-use Rattle.step_model.specs.SubmitSteps.{submit, submit_request}
-use Rattle.step_model.specs.CourseRuns.{IsLawfulCourse}
+use Rattle.step_model.specs.Kept.Keeps.{Keeps}
+use Rattle.step_model.specs.Steps.SubmitSteps.{submit, submit_request}
+use Rattle.step_model.specs.Courses.CourseRuns.{IsLawfulCourse}
 use Rattle.step_laws.specs.Runs.{CallsKeep}
 
 -- Submissions of jobs and of requests are lawful courses over any store that meets the invariant, if

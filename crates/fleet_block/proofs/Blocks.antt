@@ -5,7 +5,7 @@ use Rattle.std.specs.Int.{w16, w64, to_be_bytes}
 use Rattle.std.specs.List.{flat_map}
 use Rattle.std.proofs.lemmas.List.{append_assoc, append-nil, length-append, length-drop}
 use Rattle.row_model.specs.Rows.{Row}
-use Rattle.row_model.specs.TableBytes.{header_bytes, rows_bytes}
+use Rattle.row_model.specs.Written.TableBytes.{header_bytes, rows_bytes}
 use Rattle.fleet_block.specs.Finds.{AreRows, Finds, FindsBlocks, IsFound, joined_rows}
 use Rattle.fleet_block.proofs.Later.{Rows, view}
 

@@ -7,8 +7,8 @@ use Rattle.std.specs.declared.cmp.Ordering.{Ordering}
 use Rattle.std.specs.declared.cmp.Ordering.TheVariants.{Less, Equal, Greater}
 use Rattle.std.specs.Ordering.{nat_cmp, ordering_then}
 use Rattle.row_model.specs.Rows.{key_cmp, Content, Value, Merge, Tombstone}
-use Rattle.row_model.specs.Sizes.{content_len}
-use Rattle.row_model.specs.TableBytes.{content_bytes, content_flag}
+use Rattle.row_model.specs.Written.Sizes.{content_len}
+use Rattle.row_model.specs.Written.TableBytes.{content_bytes, content_flag}
 use Rattle.fleet_block.specs.Finds.{Finds, IsFound}
 
 -- The first part decides, unless it is equal to as many bytes of the other key.

@@ -5,9 +5,9 @@ use Rattle.std.specs.List.{AllByRecursion, flat_map}
 use Rattle.std.proofs.lemmas.List.{append_assoc, map-append, take-append-drop, take-map, drop-map}
 use Rattle.row_model.specs.Bounds.{IsInBounds}
 use Rattle.row_model.specs.Rows.{Row}
-use Rattle.row_model.specs.Sizes.{block_bytes, estimated_size, or_full}
-use Rattle.row_model.specs.Tables.{with_row}
-use Rattle.row_model.specs.TableBytes.{blocks_of_rows, IsWritable}
+use Rattle.row_model.specs.Written.Sizes.{block_bytes, estimated_size, or_full}
+use Rattle.row_model.specs.Written.Tables.{with_row}
+use Rattle.row_model.specs.Written.TableBytes.{blocks_of_rows, IsWritable}
 use Rattle.fleet_rows.specs.declared.row.RowEntry.{RowEntry}
 use Rattle.fleet_rows.specs.Row.{row_of, rows_of}
 use Rattle.fleet_block.specs.Cuts.{first_block_len}

@@ -8,8 +8,8 @@ use Rattle.std.proofs.lemmas.List.{append_assoc, drop_at, length-drop, map-id, t
 use Rattle.std.proofs.lemmas.Nat.{from_be_bytes-to_be_bytes_2, from_be_bytes-to_be_bytes_4, from_be_bytes-to_be_bytes_8}
 use Rattle.row_model.specs.Bounds.{IsStampOrNone}
 use Rattle.row_model.specs.Rows.{Row, Content, Value, Merge, Tombstone}
-use Rattle.row_model.specs.Sizes.{content_len}
-use Rattle.row_model.specs.TableBytes.{blocks_of_rows, content_bytes, content_flag, header_bytes, key_bytes, row_bytes, row_flags, rows_bytes, shared_len, stamp_bytes, IsWritable}
+use Rattle.row_model.specs.Written.Sizes.{content_len}
+use Rattle.row_model.specs.Written.TableBytes.{blocks_of_rows, content_bytes, content_flag, header_bytes, key_bytes, row_bytes, row_flags, rows_bytes, shared_len, stamp_bytes, IsWritable}
 use Rattle.fleet_block.specs.Decoded.{block_in, blocks_in, content_in, decoded_rows, header_in, key_in, many_in, number_in, part_in, row_in, stamp_in, value_in}
 use Rattle.fleet_block.specs.Finds.{IsBlock, joined_rows}
 use Rattle.fleet_block.specs.Laws.{BytesAreDecoded}

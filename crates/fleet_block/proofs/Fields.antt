@@ -4,7 +4,7 @@ use Rattle.std.specs.Prelude.{◌==◌, Option, Some, None, is_some}
 use Rattle.std.specs.Int.{w64, to_be_bytes}
 use Rattle.std.proofs.lemmas.List.{append_assoc}
 use Rattle.row_model.specs.Rows.{Row, Content, Value, Merge, Tombstone}
-use Rattle.row_model.specs.TableBytes.{content_bytes, content_flag, fields_bytes, key_bytes, row_bytes, row_flags, shared_len, stamp_bytes, stamp_flag}
+use Rattle.row_model.specs.Written.TableBytes.{content_bytes, content_flag, fields_bytes, key_bytes, row_bytes, row_flags, shared_len, stamp_bytes, stamp_flag}
 
 -- ---- flags
 

@@ -4,9 +4,9 @@ use Rattle.std.specs.Prelude.{◌==◌, nat_le, sum_by}
 use Rattle.std.specs.List.{AllByRecursion}
 use Rattle.std.proofs.lemmas.List.Sums.{sum_by-cons}
 use Rattle.row_model.specs.Rows.{Row}
-use Rattle.row_model.specs.Sizes.{Block, block_at, block_bytes, blocks_from, estimated_size, or_full, saturated_sum}
-use Rattle.row_model.specs.Tables.{with_row}
-use Rattle.row_model.specs.TableBytes.{blocks_of_rows}
+use Rattle.row_model.specs.Written.Sizes.{Block, block_at, block_bytes, blocks_from, estimated_size, or_full, saturated_sum}
+use Rattle.row_model.specs.Written.Tables.{with_row}
+use Rattle.row_model.specs.Written.TableBytes.{blocks_of_rows}
 use Rattle.fleet_block.specs.Laws.{RowsAreCutIntoBlocks, index_from}
 use Rattle.fleet_block.proofs.Cuts.{joined_blocks}
 

@@ -7,8 +7,8 @@ use Rattle.std.specs.declared.alloc.Global.{Global}
 use Rattle.std.proofs.lemmas.List.{append_assoc, append-nil}
 use Rattle.row_model.specs.Bounds.{IsInBounds}
 use Rattle.row_model.specs.Rows.{Row}
-use Rattle.row_model.specs.Sizes.{estimated_size}
-use Rattle.row_model.specs.TableBytes.{row_bytes, rows_bytes, IsWritable}
+use Rattle.row_model.specs.Written.Sizes.{estimated_size}
+use Rattle.row_model.specs.Written.TableBytes.{row_bytes, rows_bytes, IsWritable}
 use Rattle.fleet_rows.specs.declared.row.RowEntry.{RowEntry}
 use Rattle.fleet_rows.specs.Row.{row_of, rows_of}
 use Rattle.fleet_block.specs.Finds.{AreRows, BeginOpen, Finds, FindsLater, IsFound}

@@ -3,8 +3,8 @@ use Rattle.std.proofs.Common.{◌≡◌, refl, ℤ, length, arith}
 use Rattle.std.specs.Prelude.{Option, Some, None}
 use Rattle.std.proofs.lemmas.List.{length-append, length-drop}
 use Rattle.row_model.specs.Rows.{Content, Value, Merge, Tombstone}
-use Rattle.row_model.specs.Sizes.{stamp_size, written_value_size}
-use Rattle.row_model.specs.TableBytes.{content_bytes, stamp_bytes}
+use Rattle.row_model.specs.Written.Sizes.{stamp_size, written_value_size}
+use Rattle.row_model.specs.Written.TableBytes.{content_bytes, stamp_bytes}
 use Rattle.fleet_block.specs.Laws.{RowsHaveEncodedSizes}
 
 stamp_len : (stamp : Option ℤ) → length (stamp_bytes stamp) ≡ stamp_size stamp

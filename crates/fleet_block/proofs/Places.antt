@@ -4,7 +4,7 @@ use Rattle.std.specs.Prelude.{slice_index_or}
 use Rattle.std.specs.List.{flat_map}
 use Rattle.std.proofs.lemmas.List.{append_assoc, length-append}
 use Rattle.row_model.specs.Rows.{Row}
-use Rattle.row_model.specs.TableBytes.{rows_bytes}
+use Rattle.row_model.specs.Written.TableBytes.{rows_bytes}
 use Rattle.fleet_block.specs.Finds.{joined_rows}
 use Rattle.fleet_block.specs.Places.{places_from}
 use Rattle.fleet_block.specs.declared.place.BlockPlace.{BlockPlace}

@@ -2,7 +2,7 @@
 use Rattle.std.proofs.Common.{◌≡◌, refl, ◌∙◌, ap, ℕ, suc, ◌≤◌, ◌+◌, List, [], ◌∷◌, ◌++◌, length, take, drop, Bool, true, false, cond, arith}
 use Rattle.std.specs.Prelude.{◌==◌}
 use Rattle.std.proofs.lemmas.List.Sums.{common_prefix_len-le}
-use Rattle.row_model.specs.TableBytes.{shared_len}
+use Rattle.row_model.specs.Written.TableBytes.{shared_len}
 
 pub shared_within : (first key : List ℕ) → (shared_len first key ≤ length first) × (shared_len first key ≤ length key)
 shared_within first key = common_prefix_len-le (λ a b. a == b) first key

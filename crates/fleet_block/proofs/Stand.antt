@@ -5,7 +5,7 @@ use Rattle.std.specs.List.{flat_map}
 use Rattle.std.proofs.lemmas.Grind.{flat_map-append}
 use Rattle.std.proofs.lemmas.List.{drop-drop, drop_at}
 use Rattle.row_model.specs.Rows.{Row}
-use Rattle.row_model.specs.TableBytes.{bytes_of_blocks, header_bytes, rows_bytes}
+use Rattle.row_model.specs.Written.TableBytes.{bytes_of_blocks, header_bytes, rows_bytes}
 use Rattle.fleet_block.specs.Laws.{BlocksStandInBytes, rows_place}
 use Rattle.fleet_block.proofs.Tables.{headers_len}
 

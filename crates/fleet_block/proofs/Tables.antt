@@ -3,7 +3,7 @@ use Rattle.std.proofs.Common.{◌≡◌, refl, sym, ◌∙◌, ap, subst, ℕ, �
 use Rattle.std.specs.List.{flat_map}
 use Rattle.std.proofs.lemmas.List.{append-nil, drop-drop, drop_at, length-append, length-drop}
 use Rattle.row_model.specs.Rows.{Row}
-use Rattle.row_model.specs.TableBytes.{blocks_of_rows, bytes_of_blocks, header_bytes, rows_bytes, table_bytes, IsTaken}
+use Rattle.row_model.specs.Written.TableBytes.{blocks_of_rows, bytes_of_blocks, header_bytes, rows_bytes, table_bytes, IsTaken}
 use Rattle.std.specs.Prelude.{Option, Some, None, not}
 use Rattle.fleet_block.specs.Finds.{FindsAll}
 use Rattle.fleet_block.proofs.Cuts.{all_blocks, joined_blocks}

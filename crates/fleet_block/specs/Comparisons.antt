@@ -1,8 +1,8 @@
 -- What a reader tells of a row without reading it whole.
 use Rattle.std.specs.Prelude.{◌≡◌, ℕ, ◌+◌, ◌%◌, ◌<◌, ◌^◌, List, ◌∷◌, ◌++◌, take, drop, slice_range, Option, Some, None}
 use Rattle.row_model.specs.Rows.{Row, Content}
-use Rattle.row_model.specs.Sizes.{content_len}
-use Rattle.row_model.specs.TableBytes.{content_bytes, content_flag, row_bytes, row_flags, stamp_bytes, IsWritable}
+use Rattle.row_model.specs.Written.Sizes.{content_len}
+use Rattle.row_model.specs.Written.TableBytes.{content_bytes, content_flag, row_bytes, row_flags, stamp_bytes, IsWritable}
 use Rattle.fleet_block.specs.Finds.{IsFound}
 use Rattle.fleet_block.specs.declared.field.KeyParts.{KeyParts}
 

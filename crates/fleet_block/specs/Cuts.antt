@@ -1,7 +1,7 @@
 -- The first block of some rows.
 use Rattle.std.specs.Prelude.{ℕ, ◌+◌, nat_le, if◌then◌else◌, List, [], ◌∷◌}
 use Rattle.row_model.specs.Rows.{Row}
-use Rattle.row_model.specs.Sizes.{block_bytes, estimated_size}
+use Rattle.row_model.specs.Written.Sizes.{block_bytes, estimated_size}
 
 -- How many of the rows belong to the open block, which already has `filled` bytes.
 abbrev pub first_block_len : ℕ → List Row → ℕ

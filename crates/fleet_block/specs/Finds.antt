@@ -2,8 +2,8 @@
 use Rattle.std.specs.Prelude.{◌≡◌, ◌≢◌, ℕ, ◌+◌, ◌<◌, ◌≤◌, List, [], ◌∷◌, ◌++◌, length, drop, Option, Some, None, IfSome, option_map, ⊤}
 use Rattle.std.specs.List.{AllByRecursion, flat_map}
 use Rattle.row_model.specs.Rows.{Row}
-use Rattle.row_model.specs.Sizes.{block_bytes, estimated_size}
-use Rattle.row_model.specs.TableBytes.{bytes_of_blocks, header_bytes, row_bytes, rows_bytes, IsWritable}
+use Rattle.row_model.specs.Written.Sizes.{block_bytes, estimated_size}
+use Rattle.row_model.specs.Written.TableBytes.{bytes_of_blocks, header_bytes, row_bytes, rows_bytes, IsWritable}
 
 -- The reader found this value, and after it are the other bytes.
 abbrev pub IsFound : {A V : Type 0} → (V → A) → A → List ℕ → List ℕ → Option (V × ℕ) → Type 0

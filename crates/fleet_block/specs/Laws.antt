@@ -2,8 +2,8 @@
 use Rattle.std.specs.Prelude.{◌≡◌, ◌≢◌, ℕ, ◌+◌, ◌<◌, ◌^◌, List, [], ◌∷◌, length, sum_by, ◌*◌, ◌++◌, drop}
 use Rattle.std.specs.List.{AllByRecursion, flat_map}
 use Rattle.row_model.specs.Rows.{Row}
-use Rattle.row_model.specs.Sizes.{Block, blocks, encoded_size, estimated_size, saturated_sum}
-use Rattle.row_model.specs.TableBytes.{blocks_of_rows, bytes_of_blocks, row_bytes, rows_bytes, shared_len, table_bytes, IsWritable}
+use Rattle.row_model.specs.Written.Sizes.{Block, blocks, encoded_size, estimated_size, saturated_sum}
+use Rattle.row_model.specs.Written.TableBytes.{blocks_of_rows, bytes_of_blocks, row_bytes, rows_bytes, shared_len, table_bytes, IsWritable}
 use Rattle.fleet_block.specs.Decoded.{decoded_rows}
 use Rattle.fleet_block.specs.Finds.{joined_rows}
 

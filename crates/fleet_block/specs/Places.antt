@@ -1,7 +1,7 @@
 -- Where the blocks of a table stand.
 use Rattle.std.specs.Prelude.{ℕ, ◌+◌, List, [], ◌∷◌, length}
 use Rattle.row_model.specs.Rows.{Row}
-use Rattle.row_model.specs.TableBytes.{rows_bytes}
+use Rattle.row_model.specs.Written.TableBytes.{rows_bytes}
 use Rattle.fleet_block.specs.declared.place.BlockPlace.{BlockPlace}
 
 -- The places of some blocks, where so many rows stand before the first of them, in so many bytes.

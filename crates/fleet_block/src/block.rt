@@ -1,7 +1,7 @@
 //! Reading the rows of a block at a place in some bytes.
 
 ghost use Rattle.std.specs.Prelude.{◌≤◌, length, IfOk, IfSome, IsOkUnless};
-ghost use Rattle.row_model.specs.TableBytes.{rows_bytes};
+ghost use Rattle.row_model.specs.Written.TableBytes.{rows_bytes};
 ghost use Rattle.fleet_rows.specs.Row.{rows_of};
 ghost use Rattle.fleet_block.specs.Finds.{AreRows, Finds, FindsLater};
 

@@ -3,7 +3,7 @@
 ghost use Rattle.std.specs.Prelude.{◌≡◌, ◌≢◌, ◌++◌, ◌∷◌, ◌<◌, ◌≤◌, ◌^◌, [], length};
 ghost use Rattle.std.specs.List.{AllByRecursion};
 ghost use Rattle.row_model.specs.Bounds.{IsInBounds};
-ghost use Rattle.row_model.specs.TableBytes.{blocks_of_rows};
+ghost use Rattle.row_model.specs.Written.TableBytes.{blocks_of_rows};
 ghost use Rattle.fleet_rows.specs.Row.{rows_of};
 ghost use Rattle.fleet_block.specs.Cuts.{first_block_len};
 

@@ -3,8 +3,8 @@
 ghost use Rattle.std.specs.Prelude.{◌≡◌, ◌<◌, ◌≤◌, ◌^◌, ◌%◌, ◌+◌, ◌++◌, is_some, length, slice_range, IfOk, IfSome, IsOkUnless};
 ghost use Rattle.std.specs.Int.{w32, to_be_bytes};
 ghost use Rattle.row_model.specs.Bounds.{IsStampOrNone};
-ghost use Rattle.row_model.specs.Sizes.{content_len};
-ghost use Rattle.row_model.specs.TableBytes.{content_bytes, content_flag, key_bytes, shared_len, stamp_bytes};
+ghost use Rattle.row_model.specs.Written.Sizes.{content_len};
+ghost use Rattle.row_model.specs.Written.TableBytes.{content_bytes, content_flag, key_bytes, shared_len, stamp_bytes};
 ghost use Rattle.fleet_rows.specs.Row.{content_of};
 ghost use Rattle.fleet_block.specs.Finds.{Finds};
 ghost use Rattle.fleet_block.specs.Comparisons.{key_of};

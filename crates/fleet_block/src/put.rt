@@ -3,8 +3,8 @@
 ghost use Rattle.std.specs.Prelude.{◌≡◌, ◌++◌, ◌<◌, ◌≤◌, ◌^◌, length, IsOkUnless, OnOk};
 ghost use Rattle.std.specs.Int.{w16, w32, w64, to_be_bytes};
 ghost use Rattle.row_model.specs.Bounds.{IsInBounds};
-ghost use Rattle.row_model.specs.TableBytes.{content_bytes, fields_bytes, key_bytes, row_bytes, row_flags, shared_len, stamp_bytes, IsWritable};
-ghost use Rattle.row_model.specs.Sizes.{content_len};
+ghost use Rattle.row_model.specs.Written.TableBytes.{content_bytes, fields_bytes, key_bytes, row_bytes, row_flags, shared_len, stamp_bytes, IsWritable};
+ghost use Rattle.row_model.specs.Written.Sizes.{content_len};
 ghost use Rattle.fleet_rows.specs.Row.{content_of, row_of};
 
 use crate::fits::know_numbers_fit;

@@ -4,7 +4,7 @@ ghost use Rattle.std.specs.Prelude.{◌≡◌, ◌≢◌, ◌↔◌, ◌<◌, �
 ghost use Rattle.std.specs.List.{AllByRecursion};
 ghost use Rattle.row_model.specs.Bounds.{IsInBounds};
 ghost use Rattle.row_model.specs.Rows.{IsStrictlyOrdered};
-ghost use Rattle.row_model.specs.TableBytes.{blocks_of_rows, table_bytes, IsTaken};
+ghost use Rattle.row_model.specs.Written.TableBytes.{blocks_of_rows, table_bytes, IsTaken};
 ghost use Rattle.fleet_rows.specs.Row.{rows_of};
 ghost use Rattle.fleet_block.specs.Finds.{FindsAll, FindsBlocks, Reads};
 ghost use Rattle.fleet_block.specs.Places.{places_from};

@@ -1,7 +1,7 @@
 //! Reading a row at a place in some bytes.
 
 ghost use Rattle.std.specs.Prelude.{◌≤◌, length, IfOk, IfSome, IsOkUnless};
-ghost use Rattle.row_model.specs.TableBytes.{row_bytes, IsWritable};
+ghost use Rattle.row_model.specs.Written.TableBytes.{row_bytes, IsWritable};
 ghost use Rattle.fleet_rows.specs.Row.{row_of};
 ghost use Rattle.fleet_block.specs.Finds.{Finds};
 

@@ -1,7 +1,7 @@
 //! The bytes that two keys share.
 
 ghost use Rattle.std.specs.Prelude.{◌≡◌, ◌≤◌, length};
-ghost use Rattle.row_model.specs.TableBytes.{shared_len};
+ghost use Rattle.row_model.specs.Written.TableBytes.{shared_len};
 
 /// The length of the longest prefix that two keys have in common.
 pub(crate) fn shared_len(first: &[u8], key: &[u8]) -> usize

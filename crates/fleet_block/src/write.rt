@@ -4,7 +4,7 @@ ghost use Rattle.std.specs.Prelude.{◌≡◌, ◌++◌, ◌<◌, ◌^◌, lengt
 ghost use Rattle.std.specs.Int.{w16, w64, to_be_bytes};
 ghost use Rattle.std.specs.List.{AllByRecursion, flat_map};
 ghost use Rattle.row_model.specs.Bounds.{IsInBounds};
-ghost use Rattle.row_model.specs.TableBytes.{blocks_of_rows, header_bytes, row_bytes, rows_bytes, table_bytes, IsWritable};
+ghost use Rattle.row_model.specs.Written.TableBytes.{blocks_of_rows, header_bytes, row_bytes, rows_bytes, table_bytes, IsWritable};
 ghost use Rattle.fleet_rows.specs.Row.{rows_of};
 ghost use Rattle.fleet_block.specs.Places.{places_from};
 

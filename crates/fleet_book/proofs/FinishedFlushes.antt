@@ -4,7 +4,7 @@ use Rattle.std.specs.Prelude.{◌==◌, find, take_while, Option, Some, None}
 use Rattle.std.specs.List.{list_all}
 use Rattle.std.proofs.lemmas.Bool.{eqb-true, eq-eqb}
 use Rattle.std.proofs.lemmas.List.Sums.{take_while-cons}
-use Rattle.fleet_model.specs.Gates.{names_older}
+use Rattle.fleet_model.specs.Work.Gates.{names_older}
 use Rattle.fleet_model.specs.Nodes.{NodeName, L0, is_l0, names_contain}
 use Rattle.fleet_tree.specs.Trees.{newer_than}
 use Rattle.fleet_tree.specs.Views.{View}

@@ -7,13 +7,13 @@ use Rattle.row_laws.proofs.Elements.{all_weaken}
 use Rattle.fleet_model.specs.Jobs.{contains}
 use Rattle.fleet_model.specs.Nodes.{NodeName, L0, Run, name_eq}
 use Rattle.fleet_model.specs.Sources.{is_lowest_or_above, older_nodes, reaches_oldest, run_ids}
-use Rattle.fleet_model.specs.Gates.{is_nonempty}
+use Rattle.fleet_model.specs.Work.Gates.{is_nonempty}
 use Rattle.fleet_tree.specs.Trees.{trees_with_prefix}
 use Rattle.fleet_tree.specs.Views.{View}
 use Rattle.fleet_tree.specs.declared.manifest.ManifestCore.{ManifestCore}
 use Rattle.fleet_tree.specs.declared.run.SortedRun.{SortedRun}
 use Rattle.fleet_tree.specs.declared.tree.LsmTreeState.{LsmTreeState}
-use Rattle.fleet_jobs.specs.JobParts.{JobParts}
+use Rattle.fleet_jobs.specs.Parts.JobParts.{JobParts}
 use Rattle.fleet_jobs.specs.Places.{may_merge, nodes_if_there, nodes_in, stand_among}
 use Rattle.fleet_jobs.specs.Sources.{name_of}
 use Rattle.fleet_jobs.specs.Specs.{destination_of, segment_of, sources_of}

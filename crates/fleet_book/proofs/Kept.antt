@@ -4,7 +4,7 @@ use Rattle.std.specs.Prelude.{◌==◌, filter, fold, Option, Some, None, if◌t
 use Rattle.std.specs.List.{AllByRecursion}
 use Rattle.std.specs.Option.{option_map_or}
 use Rattle.std.proofs.lemmas.Bool.{eqb-true, eq-eqb}
-use Rattle.fleet_jobs.specs.JobParts.{JobParts}
+use Rattle.fleet_jobs.specs.Parts.JobParts.{JobParts}
 use Rattle.fleet_jobs.specs.Jobs.{is_open}
 use Rattle.fleet_book.specs.Records.{AreRising, kept_records, over_later}
 use Rattle.fleet_book.proofs.Records.{Above, rising_filter}

@@ -3,8 +3,8 @@ use Rattle.std.proofs.Common.{◌≡◌, refl, sym, ◌∙◌, ap, ℕ, List, []
 use Rattle.std.specs.Prelude.{◌==◌, nat_lt, Some, None}
 use Rattle.std.proofs.lemmas.Bool.{eqb-true}
 use Rattle.fleet_model.specs.Jobs.{Status, Submitted, Scheduled, Running, Compacted, Completed, Failed, is_finished}
-use Rattle.step_model.specs.Merging.{adopts}
-use Rattle.fleet_jobs.specs.JobParts.{JobParts}
+use Rattle.step_model.specs.Steps.Merging.{adopts}
+use Rattle.fleet_jobs.specs.Parts.JobParts.{JobParts}
 use Rattle.fleet_jobs.specs.Jobs.{is_open}
 use Rattle.fleet_book.specs.Records.{put_record, record_with}
 use Rattle.fleet_book.specs.States.{takes, with_stored, merged_jobs}

@@ -5,7 +5,7 @@ use Rattle.std.proofs.lemmas.Cmp.{nat_eq_equiv}
 use Rattle.std.proofs.lemmas.Slice.Eq.{bytes_eq-Decides}
 use Rattle.std.proofs.lemmas.List.Sums.{take_while-cons}
 use Rattle.fleet_model.specs.Nodes.{Segment, Tree, Trees, runs_of, segment_at}
-use Rattle.step_model.specs.Merging as model
+use Rattle.step_model.specs.Steps.Merging as model
 use Rattle.fleet_tree.specs.Trees.{RunFlushes, flush_node, run_node, newer_than, tree_of, trees_of, trees_with_prefix}
 use Rattle.fleet_tree.specs.Trees as table
 use Rattle.fleet_tree.specs.Views.{View}

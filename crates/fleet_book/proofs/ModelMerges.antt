@@ -6,8 +6,8 @@ use Rattle.std.proofs.lemmas.Bool.{eqb-true, eqb-false, ltb-true, ltb-false}
 use Rattle.std.proofs.lemmas.Cmp.{nat_eq_equiv}
 use Rattle.row_laws.proofs.Elements.{all_weaken}
 use Rattle.fleet_model.specs.Jobs.{Jobs, job_with, put_job}
-use Rattle.step_model.specs.Merging as model
-use Rattle.fleet_jobs.specs.JobParts.{JobParts}
+use Rattle.step_model.specs.Steps.Merging as model
+use Rattle.fleet_jobs.specs.Parts.JobParts.{JobParts}
 use Rattle.fleet_jobs.specs.Jobs.{job_of, jobs_of}
 use Rattle.fleet_book.specs.Records.{AreRising, put_record, record_with}
 use Rattle.fleet_book.specs.States.{takes, with_stored}

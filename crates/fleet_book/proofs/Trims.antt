@@ -1,7 +1,7 @@
 -- What a trim keeps of jobs.
 use Rattle.std.proofs.Common.{◌≡◌, refl, sym, ◌∙◌, ap, List, [], ◌∷◌, Bool, true, false, cond, not, ◌||◌}
 use Rattle.std.specs.Prelude.{filter}
-use Rattle.fleet_jobs.specs.JobParts.{JobParts}
+use Rattle.fleet_jobs.specs.Parts.JobParts.{JobParts}
 use Rattle.fleet_jobs.specs.Jobs.{is_open}
 use Rattle.fleet_book.specs.Laws.{LastOverJobsAreKept, OpenJobsAreKept, RepeatedTrimsAreIdle, last_of, over_jobs}
 use Rattle.fleet_book.specs.Records.{kept_records, over_later}

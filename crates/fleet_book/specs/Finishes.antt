@@ -11,7 +11,7 @@ use Rattle.fleet_tree.specs.declared.manifest.ManifestCore.{ManifestCore}
 use Rattle.fleet_tree.specs.declared.manifest.VersionedManifest.{VersionedManifest}
 use Rattle.fleet_tree.specs.declared.run.SortedRun.{SortedRun}
 use Rattle.fleet_tree.specs.declared.tree.LsmTreeState.{LsmTreeState}
-use Rattle.fleet_jobs.specs.JobParts.{JobParts}
+use Rattle.fleet_jobs.specs.Parts.JobParts.{JobParts}
 use Rattle.fleet_jobs.specs.Jobs.{with_status}
 use Rattle.fleet_book.specs.Records.{put_record}
 use Rattle.fleet_jobs.specs.Sources.{name_of}

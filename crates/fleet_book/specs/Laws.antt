@@ -5,13 +5,13 @@ use Rattle.std.specs.List.{AllByRecursion}
 use Rattle.std.specs.List.Sorted.{IsStrictlySortedBy}
 use Rattle.row_model.specs.Lists.{Pairs}
 use Rattle.row_model.specs.Rows.{key_cmp}
-use Rattle.fleet_model.specs.Gates.{names_older}
+use Rattle.fleet_model.specs.Work.Gates.{names_older}
 use Rattle.fleet_model.specs.History.{Join, Move, Drain}
 use Rattle.fleet_model.specs.Jobs.{Job, changed_jobs, put_job}
 use Rattle.fleet_model.specs.Nodes.{Tables}
 use Rattle.fleet_model.specs.Store.{Manifest}
 use Rattle.fleet_model.specs.Trees.{by_first_key, source_nodes, source_pieces, stepped_in}
-use Rattle.step_model.specs.Merging as model
+use Rattle.step_model.specs.Steps.Merging as model
 use Rattle.fleet_tree.specs.Manifests.{manifest_of}
 use Rattle.fleet_tree.specs.Trees.{RunFlushes, newer_than, tree_of, trees_of, trees_with_prefix}
 use Rattle.fleet_tree.specs.Views.{View}
@@ -20,7 +20,7 @@ use Rattle.fleet_tree.specs.declared.manifest.VersionedManifest.{VersionedManife
 use Rattle.fleet_tree.specs.declared.run.SortedRun.{SortedRun}
 use Rattle.fleet_tree.specs.declared.tree.LsmTreeState.{LsmTreeState}
 use Rattle.fleet_book.specs.Finishes.{core_after, kept_runs, kept_views, mark_after, merged_manifest, tree_after}
-use Rattle.fleet_jobs.specs.JobParts.{JobParts}
+use Rattle.fleet_jobs.specs.Parts.JobParts.{JobParts}
 use Rattle.fleet_jobs.specs.Jobs.{is_open, job_of, jobs_of}
 use Rattle.fleet_jobs.specs.Laws.{KeysFit, l0_names, names_of, run_names, view_tables}
 use Rattle.fleet_jobs.specs.Moves.{moved_run}

@@ -1,7 +1,7 @@
 -- The records of all jobs, and how they are seen in the model.
 use Rattle.std.specs.Prelude.{ℕ, ◌<◌, Bool, false, ◌||◌, ◌==◌, nat_lt, not, List, [], ◌∷◌, find, if◌then◌else◌, Option}
 use Rattle.row_model.specs.Lists.{Pairs}
-use Rattle.fleet_jobs.specs.JobParts.{JobParts}
+use Rattle.fleet_jobs.specs.Parts.JobParts.{JobParts}
 use Rattle.fleet_jobs.specs.Jobs.{is_open}
 
 -- The ids of the jobs rise.

@@ -1,5 +1,5 @@
 -- Requests of users as the model has them.
-use Rattle.fleet_model.specs.Scheduler.{Request, Full, FullSegment, OneSpec}
+use Rattle.fleet_model.specs.Work.Scheduler.{Request, Full, FullSegment, OneSpec}
 use Rattle.fleet_jobs.specs.Specs.{spec_of}
 use Rattle.fleet_book.specs.declared.request.CompactionRequest.{CompactionRequest}
 use Rattle.fleet_book.specs.declared.request.CompactionRequest.TheVariants as own

@@ -1,9 +1,9 @@
 -- How the state of a coordinator changes.
 use Rattle.std.specs.Prelude.{Bool, List, fold, if◌then◌else◌, Option, Some, None}
 use Rattle.std.specs.List.{list_any}
-use Rattle.fleet_model.specs.Polls.{clashes}
-use Rattle.step_model.specs.Merging.{adopts, is_taken_new}
-use Rattle.fleet_jobs.specs.JobParts.{JobParts}
+use Rattle.fleet_model.specs.Work.Polls.{clashes}
+use Rattle.step_model.specs.Steps.Merging.{adopts, is_taken_new}
+use Rattle.fleet_jobs.specs.Parts.JobParts.{JobParts}
 use Rattle.fleet_jobs.specs.Jobs.{job_of}
 use Rattle.fleet_book.specs.Records.{put_record, record_with}
 use Rattle.fleet_jobs.specs.Specs.{spec_of}

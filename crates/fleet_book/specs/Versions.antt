@@ -1,7 +1,7 @@
 -- Records with their version as the model has them.
 use Rattle.std.specs.Prelude.{List}
 use Rattle.fleet_model.specs.Store.{Records}
-use Rattle.fleet_jobs.specs.JobParts.{JobParts}
+use Rattle.fleet_jobs.specs.Parts.JobParts.{JobParts}
 use Rattle.fleet_jobs.specs.Jobs.{jobs_of}
 use Rattle.fleet_book.specs.VersionedRecords.{VersionedRecords}
 

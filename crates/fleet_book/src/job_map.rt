@@ -26,7 +26,7 @@ pub struct JobMap {
 
 impl Model for JobMap {
     ghost use Rattle.std.specs.Prelude.{List};
-    ghost use Rattle.fleet_jobs.specs.JobParts.{JobParts};
+    ghost use Rattle.fleet_jobs.specs.Parts.JobParts.{JobParts};
     ghost use Rattle.fleet_book.specs.Records.{AreRising};
 
     ghost Value = { List JobParts };

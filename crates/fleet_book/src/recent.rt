@@ -14,7 +14,7 @@ pub struct RecentCompactions<'a> {
 
 impl<'a> Model for RecentCompactions<'a> {
     ghost use Rattle.std.specs.Prelude.{List};
-    ghost use Rattle.fleet_jobs.specs.JobParts.{JobParts};
+    ghost use Rattle.fleet_jobs.specs.Parts.JobParts.{JobParts};
 
     ghost Value = { List JobParts };
 

@@ -3,9 +3,9 @@
 ghost use Rattle.std.specs.Prelude.{◌≡◌, ℕ, None, Some, Err, bytes_eq, filter, false, true, IfOk, IfSome, IsOkUnless, IsSome, OnErr, OnOk};
 ghost use Rattle.std.specs.Option.{ForSome, option_copied};
 ghost use Rattle.fleet_model.specs.Jobs.{put_job};
-ghost use Rattle.fleet_model.specs.Polls.{clashes, same_target};
-ghost use Rattle.step_model.specs.Merging.{adopts};
-ghost use Rattle.fleet_jobs.specs.JobParts.{JobParts};
+ghost use Rattle.fleet_model.specs.Work.Polls.{clashes, same_target};
+ghost use Rattle.step_model.specs.Steps.Merging.{adopts};
+ghost use Rattle.fleet_jobs.specs.Parts.JobParts.{JobParts};
 ghost use Rattle.fleet_book.specs.Finishes.{finished_state, merged_manifest};
 ghost use Rattle.fleet_jobs.specs.Places.{sources_stand};
 ghost use Rattle.fleet_jobs.specs.Jobs.{is_open, job_of, jobs_of, with_status};

@@ -7,16 +7,16 @@ use Rattle.std.proofs.lemmas.List.{append-nil, map-append}
 use Rattle.std.proofs.lemmas.List.Concat.{flat_map-append}
 use Rattle.std.proofs.lemmas.List.Elements.{filter-append}
 use Rattle.std.proofs.lemmas.Slice.Eq.{bytes_eq-Decides}
-use Rattle.fleet_model.specs.Attempts.{ClaimInput, attempt_context}
-use Rattle.fleet_model.specs.Claims.{claimed_attempt, may_take}
+use Rattle.fleet_model.specs.Work.Attempts.{ClaimInput, attempt_context}
+use Rattle.fleet_model.specs.Work.Claims.{claimed_attempt, may_take}
 use Rattle.fleet_model.specs.History as model
 use Rattle.fleet_model.specs.Jobs.{Job, Jobs, ids, ids_eq}
 use Rattle.fleet_model.specs.Nodes.{NodeName, names_contain, tree_at}
 use Rattle.fleet_model.specs.Trees.{source_pieces}
-use Rattle.fleet_model.specs.Parties.{Attempt}
+use Rattle.fleet_model.specs.Work.Parties.{Attempt}
 use Rattle.fleet_model.specs.Store.{Store}
-use Rattle.fleet_model.specs.TreesFit.{IsTable}
-use Rattle.step_model.specs.ClaimSteps.{can_start, plan_of}
+use Rattle.fleet_model.specs.Invariants.TreesFit.{IsTable}
+use Rattle.step_model.specs.Steps.ClaimSteps.{can_start, plan_of}
 use Rattle.fleet_range.specs.Keys.{range_of}
 use Rattle.fleet_rows.specs.declared.settings.Settings.{Settings}
 use Rattle.fleet_range.specs.Ranges.{Ends}
@@ -24,9 +24,9 @@ use Rattle.fleet_tree.specs.declared.handle.SsTableHandle.{SsTableHandle}
 use Rattle.fleet_tree.specs.declared.manifest.VersionedManifest.{VersionedManifest}
 use Rattle.fleet_tree.specs.declared.manifest.ManifestCore.{ManifestCore}
 use Rattle.fleet_plan.specs.Parts.{Part}
-use Rattle.fleet_jobs.specs.ContextParts.{ContextParts}
+use Rattle.fleet_jobs.specs.Parts.ContextParts.{ContextParts}
 use Rattle.fleet_jobs.specs.Contexts.{context_of, noted_range, ranges_in}
-use Rattle.fleet_jobs.specs.JobParts.{JobParts}
+use Rattle.fleet_jobs.specs.Parts.JobParts.{JobParts}
 use Rattle.fleet_jobs.specs.Jobs.{job_handles, job_of, jobs_of}
 use Rattle.fleet_jobs.specs.Laws.{view_tables}
 use Rattle.fleet_jobs.specs.Places.{nodes_at}

@@ -3,8 +3,8 @@ use Rattle.std.proofs.Common.{◌≡◌, refl, sym, ◌∙◌, ap, ℕ, ◌-◌,
 use Rattle.std.specs.Prelude.{filter}
 use Rattle.std.proofs.lemmas.List.{length-map, take-map}
 use Rattle.fleet_model.specs.Jobs.{ids}
-use Rattle.fleet_model.specs.Parties.{attempt_jobs}
-use Rattle.fleet_jobs.specs.JobParts.{JobParts}
+use Rattle.fleet_model.specs.Work.Parties.{attempt_jobs}
+use Rattle.fleet_jobs.specs.Parts.JobParts.{JobParts}
 use Rattle.fleet_jobs.specs.Jobs.{job_of, jobs_of}
 use Rattle.fleet_jobs.specs.Workers.{release_of}
 use Rattle.fleet_jobs.specs.declared.release.Release.{Release}

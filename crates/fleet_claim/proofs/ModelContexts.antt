@@ -3,16 +3,16 @@ use Rattle.std.proofs.Common.{◌≡◌, refl, sym, ◌∙◌, ap, subst, ℕ, �
 use Rattle.std.specs.Prelude.{IsTrue, ℤ, find, Option, Some, None}
 use Rattle.std.specs.List.{AllByRecursion}
 use Rattle.std.proofs.lemmas.List.{append-nil}
-use Rattle.row_model.specs.Plan.{planned_ranges}
+use Rattle.row_model.specs.Written.Plan.{planned_ranges}
 use Rattle.row_model.specs.Ranges.{Range}
 use Rattle.row_model.specs.Rows.{Row, IsStrictlyOrdered}
-use Rattle.fleet_model.specs.Attempts.{ClaimInput, fresh_context, is_last, is_last_run}
+use Rattle.fleet_model.specs.Work.Attempts.{ClaimInput, fresh_context, is_last, is_last_run}
 use Rattle.fleet_model.specs.Jobs.{Context, knows_cut}
 use Rattle.fleet_model.specs.Nodes.{NodeName, Tables, Tree, is_among, names, rows_or_none, table_rows, tree_at}
 use Rattle.fleet_model.specs.Sources.{run_ids}
 use Rattle.fleet_model.specs.Store.{Store}
 use Rattle.fleet_model.specs.Store as model_store
-use Rattle.fleet_model.specs.TreesFit.{IsTable}
+use Rattle.fleet_model.specs.Invariants.TreesFit.{IsTable}
 use Rattle.fleet_range.specs.Keys.{range_of}
 use Rattle.fleet_range.specs.Ranges.{Ends}
 use Rattle.fleet_rows.specs.declared.settings.Settings.{Settings}
@@ -22,9 +22,9 @@ use Rattle.fleet_tree.specs.declared.manifest.VersionedManifest.{VersionedManife
 use Rattle.fleet_plan.specs.Boundaries.{ranges_of}
 use Rattle.fleet_plan.specs.Parts.{Part}
 use Rattle.fleet_plan.specs.Plans.{AreOfRows}
-use Rattle.fleet_jobs.specs.ContextParts.{ContextParts}
+use Rattle.fleet_jobs.specs.Parts.ContextParts.{ContextParts}
 use Rattle.fleet_jobs.specs.Contexts.{context_of, context_with, noted_range, settings_in}
-use Rattle.fleet_jobs.specs.JobParts.{JobParts}
+use Rattle.fleet_jobs.specs.Parts.JobParts.{JobParts}
 use Rattle.fleet_jobs.specs.Jobs.{job_of}
 use Rattle.fleet_jobs.specs.Laws.{view_tables}
 use Rattle.fleet_jobs.specs.Places.{nodes_at}

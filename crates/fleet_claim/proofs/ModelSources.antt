@@ -4,7 +4,7 @@ use Rattle.std.specs.Prelude.{find, flat_map, Option, Some, None}
 use Rattle.std.specs.List.{cons_option}
 use Rattle.std.specs.Option.{option_to_list}
 use Rattle.std.proofs.lemmas.List.{append-nil, map-append}
-use Rattle.fleet_model.specs.Attempts.{is_last}
+use Rattle.fleet_model.specs.Work.Attempts.{is_last}
 use Rattle.fleet_model.specs.Nodes.{Node, NodeName, L0, Run, Tree, node_named, tree_at}
 use Rattle.fleet_model.specs.Sources.{run_ids}
 use Rattle.fleet_model.specs.Trees.{source_nodes, source_pieces}

@@ -3,8 +3,8 @@ use Rattle.std.proofs.Common.{◌≡◌, refl, sym, ◌∙◌, ap, subst, ℕ, B
 use Rattle.std.specs.Prelude.{◌==◌, map, flat_map}
 use Rattle.std.specs.List.{AllByRecursion}
 use Rattle.fleet_model.specs.Jobs.{changed_jobs, contains, trimmed_jobs}
-use Rattle.fleet_model.specs.Records.{claimed_by, firsts}
-use Rattle.fleet_jobs.specs.JobParts.{JobParts}
+use Rattle.fleet_model.specs.Work.Records.{claimed_by, firsts}
+use Rattle.fleet_jobs.specs.Parts.JobParts.{JobParts}
 use Rattle.fleet_jobs.specs.Jobs.{job_handles, job_of, jobs_of}
 use Rattle.fleet_book.specs.Records.{AreRising, kept_records}
 use Rattle.fleet_book.specs.declared.compactions.Compactions.{Compactions}

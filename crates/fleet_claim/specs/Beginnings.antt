@@ -2,22 +2,22 @@
 use Rattle.std.specs.Prelude.{◌≡◌, ◌&&◌, ◌+◌, ◌++◌, ℕ, Bool, true, false, not, List, [], ◌∷◌, filter, flat_map, map, Option, Some, None}
 use Rattle.std.specs.List.{AllByRecursion, list_all}
 use Rattle.std.specs.Option.{option_to_list}
-use Rattle.fleet_model.specs.Attempts.{ClaimInput}
-use Rattle.fleet_model.specs.Claims.{claimed_attempt, may_take}
+use Rattle.fleet_model.specs.Work.Attempts.{ClaimInput}
+use Rattle.fleet_model.specs.Work.Claims.{claimed_attempt, may_take}
 use Rattle.fleet_model.specs.History as model
 use Rattle.fleet_model.specs.Jobs.{Jobs, ids, ids_eq}
 use Rattle.fleet_model.specs.Nodes.{NodeName, names_contain}
-use Rattle.fleet_model.specs.Parties.{Attempt}
+use Rattle.fleet_model.specs.Work.Parties.{Attempt}
 use Rattle.fleet_model.specs.Store.{Store}
-use Rattle.fleet_model.specs.TreesFit.{IsTable}
-use Rattle.step_model.specs.ClaimSteps.{WorkerOptions, can_start, plan_of}
+use Rattle.fleet_model.specs.Invariants.TreesFit.{IsTable}
+use Rattle.step_model.specs.Steps.ClaimSteps.{WorkerOptions, can_start, plan_of}
 use Rattle.fleet_rows.specs.declared.settings.Settings.{Settings}
 use Rattle.fleet_tree.specs.Manifests.{cut_of}
 use Rattle.fleet_tree.specs.declared.manifest.ManifestCore.{ManifestCore}
 use Rattle.fleet_tree.specs.declared.manifest.VersionedManifest.{VersionedManifest}
-use Rattle.fleet_jobs.specs.ContextParts.{ContextParts}
+use Rattle.fleet_jobs.specs.Parts.ContextParts.{ContextParts}
 use Rattle.fleet_jobs.specs.Contexts.{context_of}
-use Rattle.fleet_jobs.specs.JobParts.{JobParts}
+use Rattle.fleet_jobs.specs.Parts.JobParts.{JobParts}
 use Rattle.fleet_jobs.specs.Jobs.{job_of, jobs_of}
 use Rattle.fleet_jobs.specs.Laws.{view_tables}
 use Rattle.fleet_jobs.specs.Places.{nodes_at}

@@ -1,10 +1,10 @@
 -- Which jobs a claim takes, and which it stops.
 use Rattle.std.specs.Prelude.{◌≡◌, ℕ, ◌-◌, ◌&&◌, Bool, not, List, filter, length, map, take}
-use Rattle.fleet_model.specs.Claims.{claimed_jobs, is_waiting, may_take, stopped_jobs}
+use Rattle.fleet_model.specs.Work.Claims.{claimed_jobs, is_waiting, may_take, stopped_jobs}
 use Rattle.fleet_model.specs.Jobs as model
 use Rattle.fleet_model.specs.Jobs.{Job, contains, ids}
-use Rattle.fleet_model.specs.Parties.{LiveWorker, attempt_jobs}
-use Rattle.fleet_jobs.specs.JobParts.{JobParts}
+use Rattle.fleet_model.specs.Work.Parties.{LiveWorker, attempt_jobs}
+use Rattle.fleet_jobs.specs.Parts.JobParts.{JobParts}
 use Rattle.fleet_jobs.specs.Jobs.{job_of, jobs_of}
 use Rattle.fleet_jobs.specs.Workers.{release_of}
 use Rattle.fleet_jobs.specs.declared.release.Release.{Release}

@@ -1,6 +1,6 @@
 -- The contexts with which attempts begin.
 use Rattle.std.specs.Prelude.{◌≡◌, ℕ, List, [], map, Option, Some, None}
-use Rattle.row_model.specs.Plan.{planned_ranges}
+use Rattle.row_model.specs.Written.Plan.{planned_ranges}
 use Rattle.row_model.specs.Rows.{Row}
 use Rattle.fleet_range.specs.Ranges.{Ends}
 use Rattle.fleet_rows.specs.declared.settings.Settings.{Settings}
@@ -8,7 +8,7 @@ use Rattle.fleet_tree.specs.Views.{View}
 use Rattle.fleet_plan.specs.Boundaries.{ranges_of}
 use Rattle.fleet_plan.specs.Parts.{Part}
 use Rattle.fleet_plan.specs.Plans.{AreOfRows}
-use Rattle.fleet_jobs.specs.ContextParts.{ContextParts}
+use Rattle.fleet_jobs.specs.Parts.ContextParts.{ContextParts}
 use Rattle.fleet_jobs.specs.Contexts.{context_with, settings_in}
 use Rattle.fleet_jobs.specs.declared.release.Release.{Release}
 

@@ -2,10 +2,10 @@
 use Rattle.std.specs.Prelude.{◌≡◌, ◌==◌, ◌+◌, ℕ, Bool, if◌then◌else◌, List, map}
 use Rattle.std.specs.List.{list_any}
 use Rattle.fleet_model.specs.History as model
-use Rattle.fleet_model.specs.Records.{jobs_after}
+use Rattle.fleet_model.specs.Work.Records.{jobs_after}
 use Rattle.fleet_model.specs.Store.{Store}
-use Rattle.step_model.specs.ClaimSteps.{at_moment}
-use Rattle.fleet_jobs.specs.JobParts.{JobParts}
+use Rattle.step_model.specs.Steps.ClaimSteps.{at_moment}
+use Rattle.fleet_jobs.specs.Parts.JobParts.{JobParts}
 use Rattle.fleet_jobs.specs.Jobs.{jobs_of, with_status}
 use Rattle.fleet_jobs.specs.Laws.{worker_at}
 use Rattle.fleet_jobs.specs.declared.status.CompactionStatus.TheVariants.{Running}

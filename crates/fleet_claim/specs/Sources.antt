@@ -1,7 +1,7 @@
 -- The sources of a job, as a manifest has them.
 use Rattle.std.specs.Prelude.{ℕ, ◌==◌, Bool, false, List, [], find, flat_map, Option, Some, None}
 use Rattle.std.specs.Option.{option_to_list}
-use Rattle.fleet_model.specs.Attempts.{is_last}
+use Rattle.fleet_model.specs.Work.Attempts.{is_last}
 use Rattle.fleet_model.specs.Nodes.{NodeName, L0, Run}
 use Rattle.fleet_model.specs.Sources.{run_ids}
 use Rattle.fleet_tree.specs.Views.{View}

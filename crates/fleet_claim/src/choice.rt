@@ -3,7 +3,7 @@
 ghost use Rattle.std.specs.Prelude.{◌≡◌, ◌==◌, ◌-◌, ◌++◌, [], ◌∷◌, is_none, length, option_map, IfOk, IsOkUnless, OnOk};
 ghost use Rattle.std.specs.List.{list_any};
 ghost use Rattle.std.specs.Option.{option_copied};
-ghost use Rattle.fleet_model.specs.Claims.{has_no_cut, is_waiting, may_take};
+ghost use Rattle.fleet_model.specs.Work.Claims.{has_no_cut, is_waiting, may_take};
 ghost use Rattle.fleet_model.specs.Jobs.{contains, knows_cut};
 ghost use Rattle.fleet_jobs.specs.Contexts.{context_of};
 ghost use Rattle.fleet_jobs.specs.Jobs.{job_of};

@@ -3,7 +3,7 @@
 ghost use Rattle.std.specs.Prelude.{◌≡◌, ◌==◌, ◌&&◌, ◌++◌, find, flat_map, map, IfOk, OnOk};
 ghost use Rattle.std.specs.List.{list_all};
 ghost use Rattle.std.specs.Option.{option_copied, option_to_list};
-ghost use Rattle.fleet_model.specs.Attempts.{is_last};
+ghost use Rattle.fleet_model.specs.Work.Attempts.{is_last};
 ghost use Rattle.fleet_model.specs.Jobs.{ids_eq};
 ghost use Rattle.fleet_model.specs.Nodes.{names_contain};
 ghost use Rattle.fleet_model.specs.Sources.{run_ids};

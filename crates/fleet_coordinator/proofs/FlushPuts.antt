@@ -11,7 +11,7 @@ use Rattle.fleet_model.specs.Nodes.{L0, Segment, Trees, Tree, is_among, last_seq
 use Rattle.fleet_model.specs.Store.{Manifest, Store}
 use Rattle.fleet_model.specs.Tracker.{least_seq_of, tracked_after}
 use Rattle.fleet_model.specs.Trees.{flushed_on, flushed_trees, empty_segment, greatest_seq}
-use Rattle.step_model.specs.FlushSteps.{is_above, with_flush}
+use Rattle.step_model.specs.Steps.FlushSteps.{is_above, with_flush}
 use Rattle.step_laws.proofs.FlushTrees.{Rising, rising_from, rising_to}
 use Rattle.fleet_tree.specs.Laws.{FlushArguments, IsFlushOf, met_tree}
 use Rattle.fleet_tree.proofs.ModelFlushes.{flushes_are_the_models}

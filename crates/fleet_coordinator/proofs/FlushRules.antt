@@ -14,8 +14,8 @@ use Rattle.fleet_model.specs.Nodes.{Trees, last_seq_of, segment_at}
 use Rattle.fleet_model.specs.Store.{Manifest}
 use Rattle.fleet_model.specs.Tracker.{least_from, least_seq_of}
 use Rattle.fleet_model.specs.Trees.{greatest_seq}
-use Rattle.step_model.specs.FlushSteps.{FlushAsk, fault_after_get, is_above}
-use Rattle.step_model.specs.StepEnds.{FlushFault, BadSequence, BadFloor, BadTick}
+use Rattle.step_model.specs.Steps.FlushSteps.{FlushAsk, fault_after_get, is_above}
+use Rattle.step_model.specs.Courses.StepEnds.{FlushFault, BadSequence, BadFloor, BadTick}
 use Rattle.step_laws.proofs.FlushTrees.{Rising}
 use Rattle.fleet_rows.specs.Row.{rows_of}
 use Rattle.fleet_rows.specs.declared.row.RowEntry.{RowEntry}

@@ -9,19 +9,19 @@ use Rattle.fleet_model.specs.History.{Flush}
 use Rattle.fleet_model.specs.History as model
 use Rattle.fleet_model.specs.Nodes.{Tables, is_among, last_seq_of, rows_or_none, segment_at, table_rows}
 use Rattle.fleet_model.specs.Store.{Manifest}
-use Rattle.step_model.specs.Course.{Course, Ends, Calls, gets_manifest, puts_manifest}
-use Rattle.step_model.specs.CourseRuns.{IsLawfulCourse}
+use Rattle.step_model.specs.Courses.Course.{Course, Ends, Calls, gets_manifest, puts_manifest}
+use Rattle.step_model.specs.Courses.CourseRuns.{IsLawfulCourse}
 use Rattle.step_model.specs.Entries.{last_name}
-use Rattle.step_model.specs.FlushSteps.{FlushAsk, fault_after_get, fault_before_get, flush, flushes_from, is_above, puts_unless_put, unless_bad, with_flush}
-use Rattle.step_model.specs.Keeps.{Keeps}
+use Rattle.step_model.specs.Steps.FlushSteps.{FlushAsk, fault_after_get, fault_before_get, flush, flushes_from, is_above, puts_unless_put, unless_bad, with_flush}
+use Rattle.step_model.specs.Kept.Keeps.{Keeps}
 use Rattle.step_model.specs.Lawful.{Lawful}
 use Rattle.step_model.specs.LawfulManifests.{ManifestFits}
 use Rattle.step_model.specs.LawfulTables.{TableFits}
 use Rattle.step_model.specs.Later.{IsLater}
 use Rattle.step_model.specs.Past.{World}
 use Rattle.step_model.specs.Rivals.{Caller, Rivals}
-use Rattle.step_model.specs.StepEnds.{StepEnd, Reports, BadFlush, BadSequence, BadFloor, BadTick, GivesUp, most_refused}
-use Rattle.step_model.specs.StepEnds as fault
+use Rattle.step_model.specs.Courses.StepEnds.{StepEnd, Reports, BadFlush, BadSequence, BadFloor, BadTick, GivesUp, most_refused}
+use Rattle.step_model.specs.Courses.StepEnds as fault
 use Rattle.step_model.specs.Views.{StoreView}
 use Rattle.step_laws.proofs.FlushTrees.{Rising, rising_from}
 use Rattle.step_laws.proofs.Later.{later_then, rivals_later, table_stays}

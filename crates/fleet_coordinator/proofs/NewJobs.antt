@@ -6,10 +6,10 @@ use Rattle.std.proofs.lemmas.Bool.Decides.{Decides-eqb}
 use Rattle.std.proofs.lemmas.List.{drop_more, length-take-le, take_more}
 use Rattle.fleet_model.specs.History.{Submit}
 use Rattle.fleet_model.specs.Jobs.{JobSpec, Jobs, put_job, trimmed_jobs}
-use Rattle.fleet_model.specs.Records.{new_job, with_new}
+use Rattle.fleet_model.specs.Work.Records.{new_job, with_new}
 use Rattle.fleet_model.specs.Store.{Store}
 use Rattle.fleet_tree.specs.declared.handle.SsTableHandle.{SsTableHandle}
-use Rattle.fleet_jobs.specs.JobParts.{JobParts}
+use Rattle.fleet_jobs.specs.Parts.JobParts.{JobParts}
 use Rattle.fleet_jobs.specs.Jobs.{fresh_job, job_handles, jobs_of}
 use Rattle.fleet_jobs.specs.Specs.{spec_of}
 use Rattle.fleet_jobs.specs.declared.spec.CompactionSpec.{CompactionSpec}

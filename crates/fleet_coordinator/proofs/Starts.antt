@@ -11,15 +11,15 @@ use Rattle.step_model.specs.Past.{World}
 use Rattle.step_model.specs.Rivals.{Caller, Rivals}
 use Rattle.step_model.specs.Lawful.{Lawful}
 use Rattle.step_model.specs.LawfulManifests.{ManifestFits}
-use Rattle.step_model.specs.Course.{Course, Ends, Calls, gets_manifest, gets_records, puts_manifest}
-use Rattle.step_model.specs.CourseRuns.{Gives, IsLawfulCourse}
-use Rattle.step_model.specs.PollSteps.{epoch_above, holds_at_start, start, start_try, unless_fenced}
-use Rattle.step_model.specs.Tries.{counted_tries, tries}
-use Rattle.step_model.specs.PollSteps as step
-use Rattle.step_model.specs.StepEnds.{StepEnd, Reports, Fenced}
+use Rattle.step_model.specs.Courses.Course.{Course, Ends, Calls, gets_manifest, gets_records, puts_manifest}
+use Rattle.step_model.specs.Courses.CourseRuns.{Gives, IsLawfulCourse}
+use Rattle.step_model.specs.Steps.PollSteps.{epoch_above, holds_at_start, start, start_try, unless_fenced}
+use Rattle.step_model.specs.Courses.Tries.{counted_tries, tries}
+use Rattle.step_model.specs.Steps.PollSteps as step
+use Rattle.step_model.specs.Courses.StepEnds.{StepEnd, Reports, Fenced}
 use Rattle.course_laws.proofs.Starts.{starts, starts_are_lawful}
 use Rattle.coordinator_laws.proofs.Coordinators.{starts_fit}
-use Rattle.step_model.specs.Keeps.{Keeps}
+use Rattle.step_model.specs.Kept.Keeps.{Keeps}
 use Rattle.fleet_rows.specs.declared.errors.SlateDBError.{SlateDBError}
 use Rattle.fleet_rows.specs.declared.errors.SlateDBError.TheVariants as error
 use Rattle.fleet_tree.specs.declared.manifest.VersionedManifest.{VersionedManifest}

@@ -9,18 +9,18 @@ use Rattle.row_model.specs.Lists.{Pairs}
 use Rattle.fleet_model.specs.Exchanges.{Plain, DrawsJob, PutsRecords, next_job_id}
 use Rattle.fleet_model.specs.History.{Entry, GetRecords, RecordChange}
 use Rattle.fleet_model.specs.Jobs.{JobSpec, Jobs, contains}
-use Rattle.fleet_model.specs.Records.{firsts}
-use Rattle.fleet_model.specs.Replay.{named_specs}
+use Rattle.fleet_model.specs.Work.Records.{firsts}
+use Rattle.fleet_model.specs.Past.Replay.{named_specs}
 use Rattle.fleet_model.specs.Store.{jobs_in}
-use Rattle.step_model.specs.Course.{Course, Ends}
-use Rattle.step_model.specs.CourseRuns.{IsLawfulCourse}
+use Rattle.step_model.specs.Courses.Course.{Course, Ends}
+use Rattle.step_model.specs.Courses.CourseRuns.{IsLawfulCourse}
 use Rattle.step_model.specs.Entries.{is_mentioned, was_named}
-use Rattle.step_model.specs.Keeps.{Keeps}
+use Rattle.step_model.specs.Kept.Keeps.{Keeps}
 use Rattle.step_model.specs.Past.{World}
 use Rattle.step_model.specs.Rivals.{Caller, after_call}
-use Rattle.step_model.specs.StepEnds.{StepEnd, Reports, NoRecords}
-use Rattle.step_model.specs.SubmitSteps.{submit, submit_by, submit_try, submits_drawn, submits_specs}
-use Rattle.step_model.specs.Tries.{tries}
+use Rattle.step_model.specs.Courses.StepEnds.{StepEnd, Reports, NoRecords}
+use Rattle.step_model.specs.Steps.SubmitSteps.{submit, submit_by, submit_try, submits_drawn, submits_specs}
+use Rattle.step_model.specs.Courses.Tries.{tries}
 use Rattle.step_model.specs.Views.{StoreView}
 use Rattle.step_laws.proofs.Later as store_law
 use Rattle.step_laws.proofs.Runs.{rivals_keep}
@@ -32,7 +32,7 @@ use Rattle.course_laws.proofs.NewIds.{AreFresh, drawn_fresh, not_named, rivals_f
 use Rattle.course_laws.proofs.Submits.{submits_are_lawful}
 use Rattle.fleet_rows.specs.declared.errors.SlateDBError.{SlateDBError}
 use Rattle.fleet_rows.specs.declared.errors.SlateDBError.TheVariants as error
-use Rattle.fleet_jobs.specs.JobParts.{JobParts}
+use Rattle.fleet_jobs.specs.Parts.JobParts.{JobParts}
 use Rattle.fleet_jobs.specs.Jobs.{jobs_of}
 use Rattle.fleet_jobs.specs.Specs.{spec_of}
 use Rattle.fleet_jobs.specs.declared.spec.CompactionSpec.{CompactionSpec}

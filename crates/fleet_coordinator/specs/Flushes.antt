@@ -6,11 +6,11 @@ use Rattle.fleet_model.specs.History.{Writer}
 use Rattle.fleet_model.specs.Nodes.{is_among, table_rows}
 use Rattle.fleet_model.specs.Tracker.{least_seq_of}
 use Rattle.fleet_model.specs.Trees.{greatest_seq}
-use Rattle.step_model.specs.CourseRuns.{IsLawfulCourse}
-use Rattle.step_model.specs.FlushSteps.{FlushAsk, flushes_from}
-use Rattle.step_model.specs.Keeps.{Keeps}
-use Rattle.step_model.specs.StepEnds as model
-use Rattle.step_model.specs.StepEnds.{StepEnd, Reports, BadFlush, most_refused}
+use Rattle.step_model.specs.Courses.CourseRuns.{IsLawfulCourse}
+use Rattle.step_model.specs.Steps.FlushSteps.{FlushAsk, flushes_from}
+use Rattle.step_model.specs.Kept.Keeps.{Keeps}
+use Rattle.step_model.specs.Courses.StepEnds as model
+use Rattle.step_model.specs.Courses.StepEnds.{StepEnd, Reports, BadFlush, most_refused}
 use Rattle.step_model.specs.Views.{StoreView}
 use Rattle.fleet_rows.specs.Row.{rows_of}
 use Rattle.fleet_rows.specs.declared.errors.SlateDBError.{SlateDBError}

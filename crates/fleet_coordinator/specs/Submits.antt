@@ -4,16 +4,16 @@ use Rattle.std.specs.List.{AllByRecursion, zip}
 use Rattle.row_model.specs.Lists.{Pairs}
 use Rattle.fleet_model.specs.History.{Submit, Submitter}
 use Rattle.fleet_model.specs.Jobs.{trimmed_jobs}
-use Rattle.fleet_model.specs.Records.{with_new}
+use Rattle.fleet_model.specs.Work.Records.{with_new}
 use Rattle.fleet_model.specs.Store.{Store}
-use Rattle.step_model.specs.Course.{Course}
-use Rattle.step_model.specs.CourseRuns.{IsLawfulCourse}
+use Rattle.step_model.specs.Courses.Course.{Course}
+use Rattle.step_model.specs.Courses.CourseRuns.{IsLawfulCourse}
 use Rattle.step_model.specs.Entries.{was_named}
-use Rattle.step_model.specs.Keeps.{Keeps}
-use Rattle.step_model.specs.StepEnds.{StepEnd}
-use Rattle.step_model.specs.SubmitSteps.{submits_specs}
+use Rattle.step_model.specs.Kept.Keeps.{Keeps}
+use Rattle.step_model.specs.Courses.StepEnds.{StepEnd}
+use Rattle.step_model.specs.Steps.SubmitSteps.{submits_specs}
 use Rattle.step_model.specs.Views.{StoreView}
-use Rattle.fleet_jobs.specs.JobParts.{JobParts}
+use Rattle.fleet_jobs.specs.Parts.JobParts.{JobParts}
 use Rattle.fleet_jobs.specs.Jobs.{jobs_of}
 use Rattle.fleet_jobs.specs.Specs.{spec_of}
 use Rattle.fleet_jobs.specs.declared.spec.CompactionSpec.{CompactionSpec}

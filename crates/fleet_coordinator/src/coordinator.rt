@@ -2,9 +2,9 @@
 
 ghost use Rattle.std.specs.Prelude.{◌≡◌, ◌+◌, max, IfOk, IsOkUnless, option_map};
 ghost use Rattle.fleet_model.specs.Store.{records_epoch};
-ghost use Rattle.step_model.specs.Keeps.{Keeps};
-ghost use Rattle.step_model.specs.PollSteps.{holds_at_start, start, start_try};
-ghost use Rattle.step_model.specs.StepEnds.{Reports};
+ghost use Rattle.step_model.specs.Kept.Keeps.{Keeps};
+ghost use Rattle.step_model.specs.Steps.PollSteps.{holds_at_start, start, start_try};
+ghost use Rattle.step_model.specs.Courses.StepEnds.{Reports};
 ghost use Rattle.fleet_book.specs.Versions.{records_of};
 ghost use Rattle.fleet_coordinator.specs.Starts.{HasStarted, IsCoordinator, IsStartPut, PutsEpoch};
 ghost use Rattle.fleet_step.specs.Steps.{StepRan, TryRan};

@@ -4,13 +4,13 @@ ghost use Rattle.std.specs.Prelude.{◌≡◌, ◌≢◌, ◌≤◌, [], Some, N
 ghost use Rattle.std.specs.List.{list_all, starts_with};
 ghost use Rattle.row_model.specs.Rows.{IsStrictlyOrdered};
 ghost use Rattle.fleet_model.specs.Nodes.{last_seq_of, segment_at};
-ghost use Rattle.fleet_model.specs.TreesFit.{IsTable};
+ghost use Rattle.fleet_model.specs.Invariants.TreesFit.{IsTable};
 ghost use Rattle.fleet_model.specs.Trees.{greatest_seq};
 ghost use Rattle.fleet_model.specs.Tracker.{least_seq_of};
 ghost use Rattle.step_model.specs.Entries as entries;
-ghost use Rattle.step_model.specs.FlushSteps as step;
-ghost use Rattle.step_model.specs.Keeps.{Keeps};
-ghost use Rattle.step_model.specs.StepEnds.{most_refused};
+ghost use Rattle.step_model.specs.Steps.FlushSteps as step;
+ghost use Rattle.step_model.specs.Kept.Keeps.{Keeps};
+ghost use Rattle.step_model.specs.Courses.StepEnds.{most_refused};
 ghost use Rattle.course_laws.specs.Flushes.{MayAsk};
 ghost use Rattle.fleet_rows.specs.Row.{rows_of};
 ghost use Rattle.fleet_history.specs.declared.manifest_change.ManifestChange.TheVariants as change;

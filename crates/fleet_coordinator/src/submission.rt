@@ -3,10 +3,10 @@
 ghost use Rattle.std.specs.Prelude.{◌≡◌, length, map, IfOk, IsOkUnless, None, OnOk};
 ghost use Rattle.std.specs.List.{zip};
 ghost use Rattle.fleet_model.specs.Jobs.{put_job};
-ghost use Rattle.fleet_model.specs.Records.{new_job};
-ghost use Rattle.step_model.specs.Keeps.{Keeps};
-ghost use Rattle.step_model.specs.StepEnds.{Reports};
-ghost use Rattle.step_model.specs.SubmitSteps.{submit, submit_try, submits_specs};
+ghost use Rattle.fleet_model.specs.Work.Records.{new_job};
+ghost use Rattle.step_model.specs.Kept.Keeps.{Keeps};
+ghost use Rattle.step_model.specs.Courses.StepEnds.{Reports};
+ghost use Rattle.step_model.specs.Steps.SubmitSteps.{submit, submit_try, submits_specs};
 ghost use Rattle.fleet_jobs.specs.Jobs.{fresh_job, jobs_of};
 ghost use Rattle.fleet_jobs.specs.Specs.{spec_of};
 ghost use Rattle.fleet_book.specs.Records.{put_record, record_with};

@@ -2,7 +2,7 @@
 use Rattle.std.proofs.Common.{◌≡◌, refl, sym, ◌∙◌, ap, ℕ, List, [], ◌∷◌, Bool, true, false, cond, not}
 use Rattle.std.specs.Prelude.{◌==◌, nat_lt, map, Some, option_map}
 use Rattle.std.proofs.lemmas.Bool.{eqb-true, eq-eqb}
-use Rattle.fleet_model.specs.Parties.{Attempt, attempt_at, put_attempt, without_attempts}
+use Rattle.fleet_model.specs.Work.Parties.{Attempt, attempt_at, put_attempt, without_attempts}
 use Rattle.fleet_exec.specs.Attempts.{AttemptsFollowJobs}
 use Rattle.fleet_exec.specs.ExecutorParts.{ActiveParts}
 use Rattle.fleet_exec.specs.Executors.{active_job_with, put_job, without_job}

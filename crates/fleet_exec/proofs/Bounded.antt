@@ -13,7 +13,7 @@ use Rattle.row_model.specs.KeptRows.{kept_rows, as_tombstone_if_expired}
 use Rattle.row_model.specs.Ranges.{Range, is_in_range}
 use Rattle.row_model.specs.Rows.{Row, Content, Value, Merge, Tombstone, same_key, is_expired, sorted_rows}
 use Rattle.row_model.specs.Settings.{Settings}
-use Rattle.row_model.specs.Sizes.{content_len}
+use Rattle.row_model.specs.Written.Sizes.{content_len}
 use Rattle.row_laws.specs.Keys.{is_below}
 use Rattle.row_laws.specs.Resume.{Cursor}
 use Rattle.row_laws.specs.Sources.{merged_rows}

@@ -9,8 +9,8 @@ use Rattle.row_laws.specs.Resume.{Cursor}
 use Rattle.row_laws.proofs.Tables.{cut_flat}
 use Rattle.fleet_iter.specs.Iteration.{IteratorState}
 use Rattle.row_model.specs.Rows.{Row}
-use Rattle.row_model.specs.Sizes.{estimated_size}
-use Rattle.row_model.specs.Tables.{with_row, cut_from, cut_tables}
+use Rattle.row_model.specs.Written.Sizes.{estimated_size}
+use Rattle.row_model.specs.Written.Tables.{with_row, cut_from, cut_tables}
 use Rattle.fleet_rows.specs.Row.{row_of, rows_of}
 use Rattle.fleet_rows.specs.declared.row.RowEntry.{RowEntry}
 use Rattle.fleet_exec.specs.Cut.{open_with, before_tables, TakesTable}

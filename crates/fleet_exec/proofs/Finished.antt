@@ -3,7 +3,7 @@ use Rattle.std.proofs.Common.{◌≡◌, ◌≢◌, ◌∙◌, refl, sym, ap, su
 use Rattle.std.specs.Result.{IfOk, IfErr}
 use Rattle.row_model.specs.Fold.{Operator}
 use Rattle.row_model.specs.Rows.{Row}
-use Rattle.row_model.specs.Tables.{cut_tables}
+use Rattle.row_model.specs.Written.Tables.{cut_tables}
 use Rattle.fleet_rows.specs.Row.{rows_of}
 use Rattle.fleet_rows.specs.declared.row.RowEntry.{RowEntry}
 use Rattle.fleet_rows.specs.declared.errors.SlateDBError.{SlateDBError}

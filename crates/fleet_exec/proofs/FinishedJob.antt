@@ -6,7 +6,7 @@ use Rattle.row_model.specs.JobRows.{JobRows}
 use Rattle.row_model.specs.Ranges.{Range}
 use Rattle.row_model.specs.Rows.{Row}
 use Rattle.row_model.specs.Settings.{Settings}
-use Rattle.row_model.specs.Tables.{cut_tables}
+use Rattle.row_model.specs.Written.Tables.{cut_tables}
 use Rattle.row_laws.specs.Resume.{Cursor, cursor_after}
 use Rattle.row_laws.specs.Turns.{AreCut}
 use Rattle.fleet_range.specs.Keys.{range_of}

@@ -9,7 +9,7 @@ use Rattle.fleet_tree.specs.Views.{View}
 use Rattle.fleet_plan.specs.Boundaries.{ranges_of}
 use Rattle.fleet_plan.specs.Parts.{Part}
 use Rattle.fleet_plan.specs.Plans.{views_of}
-use Rattle.fleet_jobs.specs.ContextParts.{ContextParts}
+use Rattle.fleet_jobs.specs.Parts.ContextParts.{ContextParts}
 use Rattle.fleet_jobs.specs.Contexts.{context_with}
 use Rattle.fleet_exec.specs.Executors.{ArePlanned, IsPlanned, fresh_parts, key_ranges, settings_with}
 use Rattle.fleet_exec.specs.declared.args.StartCompactionJobArgs.{StartCompactionJobArgs}

@@ -1,6 +1,6 @@
 -- Active jobs as the attempts of a worker.
 use Rattle.std.specs.Prelude.{◌≡◌, ℕ, List, [], ◌∷◌, map, option_map}
-use Rattle.fleet_model.specs.Parties.{Attempt, attempt_at, put_attempt, without_attempts}
+use Rattle.fleet_model.specs.Work.Parties.{Attempt, attempt_at, put_attempt, without_attempts}
 use Rattle.fleet_exec.specs.ExecutorParts.{ActiveParts}
 use Rattle.fleet_exec.specs.Executors.{active_job_with, put_job, without_job}
 

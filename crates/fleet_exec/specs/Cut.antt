@@ -4,7 +4,7 @@ use Rattle.std.specs.List.{AllByRecursion}
 use Rattle.row_model.specs.Fold.{Operator}
 use Rattle.row_model.specs.JobRows.{JobRows}
 use Rattle.row_model.specs.Rows.{Row}
-use Rattle.row_model.specs.Tables.{with_row, cut_tables}
+use Rattle.row_model.specs.Written.Tables.{with_row, cut_tables}
 use Rattle.row_laws.specs.Resume.{Cursor}
 use Rattle.fleet_iter.specs.Iteration.{IteratorState, CanFail}
 use Rattle.fleet_rows.specs.Row.{rows_of}

@@ -1,6 +1,6 @@
 -- What an `Executor` shows.
 use Rattle.std.specs.Prelude.{Bool, List}
-use Rattle.fleet_jobs.specs.ContextParts.{ContextParts}
+use Rattle.fleet_jobs.specs.Parts.ContextParts.{ContextParts}
 use Rattle.fleet_exec.specs.declared.args.StartCompactionJobArgs.{StartCompactionJobArgs}
 
 -- An active job: the arguments that it was started with, and its context with the tables that were added so

@@ -11,7 +11,7 @@ use Rattle.row_laws.specs.Sources.{merged_rows}
 use Rattle.row_laws.specs.Turns.{AreCut}
 use Rattle.fleet_rows.specs.Row.{rows_of}
 use Rattle.fleet_rows.specs.declared.row.RowEntry.{RowEntry}
-use Rattle.row_model.specs.Tables.{cut_tables}
+use Rattle.row_model.specs.Written.Tables.{cut_tables}
 use Rattle.fleet_range.specs.Keys.{range_of}
 use Rattle.fleet_rows.specs.Settings.{settings_of}
 use Rattle.fleet_exec.specs.Cut.{IsFinished, AreFinished}

@@ -4,8 +4,8 @@ ghost use Rattle.std.specs.Prelude.{◌≡◌, ◌≢◌, ◌≤◌, ◌<◌, �
 ghost use Rattle.std.specs.List.{AllByRecursion};
 ghost use Rattle.row_model.specs.Bounds.{IsInBounds};
 ghost use Rattle.row_model.specs.Fold.{IsLawful};
-ghost use Rattle.row_model.specs.Sizes.{estimated_size};
-ghost use Rattle.row_model.specs.Tables.{cut_tables};
+ghost use Rattle.row_model.specs.Written.Sizes.{estimated_size};
+ghost use Rattle.row_model.specs.Written.Tables.{cut_tables};
 ghost use Rattle.fleet_rows.specs.Row.{row_of, rows_of};
 ghost use Rattle.fleet_rows.specs.declared.errors.SlateDBError.TheVariants as SlateDBError;
 ghost use Rattle.fleet_fold.specs.Retention.{IsReadable};

@@ -2,7 +2,7 @@
 use Rattle.std.proofs.Common.{◌≡◌, refl, sym, ◌∙◌, ap, subst, ℕ, List, [], ◌∷◌, ◌++◌, take, Bool, true, false, cond}
 use Rattle.std.specs.Prelude.{IfOk, Option, Some, None, Result}
 use Rattle.std.specs.List.{list_all}
-use Rattle.fleet_model.specs.Gates.{commit_gate, first_failing, submit_gate, submitted_rules}
+use Rattle.fleet_model.specs.Work.Gates.{commit_gate, first_failing, submit_gate, submitted_rules}
 use Rattle.fleet_model.specs.Jobs.{Job, JobSpec, Jobs, ids_eq}
 use Rattle.fleet_model.specs.Nodes.{Trees, names, names_contain, tree_at}
 use Rattle.fleet_model.specs.Trees.{source_pieces}

@@ -4,10 +4,10 @@ use Rattle.std.specs.Prelude.{◌==◌, filter, flat_map}
 use Rattle.std.specs.List.{AllByRecursion, list_any}
 use Rattle.std.proofs.lemmas.Cmp.{nat_eq_equiv}
 use Rattle.std.proofs.lemmas.List.{take_more}
-use Rattle.fleet_model.specs.Gates.{is_free, reserves_nodes}
+use Rattle.fleet_model.specs.Work.Gates.{is_free, reserves_nodes}
 use Rattle.fleet_model.specs.Jobs.{Job, JobSpec, Jobs, changed_jobs, contains, ids, nodes_of}
 use Rattle.fleet_model.specs.Nodes.{NodeName, name_eq, names_contain}
-use Rattle.fleet_model.specs.Records.{to_completed, to_failed, to_scheduled}
+use Rattle.fleet_model.specs.Work.Records.{to_completed, to_failed, to_scheduled}
 use Rattle.fleet_model.specs.Sources.{is_apart}
 use Rattle.fleet_jobs.specs.Places.{held_nodes}
 use Rattle.fleet_jobs.proofs.ModelPlaces as places

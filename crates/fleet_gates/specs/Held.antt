@@ -3,7 +3,7 @@ use Rattle.std.specs.Prelude.{◌≡◌, ℕ, ◌==◌, true, false, ◌||◌, n
 use Rattle.std.specs.BTreeSet.{BTreeSet, contains as set_contains}
 use Rattle.std.specs.List.{AllByRecursion}
 use Rattle.std.specs.Ordering.{nat_cmp}
-use Rattle.fleet_model.specs.Gates.{is_free, reserves_nodes}
+use Rattle.fleet_model.specs.Work.Gates.{is_free, reserves_nodes}
 use Rattle.fleet_model.specs.Jobs.{Job, Jobs, contains, ids, nodes_of}
 use Rattle.fleet_model.specs.Nodes.{NodeName, names_contain}
 use Rattle.fleet_model.specs.Sources.{is_apart}

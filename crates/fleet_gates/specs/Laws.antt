@@ -1,9 +1,9 @@
 -- Laws: how the nodes that jobs hold are kept while jobs are opened and end, and when the scheduler is asked.
 use Rattle.std.specs.Prelude.{◌≡◌, ℕ, Bool, ◌++◌, List, [], ◌∷◌}
-use Rattle.fleet_model.specs.Gates.{commit_gate, submit_gate}
+use Rattle.fleet_model.specs.Work.Gates.{commit_gate, submit_gate}
 use Rattle.fleet_model.specs.Jobs.{Job, JobSpec, Jobs, changed_jobs, nodes_of}
 use Rattle.fleet_model.specs.Nodes.{NodeName, Trees}
-use Rattle.fleet_model.specs.Records.{to_completed, to_failed, to_scheduled}
+use Rattle.fleet_model.specs.Work.Records.{to_completed, to_failed, to_scheduled}
 use Rattle.fleet_jobs.specs.Places.{held_nodes}
 use Rattle.fleet_gates.specs.Held.{AreHeld, Decides, HoldsNone, IsAmong}
 use Rattle.fleet_gates.specs.Rules.{accept_each, asked_last}

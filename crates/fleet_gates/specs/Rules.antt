@@ -1,6 +1,6 @@
 -- Rules by their numbers, and the rules that a job meets on given trees.
 use Rattle.std.specs.Prelude.{ℕ, Bool, true, List, Option, Some, None, option_map, if◌then◌else◌}
-use Rattle.fleet_model.specs.Gates.{submitted_rules}
+use Rattle.fleet_model.specs.Work.Gates.{submitted_rules}
 use Rattle.fleet_model.specs.Jobs.{Job, JobSpec, Jobs}
 use Rattle.fleet_model.specs.Nodes.{Trees, tree_at}
 use Rattle.fleet_gates.specs.declared.rule.Rule.{Rule}

@@ -2,7 +2,7 @@
 use Rattle.std.specs.Prelude.{Bool}
 use Rattle.fleet_model.specs.Jobs.{JobSpec}
 use Rattle.fleet_model.specs.Nodes.{Trees}
-use Rattle.fleet_model.specs.Scheduler.{Scheduler}
+use Rattle.fleet_model.specs.Work.Scheduler.{Scheduler}
 use Rattle.fleet_tree.specs.Trees.{RunFlushes, trees_of}
 use Rattle.fleet_book.specs.declared.view.CompactorStateView.{CompactorStateView}
 use Rattle.fleet_sched.specs.Views.{view_of}

@@ -2,7 +2,7 @@
 
 ghost use Rattle.std.specs.Prelude.{◌≡◌, map, IfOk, IsOkUnless};
 ghost use Rattle.std.specs.List.{list_all};
-ghost use Rattle.fleet_model.specs.Gates.{commit_gate};
+ghost use Rattle.fleet_model.specs.Work.Gates.{commit_gate};
 ghost use Rattle.fleet_model.specs.Jobs.{ids_eq};
 ghost use Rattle.fleet_model.specs.Nodes.{names, names_contain, tree_at};
 ghost use Rattle.fleet_model.specs.Trees.{tables_now};

@@ -3,7 +3,7 @@
 ghost use Rattle.std.specs.Prelude.{◌≡◌, ◌==◌, ◌++◌, ◌&&◌, ◌||◌, [], ◌∷◌, ℕ, List, not, IfOk, OnOk};
 ghost use Rattle.std.specs.BTreeSet.{contains as set_contains};
 ghost use Rattle.std.specs.Ordering.{nat_cmp};
-ghost use Rattle.fleet_model.specs.Gates.{reserves_nodes};
+ghost use Rattle.fleet_model.specs.Work.Gates.{reserves_nodes};
 ghost use Rattle.fleet_model.specs.Jobs.{Job, contains};
 ghost use Rattle.fleet_jobs.specs.Jobs.{job_of, jobs_of};
 ghost use Rattle.fleet_jobs.specs.Places.{held_nodes};

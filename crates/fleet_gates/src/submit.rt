@@ -1,7 +1,7 @@
 //! The gate for submitted jobs.
 
 ghost use Rattle.std.specs.Prelude.{◌≡◌, ◌&&◌, ◌||◌, ℕ, List, drop, is_some, map, not, take, IfOk, IsOkUnless};
-ghost use Rattle.fleet_model.specs.Gates.{are_distinct, first_failing, is_nonempty, names_older, submit_gate};
+ghost use Rattle.fleet_model.specs.Work.Gates.{are_distinct, first_failing, is_nonempty, names_older, submit_gate};
 ghost use Rattle.fleet_model.specs.Jobs.{Jobs, is_drain};
 ghost use Rattle.fleet_model.specs.Nodes.{Trees, names, segment_at, tree_at};
 ghost use Rattle.fleet_model.specs.Sources.{older_nodes, reaches_oldest};

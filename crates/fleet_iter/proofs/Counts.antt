@@ -1,7 +1,7 @@
 -- The bytes of the rows that a merge takes.
 use Rattle.std.proofs.Common.{◌≡◌, ◌∙◌, sym, refl, ap, ℕ, ◌+◌, List, [], ◌∷◌, ◌++◌, Option, Some, None, Bool, true, false, cond}
 use Rattle.row_model.specs.Rows.{Row}
-use Rattle.row_model.specs.Sizes.{saturated_sum}
+use Rattle.row_model.specs.Written.Sizes.{saturated_sum}
 use Rattle.fleet_rows.specs.Row.{row_of}
 use Rattle.fleet_rows.specs.declared.row.RowEntry.{RowEntry}
 use Rattle.std.proofs.Math.ListN.{set}

@@ -1,7 +1,7 @@
 -- The bytes of rows, and counts of them.
 use Rattle.std.specs.Prelude.{ℕ, ◌+◌, Bool, List, [], ◌∷◌, length, if◌then◌else◌}
 use Rattle.row_model.specs.Rows.{Row}
-use Rattle.row_model.specs.Sizes.{content_len, saturated_sum}
+use Rattle.row_model.specs.Written.Sizes.{content_len, saturated_sum}
 use Rattle.fleet_iter.specs.Merge.{hides}
 
 abbrev pub row_bytes : Row → ℕ

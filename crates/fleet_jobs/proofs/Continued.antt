@@ -9,7 +9,7 @@ use Rattle.std.specs.Option.{ForSome}
 use Rattle.row_model.specs.Lists.{IsPrefixOf}
 use Rattle.fleet_plan.specs.Parts.{Part}
 use Rattle.fleet_tree.specs.declared.handle.SsTableHandle.{SsTableHandle}
-use Rattle.fleet_model.specs.AttemptsFit.{Extends}
+use Rattle.fleet_model.specs.Invariants.AttemptsFit.{Extends}
 use Rattle.fleet_range.specs.Keys.{range_of}
 use Rattle.fleet_rows.specs.Settings.{settings_of}
 use Rattle.fleet_jobs.specs.Contexts.{IsExtended, noted_range, table_ids}

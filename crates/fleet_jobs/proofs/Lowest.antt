@@ -6,7 +6,7 @@ use Rattle.std.proofs.lemmas.Bool.{eqb-true, eq-eqb, le-leb, leb-false, leb-true
 use Rattle.fleet_model.specs.Jobs.{contains}
 use Rattle.fleet_model.specs.Nodes.{NodeName, L0, Run}
 use Rattle.fleet_model.specs.Sources.{is_lowest_or_above, run_ids}
-use Rattle.fleet_model.specs.Scheduler.{lower}
+use Rattle.fleet_model.specs.Work.Scheduler.{lower}
 
 abbrev not_below : ℕ → List ℕ → Bool
 not_below run ids = list_all (λ id. nat_le run id) ids

@@ -11,7 +11,7 @@ use Rattle.std.proofs.lemmas.Cmp.{nat_list_cmp_total}
 use Rattle.row_laws.proofs.Elements.{all_weaken}
 use Rattle.row_model.specs.Lists.{Pairs}
 use Rattle.row_model.specs.Rows.{key_cmp}
-use Rattle.fleet_model.specs.Gates.{is_nonempty}
+use Rattle.fleet_model.specs.Work.Gates.{is_nonempty}
 use Rattle.fleet_model.specs.Nodes.{Tables, table_rows}
 use Rattle.fleet_model.specs.Trees.{are_apart, by_first_key, first_key, last_key}
 use Rattle.fleet_range.specs.Ranges.{Ends, if_non_empty, intersection}

@@ -4,7 +4,7 @@ use Rattle.std.specs.Prelude.{ℕ, Some, None}
 use Rattle.std.specs.List.{AllByRecursion}
 use Rattle.std.specs.Ordering.{is_lt}
 use Rattle.row_model.specs.Rows.{key_cmp}
-use Rattle.fleet_model.specs.Gates.{is_nonempty}
+use Rattle.fleet_model.specs.Work.Gates.{is_nonempty}
 use Rattle.fleet_model.specs.Nodes.{Tables, table_rows}
 use Rattle.fleet_model.specs.Trees.{by_first_key, first_key, put_by_first_key}
 use Rattle.fleet_tree.specs.Views.{View}

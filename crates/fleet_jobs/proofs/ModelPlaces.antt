@@ -3,15 +3,15 @@ use Rattle.std.proofs.Common.{◌≡◌, refl, sym, ◌∙◌, ap, subst, ℕ, L
 use Rattle.std.specs.Prelude.{◌==◌, IsTrue, bytes_eq, find, filter, flat_map, is_some, nat_lt, option_map, Option, Some, None}
 use Rattle.std.specs.List.{AllByRecursion, list_all}
 use Rattle.std.proofs.lemmas.List.Folds.{list_all-append}
-use Rattle.fleet_model.specs.Gates.{are_distinct, destination_fits, first_failing, is_free, is_nonempty, names_older, reserves_nodes}
+use Rattle.fleet_model.specs.Work.Gates.{are_distinct, destination_fits, first_failing, is_free, is_nonempty, names_older, reserves_nodes}
 use Rattle.fleet_model.specs.Jobs.{Job, Jobs, contains, is_drain_to, nodes_of}
-use Rattle.fleet_model.specs.JobsFit.{DestinationFits, SourcesStand}
+use Rattle.fleet_model.specs.Invariants.JobsFit.{DestinationFits, SourcesStand}
 use Rattle.fleet_model.specs.Nodes.{NodeName, names, names_contain, Trees, tree_at, Segment, segment_at, tree_or_empty}
 use Rattle.fleet_model.specs.Sources.{all_run_ids, is_apart, is_lowest_or_above, older_nodes, reaches_oldest, run_ids}
 use Rattle.fleet_tree.specs.Trees.{RunFlushes, segment_of, trees_of, trees_with_prefix}
 use Rattle.fleet_tree.specs.declared.manifest.ManifestCore.{ManifestCore}
 use Rattle.fleet_tree.specs.declared.tree.LsmTreeState.{LsmTreeState}
-use Rattle.fleet_jobs.specs.JobParts.{JobParts}
+use Rattle.fleet_jobs.specs.Parts.JobParts.{JobParts}
 use Rattle.fleet_jobs.specs.Jobs.{job_of}
 use Rattle.fleet_jobs.specs.Laws.{HeldNodesDecide, NodesAreTheModels, StandingSourcesStand, SubmittedSourcesStand, names_of}
 use Rattle.fleet_jobs.specs.Places.{held_nodes, nodes_at, nodes_if_there, stand_among}

@@ -6,7 +6,7 @@ use Rattle.std.proofs.Math.Seq.{drop-cons}
 use Rattle.std.proofs.lemmas.Bool.{eqb-true, eq-eqb}
 use Rattle.std.proofs.lemmas.List.{map-append, take-append-drop, take_more}
 use Rattle.std.proofs.lemmas.List.Folds.{list_all-append}
-use Rattle.fleet_model.specs.Gates.{are_distinct, names_older, reserves_nodes}
+use Rattle.fleet_model.specs.Work.Gates.{are_distinct, names_older, reserves_nodes}
 use Rattle.fleet_model.specs.Jobs.{Job, Jobs, contains, nodes_of}
 use Rattle.fleet_model.specs.Nodes.{NodeName, L0, Run, is_l0, name_eq, names, names_contain}
 use Rattle.fleet_model.specs.Sources.{after_front, all_run_ids, begins_with_run, older_nodes, or_later, reaches_oldest, run_ids}

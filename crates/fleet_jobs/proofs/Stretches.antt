@@ -6,7 +6,7 @@ use Rattle.std.proofs.lemmas.List.{map-append, take_more}
 use Rattle.std.proofs.lemmas.List.Sums.{fold-append}
 use Rattle.fleet_model.specs.Nodes.{NodeName, L0, Run}
 use Rattle.fleet_model.specs.Sources.{run_ids}
-use Rattle.fleet_model.specs.Scheduler.{lower}
+use Rattle.fleet_model.specs.Work.Scheduler.{lower}
 
 pub run_ids-append : (xs ys : List NodeName) → run_ids (xs ++ ys) ≡ run_ids xs ++ run_ids ys
 run_ids-append [] ys = refl

@@ -4,14 +4,14 @@ use Rattle.std.specs.List.{AllZip}
 use Rattle.std.specs.Option.{unwrap_or}
 use Rattle.row_model.specs.Lists.{IsPrefixOf}
 use Rattle.row_model.specs.Ranges.{Range}
-use Rattle.fleet_model.specs.AttemptsFit.{ContextExtends}
+use Rattle.fleet_model.specs.Invariants.AttemptsFit.{ContextExtends}
 use Rattle.fleet_model.specs.Jobs.{Context, knows_cut}
 use Rattle.fleet_range.specs.Keys.{range_of}
 use Rattle.fleet_rows.specs.Settings.{settings_of}
 use Rattle.fleet_rows.specs.declared.settings.Settings.{Settings}
 use Rattle.fleet_plan.specs.Parts.{Part}
 use Rattle.fleet_tree.specs.declared.handle.SsTableHandle.{SsTableHandle}
-use Rattle.fleet_jobs.specs.ContextParts.{ContextParts}
+use Rattle.fleet_jobs.specs.Parts.ContextParts.{ContextParts}
 use Rattle.fleet_jobs.specs.Workers.{release_of}
 use Rattle.fleet_jobs.specs.declared.release.Release.{Release}
 use Rattle.fleet_jobs.specs.declared.release.Release.TheVariants.{One, Two}

@@ -1,10 +1,10 @@
 -- Records of jobs, and the jobs of the model that they stand for.
 use Rattle.std.specs.Prelude.{ℕ, Bool, not, List, [], ◌++◌, flat_map, map, option_map, Option, None}
 use Rattle.fleet_model.specs.Jobs.{Job, Jobs, is_finished}
-use Rattle.fleet_jobs.specs.ContextParts.{ContextParts}
+use Rattle.fleet_jobs.specs.Parts.ContextParts.{ContextParts}
 use Rattle.fleet_tree.specs.declared.handle.SsTableHandle.{SsTableHandle}
 use Rattle.fleet_jobs.specs.Contexts.{context_of, ranges_in, table_ids}
-use Rattle.fleet_jobs.specs.JobParts.{JobParts}
+use Rattle.fleet_jobs.specs.Parts.JobParts.{JobParts}
 use Rattle.fleet_jobs.specs.Specs.{spec_of}
 use Rattle.fleet_jobs.specs.Status.{status_of}
 use Rattle.fleet_jobs.specs.Workers.{lease_of}

@@ -3,13 +3,13 @@ use Rattle.std.specs.Prelude.{◌≡◌, ℕ, ◌+◌, ◌==◌, Bool, true, fal
 use Rattle.std.specs.List.{AllByRecursion}
 use Rattle.std.specs.Ordering.{is_le}
 use Rattle.row_model.specs.Rows.{key_cmp}
-use Rattle.fleet_model.specs.AttemptsFit.{ContextExtends}
-use Rattle.fleet_model.specs.Gates.{is_free, reserves_nodes, submit_gate}
+use Rattle.fleet_model.specs.Invariants.AttemptsFit.{ContextExtends}
+use Rattle.fleet_model.specs.Work.Gates.{is_free, reserves_nodes, submit_gate}
 use Rattle.fleet_model.specs.Jobs.{Job, JobSpec, Jobs, contains, is_drain, nodes_of}
-use Rattle.fleet_model.specs.JobsFit.{SourcesStand}
+use Rattle.fleet_model.specs.Invariants.JobsFit.{SourcesStand}
 use Rattle.fleet_model.specs.Nodes.{NodeName, is_l0, names, Tables, table_rows, tree_at}
-use Rattle.fleet_model.specs.Polls.{PollInput, can_move}
-use Rattle.fleet_model.specs.Records.{Unrecorded, beaten_by, claimed_by, finished_by, to_completed, to_failed, to_scheduled, to_waiting}
+use Rattle.fleet_model.specs.Work.Polls.{PollInput, can_move}
+use Rattle.fleet_model.specs.Work.Records.{Unrecorded, beaten_by, claimed_by, finished_by, to_completed, to_failed, to_scheduled, to_waiting}
 use Rattle.fleet_model.specs.Sources.{is_apart}
 use Rattle.fleet_model.specs.Trees.{by_first_key, first_key, last_key, source_nodes, source_pieces}
 use Rattle.fleet_tree.specs.Trees.{RunFlushes, flush_node, run_node, trees_of}
@@ -17,9 +17,9 @@ use Rattle.fleet_tree.specs.Views.{View}
 use Rattle.fleet_tree.specs.declared.handle.SsTableHandle.{SsTableHandle}
 use Rattle.fleet_tree.specs.declared.manifest.ManifestCore.{ManifestCore}
 use Rattle.fleet_tree.specs.declared.run.SortedRun.{SortedRun}
-use Rattle.fleet_jobs.specs.ContextParts.{ContextParts}
+use Rattle.fleet_jobs.specs.Parts.ContextParts.{ContextParts}
 use Rattle.fleet_jobs.specs.Contexts.{IsContinued, context_of, table_ids}
-use Rattle.fleet_jobs.specs.JobParts.{JobParts}
+use Rattle.fleet_jobs.specs.Parts.JobParts.{JobParts}
 use Rattle.fleet_jobs.specs.Jobs.{job_of, with_status}
 use Rattle.fleet_jobs.specs.Moves.{moved_run}
 use Rattle.fleet_jobs.specs.Places.{held_nodes, nodes_at, sources_stand}

@@ -1,13 +1,11 @@
 pub mod Sources
 pub mod Shared
-pub mod SpecParts
+pub mod Parts
 pub mod Specs
 pub mod Texts
 pub mod Status
 pub mod Workers
-pub mod ContextParts
 pub mod Contexts
-pub mod JobParts
 pub mod Jobs
 pub mod Taken
 pub mod Moves

@@ -1,7 +1,7 @@
 -- The nodes of a program's trees, and where the sources of a job are among them.
 use Rattle.std.specs.Prelude.{ℕ, Bool, ◌++◌, ◌||◌, ◌&&◌, List, [], filter, flat_map, map, Option, Some, None}
 use Rattle.std.specs.List.{list_all}
-use Rattle.fleet_model.specs.Gates.{is_nonempty, names_older, reserves_nodes}
+use Rattle.fleet_model.specs.Work.Gates.{is_nonempty, names_older, reserves_nodes}
 use Rattle.fleet_model.specs.Jobs.{Jobs, contains, nodes_of}
 use Rattle.fleet_model.specs.Nodes.{NodeName, L0, Run, names_contain}
 use Rattle.fleet_model.specs.Sources.{is_lowest_or_above, older_nodes, reaches_oldest, run_ids}

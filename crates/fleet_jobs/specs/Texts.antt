@@ -3,7 +3,7 @@ use Rattle.std.specs.Prelude.{ℕ, Bool, false, ◌&&◌, ◌==◌, ◌/◌, ◌
 use Rattle.std.specs.Fmt.{digits}
 use Rattle.fleet_plan.specs.Parts.{Part}
 use Rattle.fleet_jobs.specs.Contexts.{ranges_in}
-use Rattle.fleet_jobs.specs.JobParts.{JobParts}
+use Rattle.fleet_jobs.specs.Parts.JobParts.{JobParts}
 use Rattle.fleet_jobs.specs.Sources.{source_text}
 use Rattle.fleet_jobs.specs.declared.source_id.SourceId.{SourceId}
 use Rattle.fleet_jobs.specs.declared.spec.CompactionSpec.{CompactionSpec}

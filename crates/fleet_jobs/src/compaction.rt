@@ -40,7 +40,7 @@ pub struct Compaction {
 }
 
 impl Model for Compaction {
-    ghost use Rattle.fleet_jobs.specs.JobParts.{JobParts};
+    ghost use Rattle.fleet_jobs.specs.Parts.JobParts.{JobParts};
 
     ghost Value = { JobParts };
 

@@ -26,7 +26,7 @@ pub struct CompactionContext {
 
 impl Model for CompactionContext {
     ghost use Rattle.std.specs.Prelude.{◌<◌, ◌^◌, length};
-    ghost use Rattle.fleet_jobs.specs.ContextParts.{ContextParts};
+    ghost use Rattle.fleet_jobs.specs.Parts.ContextParts.{ContextParts};
 
     ghost Value = { ContextParts };
 

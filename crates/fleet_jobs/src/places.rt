@@ -3,10 +3,10 @@
 ghost use Rattle.std.specs.Prelude.{◌≡◌, ◌≤◌, ◌++◌, ◌||◌, [], ◌∷◌, drop, fold, is_some, length, map, not, option_map, IfOk, OnOk};
 ghost use Rattle.std.specs.List.{list_all, list_any};
 ghost use Rattle.std.specs.Option.{option_copied};
-ghost use Rattle.fleet_model.specs.Gates.{are_distinct, names_older};
+ghost use Rattle.fleet_model.specs.Work.Gates.{are_distinct, names_older};
 ghost use Rattle.fleet_model.specs.Nodes.{L0, Run, is_l0, name_eq, names_contain};
 ghost use Rattle.fleet_model.specs.Sources.{after_front, begins_with_run, older_nodes, reaches_oldest, run_ids};
-ghost use Rattle.fleet_model.specs.Scheduler.{lower};
+ghost use Rattle.fleet_model.specs.Work.Scheduler.{lower};
 ghost use Rattle.sched_model.specs.SizeTiered.{lowest_run};
 ghost use Rattle.fleet_jobs.specs.Places.{nodes_in};
 ghost use Rattle.fleet_jobs.specs.Sources.{name_of};

@@ -2,7 +2,7 @@
 
 ghost use Rattle.std.specs.Prelude.{◌≡◌, ◌==◌, ◌++◌, ◌||◌, [], ◌∷◌, map, nat_lt, IfOk, OnOk};
 ghost use Rattle.std.specs.List.{list_all, list_any};
-ghost use Rattle.fleet_model.specs.Gates.{destination_fits, reserves_nodes};
+ghost use Rattle.fleet_model.specs.Work.Gates.{destination_fits, reserves_nodes};
 ghost use Rattle.fleet_model.specs.Jobs.{contains};
 ghost use Rattle.fleet_model.specs.Sources.{all_run_ids, is_lowest_or_above, run_ids};
 ghost use Rattle.fleet_tree.specs.Trees.{RunFlushes, trees_of, trees_with_prefix};

@@ -25,7 +25,7 @@ pub struct TieredCompactionSpec {
 }
 
 impl Model for TieredCompactionSpec {
-    ghost use Rattle.fleet_jobs.specs.SpecParts.{TieredSpec};
+    ghost use Rattle.fleet_jobs.specs.Parts.SpecParts.{TieredSpec};
 
     ghost Value = { TieredSpec };
 
@@ -72,7 +72,7 @@ pub struct DrainSegmentSpec {
 }
 
 impl Model for DrainSegmentSpec {
-    ghost use Rattle.fleet_jobs.specs.SpecParts.{DrainSpec};
+    ghost use Rattle.fleet_jobs.specs.Parts.SpecParts.{DrainSpec};
 
     ghost Value = { DrainSpec };
 

@@ -2,7 +2,7 @@
 
 ghost use Rattle.std.specs.Prelude.{◌≡◌, ◌&&◌, not};
 ghost use Rattle.fleet_model.specs.Jobs.{is_finished};
-ghost use Rattle.step_model.specs.Merging.{adopts, is_taken_new};
+ghost use Rattle.step_model.specs.Steps.Merging.{adopts, is_taken_new};
 ghost use Rattle.fleet_jobs.specs.Status.{both_wait, holds_capacity, status_of};
 
 /// The status of a job. A job that is over is Completed or Failed.

@@ -9,14 +9,14 @@ use Rattle.fleet_model.specs.Nodes.{Tables}
 use Rattle.fleet_model.specs.Jobs.{JobSpec}
 use Rattle.fleet_model.specs.History.{Party, Writer, Submitter, Coordinator, Worker, Sweeper, Event, GetManifest, GetRecords, GetTable, PutTable, PutManifest, PutRecords, DrawJob, DrawTable, Plan, Start, Kill, ListTables, DeleteTable, Entry, stood}
 use Rattle.fleet_model.specs.Store.{fresh_store}
-use Rattle.fleet_model.specs.Replay.{Objects, after_event, after_entry, plain_objects, replayed_objects}
-use Rattle.fleet_model.specs.Live.{LiveParties, party_did, live_from}
-use Rattle.fleet_model.specs.Attempts.{claim_settings}
-use Rattle.fleet_model.specs.Claimed.{beaten_in, first_beaten, if_earlier, origin, claimant_in, is_worker, objects_found, objects_at_get, planned_in, noted_plan, claimed_in}
+use Rattle.fleet_model.specs.Past.Replay.{Objects, after_event, after_entry, plain_objects, replayed_objects}
+use Rattle.fleet_model.specs.Past.Live.{LiveParties, party_did, live_from}
+use Rattle.fleet_model.specs.Work.Attempts.{claim_settings}
+use Rattle.fleet_model.specs.Past.Claimed.{beaten_in, first_beaten, if_earlier, origin, claimant_in, is_worker, objects_found, objects_at_get, planned_in, noted_plan, claimed_in}
 use Rattle.fleet_model.proofs.ClaimCuts.{at_claim_or, objects_got, claim_step}
-use Rattle.fleet_model.specs.JobsFit.{joins}
-use Rattle.fleet_model.specs.AttemptsFit.{beats}
-use Rattle.fleet_model.specs.Finished.{finishes_job, later_or, finished_after}
+use Rattle.fleet_model.specs.Invariants.JobsFit.{joins}
+use Rattle.fleet_model.specs.Invariants.AttemptsFit.{beats}
+use Rattle.fleet_model.specs.Past.Finished.{finishes_job, later_or, finished_after}
 use Rattle.fleet_laws.specs.Transparent.{is_sweeper, is_of_sweep, SweepersOnlySweep, without_sweeps, SweepsAreTransparent}
 
 -- ---- one entry of a sweeper

@@ -2,7 +2,7 @@
 -- within it.
 use Rattle.std.specs.Prelude.{◌≡◌, ◌≢◌, ℕ, ◌-◌, ◌≤◌, IsTrue}
 use Rattle.std.specs.List.{AllByRecursion}
-use Rattle.fleet_model.specs.Attempts.{claim_cut}
+use Rattle.fleet_model.specs.Work.Attempts.{claim_cut}
 use Rattle.fleet_model.specs.Jobs.{Release, One, Two}
 use Rattle.fleet_model.specs.Store.{Manifest, cut_at}
 use Rattle.fleet_model.specs.Tracker.{is_retained}

@@ -9,7 +9,7 @@ use Rattle.fleet_model.specs.Nodes.{L0, Tables}
 use Rattle.fleet_model.specs.Jobs.{drawn_base, Job, Running, Context, JobSpec, Two}
 use Rattle.fleet_model.specs.History.{Entry, Worker, PutRecords, Beat, Done, Party, Writer, Submitter, Coordinator, Event, Answer, PutManifest, Flush, ManifestEpoch, RecordsEpoch, Submit, Polled, PollChange, Claim, GetManifest, Plan}
 use Rattle.fleet_model.specs.Store.{Store}
-use Rattle.fleet_model.specs.Parties.{Parties}
+use Rattle.fleet_model.specs.Work.Parties.{Parties}
 
 -- A version of the key "a", with a value of one byte.
 abbrev pub version : ℕ → ℕ → Row

@@ -4,8 +4,8 @@ use Rattle.std.specs.Prelude.{ℕ, ◌≤◌, int_le, IsTrue, Bool, true, false,
 use Rattle.row_model.specs.Rows.{Row}
 use Rattle.row_model.specs.Fold.{Operator}
 use Rattle.fleet_model.specs.Store.{Manifest, Store}
-use Rattle.fleet_model.specs.ReadsFit.{SameReads}
-use Rattle.fleet_model.specs.Invariant.{StoreInvariant}
+use Rattle.fleet_model.specs.Invariants.ReadsFit.{SameReads}
+use Rattle.fleet_model.specs.Invariants.Invariant.{StoreInvariant}
 use Rattle.fleet_model.specs.Reads.{StoredReadsAgree}
 
 -- Replacements of a key's rows that change no read add up. Newer and older rows may each be replaced, and a

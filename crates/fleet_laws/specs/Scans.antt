@@ -9,7 +9,7 @@ use Rattle.row_model.specs.Ranges.{Range, is_in_range}
 use Rattle.fleet_model.specs.Store.{Store}
 use Rattle.fleet_model.specs.Reads.{flushed_read, stored_read}
 use Rattle.fleet_model.specs.TreeScans.{flushed_scan, stored_scan}
-use Rattle.fleet_model.specs.Invariant.{StoreInvariant}
+use Rattle.fleet_model.specs.Invariants.Invariant.{StoreInvariant}
 
 -- In the list of a scan, each key of the range has the answer of its read. It is not in the list if its read
 -- finds nothing. No other key is in the list, and the keys of the list rise.

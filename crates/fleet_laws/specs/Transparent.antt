@@ -5,12 +5,12 @@ use Rattle.fleet_model.specs.Nodes.{Tables}
 use Rattle.fleet_model.specs.Jobs.{JobSpec}
 use Rattle.fleet_model.specs.History.{Party, Sweeper, Event, GetManifest, GetRecords, ListTables, DeleteTable, Entry}
 use Rattle.fleet_model.specs.Store.{fresh_store}
-use Rattle.fleet_model.specs.Replay.{plain_objects, replayed_objects}
-use Rattle.fleet_model.specs.Live.{live_after}
-use Rattle.fleet_model.specs.Claimed.{settings_of, ranges_of}
-use Rattle.fleet_model.specs.JobsFit.{was_joined}
-use Rattle.fleet_model.specs.AttemptsFit.{was_beaten}
-use Rattle.fleet_model.specs.Finished.{is_finished_by}
+use Rattle.fleet_model.specs.Past.Replay.{plain_objects, replayed_objects}
+use Rattle.fleet_model.specs.Past.Live.{live_after}
+use Rattle.fleet_model.specs.Past.Claimed.{settings_of, ranges_of}
+use Rattle.fleet_model.specs.Invariants.JobsFit.{was_joined}
+use Rattle.fleet_model.specs.Invariants.AttemptsFit.{was_beaten}
+use Rattle.fleet_model.specs.Past.Finished.{is_finished_by}
 
 -- True if the party is a sweeper.
 abbrev pub is_sweeper : Party → Bool

@@ -7,7 +7,7 @@ ghost use Rattle.row_model.specs.Append.{append};
 ghost use Rattle.row_model.specs.Fold.{Operator};
 ghost use Rattle.row_model.specs.Ranges.{Range};
 ghost use Rattle.fleet_model.specs.History.{Party};
-ghost use Rattle.fleet_model.specs.Invariant.{FleetInvariant};
+ghost use Rattle.fleet_model.specs.Invariants.Invariant.{FleetInvariant};
 ghost use Rattle.fleet_model.specs.Store.{Manifest, Store};
 ghost use Rattle.fleet_laws.specs.Begins.{FreshFleetFits, nobody};
 ghost use Rattle.fleet_laws.specs.Cuts.{CutsAreLow, MidwayCuts};

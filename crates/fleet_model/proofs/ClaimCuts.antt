@@ -5,8 +5,8 @@ use Rattle.std.specs.Prelude.{option_map}
 use Rattle.fleet_model.specs.Nodes.{Tables}
 use Rattle.fleet_model.specs.Jobs.{JobSpec}
 use Rattle.fleet_model.specs.History.{Entry}
-use Rattle.fleet_model.specs.Replay.{Objects, after_entry}
-use Rattle.fleet_model.specs.Claimed.{claimed_in, ClaimCut, with_first, cut_here_or, cut_at_claim, objects_at_get, objects_after_claim}
+use Rattle.fleet_model.specs.Past.Replay.{Objects, after_entry}
+use Rattle.fleet_model.specs.Past.Claimed.{claimed_in, ClaimCut, with_first, cut_here_or, cut_at_claim, objects_at_get, objects_after_claim}
 
 -- If a worker claims, the objects at its get, and otherwise those that the later entries give.
 abbrev pub at_claim_or : (claimed : Option ℕ) → (ℕ → Option Objects) → Option Objects → Option Objects

@@ -2,7 +2,7 @@
 use Rattle.std.specs.Prelude.{ℕ, List, [], ◌∷◌, ◌++◌, map, flat_map, length, Option, Some, None}
 use Rattle.std.specs.List.{concat}
 use Rattle.row_model.specs.Rows.{Row}
-use Rattle.row_model.specs.Sizes.{Block, blocks, table_size}
+use Rattle.row_model.specs.Written.Sizes.{Block, blocks, table_size}
 use Rattle.fleet_model.specs.Nodes.{Tables, table_rows, Segment, Trees}
 use Rattle.fleet_model.specs.Jobs.{Context, Job, Jobs}
 use Rattle.fleet_model.specs.Trees.{first_key, last_key}

@@ -13,8 +13,8 @@ use Rattle.std.proofs.lemmas.List.{append_assoc, map-append}
 use Rattle.row_model.specs.Rows.{key_cmp}
 use Rattle.row_model.specs.Ranges.{Range, is_after_start, is_in_range, ranges_from}
 use Rattle.row_model.specs.Ranges as model
-use Rattle.row_model.specs.Sizes.{saturated_sum}
-use Rattle.row_model.specs.Plan.{Anchor, anchors_by_key, cut_anchors, cuts, smallest_key}
+use Rattle.row_model.specs.Written.Sizes.{saturated_sum}
+use Rattle.row_model.specs.Written.Plan.{Anchor, anchors_by_key, cut_anchors, cuts, smallest_key}
 use Rattle.row_laws.proofs.ApartRows.{lt_is}
 use Rattle.row_laws.proofs.Elements.{all_weaken}
 use Rattle.fleet_range.specs.Keys.{model_bound, range_of}

@@ -12,8 +12,8 @@ use Rattle.std.proofs.lemmas.List.MinMax.{ranks_by}
 use Rattle.row_model.specs.Rows.{Row, key_cmp, row_cmp, IsStrictlyOrdered}
 use Rattle.std.proofs.lemmas.Grind.{common_steps}
 use Rattle.row_model.specs.Ranges.{Range, Included, Unbounded, all_keys, is_in_range, ranges_from}
-use Rattle.row_model.specs.Sizes.{Block, blocks, blocks_from, estimated_size, or_full, saturated_sum, table_size}
-use Rattle.row_model.specs.Plan.{Anchor, anchors_by_key, cut_anchors, every, greatest_size, max_anchors, planned_ranges, sample_anchors, select_boundaries, spans}
+use Rattle.row_model.specs.Written.Sizes.{Block, blocks, blocks_from, estimated_size, or_full, saturated_sum, table_size}
+use Rattle.row_model.specs.Written.Plan.{Anchor, anchors_by_key, cut_anchors, every, greatest_size, max_anchors, planned_ranges, sample_anchors, select_boundaries, spans}
 use Rattle.row_laws.proofs.ApartRows.{gt_of_reverse}
 use Rattle.row_laws.proofs.Elements.{all_weaken}
 use Rattle.fleet_model.specs.Trees.{first_key, last_key}

@@ -3,7 +3,7 @@ use Rattle.std.proofs.Common.{◌≡◌, sym, ◌∙◌, ap, ℕ, max, List, [],
 use Rattle.std.specs.Prelude.{flat_map}
 use Rattle.std.proofs.lemmas.Grind.{flat_map-append}
 use Rattle.std.proofs.lemmas.List.{append_assoc, append-nil}
-use Rattle.row_model.specs.Plan as model
+use Rattle.row_model.specs.Written.Plan as model
 use Rattle.fleet_tree.specs.Views.{View}
 use Rattle.fleet_tree.specs.declared.run.SortedRun.{SortedRun}
 use Rattle.fleet_plan.specs.Plans.{greatest_view_size, view_anchors, views_of}

@@ -12,7 +12,7 @@ use Rattle.std.proofs.lemmas.List.MinMax.{ranks_by}
 use Rattle.std.proofs.lemmas.List.Sorted.{sorted_far}
 use Rattle.row_laws.proofs.Elements.{all_weaken}
 use Rattle.row_model.specs.Rows.{key_cmp}
-use Rattle.row_model.specs.Plan.{put_anchor, anchors_by_key}
+use Rattle.row_model.specs.Written.Plan.{put_anchor, anchors_by_key}
 use Rattle.fleet_plan.specs.declared.anchor.Anchor.{Anchor}
 use Rattle.fleet_plan.specs.Anchors.{anchor_of, anchors_of}
 

@@ -6,9 +6,9 @@ use Rattle.std.proofs.lemmas.Grind.{common_steps}
 use Rattle.std.proofs.lemmas.Nat.{div-mul-add}
 use Rattle.std.proofs.lemmas.List.{append_assoc, drop-map, length-drop}
 use Rattle.std.proofs.Math.Nat.{zero-mod, add-mod_right, mod-eq_of_lt, mod-add-div', mod-lt}
-use Rattle.row_model.specs.Sizes.{Block}
-use Rattle.row_model.specs.Plan.{every, spans}
-use Rattle.row_model.specs.Plan as model
+use Rattle.row_model.specs.Written.Sizes.{Block}
+use Rattle.row_model.specs.Written.Plan.{every, spans}
+use Rattle.row_model.specs.Written.Plan as model
 use Rattle.fleet_tree.specs.declared.block.BlockMeta.{BlockMeta}
 use Rattle.fleet_tree.specs.Handles.{block_of, blocks_of}
 use Rattle.fleet_plan.specs.Anchors.{end_of}

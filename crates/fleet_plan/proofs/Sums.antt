@@ -2,8 +2,8 @@
 use Rattle.std.proofs.Common.{◌≡◌, refl, sym, ◌∙◌, ap, ◌+◌, List, [], ◌∷◌}
 use Rattle.std.specs.Prelude.{fold, sum_by}
 use Rattle.std.proofs.lemmas.List.Sums.{sum_by-cons}
-use Rattle.row_model.specs.Plan as model
-use Rattle.row_model.specs.Sizes.{saturated_sum}
+use Rattle.row_model.specs.Written.Plan as model
+use Rattle.row_model.specs.Written.Sizes.{saturated_sum}
 use Rattle.fleet_tree.proofs.Sizes.{fold-is}
 use Rattle.fleet_plan.specs.declared.anchor.Anchor.{Anchor}
 use Rattle.fleet_plan.specs.Anchors.{anchor_of, anchors_of}

@@ -1,7 +1,7 @@
 -- These functions turn a program's anchors into anchors of the model.
 use Rattle.std.specs.Prelude.{ℕ, List, [], ◌∷◌, map}
-use Rattle.row_model.specs.Sizes.{Block}
-use Rattle.row_model.specs.Plan as model
+use Rattle.row_model.specs.Written.Sizes.{Block}
+use Rattle.row_model.specs.Written.Plan as model
 use Rattle.fleet_plan.specs.declared.anchor.Anchor.{Anchor}
 
 abbrev pub anchor_of : Anchor → model.Anchor

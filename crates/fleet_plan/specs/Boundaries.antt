@@ -1,8 +1,8 @@
 -- The keys at which the ranges of a job begin, and the ranges in which a key lies.
 use Rattle.std.specs.Prelude.{◌≡◌, ℕ, ◌/◌, ◌||◌, ◌==◌, nat_le, max, if◌then◌else◌, List, [], map, filter, length, sum_by}
 use Rattle.row_model.specs.Ranges.{Range, is_in_range}
-use Rattle.row_model.specs.Sizes.{saturated_sum}
-use Rattle.row_model.specs.Plan.{Anchor, anchors_by_key, cut_anchors}
+use Rattle.row_model.specs.Written.Sizes.{saturated_sum}
+use Rattle.row_model.specs.Written.Plan.{Anchor, anchors_by_key, cut_anchors}
 use Rattle.fleet_range.specs.Keys.{range_of}
 use Rattle.fleet_range.specs.Ranges.{Ends}
 

@@ -3,8 +3,8 @@ use Rattle.std.specs.Prelude.{◌≡◌, ℕ, ◌++◌, List, [], ◌∷◌, fla
 use Rattle.std.specs.List.{AllByRecursion}
 use Rattle.row_model.specs.Rows.{Row, IsStrictlyOrdered}
 use Rattle.row_model.specs.Ranges.{Range}
-use Rattle.row_model.specs.Plan.{max_anchors, sample_anchors, select_boundaries}
-use Rattle.row_model.specs.Plan as model
+use Rattle.row_model.specs.Written.Plan.{max_anchors, sample_anchors, select_boundaries}
+use Rattle.row_model.specs.Written.Plan as model
 use Rattle.fleet_model.specs.Handles.{describe}
 use Rattle.fleet_range.specs.Keys.{range_of}
 use Rattle.fleet_tree.specs.Handles.{blocks_of, handle_of}

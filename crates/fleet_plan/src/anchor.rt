@@ -1,7 +1,7 @@
 //! Anchors: keys of a table with the bytes that follow them.
 
 ghost use Rattle.std.specs.Prelude.{◌≡◌, ◌-◌, ◌+◌, ◌/◌, drop, length, max, IfOk, IsOkUnless};
-ghost use Rattle.row_model.specs.Plan.{sample_anchors};
+ghost use Rattle.row_model.specs.Written.Plan.{sample_anchors};
 ghost use Rattle.fleet_range.specs.Keys.{range_of};
 ghost use Rattle.fleet_tree.specs.Handles.{blocks_of};
 ghost use Rattle.fleet_plan.specs.Anchors.{anchors_of, end_of};

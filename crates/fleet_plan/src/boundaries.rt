@@ -2,10 +2,10 @@
 
 ghost use Rattle.std.specs.Prelude.{◌≡◌, ◌≤◌, ◌+◌, length, max, sum_by, IfOk, IsOkUnless};
 ghost use Rattle.std.specs.List.Sorted.{IsStrictlySortedBy};
-ghost use Rattle.row_model.specs.Plan.{anchors_by_key, cut_anchors, select_boundaries};
+ghost use Rattle.row_model.specs.Written.Plan.{anchors_by_key, cut_anchors, select_boundaries};
 ghost use Rattle.row_model.specs.Ranges.{Unbounded, ranges_from};
 ghost use Rattle.row_model.specs.Rows.{key_cmp};
-ghost use Rattle.row_model.specs.Sizes.{saturated_sum};
+ghost use Rattle.row_model.specs.Written.Sizes.{saturated_sum};
 ghost use Rattle.row_laws.specs.Turns.{AreCut};
 ghost use Rattle.fleet_plan.specs.Anchors.{anchors_of};
 ghost use Rattle.fleet_plan.specs.Boundaries.{HoldEveryKeyOnce, boundary_keys, ranges_of};

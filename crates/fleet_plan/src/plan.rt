@@ -1,7 +1,7 @@
 //! The ranges for a job over tables that are described.
 
 ghost use Rattle.std.specs.Prelude.{◌≡◌, ◌≤◌, ◌++◌, [], List, flat_map, length, map, max, IfOk, IsOkUnless, OnOk};
-ghost use Rattle.row_model.specs.Plan.{planned_ranges};
+ghost use Rattle.row_model.specs.Written.Plan.{planned_ranges};
 ghost use Rattle.row_model.specs.Rows.{Row};
 ghost use Rattle.row_laws.specs.Turns.{AreCut};
 ghost use Rattle.fleet_tree.specs.Views.{View};

@@ -12,7 +12,7 @@ use Rattle.step_laws.proofs.Later.{rivals_later}
 use Rattle.fleet_rows.specs.declared.errors.SlateDBError.{SlateDBError}
 use Rattle.fleet_tree.specs.declared.manifest.Manifest.{Manifest}
 use Rattle.fleet_tree.specs.declared.manifest.VersionedManifest.{VersionedManifest}
-use Rattle.fleet_jobs.specs.JobParts.{JobParts}
+use Rattle.fleet_jobs.specs.Parts.JobParts.{JobParts}
 use Rattle.fleet_jobs.specs.Jobs.{jobs_of}
 use Rattle.fleet_jobs.specs.declared.spec.CompactionSpec.{CompactionSpec}
 use Rattle.fleet_book.specs.Records.{kept_records}

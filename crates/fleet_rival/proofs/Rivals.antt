@@ -6,8 +6,8 @@ use Rattle.row_model.specs.Fold.{Operator}
 use Rattle.fleet_model.specs.History.{Party, Submitter, Worker, Submit, Claim, Commit}
 use Rattle.fleet_model.specs.Exchanges.{Exchange}
 use Rattle.fleet_model.specs.Jobs.{Job, Jobs, changed_jobs, trimmed_jobs}
-use Rattle.fleet_model.specs.Records.{Unrecorded, claimed_by, jobs_after, no_contexts}
-use Rattle.fleet_model.specs.Replay.{epoch_after}
+use Rattle.fleet_model.specs.Work.Records.{Unrecorded, claimed_by, jobs_after, no_contexts}
+use Rattle.fleet_model.specs.Past.Replay.{epoch_after}
 use Rattle.fleet_model.specs.Store.{Store}
 use Rattle.fleet_model.specs.Store as model_store
 use Rattle.step_model.specs.Past.{World}
@@ -20,7 +20,7 @@ use Rattle.fleet_rows.specs.declared.errors.SlateDBError.{SlateDBError}
 use Rattle.fleet_rows.specs.declared.errors.SlateDBError.TheVariants.{IteratorNotInitialized, IteratorFailed, MergeOperatorMissing, InvalidSequenceOrder, MergeOperator, CompactionFilter, InvalidCompaction, InvalidDBState, Fenced, StoreFault, NotOwner, Conflict, Generate, Memory}
 use Rattle.fleet_tree.specs.declared.manifest.Manifest.{Manifest}
 use Rattle.fleet_tree.specs.declared.manifest.VersionedManifest.{VersionedManifest}
-use Rattle.fleet_jobs.specs.JobParts.{JobParts}
+use Rattle.fleet_jobs.specs.Parts.JobParts.{JobParts}
 use Rattle.fleet_jobs.specs.Jobs.{jobs_of}
 use Rattle.fleet_book.specs.VersionedRecords.{VersionedRecords}
 use Rattle.fleet_book.specs.Versions.{records_of}

@@ -3,7 +3,7 @@
 ghost use Rattle.std.specs.Prelude.{◌≡◌, ◌↔◌, ◌≤◌, ◌+◌, length, IsTrue, IfOk, IsOkUnless};
 ghost use Rattle.row_model.specs.Bounds.{IsInBounds};
 ghost use Rattle.row_model.specs.Rows.{is_tombstone};
-ghost use Rattle.row_model.specs.Sizes.{content_len, estimated_size, encoded_size, stamp_size};
+ghost use Rattle.row_model.specs.Written.Sizes.{content_len, estimated_size, encoded_size, stamp_size};
 ghost use Rattle.fleet_rows.specs.Row.{bytes_of, content_of, row_of};
 
 use crate::SlateDBError;

@@ -5,14 +5,14 @@ use Rattle.std.specs.Option.{option_or}
 use Rattle.std.proofs.lemmas.Bool.Decides.{nat_tests}
 use Rattle.row_model.specs.Rows.{Row, Content, Value, Merge, Tombstone, are_ordered, IsStrictlyOrdered}
 use Rattle.row_model.specs.Bounds.{AreRows, IsContent, IsInBounds}
-use Rattle.row_model.specs.Sizes.{content_len}
+use Rattle.row_model.specs.Written.Sizes.{content_len}
 use Rattle.fleet_model.specs.Trees.{greater_seq, greatest_seq}
 use Rattle.fleet_rows.specs.Row.{rows_of}
 use Rattle.fleet_rows.specs.declared.row.RowEntry.{RowEntry}
 use Rattle.fleet_table.specs.Table.{IsTableRows}
 use Rattle.fleet_rows.proofs.Ordered.{ordered_of_test}
-use Rattle.step_model.specs.FlushSteps.{is_above}
-use Rattle.step_model.specs.StepEnds.{BadName, BadOrder, BadSequence, BadFloor, BadTick}
+use Rattle.step_model.specs.Steps.FlushSteps.{is_above}
+use Rattle.step_model.specs.Courses.StepEnds.{BadName, BadOrder, BadSequence, BadFloor, BadTick}
 use Rattle.fleet_run.specs.FleetView.{FleetView}
 use Rattle.fleet_run.specs.Serve.{fault_alone, fault_against, flush_fault}
 

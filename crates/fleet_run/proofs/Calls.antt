@@ -7,8 +7,8 @@ use Rattle.fleet_model.specs.History.{Party, GetManifest, GetRecords, PutTable, 
 use Rattle.fleet_model.specs.Jobs.{Jobs}
 use Rattle.fleet_model.specs.Store.{Manifest, Records, Store, held_tables}
 use Rattle.fleet_model.specs.Exchanges.{Exchange, Plain, DrawsJob, DrawsTable, PutsTable, PutsManifest, PutsRecords, ListsTables, DeletesTable, records_version, answer_of, after_answered, next_job_id, next_table_id}
-use Rattle.step_model.specs.Alone.{run_alone}
-use Rattle.step_model.specs.Course.{Course, Ends, Calls, then_course, gets_manifest, gets_records, puts_manifest, puts_records}
+use Rattle.step_model.specs.Courses.Alone.{run_alone}
+use Rattle.step_model.specs.Courses.Course.{Course, Ends, Calls, then_course, gets_manifest, gets_records, puts_manifest, puts_records}
 use Rattle.step_model.specs.Entries.{name_in, last_name}
 use Rattle.fleet_run.specs.Holds.{Held, held_parts}
 

@@ -5,26 +5,26 @@ use Rattle.std.specs.List.{AllByRecursion, list_all}
 use Rattle.std.proofs.lemmas.Bool.Decides.{nat_tests}
 use Rattle.row_model.specs.Ranges.{Range}
 use Rattle.row_model.specs.Settings.{Settings}
-use Rattle.row_model.specs.Plan.{planned_ranges}
+use Rattle.row_model.specs.Written.Plan.{planned_ranges}
 use Rattle.fleet_model.specs.Nodes.{Tables, Tree, L0, names, names_contain, table_rows, tree_at}
 use Rattle.fleet_model.specs.History.{Worker, GetManifest, Plan, Claim}
 use Rattle.fleet_model.specs.Jobs.{Job, Jobs, Two, Status, Submitted, Scheduled, Running, Compacted, Completed, Failed, status_eq, is_finished, ids, contains, changed_jobs, trimmed_jobs}
-use Rattle.fleet_model.specs.Records.{claimed_by, firsts}
-use Rattle.fleet_model.specs.Parties.{LiveWorker, Attempt, Parties, worker_with, without_worker, with_attempts, attempt_jobs}
+use Rattle.fleet_model.specs.Work.Records.{claimed_by, firsts}
+use Rattle.fleet_model.specs.Work.Parties.{LiveWorker, Attempt, Parties, worker_with, without_worker, with_attempts, attempt_jobs}
 use Rattle.fleet_model.specs.Store.{Manifest, Store, Records, jobs_in}
-use Rattle.fleet_model.specs.Attempts.{ClaimInput, is_last, is_last_run, claim_settings}
-use Rattle.fleet_model.specs.Claims.{is_waiting, may_take, stopped_jobs, claimed_jobs, claimed_attempt}
+use Rattle.fleet_model.specs.Work.Attempts.{ClaimInput, is_last, is_last_run, claim_settings}
+use Rattle.fleet_model.specs.Work.Claims.{is_waiting, may_take, stopped_jobs, claimed_jobs, claimed_attempt}
 use Rattle.fleet_model.specs.Exchanges.{Plain, records_version}
 use Rattle.fleet_model.specs.Trees.{source_pieces}
-use Rattle.step_model.specs.ClaimSteps.{WorkerOptions, Claimed, can_start, plan_of, claim_by, claim_of, claim_try, claim}
-use Rattle.step_model.specs.Tries.{tries}
-use Rattle.step_model.specs.Course.{Course, Ends, Calls, calls_each}
-use Rattle.step_model.specs.StepEnds.{StepEnd, Reports}
+use Rattle.step_model.specs.Steps.ClaimSteps.{WorkerOptions, Claimed, can_start, plan_of, claim_by, claim_of, claim_try, claim}
+use Rattle.step_model.specs.Courses.Tries.{tries}
+use Rattle.step_model.specs.Courses.Course.{Course, Ends, Calls, calls_each}
+use Rattle.step_model.specs.Courses.StepEnds.{StepEnd, Reports}
 use Rattle.script_model.specs.Defaults.{default_options}
 use Rattle.script_model.specs.LineRuns.{LineEnd, LineCourse, if_some, only_replies, line_end}
 use Rattle.script_model.specs.Replies.{claim_reply}
 use Rattle.script_model.specs.States.{State}
-use Rattle.script_model.specs.WorkLines.{claim_line, worker_line, worker_options, running}
+use Rattle.script_model.specs.Lines.WorkLines.{claim_line, worker_line, worker_options, running}
 use Rattle.fleet_run.specs.declared.jobs.AskedJob.{AskedJob}
 use Rattle.fleet_run.specs.Jobs.{Stage, Waits, Runs, Wrote, OpenJob, attempt_of}
 use Rattle.fleet_run.specs.FleetView.{FleetView}

@@ -8,11 +8,11 @@ use Rattle.std.proofs.lemmas.Slice.Eq.{bytes_eq-Decides}
 use Rattle.row_model.specs.Rows.{Row}
 use Rattle.fleet_model.specs.Nodes.{Tables, L0, Run, Node, Tree, names, names_contain, Segment}
 use Rattle.fleet_model.specs.History.{Join}
-use Rattle.fleet_model.specs.Records.{firsts}
-use Rattle.fleet_model.specs.Attempts.{is_last}
-use Rattle.fleet_model.specs.Gates.{first_failing, commit_gate}
+use Rattle.fleet_model.specs.Work.Records.{firsts}
+use Rattle.fleet_model.specs.Work.Attempts.{is_last}
+use Rattle.fleet_model.specs.Work.Gates.{first_failing, commit_gate}
 use Rattle.fleet_model.specs.Trees.{source_pieces, without_nodes, put_run, stepped_tree, stepped_in, watermark_after}
-use Rattle.step_model.specs.PollSteps.{node_eq, same_tree}
+use Rattle.step_model.specs.Steps.PollSteps.{node_eq, same_tree}
 use Rattle.fleet_run.specs.declared.jobs.AskedJob.{AskedJob}
 use Rattle.fleet_run.specs.Jobs.{Wrote}
 use Rattle.fleet_run.specs.FleetView.{AreFlushes, newest_name}

@@ -3,8 +3,8 @@ use Rattle.std.proofs.Common.{◌≡◌, refl, ap, sym, ◌∙◌, ℕ, ◌+◌,
 use Rattle.std.specs.Prelude.{nat_lt, if◌then◌else◌}
 use Rattle.std.proofs.lemmas.List.{map-append}
 use Rattle.row_model.specs.Rows.{Row}
-use Rattle.row_model.specs.Sizes.{estimated_size}
-use Rattle.row_model.specs.Tables.{with_row, cut_from}
+use Rattle.row_model.specs.Written.Sizes.{estimated_size}
+use Rattle.row_model.specs.Written.Tables.{with_row, cut_from}
 use Rattle.fleet_rows.specs.Row.{row_of, rows_of}
 use Rattle.fleet_rows.specs.declared.row.RowEntry.{RowEntry}
 

@@ -5,11 +5,11 @@ use Rattle.std.specs.List.{AllByRecursion}
 use Rattle.std.proofs.lemmas.Bool.Decides.{nat_tests}
 use Rattle.row_model.specs.Rows.{Row}
 use Rattle.fleet_model.specs.Nodes.{Tables, Node, NodeName, L0, Run, node_named, node_rows, table_rows, tree_at}
-use Rattle.fleet_model.specs.Records.{firsts}
+use Rattle.fleet_model.specs.Work.Records.{firsts}
 use Rattle.fleet_model.specs.Store.{Store}
 use Rattle.script_model.specs.LineRuns.{only_replies}
-use Rattle.script_model.specs.Looks as looks
-use Rattle.script_model.specs.Looks.{dump}
+use Rattle.script_model.specs.Lines.Looks as looks
+use Rattle.script_model.specs.Lines.Looks.{dump}
 use Rattle.fleet_run.specs.FleetView.{FleetView}
 use Rattle.fleet_run.specs.Serve.{rows_in, node_rows_or_none, dump_reply}
 use Rattle.fleet_run.specs.Holds.{held_parts, Holds, MadeRun, run_of, all_flushes, node_of, run_node, IsStored, open_tables, state_of}

@@ -10,24 +10,24 @@ use Rattle.row_model.specs.KeptRows.{kept_of_keys}
 use Rattle.row_model.specs.Ranges.{all_keys, rows_in}
 use Rattle.row_model.specs.Rows.{Row, sorted_rows}
 use Rattle.row_model.specs.Settings.{Settings}
-use Rattle.row_model.specs.Tables.{cut_tables}
+use Rattle.row_model.specs.Written.Tables.{cut_tables}
 use Rattle.row_laws.proofs.Elements.{all_weaken}
 use Rattle.row_laws.proofs.Merges.{ordered_stay}
 use Rattle.row_laws.proofs.Ranges.{all_in}
 use Rattle.row_laws.proofs.Tables.{cut_flat}
 use Rattle.fleet_model.specs.Nodes.{Tables, table_rows}
-use Rattle.fleet_model.specs.Attempts.{source_rows, rows_left}
+use Rattle.fleet_model.specs.Work.Attempts.{source_rows, rows_left}
 use Rattle.fleet_model.specs.History.{Worker, Finish}
 use Rattle.fleet_model.specs.Jobs.{Job, changed_jobs, number_of, trimmed_jobs}
-use Rattle.fleet_model.specs.Parties.{Attempt, LiveWorker, Parties, is_live, runs_attempt, worker_with, without_worker, without_attempts}
-use Rattle.fleet_model.specs.Records.{Unrecorded, no_contexts, firsts, finished_by}
+use Rattle.fleet_model.specs.Work.Parties.{Attempt, LiveWorker, Parties, is_live, runs_attempt, worker_with, without_worker, without_attempts}
+use Rattle.fleet_model.specs.Work.Records.{Unrecorded, no_contexts, firsts, finished_by}
 use Rattle.fleet_model.specs.Store.{Store, Records, jobs_in}
 use Rattle.fleet_model.specs.Exchanges.{records_version}
-use Rattle.step_model.specs.ClaimSteps.{WorkerOptions}
-use Rattle.step_model.specs.Tries.{tries}
-use Rattle.step_model.specs.Course.{Course, Ends, puts_ranges}
-use Rattle.step_model.specs.FinishSteps.{FinishAsk, FinishedJob, all_outputs, ends_job, ends_job_by, end_try, end_job, finish}
-use Rattle.step_model.specs.StepEnds.{StepEnd, Reports}
+use Rattle.step_model.specs.Steps.ClaimSteps.{WorkerOptions}
+use Rattle.step_model.specs.Courses.Tries.{tries}
+use Rattle.step_model.specs.Courses.Course.{Course, Ends, puts_ranges}
+use Rattle.step_model.specs.Steps.FinishSteps.{FinishAsk, FinishedJob, all_outputs, ends_job, ends_job_by, end_try, end_job, finish}
+use Rattle.step_model.specs.Courses.StepEnds.{StepEnd, Reports}
 use Rattle.script_model.specs.Defaults.{default_options, with_quiet_scheduler}
 use Rattle.script_model.specs.LineCourses as courses
 use Rattle.script_model.specs.LineCourses.{attempt_numbered}
@@ -35,7 +35,7 @@ use Rattle.script_model.specs.LineRuns.{LineEnd, LineCourse, if_some, only_repli
 use Rattle.script_model.specs.Refusals.{FinishMay, left_in, is_whole}
 use Rattle.script_model.specs.Replies.{reply, ranges_text}
 use Rattle.script_model.specs.States.{State}
-use Rattle.script_model.specs.WorkLines.{worker_options, running, finish_asked, finish_line}
+use Rattle.script_model.specs.Lines.WorkLines.{worker_options, running, finish_asked, finish_line}
 use Rattle.fleet_run.specs.declared.jobs.AskedJob.{AskedJob}
 use Rattle.fleet_run.specs.Jobs.{Stage, Waits, Runs, Wrote, OpenJob, attempt_of}
 use Rattle.fleet_run.specs.FleetView.{FleetView, AreFlushes, IsFlushAbove, newest_name}

@@ -12,12 +12,12 @@ use Rattle.fleet_model.specs.History.{Writer, PutTable, Flush}
 use Rattle.fleet_model.specs.Store.{Manifest, Store, Records}
 use Rattle.fleet_model.specs.Trees.{flushed_trees, greatest_seq}
 use Rattle.fleet_model.specs.Exchanges.{PutsTable}
-use Rattle.step_model.specs.Course.{Course, Ends, puts_manifest}
+use Rattle.step_model.specs.Courses.Course.{Course, Ends, puts_manifest}
 use Rattle.step_model.specs.Entries.{name_in}
-use Rattle.step_model.specs.FlushSteps as model
-use Rattle.step_model.specs.FlushSteps.{FlushAsk, fault_before_get, fault_after_get, unless_bad, puts_unless_put, flushes_from, flush, is_above}
-use Rattle.step_model.specs.StepEnds.{StepEnd, Reports, BadFlush, FlushFault}
-use Rattle.script_model.specs.Flushes.{flush_line}
+use Rattle.step_model.specs.Steps.FlushSteps as model
+use Rattle.step_model.specs.Steps.FlushSteps.{FlushAsk, fault_before_get, fault_after_get, unless_bad, puts_unless_put, flushes_from, flush, is_above}
+use Rattle.step_model.specs.Courses.StepEnds.{StepEnd, Reports, BadFlush, FlushFault}
+use Rattle.script_model.specs.Lines.Flushes.{flush_line}
 use Rattle.script_model.specs.Grammars.{IsPlain}
 use Rattle.script_model.specs.LineRuns.{LineEnd, line_end}
 use Rattle.script_model.specs.Replies.{ok}

@@ -8,7 +8,7 @@ use Rattle.row_model.specs.Bounds.{IsInBounds}
 use Rattle.row_model.specs.KeptRows.{as_tombstone_if_expired, kept_of_keys}
 use Rattle.row_model.specs.Rows.{Row, Tombstone, row_cmp, is_expired, IsStrictlyOrdered}
 use Rattle.row_model.specs.Settings.{Settings}
-use Rattle.row_model.specs.Tables.{cut_from, cut_tables}
+use Rattle.row_model.specs.Written.Tables.{cut_from, cut_tables}
 use Rattle.row_laws.proofs.Order.{kept_keys_order}
 use Rattle.row_laws.proofs.Tables.{cut_flat, cut_filled}
 use Rattle.fleet_fold.proofs.AllKept.{all_kept}

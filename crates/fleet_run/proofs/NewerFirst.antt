@@ -12,7 +12,7 @@ use Rattle.row_laws.proofs.Elements.{all_weaken}
 use Rattle.row_laws.proofs.KeyRows.{key_alike, of_key-append, IsThat}
 use Rattle.fleet_model.specs.Nodes.{Tables}
 use Rattle.fleet_model.specs.Trees.{greater_seq, greatest_seq}
-use Rattle.step_model.specs.FlushSteps.{is_above}
+use Rattle.step_model.specs.Steps.FlushSteps.{is_above}
 use Rattle.fleet_run.specs.FleetView.{AreFlushes, newest_seq}
 
 -- ---- sequences

@@ -1,9 +1,9 @@
 -- A poll that changes no records has done nothing.
 use Rattle.std.proofs.Common.{◌≡◌, refl, sym, ap, ◌∙◌, ℕ, List, [], ◌∷◌, ◌++◌, ◌+◌, cond, Bool, true, false, not, ◌||◌, Option, Some, None, nat_lt, length, length-append, arith}
-use Rattle.fleet_model.specs.Records.{firsts}
-use Rattle.fleet_model.specs.Gates.{is_nonempty}
+use Rattle.fleet_model.specs.Work.Records.{firsts}
+use Rattle.fleet_model.specs.Work.Gates.{is_nonempty}
 use Rattle.fleet_model.specs.Jobs.{put_id, in_id_order}
-use Rattle.fleet_model.specs.Polls.{PollState, change_of, is_nothing}
+use Rattle.fleet_model.specs.Work.Polls.{PollState, change_of, is_nothing}
 use Rattle.fleet_run.specs.declared.jobs.AskedJob.{AskedJob}
 use Rattle.fleet_run.specs.Jobs.{Judged, judged_by, judge, judge_all, failed_rule}
 

@@ -4,9 +4,9 @@ use Rattle.std.specs.Prelude.{sum_by, filter, ⊤}
 use Rattle.std.proofs.lemmas.Bool.Decides.{nat_tests}
 use Rattle.std.proofs.lemmas.List.Sums.{sum_by-cons}
 use Rattle.row_model.specs.Rows.{Row}
-use Rattle.row_model.specs.Sizes.{Block, estimated_size, saturated_sum, table_size, or_full, blocks_from, blocks}
+use Rattle.row_model.specs.Written.Sizes.{Block, estimated_size, saturated_sum, table_size, or_full, blocks_from, blocks}
 use Rattle.row_model.specs.Ranges.{Unbounded, all_keys, is_in_range, ranges_from}
-use Rattle.row_model.specs.Plan.{Anchor, max_anchors, every, spans, sample_anchors, anchors_by_key, cut_anchors, planned_ranges}
+use Rattle.row_model.specs.Written.Plan.{Anchor, max_anchors, every, spans, sample_anchors, anchors_by_key, cut_anchors, planned_ranges}
 
 -- The blocks begin one after the other, between two offsets.
 abbrev Within : ℕ → ℕ → List Block → Type 0

@@ -6,11 +6,11 @@ use Rattle.fleet_model.specs.History.{GetRecords, Commit, Polled}
 use Rattle.fleet_model.specs.Jobs.{JobSpec, trimmed_jobs}
 use Rattle.fleet_model.specs.Store.{Manifest, Records, jobs_in, records_epoch}
 use Rattle.fleet_model.specs.Exchanges.{Plain, records_version}
-use Rattle.fleet_model.specs.Polls.{PollState, PollInput, poll_begun, free_stale, commit_finished, proposals, add_drawn, open_submitted, change_of, is_nothing}
-use Rattle.step_model.specs.Course.{Course, Ends, Calls, gets_records, draws_jobs, puts_manifest, puts_records}
-use Rattle.step_model.specs.Tries.{counted_tries}
-use Rattle.step_model.specs.PollSteps.{PollAsk, is_unchanged, records_or_none, unless_fenced, merged_into, puts_polled, puts_trees, polls_over, poll_try}
-use Rattle.step_model.specs.StepEnds.{StepEnd, Reports, GivesUp, Fenced, most_refused}
+use Rattle.fleet_model.specs.Work.Polls.{PollState, PollInput, poll_begun, free_stale, commit_finished, proposals, add_drawn, open_submitted, change_of, is_nothing}
+use Rattle.step_model.specs.Courses.Course.{Course, Ends, Calls, gets_records, draws_jobs, puts_manifest, puts_records}
+use Rattle.step_model.specs.Courses.Tries.{counted_tries}
+use Rattle.step_model.specs.Steps.PollSteps.{PollAsk, is_unchanged, records_or_none, unless_fenced, merged_into, puts_polled, puts_trees, polls_over, poll_try}
+use Rattle.step_model.specs.Courses.StepEnds.{StepEnd, Reports, GivesUp, Fenced, most_refused}
 use Rattle.script_model.specs.Defaults.{quiet_scheduler}
 use Rattle.fleet_run.specs.Holds.{Held}
 use Rattle.fleet_run.proofs.Calls.{Leads, call_leads, gets_manifest_leads, puts_manifest_leads, puts_records_leads}

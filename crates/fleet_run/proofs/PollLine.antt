@@ -5,10 +5,10 @@ use Rattle.std.proofs.lemmas.Bool.Decides.{nat_tests}
 use Rattle.row_model.specs.Rows.{Row}
 use Rattle.fleet_model.specs.Nodes.{Tables, Trees}
 use Rattle.fleet_model.specs.Jobs.{Jobs}
-use Rattle.fleet_model.specs.Records.{firsts}
-use Rattle.fleet_model.specs.Attempts.{is_last}
+use Rattle.fleet_model.specs.Work.Records.{firsts}
+use Rattle.fleet_model.specs.Work.Attempts.{is_last}
 use Rattle.fleet_model.specs.Store.{Manifest, Records}
-use Rattle.fleet_model.specs.Polls.{PollState, PollInput, poll_begun, each, open_job}
+use Rattle.fleet_model.specs.Work.Polls.{PollState, PollInput, poll_begun, each, open_job}
 use Rattle.script_model.specs.Replies.{poll_reply}
 use Rattle.fleet_run.specs.declared.jobs.AskedJob.{AskedJob}
 use Rattle.fleet_run.specs.Jobs.{Stage, Waits, Runs, Wrote, OpenJob, Judged, judge_all}

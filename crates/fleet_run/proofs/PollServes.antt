@@ -6,16 +6,16 @@ use Rattle.row_model.specs.Fold.{Operator}
 use Rattle.fleet_model.specs.Nodes.{Tables, L0, Trees}
 use Rattle.fleet_model.specs.History.{Coordinator}
 use Rattle.fleet_model.specs.Jobs.{Jobs, Submitted, Compacted, has_status}
-use Rattle.fleet_model.specs.Records.{firsts}
-use Rattle.fleet_model.specs.Parties.{LiveCoordinator, coordinator_with, without_coordinator}
+use Rattle.fleet_model.specs.Work.Records.{firsts}
+use Rattle.fleet_model.specs.Work.Parties.{LiveCoordinator, coordinator_with, without_coordinator}
 use Rattle.fleet_model.specs.Store.{Manifest, Records, Store, jobs_in, records_epoch}
 use Rattle.fleet_model.specs.Trees.{watermark_after}
-use Rattle.fleet_model.specs.Polls.{PollState, PollInput, poll_begun, free_stale, commit_finished, each, open_job, open_submitted, change_of, is_nothing}
-use Rattle.step_model.specs.PollSteps.{same_tree, is_unchanged, records_or_none, poll}
-use Rattle.step_model.specs.StepEnds.{Reports}
+use Rattle.fleet_model.specs.Work.Polls.{PollState, PollInput, poll_begun, free_stale, commit_finished, each, open_job, open_submitted, change_of, is_nothing}
+use Rattle.step_model.specs.Steps.PollSteps.{same_tree, is_unchanged, records_or_none, poll}
+use Rattle.step_model.specs.Courses.StepEnds.{Reports}
 use Rattle.script_model.specs.Defaults.{with_quiet_scheduler}
 use Rattle.script_model.specs.LineRuns.{LineCourse, if_some, line_end, step_line, only_replies}
-use Rattle.script_model.specs.PollLines.{poll_line, poll_ask}
+use Rattle.script_model.specs.Lines.PollLines.{poll_line, poll_ask}
 use Rattle.script_model.specs.Replies.{poll_reply}
 use Rattle.script_model.specs.States.{State}
 use Rattle.fleet_run.specs.declared.jobs.AskedJob.{AskedJob}

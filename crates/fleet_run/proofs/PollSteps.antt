@@ -4,10 +4,10 @@ use Rattle.std.specs.List.{AllByRecursion}
 use Rattle.row_model.specs.Rows.{Row}
 use Rattle.fleet_model.specs.Nodes.{Tables, L0, Trees}
 use Rattle.fleet_model.specs.Jobs.{Job, Jobs, Status, Submitted, Scheduled, Running, Compacted, Completed, Failed, status_eq, is_finished, has_status}
-use Rattle.fleet_model.specs.Records.{to_completed}
+use Rattle.fleet_model.specs.Work.Records.{to_completed}
 use Rattle.fleet_model.specs.Store.{Manifest, Records}
 use Rattle.fleet_model.specs.Trees.{watermark_after}
-use Rattle.fleet_model.specs.Polls.{PollInput, PollState, poll_begun, free_stale, commit_by, commit_job, commit_finished, each}
+use Rattle.fleet_model.specs.Work.Polls.{PollInput, PollState, poll_begun, free_stale, commit_by, commit_job, commit_finished, each}
 use Rattle.fleet_run.specs.declared.jobs.AskedJob.{AskedJob}
 use Rattle.fleet_run.specs.Jobs.{Stage, Waits, Runs, Wrote, OpenJob}
 use Rattle.fleet_run.specs.FleetView.{AreFlushes}

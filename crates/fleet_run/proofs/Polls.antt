@@ -7,12 +7,12 @@ use Rattle.std.proofs.lemmas.Bool.Decides.{nat_tests}
 use Rattle.fleet_model.specs.Nodes.{Tables, Trees}
 use Rattle.std.proofs.lemmas.Option.{same_Some}
 use Rattle.fleet_model.specs.Jobs.{JobSpec, Job, Jobs, Status, Submitted, Scheduled, Running, Compacted, Completed, Failed, status_eq, is_finished, has_status, is_active, is_stale, changed_jobs, ids}
-use Rattle.fleet_model.specs.Records.{firsts, to_waiting, to_scheduled, to_failed}
-use Rattle.fleet_model.specs.Attempts.{is_last}
-use Rattle.fleet_model.specs.Gates.{first_failing, submit_gate}
+use Rattle.fleet_model.specs.Work.Records.{firsts, to_waiting, to_scheduled, to_failed}
+use Rattle.fleet_model.specs.Work.Attempts.{is_last}
+use Rattle.fleet_model.specs.Work.Gates.{first_failing, submit_gate}
 use Rattle.fleet_model.specs.Store.{Manifest, Records}
 use Rattle.fleet_model.specs.Trees.{tables_now}
-use Rattle.fleet_model.specs.Polls.{PollInput, PollState, poll_begun, free_stale, with_freed, proposals, each, open_job, open_by, lost_to_scheduler}
+use Rattle.fleet_model.specs.Work.Polls.{PollInput, PollState, poll_begun, free_stale, with_freed, proposals, each, open_job, open_by, lost_to_scheduler}
 use Rattle.script_model.specs.Defaults.{quiet_scheduler}
 use Rattle.fleet_run.specs.declared.jobs.AskedJob.{AskedJob}
 use Rattle.fleet_run.specs.Jobs.{Stage, Waits, Runs, Wrote, OpenJob, Judged, judged_by, judge, judge_all, failed_rule, is_above_all, is_apart_from}

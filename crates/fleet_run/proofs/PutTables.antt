@@ -9,9 +9,9 @@ use Rattle.fleet_model.specs.Nodes.{Tables}
 use Rattle.fleet_model.specs.History.{PutTable}
 use Rattle.fleet_model.specs.Jobs.{table_id_of}
 use Rattle.fleet_model.specs.Exchanges.{DrawsTable, PutsTable}
-use Rattle.fleet_model.specs.Records.{firsts}
+use Rattle.fleet_model.specs.Work.Records.{firsts}
 use Rattle.step_model.specs.Entries.{name_in}
-use Rattle.step_model.specs.Course.{Course, Calls, puts_tables}
+use Rattle.step_model.specs.Courses.Course.{Course, Calls, puts_tables}
 use Rattle.fleet_run.specs.Serve.{numbered_tables}
 use Rattle.fleet_run.specs.Holds.{Held, IsStored, rows_in_tables}
 use Rattle.fleet_run.proofs.Calls.{Leads, held_after, call_leads}

@@ -17,7 +17,7 @@ use Rattle.script_model.specs.Grammars.{IsPlain}
 use Rattle.script_model.specs.Replies.{read_reply, not_retained}
 use Rattle.script_model.specs.Defaults.{with_quiet_scheduler}
 use Rattle.script_model.specs.LineRuns.{only_replies}
-use Rattle.script_model.specs.Looks.{read_line}
+use Rattle.script_model.specs.Lines.Looks.{read_line}
 use Rattle.fleet_run.specs.FleetView.{FleetView, AreFlushes}
 use Rattle.fleet_run.specs.Serve.{newest_row, newest_stored, run_tables, value_of, key_reply}
 use Rattle.fleet_run.specs.Holds.{Held, held_parts, Holds, MadeRun, run_of, made_of, all_flushes, AreKept, IsStored, rows_in_tables, open_tables, state_of}

@@ -5,9 +5,9 @@ use Rattle.std.specs.List.{AllByRecursion, list_any, list_all}
 use Rattle.std.proofs.lemmas.Bool.Decides.{nat_tests}
 use Rattle.row_model.specs.Rows.{Row}
 use Rattle.fleet_model.specs.Nodes.{Tables, NodeName, L0, Node, Tree, names, names_contain, node_named}
-use Rattle.fleet_model.specs.Records.{firsts}
+use Rattle.fleet_model.specs.Work.Records.{firsts}
 use Rattle.fleet_model.specs.Sources.{run_ids, older_nodes, or_later, begins_with_run, reaches_oldest}
-use Rattle.fleet_model.specs.Attempts.{is_last}
+use Rattle.fleet_model.specs.Work.Attempts.{is_last}
 use Rattle.fleet_model.specs.Trees.{source_nodes, source_pieces}
 use Rattle.fleet_run.specs.FleetView.{AreFlushes, newest_name}
 use Rattle.fleet_run.specs.Holds.{node_of, MadeRun, run_node, run_of}

@@ -4,10 +4,10 @@ use Rattle.std.specs.List.{AllByRecursion, list_all}
 use Rattle.std.proofs.lemmas.Bool.Decides.{nat_tests}
 use Rattle.fleet_model.specs.Nodes.{Tables, L0, names, names_contain, Trees}
 use Rattle.fleet_model.specs.Jobs.{Job, Jobs, Status, Submitted, Scheduled, Running, Compacted, Completed, Failed, status_eq, is_finished, has_status, is_active, contains, nodes_of}
-use Rattle.fleet_model.specs.Records.{firsts}
+use Rattle.fleet_model.specs.Work.Records.{firsts}
 use Rattle.fleet_model.specs.Sources.{is_apart, run_ids, all_run_ids, is_whole_stretch}
-use Rattle.fleet_model.specs.Attempts.{is_last}
-use Rattle.fleet_model.specs.Gates.{reserves_nodes, is_free, first_failing, submit_gate}
+use Rattle.fleet_model.specs.Work.Attempts.{is_last}
+use Rattle.fleet_model.specs.Work.Gates.{reserves_nodes, is_free, first_failing, submit_gate}
 use Rattle.fleet_run.specs.declared.jobs.AskedJob.{AskedJob}
 use Rattle.fleet_run.specs.Jobs.{is_apart_from, is_above_all, failed_rule}
 use Rattle.fleet_run.specs.FleetView.{AreFlushes}

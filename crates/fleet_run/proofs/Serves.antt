@@ -1,12 +1,12 @@
 -- Lines that no fault strikes: their replies, and what is held after them.
 use Rattle.std.proofs.Common.{◌≡◌, refl, sym, ap, subst, ℕ, List}
 use Rattle.fleet_model.specs.History.{Party}
-use Rattle.fleet_model.specs.Parties.{Parties}
+use Rattle.fleet_model.specs.Work.Parties.{Parties}
 use Rattle.fleet_model.specs.Store.{Store}
-use Rattle.step_model.specs.Course.{Course, Ends}
-use Rattle.step_model.specs.StepEnds.{StepEnd}
+use Rattle.step_model.specs.Courses.Course.{Course, Ends}
+use Rattle.step_model.specs.Courses.StepEnds.{StepEnd}
 use Rattle.script_model.specs.LineRuns.{LineEnd, LineCourse, run_line, after_line, end_or_fault, only_replies, step_line}
-use Rattle.step_model.specs.Alone.{AloneEnd}
+use Rattle.step_model.specs.Courses.Alone.{AloneEnd}
 use Rattle.fleet_run.specs.FleetView.{FleetView}
 use Rattle.fleet_run.specs.Holds.{Held, held_parts, Holds, parties_of, state_of}
 use Rattle.fleet_run.proofs.Calls.{Leads, run_leads, then_leads}

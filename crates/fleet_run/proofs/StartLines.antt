@@ -4,20 +4,20 @@ use Rattle.std.proofs.lemmas.List.{map-append}
 use Rattle.fleet_model.specs.Nodes.{L0}
 use Rattle.fleet_model.specs.History.{Coordinator, Worker, Submitter, Start, Submit, ManifestEpoch, RecordsEpoch}
 use Rattle.fleet_model.specs.Jobs.{JobSpec, Jobs, Two, id_of, put_job, trimmed_jobs}
-use Rattle.fleet_model.specs.Parties.{Parties, coordinator_with, worker_with, without_coordinator, with_coordinator, with_worker}
-use Rattle.fleet_model.specs.Records.{new_job}
+use Rattle.fleet_model.specs.Work.Parties.{Parties, coordinator_with, worker_with, without_coordinator, with_coordinator, with_worker}
+use Rattle.fleet_model.specs.Work.Records.{new_job}
 use Rattle.fleet_model.specs.Store.{Manifest, Store, Records, jobs_in, records_epoch}
 use Rattle.fleet_model.specs.Exchanges.{DrawsJob, PutsRecords, records_version}
-use Rattle.step_model.specs.Course.{Course, Ends, calls_each, then_course, gets_records, puts_manifest}
-use Rattle.step_model.specs.Tries.{tries}
-use Rattle.step_model.specs.StepEnds.{StepEnd, Reports, NoRecords}
-use Rattle.step_model.specs.PollSteps.{start, start_try, epoch_above, puts_epoch, holds_at_start, unless_fenced}
-use Rattle.step_model.specs.SubmitSteps.{submit, submit_by, submits_drawn, submit_try}
+use Rattle.step_model.specs.Courses.Course.{Course, Ends, calls_each, then_course, gets_records, puts_manifest}
+use Rattle.step_model.specs.Courses.Tries.{tries}
+use Rattle.step_model.specs.Courses.StepEnds.{StepEnd, Reports, NoRecords}
+use Rattle.step_model.specs.Steps.PollSteps.{start, start_try, epoch_above, puts_epoch, holds_at_start, unless_fenced}
+use Rattle.step_model.specs.Steps.SubmitSteps.{submit, submit_by, submits_drawn, submit_try}
 use Rattle.script_model.specs.LineRuns.{LineEnd, line_end}
 use Rattle.script_model.specs.Replies.{reply, ok, jobs_text}
-use Rattle.script_model.specs.Starts.{start_coordinator, start_worker, start_notes, killed_first}
+use Rattle.script_model.specs.Lines.Starts.{start_coordinator, start_worker, start_notes, killed_first}
 use Rattle.script_model.specs.States.{State}
-use Rattle.script_model.specs.Submits.{submit_line}
+use Rattle.script_model.specs.Lines.Submits.{submit_line}
 use Rattle.fleet_run.specs.declared.jobs.AskedJob.{AskedJob}
 use Rattle.fleet_run.specs.Jobs.{Stage, Waits, Runs, Wrote, OpenJob}
 use Rattle.fleet_run.specs.FleetView.{FleetView}

@@ -8,7 +8,7 @@ use Rattle.row_model.specs.Fold.{Operator}
 use Rattle.row_model.specs.Settings.{Settings}
 use Rattle.fleet_model.specs.Nodes.{L0, Run}
 use Rattle.fleet_model.specs.Store.{Store}
-use Rattle.step_model.specs.StepEnds.{FlushFault}
+use Rattle.step_model.specs.Courses.StepEnds.{FlushFault}
 use Rattle.script_model.specs.Script.{Line, StartCoordinator, StartWorker, FlushRows, ReadKey, SubmitJob, Poll, ClaimJobs, FinishJob, Dump}
 use Rattle.script_model.specs.Grammars.{job_grammar, IsOfOneJob, IsPlain, starts_coordinator, starts_worker}
 use Rattle.script_model.specs.Defaults.{with_quiet_scheduler}

@@ -6,7 +6,7 @@ use Rattle.row_model.specs.Rows.{Row, IsStrictlyOrdered}
 use Rattle.fleet_model.specs.Nodes.{Tables}
 use Rattle.fleet_model.specs.Trees.{greatest_seq}
 use Rattle.fleet_model.specs.Store.{least_tick}
-use Rattle.step_model.specs.FlushSteps.{is_above}
+use Rattle.step_model.specs.Steps.FlushSteps.{is_above}
 use Rattle.script_model.specs.Grammars.{IsPlain}
 use Rattle.fleet_run.specs.declared.jobs.AskedJob.{AskedJob}
 use Rattle.fleet_run.specs.Jobs.{OpenJob}

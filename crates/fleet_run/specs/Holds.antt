@@ -7,8 +7,8 @@ use Rattle.row_model.specs.Settings.{Settings}
 use Rattle.row_model.specs.KeptRows.{kept_of_keys}
 use Rattle.fleet_model.specs.Nodes.{Tables, Node, L0, Run, Segment}
 use Rattle.fleet_model.specs.Jobs.{drawn_base, JobSpec, Job, Jobs, Scheduled, Running, Compacted, is_active, ids, Two}
-use Rattle.fleet_model.specs.Records.{new_job, firsts}
-use Rattle.fleet_model.specs.Parties.{Parties, LiveCoordinator, LiveWorker, Attempt}
+use Rattle.fleet_model.specs.Work.Records.{new_job, firsts}
+use Rattle.fleet_model.specs.Work.Parties.{Parties, LiveCoordinator, LiveWorker, Attempt}
 use Rattle.fleet_model.specs.Store.{Manifest, Records, Store, jobs_in}
 use Rattle.step_model.specs.Entries.{last_name}
 use Rattle.script_model.specs.States.{State}

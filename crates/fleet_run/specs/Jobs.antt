@@ -4,9 +4,9 @@ use Rattle.std.specs.List.{list_all, list_any}
 use Rattle.row_model.specs.Settings.{Settings}
 use Rattle.row_model.specs.Ranges.{all_keys}
 use Rattle.fleet_model.specs.Nodes.{Tables}
-use Rattle.fleet_model.specs.Attempts.{is_last}
-use Rattle.fleet_model.specs.Parties.{Attempt}
-use Rattle.fleet_model.specs.Gates.{first_failing}
+use Rattle.fleet_model.specs.Work.Attempts.{is_last}
+use Rattle.fleet_model.specs.Work.Parties.{Attempt}
+use Rattle.fleet_model.specs.Work.Gates.{first_failing}
 use Rattle.fleet_rows.specs.Settings.{settings_of}
 use Rattle.fleet_rows.specs.declared.settings.Settings as code_settings
 use Rattle.fleet_run.specs.declared.jobs.AskedJob.{AskedJob}

@@ -6,18 +6,18 @@ use Rattle.row_model.specs.Rows.{Row, Content, Value, Merge, Tombstone, are_orde
 use Rattle.row_model.specs.Fold.{Outcome, Merged}
 use Rattle.row_model.specs.Read.{seen_at}
 use Rattle.row_model.specs.Settings.{Settings}
-use Rattle.row_model.specs.Tables.{cut_tables}
+use Rattle.row_model.specs.Written.Tables.{cut_tables}
 use Rattle.row_model.specs.KeptRows.{kept_of_keys}
 use Rattle.fleet_model.specs.Nodes.{Tables, table_rows, NodeName, L0, Run}
 use Rattle.fleet_model.specs.Jobs.{table_id_of, number_of}
-use Rattle.fleet_model.specs.Records.{firsts}
+use Rattle.fleet_model.specs.Work.Records.{firsts}
 use Rattle.fleet_model.specs.Trees.{greatest_seq}
-use Rattle.fleet_model.specs.Attempts.{is_last}
-use Rattle.fleet_model.specs.Polls.{poll_begun}
+use Rattle.fleet_model.specs.Work.Attempts.{is_last}
+use Rattle.fleet_model.specs.Work.Polls.{poll_begun}
 use Rattle.script_model.specs.Script.{Line, StartCoordinator, StartWorker, FlushRows, ReadKey, SubmitJob, Poll, ClaimJobs, FinishJob, Dump, IsInBounds}
 use Rattle.script_model.specs.Grammars.{IsOfOneJob}
-use Rattle.step_model.specs.StepEnds.{FlushFault, BadName, BadOrder, BadSequence, BadFloor, BadTick}
-use Rattle.step_model.specs.FlushSteps.{is_above}
+use Rattle.step_model.specs.Courses.StepEnds.{FlushFault, BadName, BadOrder, BadSequence, BadFloor, BadTick}
+use Rattle.step_model.specs.Steps.FlushSteps.{is_above}
 use Rattle.script_model.specs.Words.{rows_text}
 use Rattle.script_model.specs.Replies.{reply, ok, read_reply, not_retained, jobs_text, ranges_text, poll_reply, claim_reply, absent_reply}
 use Rattle.script_model.specs.LineRuns.{flush_fault_text}

@@ -6,7 +6,7 @@ ghost use Rattle.row_model.specs.Bounds.{AreRows};
 ghost use Rattle.fleet_rows.specs.declared.errors.SlateDBError.TheVariants as SlateDBError;
 ghost use Rattle.fleet_rows.specs.Row.{row_of, rows_of};
 ghost use Rattle.fleet_text.specs.Lines.{line_of, nodes_of};
-ghost use Rattle.step_model.specs.FlushSteps.{is_above};
+ghost use Rattle.step_model.specs.Steps.FlushSteps.{is_above};
 ghost use Rattle.script_model.specs.Grammars.{IsOneFlush};
 ghost use Rattle.script_model.specs.Replies.{ok};
 ghost use Rattle.fleet_model.specs.Trees.{greater_seq, greatest_seq};

@@ -2,7 +2,7 @@
 
 ghost use Rattle.std.specs.Prelude.{◌≡◌, ◌==◌, nat_lt, [], IfOk, IsOkUnless, OnOk};
 ghost use Rattle.std.specs.List.{list_any, list_all};
-ghost use Rattle.fleet_model.specs.Attempts.{is_last};
+ghost use Rattle.fleet_model.specs.Work.Attempts.{is_last};
 ghost use Rattle.fleet_rows.specs.declared.errors.SlateDBError.TheVariants as SlateDBError;
 ghost use Rattle.fleet_run.specs.Jobs.{is_above_all, is_apart_from, failed_rule, judged_of, judge, judge_all};
 

@@ -3,8 +3,8 @@
 ghost use Rattle.std.specs.Prelude.{◌≡◌, ◌+◌, false, nat_lt, IfOk, IfErr, IsOkUnless};
 ghost use Rattle.std.specs.List.{AllByRecursion};
 ghost use Rattle.row_model.specs.Bounds.{IsInBounds};
-ghost use Rattle.row_model.specs.Sizes.{estimated_size};
-ghost use Rattle.row_model.specs.Tables.{cut_tables};
+ghost use Rattle.row_model.specs.Written.Sizes.{estimated_size};
+ghost use Rattle.row_model.specs.Written.Tables.{cut_tables};
 ghost use Rattle.row_model.specs.KeptRows.{kept_of_keys};
 ghost use Rattle.fleet_fold.specs.Retention.{IsReadable};
 ghost use Rattle.fleet_iter.specs.Iteration.{CanFail};

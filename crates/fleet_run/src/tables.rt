@@ -4,7 +4,7 @@ ghost use Rattle.std.specs.Prelude.{◌≡◌, ◌==◌, ◌++◌, option_map, f
 ghost use Rattle.std.specs.Option.{option_copied};
 ghost use Rattle.fleet_rows.specs.declared.errors.SlateDBError.TheVariants as SlateDBError;
 ghost use Rattle.fleet_rows.specs.Row.{row_of, rows_of};
-ghost use Rattle.fleet_model.specs.Records.{firsts};
+ghost use Rattle.fleet_model.specs.Work.Records.{firsts};
 ghost use Rattle.fleet_run.specs.Serve.{newest_row, run_tables};
 
 use fleet_rows::{RowEntry, SlateDBError, Ulid};

@@ -5,7 +5,7 @@ ghost use Rattle.std.specs.Prelude.{◌≡◌, ◌<◌, ◌∷◌, [], ◌-◌, 
 ghost use Rattle.std.specs.Option.{option_copied};
 ghost use Rattle.std.specs.VecDeque.{deque_len, deque_capacity};
 ghost use Rattle.script_model.specs.Replies.{ok};
-ghost use Rattle.fleet_model.specs.Records.{firsts};
+ghost use Rattle.fleet_model.specs.Work.Records.{firsts};
 ghost use Rattle.fleet_rows.specs.declared.errors.SlateDBError.TheVariants as SlateDBError;
 ghost use Rattle.fleet_rows.specs.Settings.{settings_of};
 ghost use Rattle.fleet_text.specs.Lines.{node_of};

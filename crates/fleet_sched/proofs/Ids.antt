@@ -6,7 +6,7 @@ use Rattle.sched_model.specs.FreshRuns.{above_all, capped_id, destination_list, 
 use Rattle.fleet_model.specs.Sources.{all_run_ids}
 use Rattle.fleet_tree.specs.Trees.{RunFlushes, segment_of}
 use Rattle.fleet_tree.specs.declared.tree.LsmTreeState.{LsmTreeState}
-use Rattle.fleet_jobs.specs.JobParts.{JobParts}
+use Rattle.fleet_jobs.specs.Parts.JobParts.{JobParts}
 use Rattle.fleet_jobs.specs.Jobs.{jobs_of}
 use Rattle.fleet_book.specs.declared.view.CompactorStateView.{CompactorStateView}
 use Rattle.fleet_sched.specs.Ids.{destinations_in, ids_in}

@@ -6,7 +6,7 @@ use Rattle.std.proofs.lemmas.Bool.{le-leb, leb-true, lt-leb}
 use Rattle.std.proofs.lemmas.List.{length-drop, length-take-le, map-append}
 use Rattle.std.proofs.lemmas.List.Folds.{list_all-append}
 use Rattle.std.proofs.lemmas.List.Sums.{fold-append, sum_by-append}
-use Rattle.row_model.specs.Sizes.{saturated_sum}
+use Rattle.row_model.specs.Written.Sizes.{saturated_sum}
 use Rattle.fleet_model.specs.Nodes.{NodeName, Run, names_contain}
 use Rattle.sched_model.specs.Picks.{last_of}
 use Rattle.fleet_model.specs.Sources.{is_apart}

@@ -5,7 +5,7 @@ use Rattle.std.specs.List.{filter_map}
 use Rattle.std.proofs.Math.Seq.{take-append_seam, drop-append_seam}
 use Rattle.std.proofs.lemmas.List.{map-append, length-append}
 use Rattle.std.proofs.lemmas.List.Sums.{sum_by-cons}
-use Rattle.row_model.specs.Sizes.{saturated_sum}
+use Rattle.row_model.specs.Written.Sizes.{saturated_sum}
 use Rattle.fleet_model.specs.Handles.{Handle, tree_tables}
 use Rattle.fleet_model.specs.Nodes.{NodeName, L0, Run, Node}
 use Rattle.sched_model.specs.Sizes.{Sized, SizedTree, sized_flush, sized_nodes, sized_run, sized_tree, sized_trees, tables_size}

@@ -4,13 +4,13 @@ use Rattle.std.specs.Prelude.{filter, find, option_map, option_and_then, bytes_e
 use Rattle.std.specs.List.{filter_map}
 use Rattle.std.proofs.lemmas.Slice.Eq.{bytes_eq-Decides}
 use Rattle.fleet_model.specs.Nodes.{NodeName, L0, Run, is_l0, names, segment_at}
-use Rattle.fleet_model.specs.Scheduler.{full_spec, full_spec_at, into_lowest, lowest_of, one_or_invalid}
+use Rattle.fleet_model.specs.Work.Scheduler.{full_spec, full_spec_at, into_lowest, lowest_of, one_or_invalid}
 use Rattle.fleet_model.specs.Sources.{run_ids}
 use Rattle.fleet_tree.specs.Trees.{RunFlushes, tree_of, segment_of, flush_node, run_node}
 use Rattle.fleet_tree.specs.Views.{View}
 use Rattle.fleet_tree.specs.declared.run.SortedRun.{SortedRun}
 use Rattle.fleet_tree.specs.declared.tree.LsmTreeState.{LsmTreeState}
-use Rattle.fleet_model.specs.Gates.{is_nonempty}
+use Rattle.fleet_model.specs.Work.Gates.{is_nonempty}
 use Rattle.fleet_model.specs.Jobs.{is_drain_to}
 use Rattle.fleet_model.specs.Nodes.{Segment, tree_or_empty}
 use Rattle.fleet_model.specs.Sources.{older_nodes}

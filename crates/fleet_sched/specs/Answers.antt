@@ -2,7 +2,7 @@
 use Rattle.std.specs.Prelude.{◌≡◌, Bool, true, false, List, map, Result, Ok, Err, Vec}
 use Rattle.std.specs.declared.alloc.Global.{Global}
 use Rattle.fleet_model.specs.Jobs.{JobSpec}
-use Rattle.fleet_model.specs.Scheduler as model
+use Rattle.fleet_model.specs.Work.Scheduler as model
 use Rattle.fleet_rows.specs.declared.errors.SlateDBError.{SlateDBError}
 use Rattle.fleet_rows.specs.declared.errors.SlateDBError.TheVariants.{InvalidCompaction, Generate, Memory}
 use Rattle.fleet_jobs.specs.Specs.{spec_of}

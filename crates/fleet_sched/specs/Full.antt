@@ -2,7 +2,7 @@
 use Rattle.std.specs.Prelude.{ℕ, List, find, map, option_and_then, bytes_eq, Option, Some, None}
 use Rattle.fleet_model.specs.Jobs.{JobSpec}
 use Rattle.fleet_model.specs.Nodes.{Run}
-use Rattle.fleet_model.specs.Scheduler.{Generated, lowest_of, one_or_invalid}
+use Rattle.fleet_model.specs.Work.Scheduler.{Generated, lowest_of, one_or_invalid}
 use Rattle.fleet_tree.specs.declared.run.SortedRun.{SortedRun}
 use Rattle.fleet_tree.specs.declared.tree.LsmTreeState.{LsmTreeState}
 use Rattle.fleet_book.specs.declared.view.CompactorStateView.{CompactorStateView}

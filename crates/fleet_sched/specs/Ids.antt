@@ -2,7 +2,7 @@
 use Rattle.std.specs.Prelude.{ℕ, List, flat_map, map}
 use Rattle.sched_model.specs.FreshRuns.{destination_list}
 use Rattle.fleet_tree.specs.declared.tree.LsmTreeState.{LsmTreeState}
-use Rattle.fleet_jobs.specs.JobParts.{JobParts}
+use Rattle.fleet_jobs.specs.Parts.JobParts.{JobParts}
 use Rattle.fleet_jobs.specs.Specs.{destination_of}
 
 -- The ids of the runs of these trees.

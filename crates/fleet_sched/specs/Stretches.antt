@@ -1,6 +1,6 @@
 -- Which jobs the size-tiered scheduler accepts, of the trees of a program.
 use Rattle.std.specs.Prelude.{ℕ, ◌&&◌, Bool, true, false, List, bytes_eq, find, is_some, option_map, Option, Some, None}
-use Rattle.fleet_model.specs.Gates.{is_nonempty}
+use Rattle.fleet_model.specs.Work.Gates.{is_nonempty}
 use Rattle.fleet_model.specs.Nodes.{NodeName}
 use Rattle.fleet_model.specs.Sources.{older_nodes}
 use Rattle.sched_model.specs.SizeTiered.{agree, lowest_run}

@@ -1,13 +1,13 @@
 -- What a program shows to a scheduler, and the model's view of it.
 use Rattle.std.specs.Prelude.{ℕ, List, [], ◌++◌, filter, flat_map, map, Option, Some, None}
 use Rattle.fleet_model.specs.Jobs.{Jobs}
-use Rattle.fleet_model.specs.Scheduler as model
+use Rattle.fleet_model.specs.Work.Scheduler as model
 use Rattle.fleet_tree.specs.Handles.{handle_of}
 use Rattle.fleet_tree.specs.Manifests.{manifest_of}
 use Rattle.fleet_tree.specs.Trees.{RunFlushes, trees_with_prefix}
 use Rattle.fleet_tree.specs.declared.handle.SsTableHandle.{SsTableHandle}
 use Rattle.fleet_tree.specs.declared.tree.LsmTreeState.{LsmTreeState}
-use Rattle.fleet_jobs.specs.JobParts.{JobParts}
+use Rattle.fleet_jobs.specs.Parts.JobParts.{JobParts}
 use Rattle.fleet_jobs.specs.Jobs.{is_open, job_handles, jobs_of}
 use Rattle.fleet_book.specs.VersionedRecords.{VersionedRecords}
 use Rattle.fleet_book.specs.declared.view.CompactorStateView.{CompactorStateView}

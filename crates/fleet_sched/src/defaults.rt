@@ -2,7 +2,7 @@
 
 ghost use Rattle.std.specs.Prelude.{◌≡◌, ◌++◌, ℕ, List, [], ◌∷◌, Ok, map, option_map, IfOk, OnOk};
 ghost use Rattle.std.specs.List.{filter_map};
-ghost use Rattle.fleet_model.specs.Scheduler as model;
+ghost use Rattle.fleet_model.specs.Work.Scheduler as model;
 ghost use Rattle.fleet_model.specs.Nodes.{Run};
 ghost use Rattle.fleet_jobs.specs.Sources.{name_of};
 ghost use Rattle.fleet_book.specs.Requests.{request_of};

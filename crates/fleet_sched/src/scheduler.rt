@@ -1,6 +1,6 @@
 //! What a scheduler is.
 
-ghost use Rattle.fleet_model.specs.Scheduler.{Scheduler};
+ghost use Rattle.fleet_model.specs.Work.Scheduler.{Scheduler};
 ghost use Rattle.fleet_book.specs.Requests.{request_of};
 ghost use Rattle.fleet_jobs.specs.Specs.{spec_of};
 ghost use Rattle.fleet_tree.specs.Trees.{RunFlushes};

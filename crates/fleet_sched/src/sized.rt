@@ -1,7 +1,7 @@
 //! Flushes and runs with their sizes.
 
 ghost use Rattle.std.specs.Prelude.{◌≡◌, ◌+◌, ◌-◌, drop, fold, length, map, IfOk};
-ghost use Rattle.row_model.specs.Sizes.{saturated_sum};
+ghost use Rattle.row_model.specs.Written.Sizes.{saturated_sum};
 ghost use Rattle.fleet_jobs.specs.Sources.{name_of};
 ghost use Rattle.sched_model.specs.Series.{oldest};
 ghost use Rattle.sched_model.specs.Sizes.{flush_names, run_names, total_size};

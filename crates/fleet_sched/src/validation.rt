@@ -1,7 +1,7 @@
 //! Which jobs the size-tiered scheduler accepts.
 
 ghost use Rattle.std.specs.Prelude.{◌≡◌, ◌&&◌, map, Some, IfOk, is_some};
-ghost use Rattle.fleet_model.specs.Gates.{is_nonempty};
+ghost use Rattle.fleet_model.specs.Work.Gates.{is_nonempty};
 ghost use Rattle.fleet_model.specs.Sources.{older_nodes};
 ghost use Rattle.sched_model.specs.SizeTiered.{agree, lowest_run, tiered_validate};
 ghost use Rattle.fleet_tree.specs.Trees.{RunFlushes};

@@ -3,8 +3,8 @@ use Rattle.std.proofs.Common.{◌≡◌, refl, sym, ◌∙◌, subst, ℕ, ◌+�
 use Rattle.std.specs.Prelude.{◌⊎◌}
 use Rattle.std.specs.List.{zip}
 use Rattle.fleet_model.specs.Exchanges.{DrawsJob, next_job_id}
-use Rattle.step_model.specs.Course.{Course, Calls, draws_jobs}
-use Rattle.step_model.specs.StepEnds.{StepEnd}
+use Rattle.step_model.specs.Courses.Course.{Course, Calls, draws_jobs}
+use Rattle.step_model.specs.Courses.StepEnds.{StepEnd}
 use Rattle.fleet_rows.specs.declared.errors.SlateDBError.{SlateDBError}
 use Rattle.fleet_rows.specs.declared.errors.SlateDBError.TheVariants.{Memory}
 use Rattle.step_model.specs.Views.{StoreView}

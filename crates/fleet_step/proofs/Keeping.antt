@@ -2,12 +2,12 @@
 use Rattle.std.proofs.Common.{◌≡◌, subst, sym, Option, Some, None, Result}
 use Rattle.row_model.specs.Fold.{IsLawful}
 use Rattle.step_model.specs.Rivals.{Caller}
-use Rattle.step_model.specs.Keeps.{Keeps}
+use Rattle.step_model.specs.Kept.Keeps.{Keeps}
 use Rattle.step_model.specs.Views.{StoreView}
-use Rattle.step_model.specs.Course.{Course}
-use Rattle.step_model.specs.CourseRuns.{End, IsLawfulCourse}
+use Rattle.step_model.specs.Courses.Course.{Course}
+use Rattle.step_model.specs.Courses.CourseRuns.{End, IsLawfulCourse}
 use Rattle.step_model.specs.LawfulRecords.{OfSome}
-use Rattle.step_model.specs.StepEnds.{StepEnd}
+use Rattle.step_model.specs.Courses.StepEnds.{StepEnd}
 use Rattle.step_laws.proofs.RanLaws.{ran_runs}
 use Rattle.step_laws.proofs.Runs.{runs_keep}
 use Rattle.commit_laws.proofs.AllCalls.{calls_keep}

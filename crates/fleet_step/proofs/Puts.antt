@@ -7,9 +7,9 @@ use Rattle.fleet_model.specs.Store.{Records, Store}
 use Rattle.step_model.specs.Past.{World}
 use Rattle.step_model.specs.Rivals.{Caller, Rivals}
 use Rattle.step_model.specs.Lawful.{Lawful}
-use Rattle.step_model.specs.Course.{Course, Calls, gets_records}
-use Rattle.step_model.specs.CourseRuns.{IsLawfulCourse}
-use Rattle.step_model.specs.StepEnds.{StepEnd}
+use Rattle.step_model.specs.Courses.Course.{Course, Calls, gets_records}
+use Rattle.step_model.specs.Courses.CourseRuns.{IsLawfulCourse}
+use Rattle.step_model.specs.Courses.StepEnds.{StepEnd}
 use Rattle.fleet_rows.specs.declared.errors.SlateDBError.{SlateDBError}
 use Rattle.fleet_book.specs.VersionedRecords.{VersionedRecords}
 use Rattle.fleet_book.specs.Versions.{records_of}

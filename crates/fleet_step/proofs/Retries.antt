@@ -1,8 +1,8 @@
 -- Steps that try again when a put was refused.
 use Rattle.std.proofs.Common.{◌≡◌, refl, ◌∙◌, ap, subst, ℕ, zero, suc, ◌+◌, Some, None, Result, Err, add-one}
-use Rattle.step_model.specs.Course.{Course, Ends}
-use Rattle.step_model.specs.StepEnds.{StepEnd, GivesUp}
-use Rattle.step_model.specs.Tries.{Try, counted_tries}
+use Rattle.step_model.specs.Courses.Course.{Course, Ends}
+use Rattle.step_model.specs.Courses.StepEnds.{StepEnd, GivesUp}
+use Rattle.step_model.specs.Courses.Tries.{Try, counted_tries}
 use Rattle.step_model.specs.Views.{StoreView}
 use Rattle.fleet_rows.specs.declared.errors.SlateDBError.{SlateDBError}
 use Rattle.fleet_rows.specs.declared.errors.SlateDBError.TheVariants.{Conflict}

@@ -4,14 +4,14 @@ use Rattle.fleet_model.specs.Exchanges.{Exchange}
 use Rattle.fleet_model.specs.Store.{Store}
 use Rattle.step_model.specs.Past.{World}
 use Rattle.step_model.specs.Rivals.{Caller, Rivals}
-use Rattle.step_model.specs.Course.{Course, Ends, Calls}
-use Rattle.step_model.specs.CourseRuns.{End, Gives, MeetsFault, LacksMemory, IsLawfulCourse}
-use Rattle.step_model.specs.StepEnds.{StepEnd, GivesUp}
+use Rattle.step_model.specs.Courses.Course.{Course, Ends, Calls}
+use Rattle.step_model.specs.Courses.CourseRuns.{End, Gives, MeetsFault, LacksMemory, IsLawfulCourse}
+use Rattle.step_model.specs.Courses.StepEnds.{StepEnd, GivesUp}
 use Rattle.step_model.specs.LawfulRecords.{OfSome}
 use Rattle.fleet_rows.specs.declared.errors.SlateDBError.{SlateDBError}
 use Rattle.fleet_rows.specs.declared.errors.SlateDBError.TheVariants.{IteratorNotInitialized, IteratorFailed, MergeOperatorMissing, InvalidSequenceOrder, MergeOperator, CompactionFilter, InvalidCompaction, InvalidDBState, Fenced, StoreFault, NotOwner, Conflict, Generate, Memory}
 use Rattle.step_model.specs.Views.{StoreView, SameCaller}
-use Rattle.step_model.specs.Ran.{Ran}
+use Rattle.step_model.specs.Courses.Ran.{Ran}
 use Rattle.fleet_store.specs.Called.{Called, IsMade, IsStruck, IsNotMade}
 use Rattle.fleet_step.specs.Steps.{FaultsRise, RunsTo, StepRan, TryRan, Leads, end_of, refused_at}
 use Rattle.step_model.specs.Later.{IsLater}

@@ -7,14 +7,14 @@ use Rattle.fleet_model.specs.History.{ManifestEpoch}
 use Rattle.fleet_model.specs.Store.{Manifest, Store}
 use Rattle.step_model.specs.Past.{World}
 use Rattle.step_model.specs.Rivals.{Rivals}
-use Rattle.step_model.specs.Course.{Course, Ends, Calls, gets_manifest}
-use Rattle.step_model.specs.CourseRuns.{IsLawfulCourse}
-use Rattle.step_model.specs.StepEnds.{StepEnd, Fenced}
+use Rattle.step_model.specs.Courses.Course.{Course, Ends, Calls, gets_manifest}
+use Rattle.step_model.specs.Courses.CourseRuns.{IsLawfulCourse}
+use Rattle.step_model.specs.Courses.StepEnds.{StepEnd, Fenced}
 use Rattle.fleet_rows.specs.declared.errors.SlateDBError.{SlateDBError}
 use Rattle.fleet_rows.specs.declared.errors.SlateDBError.TheVariants as error
 use Rattle.fleet_tree.specs.declared.manifest.VersionedManifest.{VersionedManifest}
 use Rattle.fleet_tree.specs.declared.manifest.Manifest as own
-use Rattle.fleet_jobs.specs.JobParts.{JobParts}
+use Rattle.fleet_jobs.specs.Parts.JobParts.{JobParts}
 use Rattle.fleet_book.specs.declared.compactions.Compactions.{Compactions}
 use Rattle.fleet_history.specs.Changes.{manifest_change_of}
 use Rattle.fleet_history.specs.declared.manifest_change.ManifestChange as own_change

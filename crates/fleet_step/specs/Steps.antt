@@ -3,15 +3,15 @@ use Rattle.std.specs.Prelude.{◌≡◌, ℕ, ◌+◌, ◌++◌, ◌==◌, if◌
 use Rattle.fleet_model.specs.Exchanges.{Exchange, Fault, records_version}
 use Rattle.fleet_model.specs.Store.{Store}
 use Rattle.step_model.specs.Past.{World}
-use Rattle.step_model.specs.Course.{Course, Calls}
-use Rattle.step_model.specs.CourseRuns.{End, Gives, MeetsFault, LacksMemory, IsLawfulCourse}
-use Rattle.step_model.specs.StepEnds.{StepEnd, GivesUp, Fenced, NotOwner, NoRecords, Invalid, Declined, OperatorRefuses}
+use Rattle.step_model.specs.Courses.Course.{Course, Calls}
+use Rattle.step_model.specs.Courses.CourseRuns.{End, Gives, MeetsFault, LacksMemory, IsLawfulCourse}
+use Rattle.step_model.specs.Courses.StepEnds.{StepEnd, GivesUp, Fenced, NotOwner, NoRecords, Invalid, Declined, OperatorRefuses}
 use Rattle.step_model.specs.LawfulRecords.{OfSome}
 use Rattle.fleet_rows.specs.declared.errors.MergeOperatorError.TheVariants.{Callback}
 use Rattle.fleet_rows.specs.declared.errors.SlateDBError.{SlateDBError}
 use Rattle.fleet_rows.specs.declared.errors.SlateDBError.TheVariants as error
 use Rattle.step_model.specs.Views.{StoreView, SameCaller}
-use Rattle.step_model.specs.Ran.{Ran}
+use Rattle.step_model.specs.Courses.Ran.{Ran}
 use Rattle.step_model.specs.Later.{IsLater}
 
 -- ---- how a result tells the end of a run

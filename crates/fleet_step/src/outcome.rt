@@ -1,7 +1,7 @@
 //! How steps end.
 
 ghost use Rattle.std.specs.Prelude.{◌≡◌, ℕ};
-ghost use Rattle.step_model.specs.StepEnds.{most_refused};
+ghost use Rattle.step_model.specs.Courses.StepEnds.{most_refused};
 ghost use Rattle.fleet_step.specs.Steps.{put_answer, refused_at, stops};
 
 use fleet_rows::SlateDBError;

@@ -3,7 +3,7 @@ use Rattle.std.proofs.Common.{Bool, true, false, cond, List, [], ◌∷◌, ◌+
 use Rattle.std.specs.Prelude.{flat_map}
 use Rattle.std.specs.List.{AllByRecursion}
 use Rattle.fleet_model.specs.Store.{Store}
-use Rattle.fleet_jobs.specs.JobParts.{JobParts}
+use Rattle.fleet_jobs.specs.Parts.JobParts.{JobParts}
 use Rattle.fleet_jobs.specs.Jobs.{is_open, job_handles}
 use Rattle.fleet_book.specs.Records.{kept_records, over_later}
 use Rattle.fleet_store.specs.Handles.{IsDescribed}

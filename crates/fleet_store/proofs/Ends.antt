@@ -18,7 +18,7 @@ use Rattle.fleet_book.specs.declared.compactions.Compactions.{Compactions}
 use Rattle.fleet_history.specs.declared.record_change.RecordChange.{RecordChange}
 use Rattle.fleet_rows.specs.declared.errors.SlateDBError.{SlateDBError}
 use Rattle.fleet_rows.specs.declared.errors.SlateDBError.TheVariants.{IteratorNotInitialized, IteratorFailed, MergeOperatorMissing, InvalidSequenceOrder, MergeOperator, CompactionFilter, InvalidCompaction, InvalidDBState, Fenced, StoreFault, NotOwner, Conflict, Generate, Memory}
-use Rattle.step_model.specs.Ran.{Spares, Strikes}
+use Rattle.step_model.specs.Courses.Ran.{Spares, Strikes}
 use Rattle.fleet_store.specs.Asks.{GetsRecords, PutsRecords}
 use Rattle.fleet_store.specs.Called.{Called, Ended, IsMade, Never, PutsNext, ShowsStored}
 use Rattle.fleet_store.specs.Exchanges.{records_put}

@@ -14,7 +14,7 @@ use Rattle.step_laws.proofs.Later.{call_later, later_itself, later_then, rivals_
 use Rattle.fleet_tree.specs.Views.{View}
 use Rattle.fleet_tree.specs.declared.handle.SsTableHandle.{SsTableHandle}
 use Rattle.fleet_tree.specs.declared.manifest.VersionedManifest.{VersionedManifest}
-use Rattle.fleet_jobs.specs.JobParts.{JobParts}
+use Rattle.fleet_jobs.specs.Parts.JobParts.{JobParts}
 use Rattle.fleet_book.specs.VersionedRecords.{VersionedRecords}
 use Rattle.fleet_store.specs.Handles.{IsDescribed, NamesTable}
 use Rattle.fleet_rows.specs.declared.errors.SlateDBError.{SlateDBError}

@@ -11,7 +11,7 @@ use Rattle.step_model.specs.Views.{StoreView}
 use Rattle.fleet_rows.specs.declared.errors.SlateDBError.{SlateDBError}
 use Rattle.fleet_tree.specs.declared.manifest.Manifest.{Manifest}
 use Rattle.fleet_tree.specs.declared.manifest.VersionedManifest.{VersionedManifest}
-use Rattle.fleet_jobs.specs.JobParts.{JobParts}
+use Rattle.fleet_jobs.specs.Parts.JobParts.{JobParts}
 use Rattle.fleet_book.specs.VersionedRecords.{VersionedRecords}
 use Rattle.fleet_book.specs.declared.compactions.Compactions.{Compactions}
 use Rattle.fleet_history.specs.Changes.{manifest_change_of}

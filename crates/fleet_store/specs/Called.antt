@@ -6,8 +6,8 @@ use Rattle.fleet_model.specs.Store.{Store}
 use Rattle.step_model.specs.Past.{World}
 use Rattle.step_model.specs.Rivals.{Rivals, after_call}
 use Rattle.step_model.specs.Views.{StoreView, SameCaller}
-use Rattle.step_model.specs.CourseRuns.{HasRoom}
-use Rattle.step_model.specs.Ran.{Spares, Strikes}
+use Rattle.step_model.specs.Courses.CourseRuns.{HasRoom}
+use Rattle.step_model.specs.Courses.Ran.{Spares, Strikes}
 use Rattle.fleet_rows.specs.declared.errors.SlateDBError.{SlateDBError}
 use Rattle.fleet_rows.specs.declared.errors.SlateDBError.TheVariants.{StoreFault, Conflict, Memory}
 

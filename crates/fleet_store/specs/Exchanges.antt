@@ -3,7 +3,7 @@ use Rattle.std.specs.Prelude.{ℕ, List}
 use Rattle.fleet_model.specs.Exchanges as model
 use Rattle.fleet_model.specs.Store as model_store
 use Rattle.fleet_tree.specs.declared.manifest.Manifest.{Manifest}
-use Rattle.fleet_jobs.specs.JobParts.{JobParts}
+use Rattle.fleet_jobs.specs.Parts.JobParts.{JobParts}
 use Rattle.fleet_jobs.specs.Jobs.{jobs_of}
 use Rattle.fleet_book.specs.declared.compactions.Compactions.{Compactions}
 use Rattle.fleet_history.specs.Changes.{manifest_change_of, record_change_of}

@@ -11,7 +11,7 @@ use Rattle.step_model.specs.Rivals.{Strike, after_call}
 use Rattle.fleet_tree.specs.Views.{View}
 use Rattle.fleet_tree.specs.declared.handle.SsTableHandle.{SsTableHandle}
 use Rattle.fleet_tree.specs.declared.manifest.VersionedManifest.{VersionedManifest}
-use Rattle.fleet_jobs.specs.JobParts.{JobParts}
+use Rattle.fleet_jobs.specs.Parts.JobParts.{JobParts}
 use Rattle.fleet_book.specs.VersionedRecords.{VersionedRecords}
 use Rattle.fleet_store.specs.Asks.{GetsManifest, GetsRecords}
 use Rattle.fleet_store.specs.Handles.{IsDescribed, NamesTable}

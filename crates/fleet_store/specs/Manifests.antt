@@ -8,7 +8,7 @@ use Rattle.fleet_model.specs.Jobs.{JobSpec}
 use Rattle.fleet_model.specs.History as model
 use Rattle.fleet_model.specs.Store as model_store
 use Rattle.fleet_model.specs.Trees.{flushed_trees, stepped_all}
-use Rattle.fleet_model.specs.Replay.{outputs_in}
+use Rattle.fleet_model.specs.Past.Replay.{outputs_in}
 use Rattle.fleet_tree.specs.Manifests.{manifest_of}
 use Rattle.fleet_tree.specs.Trees.{trees_of, trees_with_prefix}
 use Rattle.fleet_tree.specs.Views.{View}
@@ -16,7 +16,7 @@ use Rattle.fleet_tree.specs.declared.manifest.Manifest.{Manifest}
 use Rattle.fleet_tree.specs.declared.manifest.ManifestCore.{ManifestCore}
 use Rattle.fleet_tree.specs.declared.manifest.VersionedManifest.{VersionedManifest}
 use Rattle.fleet_tree.specs.declared.tree.LsmTreeState.{LsmTreeState}
-use Rattle.fleet_jobs.specs.JobParts.{JobParts}
+use Rattle.fleet_jobs.specs.Parts.JobParts.{JobParts}
 use Rattle.fleet_jobs.specs.Specs.{spec_of}
 use Rattle.fleet_book.specs.Records.{record_with}
 use Rattle.fleet_book.specs.declared.compactions.Compactions.{Compactions}

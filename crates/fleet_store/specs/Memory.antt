@@ -10,7 +10,7 @@ use Rattle.fleet_model.specs.Exchanges.{Exchange, Fault, PutsRecords, event_of, 
 use Rattle.fleet_model.specs.Store.{Store, held_tables}
 use Rattle.step_model.specs.Past.{World}
 use Rattle.step_model.specs.Rivals.{Strike, after_call}
-use Rattle.step_model.specs.CourseRuns.{HasRoom}
+use Rattle.step_model.specs.Courses.CourseRuns.{HasRoom}
 use Rattle.fleet_rows.specs.declared.errors.SlateDBError.{SlateDBError}
 use Rattle.fleet_rows.specs.declared.errors.SlateDBError.TheVariants.{StoreFault, Conflict, Memory}
 use Rattle.fleet_tree.specs.declared.manifest.VersionedManifest.{VersionedManifest}

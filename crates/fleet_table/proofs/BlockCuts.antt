@@ -5,8 +5,8 @@ use Rattle.std.specs.List.{AllByRecursion}
 use Rattle.std.proofs.lemmas.List.{append_assoc, append-nil}
 use Rattle.row_model.specs.Bounds.{IsInBounds}
 use Rattle.row_model.specs.Rows.{Row}
-use Rattle.row_model.specs.Sizes.{Block, blocks, estimated_size, saturated_sum, table_size}
-use Rattle.row_model.specs.TableBytes.{blocks_of_rows}
+use Rattle.row_model.specs.Written.Sizes.{Block, blocks, estimated_size, saturated_sum, table_size}
+use Rattle.row_model.specs.Written.TableBytes.{blocks_of_rows}
 use Rattle.fleet_tree.proofs.Sizes.{stops_once}
 use Rattle.fleet_block.specs.Laws.{index_from}
 use Rattle.std.specs.Prelude.{slice_index_or}

@@ -6,8 +6,8 @@ use Rattle.std.proofs.lemmas.Grind.{flat_map-append}
 use Rattle.std.proofs.lemmas.Option.{slice_get-map}
 use Rattle.std.proofs.lemmas.List.{append_assoc, length-append, length-drop, take-append-drop, take_all, take_at}
 use Rattle.row_model.specs.Rows.{Row}
-use Rattle.row_model.specs.Sizes.{Block, blocks, estimated_size, saturated_sum}
-use Rattle.row_model.specs.TableBytes.{blocks_of_rows, bytes_of_blocks, row_bytes, rows_bytes, table_bytes, IsWritable}
+use Rattle.row_model.specs.Written.Sizes.{Block, blocks, estimated_size, saturated_sum}
+use Rattle.row_model.specs.Written.TableBytes.{blocks_of_rows, bytes_of_blocks, row_bytes, rows_bytes, table_bytes, IsWritable}
 use Rattle.fleet_block.specs.Finds.{joined_rows}
 use Rattle.fleet_block.specs.Laws.{index_from, rows_place}
 use Rattle.fleet_block.specs.Places.{places_from}

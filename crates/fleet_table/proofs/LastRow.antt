@@ -10,7 +10,7 @@ use Rattle.row_model.specs.Rows.{Row, key_cmp, row_cmp, IsStrictlyOrdered}
 use Rattle.row_laws.proofs.KeyRows.{key_alike}
 use Rattle.fleet_model.specs.Handles.{seq_of_last}
 use Rattle.fleet_model.specs.Trees.{first_key, last_key}
-use Rattle.row_model.specs.Sizes.{blocks}
+use Rattle.row_model.specs.Written.Sizes.{blocks}
 use Rattle.fleet_tree.specs.Handles.{blocks_of}
 use Rattle.fleet_tree.specs.declared.block.BlockMeta.{BlockMeta}
 use Rattle.fleet_rows.specs.declared.row.RowEntry.{RowEntry}

@@ -4,7 +4,7 @@ use Rattle.std.specs.List.{flat_map}
 use Rattle.std.specs.declared.cmp.Ordering.{Ordering}
 use Rattle.std.specs.declared.cmp.Ordering.TheVariants.{Less, Equal, Greater}
 use Rattle.row_model.specs.Rows.{Row, key_cmp}
-use Rattle.row_model.specs.TableBytes.{blocks_of_rows, row_bytes, rows_bytes, table_bytes}
+use Rattle.row_model.specs.Written.TableBytes.{blocks_of_rows, row_bytes, rows_bytes, table_bytes}
 use Rattle.fleet_rows.specs.Row.{row_of}
 use Rattle.fleet_rows.specs.declared.row.RowEntry.{RowEntry}
 use Rattle.fleet_block.specs.Finds.{joined_rows}

@@ -3,8 +3,8 @@ use Rattle.std.specs.Prelude.{◌≡◌, ◌≢◌, ℕ, List, [], length}
 use Rattle.std.specs.List.{AllByRecursion}
 use Rattle.row_model.specs.Bounds.{IsInBounds}
 use Rattle.row_model.specs.Rows.{Row, IsStrictlyOrdered}
-use Rattle.row_model.specs.Sizes.{blocks, table_size}
-use Rattle.row_model.specs.TableBytes.{blocks_of_rows, table_bytes, IsWritable}
+use Rattle.row_model.specs.Written.Sizes.{blocks, table_size}
+use Rattle.row_model.specs.Written.TableBytes.{blocks_of_rows, table_bytes, IsWritable}
 use Rattle.fleet_model.specs.Handles.{seq_of_last}
 use Rattle.fleet_model.specs.Trees as trees
 use Rattle.fleet_block.specs.Places.{places_from}

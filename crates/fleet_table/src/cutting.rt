@@ -3,7 +3,7 @@
 ghost use Rattle.std.specs.Prelude.{◌≡◌, ◌+◌, IfOk, IsOkUnless, sum_by};
 ghost use Rattle.std.specs.List.{AllByRecursion};
 ghost use Rattle.row_model.specs.Bounds.{IsInBounds};
-ghost use Rattle.row_model.specs.Sizes.{blocks, estimated_size, saturated_sum, table_size};
+ghost use Rattle.row_model.specs.Written.Sizes.{blocks, estimated_size, saturated_sum, table_size};
 ghost use Rattle.fleet_rows.specs.Row.{rows_of};
 ghost use Rattle.fleet_tree.specs.Handles.{blocks_of};
 

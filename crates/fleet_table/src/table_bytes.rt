@@ -6,7 +6,7 @@ ghost use Rattle.std.specs.Ordering.{is_le};
 ghost use Rattle.row_model.specs.Bounds.{IsInBounds};
 ghost use Rattle.row_model.specs.Read.{seen_at};
 ghost use Rattle.row_model.specs.Rows.{key_cmp, rows_of_key, IsStrictlyOrdered};
-ghost use Rattle.row_model.specs.TableBytes.{blocks_of_rows, row_bytes, rows_bytes, table_bytes, IsTaken};
+ghost use Rattle.row_model.specs.Written.TableBytes.{blocks_of_rows, row_bytes, rows_bytes, table_bytes, IsTaken};
 ghost use Rattle.fleet_block.specs.Places.{places_from};
 ghost use Rattle.fleet_model.specs.Handles.{describe};
 ghost use Rattle.fleet_rows.specs.Row.{row_of, rows_of};

@@ -1,5 +1,5 @@
 -- The program's kinds of faults of a flush, seen as the model's.
-use Rattle.step_model.specs.StepEnds as model
+use Rattle.step_model.specs.Courses.StepEnds as model
 use Rattle.fleet_text.specs.declared.report.FlushFault.{FlushFault}
 use Rattle.fleet_text.specs.declared.report.FlushFault.TheVariants.{Name, Segment, Order, Sequence, Floor, Tick}
 

@@ -1,5 +1,5 @@
 -- The program's pages of scans, seen as the model's.
-use Rattle.script_model.specs.Scans as model
+use Rattle.script_model.specs.Lines.Scans as model
 use Rattle.fleet_text.specs.declared.report.ScanEnd.{ScanEnd}
 use Rattle.fleet_text.specs.declared.report.ScanEnd.TheVariants.{NoneLeft, RefusedAt, StopsBefore}
 use Rattle.fleet_text.specs.declared.report.Page.{Page}

@@ -7,7 +7,7 @@ ghost use Rattle.fleet_rows.specs.declared.errors.SlateDBError.TheVariants as Sl
 ghost use Rattle.script_model.specs.LineRuns.{flush_fault_text};
 ghost use Rattle.script_model.specs.Replies as replies;
 ghost use Rattle.script_model.specs.Replies.{reply};
-ghost use Rattle.script_model.specs.Settles.{settled_reply, all_taken};
+ghost use Rattle.script_model.specs.Lines.Settles.{settled_reply, all_taken};
 ghost use Rattle.script_model.specs.Words.{bytes_text};
 ghost use Rattle.fleet_text.specs.Faults.{fault_of};
 

@@ -7,7 +7,7 @@ ghost use Rattle.fleet_jobs.specs.Jobs.{jobs_of};
 ghost use Rattle.fleet_tree.specs.Trees.{RunFlushes, trees_of, trees_with_prefix};
 ghost use Rattle.script_model.specs.Replies as replies;
 ghost use Rattle.script_model.specs.Replies.{reply, jobs_text, rules_text, ranges_text, semicolon};
-ghost use Rattle.script_model.specs.Scans.{scan_reply, pair_text};
+ghost use Rattle.script_model.specs.Lines.Scans.{scan_reply, pair_text};
 ghost use Rattle.script_model.specs.Words.{list_text, rows_text};
 ghost use Rattle.fleet_text.specs.Pages.{page_of};
 ghost use Rattle.fleet_text.specs.Printed.{attempt_begun, counted_tables, polled_text, tree_text};

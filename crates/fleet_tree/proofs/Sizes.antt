@@ -2,7 +2,7 @@
 use Rattle.std.proofs.Common.{◌≡◌, ◌∙◌, ap, ℕ, ◌+◌, List, [], ◌∷◌, arith}
 use Rattle.std.specs.Prelude.{fold, sum_by}
 use Rattle.std.proofs.lemmas.List.Sums.{sum_by-cons}
-use Rattle.row_model.specs.Sizes.{saturated_sum}
+use Rattle.row_model.specs.Written.Sizes.{saturated_sum}
 
 -- Stopping the first part of a sum at 2^64 - 1 does not change the stopped sum.
 pub stops_once : (a b : ℕ) → saturated_sum (saturated_sum a + b) ≡ saturated_sum (a + b)

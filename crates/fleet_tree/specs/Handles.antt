@@ -1,6 +1,6 @@
 -- These functions turn a program's descriptions of tables into handles of the model.
 use Rattle.std.specs.Prelude.{List, map}
-use Rattle.row_model.specs.Sizes.{Block}
+use Rattle.row_model.specs.Written.Sizes.{Block}
 use Rattle.fleet_model.specs.Handles.{Handle}
 use Rattle.fleet_tree.specs.declared.block.BlockMeta.{BlockMeta}
 use Rattle.fleet_tree.specs.declared.handle.SsTableHandle.{SsTableHandle}

@@ -1,7 +1,7 @@
 //! Sorted runs.
 
 ghost use Rattle.std.specs.Prelude.{◌≡◌, ◌+◌, fold, IfOk, IsOkUnless};
-ghost use Rattle.row_model.specs.Sizes.{saturated_sum};
+ghost use Rattle.row_model.specs.Written.Sizes.{saturated_sum};
 ghost use Rattle.fleet_tree.specs.Sizes.{run_size};
 
 use crate::{SsTableView, ViewList};

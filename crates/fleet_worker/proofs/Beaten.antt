@@ -6,17 +6,17 @@ use Rattle.std.proofs.lemmas.Cmp.{nat_eq_equiv}
 use Rattle.fleet_model.specs.Exchanges.{PutsRecords}
 use Rattle.fleet_model.specs.History as model
 use Rattle.fleet_model.specs.Jobs.{Jobs, changed_jobs, contains, trimmed_jobs}
-use Rattle.fleet_model.specs.Parties.{Attempt, attempt_at, attempt_jobs, is_live, named_attempts}
-use Rattle.fleet_model.specs.Records.{Unrecorded, beaten_by, firsts, jobs_after}
+use Rattle.fleet_model.specs.Work.Parties.{Attempt, attempt_at, attempt_jobs, is_live, named_attempts}
+use Rattle.fleet_model.specs.Work.Records.{Unrecorded, beaten_by, firsts, jobs_after}
 use Rattle.fleet_model.specs.Store.{Store}
-use Rattle.step_model.specs.BeatSteps as step
-use Rattle.step_model.specs.BeatSteps.{Beaten, beat_by, beat_of, beat_report, published_by}
-use Rattle.step_model.specs.Course.{Course, Ends}
-use Rattle.step_model.specs.StepEnds.{StepEnd, Reports}
+use Rattle.step_model.specs.Steps.BeatSteps as step
+use Rattle.step_model.specs.Steps.BeatSteps.{Beaten, beat_by, beat_of, beat_report, published_by}
+use Rattle.step_model.specs.Courses.Course.{Course, Ends}
+use Rattle.step_model.specs.Courses.StepEnds.{StepEnd, Reports}
 use Rattle.fleet_plan.specs.Parts.{Part}
 use Rattle.fleet_tree.specs.declared.handle.SsTableHandle.{SsTableHandle}
 use Rattle.fleet_jobs.specs.Contexts.{ranges_in}
-use Rattle.fleet_jobs.specs.JobParts.{JobParts}
+use Rattle.fleet_jobs.specs.Parts.JobParts.{JobParts}
 use Rattle.fleet_jobs.specs.Jobs.{job_handles, job_of, jobs_of}
 use Rattle.fleet_book.specs.Records.{kept_records}
 use Rattle.fleet_book.specs.VersionedRecords.{VersionedRecords}

@@ -1,13 +1,13 @@
 -- The turns of a heartbeat.
 use Rattle.std.proofs.Common.{◌≡◌, ◌≢◌, refl, ap, subst, ℕ, true, cond, map, List, [], ◌∷◌, None, Ok}
 use Rattle.row_model.specs.Fold.{IsLawful}
-use Rattle.fleet_model.specs.Gates.{is_nonempty}
-use Rattle.fleet_model.specs.Parties.{LiveWorker}
-use Rattle.step_model.specs.BeatSteps.{Beaten, beat_report, beat_try, heartbeat}
-use Rattle.step_model.specs.Tries.{tries}
-use Rattle.step_model.specs.Course.{Ends}
-use Rattle.step_model.specs.CourseRuns.{IsLawfulCourse}
-use Rattle.step_model.specs.StepEnds.{Reports, most_refused}
+use Rattle.fleet_model.specs.Work.Gates.{is_nonempty}
+use Rattle.fleet_model.specs.Work.Parties.{LiveWorker}
+use Rattle.step_model.specs.Steps.BeatSteps.{Beaten, beat_report, beat_try, heartbeat}
+use Rattle.step_model.specs.Courses.Tries.{tries}
+use Rattle.step_model.specs.Courses.Course.{Ends}
+use Rattle.step_model.specs.Courses.CourseRuns.{IsLawfulCourse}
+use Rattle.step_model.specs.Courses.StepEnds.{Reports, most_refused}
 use Rattle.commit_laws.proofs.AllCalls.{calls_keep}
 use Rattle.course_laws.proofs.Beats.{beats_are_lawful}
 use Rattle.worker_laws.proofs.Beats.{beats_keep_fit}

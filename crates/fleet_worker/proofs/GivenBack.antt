@@ -4,24 +4,24 @@ use Rattle.std.specs.Prelude.{◌==◌, map, flat_map, Some, None}
 use Rattle.std.specs.List.{AllByRecursion}
 use Rattle.fleet_model.specs.Jobs.{Jobs, changed_jobs, contains, trimmed_jobs}
 use Rattle.fleet_model.specs.History as model
-use Rattle.fleet_model.specs.Records.{firsts, to_waiting}
-use Rattle.fleet_jobs.specs.JobParts.{JobParts}
+use Rattle.fleet_model.specs.Work.Records.{firsts, to_waiting}
+use Rattle.fleet_jobs.specs.Parts.JobParts.{JobParts}
 use Rattle.fleet_jobs.specs.Jobs.{job_handles, job_of, jobs_of}
 use Rattle.fleet_book.specs.Records.{AreRising, kept_records}
 use Rattle.fleet_book.specs.declared.compactions.Compactions.{Compactions}
 use Rattle.fleet_store.specs.Records.{DescribeTables}
 use Rattle.fleet_store.proofs.Described.{kept_describe}
 use Rattle.fleet_model.specs.Exchanges.{PutsRecords}
-use Rattle.fleet_model.specs.Records.{jobs_after}
-use Rattle.step_model.specs.BeatSteps.{release_live}
-use Rattle.step_model.specs.ClaimSteps.{at_moment}
-use Rattle.step_model.specs.Course.{Course}
-use Rattle.step_model.specs.StepEnds.{StepEnd}
+use Rattle.fleet_model.specs.Work.Records.{jobs_after}
+use Rattle.step_model.specs.Steps.BeatSteps.{release_live}
+use Rattle.step_model.specs.Steps.ClaimSteps.{at_moment}
+use Rattle.step_model.specs.Courses.Course.{Course}
+use Rattle.step_model.specs.Courses.StepEnds.{StepEnd}
 use Rattle.fleet_book.specs.VersionedRecords.{VersionedRecords}
 use Rattle.fleet_book.specs.Versions.{records_of}
 use Rattle.fleet_store.specs.Exchanges.{records_put}
 use Rattle.fleet_step.specs.Steps.{puts_and}
-use Rattle.fleet_model.specs.Parties.{Attempt, attempt_jobs, named_attempts}
+use Rattle.fleet_model.specs.Work.Parties.{Attempt, attempt_jobs, named_attempts}
 use Rattle.fleet_history.specs.declared.record_change.RecordChange.TheVariants as change
 use Rattle.fleet_worker.proofs.Lists.{rising_map}
 use Rattle.fleet_worker.specs.Workers.{AttemptParts, WorkerParts, live_of}

@@ -3,8 +3,8 @@ use Rattle.std.proofs.Common.{List, [], ◌∷◌, Bool, true, false, cond}
 use Rattle.std.specs.Prelude.{filter}
 use Rattle.std.specs.List.{AllByRecursion}
 use Rattle.fleet_model.specs.Store.{Store}
-use Rattle.step_model.specs.Course.{Course}
-use Rattle.step_model.specs.CourseRuns.{End}
+use Rattle.step_model.specs.Courses.Course.{Course}
+use Rattle.step_model.specs.Courses.CourseRuns.{End}
 use Rattle.step_model.specs.Later.{IsLater}
 use Rattle.step_model.specs.Views.{StoreView}
 use Rattle.step_laws.proofs.RanLaws.{ran_runs}

@@ -3,14 +3,14 @@ use Rattle.std.proofs.Common.{◌≡◌, refl, sym, ◌∙◌, ap, subst, ℕ, m
 use Rattle.std.specs.Bool.{OnFalse}
 use Rattle.row_model.specs.Fold.{IsLawful}
 use Rattle.fleet_model.specs.History.{Worker}
-use Rattle.fleet_model.specs.Parties.{Attempt, LiveWorker}
+use Rattle.fleet_model.specs.Work.Parties.{Attempt, LiveWorker}
 use Rattle.step_model.specs.Rivals.{Caller}
-use Rattle.step_model.specs.Keeps.{Keeps}
+use Rattle.step_model.specs.Kept.Keeps.{Keeps}
 use Rattle.step_model.specs.Fits.{WorkerHolds}
-use Rattle.step_model.specs.Course.{Course}
-use Rattle.step_model.specs.CourseRuns.{End, Gives, LacksMemory, IsLawfulCourse}
+use Rattle.step_model.specs.Courses.Course.{Course}
+use Rattle.step_model.specs.Courses.CourseRuns.{End, Gives, LacksMemory, IsLawfulCourse}
 use Rattle.step_model.specs.LawfulRecords.{OfSome}
-use Rattle.step_model.specs.StepEnds.{StepEnd, Reports, GivesUp, NotOwner, NoRecords, Invalid, Declined, OperatorRefuses}
+use Rattle.step_model.specs.Courses.StepEnds.{StepEnd, Reports, GivesUp, NotOwner, NoRecords, Invalid, Declined, OperatorRefuses}
 use Rattle.step_laws.proofs.Runs.{runs_keep}
 use Rattle.commit_laws.proofs.AllCalls.{calls_keep}
 use Rattle.worker_laws.specs.After.{FitsAfter, FitsAfterwards}

@@ -2,12 +2,12 @@
 use Rattle.std.proofs.Common.{◌≡◌, refl, sym, ◌∙◌, ap, subst, ℕ, zero, suc, true, cond, map, List, [], ◌∷◌, Result, Ok, Err}
 use Rattle.fleet_rows.specs.declared.errors.SlateDBError.{SlateDBError}
 use Rattle.row_model.specs.Fold.{IsLawful}
-use Rattle.fleet_model.specs.Gates.{is_nonempty}
-use Rattle.fleet_model.specs.Parties.{LiveWorker}
-use Rattle.step_model.specs.BeatSteps.{release_all}
-use Rattle.step_model.specs.CourseRuns.{IsLawfulCourse}
-use Rattle.step_model.specs.StepEnds.{Reports, most_refused}
-use Rattle.step_model.specs.Tries.{tries}
+use Rattle.fleet_model.specs.Work.Gates.{is_nonempty}
+use Rattle.fleet_model.specs.Work.Parties.{LiveWorker}
+use Rattle.step_model.specs.Steps.BeatSteps.{release_all}
+use Rattle.step_model.specs.Courses.CourseRuns.{IsLawfulCourse}
+use Rattle.step_model.specs.Courses.StepEnds.{Reports, most_refused}
+use Rattle.step_model.specs.Courses.Tries.{tries}
 use Rattle.commit_laws.proofs.AllCalls.{calls_keep}
 use Rattle.course_laws.proofs.Releases.{releases, releases_are_lawful}
 use Rattle.worker_laws.proofs.Releases.{releases_keep_fit}

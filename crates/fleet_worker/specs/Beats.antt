@@ -2,12 +2,12 @@
 use Rattle.std.specs.Prelude.{◌≡◌, ◌==◌, ◌&&◌, not, ℕ, List, map, filter, find, Option, Some, None, option_map}
 use Rattle.fleet_model.specs.History as model
 use Rattle.fleet_model.specs.Jobs.{trimmed_jobs}
-use Rattle.fleet_model.specs.Parties.{is_live}
+use Rattle.fleet_model.specs.Work.Parties.{is_live}
 use Rattle.fleet_model.specs.Store.{Store}
-use Rattle.step_model.specs.BeatSteps.{Beaten, beat_by}
-use Rattle.step_model.specs.Course.{Course, Ends}
-use Rattle.step_model.specs.StepEnds.{StepEnd, Reports}
-use Rattle.fleet_jobs.specs.JobParts.{JobParts}
+use Rattle.step_model.specs.Steps.BeatSteps.{Beaten, beat_by}
+use Rattle.step_model.specs.Courses.Course.{Course, Ends}
+use Rattle.step_model.specs.Courses.StepEnds.{StepEnd, Reports}
+use Rattle.fleet_jobs.specs.Parts.JobParts.{JobParts}
 use Rattle.fleet_jobs.specs.Jobs.{jobs_of}
 use Rattle.fleet_book.specs.Records.{kept_records}
 use Rattle.fleet_book.specs.declared.compactions.Compactions.{Compactions}

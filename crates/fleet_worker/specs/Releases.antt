@@ -2,19 +2,19 @@
 use Rattle.std.specs.Prelude.{◌≡◌, ◌==◌, ℕ, Bool, true, if◌then◌else◌, List, [], map, filter, Option, Some, None, option_map, Result, Ok, Err}
 use Rattle.std.specs.List.{list_any}
 use Rattle.fleet_model.specs.History as model
-use Rattle.fleet_model.specs.Records.{jobs_after}
-use Rattle.fleet_model.specs.Parties.{Attempt, LiveWorker, is_live, named_attempts}
+use Rattle.fleet_model.specs.Work.Records.{jobs_after}
+use Rattle.fleet_model.specs.Work.Parties.{Attempt, LiveWorker, is_live, named_attempts}
 use Rattle.fleet_model.specs.Store.{Store}
-use Rattle.step_model.specs.ClaimSteps.{at_moment}
-use Rattle.fleet_jobs.specs.JobParts.{JobParts}
+use Rattle.step_model.specs.Steps.ClaimSteps.{at_moment}
+use Rattle.fleet_jobs.specs.Parts.JobParts.{JobParts}
 use Rattle.fleet_jobs.specs.Jobs.{jobs_of, with_status}
 use Rattle.fleet_jobs.specs.declared.status.CompactionStatus.TheVariants.{Scheduled}
 use Rattle.fleet_book.specs.declared.compactions.Compactions.{Compactions}
 use Rattle.fleet_store.specs.Records.{DescribeTables, jobs_or_none}
-use Rattle.step_model.specs.BeatSteps.{release_by, release_try}
-use Rattle.step_model.specs.Tries.{Try}
-use Rattle.step_model.specs.Course.{Course, Ends}
-use Rattle.step_model.specs.StepEnds.{StepEnd, Reports}
+use Rattle.step_model.specs.Steps.BeatSteps.{release_by, release_try}
+use Rattle.step_model.specs.Courses.Tries.{Try}
+use Rattle.step_model.specs.Courses.Course.{Course, Ends}
+use Rattle.step_model.specs.Courses.StepEnds.{StepEnd, Reports}
 use Rattle.fleet_book.specs.VersionedRecords.{VersionedRecords}
 use Rattle.fleet_book.specs.Versions.{records_of}
 use Rattle.fleet_store.specs.Exchanges.{records_put}

@@ -2,12 +2,12 @@
 use Rattle.std.specs.Prelude.{◌≡◌, ◌==◌, ℕ, Bool, false, List, [], length, map, find, option_map, Option}
 use Rattle.std.specs.List.{AllByRecursion}
 use Rattle.fleet_model.specs.History.{Worker}
-use Rattle.fleet_model.specs.Parties.{Attempt, LiveWorker}
+use Rattle.fleet_model.specs.Work.Parties.{Attempt, LiveWorker}
 use Rattle.fleet_model.specs.Store.{Store}
-use Rattle.step_model.specs.Keeps.{Keeps}
+use Rattle.step_model.specs.Kept.Keeps.{Keeps}
 use Rattle.step_model.specs.Fits.{WorkerHolds}
 use Rattle.step_model.specs.Views.{StoreView}
-use Rattle.fleet_jobs.specs.ContextParts.{ContextParts}
+use Rattle.fleet_jobs.specs.Parts.ContextParts.{ContextParts}
 use Rattle.fleet_jobs.specs.Contexts.{context_of}
 use Rattle.fleet_jobs.specs.Workers.{release_of}
 use Rattle.fleet_jobs.specs.declared.release.Release.{Release}

@@ -2,7 +2,7 @@
 
 ghost use Rattle.std.specs.Prelude.{◌≡◌, ◌++◌, [], ◌∷◌, filter, option_map, IfOk, IsOkUnless, OnOk, Some};
 ghost use Rattle.std.specs.Option.{option_copied};
-ghost use Rattle.fleet_model.specs.Parties.{is_leased_to, is_live, runs_attempt};
+ghost use Rattle.fleet_model.specs.Work.Parties.{is_leased_to, is_live, runs_attempt};
 ghost use Rattle.fleet_jobs.specs.Jobs.{job_of, jobs_of};
 ghost use Rattle.fleet_jobs.specs.Workers.{lease_of};
 ghost use Rattle.fleet_worker.specs.Releases.{live_named};

@@ -2,7 +2,7 @@
 
 ghost use Rattle.std.specs.Prelude.{◌≡◌, ◌==◌, ◌&&◌, ◌∷◌, ◌++◌, [], map, IfOk, IsOkUnless, OnOk};
 ghost use Rattle.std.specs.Option.{option_copied};
-ghost use Rattle.fleet_model.specs.Parties.{is_live};
+ghost use Rattle.fleet_model.specs.Work.Parties.{is_live};
 ghost use Rattle.fleet_jobs.specs.Jobs.{jobs_of};
 ghost use Rattle.fleet_worker.specs.Beats.{BeatenRecords, beaten_record, live_at, live_ids, lost_ids};
 ghost use Rattle.fleet_store.specs.Records.{jobs_or_none};

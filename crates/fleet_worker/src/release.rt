@@ -2,7 +2,7 @@
 
 ghost use Rattle.std.specs.Prelude.{◌≡◌, map, IfOk, IsOkUnless};
 ghost use Rattle.fleet_model.specs.History as model;
-ghost use Rattle.fleet_model.specs.Records.{firsts};
+ghost use Rattle.fleet_model.specs.Work.Records.{firsts};
 ghost use Rattle.fleet_worker.specs.Releases.{MakesRecords, given_back, is_named, is_over};
 
 use fleet_book::{Compactions, JobMap};

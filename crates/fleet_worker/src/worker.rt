@@ -2,8 +2,8 @@
 
 ghost use Rattle.std.specs.Prelude.{◌≡◌, ◌≢◌, [], IfOk, IsOkUnless, OnErr, false};
 ghost use Rattle.std.specs.Bool.{OnFalse};
-ghost use Rattle.step_model.specs.BeatSteps.{beat_try, heartbeat, release_all};
-ghost use Rattle.step_model.specs.StepEnds.{Reports};
+ghost use Rattle.step_model.specs.Steps.BeatSteps.{beat_try, heartbeat, release_all};
+ghost use Rattle.step_model.specs.Courses.StepEnds.{Reports};
 ghost use Rattle.fleet_store.specs.Records.{jobs_or_none};
 ghost use Rattle.fleet_worker.specs.Beats.{IsBeatOf, IsBeatPut, IsReport, beat_ends, beat_ends_over, live_parts};
 ghost use Rattle.fleet_worker.specs.Held.{all_held};

@@ -7,12 +7,12 @@ use Rattle.row_model.specs.Lists.{Pairs}
 use Rattle.fleet_model.specs.Nodes.{NodeName, Run, name_eq, names_contain, Node, Tables, Tree, Trees, Segment, names, node_named, segment_at, tree_at, tree_or_empty}
 use Rattle.fleet_model.specs.Jobs.{JobSpec, nodes_of, Job, Jobs, Status, Submitted, Scheduled, Running, Compacted, Completed, Failed, is_finished, status_eq, has_status, is_active, contains, changed_jobs, ids, is_stale, is_overdue}
 use Rattle.fleet_model.specs.History.{Step, Join}
-use Rattle.fleet_model.specs.Records.{to_completed, to_waiting}
-use Rattle.fleet_model.specs.Gates.{first_failing, commit_gate}
-use Rattle.fleet_model.specs.JobsFit.{HoldApart, NodesHeldOnce, SourcesStand}
+use Rattle.fleet_model.specs.Work.Records.{to_completed, to_waiting}
+use Rattle.fleet_model.specs.Work.Gates.{first_failing, commit_gate}
+use Rattle.fleet_model.specs.Invariants.JobsFit.{HoldApart, NodesHeldOnce, SourcesStand}
 use Rattle.fleet_model.specs.Trees.{source_nodes, source_pieces, without_nodes, watermark_after, is_run_below, put_run, with_run_for, to_run, stepped_tree, stepped_in}
-use Rattle.fleet_model.specs.PollStates.{PollInput, PollState, poll_begun, accepts}
-use Rattle.fleet_model.specs.Polls.{with_freed, free_stale, commit_by, commit_job, each, commit_finished}
+use Rattle.fleet_model.specs.Work.PollStates.{PollInput, PollState, poll_begun, accepts}
+use Rattle.fleet_model.specs.Work.Polls.{with_freed, free_stale, commit_by, commit_job, each, commit_finished}
 use Rattle.step_laws.proofs.Elements.{IsIn, is_itself, all_at, all_from, all_to, all_true_from}
 use Rattle.step_laws.proofs.PollJobs.{stretch_in}
 use Rattle.course_laws.proofs.Calls.{pairs_filter, filtered}

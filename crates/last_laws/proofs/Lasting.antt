@@ -6,17 +6,17 @@ use Rattle.row_model.specs.Lists.{IsPrefixOf}
 use Rattle.fleet_model.specs.Jobs.{Job, Jobs, ids}
 use Rattle.fleet_model.specs.History.{Party, Event, GetManifest, RecordChange, Claim}
 use Rattle.fleet_model.specs.Store.{Records, Store}
-use Rattle.fleet_model.specs.Parties.{LiveWorker, worker_with, with_attempts, without_attempts}
-use Rattle.fleet_model.specs.Records.{jobs_after}
-use Rattle.fleet_model.specs.Attempts.{ClaimInput}
-use Rattle.fleet_model.specs.Claims.{claimed_jobs, stopped_jobs, claimed_attempt}
+use Rattle.fleet_model.specs.Work.Parties.{LiveWorker, worker_with, with_attempts, without_attempts}
+use Rattle.fleet_model.specs.Work.Records.{jobs_after}
+use Rattle.fleet_model.specs.Work.Attempts.{ClaimInput}
+use Rattle.fleet_model.specs.Work.Claims.{claimed_jobs, stopped_jobs, claimed_attempt}
 use Rattle.fleet_model.specs.Exchanges.{Exchange, Plain, PutsRecords, Fault, event_of, after_exchange, after_answered, strikes, waiting_after, struck_by, does_stand, records_version}
 use Rattle.step_model.specs.Rivals.{Strike, store_after_call}
-use Rattle.step_model.specs.Course.{Course, Ends, Calls, then_course, calls_each}
-use Rattle.step_model.specs.Tries.{counted_tries}
-use Rattle.step_model.specs.StepEnds.{StepEnd, Reports, most_refused}
-use Rattle.step_model.specs.Alone.{AloneEnd, run_alone}
-use Rattle.step_model.specs.ClaimSteps.{WorkerOptions, Claimed, at_moment, can_start, plan_of, starts_claimed, claim_of, claim_by, claim_try, claim}
+use Rattle.step_model.specs.Courses.Course.{Course, Ends, Calls, then_course, calls_each}
+use Rattle.step_model.specs.Courses.Tries.{counted_tries}
+use Rattle.step_model.specs.Courses.StepEnds.{StepEnd, Reports, most_refused}
+use Rattle.step_model.specs.Courses.Alone.{AloneEnd, run_alone}
+use Rattle.step_model.specs.Steps.ClaimSteps.{WorkerOptions, Claimed, at_moment, can_start, plan_of, starts_claimed, claim_of, claim_by, claim_try, claim}
 use Rattle.course_laws.proofs.Later.{entry_by, call_history}
 use Rattle.script_model.specs.Script.{Line, Options, Clock, SetFault, ClaimJobs}
 use Rattle.script_model.specs.States.{Inputs, State}
@@ -24,7 +24,7 @@ use Rattle.script_model.specs.Replies.{claim_reply}
 use Rattle.script_model.specs.LineRuns.{LineCourse, run_line, no_such_party, if_some}
 use Rattle.script_model.specs.LineCourses.{prepared_state, course_of}
 use Rattle.script_model.specs.LineSteps.{OneCourse}
-use Rattle.script_model.specs.WorkLines.{worker_line, worker_options}
+use Rattle.script_model.specs.Lines.WorkLines.{worker_line, worker_options}
 
 -- ---- histories
 

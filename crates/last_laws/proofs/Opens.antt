@@ -5,11 +5,11 @@ use Rattle.std.specs.List.{list_any, AllByRecursion}
 use Rattle.std.proofs.lemmas.Bool.Decides.{Decides-eqb}
 use Rattle.fleet_model.specs.Jobs.{JobSpec, is_drain, Job, Jobs, Submitted, Scheduled, has_status, is_active, contains, changed_jobs, put_job, ids}
 use Rattle.fleet_model.specs.History.{Move}
-use Rattle.fleet_model.specs.Records.{new_job, with_new, to_completed, to_scheduled}
-use Rattle.fleet_model.specs.Gates.{is_nonempty, submit_gate}
+use Rattle.fleet_model.specs.Work.Records.{new_job, with_new, to_completed, to_scheduled}
+use Rattle.fleet_model.specs.Work.Gates.{is_nonempty, submit_gate}
 use Rattle.fleet_model.specs.Trees.{tables_now}
-use Rattle.fleet_model.specs.PollStates.{PollInput, PollState, accepts}
-use Rattle.fleet_model.specs.Polls.{each, same_target, clashes, add_by, add_drawn, can_move, lost_to_scheduler, drain_job, move_job, schedule_job, open_by, open_job}
+use Rattle.fleet_model.specs.Work.PollStates.{PollInput, PollState, accepts}
+use Rattle.fleet_model.specs.Work.Polls.{each, same_target, clashes, add_by, add_drawn, can_move, lost_to_scheduler, drain_job, move_job, schedule_job, open_by, open_job}
 use Rattle.step_laws.proofs.Elements.{all_to, all_push}
 use Rattle.coordinator_laws.proofs.Jobs.{new_push}
 use Rattle.last_laws.specs.Weights.{IsHeavy, Lightens}

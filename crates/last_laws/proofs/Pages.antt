@@ -17,7 +17,7 @@ use Rattle.fleet_model.specs.Reads.{flushed_read}
 use Rattle.fleet_model.specs.TreeScans.{flushed_scan}
 use Rattle.fleet_laws.specs.Scans.{AnswersAsReads}
 use Rattle.fleet_laws.proofs.Scans.{Above, above_later, answer_at, first_answer, none_above, reversed, same_answers, same_bytes, scans_answer_as_reads}
-use Rattle.script_model.specs.Scans.{range_start, range_end, keys_between, ScanEnd, NoneLeft, RefusedAt, StopsBefore, Page, first_page, with_answer}
+use Rattle.script_model.specs.Lines.Scans.{range_start, range_end, keys_between, ScanEnd, NoneLeft, RefusedAt, StopsBefore, Page, first_page, with_answer}
 use Rattle.last_laws.specs.Pages.{joined_pages, ScansResume}
 
 -- The answers of a scan.

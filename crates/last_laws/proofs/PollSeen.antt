@@ -8,23 +8,23 @@ use Rattle.row_model.specs.Fold.{IsLawful}
 use Rattle.fleet_model.specs.Jobs.{Job, JobSpec, id_of, trimmed_jobs}
 use Rattle.fleet_model.specs.History.{Party, Coordinator, Entry, GetManifest, GetRecords, Commit, ManifestChange, Polled, PutRecords, PollChange}
 use Rattle.fleet_model.specs.Store.{Manifest, Records, Store, jobs_in, stored_jobs}
-use Rattle.fleet_model.specs.Records.{firsts}
-use Rattle.fleet_model.specs.Gates.{is_nonempty}
-use Rattle.fleet_model.specs.Parties.{LiveCoordinator}
-use Rattle.fleet_model.specs.PollStates.{PollState}
-use Rattle.fleet_model.specs.Polls.{change_of, is_nothing}
+use Rattle.fleet_model.specs.Work.Records.{firsts}
+use Rattle.fleet_model.specs.Work.Gates.{is_nonempty}
+use Rattle.fleet_model.specs.Work.Parties.{LiveCoordinator}
+use Rattle.fleet_model.specs.Work.PollStates.{PollState}
+use Rattle.fleet_model.specs.Work.Polls.{change_of, is_nothing}
 use Rattle.fleet_model.specs.Exchanges.{Exchange, Plain, DrawsJob, PutsManifest, PutsRecords, after_exchange, records_version, event_of, next_job_id}
 use Rattle.step_model.specs.Past.{World}
 use Rattle.step_model.specs.Entries.{did_put_epoch, party_eq, last_from, last_event, was_named}
-use Rattle.step_model.specs.Keeps.{Keeps}
+use Rattle.step_model.specs.Kept.Keeps.{Keeps}
 use Rattle.step_model.specs.LawfulRecords.{AreNew}
 use Rattle.step_model.specs.Fits.{CoordinatorHolds}
 use Rattle.step_model.specs.Rivals.{Caller, after_call}
-use Rattle.step_model.specs.Course.{Course, Ends, Calls, draws_jobs, gets_records, puts_manifest, puts_records}
-use Rattle.step_model.specs.Tries.{counted_tries}
-use Rattle.step_model.specs.CourseRuns.{Gives, Runs, IsLawfulCourse}
-use Rattle.step_model.specs.StepEnds.{StepEnd, Reports, GivesUp, Fenced, most_refused}
-use Rattle.step_model.specs.PollSteps.{PollAsk, poll, poll_try, polls_over, puts_trees, puts_polled, unless_fenced, records_or_none, first_steps, proposed_specs, merged_into, is_unchanged}
+use Rattle.step_model.specs.Courses.Course.{Course, Ends, Calls, draws_jobs, gets_records, puts_manifest, puts_records}
+use Rattle.step_model.specs.Courses.Tries.{counted_tries}
+use Rattle.step_model.specs.Courses.CourseRuns.{Gives, Runs, IsLawfulCourse}
+use Rattle.step_model.specs.Courses.StepEnds.{StepEnd, Reports, GivesUp, Fenced, most_refused}
+use Rattle.step_model.specs.Steps.PollSteps.{PollAsk, poll, poll_try, polls_over, puts_trees, puts_polled, unless_fenced, records_or_none, first_steps, proposed_specs, merged_into, is_unchanged}
 use Rattle.step_laws.specs.Runs.{CallsKeep}
 use Rattle.step_laws.proofs.Elements.{is_itself, all_at, all_to}
 use Rattle.course_laws.proofs.Puts.{party_itself}
@@ -35,12 +35,12 @@ use Rattle.coordinator_laws.proofs.Quiet.{HasEpoch}
 use Rattle.script_model.specs.Script.{Poll}
 use Rattle.script_model.specs.States.{Inputs, State}
 use Rattle.script_model.specs.Replies.{poll_reply}
-use Rattle.script_model.specs.PollLines.{poll_ask}
+use Rattle.script_model.specs.Lines.PollLines.{poll_ask}
 use Rattle.script_model.specs.LineSteps.{OneCourse}
-use Rattle.script_model.specs.Settles.{is_ok, is_adding}
+use Rattle.script_model.specs.Lines.Settles.{is_ok, is_adding}
 use Rattle.line_laws.specs.Alone.{HadRoom}
 use Rattle.line_laws.specs.States.{StateKeeps}
-use Rattle.line_laws.specs.PollRuns.{input_at, reached_state, manifest_after, records_after}
+use Rattle.line_laws.specs.Lines.PollRuns.{input_at, reached_state, manifest_after, records_after}
 use Rattle.line_laws.proofs.Parties.{found}
 use Rattle.line_laws.proofs.Lines.{caller_of, world_of}
 use Rattle.line_laws.proofs.PollLines.{reported, whole_is}

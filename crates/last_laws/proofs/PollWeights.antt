@@ -7,12 +7,12 @@ use Rattle.row_model.specs.Rows.{key_cmp}
 use Rattle.fleet_model.specs.Nodes.{names_contain, Tables, Trees, names, tree_at}
 use Rattle.fleet_model.specs.Jobs.{JobSpec, is_drain, Job, Jobs, Submitted, Compacted, has_status, contains, changed_jobs, put_job, ids, is_stale}
 use Rattle.fleet_model.specs.History.{Step, Join, Move}
-use Rattle.fleet_model.specs.Records.{new_job, to_waiting, to_scheduled, to_completed, to_failed}
+use Rattle.fleet_model.specs.Work.Records.{new_job, to_waiting, to_scheduled, to_completed, to_failed}
 use Rattle.fleet_model.specs.Trees.{stepped_in, stepped_tree, watermark_after, tables_now, source_pieces}
-use Rattle.fleet_model.specs.Gates.{is_nonempty, are_distinct, submitted_rules, submit_gate, commit_gate}
-use Rattle.fleet_model.specs.PollStates.{PollInput, PollState, poll_begun, accepts}
-use Rattle.fleet_model.specs.Polls.{free_stale, commit_by, commit_job, each, commit_finished, committed_poll, clashes, add_by, add_drawn, can_move, lost_to_scheduler, drain_job, move_job, schedule_job, open_by, open_job, open_submitted}
-use Rattle.step_model.specs.PollSteps.{PollAsk, freed_and_committed, first_steps, last_steps}
+use Rattle.fleet_model.specs.Work.Gates.{is_nonempty, are_distinct, submitted_rules, submit_gate, commit_gate}
+use Rattle.fleet_model.specs.Work.PollStates.{PollInput, PollState, poll_begun, accepts}
+use Rattle.fleet_model.specs.Work.Polls.{free_stale, commit_by, commit_job, each, commit_finished, committed_poll, clashes, add_by, add_drawn, can_move, lost_to_scheduler, drain_job, move_job, schedule_job, open_by, open_job, open_submitted}
+use Rattle.step_model.specs.Steps.PollSteps.{PollAsk, freed_and_committed, first_steps, last_steps}
 use Rattle.commit_laws.proofs.AtOnce.{all_pass}
 use Rattle.commit_laws.proofs.Stretches.{both_true}
 use Rattle.last_laws.specs.Weights.{trees_weight, IsHeavy, Lightens, PrefixesRise, WaitsToLighten, PollsLighten}

@@ -4,10 +4,10 @@ use Rattle.std.specs.Prelude.{◌||◌, IsTrue, filter}
 use Rattle.std.specs.List.{list_any, AllByRecursion}
 use Rattle.row_model.specs.Lists.{Pairs}
 use Rattle.fleet_model.specs.Jobs.{JobSpec, is_drain, Job, Jobs, Status, Submitted, Scheduled, Running, Compacted, Completed, Failed, is_finished, status_eq, has_status, is_active, contains, put_job, ids}
-use Rattle.fleet_model.specs.Records.{new_job, with_new}
-use Rattle.fleet_model.specs.Gates.{is_nonempty, submit_gate}
-use Rattle.fleet_model.specs.PollStates.{PollInput, PollState, accepts}
-use Rattle.fleet_model.specs.Polls.{each, add_drawn, can_move, lost_to_scheduler, drain_job, move_job, schedule_job, open_by, open_job, open_submitted}
+use Rattle.fleet_model.specs.Work.Records.{new_job, with_new}
+use Rattle.fleet_model.specs.Work.Gates.{is_nonempty, submit_gate}
+use Rattle.fleet_model.specs.Work.PollStates.{PollInput, PollState, accepts}
+use Rattle.fleet_model.specs.Work.Polls.{each, add_drawn, can_move, lost_to_scheduler, drain_job, move_job, schedule_job, open_by, open_job, open_submitted}
 use Rattle.step_laws.proofs.Elements.{IsIn, all_at, all_from, all_to, in_contains}
 use Rattle.step_laws.proofs.NewJobs.{in_new, rise_new}
 use Rattle.course_laws.proofs.Calls.{filtered, all_map}

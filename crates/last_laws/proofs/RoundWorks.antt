@@ -6,12 +6,12 @@ use Rattle.std.proofs.lemmas.Bool.Decides.{Decides-eqb}
 use Rattle.row_model.specs.Lists.{Pairs}
 use Rattle.fleet_model.specs.Nodes.{Trees}
 use Rattle.fleet_model.specs.Jobs.{Job, Jobs, Status, Submitted, Scheduled, Running, Compacted, Completed, Failed, knows_cut, status_eq, has_status, is_finished, is_active, contains, changed_jobs, ids, job_with, trimmed_jobs, finished_later}
-use Rattle.fleet_model.specs.Records.{Unrecorded, firsts, claimed_by, finished_by}
-use Rattle.fleet_model.specs.Parties.{Attempt, LiveWorker, attempt_jobs, put_attempt, with_attempts, without_attempts, is_live, runs_attempt, is_leased_to}
-use Rattle.fleet_model.specs.Claims.{is_waiting, has_no_cut, may_take, claimed_jobs, claimed_attempt}
-use Rattle.fleet_model.specs.Attempts.{ClaimInput}
-use Rattle.fleet_model.specs.Gates.{is_nonempty}
-use Rattle.fleet_model.specs.JobsFit.{SourcesStand}
+use Rattle.fleet_model.specs.Work.Records.{Unrecorded, firsts, claimed_by, finished_by}
+use Rattle.fleet_model.specs.Work.Parties.{Attempt, LiveWorker, attempt_jobs, put_attempt, with_attempts, without_attempts, is_live, runs_attempt, is_leased_to}
+use Rattle.fleet_model.specs.Work.Claims.{is_waiting, has_no_cut, may_take, claimed_jobs, claimed_attempt}
+use Rattle.fleet_model.specs.Work.Attempts.{ClaimInput}
+use Rattle.fleet_model.specs.Work.Gates.{is_nonempty}
+use Rattle.fleet_model.specs.Invariants.JobsFit.{SourcesStand}
 use Rattle.step_laws.proofs.Elements.{IsIn, all_at, contains_in}
 use Rattle.step_laws.proofs.Changed.{job_found}
 use Rattle.course_laws.proofs.Calls.{filtered, both}

@@ -4,7 +4,7 @@ use Rattle.std.specs.Prelude.{IsTrue, ⊤}
 use Rattle.script_model.specs.Script.{Line, Poll, ClaimJobs, FinishJob}
 use Rattle.script_model.specs.States.{Inputs, State}
 use Rattle.script_model.specs.LineSteps.{OneCourse}
-use Rattle.script_model.specs.Settles.{is_ok, has_active, has_added, jobs_run}
+use Rattle.script_model.specs.Lines.Settles.{is_ok, has_active, has_added, jobs_run}
 use Rattle.script_model.proofs.Rounds.{settle_unfolds, EndsOr, Step, FinishesInTurn, AfterPoll, Rounds}
 use Rattle.last_laws.specs.Rounds.{WentWell, FinishedAll, WorkedOn, Round, HasSettled, CountedRoundsSettle}
 

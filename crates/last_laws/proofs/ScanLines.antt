@@ -5,8 +5,8 @@ use Rattle.fleet_laws.proofs.Scans.{scans_answer_as_reads, stores_answer_scans}
 use Rattle.script_model.specs.Script.{Scan}
 use Rattle.script_model.specs.States.{Inputs, State}
 use Rattle.script_model.specs.Replies.{not_retained}
-use Rattle.script_model.specs.Looks.{is_not_retained}
-use Rattle.script_model.specs.Scans.{keys_between, scan_reply, scan}
+use Rattle.script_model.specs.Lines.Looks.{is_not_retained}
+use Rattle.script_model.specs.Lines.Scans.{keys_between, scan_reply, scan}
 use Rattle.script_model.specs.LineRuns.{run_line}
 use Rattle.script_model.specs.LineCourses.{course_of}
 use Rattle.script_model.specs.LineSteps.{OneCourse}

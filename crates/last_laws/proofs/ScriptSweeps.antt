@@ -7,10 +7,10 @@ use Rattle.fleet_model.specs.Sweeps.{pinned_tables, swept_tables}
 use Rattle.fleet_model.specs.Exchanges.{Exchange, Fault, event_of, after_answered, strikes, waiting_after, struck_by, does_stand}
 use Rattle.fleet_laws.specs.Transparent.{is_sweeper, is_of_sweep, SweepersOnlySweep}
 use Rattle.fleet_laws.proofs.Transparent.{sweeps_are_transparent}
-use Rattle.step_model.specs.Course.{Course, Ends, Calls, then_course}
-use Rattle.step_model.specs.SweepSteps.{deletes_each, sweep}
+use Rattle.step_model.specs.Courses.Course.{Course, Ends, Calls, then_course}
+use Rattle.step_model.specs.Steps.SweepSteps.{deletes_each, sweep}
 use Rattle.step_model.specs.Rivals.{Strike, store_after_call}
-use Rattle.step_model.specs.Alone.{AloneEnd, run_alone}
+use Rattle.step_model.specs.Courses.Alone.{AloneEnd, run_alone}
 use Rattle.step_laws.proofs.Elements.{all_push}
 use Rattle.course_laws.proofs.Later.{entry_by, call_history}
 use Rattle.script_model.specs.Script.{Line, Options, Clock, StartCoordinator, StartWorker, KillCoordinator, KillWorker, StopCoordinator, StopWorker, FlushRows, ReadKey, SubmitJob, SubmitDrain, SubmitFull, Poll, CommitOnly, ClaimJobs, Heartbeat, Output, FinishJob, SetFault, ShowTrees, ShowJobs, ShowTables, Dump, Sweep, Scan, Settle, Together}
@@ -19,15 +19,15 @@ use Rattle.script_model.specs.LineRuns.{LineCourse, no_such_party, if_some, note
 use Rattle.script_model.specs.LineCourses.{prepared_state, course_of, job_at, range_at}
 use Rattle.script_model.specs.LineSteps.{OneCourse}
 use Rattle.script_model.specs.Replies.{reply, tables_text, jobs_text, poll_reply, commit_reply, claim_reply, beat_reply}
-use Rattle.script_model.specs.Starts.{only_notes}
-use Rattle.script_model.specs.PollLines.{poll_ask}
-use Rattle.script_model.specs.WorkLines.{worker_line, worker_options, output_asked, output_line, finish_asked, finish_line}
-use Rattle.step_model.specs.PollSteps.{poll}
-use Rattle.step_model.specs.ClaimSteps.{claim}
-use Rattle.step_model.specs.BeatSteps.{heartbeat, release_all}
-use Rattle.fleet_model.specs.Parties.{coordinator_with, worker_with, without_coordinator, without_worker}
-use Rattle.script_model.specs.Sweeps.{by_number, sweep_line}
-use Rattle.script_model.specs.Settles.{are_live}
+use Rattle.script_model.specs.Lines.Starts.{only_notes}
+use Rattle.script_model.specs.Lines.PollLines.{poll_ask}
+use Rattle.script_model.specs.Lines.WorkLines.{worker_line, worker_options, output_asked, output_line, finish_asked, finish_line}
+use Rattle.step_model.specs.Steps.PollSteps.{poll}
+use Rattle.step_model.specs.Steps.ClaimSteps.{claim}
+use Rattle.step_model.specs.Steps.BeatSteps.{heartbeat, release_all}
+use Rattle.fleet_model.specs.Work.Parties.{coordinator_with, worker_with, without_coordinator, without_worker}
+use Rattle.script_model.specs.Lines.Sweeps.{by_number, sweep_line}
+use Rattle.script_model.specs.Lines.Settles.{are_live}
 use Rattle.script_model.specs.Follows.{LineStep, ScriptRun}
 use Rattle.line_laws.proofs.Scripts.{StepsRun, settle_steps}
 use Rattle.last_laws.specs.ScriptSweeps.{ScriptsSweepClean}

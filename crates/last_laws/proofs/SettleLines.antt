@@ -8,14 +8,14 @@ use Rattle.row_model.specs.Fold.{IsLawful}
 use Rattle.fleet_model.specs.Nodes.{Tree, Trees}
 use Rattle.fleet_model.specs.Jobs.{Job, Jobs, Scheduled, Running, Compacted, has_status, contains, ids, number_of, changed_jobs, trimmed_jobs}
 use Rattle.fleet_model.specs.Handles.{Handle}
-use Rattle.fleet_model.specs.Records.{Unrecorded, firsts, claimed_by, finished_by}
+use Rattle.fleet_model.specs.Work.Records.{Unrecorded, firsts, claimed_by, finished_by}
 use Rattle.fleet_model.specs.Store.{Manifest, stored_jobs}
-use Rattle.fleet_model.specs.Parties.{Attempt, LiveWorker, Parties, coordinator_with, worker_with, attempt_jobs, with_attempts, without_attempts, is_live}
-use Rattle.fleet_model.specs.Claims.{claimed_jobs}
-use Rattle.fleet_model.specs.Gates.{is_nonempty}
-use Rattle.fleet_model.specs.JobsFit.{SourcesStand, OpenedStands}
-use Rattle.fleet_model.specs.PollStates.{PollInput, PollState, poll_begun, view_of}
-use Rattle.step_model.specs.FinishSteps.{all_outputs, unrecorded_of_finish}
+use Rattle.fleet_model.specs.Work.Parties.{Attempt, LiveWorker, Parties, coordinator_with, worker_with, attempt_jobs, with_attempts, without_attempts, is_live}
+use Rattle.fleet_model.specs.Work.Claims.{claimed_jobs}
+use Rattle.fleet_model.specs.Work.Gates.{is_nonempty}
+use Rattle.fleet_model.specs.Invariants.JobsFit.{SourcesStand, OpenedStands}
+use Rattle.fleet_model.specs.Work.PollStates.{PollInput, PollState, poll_begun, view_of}
+use Rattle.step_model.specs.Steps.FinishSteps.{all_outputs, unrecorded_of_finish}
 use Rattle.step_laws.proofs.Elements.{IsIn, all_at, all_to, in_contains}
 use Rattle.script_model.specs.Script.{ClaimJobs, FinishJob, Settle}
 use Rattle.script_model.specs.States.{Inputs, State, FleetOptions}
@@ -23,11 +23,11 @@ use Rattle.script_model.specs.LineRuns.{if_some, no_such_party, run_line}
 use Rattle.script_model.specs.LineCourses.{attempt_numbered, job_at, course_of}
 use Rattle.script_model.specs.LineSteps.{OneCourse}
 use Rattle.script_model.specs.Follows.{SettleStep}
-use Rattle.script_model.specs.Settles.{is_ok, are_live, has_active, has_added, jobs_run, SettleRun}
+use Rattle.script_model.specs.Lines.Settles.{is_ok, are_live, has_active, has_added, jobs_run, SettleRun}
 use Rattle.script_model.proofs.Rounds.{settle_unfolds}
 use Rattle.line_laws.specs.States.{StateKeeps}
-use Rattle.line_laws.specs.ClaimLines.{stopped_in, begun_in, with_claimed, ClaimRan}
-use Rattle.line_laws.specs.FinishLines.{FinishRan}
+use Rattle.line_laws.specs.Lines.ClaimLines.{stopped_in, begun_in, with_claimed, ClaimRan}
+use Rattle.line_laws.specs.Lines.FinishLines.{FinishRan}
 use Rattle.line_laws.proofs.Parties.{found}
 use Rattle.line_laws.proofs.ClaimLines.{claims_take}
 use Rattle.line_laws.proofs.FinishLines.{finishes_end}

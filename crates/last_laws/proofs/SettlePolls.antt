@@ -11,17 +11,17 @@ use Rattle.fleet_model.specs.Nodes.{name_eq, Node, Tables, Tree, Trees, Segment,
 use Rattle.fleet_model.specs.Jobs.{JobSpec, Job, Jobs, Status, Submitted, Scheduled, Running, Compacted, Completed, Failed, status_eq, has_status, is_finished, is_active, trimmed_jobs, finished_later, put_id, in_id_order, contains}
 use Rattle.fleet_model.specs.History.{Party, Coordinator, Entry, Event, PutRecords, Polled}
 use Rattle.fleet_model.specs.Store.{Manifest, Records, stored_jobs, jobs_in, records_epoch}
-use Rattle.fleet_model.specs.Replay.{named_specs}
+use Rattle.fleet_model.specs.Past.Replay.{named_specs}
 use Rattle.fleet_model.specs.Handles.{Handle, handles_of, tree_tables, job_tables, named_tables}
-use Rattle.fleet_model.specs.Scheduler.{View}
-use Rattle.fleet_model.specs.Gates.{is_nonempty}
-use Rattle.fleet_model.specs.JobsFit.{SourcesStand, NodesHeldOnce}
-use Rattle.fleet_model.specs.Records.{firsts}
-use Rattle.fleet_model.specs.PollStates.{PollInput, PollState, poll_begun, view_of}
-use Rattle.fleet_model.specs.Polls.{proposals, each, commit_job, commit_finished, free_stale, add_drawn, open_submitted, change_of, is_nothing}
+use Rattle.fleet_model.specs.Work.Scheduler.{View}
+use Rattle.fleet_model.specs.Work.Gates.{is_nonempty}
+use Rattle.fleet_model.specs.Invariants.JobsFit.{SourcesStand, NodesHeldOnce}
+use Rattle.fleet_model.specs.Work.Records.{firsts}
+use Rattle.fleet_model.specs.Work.PollStates.{PollInput, PollState, poll_begun, view_of}
+use Rattle.fleet_model.specs.Work.Polls.{proposals, each, commit_job, commit_finished, free_stale, add_drawn, open_submitted, change_of, is_nothing}
 use Rattle.fleet_model.specs.Exchanges.{records_version}
 use Rattle.step_model.specs.Entries.{party_eq, last_from, last_event}
-use Rattle.step_model.specs.PollSteps.{PollAsk, first_steps, records_or_none, is_unchanged, same_tree, node_eq}
+use Rattle.step_model.specs.Steps.PollSteps.{PollAsk, first_steps, records_or_none, is_unchanged, same_tree, node_eq}
 use Rattle.step_laws.proofs.Elements.{all_at, all_to, all_front}
 use Rattle.course_laws.proofs.Calls.{both}
 use Rattle.commit_laws.proofs.Stretches.{name_same, other_or}
@@ -29,11 +29,11 @@ use Rattle.script_model.specs.Script.{Line, Poll}
 use Rattle.script_model.specs.States.{Inputs, State}
 use Rattle.script_model.specs.LineCourses.{prepared_state}
 use Rattle.script_model.specs.LineSteps.{OneCourse}
-use Rattle.script_model.specs.PollLines.{poll_ask}
-use Rattle.script_model.specs.Settles.{is_ok, has_active, has_added}
+use Rattle.script_model.specs.Lines.PollLines.{poll_ask}
+use Rattle.script_model.specs.Lines.Settles.{is_ok, has_active, has_added}
 use Rattle.line_laws.specs.Alone.{HadRoom}
 use Rattle.line_laws.specs.States.{StateKeeps}
-use Rattle.line_laws.specs.PollRuns.{input_at, manifest_after, records_after}
+use Rattle.line_laws.specs.Lines.PollRuns.{input_at, manifest_after, records_after}
 use Rattle.line_laws.proofs.Scripts.{course_leads}
 use Rattle.fleet_laws.proofs.Scans.{same_bytes}
 use Rattle.last_laws.specs.Weights.{IsHeavy, Lightens, weight_of, trees_weight, WaitsToLighten}

@@ -9,7 +9,7 @@ use Rattle.row_model.specs.Rows.{key_cmp}
 use Rattle.fleet_model.specs.Nodes.{NodeName, L0, Run, name_eq, names_contain, Node, Tables, Tree, Trees, Segment, names, segment_at, tree_at, tree_or_empty}
 use Rattle.fleet_model.specs.Jobs.{JobSpec, is_drain_to}
 use Rattle.fleet_model.specs.History.{Step, Join, Move, Drain}
-use Rattle.fleet_model.specs.Gates.{are_distinct}
+use Rattle.fleet_model.specs.Work.Gates.{are_distinct}
 use Rattle.fleet_model.specs.Trees.{without_nodes, watermark_after, is_run_below, put_run, with_run_for, stepped_tree, on_segment, stepped_in, source_nodes, source_pieces, by_first_key}
 use Rattle.fleet_laws.proofs.Scans.{below_differs, same_bytes}
 use Rattle.commit_laws.proofs.Stretches.{name_itself, name_same, name_turned}

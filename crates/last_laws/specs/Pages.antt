@@ -3,7 +3,7 @@ use Rattle.std.specs.Prelude.{◌≡◌, ℕ, ◌+◌, ℤ, List, ◌++◌}
 use Rattle.row_model.specs.Fold.{Operator}
 use Rattle.fleet_model.specs.Store.{Store}
 use Rattle.fleet_model.specs.TreeScans.{flushed_scan}
-use Rattle.script_model.specs.Scans.{Page, first_page, StopsBefore, keys_between}
+use Rattle.script_model.specs.Lines.Scans.{Page, first_page, StopsBefore, keys_between}
 
 -- The page of a scan of a segment from the one key on and before the other, up to the limit.
 abbrev pub scanned_page : Operator → Store → (segment from to : List ℕ) → ℕ → ℤ → (limit : ℕ) → Page

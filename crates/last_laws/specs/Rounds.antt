@@ -3,7 +3,7 @@ use Rattle.std.specs.Prelude.{◌≡◌, ℕ, ◌+◌, ◌<◌, ◌≤◌, Bool,
 use Rattle.script_model.specs.Script.{Line, Poll, ClaimJobs, FinishJob}
 use Rattle.script_model.specs.States.{Inputs, State}
 use Rattle.script_model.specs.LineSteps.{OneCourse}
-use Rattle.script_model.specs.Settles.{is_ok, has_active, has_added, jobs_run, settled_reply, SettleRun}
+use Rattle.script_model.specs.Lines.Settles.{is_ok, has_active, has_added, jobs_run, settled_reply, SettleRun}
 
 -- One step of a settle line that is not refused. `Rest` holds of the state after it.
 pub record WentWell (inputs : Inputs) (number : ℕ) (line : Line) (old : State) (Rest : State → Type 0) : Type 0 where

@@ -7,8 +7,8 @@ use Rattle.fleet_laws.specs.Scans.{AnswersAsReads}
 use Rattle.script_model.specs.Script.{Scan}
 use Rattle.script_model.specs.States.{Inputs, State}
 use Rattle.script_model.specs.Replies.{not_retained}
-use Rattle.script_model.specs.Looks.{is_not_retained}
-use Rattle.script_model.specs.Scans.{keys_between, scan_reply}
+use Rattle.script_model.specs.Lines.Looks.{is_not_retained}
+use Rattle.script_model.specs.Lines.Scans.{keys_between, scan_reply}
 use Rattle.line_laws.specs.Ran.{CourseRan}
 use Rattle.last_laws.specs.Pages.{scanned_page}
 

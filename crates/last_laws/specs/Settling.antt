@@ -6,20 +6,20 @@ use Rattle.row_model.specs.Fold.{Operator, IsLawful}
 use Rattle.fleet_model.specs.Nodes.{Tables, Tree, Trees}
 use Rattle.fleet_model.specs.Jobs.{JobSpec, Job, Scheduled, Compacted, has_status, is_active}
 use Rattle.fleet_model.specs.Store.{Store, stored_jobs}
-use Rattle.fleet_model.specs.Replay.{named_specs}
+use Rattle.fleet_model.specs.Past.Replay.{named_specs}
 use Rattle.fleet_model.specs.Handles.{Handle, handles_of, tree_tables}
-use Rattle.fleet_model.specs.Parties.{LiveWorker, worker_with}
-use Rattle.fleet_model.specs.Scheduler.{View, Scheduler}
-use Rattle.fleet_model.specs.JobsFit.{SourcesStand}
-use Rattle.fleet_model.specs.Invariant.{StoreInvariant}
-use Rattle.step_model.specs.PollSteps.{PollAsk, first_steps, proposed_specs}
+use Rattle.fleet_model.specs.Work.Parties.{LiveWorker, worker_with}
+use Rattle.fleet_model.specs.Work.Scheduler.{View, Scheduler}
+use Rattle.fleet_model.specs.Invariants.JobsFit.{SourcesStand}
+use Rattle.fleet_model.specs.Invariants.Invariant.{StoreInvariant}
+use Rattle.step_model.specs.Steps.PollSteps.{PollAsk, first_steps, proposed_specs}
 use Rattle.script_model.specs.Script.{Settle}
 use Rattle.script_model.specs.States.{Inputs, State}
 use Rattle.script_model.specs.Follows.{LineStep}
-use Rattle.script_model.specs.Settles.{is_ok, has_active, settled_reply}
+use Rattle.script_model.specs.Lines.Settles.{is_ok, has_active, settled_reply}
 use Rattle.line_laws.specs.Alone.{HadRoom}
 use Rattle.line_laws.specs.States.{StateKeeps}
-use Rattle.line_laws.specs.PollRuns.{input_at, reached_state}
+use Rattle.line_laws.specs.Lines.PollRuns.{input_at, reached_state}
 use Rattle.last_laws.specs.Weights.{IsHeavy, Lightens, trees_weight}
 
 -- ---- what a scheduler sees to

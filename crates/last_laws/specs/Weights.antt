@@ -6,10 +6,10 @@ use Rattle.row_model.specs.Rows.{key_cmp}
 use Rattle.fleet_model.specs.Nodes.{NodeName, L0, Run, names_contain, Tables, Trees, names, tree_at}
 use Rattle.fleet_model.specs.Jobs.{JobSpec, is_drain, Job, Submitted, Compacted, has_status}
 use Rattle.fleet_model.specs.History.{Step}
-use Rattle.fleet_model.specs.Gates.{are_distinct}
+use Rattle.fleet_model.specs.Work.Gates.{are_distinct}
 use Rattle.fleet_model.specs.Trees.{stepped_in}
-use Rattle.fleet_model.specs.PollStates.{PollInput}
-use Rattle.step_model.specs.PollSteps.{PollAsk, first_steps, last_steps}
+use Rattle.fleet_model.specs.Work.PollStates.{PollInput}
+use Rattle.step_model.specs.Steps.PollSteps.{PollAsk, first_steps, last_steps}
 
 -- A flush weighs 2, and a run weighs 1.
 abbrev pub weight : NodeName → ℕ

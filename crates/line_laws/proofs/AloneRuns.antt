@@ -7,9 +7,9 @@ use Rattle.fleet_model.specs.Store.{Store}
 use Rattle.fleet_model.specs.Exchanges.{Exchange, Plain, DrawsJob, DrawsTable, PutsTable, PutsManifest, PutsRecords, ListsTables, DeletesTable, Fault, event_of, after_answered, strikes, waiting_after, struck_by, does_stand}
 use Rattle.step_model.specs.Past.{World}
 use Rattle.step_model.specs.Rivals.{Caller, Rivals, Strike, store_after_call, after_call}
-use Rattle.step_model.specs.Course.{Course, Ends, Calls}
-use Rattle.step_model.specs.CourseRuns.{HasRoom}
-use Rattle.step_model.specs.Alone.{AloneEnd, run_alone}
+use Rattle.step_model.specs.Courses.Course.{Course, Ends, Calls}
+use Rattle.step_model.specs.Courses.CourseRuns.{HasRoom}
+use Rattle.step_model.specs.Courses.Alone.{AloneEnd, run_alone}
 use Rattle.course_laws.proofs.Later.{entry_by, call_history}
 use Rattle.line_laws.specs.Alone.{HadRoom, IsRun, AloneRuns}
 

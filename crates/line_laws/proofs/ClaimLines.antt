@@ -4,9 +4,9 @@ use Rattle.std.specs.Prelude.{◌==◌, find}
 use Rattle.std.proofs.lemmas.Bool.Decides.{Decides-eqb}
 use Rattle.fleet_model.specs.History.{Worker}
 use Rattle.fleet_model.specs.Store.{stored_jobs}
-use Rattle.fleet_model.specs.Parties.{Attempt, LiveWorker, Parties, worker_with, with_worker, without_worker}
+use Rattle.fleet_model.specs.Work.Parties.{Attempt, LiveWorker, Parties, worker_with, with_worker, without_worker}
 use Rattle.step_model.specs.Rivals.{Caller}
-use Rattle.step_model.specs.ClaimSteps.{Claimed, claim}
+use Rattle.step_model.specs.Steps.ClaimSteps.{Claimed, claim}
 use Rattle.commit_laws.proofs.AllCalls.{calls_keep}
 use Rattle.course_laws.proofs.Claims.{claims_are_lawful}
 use Rattle.script_model.specs.Script.{ClaimJobs}
@@ -15,9 +15,9 @@ use Rattle.script_model.specs.Replies.{claim_reply}
 use Rattle.script_model.specs.LineRuns.{run_line, no_such_party, if_some, LineCourse}
 use Rattle.script_model.specs.LineCourses.{course_of}
 use Rattle.script_model.specs.LineSteps.{OneCourse}
-use Rattle.script_model.specs.WorkLines.{worker_options, running, worker_line, claim_line}
-use Rattle.script_model.specs.Settles.{is_ok}
-use Rattle.line_laws.specs.ClaimLines.{begun_in, ClaimRan, ClaimsTake}
+use Rattle.script_model.specs.Lines.WorkLines.{worker_options, running, worker_line, claim_line}
+use Rattle.script_model.specs.Lines.Settles.{is_ok}
+use Rattle.line_laws.specs.Lines.ClaimLines.{begun_in, ClaimRan, ClaimsTake}
 use Rattle.line_laws.proofs.Lines.{caller_of, world_of}
 use Rattle.line_laws.proofs.WorkerLines.{is_worker}
 use Rattle.line_laws.proofs.Reports.{step_reported}

@@ -8,25 +8,25 @@ use Rattle.fleet_model.specs.Nodes.{Tables}
 use Rattle.fleet_model.specs.Jobs.{Job, Jobs, Scheduled, Running, has_status, ids, contains}
 use Rattle.fleet_model.specs.History.{Event, GetManifest, GetRecords, Claim}
 use Rattle.fleet_model.specs.Store.{Manifest, Records, Store, stored_jobs, jobs_in}
-use Rattle.fleet_model.specs.Attempts.{ClaimInput}
-use Rattle.fleet_model.specs.Records.{jobs_after}
-use Rattle.fleet_model.specs.Parties.{Attempt, LiveWorker, attempt_jobs, with_attempts, without_attempts}
-use Rattle.fleet_model.specs.JobsFit.{OpenedStands}
-use Rattle.fleet_model.specs.Claims.{is_waiting, may_take, stopped_jobs, claimed_jobs, claimed_attempt}
+use Rattle.fleet_model.specs.Work.Attempts.{ClaimInput}
+use Rattle.fleet_model.specs.Work.Records.{jobs_after}
+use Rattle.fleet_model.specs.Work.Parties.{Attempt, LiveWorker, attempt_jobs, with_attempts, without_attempts}
+use Rattle.fleet_model.specs.Invariants.JobsFit.{OpenedStands}
+use Rattle.fleet_model.specs.Work.Claims.{is_waiting, may_take, stopped_jobs, claimed_jobs, claimed_attempt}
 use Rattle.fleet_model.specs.Exchanges.{Plain, PutsRecords, records_version, after_exchange}
 use Rattle.step_model.specs.Past.{World}
 use Rattle.step_model.specs.Rivals.{Caller, after_call}
-use Rattle.step_model.specs.Keeps.{Keeps}
-use Rattle.step_model.specs.Course.{Course, Ends, Calls, calls_each}
-use Rattle.step_model.specs.Tries.{tries}
-use Rattle.step_model.specs.StepEnds.{StepEnd, Reports, most_refused}
-use Rattle.step_model.specs.ClaimSteps.{WorkerOptions, Claimed, at_moment, can_start, plan_of, starts_claimed, claim_of, claim_by, claim_try, claim}
+use Rattle.step_model.specs.Kept.Keeps.{Keeps}
+use Rattle.step_model.specs.Courses.Course.{Course, Ends, Calls, calls_each}
+use Rattle.step_model.specs.Courses.Tries.{tries}
+use Rattle.step_model.specs.Courses.StepEnds.{StepEnd, Reports, most_refused}
+use Rattle.step_model.specs.Steps.ClaimSteps.{WorkerOptions, Claimed, at_moment, can_start, plan_of, starts_claimed, claim_of, claim_by, claim_try, claim}
 use Rattle.step_laws.specs.Runs.{CallsKeep}
 use Rattle.step_laws.proofs.Elements.{all_at, all_to}
 use Rattle.commit_laws.proofs.Stretches.{filter_all}
 use Rattle.course_laws.proofs.Calls.{all_take, filtered, and_first}
 use Rattle.worker_laws.proofs.CanStart.{stands_starts}
-use Rattle.line_laws.specs.ClaimLines.{with_claimed}
+use Rattle.line_laws.specs.Lines.ClaimLines.{with_claimed}
 use Rattle.line_laws.proofs.PollRuns.{Going, alone_next, RecordsPut, records_put}
 
 -- ---- jobs that can start

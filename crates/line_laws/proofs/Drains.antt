@@ -12,14 +12,14 @@ use Rattle.fleet_model.specs.Nodes.{Tables, table_rows, rows_or_none, NodeName, 
 use Rattle.fleet_model.specs.Jobs.{JobSpec, Job, contains, job_with}
 use Rattle.fleet_model.specs.History.{Party, Step, Join, Move, Drain}
 use Rattle.fleet_model.specs.Store.{Records, jobs_in, stored_jobs}
-use Rattle.fleet_model.specs.Replay.{outputs_in, outputs_of}
+use Rattle.fleet_model.specs.Past.Replay.{outputs_in, outputs_of}
 use Rattle.fleet_model.specs.Trees.{source_nodes, without_nodes, on_segment, stepped_in, stepped_all, watermark_after, job_of}
-use Rattle.fleet_model.specs.JobsFit.{was_joined}
-use Rattle.fleet_model.specs.TreesFit.{IsNewer, IsTable, node_and_flushed_rows}
+use Rattle.fleet_model.specs.Invariants.JobsFit.{was_joined}
+use Rattle.fleet_model.specs.Invariants.TreesFit.{IsNewer, IsTable, node_and_flushed_rows}
 use Rattle.step_model.specs.Past.{World}
 use Rattle.step_model.specs.Entries.{drew_job, is_mentioned}
 use Rattle.step_model.specs.LawfulManifests.{IsKnownTo, StepFits, StepsFit}
-use Rattle.step_model.specs.Keeps.{Keeps}
+use Rattle.step_model.specs.Kept.Keeps.{Keeps}
 use Rattle.step_laws.proofs.Elements.{IsIn, all_at, all_from, all_to, all_front, all_back, in_back, in_contains, contains_in, all_true_front}
 use Rattle.step_laws.proofs.Bodies.{whole_of}
 use Rattle.step_laws.proofs.Deletions.{in_flat}

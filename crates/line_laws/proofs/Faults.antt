@@ -4,10 +4,10 @@ use Rattle.std.specs.Prelude.{IsTrue, ◌&&◌, ◌==◌, map}
 use Rattle.fleet_model.specs.History.{Party, Event, is_get_or_put, Entry}
 use Rattle.fleet_model.specs.Store.{Store}
 use Rattle.fleet_model.specs.Exchanges.{Exchange, Fault, event_of, answer_of, after_answered, strikes, waiting_after, struck_by, does_stand}
-use Rattle.step_model.specs.Course.{Course, Ends, Calls}
-use Rattle.step_model.specs.Alone.{AloneEnd, run_alone}
+use Rattle.step_model.specs.Courses.Course.{Course, Ends, Calls}
+use Rattle.step_model.specs.Courses.Alone.{AloneEnd, run_alone}
 use Rattle.course_laws.proofs.Later.{call_history}
-use Rattle.line_laws.specs.PollRuns.{Answered, entry_of}
+use Rattle.line_laws.specs.Lines.PollRuns.{Answered, entry_of}
 use Rattle.line_laws.specs.Faults.{calls_made, answer_made, struck_answer, MadeOf, AllMade, CutAt, answer_if, RunsCut, FaultsCut}
 
 counts : (event : Event) (fault : Option Fault) → strikes event fault ≡ true → IsTrue (is_get_or_put event)

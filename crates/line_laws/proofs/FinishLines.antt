@@ -3,9 +3,9 @@ use Rattle.std.proofs.Common.{◌≡◌, refl, sym, ◌∙◌, ap, ℕ, List, []
 use Rattle.std.specs.Prelude.{codes}
 use Rattle.fleet_model.specs.History.{Worker}
 use Rattle.fleet_model.specs.Store.{Store, stored_jobs}
-use Rattle.fleet_model.specs.Parties.{Attempt, LiveWorker, worker_with, without_worker}
+use Rattle.fleet_model.specs.Work.Parties.{Attempt, LiveWorker, worker_with, without_worker}
 use Rattle.step_model.specs.Rivals.{Caller}
-use Rattle.step_model.specs.FinishSteps.{FinishedJob, finish}
+use Rattle.step_model.specs.Steps.FinishSteps.{FinishedJob, finish}
 use Rattle.commit_laws.proofs.AllCalls.{calls_keep}
 use Rattle.course_laws.proofs.Finishes.{finishes_are_lawful}
 use Rattle.script_model.specs.Script.{FinishJob}
@@ -15,9 +15,9 @@ use Rattle.script_model.specs.Refusals.{FinishMay}
 use Rattle.script_model.specs.LineRuns.{run_line, no_such_party, if_some, LineCourse}
 use Rattle.script_model.specs.LineCourses.{course_of, job_at}
 use Rattle.script_model.specs.LineSteps.{OneCourse}
-use Rattle.script_model.specs.WorkLines.{running, without_attempt, finish_asked, finish_line}
-use Rattle.script_model.specs.Settles.{is_ok}
-use Rattle.line_laws.specs.FinishLines.{FinishRan, FinishesEnd}
+use Rattle.script_model.specs.Lines.WorkLines.{running, without_attempt, finish_asked, finish_line}
+use Rattle.script_model.specs.Lines.Settles.{is_ok}
+use Rattle.line_laws.specs.Lines.FinishLines.{FinishRan, FinishesEnd}
 use Rattle.line_laws.proofs.Lines.{caller_of, world_of}
 use Rattle.line_laws.proofs.WorkerLines.{is_attempt, whole_unless}
 use Rattle.line_laws.proofs.Reports.{step_reported}

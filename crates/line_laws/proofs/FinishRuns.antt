@@ -6,20 +6,20 @@ use Rattle.row_model.specs.Rows.{Row}
 use Rattle.fleet_model.specs.Nodes.{Tables}
 use Rattle.fleet_model.specs.Jobs.{changed_jobs, trimmed_jobs}
 use Rattle.fleet_model.specs.History.{Event, GetRecords, Finish, Release}
-use Rattle.fleet_model.specs.Attempts.{finish_cut}
+use Rattle.fleet_model.specs.Work.Attempts.{finish_cut}
 use Rattle.fleet_model.specs.Store.{Records, Store, stored_jobs, jobs_in}
-use Rattle.fleet_model.specs.Records.{finished_by, Unrecorded, no_contexts, jobs_after}
-use Rattle.fleet_model.specs.Parties.{Attempt, LiveWorker, named_attempts, without_attempts, is_live}
+use Rattle.fleet_model.specs.Work.Records.{finished_by, Unrecorded, no_contexts, jobs_after}
+use Rattle.fleet_model.specs.Work.Parties.{Attempt, LiveWorker, named_attempts, without_attempts, is_live}
 use Rattle.fleet_model.specs.Exchanges.{Plain, DrawsTable, PutsTable, PutsRecords, records_version, next_table_id, after_exchange}
 use Rattle.step_model.specs.Past.{World}
 use Rattle.step_model.specs.Rivals.{Caller, after_call}
-use Rattle.step_model.specs.Course.{Course, Ends, Calls, calls_each, puts_tables, puts_ranges}
-use Rattle.step_model.specs.Tries.{tries}
-use Rattle.step_model.specs.StepEnds.{StepEnd, Reports, OperatorRefuses, most_refused}
-use Rattle.step_model.specs.ClaimSteps.{at_moment}
-use Rattle.step_model.specs.BeatSteps.{release_live, release_by, release_try}
-use Rattle.step_model.specs.OutputSteps.{gets_tables, unless_refused}
-use Rattle.step_model.specs.FinishSteps.{FinishAsk, FinishedJob, all_outputs, unrecorded_of_finish, ends_job, ends_job_by, end_try, end_job, tables_left, puts_and_ends, finish}
+use Rattle.step_model.specs.Courses.Course.{Course, Ends, Calls, calls_each, puts_tables, puts_ranges}
+use Rattle.step_model.specs.Courses.Tries.{tries}
+use Rattle.step_model.specs.Courses.StepEnds.{StepEnd, Reports, OperatorRefuses, most_refused}
+use Rattle.step_model.specs.Steps.ClaimSteps.{at_moment}
+use Rattle.step_model.specs.Steps.BeatSteps.{release_live, release_by, release_try}
+use Rattle.step_model.specs.Steps.OutputSteps.{gets_tables, unless_refused}
+use Rattle.step_model.specs.Steps.FinishSteps.{FinishAsk, FinishedJob, all_outputs, unrecorded_of_finish, ends_job, ends_job_by, end_try, end_job, tables_left, puts_and_ends, finish}
 use Rattle.step_laws.specs.Runs.{CallsKeep}
 use Rattle.line_laws.proofs.PollRuns.{Going, alone_next, RecordsPut, records_put}
 

@@ -7,13 +7,13 @@ use Rattle.row_model.specs.Lists.{Pairs}
 use Rattle.row_model.specs.Fold.{Operator}
 use Rattle.fleet_model.specs.Jobs.{JobSpec, Job, Jobs, Status, Submitted, Scheduled, Running, Compacted, Completed, Failed, status_eq, has_status, is_finished, is_active, contains, changed_jobs, put_job, trimmed_jobs, finished_later, job_with}
 use Rattle.fleet_model.specs.History.{Party, Event, PutManifest, PutRecords, ManifestChange, RecordChange, RecordsEpoch, Submit, Claim, Beat, Finish, Release, Polled, PollChange, Entry, stood}
-use Rattle.fleet_model.specs.Replay.{named_specs, plain_objects}
+use Rattle.fleet_model.specs.Past.Replay.{named_specs, plain_objects}
 use Rattle.fleet_model.specs.Store.{stored_jobs, fresh_store}
-use Rattle.fleet_model.specs.Records.{Unrecorded, firsts, new_job, with_new, claimed_by, beaten_by, finished_by, to_waiting, to_scheduled, to_completed, to_failed, after_change, after_poll}
-use Rattle.fleet_model.specs.Finished.{finishes_job, later_or, finished_after, is_finished_by}
+use Rattle.fleet_model.specs.Work.Records.{Unrecorded, firsts, new_job, with_new, claimed_by, beaten_by, finished_by, to_waiting, to_scheduled, to_completed, to_failed, after_change, after_poll}
+use Rattle.fleet_model.specs.Past.Finished.{finishes_job, later_or, finished_after, is_finished_by}
 use Rattle.step_model.specs.Past.{World}
 use Rattle.step_model.specs.Rivals.{Caller}
-use Rattle.step_model.specs.Keeps.{Keeps}
+use Rattle.step_model.specs.Kept.Keeps.{Keeps}
 use Rattle.step_model.specs.LawfulRecords.{OfSome, IsStoredAs, IsLiveAt, NamesFit, RecordsFit, ChangeFits, PollFits}
 use Rattle.step_laws.proofs.Elements.{IsIn, all_at, any_of, contains_in}
 use Rattle.step_laws.proofs.Changed.{found_job, job_found, on_these, by_these, all_on_these}

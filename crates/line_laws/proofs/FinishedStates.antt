@@ -5,19 +5,19 @@ use Rattle.std.specs.List.{AllByRecursion}
 use Rattle.std.proofs.lemmas.Bool.Decides.{Decides-eqb}
 use Rattle.row_model.specs.Lists.{Pairs}
 use Rattle.fleet_model.specs.Jobs.{Job, Jobs, Running, Compacted, has_status, contains, ids, changed_jobs, is_stale, job_with}
-use Rattle.fleet_model.specs.Records.{to_waiting}
-use Rattle.fleet_model.specs.Finished.{is_finished_by}
+use Rattle.fleet_model.specs.Work.Records.{to_waiting}
+use Rattle.fleet_model.specs.Past.Finished.{is_finished_by}
 use Rattle.fleet_model.specs.Store.{Store, stored_jobs}
-use Rattle.fleet_model.specs.PollStates.{PollInput, PollState, poll_begun}
-use Rattle.fleet_model.specs.Polls.{free_stale, commit_job}
-use Rattle.step_model.specs.PollSteps.{PollAsk}
+use Rattle.fleet_model.specs.Work.PollStates.{PollInput, PollState, poll_begun}
+use Rattle.fleet_model.specs.Work.Polls.{free_stale, commit_job}
+use Rattle.step_model.specs.Steps.PollSteps.{PollAsk}
 use Rattle.step_model.specs.LawfulRecords.{OfSome}
 use Rattle.step_laws.proofs.Elements.{IsIn, all_at, all_from, all_to, is_itself, any_element, in_contains, contains_in}
 use Rattle.step_laws.proofs.Changed.{found_job}
 use Rattle.course_laws.proofs.Calls.{and_first, filtered, all_map, in_map}
 use Rattle.line_laws.specs.States.{awaits_commit}
-use Rattle.line_laws.specs.FinishedJobs.{FinishedJobsWait}
-use Rattle.line_laws.specs.PollRuns.{input_at}
+use Rattle.line_laws.specs.Lines.FinishedJobs.{FinishedJobsWait}
+use Rattle.line_laws.specs.Lines.PollRuns.{input_at}
 use Rattle.coordinator_laws.specs.PollSays.{verdicts, all_verdicts, before_commits}
 use Rattle.coordinator_laws.proofs.PollReports.{got_jobs}
 use Rattle.line_laws.proofs.FinishedJobs.{awaits, none_awaits, other_awaits_none, stored_has, status_not}

@@ -7,10 +7,10 @@ use Rattle.fleet_model.specs.Exchanges.{Exchange, Plain, PutsTable, event_of, an
 use Rattle.step_model.specs.Past.{World}
 use Rattle.step_model.specs.Entries.{party_eq, last_from, is_pending_in, is_put_of}
 use Rattle.step_model.specs.Rivals.{Caller, Strike, after_call}
-use Rattle.step_model.specs.Course.{Course, Ends, Calls, then_course, puts_manifest}
-use Rattle.step_model.specs.CourseRuns.{End, Gives, MeetsFault, LacksMemory, Runs}
-use Rattle.step_model.specs.StepEnds.{StepEnd, Reports, FlushFault, most_refused}
-use Rattle.step_model.specs.FlushSteps.{FlushAsk, flush, flushes_from, unless_bad, puts_unless_put, fault_before_get, fault_after_get, with_flush}
+use Rattle.step_model.specs.Courses.Course.{Course, Ends, Calls, then_course, puts_manifest}
+use Rattle.step_model.specs.Courses.CourseRuns.{End, Gives, MeetsFault, LacksMemory, Runs}
+use Rattle.step_model.specs.Courses.StepEnds.{StepEnd, Reports, FlushFault, most_refused}
+use Rattle.step_model.specs.Steps.FlushSteps.{FlushAsk, flush, flushes_from, unless_bad, puts_unless_put, fault_before_get, fault_after_get, with_flush}
 use Rattle.course_laws.proofs.Later.{entry_by, call_history}
 use Rattle.course_laws.proofs.Sweeps.{NonePending}
 use Rattle.line_laws.proofs.Steps.{HasEnded}

@@ -6,7 +6,7 @@ use Rattle.script_model.specs.LineRuns.{run_line}
 use Rattle.script_model.specs.LineCourses.{prepared_state, course_of, job_at}
 use Rattle.script_model.specs.Refusals.{FinishMay}
 use Rattle.script_model.specs.LineSteps.{MayRefuse, OneCourse}
-use Rattle.script_model.specs.Settles.{is_ok, are_live, jobs_run, has_active, has_added, settled_reply, all_taken}
+use Rattle.script_model.specs.Lines.Settles.{is_ok, are_live, jobs_run, has_active, has_added, settled_reply, all_taken}
 use Rattle.script_model.proofs.Rounds.{settle_folds, EndsOr, Step, FinishesInTurn, AfterPoll, Rounds}
 use Rattle.script_model.specs.Follows.{SettleStep}
 use Rattle.line_laws.specs.Goes.{LinesGo}

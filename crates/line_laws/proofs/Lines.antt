@@ -4,14 +4,14 @@ use Rattle.std.specs.Prelude.{◌==◌, not, ⊤}
 use Rattle.row_model.specs.Fold.{Operator, IsLawful}
 use Rattle.fleet_model.specs.History.{Party, Writer, Submitter, Sweeper, Worker, Coordinator}
 use Rattle.fleet_model.specs.Store.{Store}
-use Rattle.fleet_model.specs.Parties.{LiveWorker, LiveCoordinator, Parties, without_coordinator, without_worker, with_coordinator, with_worker}
+use Rattle.fleet_model.specs.Work.Parties.{LiveWorker, LiveCoordinator, Parties, without_coordinator, without_worker, with_coordinator, with_worker}
 use Rattle.step_model.specs.Past.{World}
 use Rattle.step_model.specs.Rivals.{Caller}
-use Rattle.step_model.specs.Keeps.{Keeps}
+use Rattle.step_model.specs.Kept.Keeps.{Keeps}
 use Rattle.step_model.specs.Fits.{WorkerHolds, CoordinatorHolds}
-use Rattle.step_model.specs.Course.{Course}
-use Rattle.step_model.specs.CourseRuns.{End, Gives, MeetsFault, Runs, IsLawfulCourse}
-use Rattle.step_model.specs.Alone.{AloneEnd, run_alone}
+use Rattle.step_model.specs.Courses.Course.{Course}
+use Rattle.step_model.specs.Courses.CourseRuns.{End, Gives, MeetsFault, Runs, IsLawfulCourse}
+use Rattle.step_model.specs.Courses.Alone.{AloneEnd, run_alone}
 use Rattle.step_laws.proofs.Elements.{IsIn, all_at, all_from, all_to}
 use Rattle.step_laws.proofs.Runs.{runs_keep}
 use Rattle.step_laws.proofs.TableReplays.{all_filter}

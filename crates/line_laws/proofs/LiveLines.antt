@@ -5,15 +5,15 @@ use Rattle.std.specs.List.{AllByRecursion}
 use Rattle.fleet_model.specs.Jobs.{contains}
 use Rattle.fleet_model.specs.History.{Party, Writer, Submitter, Coordinator, Worker, Sweeper, Event, GetManifest, GetRecords, GetTable, Start, Kill, Answer, Done, Absent, Conflict, Entry, is_get_or_put}
 use Rattle.fleet_model.specs.Store.{Records, Store, is_held}
-use Rattle.fleet_model.specs.Live.{is_fault}
-use Rattle.fleet_model.specs.Parties.{LiveWorker, Parties, worker_with, without_worker, with_worker, Attempt}
+use Rattle.fleet_model.specs.Past.Live.{is_fault}
+use Rattle.fleet_model.specs.Work.Parties.{LiveWorker, Parties, worker_with, without_worker, with_worker, Attempt}
 use Rattle.fleet_model.specs.Exchanges.{Exchange, Plain, DrawsJob, DrawsTable, PutsTable, PutsManifest, PutsRecords, ListsTables, DeletesTable, event_of, answer_of, records_answer, records_version, after_answered, does_stand}
-use Rattle.step_model.specs.Alone.{AloneEnd, run_alone}
-use Rattle.step_model.specs.Course.{Course, Ends, Calls}
+use Rattle.step_model.specs.Courses.Alone.{AloneEnd, run_alone}
+use Rattle.step_model.specs.Courses.Course.{Course, Ends, Calls}
 use Rattle.step_laws.proofs.Elements.{all_front}
 use Rattle.script_model.specs.States.{State}
 use Rattle.script_model.specs.LineRuns.{LineEnd, LineCourse, run_line, end_or_fault, after_line}
-use Rattle.line_laws.specs.PollRuns.{Answered, entry_of}
+use Rattle.line_laws.specs.Lines.PollRuns.{Answered, entry_of}
 use Rattle.line_laws.specs.Faults.{calls_made, answer_made, struck_answer, MadeOf, AllMade, CutAt, answer_if, RunsCut}
 use Rattle.line_laws.proofs.Faults.{runs_cut}
 use Rattle.line_laws.proofs.QuietCalls.{is_note, IsQuiet, AreQuiet}

@@ -6,36 +6,36 @@ use Rattle.std.proofs.lemmas.Bool.Decides.{Decides-eqb}
 use Rattle.row_model.specs.Ranges.{Range}
 use Rattle.fleet_model.specs.History.{Party, Writer, Submitter, Coordinator, Worker, Sweeper, Event, Start, Kill, Done}
 use Rattle.fleet_model.specs.Store.{Store}
-use Rattle.fleet_model.specs.Parties.{LiveWorker, LiveCoordinator, Parties, worker_with, coordinator_with, without_coordinator, with_coordinator, without_worker, with_worker, Attempt}
+use Rattle.fleet_model.specs.Work.Parties.{LiveWorker, LiveCoordinator, Parties, worker_with, coordinator_with, without_coordinator, with_coordinator, without_worker, with_worker, Attempt}
 use Rattle.fleet_model.specs.Exchanges.{event_of, answer_of, after_answered, does_stand}
-use Rattle.step_model.specs.Course.{Course, Ends, Calls, then_course, calls_each}
-use Rattle.step_model.specs.StepEnds.{StepEnd, Reports}
-use Rattle.step_model.specs.PollSteps.{start, poll}
-use Rattle.step_model.specs.BeatSteps.{release_all}
+use Rattle.step_model.specs.Courses.Course.{Course, Ends, Calls, then_course, calls_each}
+use Rattle.step_model.specs.Courses.StepEnds.{StepEnd, Reports}
+use Rattle.step_model.specs.Steps.PollSteps.{start, poll}
+use Rattle.step_model.specs.Steps.BeatSteps.{release_all}
 use Rattle.script_model.specs.Script.{Line, Options, Clock, StartCoordinator, StartWorker, KillCoordinator, KillWorker, StopCoordinator, StopWorker, FlushRows, SubmitJob, SubmitDrain, SubmitFull, Poll, CommitOnly, ClaimJobs, Heartbeat, Output, FinishJob, SetFault, Sweep, Settle, Together}
 use Rattle.script_model.specs.States.{Inputs, State, fresh_state}
-use Rattle.script_model.specs.Settles.{are_live}
+use Rattle.script_model.specs.Lines.Settles.{are_live}
 use Rattle.script_model.specs.Follows.{LineStep, ScriptRun}
 use Rattle.script_model.specs.LineRuns.{LineEnd, LineCourse, run_line, no_such_party, if_some, step_line, noted_line, line_end}
 use Rattle.script_model.specs.LineCourses.{prepared_state, course_of, job_at, range_at, attempt_numbered}
 use Rattle.script_model.specs.LineSteps.{OneCourse}
-use Rattle.script_model.specs.Starts.{killed_first, start_notes, only_notes, release_named, start_coordinator, end_coordinator, start_worker, kill_worker}
-use Rattle.fleet_model.specs.PollStates.{PollState}
+use Rattle.script_model.specs.Lines.Starts.{killed_first, start_notes, only_notes, release_named, start_coordinator, end_coordinator, start_worker, kill_worker}
+use Rattle.fleet_model.specs.Work.PollStates.{PollState}
 use Rattle.script_model.specs.Replies.{ok, reply, jobs_text, poll_reply, commit_reply, output_reply, claim_reply, beat_reply, ranges_text, tables_text}
-use Rattle.script_model.specs.PollLines.{polls, poll_ask}
-use Rattle.step_model.specs.ClaimSteps.{claim}
-use Rattle.step_model.specs.BeatSteps.{heartbeat}
-use Rattle.step_model.specs.OutputSteps.{output}
-use Rattle.step_model.specs.FinishSteps.{finish}
-use Rattle.step_model.specs.SubmitSteps.{submit, submit_request}
-use Rattle.step_model.specs.FlushSteps.{flush}
-use Rattle.step_model.specs.SweepSteps.{sweep}
+use Rattle.script_model.specs.Lines.PollLines.{polls, poll_ask}
+use Rattle.step_model.specs.Steps.ClaimSteps.{claim}
+use Rattle.step_model.specs.Steps.BeatSteps.{heartbeat}
+use Rattle.step_model.specs.Steps.OutputSteps.{output}
+use Rattle.step_model.specs.Steps.FinishSteps.{finish}
+use Rattle.step_model.specs.Steps.SubmitSteps.{submit, submit_request}
+use Rattle.step_model.specs.Steps.FlushSteps.{flush}
+use Rattle.step_model.specs.Steps.SweepSteps.{sweep}
 use Rattle.step_model.specs.Entries.{last_name}
 use Rattle.fleet_model.specs.Sweeps.{pinned_tables}
-use Rattle.script_model.specs.Submits.{submits, request_of}
-use Rattle.script_model.specs.Sweeps.{sweep_line, by_number}
-use Rattle.script_model.specs.WorkLines.{worker_options, worker_line, running, claim_line, heartbeat_line, output_asked, output_line, finish_asked, finish_line, without_attempt, stop_worker}
-use Rattle.line_laws.specs.PollRuns.{Answered, entry_of}
+use Rattle.script_model.specs.Lines.Submits.{submits, request_of}
+use Rattle.script_model.specs.Lines.Sweeps.{sweep_line, by_number}
+use Rattle.script_model.specs.Lines.WorkLines.{worker_options, worker_line, running, claim_line, heartbeat_line, output_asked, output_line, finish_asked, finish_line, without_attempt, stop_worker}
+use Rattle.line_laws.specs.Lines.PollRuns.{Answered, entry_of}
 use Rattle.line_laws.specs.Faults.{calls_made, answer_made, struck_answer}
 use Rattle.line_laws.specs.Live.{LiveWorkers}
 use Rattle.line_laws.proofs.Parties.{found}

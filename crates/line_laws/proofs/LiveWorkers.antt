@@ -6,9 +6,9 @@ use Rattle.fleet_model.specs.Nodes.{Tables}
 use Rattle.fleet_model.specs.Jobs.{JobSpec, contains}
 use Rattle.fleet_model.specs.History.{Party, Writer, Submitter, Coordinator, Worker, Sweeper, Event, GetManifest, GetRecords, PutManifest, ManifestEpoch, Start, Kill, Answer, Done, Entry}
 use Rattle.fleet_model.specs.Store.{fresh_store, records_epoch}
-use Rattle.fleet_model.specs.Replay.{after_entry, plain_objects}
-use Rattle.fleet_model.specs.Live.{LiveParties, is_fault, last_epoch, without_coordinator_of, fenced_by, coordinator_did, worker_did, party_did, live_from}
-use Rattle.fleet_model.specs.Parties.{LiveWorker, Parties, worker_with, without_worker, with_worker}
+use Rattle.fleet_model.specs.Past.Replay.{after_entry, plain_objects}
+use Rattle.fleet_model.specs.Past.Live.{LiveParties, is_fault, last_epoch, without_coordinator_of, fenced_by, coordinator_did, worker_did, party_did, live_from}
+use Rattle.fleet_model.specs.Work.Parties.{LiveWorker, Parties, worker_with, without_worker, with_worker}
 use Rattle.line_laws.specs.Live.{WorkersAreLive}
 use Rattle.script_model.specs.States.{State}
 

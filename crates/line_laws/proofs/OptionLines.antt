@@ -6,7 +6,7 @@ use Rattle.script_model.specs.States.{Inputs, State, fresh_state}
 use Rattle.script_model.specs.LineCourses.{prepared_state}
 use Rattle.script_model.specs.LineSteps.{OneCourse}
 use Rattle.script_model.specs.Grammars.{is_options}
-use Rattle.script_model.specs.Settles.{are_live}
+use Rattle.script_model.specs.Lines.Settles.{are_live}
 use Rattle.script_model.specs.Follows.{LineStep, ScriptRun}
 use Rattle.line_laws.specs.Ran.{IsStepOf}
 use Rattle.line_laws.specs.Texts.{options_of, OptionsStay}

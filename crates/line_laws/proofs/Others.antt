@@ -5,7 +5,7 @@ use Rattle.std.proofs.lemmas.Bool.Decides.{Decides-eqb}
 use Rattle.row_model.specs.Fold.{Operator}
 use Rattle.fleet_model.specs.History.{Party, Writer, Sweeper, Worker, Coordinator, Entry, stood}
 use Rattle.fleet_model.specs.Store.{records_epoch}
-use Rattle.fleet_model.specs.Parties.{LiveWorker, LiveCoordinator}
+use Rattle.fleet_model.specs.Work.Parties.{LiveWorker, LiveCoordinator}
 use Rattle.fleet_model.specs.Exchanges.{Exchange, Plain, DrawsJob, DrawsTable, PutsTable, PutsManifest, PutsRecords, ListsTables, DeletesTable, records_version, after_exchange}
 use Rattle.step_model.specs.Past.{World}
 use Rattle.step_model.specs.Entries.{party_eq, is_epoch_put, did_put_epoch, is_pending_in, last_from}

@@ -4,15 +4,15 @@ use Rattle.std.specs.Prelude.{IsTrue, ◌==◌}
 use Rattle.row_model.specs.Fold.{Operator}
 use Rattle.fleet_model.specs.Jobs.{Job, Compacted, has_status}
 use Rattle.fleet_model.specs.Store.{stored_jobs, is_held}
-use Rattle.fleet_model.specs.JobsFit.{OutputsFit, OpenedStands, was_joined}
+use Rattle.fleet_model.specs.Invariants.JobsFit.{OutputsFit, OpenedStands, was_joined}
 use Rattle.step_model.specs.Past.{World}
-use Rattle.step_model.specs.Keeps.{Keeps}
+use Rattle.step_model.specs.Kept.Keeps.{Keeps}
 use Rattle.step_laws.proofs.Elements.{IsIn, all_at, all_true_from}
 use Rattle.step_laws.proofs.Bodies.{whole_of}
 use Rattle.commit_laws.proofs.Joins.{not_was}
 use Rattle.worker_laws.proofs.Sources.{sources_held}
 use Rattle.worker_laws.specs.FinishReports.{OneMerge}
-use Rattle.line_laws.specs.Outputs.{OutputsAreWhole}
+use Rattle.line_laws.specs.Lines.Outputs.{OutputsAreWhole}
 use Rattle.line_laws.proofs.Parties.{found}
 use Rattle.line_laws.proofs.Lines.{world_of}
 

@@ -5,18 +5,18 @@ use Rattle.std.specs.List.{AllByRecursion}
 use Rattle.row_model.specs.Fold.{Operator, IsLawful}
 use Rattle.fleet_model.specs.History.{Party, Writer, Coordinator, Worker, Event, Start, Kill, is_get_or_put}
 use Rattle.fleet_model.specs.Store.{Store}
-use Rattle.fleet_model.specs.Parties.{LiveWorker, LiveCoordinator, Parties, coordinator_with, worker_with, without_coordinator, without_worker, with_coordinator, with_worker}
+use Rattle.fleet_model.specs.Work.Parties.{LiveWorker, LiveCoordinator, Parties, coordinator_with, worker_with, without_coordinator, without_worker, with_coordinator, with_worker}
 use Rattle.fleet_model.specs.Exchanges.{Plain}
 use Rattle.step_model.specs.Past.{World}
 use Rattle.step_model.specs.Entries.{party_eq}
 use Rattle.step_model.specs.LawfulTables.{PlainFits}
 use Rattle.step_model.specs.Rivals.{Caller, after_call}
-use Rattle.step_model.specs.Keeps.{Keeps}
+use Rattle.step_model.specs.Kept.Keeps.{Keeps}
 use Rattle.step_model.specs.Fits.{CoordinatorHolds}
-use Rattle.step_model.specs.Course.{Course, Ends, calls_each}
-use Rattle.step_model.specs.CourseRuns.{End, Gives, MeetsFault, Runs, IsLawfulCourse}
-use Rattle.step_model.specs.StepEnds.{StepEnd, Reports}
-use Rattle.step_model.specs.PollSteps.{start}
+use Rattle.step_model.specs.Courses.Course.{Course, Ends, calls_each}
+use Rattle.step_model.specs.Courses.CourseRuns.{End, Gives, MeetsFault, Runs, IsLawfulCourse}
+use Rattle.step_model.specs.Courses.StepEnds.{StepEnd, Reports}
+use Rattle.step_model.specs.Steps.PollSteps.{start}
 use Rattle.step_laws.specs.Runs.{CallsKeep}
 use Rattle.step_laws.proofs.Runs.{runs_keep}
 use Rattle.step_laws.proofs.Elements.{all_append}
@@ -28,7 +28,7 @@ use Rattle.coordinator_laws.proofs.Coordinators.{starts_fit}
 use Rattle.script_model.specs.States.{State}
 use Rattle.script_model.specs.Replies.{ok, reply}
 use Rattle.script_model.specs.LineRuns.{LineEnd, LineCourse, run_line, line_end, no_such_party, if_some}
-use Rattle.script_model.specs.Starts.{killed_first, start_notes, start_coordinator, only_notes, release_named, start_worker, end_coordinator, kill_worker}
+use Rattle.script_model.specs.Lines.Starts.{killed_first, start_notes, start_coordinator, only_notes, release_named, start_worker, end_coordinator, kill_worker}
 use Rattle.line_laws.specs.Alone.{HadRoom}
 use Rattle.line_laws.specs.States.{FleetKeeps, StateKeeps}
 use Rattle.line_laws.proofs.Courses.{Split, split, all_calls, runs_hold, then_lawful, notes_lawful}

@@ -5,23 +5,23 @@ use Rattle.std.proofs.lemmas.Bool.Decides.{Decides-eqb}
 use Rattle.fleet_model.specs.Jobs.{JobSpec, trimmed_jobs}
 use Rattle.fleet_model.specs.Store.{Manifest, Records, Store}
 use Rattle.fleet_model.specs.History.{Party, Event, Coordinator, GetManifest, GetRecords, PutManifest, PutRecords, Commit, Polled, Done, Conflict}
-use Rattle.fleet_model.specs.PollStates.{PollState}
-use Rattle.fleet_model.specs.Polls.{change_of, is_nothing}
-use Rattle.fleet_model.specs.Parties.{LiveCoordinator, Parties, coordinator_with, without_coordinator}
+use Rattle.fleet_model.specs.Work.PollStates.{PollState}
+use Rattle.fleet_model.specs.Work.Polls.{change_of, is_nothing}
+use Rattle.fleet_model.specs.Work.Parties.{LiveCoordinator, Parties, coordinator_with, without_coordinator}
 use Rattle.fleet_model.specs.Exchanges.{Plain, DrawsJob, PutsManifest, PutsRecords, records_version, records_answer, next_job_id, event_of, answer_of, after_answered, does_stand}
-use Rattle.step_model.specs.Alone.{AloneEnd, run_alone}
-use Rattle.step_model.specs.Course.{Course, Ends, Calls, then_course, draws_jobs, gets_records, puts_manifest, puts_records}
-use Rattle.step_model.specs.Tries.{counted_tries}
-use Rattle.step_model.specs.StepEnds.{StepEnd, Reports, GivesUp, Fenced, most_refused}
-use Rattle.step_model.specs.PollSteps.{PollAsk, poll, poll_try, polls_over, puts_trees, puts_polled, unless_fenced, records_or_none, first_steps, proposed_specs, merged_into, is_unchanged}
+use Rattle.step_model.specs.Courses.Alone.{AloneEnd, run_alone}
+use Rattle.step_model.specs.Courses.Course.{Course, Ends, Calls, then_course, draws_jobs, gets_records, puts_manifest, puts_records}
+use Rattle.step_model.specs.Courses.Tries.{counted_tries}
+use Rattle.step_model.specs.Courses.StepEnds.{StepEnd, Reports, GivesUp, Fenced, most_refused}
+use Rattle.step_model.specs.Steps.PollSteps.{PollAsk, poll, poll_try, polls_over, puts_trees, puts_polled, unless_fenced, records_or_none, first_steps, proposed_specs, merged_into, is_unchanged}
 use Rattle.step_laws.proofs.Elements.{is_itself}
 use Rattle.script_model.specs.States.{Inputs, State}
 use Rattle.script_model.specs.LineRuns.{LineEnd, run_line, end_or_fault, after_line, step_line, line_end, no_such_party, if_some}
-use Rattle.script_model.specs.PollLines.{poll_ask, polls}
-use Rattle.line_laws.specs.PollRuns.{Answered, entry_of, draw_of, with_ids, drawn_at, reached_state, input_at, gets_at, calls_before, manifest_puts, records_puts, puts_of}
-use Rattle.line_laws.specs.PollLines.{spell_poll}
+use Rattle.script_model.specs.Lines.PollLines.{poll_ask, polls}
+use Rattle.line_laws.specs.Lines.PollRuns.{Answered, entry_of, draw_of, with_ids, drawn_at, reached_state, input_at, gets_at, calls_before, manifest_puts, records_puts, puts_of}
+use Rattle.line_laws.specs.Lines.PollLines.{spell_poll}
 use Rattle.line_laws.specs.Faults.{calls_made, answer_made, MadeOf, AllMade, CutAt, answer_if, RunsCut}
-use Rattle.line_laws.specs.PollCalls.{reached_at, calls_of, ends_as, PollCalled, PollCalledBy, PollsCall}
+use Rattle.line_laws.specs.Lines.PollCalls.{reached_at, calls_of, ends_as, PollCalled, PollCalledBy, PollsCall}
 use Rattle.line_laws.proofs.Faults.{runs_cut}
 use Rattle.line_laws.proofs.PollRuns.{got_version, put_manifest_left}
 use Rattle.line_laws.proofs.PollLines.{whole_is, only_is}

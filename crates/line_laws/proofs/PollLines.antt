@@ -8,12 +8,12 @@ use Rattle.fleet_model.specs.Nodes.{tree_at}
 use Rattle.fleet_model.specs.Jobs.{JobSpec, Job}
 use Rattle.fleet_model.specs.History.{Party, Coordinator, Step, Join}
 use Rattle.fleet_model.specs.Store.{Manifest, Store}
-use Rattle.fleet_model.specs.Parties.{LiveCoordinator, coordinator_with, without_coordinator}
-use Rattle.fleet_model.specs.PollStates.{PollState}
+use Rattle.fleet_model.specs.Work.Parties.{LiveCoordinator, coordinator_with, without_coordinator}
+use Rattle.fleet_model.specs.Work.PollStates.{PollState}
 use Rattle.step_model.specs.Rivals.{Caller}
 use Rattle.step_model.specs.Fits.{CoordinatorHolds}
-use Rattle.step_model.specs.CourseRuns.{IsLawfulCourse}
-use Rattle.step_model.specs.PollSteps.{poll}
+use Rattle.step_model.specs.Courses.CourseRuns.{IsLawfulCourse}
+use Rattle.step_model.specs.Steps.PollSteps.{poll}
 use Rattle.step_laws.proofs.Elements.{all_at}
 use Rattle.commit_laws.proofs.AllCalls.{calls_keep}
 use Rattle.step_model.specs.Entries.{did_put_epoch}
@@ -28,12 +28,12 @@ use Rattle.script_model.specs.Replies.{poll_reply, commit_reply}
 use Rattle.script_model.specs.LineRuns.{run_line, step_line, line_end, no_such_party, if_some, LineCourse}
 use Rattle.script_model.specs.LineCourses.{course_of}
 use Rattle.script_model.specs.LineSteps.{OneCourse}
-use Rattle.script_model.specs.PollLines.{poll_ask, polls}
-use Rattle.script_model.specs.Settles.{is_ok}
+use Rattle.script_model.specs.Lines.PollLines.{poll_ask, polls}
+use Rattle.script_model.specs.Lines.Settles.{is_ok}
 use Rattle.line_laws.specs.Alone.{HadRoom}
 use Rattle.line_laws.specs.States.{StateKeeps}
-use Rattle.line_laws.specs.PollRuns.{input_at, drawn_at, CommitPut}
-use Rattle.line_laws.specs.PollLines.{spell_poll, CommitsRight, PollRan, PollsCommit}
+use Rattle.line_laws.specs.Lines.PollRuns.{input_at, drawn_at, CommitPut}
+use Rattle.line_laws.specs.Lines.PollLines.{spell_poll, CommitsRight, PollRan, PollsCommit}
 use Rattle.line_laws.specs.Undrained.{flushes_in}
 use Rattle.line_laws.proofs.Drains.{commit_flushes}
 use Rattle.line_laws.proofs.Parties.{found}

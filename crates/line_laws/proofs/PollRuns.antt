@@ -7,19 +7,19 @@ use Rattle.row_model.specs.Fold.{IsLawful}
 use Rattle.fleet_model.specs.Jobs.{JobSpec, Jobs, trimmed_jobs}
 use Rattle.fleet_model.specs.Store.{Manifest, Records, Store, jobs_in, records_epoch}
 use Rattle.fleet_model.specs.History.{Party, GetManifest, GetRecords, PutManifest, PutRecords, Commit, Polled, ManifestChange, RecordChange, Done, Conflict, Entry}
-use Rattle.fleet_model.specs.Records.{jobs_after}
-use Rattle.fleet_model.specs.PollStates.{PollInput, PollState}
-use Rattle.fleet_model.specs.Polls.{change_of, is_nothing}
+use Rattle.fleet_model.specs.Work.Records.{jobs_after}
+use Rattle.fleet_model.specs.Work.PollStates.{PollInput, PollState}
+use Rattle.fleet_model.specs.Work.Polls.{change_of, is_nothing}
 use Rattle.fleet_model.specs.Exchanges.{Exchange, Plain, DrawsJob, PutsManifest, PutsRecords, records_version, records_answer, next_job_id, after_exchange, after_answered, with_entry}
 use Rattle.step_model.specs.Past.{World}
 use Rattle.step_model.specs.Rivals.{Caller, after_call}
-use Rattle.step_model.specs.Course.{Course, Ends, Calls, draws_jobs, gets_records, puts_manifest, puts_records}
-use Rattle.step_model.specs.Tries.{counted_tries}
-use Rattle.step_model.specs.CourseRuns.{Gives, Runs, IsLawfulCourse}
-use Rattle.step_model.specs.StepEnds.{StepEnd, Reports, GivesUp, Fenced, most_refused}
-use Rattle.step_model.specs.PollSteps.{PollAsk, poll, poll_try, polls_over, puts_trees, puts_polled, unless_fenced, records_or_none, first_steps, proposed_specs, merged_into, is_unchanged}
+use Rattle.step_model.specs.Courses.Course.{Course, Ends, Calls, draws_jobs, gets_records, puts_manifest, puts_records}
+use Rattle.step_model.specs.Courses.Tries.{counted_tries}
+use Rattle.step_model.specs.Courses.CourseRuns.{Gives, Runs, IsLawfulCourse}
+use Rattle.step_model.specs.Courses.StepEnds.{StepEnd, Reports, GivesUp, Fenced, most_refused}
+use Rattle.step_model.specs.Steps.PollSteps.{PollAsk, poll, poll_try, polls_over, puts_trees, puts_polled, unless_fenced, records_or_none, first_steps, proposed_specs, merged_into, is_unchanged}
 use Rattle.step_model.specs.LawfulManifests.{CommitFits}
-use Rattle.step_model.specs.Keeps.{Keeps}
+use Rattle.step_model.specs.Kept.Keeps.{Keeps}
 use Rattle.step_model.specs.Lawful.{Lawful}
 use Rattle.step_laws.specs.Runs.{CallsKeep}
 use Rattle.step_laws.proofs.Elements.{is_itself}
@@ -29,7 +29,7 @@ use Rattle.course_laws.proofs.NewIds.{AreFresh, drawn_fresh}
 use Rattle.coordinator_laws.proofs.Quiet.{HasEpoch}
 use Rattle.coordinator_laws.proofs.Since.{Since, Got, Ready, ready_noted, drawn_noted}
 use Rattle.coordinator_laws.proofs.Course.{commit_lawful, got_both, ready_both, since_first, kept_first}
-use Rattle.line_laws.specs.PollRuns.{input_at, reached_state, with_ids, drawn_at, entry_of, draw_of, records_puts, calls_before, store_before, records_after, store_after, PollDid, CommitPut, JobsPut}
+use Rattle.line_laws.specs.Lines.PollRuns.{input_at, reached_state, with_ids, drawn_at, entry_of, draw_of, records_puts, calls_before, store_before, records_after, store_after, PollDid, CommitPut, JobsPut}
 use Rattle.line_laws.proofs.AloneRuns.{no_rivals}
 
 -- ---- a party that is alone

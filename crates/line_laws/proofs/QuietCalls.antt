@@ -8,18 +8,18 @@ use Rattle.fleet_model.specs.Nodes.{Tables}
 use Rattle.fleet_model.specs.Jobs.{Job, Jobs, Context}
 use Rattle.fleet_model.specs.History.{Event, Start, Kill}
 use Rattle.fleet_model.specs.Store.{Records}
-use Rattle.fleet_model.specs.Attempts.{ClaimInput}
-use Rattle.fleet_model.specs.Parties.{Attempt, LiveWorker, live_attempts, is_live}
-use Rattle.fleet_model.specs.Claims.{claimed_jobs}
-use Rattle.fleet_model.specs.Gates.{is_nonempty}
+use Rattle.fleet_model.specs.Work.Attempts.{ClaimInput}
+use Rattle.fleet_model.specs.Work.Parties.{Attempt, LiveWorker, live_attempts, is_live}
+use Rattle.fleet_model.specs.Work.Claims.{claimed_jobs}
+use Rattle.fleet_model.specs.Work.Gates.{is_nonempty}
 use Rattle.fleet_model.specs.Exchanges.{Exchange, Plain, records_version}
-use Rattle.step_model.specs.Course.{Course, calls_each, puts_tables, puts_ranges}
-use Rattle.step_model.specs.Tries.{Try, tries}
-use Rattle.step_model.specs.StepEnds.{StepEnd, most_refused}
-use Rattle.step_model.specs.ClaimSteps.{WorkerOptions, Claimed, can_start, plan_of, starts_claimed, claim_of, claim_by, claim_try, claim}
-use Rattle.step_model.specs.BeatSteps.{Beaten, beat_of, beat_by, beat_try, heartbeat, release_live, release_by, release_try, release_all}
-use Rattle.step_model.specs.OutputSteps.{OutputAsk, gets_tables, unless_refused, rows_written, writes, output}
-use Rattle.step_model.specs.FinishSteps.{FinishAsk, FinishedJob, all_outputs, ends_job, ends_job_by, end_try, end_job, tables_left, puts_and_ends, finish}
+use Rattle.step_model.specs.Courses.Course.{Course, calls_each, puts_tables, puts_ranges}
+use Rattle.step_model.specs.Courses.Tries.{Try, tries}
+use Rattle.step_model.specs.Courses.StepEnds.{StepEnd, most_refused}
+use Rattle.step_model.specs.Steps.ClaimSteps.{WorkerOptions, Claimed, can_start, plan_of, starts_claimed, claim_of, claim_by, claim_try, claim}
+use Rattle.step_model.specs.Steps.BeatSteps.{Beaten, beat_of, beat_by, beat_try, heartbeat, release_live, release_by, release_try, release_all}
+use Rattle.step_model.specs.Steps.OutputSteps.{OutputAsk, gets_tables, unless_refused, rows_written, writes, output}
+use Rattle.step_model.specs.Steps.FinishSteps.{FinishAsk, FinishedJob, all_outputs, ends_job, ends_job_by, end_try, end_job, tables_left, puts_and_ends, finish}
 use Rattle.step_laws.proofs.Elements.{all_flat, all_from}
 use Rattle.line_laws.proofs.Courses.{AllCalls}
 

@@ -1,6 +1,6 @@
 -- Each line of a script runs courses from states that keep the invariant.
 use Rattle.script_model.specs.Script.{Settle, Together}
-use Rattle.script_model.specs.Settles.{are_live}
+use Rattle.script_model.specs.Lines.Settles.{are_live}
 use Rattle.line_laws.specs.Ran.{LinesRunCourses}
 use Rattle.line_laws.proofs.Scripts.{scripts_keep, settle_steps, steps_lead}
 

@@ -13,12 +13,12 @@ use Rattle.course_laws.proofs.Flushes.{tick_rises}
 use Rattle.script_model.specs.Script.{ReadKey}
 use Rattle.script_model.specs.States.{Inputs, State}
 use Rattle.script_model.specs.Replies.{read_reply, not_retained}
-use Rattle.script_model.specs.Looks.{is_not_retained, read_line}
+use Rattle.script_model.specs.Lines.Looks.{is_not_retained, read_line}
 use Rattle.script_model.specs.LineRuns.{run_line}
 use Rattle.script_model.specs.LineCourses.{course_of}
 use Rattle.script_model.specs.LineSteps.{OneCourse}
 use Rattle.line_laws.specs.Undrained.{flushes_in, undrained}
-use Rattle.line_laws.specs.ReadLines.{ReadsAnswer}
+use Rattle.line_laws.specs.Lines.ReadLines.{ReadsAnswer}
 
 -- What a read that is not refused asks of the horizon and the tick.
 pub record IsRetained (m : Manifest) (seq : ℕ) (now : ℤ) : Type 0 where

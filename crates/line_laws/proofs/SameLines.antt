@@ -5,27 +5,27 @@ use Rattle.std.specs.List.{AllByRecursion}
 use Rattle.std.proofs.lemmas.Bool.Decides.{Decides-eqb}
 use Rattle.row_model.specs.Rows.{Row, Content, Value, Merge, Tombstone}
 use Rattle.row_model.specs.Fold.{Operator, IsLawful}
-use Rattle.row_model.specs.Sizes.{content_len}
+use Rattle.row_model.specs.Written.Sizes.{content_len}
 use Rattle.row_model.specs.Bounds.{IsContent, AreRows}
 use Rattle.row_model.specs.Bounds as bounds
 use Rattle.fleet_model.specs.Jobs.{JobSpec, contains, is_active}
 use Rattle.fleet_model.specs.History.{Writer, Submitter, Sweeper, Coordinator}
 use Rattle.fleet_model.specs.Store.{Store, stored_jobs}
 use Rattle.fleet_model.specs.Handles.{named_tables}
-use Rattle.fleet_model.specs.Parties.{LiveWorker, LiveCoordinator, Parties, coordinator_with, without_coordinator}
-use Rattle.fleet_model.specs.PollStates.{PollState}
+use Rattle.fleet_model.specs.Work.Parties.{LiveWorker, LiveCoordinator, Parties, coordinator_with, without_coordinator}
+use Rattle.fleet_model.specs.Work.PollStates.{PollState}
 use Rattle.fleet_model.specs.Sweeps.{worker_tables, pinned_tables, swept_tables}
 use Rattle.fleet_laws.proofs.Sweeps.{sweep_is_exact}
 use Rattle.step_model.specs.Past.{World}
 use Rattle.step_model.specs.Entries.{last_name}
 use Rattle.step_model.specs.Rivals.{Caller}
-use Rattle.step_model.specs.Course.{Course, Ends, then_course}
-use Rattle.step_model.specs.CourseRuns.{Gives, MeetsFault, IsLawfulCourse}
-use Rattle.step_model.specs.StepEnds.{StepEnd, Reports}
-use Rattle.step_model.specs.FlushSteps.{FlushAsk, flush}
-use Rattle.step_model.specs.SubmitSteps.{submit, submit_request}
-use Rattle.step_model.specs.SweepSteps.{deletes_each, sweep}
-use Rattle.step_model.specs.PollSteps.{poll}
+use Rattle.step_model.specs.Courses.Course.{Course, Ends, then_course}
+use Rattle.step_model.specs.Courses.CourseRuns.{Gives, MeetsFault, IsLawfulCourse}
+use Rattle.step_model.specs.Courses.StepEnds.{StepEnd, Reports}
+use Rattle.step_model.specs.Steps.FlushSteps.{FlushAsk, flush}
+use Rattle.step_model.specs.Steps.SubmitSteps.{submit, submit_request}
+use Rattle.step_model.specs.Steps.SweepSteps.{deletes_each, sweep}
+use Rattle.step_model.specs.Steps.PollSteps.{poll}
 use Rattle.step_model.specs.Fits.{CoordinatorHolds}
 use Rattle.step_laws.proofs.Elements.{IsIn, contains_in, in_contains, all_at, all_from}
 use Rattle.step_laws.proofs.Deletions.{in_flat}
@@ -39,10 +39,10 @@ use Rattle.course_laws.proofs.Sweeps.{NonePending, sweeps_are_lawful}
 use Rattle.script_model.specs.States.{Inputs, State}
 use Rattle.script_model.specs.Replies.{ok, reply, jobs_text}
 use Rattle.script_model.specs.LineRuns.{LineEnd, LineCourse, run_line, step_line, step_parties, line_end, no_such_party, if_some, only_replies}
-use Rattle.script_model.specs.Flushes.{flush_line}
-use Rattle.script_model.specs.Submits.{submits, submit_line, full_line, request_of}
-use Rattle.script_model.specs.Sweeps.{sweep_line}
-use Rattle.script_model.specs.PollLines.{poll_ask, polls}
+use Rattle.script_model.specs.Lines.Flushes.{flush_line}
+use Rattle.script_model.specs.Lines.Submits.{submits, submit_line, full_line, request_of}
+use Rattle.script_model.specs.Lines.Sweeps.{sweep_line}
+use Rattle.script_model.specs.Lines.PollLines.{poll_ask, polls}
 use Rattle.script_model.specs.Script.{FlushRows, IsInBounds}
 use Rattle.line_laws.specs.Alone.{HadRoom}
 use Rattle.line_laws.specs.States.{FleetKeeps, StateKeeps}

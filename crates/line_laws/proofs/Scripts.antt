@@ -15,7 +15,7 @@ use Rattle.script_model.specs.States.{Inputs, State, FleetOptions, fresh_state}
 use Rattle.script_model.specs.LineRuns.{run_line}
 use Rattle.script_model.specs.LineCourses.{prepared_state, course_of}
 use Rattle.script_model.specs.LineSteps.{MayRefuse, OneCourse}
-use Rattle.script_model.specs.Settles.{is_ok, are_live, has_active, has_added, jobs_run}
+use Rattle.script_model.specs.Lines.Settles.{is_ok, are_live, has_active, has_added, jobs_run}
 use Rattle.script_model.proofs.Rounds.{settle_unfolds, EndsOr, Step, FinishesInTurn, AfterPoll, Rounds}
 use Rattle.script_model.specs.Follows.{SettleStep, LineStep, ScriptRun}
 use Rattle.line_laws.specs.Alone.{HadRoom}

@@ -3,14 +3,14 @@ use Rattle.std.proofs.Common.{◌≡◌, refl, sym, ◌∙◌, ap, subst, ℕ, L
 use Rattle.std.specs.Prelude.{⊤}
 use Rattle.row_model.specs.Fold.{Operator, IsLawful}
 use Rattle.fleet_model.specs.History.{Party, Writer}
-use Rattle.fleet_model.specs.Parties.{Parties, LiveWorker}
+use Rattle.fleet_model.specs.Work.Parties.{Parties, LiveWorker}
 use Rattle.step_model.specs.Past.{World}
 use Rattle.step_model.specs.Entries.{party_eq}
 use Rattle.step_model.specs.Rivals.{Caller}
-use Rattle.step_model.specs.Keeps.{Keeps}
-use Rattle.step_model.specs.Course.{Course, Ends, then_course}
-use Rattle.step_model.specs.CourseRuns.{End, Gives, MeetsFault, LacksMemory, Runs, IsLawfulCourse}
-use Rattle.step_model.specs.StepEnds.{StepEnd, Reports}
+use Rattle.step_model.specs.Kept.Keeps.{Keeps}
+use Rattle.step_model.specs.Courses.Course.{Course, Ends, then_course}
+use Rattle.step_model.specs.Courses.CourseRuns.{End, Gives, MeetsFault, LacksMemory, Runs, IsLawfulCourse}
+use Rattle.step_model.specs.Courses.StepEnds.{StepEnd, Reports}
 use Rattle.commit_laws.proofs.AllCalls.{calls_keep}
 use Rattle.course_laws.proofs.Sweeps.{NonePending}
 use Rattle.script_model.specs.States.{State}

@@ -9,13 +9,13 @@ use Rattle.fleet_model.specs.Jobs.{JobSpec, contains}
 use Rattle.fleet_model.specs.History.{Party, Step, Join, Move, Drain, Event, PutManifest, PutRecords, ManifestChange, ManifestEpoch, Flush, Commit, Entry, stood}
 use Rattle.fleet_model.specs.Store.{Manifest, fresh_store}
 use Rattle.fleet_model.specs.Trees.{stepped_in, job_of}
-use Rattle.fleet_model.specs.Replay.{Objects, outputs_in, after_entry, replayed_objects, plain_objects}
-use Rattle.fleet_model.specs.Parties.{LiveWorker}
+use Rattle.fleet_model.specs.Past.Replay.{Objects, outputs_in, after_entry, replayed_objects, plain_objects}
+use Rattle.fleet_model.specs.Work.Parties.{LiveWorker}
 use Rattle.fleet_model.specs.Jobs.{Two}
 use Rattle.step_model.specs.Past.{World}
-use Rattle.step_model.specs.Faithful.{Faithful}
+use Rattle.step_model.specs.Kept.Faithful.{Faithful}
 use Rattle.step_model.specs.Rivals.{Caller}
-use Rattle.step_model.specs.Keeps.{Keeps}
+use Rattle.step_model.specs.Kept.Keeps.{Keeps}
 use Rattle.step_model.specs.LawfulManifests.{ManifestFits}
 use Rattle.step_laws.specs.Runs.{CallsKeep}
 use Rattle.step_laws.proofs.Elements.{all_from, in_contains}

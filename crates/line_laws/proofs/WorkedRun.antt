@@ -4,17 +4,17 @@ use Rattle.std.specs.Prelude.{codes}
 use Rattle.std.specs.Fmt.{digits}
 use Rattle.hex.specs.Hex.{encode_with}
 use Rattle.row_model.specs.Append.{append}
-use Rattle.row_model.specs.Plan.{planned_ranges}
+use Rattle.row_model.specs.Written.Plan.{planned_ranges}
 use Rattle.row_laws.proofs.Lawful.{append_is_lawful}
-use Rattle.fleet_model.specs.Polls.{committed_poll}
-use Rattle.step_model.specs.PollSteps.{start, poll}
-use Rattle.step_model.specs.ClaimSteps.{claim}
-use Rattle.step_model.specs.BeatSteps.{heartbeat, release_all}
-use Rattle.step_model.specs.OutputSteps.{output}
-use Rattle.step_model.specs.FinishSteps.{end_job, finish}
-use Rattle.step_model.specs.SubmitSteps.{submit, submit_request}
-use Rattle.step_model.specs.FlushSteps.{flush}
-use Rattle.step_model.specs.SweepSteps.{sweep}
+use Rattle.fleet_model.specs.Work.Polls.{committed_poll}
+use Rattle.step_model.specs.Steps.PollSteps.{start, poll}
+use Rattle.step_model.specs.Steps.ClaimSteps.{claim}
+use Rattle.step_model.specs.Steps.BeatSteps.{heartbeat, release_all}
+use Rattle.step_model.specs.Steps.OutputSteps.{output}
+use Rattle.step_model.specs.Steps.FinishSteps.{end_job, finish}
+use Rattle.step_model.specs.Steps.SubmitSteps.{submit, submit_request}
+use Rattle.step_model.specs.Steps.FlushSteps.{flush}
+use Rattle.step_model.specs.Steps.SweepSteps.{sweep}
 use Rattle.script_model.specs.States.{fresh_state}
 use Rattle.script_model.specs.Defaults.{default_options, with_quiet_scheduler}
 use Rattle.script_model.specs.LineCourses.{course_of}

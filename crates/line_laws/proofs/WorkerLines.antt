@@ -6,17 +6,17 @@ use Rattle.row_model.specs.Fold.{Operator, IsLawful}
 use Rattle.row_model.specs.Ranges.{Range}
 use Rattle.fleet_model.specs.Jobs.{number_of}
 use Rattle.fleet_model.specs.History.{Worker, Kill, Event}
-use Rattle.fleet_model.specs.Parties.{Attempt, LiveWorker, worker_with, without_worker}
+use Rattle.fleet_model.specs.Work.Parties.{Attempt, LiveWorker, worker_with, without_worker}
 use Rattle.step_model.specs.Past.{World}
 use Rattle.step_model.specs.Rivals.{Caller}
 use Rattle.step_model.specs.Fits.{WorkerHolds}
-use Rattle.step_model.specs.Course.{Course, Ends, calls_each, then_course}
-use Rattle.step_model.specs.CourseRuns.{End, Gives, MeetsFault, Runs, IsLawfulCourse}
-use Rattle.step_model.specs.StepEnds.{StepEnd, Reports}
-use Rattle.step_model.specs.ClaimSteps.{claim}
-use Rattle.step_model.specs.BeatSteps.{heartbeat, release_all}
-use Rattle.step_model.specs.OutputSteps.{output}
-use Rattle.step_model.specs.FinishSteps.{finish}
+use Rattle.step_model.specs.Courses.Course.{Course, Ends, calls_each, then_course}
+use Rattle.step_model.specs.Courses.CourseRuns.{End, Gives, MeetsFault, Runs, IsLawfulCourse}
+use Rattle.step_model.specs.Courses.StepEnds.{StepEnd, Reports}
+use Rattle.step_model.specs.Steps.ClaimSteps.{claim}
+use Rattle.step_model.specs.Steps.BeatSteps.{heartbeat, release_all}
+use Rattle.step_model.specs.Steps.OutputSteps.{output}
+use Rattle.step_model.specs.Steps.FinishSteps.{finish}
 use Rattle.step_laws.proofs.Elements.{all_at, all_true_front}
 use Rattle.commit_laws.proofs.AllCalls.{calls_keep}
 use Rattle.course_laws.specs.Outputs.{DoesRun}
@@ -36,7 +36,7 @@ use Rattle.worker_laws.proofs.Finishes.{finishes_keep_fit}
 use Rattle.script_model.specs.States.{Inputs, State}
 use Rattle.script_model.specs.Replies.{reply, jobs_text, claim_reply, beat_reply, output_reply, ranges_text}
 use Rattle.script_model.specs.LineRuns.{LineEnd, LineCourse, run_line, line_end, step_parties, no_such_party, if_some}
-use Rattle.script_model.specs.WorkLines.{worker_options, running, worker_line, claim_line, heartbeat_line, stop_worker, without_attempt, output_asked, output_line, finish_asked, finish_line}
+use Rattle.script_model.specs.Lines.WorkLines.{worker_options, running, worker_line, claim_line, heartbeat_line, stop_worker, without_attempt, output_asked, output_line, finish_asked, finish_line}
 use Rattle.script_model.specs.LineCourses.{attempt_numbered, job_at, range_at}
 use Rattle.script_model.specs.Refusals.{left_in, FinishMay}
 use Rattle.line_laws.specs.Alone.{HadRoom}

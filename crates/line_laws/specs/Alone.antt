@@ -5,9 +5,9 @@ use Rattle.fleet_model.specs.Store.{Store}
 use Rattle.fleet_model.specs.Exchanges.{Fault}
 use Rattle.step_model.specs.Past.{World}
 use Rattle.step_model.specs.Rivals.{Caller}
-use Rattle.step_model.specs.Course.{Course}
-use Rattle.step_model.specs.CourseRuns.{End, Gives, MeetsFault, Runs}
-use Rattle.step_model.specs.Alone.{AloneEnd, run_alone}
+use Rattle.step_model.specs.Courses.Course.{Course}
+use Rattle.step_model.specs.Courses.CourseRuns.{End, Gives, MeetsFault, Runs}
+use Rattle.step_model.specs.Courses.Alone.{AloneEnd, run_alone}
 use Rattle.script_model.specs.LineRuns.{LineEnd}
 
 -- How a run that is alone ends: it gives its answer, or a fault struck one of its calls.

@@ -3,10 +3,10 @@ use Rattle.std.specs.Prelude.{◌≡◌, ℕ, Bool, true, false, IsTrue, List, [
 use Rattle.fleet_model.specs.History.{Party, Event, Answer, Lost, is_get_or_put}
 use Rattle.fleet_model.specs.Store.{Store}
 use Rattle.fleet_model.specs.Exchanges.{Fault, event_of, answer_of, after_answered, stands_or_lost, does_stand}
-use Rattle.step_model.specs.Course.{Course, Ends, Calls}
-use Rattle.step_model.specs.Alone.{AloneEnd, run_alone}
+use Rattle.step_model.specs.Courses.Course.{Course, Ends, Calls}
+use Rattle.step_model.specs.Courses.Alone.{AloneEnd, run_alone}
 use Rattle.script_model.specs.LineRuns.{LineEnd}
-use Rattle.line_laws.specs.PollRuns.{Answered, entry_of}
+use Rattle.line_laws.specs.Lines.PollRuns.{Answered, entry_of}
 
 -- ---- a course that nobody disturbs and no fault strikes
 

@@ -2,8 +2,8 @@
 use Rattle.std.specs.Prelude.{◌≡◌, ℕ, List, is_some}
 use Rattle.fleet_model.specs.Nodes.{Tables}
 use Rattle.fleet_model.specs.Jobs.{JobSpec, contains}
-use Rattle.fleet_model.specs.Live.{live_after}
-use Rattle.fleet_model.specs.Parties.{worker_with}
+use Rattle.fleet_model.specs.Past.Live.{live_after}
+use Rattle.fleet_model.specs.Work.Parties.{worker_with}
 use Rattle.script_model.specs.Script.{Line}
 use Rattle.script_model.specs.States.{Inputs, State}
 use Rattle.line_laws.specs.Scripts.{HasRun}

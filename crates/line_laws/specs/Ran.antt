@@ -5,7 +5,7 @@ use Rattle.row_model.specs.Fold.{IsLawful}
 use Rattle.script_model.specs.Script.{Line, Poll, ClaimJobs, FinishJob, Settle}
 use Rattle.script_model.specs.States.{Inputs, State}
 use Rattle.script_model.specs.LineSteps.{OneCourse}
-use Rattle.script_model.specs.Settles.{is_ok}
+use Rattle.script_model.specs.Lines.Settles.{is_ok}
 use Rattle.script_model.specs.Follows.{LineStep}
 use Rattle.line_laws.specs.Alone.{HadRoom}
 use Rattle.line_laws.specs.Scripts.{HasRun}

@@ -4,12 +4,12 @@ use Rattle.std.specs.List.{AllByRecursion, list_any}
 use Rattle.row_model.specs.Lists.{Pairs}
 use Rattle.row_model.specs.Fold.{Operator}
 use Rattle.fleet_model.specs.Jobs.{Job, Compacted, has_status}
-use Rattle.fleet_model.specs.Finished.{is_finished_by}
+use Rattle.fleet_model.specs.Past.Finished.{is_finished_by}
 use Rattle.fleet_model.specs.Store.{Manifest, Store, stored_jobs}
-use Rattle.fleet_model.specs.Parties.{Parties, LiveWorker, LiveCoordinator}
+use Rattle.fleet_model.specs.Work.Parties.{Parties, LiveWorker, LiveCoordinator}
 use Rattle.step_model.specs.Past.{World}
 use Rattle.step_model.specs.Entries.{is_pending}
-use Rattle.step_model.specs.Keeps.{Keeps}
+use Rattle.step_model.specs.Kept.Keeps.{Keeps}
 use Rattle.step_model.specs.Fits.{WorkerHolds, CoordinatorHolds}
 use Rattle.script_model.specs.States.{State}
 use Rattle.line_laws.specs.Undrained.{FlushesCount}

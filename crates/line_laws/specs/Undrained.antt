@@ -6,9 +6,9 @@ use Rattle.fleet_model.specs.Jobs.{JobSpec, contains}
 use Rattle.fleet_model.specs.History.{Step, Join, Move, Drain, ManifestChange, ManifestEpoch, Flush, Commit, Event, PutManifest, Entry, stood}
 use Rattle.fleet_model.specs.Store.{fresh_store}
 use Rattle.fleet_model.specs.Trees.{source_nodes, stepped_in, job_of}
-use Rattle.fleet_model.specs.Replay.{Objects, after_entry, plain_objects}
+use Rattle.fleet_model.specs.Past.Replay.{Objects, after_entry, plain_objects}
 use Rattle.step_model.specs.Past.{World}
-use Rattle.step_model.specs.Faithful.{Faithful}
+use Rattle.step_model.specs.Kept.Faithful.{Faithful}
 
 -- The flushes that went into the nodes of a tree, in the order of the nodes.
 abbrev pub flushes_in : Tree → List ℕ

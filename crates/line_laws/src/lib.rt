@@ -4,17 +4,17 @@
 #![tactic(auto)]
 
 ghost use Rattle.line_laws.specs.Alone.{AloneRuns};
-ghost use Rattle.line_laws.specs.ClaimLines.{ClaimsTake};
+ghost use Rattle.line_laws.specs.Lines.ClaimLines.{ClaimsTake};
 ghost use Rattle.line_laws.specs.Faults.{FaultsCut};
-ghost use Rattle.line_laws.specs.FinishLines.{FinishesEnd};
-ghost use Rattle.line_laws.specs.FinishedJobs.{FinishedJobsWait};
+ghost use Rattle.line_laws.specs.Lines.FinishLines.{FinishesEnd};
+ghost use Rattle.line_laws.specs.Lines.FinishedJobs.{FinishedJobsWait};
 ghost use Rattle.line_laws.specs.Goes.{LinesGo};
 ghost use Rattle.line_laws.specs.Live.{LiveWorkers};
-ghost use Rattle.line_laws.specs.Outputs.{OutputsAreWhole};
-ghost use Rattle.line_laws.specs.PollCalls.{PollsCall};
-ghost use Rattle.line_laws.specs.PollLines.{PollsCommit};
+ghost use Rattle.line_laws.specs.Lines.Outputs.{OutputsAreWhole};
+ghost use Rattle.line_laws.specs.Lines.PollCalls.{PollsCall};
+ghost use Rattle.line_laws.specs.Lines.PollLines.{PollsCommit};
 ghost use Rattle.line_laws.specs.Ran.{LinesRunCourses};
-ghost use Rattle.line_laws.specs.ReadLines.{ReadsAnswer};
+ghost use Rattle.line_laws.specs.Lines.ReadLines.{ReadsAnswer};
 ghost use Rattle.line_laws.specs.Scripts.{FirstLinesRun, ScriptsKeep};
 ghost use Rattle.line_laws.specs.Texts.{OptionsStay, TextsRun};
 ghost use Rattle.line_laws.specs.WorkedRun.{WorkedRuns};

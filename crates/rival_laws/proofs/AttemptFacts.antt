@@ -9,13 +9,13 @@ use Rattle.row_model.specs.Fold.{Operator}
 use Rattle.fleet_model.specs.Nodes.{Tables}
 use Rattle.fleet_model.specs.Jobs.{JobSpec, Job, Jobs, Submitted, has_status}
 use Rattle.fleet_model.specs.History.{Event, Entry, PutManifest, PutRecords, ManifestEpoch, Flush, Commit, RecordChange, RecordsEpoch, Submit, Claim, Beat, Finish, Release, Polled, stood}
-use Rattle.fleet_model.specs.Records.{Unrecorded, firsts, claimed_by, beaten_by, finished_by, to_waiting, to_scheduled, to_completed, to_failed, after_change}
-use Rattle.fleet_model.specs.Replay.{Objects, plain_job, plain_objects, plain_records, after_event, after_entry, replayed_objects}
+use Rattle.fleet_model.specs.Work.Records.{Unrecorded, firsts, claimed_by, beaten_by, finished_by, to_waiting, to_scheduled, to_completed, to_failed, after_change}
+use Rattle.fleet_model.specs.Past.Replay.{Objects, plain_job, plain_objects, plain_records, after_event, after_entry, replayed_objects}
 use Rattle.fleet_model.specs.Store.{Records, fresh_store, jobs_in, stored_jobs}
-use Rattle.fleet_model.specs.Claimed.{beaten_in, first_beaten, if_earlier, origin}
+use Rattle.fleet_model.specs.Past.Claimed.{beaten_in, first_beaten, if_earlier, origin}
 use Rattle.step_model.specs.Past.{World}
 use Rattle.step_model.specs.Entries.{was_claimed, is_claim_of, is_in, attempts_in}
-use Rattle.step_model.specs.NamesKept.{IsUpTo}
+use Rattle.step_model.specs.Kept.NamesKept.{IsUpTo}
 use Rattle.step_laws.proofs.Elements.{all_at, all_from, any_element, Passes}
 use Rattle.step_laws.proofs.Worlds.{beaten_stays}
 use Rattle.step_laws.proofs.Bodies.{Body}

@@ -12,17 +12,17 @@ use Rattle.fleet_model.specs.Nodes.{NodeName, L0, Run, is_l0, Node, Tree, Trees,
 use Rattle.fleet_model.specs.Jobs.{JobSpec, Job, Status, Submitted, Scheduled, Running, Compacted, Completed, Failed, status_eq, has_status, is_finished, job_with, contains, nodes_of, with_destination, is_drain, is_drain_to}
 use Rattle.fleet_model.specs.History.{Party, Step, Join, Move, Drain}
 use Rattle.fleet_model.specs.Trees.{on_segment, stepped_tree, stepped_in, stepped_all, to_run, with_run_for, job_of, watermark_after}
-use Rattle.fleet_model.specs.Records.{new_job}
-use Rattle.fleet_model.specs.Replay.{outputs_in, outputs_of}
-use Rattle.fleet_model.specs.Gates.{is_nonempty, first_failing, reserves_nodes, is_free, destination_fits, are_distinct, names_older}
+use Rattle.fleet_model.specs.Work.Records.{new_job}
+use Rattle.fleet_model.specs.Past.Replay.{outputs_in, outputs_of}
+use Rattle.fleet_model.specs.Work.Gates.{is_nonempty, first_failing, reserves_nodes, is_free, destination_fits, are_distinct, names_older}
 use Rattle.fleet_model.specs.Sources.{run_ids, all_run_ids, older_nodes, reaches_oldest, is_whole_stretch, is_lowest_or_above, is_apart}
 use Rattle.fleet_model.specs.Store.{Manifest, Records, stored_jobs, jobs_in, is_held}
-use Rattle.fleet_model.specs.TreesFit.{StandsBefore, IsTree, IsTable, IsNewer, node_and_flushed_rows}
-use Rattle.fleet_model.specs.JobsFit.{HoldApart, SourcesStand, DestinationFits, AreOldest, was_joined}
+use Rattle.fleet_model.specs.Invariants.TreesFit.{StandsBefore, IsTree, IsTable, IsNewer, node_and_flushed_rows}
+use Rattle.fleet_model.specs.Invariants.JobsFit.{HoldApart, SourcesStand, DestinationFits, AreOldest, was_joined}
 use Rattle.step_model.specs.Past.{World}
 use Rattle.step_model.specs.LawfulManifests.{CommitFits, StepsFit, JoinFits, AtOnceFits, IsKnownTo, holding}
-use Rattle.step_model.specs.TablesKept.{IsFlush}
-use Rattle.step_model.specs.Keeps.{Keeps}
+use Rattle.step_model.specs.Kept.TablesKept.{IsFlush}
+use Rattle.step_model.specs.Kept.Keeps.{Keeps}
 use Rattle.step_laws.proofs.Elements.{IsIn, all_at, all_from, all_to, all_true_front, pairs_map, in_front}
 use Rattle.step_laws.proofs.Bodies.{Body, JobKept, whole_of}
 use Rattle.step_laws.proofs.Held.{held_put}

@@ -8,21 +8,21 @@ use Rattle.fleet_model.specs.Nodes.{Tables, segment_at, table_rows}
 use Rattle.fleet_model.specs.Jobs.{JobSpec, Job, Jobs, Scheduled, Running, has_status, changed_jobs, trimmed_jobs}
 use Rattle.fleet_model.specs.History.{Party, Coordinator, Event, PutManifest, ManifestChange, ManifestEpoch, Flush, Commit, RecordChange, RecordsEpoch, Submit, Claim, Beat, Finish, Release, Polled, Entry, stood}
 use Rattle.fleet_model.specs.Store.{Manifest, Records, stored_jobs, records_epoch}
-use Rattle.fleet_model.specs.Records.{Unrecorded, firsts, claimed_by, beaten_by, finished_by, to_waiting}
-use Rattle.fleet_model.specs.Replay.{epoch_after}
+use Rattle.fleet_model.specs.Work.Records.{Unrecorded, firsts, claimed_by, beaten_by, finished_by, to_waiting}
+use Rattle.fleet_model.specs.Past.Replay.{epoch_after}
 use Rattle.fleet_model.specs.Trees.{flushed_trees}
-use Rattle.fleet_model.specs.Parties.{LiveCoordinator}
-use Rattle.fleet_model.specs.Claims.{is_waiting}
+use Rattle.fleet_model.specs.Work.Parties.{LiveCoordinator}
+use Rattle.fleet_model.specs.Work.Claims.{is_waiting}
 use Rattle.fleet_model.specs.Exchanges.{Exchange}
 use Rattle.step_model.specs.Past.{World}
 use Rattle.step_model.specs.Entries.{did_put_epoch, is_epoch_put, put_epochs, epoch_in, party_eq, was_named}
-use Rattle.step_model.specs.Merging.{Local, merged_trees}
+use Rattle.step_model.specs.Steps.Merging.{Local, merged_trees}
 use Rattle.step_model.specs.Fits.{MergesIfThere, JobsMerge, LocalIsKnown, KnownIfThere, CoordinatorHolds}
 use Rattle.step_model.specs.LawfulManifests.{ManifestFits}
 use Rattle.step_model.specs.LawfulRecords.{RecordsFit, ChangeFits, IsStoredAs, AreNew, OfSome, Publishes, IsLiveAt, FinishIsWhole}
 use Rattle.step_model.specs.Rivals.{Caller, RivalCall, RivalsFrom, after_rival}
-use Rattle.step_model.specs.Facts.{EpochsKept}
-use Rattle.step_model.specs.Keeps.{Keeps}
+use Rattle.step_model.specs.Kept.Facts.{EpochsKept}
+use Rattle.step_model.specs.Kept.Keeps.{Keeps}
 use Rattle.step_laws.specs.Runs.{CallsKeep}
 use Rattle.step_laws.proofs.Elements.{IsIn, all_at, all_to, any_front}
 use Rattle.step_laws.proofs.Grown.{named_grows}

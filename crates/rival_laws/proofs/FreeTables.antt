@@ -8,14 +8,14 @@ use Rattle.fleet_model.specs.Jobs.{Job, Jobs, One, contains, is_active}
 use Rattle.fleet_model.specs.History.{Party, Worker, ManifestChange, ManifestEpoch, Flush, Commit, Entry}
 use Rattle.fleet_model.specs.Store.{Manifest, Records, stored_jobs}
 use Rattle.fleet_model.specs.Handles.{tree_tables, job_tables, context_tables}
-use Rattle.fleet_model.specs.Parties.{LiveWorker}
+use Rattle.fleet_model.specs.Work.Parties.{LiveWorker}
 use Rattle.fleet_model.specs.Exchanges.{Exchange}
 use Rattle.step_model.specs.Past.{World}
 use Rattle.step_model.specs.Entries.{is_put_of}
 use Rattle.step_model.specs.LawfulTables.{other_tables, IsOwnTable}
 use Rattle.step_model.specs.LawfulManifests.{ManifestFits}
 use Rattle.step_model.specs.Rivals.{Caller, RivalCall, RivalsFrom, after_rival}
-use Rattle.step_model.specs.Keeps.{Keeps}
+use Rattle.step_model.specs.Kept.Keeps.{Keeps}
 use Rattle.step_laws.specs.Runs.{CallsKeep}
 use Rattle.step_laws.proofs.Elements.{IsIn, all_at, in_contains, contains_no, in_front, in_back, in_append}
 use Rattle.step_laws.proofs.Bodies.{whole_of}

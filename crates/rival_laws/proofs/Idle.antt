@@ -7,13 +7,13 @@ use Rattle.row_model.specs.Fold.{Operator}
 use Rattle.fleet_model.specs.Jobs.{JobSpec, Job, Jobs, is_active, contains, changed_jobs, trimmed_jobs}
 use Rattle.fleet_model.specs.History.{Party, RecordChange, RecordsEpoch, Submit, Claim, Beat, Finish, Release, Polled}
 use Rattle.fleet_model.specs.Store.{Store, stored_jobs}
-use Rattle.fleet_model.specs.Records.{Unrecorded, firsts, claimed_by, beaten_by, finished_by, to_waiting, jobs_after}
+use Rattle.fleet_model.specs.Work.Records.{Unrecorded, firsts, claimed_by, beaten_by, finished_by, to_waiting, jobs_after}
 use Rattle.fleet_model.specs.Exchanges.{Exchange, Plain, DrawsJob, DrawsTable, PutsTable, PutsManifest, PutsRecords, ListsTables, DeletesTable, records_version, after_exchange}
 use Rattle.step_model.specs.Lawful.{Lawful}
 use Rattle.step_model.specs.Past.{World}
 use Rattle.step_model.specs.LawfulRecords.{IsStoredAs, ChangeFits}
 use Rattle.step_model.specs.Rivals.{Caller, RivalCall, RivalsFrom, after_rival}
-use Rattle.step_model.specs.Keeps.{Keeps}
+use Rattle.step_model.specs.Kept.Keeps.{Keeps}
 use Rattle.step_laws.specs.Runs.{CallsKeep}
 use Rattle.step_laws.proofs.Bodies.{Body, whole_of}
 use Rattle.step_laws.proofs.Changed.{all_on_these, by_these}

@@ -4,8 +4,8 @@ use Rattle.std.specs.Prelude.{IsTrue, ◌==◌, ◌&&◌, ◌||◌, nat_lt, opti
 use Rattle.std.specs.List.{AllByRecursion}
 use Rattle.std.proofs.lemmas.Bool.Decides.{Decides-eqb}
 use Rattle.fleet_model.specs.Jobs.{JobSpec, Job, Jobs, Status, Submitted, Scheduled, Running, Compacted, Completed, Failed, contains, changed_jobs, put_job, trimmed_jobs, is_active, is_finished, finished_later, job_with}
-use Rattle.fleet_model.specs.Records.{new_job, with_new}
-use Rattle.step_model.specs.Merging.{adopts, is_taken_new, taken_job}
+use Rattle.fleet_model.specs.Work.Records.{new_job, with_new}
+use Rattle.step_model.specs.Steps.Merging.{adopts, is_taken_new, taken_job}
 use Rattle.step_model.specs.Fits.{IsOutlived, IsStillStored, JobsMerge}
 use Rattle.step_laws.proofs.Elements.{IsIn, all_at, all_from, all_to, any_element, any_of}
 use Rattle.step_laws.proofs.OpenJobs.{is_open}

@@ -6,7 +6,7 @@ use Rattle.row_model.specs.Rows.{Row}
 use Rattle.row_model.specs.Fold.{Operator}
 use Rattle.fleet_model.specs.Jobs.{Jobs}
 use Rattle.fleet_model.specs.History.{Party, Event, GetManifest, GetRecords, GetTable, Plan, Start, Kill, PutTable, PutManifest, PutRecords, ManifestChange, RecordChange, Answer, Done, Conflict, Lost, Stands, Entry, stood, DeleteTable, DrawJob, DrawTable}
-use Rattle.fleet_model.specs.Replay.{named_specs}
+use Rattle.fleet_model.specs.Past.Replay.{named_specs}
 use Rattle.fleet_model.specs.Store.{Manifest, Records}
 use Rattle.fleet_model.specs.Exchanges.{Exchange, Plain, DrawsJob, DrawsTable, PutsTable, PutsManifest, PutsRecords, ListsTables, DeletesTable, with_entry, event_of, answer_of, stands_or_lost, records_version, next_job_id, next_table_id}
 use Rattle.step_model.specs.Past.{World, world_after}

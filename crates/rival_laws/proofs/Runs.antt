@@ -7,8 +7,8 @@ use Rattle.fleet_model.specs.Exchanges.{Exchange, Plain, DrawsJob, DrawsTable, P
 use Rattle.step_model.specs.Past.{World}
 use Rattle.step_model.specs.Lawful.{Lawful}
 use Rattle.step_model.specs.Rivals.{Caller, RivalCall, RivalsFrom, Rivals, Strike, MayStrike, after_call, after_rival, is_deletion}
-use Rattle.step_model.specs.Course.{Course, Ends, Calls}
-use Rattle.step_model.specs.CourseRuns.{End, Gives, MeetsFault, LacksMemory, HasRoom, StopsAt, Runs, IsLawfulCourse}
+use Rattle.step_model.specs.Courses.Course.{Course, Ends, Calls}
+use Rattle.step_model.specs.Courses.CourseRuns.{End, Gives, MeetsFault, LacksMemory, HasRoom, StopsAt, Runs, IsLawfulCourse}
 use Rattle.step_laws.proofs.Runs.{struck_has_room}
 use Rattle.rival_laws.specs.Runs.{NoneOf, RunsBeside, OthersRun, OthersRunSteps}
 use Rattle.rival_laws.proofs.Workers as workers

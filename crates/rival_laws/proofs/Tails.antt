@@ -7,9 +7,9 @@ use Rattle.std.proofs.lemmas.Bool.Decides.{Decides-eqb}
 use Rattle.row_model.specs.Lists.{Pairs}
 use Rattle.fleet_model.specs.Nodes.{NodeName, L0, Run, name_eq, is_l0, names_contain, Node, Tree, names}
 use Rattle.fleet_model.specs.Trees.{without_nodes, put_run, is_run_below}
-use Rattle.fleet_model.specs.Gates.{is_nonempty}
+use Rattle.fleet_model.specs.Work.Gates.{is_nonempty}
 use Rattle.fleet_model.specs.Sources.{run_ids, after_front, or_later, older_nodes, begins_with_run, reaches_oldest, is_lowest_or_above, is_apart}
-use Rattle.fleet_model.specs.TreesFit.{StandsBefore}
+use Rattle.fleet_model.specs.Invariants.TreesFit.{StandsBefore}
 use Rattle.step_laws.proofs.Elements.{IsIn, all_at, all_true_front, contains_in, in_back}
 
 -- ---- names

@@ -13,8 +13,8 @@ use Rattle.fleet_model.specs.Nodes.{L0, NodeName, Segment, Trees, names, segment
 use Rattle.fleet_model.specs.Trees.{flushed_trees, flushed_on, empty_segment}
 use Rattle.fleet_model.specs.History.{Entry}
 use Rattle.step_model.specs.Entries.{was_flushed}
-use Rattle.step_model.specs.TablesKept.{IsPassed}
-use Rattle.step_model.specs.Merging.{is_watermark, flushes_before, merged_segment, merged_trees}
+use Rattle.step_model.specs.Kept.TablesKept.{IsPassed}
+use Rattle.step_model.specs.Steps.Merging.{is_watermark, flushes_before, merged_segment, merged_trees}
 use Rattle.step_laws.proofs.Elements.{IsIn, all_at, all_to}
 use Rattle.step_laws.proofs.FlushTrees.{Rising}
 

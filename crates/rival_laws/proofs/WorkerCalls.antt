@@ -8,15 +8,15 @@ use Rattle.fleet_model.specs.Jobs.{JobSpec, Job, Running, has_status, job_with, 
 use Rattle.fleet_model.specs.History.{Party, Worker, Event, Entry, stood}
 use Rattle.fleet_model.specs.Handles.{tree_tables}
 use Rattle.fleet_model.specs.Store.{Manifest, stored_jobs, is_held, AreHeld}
-use Rattle.fleet_model.specs.Parties.{Attempt, LiveWorker}
+use Rattle.fleet_model.specs.Work.Parties.{Attempt, LiveWorker}
 use Rattle.fleet_model.specs.Sweeps.{attempt_tables}
-use Rattle.fleet_model.specs.JobsFit.{SettingsFit}
-use Rattle.fleet_model.specs.Claimed.{beaten_in, if_earlier, origin}
+use Rattle.fleet_model.specs.Invariants.JobsFit.{SettingsFit}
+use Rattle.fleet_model.specs.Past.Claimed.{beaten_in, if_earlier, origin}
 use Rattle.step_model.specs.Past.{World}
 use Rattle.step_model.specs.Entries.{is_claim_of, was_claimed, did_event, party_eq, is_put_of}
-use Rattle.step_model.specs.Faithful.{Faithful}
+use Rattle.step_model.specs.Kept.Faithful.{Faithful}
 use Rattle.step_model.specs.LawfulTables.{MayUse, IsOwnTable}
-use Rattle.step_model.specs.TablesKept.{PutsKept}
+use Rattle.step_model.specs.Kept.TablesKept.{PutsKept}
 use Rattle.step_model.specs.Fits.{AttemptHeld}
 use Rattle.step_laws.proofs.Elements.{IsIn, all_to, all_true_front, all_true_from, any_front}
 use Rattle.step_laws.proofs.Mute.{IsMute, quiet_for}

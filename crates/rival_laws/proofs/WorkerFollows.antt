@@ -8,21 +8,21 @@ use Rattle.row_model.specs.Rows.{IsStrictlyOrdered, sorted_rows}
 use Rattle.row_model.specs.Fold.{Operator}
 use Rattle.row_model.specs.Settings.{Settings}
 use Rattle.row_model.specs.Ranges.{Range}
-use Rattle.row_model.specs.Plan.{planned_ranges}
+use Rattle.row_model.specs.Written.Plan.{planned_ranges}
 use Rattle.fleet_model.specs.Nodes.{Tables, is_among, table_rows}
 use Rattle.fleet_model.specs.Jobs.{JobSpec, Job, Context, Running, has_status, job_with}
 use Rattle.fleet_model.specs.History.{Worker}
 use Rattle.fleet_model.specs.Store.{stored_jobs, AreHeld}
 use Rattle.fleet_model.specs.Handles.{context_tables}
-use Rattle.fleet_model.specs.Attempts.{source_rows, noted_rows, range_rows}
-use Rattle.fleet_model.specs.Parties.{Attempt, LiveWorker, is_live, is_leased_to, live_attempts, runs_attempt}
+use Rattle.fleet_model.specs.Work.Attempts.{source_rows, noted_rows, range_rows}
+use Rattle.fleet_model.specs.Work.Parties.{Attempt, LiveWorker, is_live, is_leased_to, live_attempts, runs_attempt}
 use Rattle.fleet_model.specs.Sweeps.{attempt_tables}
-use Rattle.fleet_model.specs.JobsFit.{SettingsFit}
-use Rattle.fleet_model.specs.Claimed.{IsClaimed, origin, settings_of, ranges_of}
-use Rattle.fleet_model.specs.AttemptsFit.{TablesFit, AttemptFits, LiveFits, AttemptStands}
+use Rattle.fleet_model.specs.Invariants.JobsFit.{SettingsFit}
+use Rattle.fleet_model.specs.Past.Claimed.{IsClaimed, origin, settings_of, ranges_of}
+use Rattle.fleet_model.specs.Invariants.AttemptsFit.{TablesFit, AttemptFits, LiveFits, AttemptStands}
 use Rattle.step_model.specs.Past.{World}
 use Rattle.step_model.specs.Entries.{was_claimed}
-use Rattle.step_model.specs.Faithful.{Faithful}
+use Rattle.step_model.specs.Kept.Faithful.{Faithful}
 use Rattle.step_model.specs.LawfulTables.{MayUse}
 use Rattle.step_model.specs.Fits.{AttemptHeld, NotesOwn, WorkerHolds, noted_tables}
 use Rattle.step_laws.proofs.Elements.{IsIn, all_at, all_from, all_to, all_front, all_back, all_unflat, all_true_front}

@@ -11,15 +11,15 @@ use Rattle.fleet_model.specs.History.{Party, Worker, ManifestChange, ManifestEpo
 use Rattle.fleet_model.specs.Handles.{tree_tables, job_tables, context_tables}
 use Rattle.fleet_model.specs.Trees.{stepped_in, stepped_all}
 use Rattle.fleet_model.specs.Store.{Manifest, stored_jobs}
-use Rattle.fleet_model.specs.Replay.{outputs_in}
-use Rattle.fleet_model.specs.JobsFit.{SourcesStand, AreOldest}
+use Rattle.fleet_model.specs.Past.Replay.{outputs_in}
+use Rattle.fleet_model.specs.Invariants.JobsFit.{SourcesStand, AreOldest}
 use Rattle.step_model.specs.Past.{World}
 use Rattle.step_model.specs.Entries.{was_flushed}
 use Rattle.step_model.specs.LawfulTables.{IsOwnTable, other_tables}
 use Rattle.step_model.specs.LawfulManifests.{ManifestFits, ManifestEpochFits, FlushFits, CommitFits, StepsFit}
-use Rattle.step_model.specs.NamesKept.{DrawsKept}
-use Rattle.step_model.specs.TablesKept.{IsFlush}
-use Rattle.step_model.specs.Keeps.{Keeps}
+use Rattle.step_model.specs.Kept.NamesKept.{DrawsKept}
+use Rattle.step_model.specs.Kept.TablesKept.{IsFlush}
+use Rattle.step_model.specs.Kept.Keeps.{Keeps}
 use Rattle.step_laws.proofs.Elements.{IsIn, all_at, all_from, all_to, all_flat, all_unflat, in_contains, contains_no, in_back}
 use Rattle.step_laws.proofs.Bodies.{Body, whole_of}
 use Rattle.step_laws.proofs.Deletions.{in_flat, in_filter}

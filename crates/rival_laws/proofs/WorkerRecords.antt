@@ -8,17 +8,17 @@ use Rattle.fleet_model.specs.Jobs.{JobSpec, Job, Jobs, Context, Status, Submitte
 use Rattle.fleet_model.specs.History.{Party, Worker, Event, PutTable, PutRecords, RecordChange, RecordsEpoch, Submit, Claim, Beat, Finish, Release, Polled, PollChange, Answer, Entry, stood}
 use Rattle.fleet_model.specs.Handles.{job_tables, context_tables}
 use Rattle.fleet_model.specs.Store.{Records, stored_jobs}
-use Rattle.fleet_model.specs.Records.{Unrecorded, firsts, new_job, with_new, claimed_by, beaten_by, finished_by, to_waiting, to_scheduled, to_completed, to_failed, jobs_after}
-use Rattle.fleet_model.specs.Parties.{Attempt, LiveWorker, is_leased_to}
-use Rattle.fleet_model.specs.Claims.{is_waiting}
+use Rattle.fleet_model.specs.Work.Records.{Unrecorded, firsts, new_job, with_new, claimed_by, beaten_by, finished_by, to_waiting, to_scheduled, to_completed, to_failed, jobs_after}
+use Rattle.fleet_model.specs.Work.Parties.{Attempt, LiveWorker, is_leased_to}
+use Rattle.fleet_model.specs.Work.Claims.{is_waiting}
 use Rattle.fleet_model.specs.Trees.{tables_now}
-use Rattle.fleet_model.specs.Claimed.{beaten_in, origin}
+use Rattle.fleet_model.specs.Past.Claimed.{beaten_in, origin}
 use Rattle.step_model.specs.Past.{World}
 use Rattle.step_model.specs.Entries.{is_put_of, table_put_in, was_named}
 use Rattle.step_model.specs.LawfulTables.{MayUse, IsOwnTable, other_tables}
 use Rattle.step_model.specs.LawfulRecords.{ChangeFits, SubmitFits, ClaimFits, BeatFits, FinishFits, ReleaseFits, PollFits, IsStoredAs, AreNew, OfSome, Publishes, IsLiveAt, FinishIsWhole}
-use Rattle.step_model.specs.NamesKept.{IsUpTo}
-use Rattle.step_model.specs.TablesKept.{PutsKept}
+use Rattle.step_model.specs.Kept.NamesKept.{IsUpTo}
+use Rattle.step_model.specs.Kept.TablesKept.{PutsKept}
 use Rattle.step_model.specs.Fits.{AttemptHeld}
 use Rattle.step_laws.proofs.Elements.{IsIn, all_at, all_from, all_to, contains_in, contains_no, in_contains, in_append, in_back}
 use Rattle.step_laws.proofs.Worlds.{settings_stay_at, ranges_stay_at}

@@ -3,14 +3,14 @@ use Rattle.std.specs.Prelude.{◌≡◌, ◌≢◌, ℕ, false, Option, ⊤}
 use Rattle.row_model.specs.Fold.{Operator}
 use Rattle.fleet_model.specs.Jobs.{contains}
 use Rattle.fleet_model.specs.History.{Party, Coordinator, Worker}
-use Rattle.fleet_model.specs.Parties.{LiveWorker, LiveCoordinator}
+use Rattle.fleet_model.specs.Work.Parties.{LiveWorker, LiveCoordinator}
 use Rattle.fleet_model.specs.Sweeps.{worker_tables}
 use Rattle.fleet_model.specs.Exchanges.{Exchange, DeletesTable}
 use Rattle.step_model.specs.Past.{World}
-use Rattle.step_model.specs.Merging.{Local}
+use Rattle.step_model.specs.Steps.Merging.{Local}
 use Rattle.step_model.specs.Lawful.{Lawful}
 use Rattle.step_model.specs.Rivals.{Caller, Rivals, Strike, MayStrike, after_call}
-use Rattle.step_model.specs.Keeps.{Keeps}
+use Rattle.step_model.specs.Kept.Keeps.{Keeps}
 use Rattle.step_model.specs.Fits.{WorkerHolds, CoordinatorHolds}
 use Rattle.step_laws.specs.Runs.{CallsKeep}
 

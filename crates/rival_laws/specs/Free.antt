@@ -11,7 +11,7 @@ use Rattle.step_model.specs.Entries.{did_event, is_put_of, drawn_tables}
 use Rattle.step_model.specs.LawfulTables.{was_piece}
 use Rattle.step_model.specs.Lawful.{Lawful}
 use Rattle.step_model.specs.Rivals.{Caller, Rivals, Strike, MayStrike, after_call}
-use Rattle.step_model.specs.Keeps.{Keeps}
+use Rattle.step_model.specs.Kept.Keeps.{Keeps}
 use Rattle.step_laws.specs.Runs.{CallsKeep}
 
 -- The party put the table under a drawn id, no node ever held it, and no active job names it.

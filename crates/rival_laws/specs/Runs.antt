@@ -2,20 +2,20 @@
 use Rattle.std.specs.Prelude.{◌≡◌, ◌≢◌, ◌⊎◌, ℕ, true, false, List, Option, None, ⊤}
 use Rattle.std.specs.List.{AllByRecursion}
 use Rattle.fleet_model.specs.History.{Party, Coordinator, Worker, Sweeper}
-use Rattle.fleet_model.specs.Parties.{LiveWorker, LiveCoordinator}
-use Rattle.fleet_model.specs.PollStates.{PollState}
+use Rattle.fleet_model.specs.Work.Parties.{LiveWorker, LiveCoordinator}
+use Rattle.fleet_model.specs.Work.PollStates.{PollState}
 use Rattle.step_model.specs.Past.{World}
-use Rattle.step_model.specs.Merging.{Local}
+use Rattle.step_model.specs.Steps.Merging.{Local}
 use Rattle.step_model.specs.Rivals.{Caller, Rivals, after_call}
-use Rattle.step_model.specs.Keeps.{Keeps}
+use Rattle.step_model.specs.Kept.Keeps.{Keeps}
 use Rattle.step_model.specs.Fits.{WorkerHolds, CoordinatorHolds}
-use Rattle.step_model.specs.Course.{Course, Ends, Calls}
-use Rattle.step_model.specs.CourseRuns.{End, EndsAs, HasRoom, StopsAt, Runs, IsLawfulCourse}
-use Rattle.step_model.specs.StepEnds.{StepEnd}
-use Rattle.step_model.specs.ClaimSteps.{Claimed}
-use Rattle.step_model.specs.BeatSteps.{Beaten}
-use Rattle.step_model.specs.OutputSteps.{Written}
-use Rattle.step_model.specs.FinishSteps.{FinishedJob}
+use Rattle.step_model.specs.Courses.Course.{Course, Ends, Calls}
+use Rattle.step_model.specs.Courses.CourseRuns.{End, EndsAs, HasRoom, StopsAt, Runs, IsLawfulCourse}
+use Rattle.step_model.specs.Courses.StepEnds.{StepEnd}
+use Rattle.step_model.specs.Steps.ClaimSteps.{Claimed}
+use Rattle.step_model.specs.Steps.BeatSteps.{Beaten}
+use Rattle.step_model.specs.Steps.OutputSteps.{Written}
+use Rattle.step_model.specs.Steps.FinishSteps.{FinishedJob}
 use Rattle.step_laws.specs.Runs.{CallsKeep}
 use Rattle.rival_laws.specs.Free.{IsFree}
 

@@ -10,10 +10,10 @@ use Rattle.row_model.specs.FoldedRows.{folded_rows}
 use Rattle.row_model.specs.KeptRows.{kept_rows}
 use Rattle.row_model.specs.JobRows.{job_rows}
 use Rattle.row_model.specs.Ranges.{Range, Unbounded, Included, Excluded, all_keys}
-use Rattle.row_model.specs.Sizes.{Block, blocks, encoded_size, estimated_size, table_size}
-use Rattle.row_model.specs.Tables.{cut_tables}
-use Rattle.row_model.specs.TableBytes.{table_bytes}
-use Rattle.row_model.specs.Plan.{Anchor, select_boundaries, sample_anchors}
+use Rattle.row_model.specs.Written.Sizes.{Block, blocks, encoded_size, estimated_size, table_size}
+use Rattle.row_model.specs.Written.Tables.{cut_tables}
+use Rattle.row_model.specs.Written.TableBytes.{table_bytes}
+use Rattle.row_model.specs.Written.Plan.{Anchor, select_boundaries, sample_anchors}
 
 -- A row with the key "a" and no creation stamp.
 abbrev pub a_row : Content → ℕ → Option ℤ → Row

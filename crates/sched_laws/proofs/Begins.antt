@@ -3,12 +3,12 @@ use Rattle.std.proofs.Common.{map, ◌≡◌, ◌≢◌, refl, sym, ◌∙◌, a
 use Rattle.std.specs.Prelude.{Option, Some, None, IsTrue, nat_lt, nat_le, flat_map, filter, bytes_eq, ◌==◌}
 use Rattle.std.specs.List.{AllByRecursion, list_all}
 use Rattle.row_model.specs.Lists.{Pairs}
-use Rattle.fleet_model.specs.Gates.{reserves_nodes}
+use Rattle.fleet_model.specs.Work.Gates.{reserves_nodes}
 use Rattle.fleet_model.specs.Jobs.{Job, Jobs, JobSpec, contains, nodes_of}
-use Rattle.fleet_model.specs.JobsFit.{DestinationFits, SourcesStand}
+use Rattle.fleet_model.specs.Invariants.JobsFit.{DestinationFits, SourcesStand}
 use Rattle.sched_model.specs.FreshRuns.{above_all, destination_list, fresh_run_id}
 use Rattle.fleet_model.specs.Nodes.{NodeName, Run, Trees, names, tree_at}
-use Rattle.fleet_model.specs.Scheduler.{View}
+use Rattle.fleet_model.specs.Work.Scheduler.{View}
 use Rattle.fleet_model.specs.Sources.{all_run_ids, is_lowest_or_above, older_nodes, reaches_oldest, run_ids}
 use Rattle.sched_model.specs.Picks.{Planned}
 use Rattle.sched_model.specs.Sizes.{SizedTree, sized_trees}

@@ -5,14 +5,14 @@ use Rattle.std.specs.Ordering.{is_lt}
 use Rattle.std.specs.List.{AllByRecursion, list_all}
 use Rattle.row_model.specs.Lists.{Pairs}
 use Rattle.row_model.specs.Rows.{Row, key_cmp}
-use Rattle.fleet_model.specs.Gates.{are_distinct}
+use Rattle.fleet_model.specs.Work.Gates.{are_distinct}
 use Rattle.fleet_model.specs.History.{Entry, Event, PutManifest, PutRecords, ManifestChange, ManifestEpoch, Flush, Commit, Step, Join, Move, Drain, stood}
 use Rattle.fleet_model.specs.Jobs.{JobSpec}
 use Rattle.fleet_model.specs.Nodes.{Node, NodeName, L0, Run, Tables, Tree, Trees, flushed_node_rows, is_among, names, names_contain, node_rows, rows_or_none, table_rows}
-use Rattle.fleet_model.specs.Replay.{IsReplayed, Objects, after_entry, after_event, after_manifest_change, outputs_in, plain_objects, replayed_objects}
+use Rattle.fleet_model.specs.Past.Replay.{IsReplayed, Objects, after_entry, after_event, after_manifest_change, outputs_in, plain_objects, replayed_objects}
 use Rattle.fleet_model.specs.Store.{Store, WerePut, fresh_store}
 use Rattle.fleet_model.specs.Trees.{empty_segment, flushed_trees, flushed_on, is_run_below, job_of, put_run, stepped_tree, stepped_all, stepped_in, to_run, watermark_after, with_run_for, without_nodes}
-use Rattle.fleet_model.specs.TreesFit.{IsNewer, IsTable, StandsBefore, node_and_flushed_rows}
+use Rattle.fleet_model.specs.Invariants.TreesFit.{IsNewer, IsTable, StandsBefore, node_and_flushed_rows}
 use Rattle.sched_laws.proofs.Lists.{all_back, all_weaken, both_true}
 use Rattle.sched_laws.proofs.Names.{In, distinct_from, in_cases}
 

@@ -3,11 +3,11 @@ use Rattle.std.proofs.Common.{◌≡◌, refl, sym, ◌∙◌, ap, subst, ℕ, L
 use Rattle.std.specs.Prelude.{Option, Some, None, IsTrue, is_some, filter, ◌==◌}
 use Rattle.std.specs.List.{AllByRecursion}
 use Rattle.row_model.specs.Lists.{Pairs}
-use Rattle.fleet_model.specs.Gates.{are_distinct, first_failing, is_free, is_nonempty, names_older, reserves_nodes, submit_gate, submitted_rules}
+use Rattle.fleet_model.specs.Work.Gates.{are_distinct, first_failing, is_free, is_nonempty, names_older, reserves_nodes, submit_gate, submitted_rules}
 use Rattle.fleet_model.specs.Jobs.{Compacted, Completed, Failed, Job, Jobs, JobSpec, Running, Scheduled, Status, Submitted, contains, is_active, is_drain, is_finished, nodes_of, status_eq}
 use Rattle.sched_model.specs.FreshRuns.{fresh_run_id}
 use Rattle.fleet_model.specs.Nodes.{NodeName, Tree, Trees, names, segment_at, tree_at}
-use Rattle.fleet_model.specs.Scheduler.{View}
+use Rattle.fleet_model.specs.Work.Scheduler.{View}
 use Rattle.fleet_model.specs.Sources.{is_apart, is_whole_stretch, older_nodes, reaches_oldest}
 use Rattle.sched_model.specs.Series.{TieredOptions, are_tiered}
 use Rattle.sched_model.specs.SizeTiered.{agree, free_slots, is_stretch, lowest_run, tiered_proposals, tiered_validate}

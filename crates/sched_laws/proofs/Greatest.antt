@@ -3,7 +3,7 @@ use Rattle.std.proofs.Common.{◌≡◌, ◌≢◌, refl, ap, ℕ, List, [], ◌
 use Rattle.std.specs.Prelude.{Some, None}
 use Rattle.std.specs.List.{AllByRecursion}
 use Rattle.std.specs.List.Sorted.{IsStrictlySortedBy}
-use Rattle.fleet_model.specs.Gates.{destination_fits, first_failing, submit_gate, submitted_rules}
+use Rattle.fleet_model.specs.Work.Gates.{destination_fits, first_failing, submit_gate, submitted_rules}
 use Rattle.fleet_model.specs.Jobs.{Job, Jobs, JobSpec}
 use Rattle.fleet_model.specs.Nodes.{Trees, tree_at}
 use Rattle.sched_model.specs.SizeTiered.{tiered_proposals}

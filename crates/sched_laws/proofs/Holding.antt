@@ -4,12 +4,12 @@ use Rattle.std.specs.Prelude.{Option, Some, None, is_some, bytes_eq, nat_lt, ◌
 use Rattle.std.specs.List.{list_all}
 use Rattle.std.proofs.lemmas.Bool.{ltb-true, ltb-false, lt-ltb}
 use Rattle.row_model.specs.Lists.{Pairs}
-use Rattle.fleet_model.specs.Gates.{destination_fits}
+use Rattle.fleet_model.specs.Work.Gates.{destination_fits}
 use Rattle.fleet_model.specs.Jobs.{JobSpec, contains, nodes_of, with_destination}
 use Rattle.sched_model.specs.FreshRuns.{capped_id}
 use Rattle.fleet_model.specs.Nodes.{NodeName, Run, Trees, names, tree_at}
 use Rattle.fleet_model.specs.Sources.{all_run_ids, is_apart, is_lowest_or_above, run_ids}
-use Rattle.fleet_model.specs.TreesFit.{NoneShared}
+use Rattle.fleet_model.specs.Invariants.TreesFit.{NoneShared}
 use Rattle.sched_model.specs.Picks.{Planned, flush_pick, fresh_after}
 use Rattle.sched_model.specs.Series.{TieredOptions}
 use Rattle.sched_laws.specs.Proposals.{HasFreeId}

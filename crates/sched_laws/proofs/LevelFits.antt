@@ -5,17 +5,17 @@ use Rattle.std.specs.List.{AllByRecursion, list_all, list_any}
 use Rattle.std.proofs.lemmas.Bool.{le-leb}
 use Rattle.std.proofs.lemmas.List.{map-append, take-append-drop}
 use Rattle.row_model.specs.Lists.{Pairs}
-use Rattle.fleet_model.specs.Gates.{are_distinct, submit_gate}
+use Rattle.fleet_model.specs.Work.Gates.{are_distinct, submit_gate}
 use Rattle.fleet_model.specs.Jobs.{Job, Jobs, JobSpec, contains, nodes_of}
 use Rattle.fleet_model.specs.Nodes.{NodeName, L0, Run, is_l0, Node, Segment, Tree, Trees, flushes_of, names, runs_of, tree_at}
-use Rattle.fleet_model.specs.Scheduler.{View}
+use Rattle.fleet_model.specs.Work.Scheduler.{View}
 use Rattle.fleet_model.specs.Sources.{begins_with_run, is_lowest_or_above, reaches_oldest, run_ids}
-use Rattle.fleet_model.specs.TreesFit.{NoneShared, StandsBefore}
+use Rattle.fleet_model.specs.Invariants.TreesFit.{NoneShared, StandsBefore}
 use Rattle.fleet_model.specs.Handles.{Handle}
 use Rattle.sched_model.specs.FreshRuns.{capped_id, fresh_run_id, is_under_way}
 use Rattle.sched_model.specs.Levels.{LevelOptions, LevelPicking, are_allowed, level_picks, level_scheduler, pick_trees, run_id, with_fresh_pick, with_level_pick}
 use Rattle.sched_model.specs.Picks.{Planned}
-use Rattle.fleet_model.specs.Scheduler.{lower}
+use Rattle.fleet_model.specs.Work.Scheduler.{lower}
 use Rattle.sched_model.specs.SizeTiered.{agree, lowest_run}
 use Rattle.sched_laws.specs.Proposals.{AreApart, HasFreeId, MayBeThere}
 use Rattle.sched_laws.specs.Views.{ViewStands}

@@ -7,7 +7,7 @@ use Rattle.std.proofs.lemmas.List.{length-map}
 use Rattle.fleet_model.specs.Handles.{Handle}
 use Rattle.fleet_model.specs.Jobs.{JobSpec, nodes_of}
 use Rattle.fleet_model.specs.Nodes.{NodeName, is_l0, Node, Segment, Tree, Trees, flushes_of, names, names_contain, runs_of}
-use Rattle.fleet_model.specs.Scheduler.{View}
+use Rattle.fleet_model.specs.Work.Scheduler.{View}
 use Rattle.sched_model.specs.FreshRuns.{fresh_run_id, is_under_way}
 use Rattle.sched_model.specs.Levels.{LevelOptions, LevelPicking, are_runs_within, is_within, level_picks, limit, node_size, pick_flushes, pick_flushes_into, pick_into_run, pick_pair, pick_runs, pick_trees, run_id, with_fresh_pick, with_level_pick}
 use Rattle.sched_laws.specs.Levels.{AllWithin, HasRoom}

@@ -5,10 +5,10 @@ use Rattle.std.specs.List.{AllByRecursion}
 use Rattle.std.proofs.lemmas.Bool.{ltb-false, ltb-true}
 use Rattle.std.proofs.lemmas.List.{length-take, take-append-drop}
 use Rattle.row_model.specs.Lists.{Pairs}
-use Rattle.fleet_model.specs.Gates.{is_nonempty}
+use Rattle.fleet_model.specs.Work.Gates.{is_nonempty}
 use Rattle.fleet_model.specs.Jobs.{JobSpec, contains, is_drain_to, nodes_of, with_destination}
 use Rattle.fleet_model.specs.Nodes.{NodeName, Run, is_l0, Node, Segment, Tree, Trees, flushes_of, names, runs_of}
-use Rattle.fleet_model.specs.Scheduler.{View}
+use Rattle.fleet_model.specs.Work.Scheduler.{View}
 use Rattle.fleet_model.specs.Sources.{all_run_ids, run_ids}
 use Rattle.fleet_model.specs.Handles.{Handle}
 use Rattle.sched_model.specs.FreshRuns.{capped_id, fresh_run_id, is_under_way}

@@ -4,10 +4,10 @@ use Rattle.std.specs.Prelude.{◌&&◌, is_some, nat_le, nat_lt}
 use Rattle.std.specs.List.{AllByRecursion}
 use Rattle.std.proofs.lemmas.Bool.{leb-true, ltb-true}
 use Rattle.row_model.specs.Lists.{Pairs}
-use Rattle.fleet_model.specs.Gates.{are_distinct, is_nonempty}
+use Rattle.fleet_model.specs.Work.Gates.{are_distinct, is_nonempty}
 use Rattle.fleet_model.specs.Nodes.{NodeName, L0, Run, is_l0, Node, Segment, Tree, Trees, flushes_of, names, runs_of, segment_at, tree_at, tree_or_empty}
 use Rattle.fleet_model.specs.Sources.{begins_with_run, run_ids}
-use Rattle.fleet_model.specs.TreesFit.{StandsBefore}
+use Rattle.fleet_model.specs.Invariants.TreesFit.{StandsBefore}
 use Rattle.sched_model.specs.Levels.{LevelOptions, are_allowed}
 use Rattle.sched_laws.proofs.Lists.{both_true}
 use Rattle.sched_laws.proofs.Trees.{IsAt}

@@ -4,11 +4,11 @@ use Rattle.std.specs.Prelude.{Option, Some, None, IsTrue, nat_lt, flat_map}
 use Rattle.std.specs.Option.{option_to_list}
 use Rattle.std.specs.List.{AllByRecursion}
 use Rattle.row_model.specs.Lists.{Pairs}
-use Rattle.fleet_model.specs.Gates.{destination_fits, reserves_nodes}
+use Rattle.fleet_model.specs.Work.Gates.{destination_fits, reserves_nodes}
 use Rattle.fleet_model.specs.Jobs.{Jobs, JobSpec, nodes_of}
 use Rattle.fleet_model.specs.Nodes.{NodeName, Trees}
 use Rattle.fleet_model.specs.Sources.{is_apart}
-use Rattle.fleet_model.specs.TreesFit.{NoneShared}
+use Rattle.fleet_model.specs.Invariants.TreesFit.{NoneShared}
 use Rattle.sched_model.specs.Picks.{Planned, Picking, fresh_after, next_pick, pass, passes, picked_in, with_pick}
 use Rattle.sched_model.specs.Series.{TieredOptions, are_tiered}
 use Rattle.sched_model.specs.Sizes.{SizedTree}

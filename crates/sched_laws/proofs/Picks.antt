@@ -6,15 +6,15 @@ use Rattle.std.specs.List.{list_all, list_any}
 use Rattle.std.proofs.lemmas.Bool.{leb-true}
 use Rattle.std.proofs.lemmas.List.{length-drop, map-append, take-append-drop}
 use Rattle.row_model.specs.Lists.{Pairs}
-use Rattle.fleet_model.specs.Gates.{are_distinct, is_nonempty}
+use Rattle.fleet_model.specs.Work.Gates.{are_distinct, is_nonempty}
 use Rattle.fleet_model.specs.Jobs.{JobSpec, contains, is_drain, is_drain_to}
 use Rattle.sched_model.specs.FreshRuns.{capped_id}
 use Rattle.fleet_model.specs.Nodes.{NodeName, L0, Run, Trees, is_l0, names, segment_at, tree_at}
 use Rattle.fleet_model.specs.Sources.{begins_with_run, is_apart, is_lowest_or_above, is_whole_stretch, older_nodes, reaches_oldest, run_ids}
-use Rattle.fleet_model.specs.TreesFit.{StandsBefore}
+use Rattle.fleet_model.specs.Invariants.TreesFit.{StandsBefore}
 use Rattle.sched_model.specs.Picks.{Planned, fresh_after, flush_pick, into_last, last_of, next_pick, run_pick}
 use Rattle.sched_model.specs.Series.{TieredOptions, are_tiered, first_series, is_allowed, is_taken_again, oldest}
-use Rattle.fleet_model.specs.Scheduler.{lower}
+use Rattle.fleet_model.specs.Work.Scheduler.{lower}
 use Rattle.sched_model.specs.SizeTiered.{agree, lowest_run}
 use Rattle.sched_model.specs.Sizes.{Sized, flush_names, run_names, total_size}
 use Rattle.sched_laws.proofs.Lists.{both_true, pairs_back, pairs_front, true_and}

@@ -5,13 +5,13 @@ use Rattle.std.specs.List.{concat, list_all}
 use Rattle.std.proofs.lemmas.Bool.Decides.{Decides-eqb}
 use Rattle.std.proofs.lemmas.Slice.Eq.{bytes_eq-Decides}
 use Rattle.row_model.specs.Lists.{Pairs}
-use Rattle.fleet_model.specs.Gates.{commit_gate, is_nonempty, reserves_nodes}
+use Rattle.fleet_model.specs.Work.Gates.{commit_gate, is_nonempty, reserves_nodes}
 use Rattle.fleet_model.specs.Jobs.{Compacted, Job, Jobs, JobSpec, Running, changed_jobs, contains, has_status, ids, is_overdue, is_stale, nodes_of}
-use Rattle.fleet_model.specs.JobsFit.{HoldApart, NodesHeldOnce, SourcesStand}
+use Rattle.fleet_model.specs.Invariants.JobsFit.{HoldApart, NodesHeldOnce, SourcesStand}
 use Rattle.fleet_model.specs.Nodes.{Trees, names, names_contain, segment_at, tree_at}
-use Rattle.fleet_model.specs.PollStates.{PollInput, PollState, accepts}
-use Rattle.fleet_model.specs.Polls.{commit_by, commit_finished, commit_job, each, free_stale}
-use Rattle.fleet_model.specs.Records.{to_completed, to_waiting}
+use Rattle.fleet_model.specs.Work.PollStates.{PollInput, PollState, accepts}
+use Rattle.fleet_model.specs.Work.Polls.{commit_by, commit_finished, commit_job, each, free_stale}
+use Rattle.fleet_model.specs.Work.Records.{to_completed, to_waiting}
 use Rattle.fleet_model.specs.Sources.{is_whole_stretch}
 use Rattle.fleet_model.specs.Trees.{source_pieces}
 use Rattle.sched_model.specs.SizeTiered.{agree, lowest_run}

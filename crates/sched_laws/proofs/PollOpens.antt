@@ -5,13 +5,13 @@ use Rattle.std.specs.List.{list_all}
 use Rattle.std.proofs.lemmas.Bool.{lt-ltb, ltb-true}
 use Rattle.std.proofs.lemmas.Bool.Decides.{Decides-eqb}
 use Rattle.row_model.specs.Lists.{Pairs}
-use Rattle.fleet_model.specs.Gates.{are_distinct, destination_fits, is_free, is_nonempty, names_older, reserves_nodes, submit_gate, submitted_rules}
+use Rattle.fleet_model.specs.Work.Gates.{are_distinct, destination_fits, is_free, is_nonempty, names_older, reserves_nodes, submit_gate, submitted_rules}
 use Rattle.fleet_model.specs.Jobs.{Job, Jobs, JobSpec, Submitted, changed_jobs, contains, has_status, is_drain, nodes_of}
-use Rattle.fleet_model.specs.JobsFit.{SourcesStand}
+use Rattle.fleet_model.specs.Invariants.JobsFit.{SourcesStand}
 use Rattle.fleet_model.specs.Nodes.{NodeName, Run, Trees, names, names_contain, segment_at, tree_at}
-use Rattle.fleet_model.specs.PollStates.{PollInput, PollState, accepts}
-use Rattle.fleet_model.specs.Polls.{can_move, drain_job, each, lost_to_scheduler, move_job, open_by, open_job, schedule_job}
-use Rattle.fleet_model.specs.Records.{firsts, new_job, to_completed, to_failed, to_scheduled}
+use Rattle.fleet_model.specs.Work.PollStates.{PollInput, PollState, accepts}
+use Rattle.fleet_model.specs.Work.Polls.{can_move, drain_job, each, lost_to_scheduler, move_job, open_by, open_job, schedule_job}
+use Rattle.fleet_model.specs.Work.Records.{firsts, new_job, to_completed, to_failed, to_scheduled}
 use Rattle.fleet_model.specs.Sources.{all_run_ids, is_apart, is_lowest_or_above, is_whole_stretch, run_ids}
 use Rattle.fleet_model.specs.Trees.{tables_now}
 use Rattle.sched_model.specs.SizeTiered.{agree, lowest_run}

@@ -6,15 +6,15 @@ use Rattle.std.specs.declared.cmp.Ordering.TheVariants.{Less}
 use Rattle.std.proofs.lemmas.Bool.Decides.{Decides-eqb}
 use Rattle.row_model.specs.Lists.{Pairs}
 use Rattle.row_model.specs.Rows.{key_cmp}
-use Rattle.fleet_model.specs.Gates.{are_distinct, reserves_nodes}
+use Rattle.fleet_model.specs.Work.Gates.{are_distinct, reserves_nodes}
 use Rattle.fleet_model.specs.History.{Join, Move, Drain}
 use Rattle.fleet_model.specs.Jobs.{Job, JobSpec, contains}
-use Rattle.fleet_model.specs.JobsFit.{DestinationFits, SourcesStand}
+use Rattle.fleet_model.specs.Invariants.JobsFit.{DestinationFits, SourcesStand}
 use Rattle.fleet_model.specs.Nodes.{NodeName, L0, Run, name_eq, names_contain, Node, Segment, Tables, Tree, Trees, names, segment_at, tree_at}
-use Rattle.fleet_model.specs.Scheduler.{View}
+use Rattle.fleet_model.specs.Work.Scheduler.{View}
 use Rattle.fleet_model.specs.Sources.{all_run_ids, run_ids}
 use Rattle.fleet_model.specs.Trees.{by_first_key, on_segment, source_pieces, stepped_in, stepped_tree, to_run, with_run_for, without_nodes}
-use Rattle.fleet_model.specs.TreesFit.{NoneShared, StandsBefore}
+use Rattle.fleet_model.specs.Invariants.TreesFit.{NoneShared, StandsBefore}
 use Rattle.step_laws.proofs.Elements.{IsIn, all_at, all_from, all_to, in_back, in_contains, in_front, pairs_map}
 use Rattle.step_laws.proofs.Deletions.{in_flat}
 use Rattle.step_laws.proofs.FlushTrees.{Rising, rising_from, rising_to}

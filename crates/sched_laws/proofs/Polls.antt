@@ -6,18 +6,18 @@ use Rattle.std.proofs.lemmas.Bool.{leb-true}
 use Rattle.std.proofs.lemmas.List.{take-append-drop}
 use Rattle.row_model.specs.Lists.{Pairs}
 use Rattle.row_model.specs.Fold.{Operator}
-use Rattle.fleet_model.specs.Gates.{destination_fits, is_nonempty, reserves_nodes}
+use Rattle.fleet_model.specs.Work.Gates.{destination_fits, is_nonempty, reserves_nodes}
 use Rattle.fleet_model.specs.Jobs.{Compacted, Completed, Failed, Job, JobSpec, Running, Scheduled, Status, Submitted, contains, has_status, ids, is_active, is_drain, is_finished, nodes_of, status_eq}
-use Rattle.fleet_model.specs.JobsFit.{DestinationFits, NodesHeldOnce, SourcesStand}
+use Rattle.fleet_model.specs.Invariants.JobsFit.{DestinationFits, NodesHeldOnce, SourcesStand}
 use Rattle.fleet_model.specs.Nodes.{Trees, names, segment_at, tree_at}
-use Rattle.fleet_model.specs.PollStates.{PollInput, PollState, poll_begun, view_of}
-use Rattle.fleet_model.specs.Polls.{add_by, add_drawn, clashes, free_stale}
-use Rattle.fleet_model.specs.Records.{firsts, new_job, to_scheduled}
-use Rattle.fleet_model.specs.Scheduler.{Scheduler, View, lower}
+use Rattle.fleet_model.specs.Work.PollStates.{PollInput, PollState, poll_begun, view_of}
+use Rattle.fleet_model.specs.Work.Polls.{add_by, add_drawn, clashes, free_stale}
+use Rattle.fleet_model.specs.Work.Records.{firsts, new_job, to_scheduled}
+use Rattle.fleet_model.specs.Work.Scheduler.{Scheduler, View, lower}
 use Rattle.fleet_model.specs.Sources.{is_apart, is_lowest_or_above, older_nodes, run_ids}
 use Rattle.fleet_model.specs.Store.{Manifest, jobs_in}
 use Rattle.fleet_model.specs.Trees.{tables_now}
-use Rattle.step_model.specs.PollSteps.{freed_and_committed}
+use Rattle.step_model.specs.Steps.PollSteps.{freed_and_committed}
 use Rattle.sched_model.specs.Levels.{LevelOptions, are_allowed, level_scheduler}
 use Rattle.sched_model.specs.Series.{TieredOptions, are_tiered}
 use Rattle.sched_model.specs.SizeTiered.{agree, is_stretch, lowest_run, tiered_scheduler}

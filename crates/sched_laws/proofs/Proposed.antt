@@ -8,7 +8,7 @@ use Rattle.std.proofs.lemmas.List.{length-append, length-drop, length-map}
 use Rattle.fleet_model.specs.Jobs.{JobSpec, is_drain_to}
 use Rattle.sched_model.specs.FreshRuns.{fresh_run_id}
 use Rattle.fleet_model.specs.Nodes.{L0, Run}
-use Rattle.fleet_model.specs.Scheduler.{View}
+use Rattle.fleet_model.specs.Work.Scheduler.{View}
 use Rattle.sched_model.specs.Picks.{Planned, Picking, flush_pick, into_last, last_of, run_pick, next_pick, picked_in, pass, passes}
 use Rattle.sched_model.specs.Series.{TieredOptions, are_tiered, first_series, is_allowed, oldest}
 use Rattle.sched_model.specs.Sizes.{Sized, flush_names, run_names, sized_trees, total_size}

@@ -8,11 +8,11 @@ use Rattle.row_model.specs.Lists.{Pairs}
 use Rattle.fleet_model.specs.Jobs.{contains}
 use Rattle.fleet_model.specs.Nodes.{NodeName, Run, names_contain}
 use Rattle.fleet_model.specs.Sources.{is_apart, run_ids}
-use Rattle.fleet_model.specs.TreesFit.{StandsBefore}
+use Rattle.fleet_model.specs.Invariants.TreesFit.{StandsBefore}
 use Rattle.sched_model.specs.Sizes.{Sized, run_names, total_size}
 use Rattle.sched_model.specs.Series.{TieredOptions, are_tiered, first_series, is_allowed, is_similar, is_taken_again, least_size, longest, may_join, oldest}
 use Rattle.sched_model.specs.Picks.{last_of}
-use Rattle.fleet_model.specs.Scheduler.{lower}
+use Rattle.fleet_model.specs.Work.Scheduler.{lower}
 use Rattle.sched_laws.proofs.Lists.{both_true, true_and}
 use Rattle.sched_laws.proofs.Names.{In, apart_at, apart_from, in_back, in_first, in_later}
 

@@ -4,13 +4,13 @@ use Rattle.std.specs.Prelude.{None, IsTrue, filter}
 use Rattle.std.specs.List.{AllByRecursion}
 use Rattle.row_model.specs.Lists.{Pairs}
 use Rattle.row_model.specs.Fold.{Operator}
-use Rattle.fleet_model.specs.Gates.{are_distinct, reserves_nodes, submit_gate}
+use Rattle.fleet_model.specs.Work.Gates.{are_distinct, reserves_nodes, submit_gate}
 use Rattle.fleet_model.specs.Jobs.{Compacted, Job, Jobs, JobSpec, Running, Scheduled, has_status, is_active}
-use Rattle.fleet_model.specs.JobsFit.{OpenedStands, SourcesStand}
+use Rattle.fleet_model.specs.Invariants.JobsFit.{OpenedStands, SourcesStand}
 use Rattle.fleet_model.specs.Nodes.{Segment, Trees, names}
-use Rattle.fleet_model.specs.Scheduler.{View}
+use Rattle.fleet_model.specs.Work.Scheduler.{View}
 use Rattle.fleet_model.specs.Store.{Records, Store, WerePut, jobs_in}
-use Rattle.fleet_model.specs.TreesFit.{IsTree, StandsBefore}
+use Rattle.fleet_model.specs.Invariants.TreesFit.{IsTree, StandsBefore}
 use Rattle.sched_model.specs.Series.{TieredOptions, are_tiered}
 use Rattle.sched_model.specs.SizeTiered.{tiered_proposals, tiered_validate}
 use Rattle.sched_laws.specs.Proposals.{HasFreeId, MayBeThere}

@@ -1,7 +1,7 @@
 -- Names that stand in a list one after the other.
 use Rattle.std.proofs.Common.{◌≡◌, refl, sym, ◌∙◌, ap, subst, List, [], ◌∷◌, ◌++◌, Bool, true, false, cond, ◌⊎◌, inl, inr}
 use Rattle.std.specs.Prelude.{Option, Some, None}
-use Rattle.fleet_model.specs.Gates.{are_distinct}
+use Rattle.fleet_model.specs.Work.Gates.{are_distinct}
 use Rattle.fleet_model.specs.Nodes.{NodeName, name_eq}
 use Rattle.fleet_model.specs.Sources.{after_front, older_nodes, or_later}
 use Rattle.sched_laws.proofs.Names.{In, equal_names, name_itself, in_cases, in_first, in_later, in_back, distinct_first, distinct_rest}

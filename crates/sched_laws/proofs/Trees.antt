@@ -8,12 +8,12 @@ use Rattle.std.proofs.lemmas.Cmp.{nat_list_cmp_total, tied_itself}
 use Rattle.std.proofs.lemmas.Slice.Eq.{bytes_eq-Decides}
 use Rattle.row_model.specs.Lists.{Pairs}
 use Rattle.row_model.specs.Rows.{key_cmp}
-use Rattle.fleet_model.specs.Gates.{are_distinct}
+use Rattle.fleet_model.specs.Work.Gates.{are_distinct}
 use Rattle.fleet_model.specs.Handles.{Handle, tree_tables}
 use Rattle.fleet_model.specs.Jobs.{contains}
 use Rattle.fleet_model.specs.Nodes.{NodeName, L0, Run, Segment, Tree, Trees, names, names_contain, segment_at, tree_at, tree_or_empty}
 use Rattle.fleet_model.specs.Sources.{all_run_ids, run_ids}
-use Rattle.fleet_model.specs.TreesFit.{NoneShared, StandsBefore}
+use Rattle.fleet_model.specs.Invariants.TreesFit.{NoneShared, StandsBefore}
 use Rattle.sched_model.specs.Sizes.{SizedTree, flush_names, run_names, sized_flush, sized_nodes, sized_run, sized_trees, tables_size}
 use Rattle.sched_laws.proofs.Names.{In, apart_at}
 

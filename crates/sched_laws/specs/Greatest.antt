@@ -1,9 +1,9 @@
 -- The greatest id of a run, 4,294,967,295. The scheduler may propose it, and the gate refuses it.
 use Rattle.std.specs.Prelude.{◌≡◌, ◌≢◌, ℕ, Bool, List, [], ◌∷◌, Some, None}
-use Rattle.fleet_model.specs.Gates.{submit_gate}
+use Rattle.fleet_model.specs.Work.Gates.{submit_gate}
 use Rattle.fleet_model.specs.Jobs.{Job, Jobs, JobSpec}
 use Rattle.fleet_model.specs.Nodes.{L0, Run, Trees}
-use Rattle.fleet_model.specs.Scheduler.{View}
+use Rattle.fleet_model.specs.Work.Scheduler.{View}
 use Rattle.fleet_model.specs.Store.{fresh_store}
 use Rattle.sched_model.specs.Series.{TieredOptions}
 use Rattle.sched_model.specs.SizeTiered.{tiered_proposals}

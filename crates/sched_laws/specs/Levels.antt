@@ -3,10 +3,10 @@
 use Rattle.std.specs.Prelude.{◌≡◌, ◌≢◌, ◌↔◌, ℕ, ◌<◌, ◌≤◌, ◌-◌, true, IsTrue, List, [], ◌∷◌, ◌++◌, None, count_by, flat_map, length}
 use Rattle.std.specs.List.{AllByRecursion}
 use Rattle.row_model.specs.Lists.{Pairs}
-use Rattle.fleet_model.specs.Gates.{submit_gate}
+use Rattle.fleet_model.specs.Work.Gates.{submit_gate}
 use Rattle.fleet_model.specs.Jobs.{Job, Jobs, JobSpec, nodes_of}
 use Rattle.fleet_model.specs.Nodes.{names}
-use Rattle.fleet_model.specs.Scheduler.{View}
+use Rattle.fleet_model.specs.Work.Scheduler.{View}
 use Rattle.fleet_model.specs.Sources.{is_apart}
 use Rattle.sched_model.specs.FreshRuns.{is_under_way}
 use Rattle.sched_model.specs.Levels.{LevelOptions, are_allowed, is_within, level_picks, level_scheduler}

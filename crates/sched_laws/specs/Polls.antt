@@ -5,11 +5,11 @@ use Rattle.std.specs.List.{AllByRecursion}
 use Rattle.row_model.specs.Lists.{Pairs}
 use Rattle.row_model.specs.Fold.{Operator}
 use Rattle.fleet_model.specs.Jobs.{JobSpec, contains, ids}
-use Rattle.fleet_model.specs.Polls.{add_drawn, open_submitted, proposals}
-use Rattle.fleet_model.specs.PollStates.{PollInput, PollState}
-use Rattle.fleet_model.specs.Records.{firsts}
+use Rattle.fleet_model.specs.Work.Polls.{add_drawn, open_submitted, proposals}
+use Rattle.fleet_model.specs.Work.PollStates.{PollInput, PollState}
+use Rattle.fleet_model.specs.Work.Records.{firsts}
 use Rattle.fleet_model.specs.Store.{Store}
-use Rattle.step_model.specs.PollSteps.{freed_and_committed}
+use Rattle.step_model.specs.Steps.PollSteps.{freed_and_committed}
 use Rattle.sched_model.specs.Levels.{LevelOptions, are_allowed, level_scheduler}
 use Rattle.sched_model.specs.Series.{TieredOptions, are_tiered}
 use Rattle.sched_model.specs.SizeTiered.{tiered_scheduler}

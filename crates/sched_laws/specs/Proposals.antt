@@ -3,9 +3,9 @@
 use Rattle.std.specs.Prelude.{◌≡◌, ◌≢◌, ℕ, ◌≤◌, length, true, false, IsTrue, List, [], ◌∷◌, ◌++◌, Some, None, Contains}
 use Rattle.std.specs.List.{AllByRecursion}
 use Rattle.row_model.specs.Lists.{Pairs}
-use Rattle.fleet_model.specs.Gates.{is_nonempty, reserves_nodes, submit_gate}
+use Rattle.fleet_model.specs.Work.Gates.{is_nonempty, reserves_nodes, submit_gate}
 use Rattle.fleet_model.specs.Jobs.{Job, Jobs, JobSpec, is_drain, nodes_of}
-use Rattle.fleet_model.specs.Scheduler.{View}
+use Rattle.fleet_model.specs.Work.Scheduler.{View}
 use Rattle.fleet_model.specs.Sources.{is_apart}
 use Rattle.sched_model.specs.Series.{TieredOptions, are_tiered}
 use Rattle.sched_model.specs.SizeTiered.{free_slots, tiered_proposals, tiered_validate}

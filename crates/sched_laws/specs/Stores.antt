@@ -2,11 +2,11 @@
 use Rattle.std.specs.Prelude.{◌≡◌, ℕ, true, IsTrue, List, [], ◌∷◌, ◌++◌, Some, None}
 use Rattle.std.specs.List.{AllByRecursion}
 use Rattle.row_model.specs.Fold.{Operator}
-use Rattle.fleet_model.specs.Gates.{submit_gate}
-use Rattle.fleet_model.specs.Invariant.{StoreInvariant}
+use Rattle.fleet_model.specs.Work.Gates.{submit_gate}
+use Rattle.fleet_model.specs.Invariants.Invariant.{StoreInvariant}
 use Rattle.fleet_model.specs.Jobs.{Compacted, Job, Jobs, JobSpec, has_status}
-use Rattle.fleet_model.specs.JobsFit.{SourcesStand}
-use Rattle.fleet_model.specs.Scheduler.{View, shown_view}
+use Rattle.fleet_model.specs.Invariants.JobsFit.{SourcesStand}
+use Rattle.fleet_model.specs.Work.Scheduler.{View, shown_view}
 use Rattle.fleet_model.specs.Store.{Records, Store}
 use Rattle.sched_model.specs.Series.{TieredOptions, are_tiered}
 use Rattle.sched_model.specs.SizeTiered.{tiered_proposals, tiered_validate}

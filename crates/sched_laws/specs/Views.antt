@@ -4,11 +4,11 @@ use Rattle.std.specs.List.{AllByRecursion}
 use Rattle.std.specs.List.Sorted.{IsStrictlySortedBy}
 use Rattle.row_model.specs.Lists.{Pairs}
 use Rattle.row_model.specs.Rows.{key_cmp}
-use Rattle.fleet_model.specs.Gates.{are_distinct, reserves_nodes}
-use Rattle.fleet_model.specs.JobsFit.{SourcesStand}
+use Rattle.fleet_model.specs.Work.Gates.{are_distinct, reserves_nodes}
+use Rattle.fleet_model.specs.Invariants.JobsFit.{SourcesStand}
 use Rattle.fleet_model.specs.Nodes.{names}
-use Rattle.fleet_model.specs.Scheduler.{View}
-use Rattle.fleet_model.specs.TreesFit.{NoneShared, StandsBefore}
+use Rattle.fleet_model.specs.Work.Scheduler.{View}
+use Rattle.fleet_model.specs.Invariants.TreesFit.{NoneShared, StandsBefore}
 
 -- The trees are by rising prefix and each is in order. No node is named twice in a tree, and none is in two
 -- trees. The sources of each Scheduled, Running or Compacted job are as `SourcesStand` says.

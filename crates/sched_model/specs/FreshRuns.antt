@@ -3,7 +3,7 @@
 use Rattle.std.specs.Prelude.{ℕ, ◌+◌, ◌||◌, Bool, min, max, List, [], ◌∷◌, ◌++◌, flat_map, Option, Some, None}
 use Rattle.fleet_model.specs.Jobs.{Job, Submitted, Scheduled, Running, has_status}
 use Rattle.fleet_model.specs.Sources.{all_run_ids}
-use Rattle.fleet_model.specs.Scheduler.{View}
+use Rattle.fleet_model.specs.Work.Scheduler.{View}
 
 -- The least number that is above all of these.
 abbrev pub above_all : List ℕ → ℕ

@@ -2,11 +2,11 @@
 -- oldest.
 use Rattle.std.specs.Prelude.{ℕ, ◌+◌, ◌*◌, ◌-◌, ◌^◌, Bool, true, not, ◌&&◌, ◌||◌, ◌==◌, nat_le, nat_lt, if◌then◌else◌, List, [], ◌∷◌, ◌++◌, flat_map, find, take, length, sum_by, count_by, Option, Some, None}
 use Rattle.std.specs.List.{list_any}
-use Rattle.row_model.specs.Sizes.{saturated_sum}
+use Rattle.row_model.specs.Written.Sizes.{saturated_sum}
 use Rattle.fleet_model.specs.Nodes.{NodeName, L0, Run, names_contain, Node, Tree, names, Segment, Trees, flushes_of, runs_of}
 use Rattle.fleet_model.specs.Jobs.{JobSpec, nodes_of}
 use Rattle.fleet_model.specs.Handles.{Handle}
-use Rattle.fleet_model.specs.Scheduler.{View, Scheduler, default_generate}
+use Rattle.fleet_model.specs.Work.Scheduler.{View, Scheduler, default_generate}
 use Rattle.sched_model.specs.FreshRuns.{capped_id, fresh_run_id, is_under_way}
 
 -- The options of the level scheduler. A tree with at least `l0_trigger` flushes is compacted. The limit of

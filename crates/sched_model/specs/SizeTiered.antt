@@ -4,9 +4,9 @@ use Rattle.std.specs.Prelude.{ℕ, ◌-◌, Bool, ◌&&◌, ◌||◌, ◌==◌, 
 use Rattle.fleet_model.specs.Nodes.{NodeName, Tree, names, segment_at, tree_at}
 use Rattle.fleet_model.specs.Jobs.{Jobs, JobSpec, is_drain, nodes_of}
 use Rattle.fleet_model.specs.Sources.{older_nodes, run_ids}
-use Rattle.fleet_model.specs.Gates.{is_nonempty}
+use Rattle.fleet_model.specs.Work.Gates.{is_nonempty}
 use Rattle.sched_model.specs.FreshRuns.{fresh_run_id, is_under_way}
-use Rattle.fleet_model.specs.Scheduler.{Scheduler, View, default_generate, lowest_of}
+use Rattle.fleet_model.specs.Work.Scheduler.{Scheduler, View, default_generate, lowest_of}
 use Rattle.sched_model.specs.Sizes.{SizedTree, sized_trees}
 use Rattle.sched_model.specs.Series.{TieredOptions}
 use Rattle.sched_model.specs.Picks.{Planned, passes}

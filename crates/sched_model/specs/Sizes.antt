@@ -1,7 +1,7 @@
 -- What the size-tiered scheduler looks at in a view: the nodes of each tree with their sizes.
 use Rattle.std.specs.Prelude.{ℕ, List, [], ◌∷◌, drop, length, map, sum_by, take, Option, Some, None}
 use Rattle.std.specs.List.{filter_map}
-use Rattle.row_model.specs.Sizes.{saturated_sum}
+use Rattle.row_model.specs.Written.Sizes.{saturated_sum}
 use Rattle.fleet_model.specs.Nodes.{NodeName, L0, Run, Tree, Trees}
 use Rattle.fleet_model.specs.Handles.{Handle, tree_tables}
 

@@ -5,7 +5,7 @@ use Rattle.fleet_model.specs.Nodes.{Segment, L0, Run, Node, NodeName}
 use Rattle.fleet_model.specs.Jobs.{JobSpec}
 use Rattle.fleet_model.specs.Store.{fresh_store}
 use Rattle.fleet_model.specs.Handles.{Handle}
-use Rattle.fleet_model.specs.Scheduler.{View, Specs, Invalid, Full, FullSegment, OneSpec, default_generate}
+use Rattle.fleet_model.specs.Work.Scheduler.{View, Specs, Invalid, Full, FullSegment, OneSpec, default_generate}
 use Rattle.sched_model.specs.Levels.{LevelOptions, level_picks}
 use Rattle.sched_model.specs.Series.{TieredOptions}
 use Rattle.sched_model.specs.SizeTiered.{tiered_proposals, tiered_validate}

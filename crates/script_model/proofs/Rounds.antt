@@ -3,7 +3,7 @@ use Rattle.std.proofs.Common.{◌≡◌, refl, sym, ◌∙◌, ap, subst, ℕ, z
 use Rattle.script_model.specs.Script.{Line, Poll, ClaimJobs, FinishJob}
 use Rattle.script_model.specs.States.{Inputs, State}
 use Rattle.script_model.specs.LineSteps.{OneCourse}
-use Rattle.script_model.specs.Settles.{is_ok, has_active, has_added, jobs_run, settled_reply, all_taken, Place, BeforePoll, HasPolled, HasClaimed, ToFinish, Turn, Takes, Answers, next_round, next_claim, next_finish, next_turn, StepTaken, StepsLead, ComeInTurn, SettleRun}
+use Rattle.script_model.specs.Lines.Settles.{is_ok, has_active, has_added, jobs_run, settled_reply, all_taken, Place, BeforePoll, HasPolled, HasClaimed, ToFinish, Turn, Takes, Answers, next_round, next_claim, next_finish, next_turn, StepTaken, StepsLead, ComeInTurn, SettleRun}
 
 -- What follows a step of a settle line. If the step's reply is ok, the rest of the line follows.
 -- Otherwise the step's reply is that of the line, and the state after the step is the state after

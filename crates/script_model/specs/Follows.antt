@@ -6,7 +6,7 @@ use Rattle.fleet_model.specs.Store.{Store}
 use Rattle.script_model.specs.Script.{Line, Settle, Together, Grammar, IsScript}
 use Rattle.script_model.specs.States.{Inputs, State, FleetOptions, fresh_state}
 use Rattle.script_model.specs.LineSteps.{OneCourse}
-use Rattle.script_model.specs.Settles.{are_live, SettleRun}
+use Rattle.script_model.specs.Lines.Settles.{are_live, SettleRun}
 
 -- How a settle line is run: in rounds if both its parties are live, and otherwise by one course,
 -- which refuses it.

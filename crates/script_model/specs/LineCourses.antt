@@ -3,19 +3,19 @@ use Rattle.std.specs.Prelude.{ℕ, ◌-◌, List, Option, Some, None, slice_get,
 use Rattle.std.specs.Option.{unwrap_or}
 use Rattle.row_model.specs.Ranges.{Range}
 use Rattle.fleet_model.specs.Jobs.{number_of}
-use Rattle.fleet_model.specs.Parties.{Attempt, LiveWorker, worker_with}
+use Rattle.fleet_model.specs.Work.Parties.{Attempt, LiveWorker, worker_with}
 use Rattle.script_model.specs.Script.{Line, Options, Clock, StartCoordinator, StartWorker, KillCoordinator, KillWorker, StopCoordinator, StopWorker, FlushRows, ReadKey, SubmitJob, SubmitDrain, SubmitFull, Poll, CommitOnly, ClaimJobs, Heartbeat, Output, FinishJob, SetFault, ShowTrees, ShowJobs, ShowTables, Dump, Sweep, Scan, Settle, Together}
 use Rattle.script_model.specs.Replies.{ok, trees_reply}
 use Rattle.script_model.specs.States.{Inputs, State}
 use Rattle.script_model.specs.LineRuns.{LineCourse, only_replies, no_such_party, if_some}
-use Rattle.script_model.specs.Starts.{start_coordinator, start_worker, end_coordinator, kill_worker}
-use Rattle.script_model.specs.Flushes.{flush_line}
-use Rattle.script_model.specs.Looks.{read_line, show_tables, dump, show_jobs}
-use Rattle.script_model.specs.Scans.{scan}
-use Rattle.script_model.specs.Submits.{submit_line, full_line}
-use Rattle.script_model.specs.PollLines.{poll_line, commit_line}
-use Rattle.script_model.specs.WorkLines.{claim_line, heartbeat_line, output_asked, output_line, finish_asked, finish_line, stop_worker}
-use Rattle.script_model.specs.Sweeps.{sweep_line}
+use Rattle.script_model.specs.Lines.Starts.{start_coordinator, start_worker, end_coordinator, kill_worker}
+use Rattle.script_model.specs.Lines.Flushes.{flush_line}
+use Rattle.script_model.specs.Lines.Looks.{read_line, show_tables, dump, show_jobs}
+use Rattle.script_model.specs.Lines.Scans.{scan}
+use Rattle.script_model.specs.Lines.Submits.{submit_line, full_line}
+use Rattle.script_model.specs.Lines.PollLines.{poll_line, commit_line}
+use Rattle.script_model.specs.Lines.WorkLines.{claim_line, heartbeat_line, output_asked, output_line, finish_asked, finish_line, stop_worker}
+use Rattle.script_model.specs.Lines.Sweeps.{sweep_line}
 
 -- The state in which the line's course runs. Options, Clock and SetFault set the options, the
 -- moment or the fault that waits. Other lines change nothing here.

@@ -2,10 +2,10 @@
 -- store in between.
 use Rattle.std.specs.Prelude.{ℕ, List, [], ◌∷◌, Option, Some, None, codes, decimal}
 use Rattle.fleet_model.specs.History.{Party, Writer, Event}
-use Rattle.fleet_model.specs.Parties.{Parties}
-use Rattle.step_model.specs.Course.{Course, Ends, calls_each, then_course}
-use Rattle.step_model.specs.StepEnds.{StepEnd, Reports, GivesUp, Fenced, NotOwner, NoRecords, Invalid, Declined, OperatorRefuses, BadFlush, FlushFault, BadName, BadSegment, BadOrder, BadSequence, BadFloor, BadTick}
-use Rattle.step_model.specs.Alone.{AloneEnd, run_alone}
+use Rattle.fleet_model.specs.Work.Parties.{Parties}
+use Rattle.step_model.specs.Courses.Course.{Course, Ends, calls_each, then_course}
+use Rattle.step_model.specs.Courses.StepEnds.{StepEnd, Reports, GivesUp, Fenced, NotOwner, NoRecords, Invalid, Declined, OperatorRefuses, BadFlush, FlushFault, BadName, BadSegment, BadOrder, BadSequence, BadFloor, BadTick}
+use Rattle.step_model.specs.Courses.Alone.{AloneEnd, run_alone}
 use Rattle.script_model.specs.Words.{bytes_text}
 use Rattle.script_model.specs.Replies.{reply}
 use Rattle.script_model.specs.States.{State}

@@ -6,8 +6,8 @@ use Rattle.row_model.specs.Rows.{Row}
 use Rattle.row_model.specs.Fold.{Outcome, Merged, Refused}
 use Rattle.fleet_model.specs.Nodes.{Tables, table_rows, Node, Segment, Trees, names}
 use Rattle.fleet_model.specs.Jobs.{number_of, drawn_base, Status, Submitted, Scheduled, Running, Compacted, Completed, Failed, Context, Job, Jobs, Lease}
-use Rattle.fleet_model.specs.Polls.{PollState}
-use Rattle.fleet_model.specs.Parties.{Attempt}
+use Rattle.fleet_model.specs.Work.Polls.{PollState}
+use Rattle.fleet_model.specs.Work.Parties.{Attempt}
 use Rattle.script_model.specs.Words.{bytes_text, list_text, comma, nodes_text, flag_text}
 
 -- A reply: its words, with a space between each two, and a newline at the end.

@@ -2,8 +2,8 @@
 use Rattle.std.specs.Prelude.{ℕ, Bool, [], Option, None}
 use Rattle.row_model.specs.Fold.{Operator}
 use Rattle.fleet_model.specs.Store.{Store, fresh_store}
-use Rattle.fleet_model.specs.Scheduler.{Scheduler}
-use Rattle.fleet_model.specs.Parties.{Parties}
+use Rattle.fleet_model.specs.Work.Scheduler.{Scheduler}
+use Rattle.fleet_model.specs.Work.Parties.{Parties}
 use Rattle.fleet_model.specs.Exchanges.{Fault}
 
 -- The options of a fleet.

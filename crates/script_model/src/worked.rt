@@ -4,17 +4,17 @@
 
 ghost use Rattle.row_model.specs.Append.{append};
 ghost use Rattle.script_model.specs.Defaults.{with_quiet_scheduler};
-ghost use Rattle.script_model.specs.Worked.{MayReply, MustReply};
-ghost use Rattle.script_model.specs.WorkedCoordinators.{fence, moved_run_takeover, standing_put, takeover};
-ghost use Rattle.script_model.specs.WorkedInputs.{append_unmarked, with_levels, with_one_proposed_twice, with_two_picks};
-ghost use Rattle.script_model.specs.WorkedJobs.{destinations, drains, moved_tables, no_records, oldest_flush, proposed_twice, shared_source, two_segments};
-ghost use Rattle.script_model.specs.WorkedParties.{boundary_of_silence, cut_inside_a_key, older_attempt, stopped_worker};
-ghost use Rattle.script_model.specs.WorkedLevels.{LevelsArePicked, settled_by_nobody, settled_levels, settled_moves, struck_settle};
-ghost use Rattle.script_model.specs.WorkedRefusal.{refusing_operator};
-ghost use Rattle.script_model.specs.WorkedRetention.{horizon_alone, job_with_cut, job_without_cut, kept_by_floor, kept_by_time};
-ghost use Rattle.script_model.specs.WorkedRows.{deleted_key, expiry_classes, fold_before_expiry, no_resurrection, refused_flushes, struck_flush};
-ghost use Rattle.script_model.specs.WorkedScans.{scanned_pages, scanned_to_refusal};
-ghost use Rattle.script_model.specs.WorkedSweeps.{struck_sweep, swept, swept_beside_worker};
+ghost use Rattle.script_model.specs.Examples.Worked.{MayReply, MustReply};
+ghost use Rattle.script_model.specs.Examples.WorkedCoordinators.{fence, moved_run_takeover, standing_put, takeover};
+ghost use Rattle.script_model.specs.Examples.WorkedInputs.{append_unmarked, with_levels, with_one_proposed_twice, with_two_picks};
+ghost use Rattle.script_model.specs.Examples.WorkedJobs.{destinations, drains, moved_tables, no_records, oldest_flush, proposed_twice, shared_source, two_segments};
+ghost use Rattle.script_model.specs.Examples.WorkedParties.{boundary_of_silence, cut_inside_a_key, older_attempt, stopped_worker};
+ghost use Rattle.script_model.specs.Examples.WorkedLevels.{LevelsArePicked, settled_by_nobody, settled_levels, settled_moves, struck_settle};
+ghost use Rattle.script_model.specs.Examples.WorkedRefusal.{refusing_operator};
+ghost use Rattle.script_model.specs.Examples.WorkedRetention.{horizon_alone, job_with_cut, job_without_cut, kept_by_floor, kept_by_time};
+ghost use Rattle.script_model.specs.Examples.WorkedRows.{deleted_key, expiry_classes, fold_before_expiry, no_resurrection, refused_flushes, struck_flush};
+ghost use Rattle.script_model.specs.Examples.WorkedScans.{scanned_pages, scanned_to_refusal};
+ghost use Rattle.script_model.specs.Examples.WorkedSweeps.{struck_sweep, swept, swept_beside_worker};
 
 /// A job compacts a tombstone and two values of a key into the last run, under floor 3. Reads from
 /// the floor on answer as before. The oldest version is gone, and a read below the horizon is

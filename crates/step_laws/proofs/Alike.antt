@@ -6,12 +6,12 @@ use Rattle.fleet_model.specs.Nodes.{Tables}
 use Rattle.fleet_model.specs.Jobs.{JobSpec}
 use Rattle.fleet_model.specs.History.{Event, Entry, PutManifest, PutRecords, ManifestEpoch, Flush, Commit, stood}
 use Rattle.fleet_model.specs.Store.{fresh_store}
-use Rattle.fleet_model.specs.Replay.{Objects, after_event, after_entry, replayed_objects, plain_objects, plain_manifest}
-use Rattle.fleet_model.specs.Attempts.{claim_settings}
-use Rattle.fleet_model.specs.Claimed.{is_worker, objects_found, objects_at_get, settings_of, origin, claimed_in}
+use Rattle.fleet_model.specs.Past.Replay.{Objects, after_event, after_entry, replayed_objects, plain_objects, plain_manifest}
+use Rattle.fleet_model.specs.Work.Attempts.{claim_settings}
+use Rattle.fleet_model.specs.Past.Claimed.{is_worker, objects_found, objects_at_get, settings_of, origin, claimed_in}
 use Rattle.fleet_model.proofs.ClaimCuts.{at_claim_or, objects_got, claim_step}
 use Rattle.step_model.specs.Past.{World, manifest_with}
-use Rattle.step_model.specs.Faithful.{Faithful}
+use Rattle.step_model.specs.Kept.Faithful.{Faithful}
 use Rattle.step_laws.proofs.Replays.{replayed_push, replay_version}
 
 -- ---- two replays

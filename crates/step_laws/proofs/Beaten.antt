@@ -7,13 +7,13 @@ use Rattle.std.specs.Option.{option_or}
 use Rattle.row_model.specs.Fold.{Operator}
 use Rattle.fleet_model.specs.Jobs.{JobSpec, Job, Context, contains}
 use Rattle.fleet_model.specs.History.{Entry, Event, PutRecords, Beat, stood}
-use Rattle.fleet_model.specs.Records.{firsts}
-use Rattle.fleet_model.specs.Claimed.{number_in, attempt_number_at, beaten_in, first_beaten, if_earlier, origin, IsClaimed}
-use Rattle.fleet_model.specs.AttemptsFit.{beats, was_beaten}
+use Rattle.fleet_model.specs.Work.Records.{firsts}
+use Rattle.fleet_model.specs.Past.Claimed.{number_in, attempt_number_at, beaten_in, first_beaten, if_earlier, origin, IsClaimed}
+use Rattle.fleet_model.specs.Invariants.AttemptsFit.{beats, was_beaten}
 use Rattle.fleet_model.specs.Store.{Store, stored_jobs}
 use Rattle.step_model.specs.Past.{World}
 use Rattle.step_model.specs.Entries.{attempts_in}
-use Rattle.step_model.specs.NamesKept.{IsUpTo}
+use Rattle.step_model.specs.Kept.NamesKept.{IsUpTo}
 use Rattle.step_laws.proofs.Elements.{IsIn, all_at}
 use Rattle.step_laws.proofs.Bodies.{Body}
 use Rattle.step_laws.proofs.Changed.{found_job}

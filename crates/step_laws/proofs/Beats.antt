@@ -8,18 +8,18 @@ use Rattle.row_model.specs.Lists.{Pairs}
 use Rattle.row_model.specs.Fold.{Operator}
 use Rattle.fleet_model.specs.Jobs.{JobSpec, Job, Lease, Context, Status, Submitted, Scheduled, Running, Compacted, Completed, Failed, status_eq, has_status, contains, is_active, job_with}
 use Rattle.fleet_model.specs.History.{Party, PutRecords, Beat, Entry, Answer, stood}
-use Rattle.fleet_model.specs.Records.{Unrecorded, firsts, beaten_by}
-use Rattle.fleet_model.specs.Parties.{is_leased_to}
+use Rattle.fleet_model.specs.Work.Records.{Unrecorded, firsts, beaten_by}
+use Rattle.fleet_model.specs.Work.Parties.{is_leased_to}
 use Rattle.fleet_model.specs.Store.{Records, stored_jobs, records_epoch, is_held, AreHeld}
-use Rattle.fleet_model.specs.Replay.{epoch_after}
+use Rattle.fleet_model.specs.Past.Replay.{epoch_after}
 use Rattle.fleet_model.specs.Handles.{job_tables, context_tables}
-use Rattle.fleet_model.specs.JobsFit.{SourcesStand, was_joined}
-use Rattle.fleet_model.specs.Claimed.{beaten_in, attempt_number_at, number_in, first_beaten, if_earlier, origin}
-use Rattle.fleet_model.specs.AttemptsFit.{ContextFits, beats}
+use Rattle.fleet_model.specs.Invariants.JobsFit.{SourcesStand, was_joined}
+use Rattle.fleet_model.specs.Past.Claimed.{beaten_in, attempt_number_at, number_in, first_beaten, if_earlier, origin}
+use Rattle.fleet_model.specs.Invariants.AttemptsFit.{ContextFits, beats}
 use Rattle.step_model.specs.Past.{World}
 use Rattle.step_model.specs.LawfulTables.{MayUse}
 use Rattle.step_model.specs.LawfulRecords.{IsStoredAs, IsLiveAt, OfSome, Publishes, PublishedApart}
-use Rattle.step_model.specs.TablesKept.{AreApart, is_unjoined}
+use Rattle.step_model.specs.Kept.TablesKept.{AreApart, is_unjoined}
 use Rattle.step_laws.proofs.Elements.{IsIn, all_at, all_from, all_to, all_append, all_back, all_true_front, all_true_from, any_push_yes, contains_in, in_contains, in_append, in_back}
 use Rattle.step_laws.proofs.Mute.{IsQuietFor}
 use Rattle.step_laws.proofs.Worlds.{settings_stay_at, ranges_stay_at}

@@ -8,23 +8,23 @@ use Rattle.fleet_model.specs.Nodes.{Trees}
 use Rattle.fleet_model.specs.Jobs.{JobSpec, Job, Submitted, Scheduled, Compacted, has_status, is_active, is_finished, contains, trimmed_jobs}
 use Rattle.fleet_model.specs.History.{Entry, stood}
 use Rattle.fleet_model.specs.Store.{Manifest, Store, stored_jobs, fresh_store, AreHeld, WerePut}
-use Rattle.fleet_model.specs.Replay.{plain_objects, replayed_objects}
-use Rattle.fleet_model.specs.TreesFit.{IsSound, AreTrees}
-use Rattle.fleet_model.specs.JobsFit.{NodesHeldOnce, OpenedStands, OutputsFit, was_joined}
-use Rattle.fleet_model.specs.AttemptsFit.{JobContext, was_beaten}
-use Rattle.fleet_model.specs.ReadsFit.{TreeKeepsReads}
-use Rattle.fleet_model.specs.Gates.{reserves_nodes}
+use Rattle.fleet_model.specs.Past.Replay.{plain_objects, replayed_objects}
+use Rattle.fleet_model.specs.Invariants.TreesFit.{IsSound, AreTrees}
+use Rattle.fleet_model.specs.Invariants.JobsFit.{NodesHeldOnce, OpenedStands, OutputsFit, was_joined}
+use Rattle.fleet_model.specs.Invariants.AttemptsFit.{JobContext, was_beaten}
+use Rattle.fleet_model.specs.Invariants.ReadsFit.{TreeKeepsReads}
+use Rattle.fleet_model.specs.Work.Gates.{reserves_nodes}
 use Rattle.fleet_model.specs.Handles.{job_tables}
-use Rattle.fleet_model.specs.Invariant.{StoreInvariant, JobTablesHeld}
+use Rattle.fleet_model.specs.Invariants.Invariant.{StoreInvariant, JobTablesHeld}
 use Rattle.step_model.specs.Past.{World}
 use Rattle.step_model.specs.Entries.{drawn_jobs, drawn_tables, mentioned_in, was_named, attempts_in, planned_attempts, claimed_attempts}
-use Rattle.step_model.specs.Faithful.{Faithful}
+use Rattle.step_model.specs.Kept.Faithful.{Faithful}
 use Rattle.step_model.specs.LawfulTables.{was_piece}
-use Rattle.step_model.specs.NamesKept.{DrawsKept, IsUpTo}
-use Rattle.step_model.specs.TablesKept.{PutsKept, PiecesKept, IsFlushed, NameApart, is_unjoined}
-use Rattle.step_model.specs.JoinsKept.{JoinStands, joins_in}
-use Rattle.step_model.specs.Facts.{EpochsKept, PastKept}
-use Rattle.step_model.specs.Keeps.{Keeps}
+use Rattle.step_model.specs.Kept.NamesKept.{DrawsKept, IsUpTo}
+use Rattle.step_model.specs.Kept.TablesKept.{PutsKept, PiecesKept, IsFlushed, NameApart, is_unjoined}
+use Rattle.step_model.specs.Kept.JoinsKept.{JoinStands, joins_in}
+use Rattle.step_model.specs.Kept.Facts.{EpochsKept, PastKept}
+use Rattle.step_model.specs.Kept.Keeps.{Keeps}
 use Rattle.step_laws.proofs.Elements.{all_at, all_from, all_to}
 
 -- ---- one job

@@ -8,14 +8,14 @@ use Rattle.row_model.specs.Fold.{Operator}
 use Rattle.fleet_model.specs.Jobs.{JobSpec, Job, Jobs, contains, changed_jobs, trimmed_jobs, is_active, finished_later, job_with}
 use Rattle.fleet_model.specs.History.{Entry, stood}
 use Rattle.fleet_model.specs.Store.{Manifest, Records, stored_jobs, records_epoch}
-use Rattle.fleet_model.specs.Gates.{reserves_nodes}
+use Rattle.fleet_model.specs.Work.Gates.{reserves_nodes}
 use Rattle.fleet_model.specs.Handles.{job_tables}
-use Rattle.fleet_model.specs.JobsFit.{HoldApart, NodesHeldOnce}
-use Rattle.fleet_model.specs.TreesFit.{EpochFits}
+use Rattle.fleet_model.specs.Invariants.JobsFit.{HoldApart, NodesHeldOnce}
+use Rattle.fleet_model.specs.Invariants.TreesFit.{EpochFits}
 use Rattle.step_model.specs.Past.{World}
 use Rattle.step_model.specs.Entries.{was_named}
-use Rattle.step_model.specs.NamesKept.{IsUpTo}
-use Rattle.step_model.specs.TablesKept.{NameApart}
+use Rattle.step_model.specs.Kept.NamesKept.{IsUpTo}
+use Rattle.step_model.specs.Kept.TablesKept.{NameApart}
 use Rattle.step_laws.proofs.Elements.{IsIn, all_at, all_from, pairs_map, is_itself}
 use Rattle.step_laws.proofs.Mute.{IsQuietFor}
 use Rattle.step_laws.proofs.Grown.{named_grows, facts_quiet}

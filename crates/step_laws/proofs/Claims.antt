@@ -6,14 +6,14 @@ use Rattle.row_model.specs.Lists.{Pairs}
 use Rattle.row_model.specs.Fold.{Operator}
 use Rattle.fleet_model.specs.Jobs.{JobSpec, Job, Context, Status, Submitted, Scheduled, Running, Compacted, Completed, Failed, status_eq, job_with}
 use Rattle.fleet_model.specs.History.{Event, PutRecords, Claim, Entry, stood}
-use Rattle.fleet_model.specs.Records.{firsts, claimed_by}
-use Rattle.fleet_model.specs.Claims.{is_waiting}
-use Rattle.fleet_model.specs.Claimed.{IsClaimed}
+use Rattle.fleet_model.specs.Work.Records.{firsts, claimed_by}
+use Rattle.fleet_model.specs.Work.Claims.{is_waiting}
+use Rattle.fleet_model.specs.Past.Claimed.{IsClaimed}
 use Rattle.fleet_model.specs.Store.{Records, stored_jobs, records_epoch}
-use Rattle.fleet_model.specs.Replay.{epoch_after}
+use Rattle.fleet_model.specs.Past.Replay.{epoch_after}
 use Rattle.step_model.specs.Past.{World}
 use Rattle.step_model.specs.Entries.{claimed_attempts, attempts_claimed_in, attempts_in}
-use Rattle.step_model.specs.NamesKept.{IsUpTo}
+use Rattle.step_model.specs.Kept.NamesKept.{IsUpTo}
 use Rattle.step_model.specs.LawfulRecords.{IsStoredAs}
 use Rattle.step_laws.proofs.Elements.{IsIn, all_at, all_from, all_to, all_flat, all_append}
 use Rattle.step_laws.proofs.Mute.{IsQuietFor}

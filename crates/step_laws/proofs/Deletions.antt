@@ -10,7 +10,7 @@ use Rattle.fleet_model.specs.Handles.{named_tables, tree_tables, job_tables}
 use Rattle.fleet_model.specs.Exchanges.{DeletesTable}
 use Rattle.step_model.specs.Past.{World}
 use Rattle.step_model.specs.LawfulTables.{DeletionFits}
-use Rattle.step_model.specs.Keeps.{Keeps}
+use Rattle.step_model.specs.Kept.Keeps.{Keeps}
 use Rattle.step_laws.specs.CallLaws.{CallKeeps}
 use Rattle.step_laws.proofs.Elements.{IsIn, all_to, all_push, all_true_front, all_true_from, in_contains, in_front, in_back}
 use Rattle.step_laws.proofs.Mute.{mute_event}

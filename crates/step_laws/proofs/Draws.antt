@@ -7,8 +7,8 @@ use Rattle.fleet_model.specs.Jobs.{id_of, table_id_of, number_of, drawn_base}
 use Rattle.fleet_model.specs.History.{DrawJob, DrawTable, Done, Entry}
 use Rattle.fleet_model.specs.Exchanges.{DrawsJob, DrawsTable, next_job_id, next_table_id}
 use Rattle.step_model.specs.Entries.{drawn_jobs, drawn_tables, job_drawn_in, table_drawn_in}
-use Rattle.step_model.specs.NamesKept.{DrawsKept}
-use Rattle.step_model.specs.Keeps.{Keeps}
+use Rattle.step_model.specs.Kept.NamesKept.{DrawsKept}
+use Rattle.step_model.specs.Kept.Keeps.{Keeps}
 use Rattle.step_laws.specs.CallLaws.{CallKeeps, DrawsKeep}
 use Rattle.step_laws.proofs.Elements.{all_to, all_push, pairs_push, flat_push, flat_push_none}
 use Rattle.step_laws.proofs.Mute.{mute_event}

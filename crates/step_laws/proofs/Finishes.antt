@@ -7,14 +7,14 @@ use Rattle.row_model.specs.Fold.{Operator}
 use Rattle.fleet_model.specs.Nodes.{is_among}
 use Rattle.fleet_model.specs.Jobs.{JobSpec, Job, contains, is_active, job_with}
 use Rattle.fleet_model.specs.History.{Party, PutRecords, Finish, Entry, stood}
-use Rattle.fleet_model.specs.Records.{Unrecorded, finished_by}
+use Rattle.fleet_model.specs.Work.Records.{Unrecorded, finished_by}
 use Rattle.fleet_model.specs.Store.{Records, stored_jobs, records_epoch}
-use Rattle.fleet_model.specs.Replay.{epoch_after}
-use Rattle.fleet_model.specs.JobsFit.{SourcesStand, OutputsFit, was_joined}
+use Rattle.fleet_model.specs.Past.Replay.{epoch_after}
+use Rattle.fleet_model.specs.Invariants.JobsFit.{SourcesStand, OutputsFit, was_joined}
 use Rattle.step_model.specs.Past.{World}
 use Rattle.step_model.specs.LawfulTables.{MayUse}
 use Rattle.step_model.specs.LawfulRecords.{FinishIsWhole}
-use Rattle.step_model.specs.TablesKept.{is_unjoined}
+use Rattle.step_model.specs.Kept.TablesKept.{is_unjoined}
 use Rattle.step_laws.proofs.Elements.{IsIn, all_at, all_from, all_to, all_true_front, contains_in, in_contains}
 use Rattle.step_laws.proofs.Mute.{IsQuietFor}
 use Rattle.step_laws.proofs.Worlds.{settings_stay}

@@ -12,14 +12,14 @@ use Rattle.row_laws.proofs.RetentionReads.{int_le_trans}
 use Rattle.fleet_model.specs.Nodes.{Tables, table_rows, NodeName, L0, Run, Node, Tree, Segment, Trees, names, node_named, segment_at, tree_at}
 use Rattle.fleet_model.specs.Jobs.{Job}
 use Rattle.fleet_model.specs.Store.{Manifest, Store}
-use Rattle.fleet_model.specs.Gates.{is_nonempty}
+use Rattle.fleet_model.specs.Work.Gates.{is_nonempty}
 use Rattle.fleet_model.specs.Trees.{flushed_trees, flushed_on, greater_seq, greatest_seq}
 use Rattle.fleet_model.specs.Sources.{run_ids, all_run_ids, older_nodes}
-use Rattle.fleet_model.specs.TreesFit.{IsTree, IsAtMost, StandsBefore, node_and_flushed_rows}
-use Rattle.fleet_model.specs.JobsFit.{SourcesStand, DestinationFits}
-use Rattle.fleet_model.specs.ReadsFit.{NodeKeepsReads, TreeKeepsReads}
+use Rattle.fleet_model.specs.Invariants.TreesFit.{IsTree, IsAtMost, StandsBefore, node_and_flushed_rows}
+use Rattle.fleet_model.specs.Invariants.JobsFit.{SourcesStand, DestinationFits}
+use Rattle.fleet_model.specs.Invariants.ReadsFit.{NodeKeepsReads, TreeKeepsReads}
 use Rattle.step_model.specs.LawfulManifests.{IsAbove}
-use Rattle.step_model.specs.JoinsKept.{JoinStands, Gone, NotEmpty, Itself}
+use Rattle.step_model.specs.Kept.JoinsKept.{JoinStands, Gone, NotEmpty, Itself}
 use Rattle.step_model.specs.LawfulTables.{was_piece}
 use Rattle.step_laws.proofs.Elements.{IsIn, all_at, all_from, all_to, all_append}
 use Rattle.step_laws.proofs.FlushTrees.{Rising, new_node, tree_flushed}

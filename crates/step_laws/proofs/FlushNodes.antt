@@ -13,8 +13,8 @@ use Rattle.fleet_model.specs.Handles.{tree_tables}
 use Rattle.fleet_model.specs.Trees.{flushed_trees, flushed_on, empty_segment, source_nodes}
 use Rattle.fleet_model.specs.Sources.{run_ids, all_run_ids, after_front, or_later, older_nodes}
 use Rattle.step_model.specs.Entries.{was_flushed, drawn_tables}
-use Rattle.step_model.specs.NamesKept.{DrawsKept}
-use Rattle.step_model.specs.TablesKept.{IsKnownPiece, IsFlushed}
+use Rattle.step_model.specs.Kept.NamesKept.{DrawsKept}
+use Rattle.step_model.specs.Kept.TablesKept.{IsKnownPiece, IsFlushed}
 use Rattle.step_laws.proofs.Elements.{IsIn, all_at, all_from, all_to, all_flat, contains_in, contains_no, in_contains, in_front, in_back}
 use Rattle.step_laws.proofs.FlushTrees.{Rising, each_flushed, new_node, tree_flushed}
 

@@ -13,7 +13,7 @@ use Rattle.row_model.specs.Rows.{Row, key_cmp}
 use Rattle.row_laws.proofs.KeyRows.{exact, key_alike}
 use Rattle.fleet_model.specs.Nodes.{L0, Node, Segment, Trees, segment_at, tree_at, tree_or_empty}
 use Rattle.fleet_model.specs.Trees.{flushed_trees, flushed_on, empty_segment}
-use Rattle.fleet_model.specs.TreesFit.{RootIsFirst}
+use Rattle.fleet_model.specs.Invariants.TreesFit.{RootIsFirst}
 use Rattle.step_laws.proofs.Elements.{IsIn, all_from, all_to}
 
 -- ---- prefixes

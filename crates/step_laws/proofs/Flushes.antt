@@ -12,15 +12,15 @@ use Rattle.fleet_model.specs.Store.{Manifest, is_held, AreHeld, WerePut}
 use Rattle.fleet_model.specs.Handles.{tree_tables, job_tables}
 use Rattle.fleet_model.specs.Trees.{flushed_trees, flushed_on, empty_segment}
 use Rattle.fleet_model.specs.Tracker.{Tracked, tracked_after, least_seq_of}
-use Rattle.fleet_model.specs.TreesFit.{IsTable, IsTree, NoneShared}
-use Rattle.fleet_model.specs.JobsFit.{SourcesStand}
-use Rattle.fleet_model.specs.ReadsFit.{TreeKeepsReads}
+use Rattle.fleet_model.specs.Invariants.TreesFit.{IsTable, IsTree, NoneShared}
+use Rattle.fleet_model.specs.Invariants.JobsFit.{SourcesStand}
+use Rattle.fleet_model.specs.Invariants.ReadsFit.{TreeKeepsReads}
 use Rattle.step_model.specs.Past.{World}
 use Rattle.step_model.specs.Entries.{was_flushed, is_flush_of, epoch_in}
 use Rattle.step_model.specs.LawfulManifests.{IsAbove}
 use Rattle.step_model.specs.LawfulTables.{was_piece}
-use Rattle.step_model.specs.TablesKept.{IsKnownPiece, IsFlush, IsPassed, AreApart}
-use Rattle.step_model.specs.Keeps.{Keeps}
+use Rattle.step_model.specs.Kept.TablesKept.{IsKnownPiece, IsFlush, IsPassed, AreApart}
+use Rattle.step_model.specs.Kept.Keeps.{Keeps}
 use Rattle.step_laws.proofs.Elements.{IsIn, all_at, all_from, all_to, all_push, all_flat, all_unflat, any_element, any_push_yes, contains_in, is_itself, flat_push_none}
 use Rattle.step_laws.proofs.Mute.{IsQuiet}
 use Rattle.step_laws.proofs.Grown.{pieces_grow, flushed_grows, passed_grows}

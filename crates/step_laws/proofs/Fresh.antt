@@ -4,12 +4,12 @@ use Rattle.std.specs.Prelude.{option_map}
 use Rattle.row_model.specs.Fold.{Operator}
 use Rattle.fleet_model.specs.History.{Entry}
 use Rattle.fleet_model.specs.Store.{fresh_store}
-use Rattle.fleet_model.specs.Replay.{Objects, replayed_objects, plain_objects, plain_manifest}
+use Rattle.fleet_model.specs.Past.Replay.{Objects, replayed_objects, plain_objects, plain_manifest}
 use Rattle.fleet_model.specs.Jobs.{JobSpec}
-use Rattle.fleet_model.specs.Invariant.{StoreInvariant}
+use Rattle.fleet_model.specs.Invariants.Invariant.{StoreInvariant}
 use Rattle.fleet_model.proofs.Begins.{fresh_stored}
 use Rattle.step_model.specs.Past.{fresh_world, manifest_with}
-use Rattle.step_model.specs.Keeps.{Keeps}
+use Rattle.step_model.specs.Kept.Keeps.{Keeps}
 
 no_specs : ℕ → JobSpec
 no_specs job = record { segment = []; sources = []; destination = None }

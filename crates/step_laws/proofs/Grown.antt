@@ -4,14 +4,14 @@ use Rattle.std.specs.Prelude.{◌&&◌, not, IsTrue}
 use Rattle.fleet_model.specs.Nodes.{Trees, NodeName, L0, Run, Node, names}
 use Rattle.fleet_model.specs.Jobs.{Job, Jobs, contains, is_active}
 use Rattle.fleet_model.specs.History.{Entry, stood}
-use Rattle.fleet_model.specs.JobsFit.{was_joined, joins}
-use Rattle.fleet_model.specs.AttemptsFit.{was_beaten, beats}
-use Rattle.fleet_model.specs.Replay.{named_specs}
-use Rattle.fleet_model.specs.Records.{firsts}
+use Rattle.fleet_model.specs.Invariants.JobsFit.{was_joined, joins}
+use Rattle.fleet_model.specs.Invariants.AttemptsFit.{was_beaten, beats}
+use Rattle.fleet_model.specs.Past.Replay.{named_specs}
+use Rattle.fleet_model.specs.Work.Records.{firsts}
 use Rattle.fleet_model.specs.Store.{Manifest}
 use Rattle.step_model.specs.Entries.{was_named, was_flushed, is_flush_of, drawn_tables, table_drawn_in, drawn_jobs, job_drawn_in, last_name}
-use Rattle.step_model.specs.NamesKept.{IsUpTo}
-use Rattle.step_model.specs.TablesKept.{IsKnownPiece, IsKnownTable, IsFlush, IsPassed, IsFlushed, PiecesKept}
+use Rattle.step_model.specs.Kept.NamesKept.{IsUpTo}
+use Rattle.step_model.specs.Kept.TablesKept.{IsKnownPiece, IsKnownTable, IsFlush, IsPassed, IsFlushed, PiecesKept}
 use Rattle.step_laws.proofs.Elements.{all_to, any_front, any_push_no, contains_front, flat_push}
 use Rattle.step_laws.proofs.Mute.{IsQuietFor}
 use Rattle.step_laws.proofs.Bodies.{JobFacts}

@@ -11,20 +11,20 @@ use Rattle.row_model.specs.Fold.{Operator}
 use Rattle.fleet_model.specs.Jobs.{JobSpec, Job, Context, Compacted, has_status, is_active}
 use Rattle.fleet_model.specs.History.{Entry, stood}
 use Rattle.fleet_model.specs.Store.{Manifest, stored_jobs, fresh_store, AreHeld, WerePut}
-use Rattle.fleet_model.specs.Replay.{Objects, after_entry, replayed_objects, plain_objects, plain_manifest, named_specs}
-use Rattle.fleet_model.specs.Gates.{reserves_nodes}
+use Rattle.fleet_model.specs.Past.Replay.{Objects, after_entry, replayed_objects, plain_objects, plain_manifest, named_specs}
+use Rattle.fleet_model.specs.Work.Gates.{reserves_nodes}
 use Rattle.fleet_model.specs.Handles.{job_tables}
-use Rattle.fleet_model.specs.TreesFit.{AreTrees, RootIsFirst}
-use Rattle.fleet_model.specs.JobsFit.{OutputsFit, SettingsFit, SourcesStand, was_joined}
-use Rattle.fleet_model.specs.AttemptsFit.{ContextFits}
-use Rattle.fleet_model.specs.ReadsFit.{TreeKeepsReads}
+use Rattle.fleet_model.specs.Invariants.TreesFit.{AreTrees, RootIsFirst}
+use Rattle.fleet_model.specs.Invariants.JobsFit.{OutputsFit, SettingsFit, SourcesStand, was_joined}
+use Rattle.fleet_model.specs.Invariants.AttemptsFit.{ContextFits}
+use Rattle.fleet_model.specs.Invariants.ReadsFit.{TreeKeepsReads}
 use Rattle.step_model.specs.Past.{World, manifest_with, past_after, world_after}
 use Rattle.step_model.specs.Entries.{mentioned_in, planned_attempts, attempts_in, attempts_claimed_in}
-use Rattle.step_model.specs.Faithful.{Faithful}
+use Rattle.step_model.specs.Kept.Faithful.{Faithful}
 use Rattle.step_model.specs.LawfulTables.{was_piece}
-use Rattle.step_model.specs.TablesKept.{PiecesKept}
-use Rattle.step_model.specs.JoinsKept.{JoinStands}
-use Rattle.step_model.specs.Facts.{EpochsKept, PastKept}
+use Rattle.step_model.specs.Kept.TablesKept.{PiecesKept}
+use Rattle.step_model.specs.Kept.JoinsKept.{JoinStands}
+use Rattle.step_model.specs.Kept.Facts.{EpochsKept, PastKept}
 use Rattle.step_laws.proofs.Elements.{IsIn, all_to, all_push, all_front, pairs_push, flat_push_none, found_front, is_itself, Cut, Whole, Before, cut_where}
 use Rattle.step_laws.proofs.Mute.{IsQuiet, quiet_for}
 use Rattle.step_laws.proofs.Replays.{replayed_push, part_version}

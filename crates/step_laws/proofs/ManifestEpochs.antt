@@ -8,14 +8,14 @@ use Rattle.fleet_model.specs.Jobs.{Job, contains}
 use Rattle.fleet_model.specs.History.{Party, PutManifest, ManifestEpoch, Answer, Entry, stood}
 use Rattle.fleet_model.specs.Store.{Manifest, Records}
 use Rattle.fleet_model.specs.Handles.{tree_tables}
-use Rattle.fleet_model.specs.TreesFit.{EpochFits}
+use Rattle.fleet_model.specs.Invariants.TreesFit.{EpochFits}
 use Rattle.step_model.specs.Past.{World}
 use Rattle.step_model.specs.Entries.{put_epochs, epoch_in}
 use Rattle.step_model.specs.LawfulTables.{was_piece}
-use Rattle.step_model.specs.TablesKept.{IsKnownPiece}
-use Rattle.step_model.specs.JoinsKept.{JoinStands, Gone, NotEmpty, Itself}
-use Rattle.step_model.specs.Facts.{EpochsKept, PastKept}
-use Rattle.step_model.specs.Keeps.{Keeps}
+use Rattle.step_model.specs.Kept.TablesKept.{IsKnownPiece}
+use Rattle.step_model.specs.Kept.JoinsKept.{JoinStands, Gone, NotEmpty, Itself}
+use Rattle.step_model.specs.Kept.Facts.{EpochsKept, PastKept}
+use Rattle.step_model.specs.Kept.Keeps.{Keeps}
 use Rattle.step_laws.proofs.Elements.{IsIn, all_at, all_to, all_push, pairs_push, flat_push, any_front, any_push_no, any_of}
 use Rattle.step_laws.proofs.Mute.{IsQuiet}
 use Rattle.step_laws.proofs.Grown.{pieces_grow}

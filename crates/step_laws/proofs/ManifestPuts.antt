@@ -8,7 +8,7 @@ use Rattle.fleet_model.specs.Store.{Manifest}
 use Rattle.fleet_model.specs.Exchanges.{PutsManifest, with_entry, stands_or_lost}
 use Rattle.step_model.specs.Past.{World, world_after}
 use Rattle.step_model.specs.LawfulManifests.{ManifestFits}
-use Rattle.step_model.specs.Keeps.{Keeps}
+use Rattle.step_model.specs.Kept.Keeps.{Keeps}
 use Rattle.step_laws.specs.CallLaws.{ManifestPutKeeps}
 use Rattle.step_laws.proofs.ManifestBodies.{with_manifest, world_with_manifest}
 use Rattle.step_laws.proofs.Vain.{vain_puts_keep}

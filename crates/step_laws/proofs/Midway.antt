@@ -8,15 +8,15 @@ use Rattle.fleet_model.specs.Nodes.{is_among, Tables}
 use Rattle.fleet_model.specs.Jobs.{JobSpec, Job, contains, job_with}
 use Rattle.fleet_model.specs.History.{Entry, stood}
 use Rattle.fleet_model.specs.Store.{Manifest, fresh_store}
-use Rattle.fleet_model.specs.Replay.{Objects, after_entry, replayed_objects, plain_objects, plain_manifest}
+use Rattle.fleet_model.specs.Past.Replay.{Objects, after_entry, replayed_objects, plain_objects, plain_manifest}
 use Rattle.step_model.specs.Past.{World, manifest_with}
 use Rattle.step_model.specs.Entries.{drawn_jobs, mentioned_in, was_named, attempts_in, planned_attempts, tables_brought_in}
-use Rattle.step_model.specs.Faithful.{Faithful}
-use Rattle.step_model.specs.NamesKept.{DrawsKept, NamesKept, AttemptsKept, IsUpTo}
-use Rattle.step_model.specs.TablesKept.{PutsKept, PiecesKept, JobTablesKept}
-use Rattle.step_model.specs.JoinsKept.{JoinsKept, Gone, joins_in}
-use Rattle.step_model.specs.Facts.{EpochsKept, PastKept, StoreFacts}
-use Rattle.step_model.specs.Keeps.{Keeps}
+use Rattle.step_model.specs.Kept.Faithful.{Faithful}
+use Rattle.step_model.specs.Kept.NamesKept.{DrawsKept, NamesKept, AttemptsKept, IsUpTo}
+use Rattle.step_model.specs.Kept.TablesKept.{PutsKept, PiecesKept, JobTablesKept}
+use Rattle.step_model.specs.Kept.JoinsKept.{JoinsKept, Gone, joins_in}
+use Rattle.step_model.specs.Kept.Facts.{EpochsKept, PastKept, StoreFacts}
+use Rattle.step_model.specs.Kept.Keeps.{Keeps}
 use Rattle.step_laws.specs.Midway.{spec_of, midway_world, tables, jobs, joined_manifest, past, history}
 use Rattle.step_laws.proofs.Elements.{all_to}
 use Rattle.step_laws.proofs.MidwayStored.{differ, agrees, keeps_by}

@@ -2,17 +2,17 @@
 use Rattle.std.proofs.Common.{◌≡◌, refl, sym, ap, subst, ℕ, List, [], ◌∷◌, ◌++◌, lit≤, inl, inr, Some, None}
 use Rattle.std.specs.Prelude.{take}
 use Rattle.row_model.specs.Fold.{Operator}
-use Rattle.row_model.specs.Plan.{planned_ranges}
+use Rattle.row_model.specs.Written.Plan.{planned_ranges}
 use Rattle.fleet_model.specs.Jobs.{JobSpec, Jobs, Running}
 use Rattle.fleet_model.specs.History.{Party, Submitter}
 use Rattle.fleet_model.specs.Trees.{tables_now}
-use Rattle.fleet_model.specs.Attempts.{claim_settings}
-use Rattle.fleet_model.specs.Records.{Unrecorded, no_contexts}
-use Rattle.fleet_model.specs.AttemptsFit.{ContextFits}
-use Rattle.fleet_model.specs.JobsFit.{OutputsFit}
+use Rattle.fleet_model.specs.Work.Attempts.{claim_settings}
+use Rattle.fleet_model.specs.Work.Records.{Unrecorded, no_contexts}
+use Rattle.fleet_model.specs.Invariants.AttemptsFit.{ContextFits}
+use Rattle.fleet_model.specs.Invariants.JobsFit.{OutputsFit}
 use Rattle.fleet_model.specs.Store.{Manifest}
 use Rattle.step_model.specs.Past.{World, fresh_world}
-use Rattle.step_model.specs.Faithful.{Faithful, with_specs}
+use Rattle.step_model.specs.Kept.Faithful.{Faithful, with_specs}
 use Rattle.step_model.specs.LawfulRecords.{NamesFit}
 use Rattle.step_model.specs.Rivals.{Caller, RivalCall, RivalsFrom, after_rival}
 use Rattle.step_laws.specs.Midway.{row, prefix, tables, spec, spec_of, context, compacted_job, claimed_manifest, past, history, midway_world}

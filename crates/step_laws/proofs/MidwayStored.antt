@@ -4,22 +4,22 @@ use Rattle.std.specs.Prelude.{◌==◌, ◌≢◌, nat_le, bytes_eq}
 use Rattle.std.proofs.lemmas.Bool.{le-leb}
 use Rattle.row_model.specs.Rows.{Row, is_expired, sorted_rows}
 use Rattle.row_model.specs.Read.{with_operand, operands, base_or, base, seen_at, read}
-use Rattle.fleet_model.specs.ReadsFit.{NodeKeepsReads}
+use Rattle.fleet_model.specs.Invariants.ReadsFit.{NodeKeepsReads}
 use Rattle.std.specs.List.{AllByRecursion}
 use Rattle.std.specs.List.Sorted.{IsStrictlySortedBy}
 use Rattle.std.proofs.lemmas.Bool.Decides.{Decides-eqb}
 use Rattle.row_model.specs.Bounds.{IsInBounds}
 use Rattle.row_model.specs.Fold.{Operator, fold_bytes}
-use Rattle.row_model.specs.Plan.{planned_ranges}
-use Rattle.fleet_model.specs.Invariant.{StoreInvariant}
-use Rattle.fleet_model.specs.TreesFit.{AreTrees, IsSound}
-use Rattle.fleet_model.specs.JobsFit.{NodesHeldOnce, OpenedStands, OutputsFit}
-use Rattle.fleet_model.specs.AttemptsFit.{JobContext, ContextFits}
-use Rattle.fleet_model.specs.Claimed.{IsClaimed}
-use Rattle.fleet_model.specs.Replay.{IsReplayed}
-use Rattle.step_model.specs.Faithful.{AgreesWith, Faithful}
-use Rattle.step_model.specs.Facts.{StoreFacts}
-use Rattle.step_model.specs.Keeps.{Keeps}
+use Rattle.row_model.specs.Written.Plan.{planned_ranges}
+use Rattle.fleet_model.specs.Invariants.Invariant.{StoreInvariant}
+use Rattle.fleet_model.specs.Invariants.TreesFit.{AreTrees, IsSound}
+use Rattle.fleet_model.specs.Invariants.JobsFit.{NodesHeldOnce, OpenedStands, OutputsFit}
+use Rattle.fleet_model.specs.Invariants.AttemptsFit.{JobContext, ContextFits}
+use Rattle.fleet_model.specs.Past.Claimed.{IsClaimed}
+use Rattle.fleet_model.specs.Past.Replay.{IsReplayed}
+use Rattle.step_model.specs.Kept.Faithful.{AgreesWith, Faithful}
+use Rattle.step_model.specs.Kept.Facts.{StoreFacts}
+use Rattle.step_model.specs.Kept.Keeps.{Keeps}
 use Rattle.step_laws.specs.Midway.{row, run_node, context, spec_of, running, compacted_job, history, midway_world}
 
 pub differ : (a b : ℕ) → (a == b) ≡ false → a ≢ b

@@ -4,12 +4,12 @@ use Rattle.std.specs.Prelude.{◌&&◌, IsTrue, if◌then◌else◌}
 use Rattle.fleet_model.specs.Nodes.{Tables}
 use Rattle.fleet_model.specs.Jobs.{JobSpec}
 use Rattle.fleet_model.specs.History.{Event, PutManifest, PutRecords}
-use Rattle.fleet_model.specs.Replay.{Objects, after_event}
-use Rattle.fleet_model.specs.Claimed.{beaten_in}
-use Rattle.fleet_model.specs.JobsFit.{joins}
-use Rattle.fleet_model.specs.AttemptsFit.{beats}
+use Rattle.fleet_model.specs.Past.Replay.{Objects, after_event}
+use Rattle.fleet_model.specs.Past.Claimed.{beaten_in}
+use Rattle.fleet_model.specs.Invariants.JobsFit.{joins}
+use Rattle.fleet_model.specs.Invariants.AttemptsFit.{beats}
 use Rattle.step_model.specs.Entries.{steps_in, attempts_in, attempts_claimed_in, epoch_in, tables_brought_in}
-use Rattle.step_model.specs.JoinsKept.{joins_in}
+use Rattle.step_model.specs.Kept.JoinsKept.{joins_in}
 
 -- The entry of an event says nothing of jobs and attempts. The flag says that the event took effect.
 pub record IsQuiet (took : Bool) (event : Event) : Type 0 where

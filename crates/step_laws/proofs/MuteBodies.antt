@@ -7,16 +7,16 @@ use Rattle.row_model.specs.Fold.{Operator}
 use Rattle.fleet_model.specs.Jobs.{JobSpec, Job, Context, is_active, contains}
 use Rattle.fleet_model.specs.History.{Entry, stood}
 use Rattle.fleet_model.specs.Store.{Manifest, Store, stored_jobs, fresh_store, AreHeld, WerePut}
-use Rattle.fleet_model.specs.Replay.{Objects, replayed_objects, plain_objects, plain_manifest}
+use Rattle.fleet_model.specs.Past.Replay.{Objects, replayed_objects, plain_objects, plain_manifest}
 use Rattle.fleet_model.specs.Handles.{job_tables}
-use Rattle.fleet_model.specs.JobsFit.{OutputsFit, was_joined}
-use Rattle.fleet_model.specs.AttemptsFit.{ContextFits}
-use Rattle.fleet_model.specs.Claimed.{IsClaimed}
+use Rattle.fleet_model.specs.Invariants.JobsFit.{OutputsFit, was_joined}
+use Rattle.fleet_model.specs.Invariants.AttemptsFit.{ContextFits}
+use Rattle.fleet_model.specs.Past.Claimed.{IsClaimed}
 use Rattle.step_model.specs.Past.{World, manifest_with}
 use Rattle.step_model.specs.Entries.{drawn_jobs, mentioned_in, planned_attempts, attempts_in, attempts_claimed_in, epoch_in}
-use Rattle.step_model.specs.Faithful.{Faithful, AgreesWith}
-use Rattle.step_model.specs.NamesKept.{IsUpTo}
-use Rattle.step_model.specs.Facts.{EpochsKept}
+use Rattle.step_model.specs.Kept.Faithful.{Faithful, AgreesWith}
+use Rattle.step_model.specs.Kept.NamesKept.{IsUpTo}
+use Rattle.step_model.specs.Kept.Facts.{EpochsKept}
 use Rattle.step_laws.proofs.Elements.{IsIn, all_to, all_push, all_front, flat_push_none, Cut, Whole, Before, cut_where}
 use Rattle.step_laws.proofs.Mute.{IsMute, IsQuietFor, quiet_for}
 use Rattle.step_laws.proofs.Worlds.{settings_stay, ranges_stay}

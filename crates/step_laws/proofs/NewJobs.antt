@@ -8,17 +8,17 @@ use Rattle.row_model.specs.Lists.{Pairs}
 use Rattle.row_model.specs.Fold.{Operator}
 use Rattle.fleet_model.specs.Jobs.{JobSpec, Job, Jobs, contains, put_job, job_with}
 use Rattle.fleet_model.specs.History.{Party, Event, PutManifest, PutRecords, Commit, Step, Join, Move, Drain, RecordChange, Entry, Answer, stood}
-use Rattle.fleet_model.specs.Records.{firsts, new_job, with_new}
-use Rattle.fleet_model.specs.Replay.{named_specs}
+use Rattle.fleet_model.specs.Work.Records.{firsts, new_job, with_new}
+use Rattle.fleet_model.specs.Past.Replay.{named_specs}
 use Rattle.fleet_model.specs.Store.{Records, stored_jobs}
-use Rattle.fleet_model.specs.JobsFit.{HoldApart, NodesHeldOnce, was_joined, joins, is_join_of}
-use Rattle.fleet_model.specs.AttemptsFit.{was_beaten}
+use Rattle.fleet_model.specs.Invariants.JobsFit.{HoldApart, NodesHeldOnce, was_joined, joins, is_join_of}
+use Rattle.fleet_model.specs.Invariants.AttemptsFit.{was_beaten}
 use Rattle.step_model.specs.Past.{World}
 use Rattle.step_model.specs.Entries.{was_named, attempts_in}
-use Rattle.step_model.specs.Faithful.{AgreesWith}
+use Rattle.step_model.specs.Kept.Faithful.{AgreesWith}
 use Rattle.step_model.specs.LawfulRecords.{AreNew}
-use Rattle.step_model.specs.NamesKept.{IsUpTo}
-use Rattle.step_model.specs.JoinsKept.{joins_in, join_of}
+use Rattle.step_model.specs.Kept.NamesKept.{IsUpTo}
+use Rattle.step_model.specs.Kept.JoinsKept.{joins_in, join_of}
 use Rattle.step_laws.proofs.Elements.{IsIn, all_at, all_from, all_back, Passes, any_element, any_push_yes}
 use Rattle.step_laws.proofs.Mute.{IsQuietFor}
 use Rattle.step_laws.proofs.Grown.{joined_stays, beaten_stays_so}

@@ -6,20 +6,20 @@ use Rattle.row_model.specs.Lists.{Pairs}
 use Rattle.row_model.specs.Fold.{Operator}
 use Rattle.fleet_model.specs.Jobs.{JobSpec, Job, Jobs, trimmed_jobs, job_with}
 use Rattle.fleet_model.specs.History.{Party, PutRecords, RecordChange, Submit, Entry, Answer, stood}
-use Rattle.fleet_model.specs.Records.{Unrecorded, with_new, after_change, jobs_after}
+use Rattle.fleet_model.specs.Work.Records.{Unrecorded, with_new, after_change, jobs_after}
 use Rattle.fleet_model.specs.Trees.{tables_now}
-use Rattle.fleet_model.specs.Replay.{epoch_after, named_specs}
+use Rattle.fleet_model.specs.Past.Replay.{epoch_after, named_specs}
 use Rattle.fleet_model.specs.Store.{Records, stored_jobs, records_epoch}
 use Rattle.fleet_model.specs.Exchanges.{records_version}
 use Rattle.fleet_model.specs.Handles.{job_tables}
-use Rattle.fleet_model.specs.JobsFit.{NodesHeldOnce}
+use Rattle.fleet_model.specs.Invariants.JobsFit.{NodesHeldOnce}
 use Rattle.step_model.specs.Past.{World}
 use Rattle.step_model.specs.Entries.{attempts_in, attempts_claimed_in, tables_brought_in}
-use Rattle.step_model.specs.Faithful.{with_specs}
+use Rattle.step_model.specs.Kept.Faithful.{with_specs}
 use Rattle.step_model.specs.LawfulRecords.{NamesFit}
-use Rattle.step_model.specs.NamesKept.{IsUpTo}
-use Rattle.step_model.specs.TablesKept.{AreApart, NameApart}
-use Rattle.step_model.specs.Keeps.{Keeps}
+use Rattle.step_model.specs.Kept.NamesKept.{IsUpTo}
+use Rattle.step_model.specs.Kept.TablesKept.{AreApart, NameApart}
+use Rattle.step_model.specs.Kept.Keeps.{Keeps}
 use Rattle.step_laws.proofs.Elements.{IsIn, all_from}
 use Rattle.step_laws.proofs.Mute.{IsQuietFor}
 use Rattle.step_laws.proofs.Grown.{named_grows}

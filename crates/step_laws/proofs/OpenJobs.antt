@@ -3,11 +3,11 @@ use Rattle.std.proofs.Common.{◌≡◌, refl, ℕ, Bool, true, false, Option, S
 use Rattle.std.specs.Prelude.{IsTrue, IfSome, is_none, ◌||◌, ◌&&◌, not}
 use Rattle.row_model.specs.Fold.{Operator}
 use Rattle.fleet_model.specs.Jobs.{JobSpec, Job, Status, Submitted, Scheduled, Running, Compacted, Completed, Failed, status_eq, is_finished, is_active, Lease, Context}
-use Rattle.fleet_model.specs.JobsFit.{SourcesStand, was_joined}
-use Rattle.fleet_model.specs.AttemptsFit.{ContextFits}
-use Rattle.fleet_model.specs.Claimed.{IsClaimed}
+use Rattle.fleet_model.specs.Invariants.JobsFit.{SourcesStand, was_joined}
+use Rattle.fleet_model.specs.Invariants.AttemptsFit.{ContextFits}
+use Rattle.fleet_model.specs.Past.Claimed.{IsClaimed}
 use Rattle.step_model.specs.Past.{World}
-use Rattle.step_model.specs.TablesKept.{is_unjoined}
+use Rattle.step_model.specs.Kept.TablesKept.{is_unjoined}
 use Rattle.step_laws.proofs.Bodies.{JobKept}
 use Rattle.step_laws.proofs.TableBodies.{active_if_open}
 

@@ -12,7 +12,7 @@ use Rattle.fleet_model.specs.Store.{stored_jobs}
 use Rattle.step_model.specs.Past.{World}
 use Rattle.step_model.specs.Entries.{drawn_tables}
 use Rattle.step_model.specs.LawfulTables.{IsOwnTable, other_tables, was_piece}
-use Rattle.step_model.specs.TablesKept.{AreApart, NameApart}
+use Rattle.step_model.specs.Kept.TablesKept.{AreApart, NameApart}
 use Rattle.step_laws.proofs.Elements.{IsIn, all_at, all_from, all_true_front, all_true_from, pairs_map, in_contains, contains_in, contains_no}
 use Rattle.step_laws.proofs.Bodies.{Body}
 use Rattle.step_laws.proofs.Changed.{on_these, by_these}

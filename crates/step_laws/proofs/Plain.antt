@@ -3,8 +3,8 @@ use Rattle.std.proofs.Common.{◌≡◌, refl, sym, ◌∙◌, ap, ℕ, List, []
 use Rattle.std.specs.Prelude.{IsTrue, map, nat_lt, option_map, ◌||◌}
 use Rattle.fleet_model.specs.Jobs.{JobSpec, Job, Jobs, Lease, contains, changed_jobs, put_job, trimmed_jobs, is_active, is_finished, finished_later}
 use Rattle.fleet_model.specs.History.{RecordChange, RecordsEpoch, Submit, Claim, Beat, Finish, Release, Polled, PollChange}
-use Rattle.fleet_model.specs.Records.{Unrecorded, firsts, no_contexts, new_job, with_new, claimed_by, beaten_by, finished_by, to_waiting, to_scheduled, to_completed, to_failed, after_change, jobs_after}
-use Rattle.fleet_model.specs.Replay.{plain_job, without_moment}
+use Rattle.fleet_model.specs.Work.Records.{Unrecorded, firsts, no_contexts, new_job, with_new, claimed_by, beaten_by, finished_by, to_waiting, to_scheduled, to_completed, to_failed, after_change, jobs_after}
+use Rattle.fleet_model.specs.Past.Replay.{plain_job, without_moment}
 use Rattle.step_laws.proofs.Elements.{IsIn}
 
 -- ---- trimmed jobs

@@ -7,16 +7,16 @@ use Rattle.row_model.specs.Fold.{Operator}
 use Rattle.fleet_model.specs.Nodes.{NodeName, L0, Run, name_eq, Tree, names, names_contain, is_among, tree_at, tree_or_empty, segment_at, Segment, Trees}
 use Rattle.fleet_model.specs.Jobs.{JobSpec, Job, Context, Status, Submitted, Scheduled, Running, Compacted, Completed, Failed, status_eq, has_status, is_finished, is_active}
 use Rattle.fleet_model.specs.History.{Entry}
-use Rattle.fleet_model.specs.Records.{to_scheduled}
+use Rattle.fleet_model.specs.Work.Records.{to_scheduled}
 use Rattle.fleet_model.specs.Handles.{job_tables, context_tables}
 use Rattle.fleet_model.specs.Trees.{tables_now}
 use Rattle.fleet_model.specs.Sources.{after_front, or_later, older_nodes, reaches_oldest, is_whole_stretch}
 use Rattle.fleet_model.specs.Store.{is_held, WerePut}
-use Rattle.fleet_model.specs.JobsFit.{SourcesStand, was_joined}
-use Rattle.fleet_model.specs.AttemptsFit.{ContextFits, was_beaten}
+use Rattle.fleet_model.specs.Invariants.JobsFit.{SourcesStand, was_joined}
+use Rattle.fleet_model.specs.Invariants.AttemptsFit.{ContextFits, was_beaten}
 use Rattle.step_model.specs.Past.{World}
 use Rattle.step_model.specs.Entries.{was_flushed}
-use Rattle.step_model.specs.TablesKept.{IsFlush, IsFlushed}
+use Rattle.step_model.specs.Kept.TablesKept.{IsFlush, IsFlushed}
 use Rattle.step_laws.proofs.Elements.{all_to, all_back, all_true_front, all_true_from}
 use Rattle.step_laws.proofs.Bodies.{JobKept}
 use Rattle.step_laws.proofs.OpenJobs.{is_open}

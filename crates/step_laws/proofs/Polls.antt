@@ -6,16 +6,16 @@ use Rattle.row_model.specs.Lists.{Pairs}
 use Rattle.row_model.specs.Fold.{Operator}
 use Rattle.fleet_model.specs.Jobs.{JobSpec, Job, Jobs, Context, Status, Submitted, Scheduled, Running, Compacted, Completed, Failed, status_eq, has_status, is_finished, is_active, contains, changed_jobs, trimmed_jobs, finished_later, job_with}
 use Rattle.fleet_model.specs.History.{Party, PutRecords, Polled, PollChange, Entry, Answer, stood}
-use Rattle.fleet_model.specs.Records.{Unrecorded, with_new, new_job, to_waiting, to_scheduled, to_completed, to_failed}
+use Rattle.fleet_model.specs.Work.Records.{Unrecorded, with_new, new_job, to_waiting, to_scheduled, to_completed, to_failed}
 use Rattle.fleet_model.specs.Handles.{job_tables, context_tables}
 use Rattle.fleet_model.specs.Trees.{tables_now}
-use Rattle.fleet_model.specs.Replay.{epoch_after}
+use Rattle.fleet_model.specs.Past.Replay.{epoch_after}
 use Rattle.fleet_model.specs.Store.{Records, stored_jobs, records_epoch, WerePut}
-use Rattle.fleet_model.specs.JobsFit.{SourcesStand, NodesHeldOnce}
+use Rattle.fleet_model.specs.Invariants.JobsFit.{SourcesStand, NodesHeldOnce}
 use Rattle.step_model.specs.Past.{World}
 use Rattle.step_model.specs.LawfulRecords.{OfSome, may_end, PollFits}
-use Rattle.step_model.specs.NamesKept.{IsUpTo}
-use Rattle.step_model.specs.TablesKept.{NameApart, IsFlush}
+use Rattle.step_model.specs.Kept.NamesKept.{IsUpTo}
+use Rattle.step_model.specs.Kept.TablesKept.{NameApart, IsFlush}
 use Rattle.step_laws.proofs.Elements.{IsIn, all_at, all_to, pairs_map, contains_in, in_back}
 use Rattle.step_laws.proofs.Mute.{IsQuietFor}
 use Rattle.step_laws.proofs.Grown.{pieces_grow}

@@ -9,14 +9,14 @@ use Rattle.fleet_model.specs.Nodes.{Tables, is_among}
 use Rattle.fleet_model.specs.Jobs.{JobSpec}
 use Rattle.fleet_model.specs.History.{Party, Event, GetManifest, GetRecords, GetTable, PutTable, PutRecords, Plan, Start, Kill, ListTables, Claim, Answer, Lost, Entry, stood}
 use Rattle.fleet_model.specs.Store.{stored_jobs}
-use Rattle.fleet_model.specs.Replay.{named_specs}
+use Rattle.fleet_model.specs.Past.Replay.{named_specs}
 use Rattle.fleet_model.specs.Exchanges.{Plain, ListsTables, answer_of, stands_or_lost, with_entry}
 use Rattle.step_model.specs.Past.{World, world_after}
 use Rattle.step_model.specs.Entries.{job_drawn_in, table_drawn_in, table_put_in, tables_brought_in, planned_attempts, was_claimed, is_claim_of, is_in, attempts_in}
 use Rattle.step_model.specs.LawfulTables.{PlainFits}
-use Rattle.step_model.specs.NamesKept.{DrawsKept, IsUpTo}
-use Rattle.step_model.specs.TablesKept.{PutsKept}
-use Rattle.step_model.specs.Keeps.{Keeps}
+use Rattle.step_model.specs.Kept.NamesKept.{DrawsKept, IsUpTo}
+use Rattle.step_model.specs.Kept.TablesKept.{PutsKept}
+use Rattle.step_model.specs.Kept.Keeps.{Keeps}
 use Rattle.step_laws.specs.CallLaws.{CallKeeps, LooksKeep}
 use Rattle.step_laws.proofs.Elements.{all_at, all_to, all_push, Passes, any_element, is_itself, flat_push_none}
 use Rattle.step_laws.proofs.Mute.{IsMute, mute_event}

@@ -3,10 +3,10 @@ use Rattle.std.proofs.Common.{◌≡◌, refl, sym, subst, cond, Bool, true, Opt
 use Rattle.fleet_model.specs.Exchanges.{Exchange, Fault, event_of, after_answered, strikes, waiting_after, struck_by, does_stand}
 use Rattle.step_model.specs.Past.{World}
 use Rattle.step_model.specs.Rivals.{Caller, Rivals, RivalsFrom}
-use Rattle.step_model.specs.Course.{Course, Ends, Calls}
-use Rattle.step_model.specs.CourseRuns.{End, Gives, MeetsFault, LacksMemory, EndsAs, Runs, StopsAt}
-use Rattle.step_model.specs.Alone.{AloneEnd, run_alone}
-use Rattle.step_model.specs.Ran.{Ran, StopsHere}
+use Rattle.step_model.specs.Courses.Course.{Course, Ends, Calls}
+use Rattle.step_model.specs.Courses.CourseRuns.{End, Gives, MeetsFault, LacksMemory, EndsAs, Runs, StopsAt}
+use Rattle.step_model.specs.Courses.Alone.{AloneEnd, run_alone}
+use Rattle.step_model.specs.Courses.Ran.{Ran, StopsHere}
 use Rattle.step_laws.specs.RanLaws.{IsAloneEnd, RanLaws, StepsRan}
 
 stops_at : {A : Type 0} (who : Caller) (x : Exchange) (met new : World) (waits left : Option Fault) (end : End A) → StopsHere who x met new waits left end → StopsAt who x met new end

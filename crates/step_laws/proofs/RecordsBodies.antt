@@ -8,18 +8,18 @@ use Rattle.row_model.specs.Fold.{Operator}
 use Rattle.fleet_model.specs.Jobs.{JobSpec, Job, Jobs, Context, contains, trimmed_jobs}
 use Rattle.fleet_model.specs.History.{Party, Entry, PutRecords, RecordChange, RecordsEpoch, Submit, Claim, Beat, Finish, Release, Polled, Answer, stood}
 use Rattle.fleet_model.specs.Store.{Records, Store, stored_jobs, jobs_in, fresh_store}
-use Rattle.fleet_model.specs.Replay.{after_entry, replayed_objects, plain_objects, plain_manifest, plain_records, plain_job, named_specs, next_version, epoch_after}
-use Rattle.fleet_model.specs.Records.{Unrecorded, firsts, jobs_after}
+use Rattle.fleet_model.specs.Past.Replay.{after_entry, replayed_objects, plain_objects, plain_manifest, plain_records, plain_job, named_specs, next_version, epoch_after}
+use Rattle.fleet_model.specs.Work.Records.{Unrecorded, firsts, jobs_after}
 use Rattle.fleet_model.specs.Trees.{tables_now}
 use Rattle.fleet_model.specs.Exchanges.{records_version}
-use Rattle.fleet_model.specs.TreesFit.{EpochFits}
-use Rattle.fleet_model.specs.JobsFit.{NodesHeldOnce, OutputsFit}
-use Rattle.fleet_model.specs.AttemptsFit.{ContextFits}
+use Rattle.fleet_model.specs.Invariants.TreesFit.{EpochFits}
+use Rattle.fleet_model.specs.Invariants.JobsFit.{NodesHeldOnce, OutputsFit}
+use Rattle.fleet_model.specs.Invariants.AttemptsFit.{ContextFits}
 use Rattle.step_model.specs.Past.{World, world_after}
 use Rattle.step_model.specs.Entries.{drawn_jobs, mentioned_in, planned_attempts, attempts_in, claimed_attempts, attempts_claimed_in, epoch_in}
-use Rattle.step_model.specs.Faithful.{Faithful, AgreesWith}
-use Rattle.step_model.specs.NamesKept.{IsUpTo}
-use Rattle.step_model.specs.TablesKept.{NameApart}
+use Rattle.step_model.specs.Kept.Faithful.{Faithful, AgreesWith}
+use Rattle.step_model.specs.Kept.NamesKept.{IsUpTo}
+use Rattle.step_model.specs.Kept.TablesKept.{NameApart}
 use Rattle.step_laws.proofs.Elements.{all_to, all_append, all_push, all_front, flat_push, flat_push_none, is_itself, Cut, Whole, Before, cut_where}
 use Rattle.step_laws.proofs.Replays.{replayed_push}
 use Rattle.step_laws.proofs.Grown.{named_grows, drawn_job_grows, pieces_grow}

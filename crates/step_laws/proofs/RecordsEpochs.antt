@@ -10,7 +10,7 @@ use Rattle.fleet_model.specs.History.{Party, Event, PutManifest, PutRecords, Man
 use Rattle.fleet_model.specs.Store.{stored_jobs}
 use Rattle.fleet_model.specs.Exchanges.{records_version}
 use Rattle.step_model.specs.Entries.{party_eq, did_put_epoch, is_epoch_put, put_epochs, epoch_in}
-use Rattle.step_model.specs.Facts.{EpochsKept}
+use Rattle.step_model.specs.Kept.Facts.{EpochsKept}
 use Rattle.step_laws.proofs.Elements.{IsIn, all_at, all_to, Passes, any_element}
 use Rattle.step_laws.proofs.Mute.{IsQuietFor}
 use Rattle.step_laws.proofs.Grown.{named_grows}

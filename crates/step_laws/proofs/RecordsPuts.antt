@@ -5,11 +5,11 @@ use Rattle.std.proofs.lemmas.Bool.Decides.{Decides-eqb}
 use Rattle.row_model.specs.Fold.{Operator}
 use Rattle.fleet_model.specs.Jobs.{Jobs}
 use Rattle.fleet_model.specs.History.{Party, PutRecords, RecordChange, Answer, Done, Conflict, Stands, stood}
-use Rattle.fleet_model.specs.Replay.{named_specs}
+use Rattle.fleet_model.specs.Past.Replay.{named_specs}
 use Rattle.fleet_model.specs.Exchanges.{PutsRecords, with_entry, stands_or_lost, records_version}
 use Rattle.step_model.specs.Past.{World, world_after}
 use Rattle.step_model.specs.LawfulRecords.{NamesFit, RecordsFit}
-use Rattle.step_model.specs.Keeps.{Keeps}
+use Rattle.step_model.specs.Kept.Keeps.{Keeps}
 use Rattle.step_laws.specs.CallLaws.{RecordsPutKeeps}
 use Rattle.step_laws.proofs.RecordsBodies.{with_records, world_with_records}
 use Rattle.step_laws.proofs.Vain.{vain_puts_keep}

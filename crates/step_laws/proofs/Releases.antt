@@ -6,9 +6,9 @@ use Rattle.std.proofs.lemmas.List.{append-nil}
 use Rattle.row_model.specs.Fold.{Operator}
 use Rattle.fleet_model.specs.Jobs.{Scheduled}
 use Rattle.fleet_model.specs.History.{PutRecords, Release, Entry, stood}
-use Rattle.fleet_model.specs.Records.{firsts, to_waiting}
+use Rattle.fleet_model.specs.Work.Records.{firsts, to_waiting}
 use Rattle.fleet_model.specs.Store.{Records, stored_jobs, records_epoch}
-use Rattle.fleet_model.specs.Replay.{epoch_after}
+use Rattle.fleet_model.specs.Past.Replay.{epoch_after}
 use Rattle.step_model.specs.Past.{World}
 use Rattle.step_model.specs.LawfulRecords.{IsStoredAs, IsLiveAt}
 use Rattle.step_laws.proofs.Elements.{all_at, all_from, all_to}

@@ -3,7 +3,7 @@ use Rattle.std.proofs.Common.{◌≡◌, refl, ℕ, ◌+◌, ◌≤◌, List, []
 use Rattle.fleet_model.specs.Nodes.{Tables}
 use Rattle.fleet_model.specs.Jobs.{JobSpec}
 use Rattle.fleet_model.specs.History.{Event, Entry, PutManifest, PutRecords, ManifestEpoch, Flush, Commit, stood}
-use Rattle.fleet_model.specs.Replay.{Objects, after_event, after_entry, replayed_objects}
+use Rattle.fleet_model.specs.Past.Replay.{Objects, after_event, after_entry, replayed_objects}
 use Rattle.fleet_model.proofs.Begins.{replayed-append}
 
 -- ---- one entry more

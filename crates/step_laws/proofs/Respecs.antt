@@ -9,13 +9,13 @@ use Rattle.row_model.specs.Fold.{Operator}
 use Rattle.fleet_model.specs.Jobs.{JobSpec, Job, Context, contains}
 use Rattle.fleet_model.specs.History.{Party, Event, DrawJob, Entry}
 use Rattle.fleet_model.specs.Store.{Store, stored_jobs, fresh_store}
-use Rattle.fleet_model.specs.Replay.{plain_objects}
-use Rattle.fleet_model.specs.Records.{firsts}
-use Rattle.fleet_model.specs.JobsFit.{OutputsFit}
-use Rattle.fleet_model.specs.AttemptsFit.{ContextFits}
+use Rattle.fleet_model.specs.Past.Replay.{plain_objects}
+use Rattle.fleet_model.specs.Work.Records.{firsts}
+use Rattle.fleet_model.specs.Invariants.JobsFit.{OutputsFit}
+use Rattle.fleet_model.specs.Invariants.AttemptsFit.{ContextFits}
 use Rattle.step_model.specs.Past.{World}
 use Rattle.step_model.specs.Entries.{drawn_jobs, job_drawn_in, is_draw_of, drew_job, party_eq}
-use Rattle.step_model.specs.Faithful.{Faithful, with_specs, spec_or}
+use Rattle.step_model.specs.Kept.Faithful.{Faithful, with_specs, spec_or}
 use Rattle.step_laws.proofs.Elements.{IsIn, all_at, all_from, all_to, Passes, any_element, is_itself, in_contains, in_front, in_back}
 use Rattle.step_laws.proofs.Alike.{SameReplays, replays_alike, settings_same}
 use Rattle.step_laws.proofs.Bodies.{JobFits, JobKept, Body}

@@ -6,9 +6,9 @@ use Rattle.fleet_model.specs.Exchanges.{Exchange, Plain, DrawsJob, DrawsTable, P
 use Rattle.step_model.specs.Past.{World}
 use Rattle.step_model.specs.Lawful.{Lawful}
 use Rattle.step_model.specs.Rivals.{Caller, RivalCall, RivalsFrom, Rivals, after_rival}
-use Rattle.step_model.specs.Keeps.{Keeps}
-use Rattle.step_model.specs.Course.{Course, Ends, Calls}
-use Rattle.step_model.specs.CourseRuns.{End, Gives, MeetsFault, LacksMemory, HasRoom, StopsAt, Runs, IsLawfulCourse}
+use Rattle.step_model.specs.Kept.Keeps.{Keeps}
+use Rattle.step_model.specs.Courses.Course.{Course, Ends, Calls}
+use Rattle.step_model.specs.Courses.CourseRuns.{End, Gives, MeetsFault, LacksMemory, HasRoom, StopsAt, Runs, IsLawfulCourse}
 use Rattle.step_laws.specs.Runs.{CallsKeep, CoursesKeep, LawfulRunsKeep}
 
 pub rivals_from_keep : (who : Caller) → CallsKeep who.merge → (calls : List RivalCall) (old new : World) → Keeps who.merge old → RivalsFrom who calls old new → Keeps who.merge new

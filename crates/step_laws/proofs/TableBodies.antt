@@ -7,24 +7,24 @@ use Rattle.std.proofs.lemmas.Bool.Decides.{Decides-eqb}
 use Rattle.row_model.specs.Lists.{Pairs, IsPrefixOf}
 use Rattle.row_model.specs.Rows.{Row, IsStrictlyOrdered, sorted_rows}
 use Rattle.row_model.specs.Ranges.{Range}
-use Rattle.row_model.specs.Plan.{planned_ranges}
+use Rattle.row_model.specs.Written.Plan.{planned_ranges}
 use Rattle.row_model.specs.Fold.{Operator}
 use Rattle.fleet_model.specs.Nodes.{Tables, is_among, table_rows, Node, Tree, Segment, node_rows, flushed_node_rows}
 use Rattle.fleet_model.specs.Jobs.{JobSpec, Job, Context, Status, Submitted, Scheduled, Running, Compacted, Completed, Failed, status_eq, is_finished, has_status, is_active}
 use Rattle.fleet_model.specs.History.{Entry, stood}
 use Rattle.fleet_model.specs.Store.{Store, stored_jobs, fresh_store, is_held}
-use Rattle.fleet_model.specs.Replay.{plain_objects}
+use Rattle.fleet_model.specs.Past.Replay.{plain_objects}
 use Rattle.fleet_model.specs.Handles.{context_tables, job_tables}
-use Rattle.fleet_model.specs.Attempts.{source_rows, range_rows, noted_rows}
-use Rattle.fleet_model.specs.TreesFit.{IsTable, IsTree, IsNewer, IsAtMost, node_and_flushed_rows}
-use Rattle.fleet_model.specs.JobsFit.{OutputsFit}
-use Rattle.fleet_model.specs.AttemptsFit.{ContextFits}
-use Rattle.fleet_model.specs.ReadsFit.{TreeKeepsReads}
-use Rattle.fleet_model.specs.Claimed.{settings_of}
+use Rattle.fleet_model.specs.Work.Attempts.{source_rows, range_rows, noted_rows}
+use Rattle.fleet_model.specs.Invariants.TreesFit.{IsTable, IsTree, IsNewer, IsAtMost, node_and_flushed_rows}
+use Rattle.fleet_model.specs.Invariants.JobsFit.{OutputsFit}
+use Rattle.fleet_model.specs.Invariants.AttemptsFit.{ContextFits}
+use Rattle.fleet_model.specs.Invariants.ReadsFit.{TreeKeepsReads}
+use Rattle.fleet_model.specs.Past.Claimed.{settings_of}
 use Rattle.step_model.specs.Past.{World}
 use Rattle.step_model.specs.Entries.{tables_brought_in}
-use Rattle.step_model.specs.Faithful.{Faithful}
-use Rattle.step_model.specs.TablesKept.{PutsKept}
+use Rattle.step_model.specs.Kept.Faithful.{Faithful}
+use Rattle.step_model.specs.Kept.TablesKept.{PutsKept}
 use Rattle.step_laws.proofs.Elements.{IsIn, all_at, all_from, all_to, all_push, all_front, all_back, all_unflat, pairs_push, all_true_front, all_true_from, any_of}
 use Rattle.step_laws.proofs.Alike.{SameReplays, settings_same}
 use Rattle.step_laws.proofs.Bodies.{JobFits, JobKept, Body}

@@ -11,8 +11,8 @@ use Rattle.fleet_model.specs.Exchanges.{PutsTable}
 use Rattle.step_model.specs.Past.{World}
 use Rattle.step_model.specs.Entries.{party_eq, last_from, last_event, last_name, name_in, drawn_tables, table_drawn_in, put_tables, table_put_in}
 use Rattle.step_model.specs.LawfulTables.{TableFits, MayName}
-use Rattle.step_model.specs.TablesKept.{PutsKept, IsKnownTable}
-use Rattle.step_model.specs.Keeps.{Keeps}
+use Rattle.step_model.specs.Kept.TablesKept.{PutsKept, IsKnownTable}
+use Rattle.step_model.specs.Kept.Keeps.{Keeps}
 use Rattle.step_laws.specs.CallLaws.{CallKeeps, TableCallsKeep}
 use Rattle.step_laws.proofs.Elements.{IsIn, all_to, all_push, pairs_push, flat_push, any_push_yes, is_itself, in_contains, in_front, in_back}
 use Rattle.step_laws.proofs.Mute.{IsMute, mute_event}

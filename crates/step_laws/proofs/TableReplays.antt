@@ -8,8 +8,8 @@ use Rattle.fleet_model.specs.Nodes.{Tables, is_among, table_rows, NodeName, Node
 use Rattle.fleet_model.specs.Jobs.{JobSpec, Job, Jobs, contains, put_job, trimmed_jobs, is_active, finished_later, job_with, changed_jobs}
 use Rattle.fleet_model.specs.History.{Event, Entry, PutManifest, PutRecords, ManifestEpoch, Flush, Commit, RecordChange, RecordsEpoch, Submit, Claim, Beat, Finish, Release, Polled, Step, Join, Move, Drain, stood}
 use Rattle.fleet_model.specs.Trees.{flushed_trees, flushed_on, empty_segment, source_nodes, source_pieces, without_nodes, put_run, is_run_below, with_run_for, first_key, put_by_first_key, by_first_key, to_run, stepped_tree, stepped_in, stepped_all, job_of, watermark_after}
-use Rattle.fleet_model.specs.Records.{Unrecorded, firsts, new_job, with_new, claimed_by, beaten_by, finished_by, to_waiting, to_scheduled, to_completed, to_failed, after_change}
-use Rattle.fleet_model.specs.Replay.{Objects, plain_job, outputs_of, outputs_in, after_event, after_entry, replayed_objects}
+use Rattle.fleet_model.specs.Work.Records.{Unrecorded, firsts, new_job, with_new, claimed_by, beaten_by, finished_by, to_waiting, to_scheduled, to_completed, to_failed, after_change}
+use Rattle.fleet_model.specs.Past.Replay.{Objects, plain_job, outputs_of, outputs_in, after_event, after_entry, replayed_objects}
 use Rattle.fleet_model.specs.Store.{jobs_in}
 use Rattle.step_model.specs.Entries.{tables_brought_in}
 use Rattle.step_laws.proofs.Elements.{all_from, all_append}

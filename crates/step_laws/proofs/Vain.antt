@@ -7,14 +7,14 @@ use Rattle.row_model.specs.Fold.{Operator}
 use Rattle.fleet_model.specs.Jobs.{JobSpec, Jobs, contains}
 use Rattle.fleet_model.specs.History.{Party, PutTable, PutManifest, PutRecords, DeleteTable, ManifestChange, RecordChange, Answer, Done, Conflict, Lost, Entry, stood}
 use Rattle.fleet_model.specs.Store.{Manifest}
-use Rattle.fleet_model.specs.Replay.{named_specs}
+use Rattle.fleet_model.specs.Past.Replay.{named_specs}
 use Rattle.fleet_model.specs.Exchanges.{Exchange, Plain, PutsTable, PutsManifest, PutsRecords, ListsTables, DeletesTable, DrawsJob, DrawsTable, records_version, with_entry, stands_or_lost}
 use Rattle.step_model.specs.Past.{World, world_after}
 use Rattle.step_model.specs.Entries.{drawn_jobs}
-use Rattle.step_model.specs.Faithful.{with_specs}
+use Rattle.step_model.specs.Kept.Faithful.{with_specs}
 use Rattle.step_model.specs.LawfulRecords.{NamesFit}
 use Rattle.step_model.specs.Lawful.{Lawful}
-use Rattle.step_model.specs.Keeps.{Keeps}
+use Rattle.step_model.specs.Kept.Keeps.{Keeps}
 use Rattle.step_model.specs.Rivals.{Strike, MayStrike, after_call}
 use Rattle.step_laws.specs.CallLaws.{VainPutsKeep}
 use Rattle.step_laws.proofs.Elements.{all_append, all_to}

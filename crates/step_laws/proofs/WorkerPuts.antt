@@ -6,21 +6,21 @@ use Rattle.std.proofs.lemmas.Bool.Decides.{Decides-eqb}
 use Rattle.row_model.specs.Fold.{Operator}
 use Rattle.fleet_model.specs.Jobs.{JobSpec, Job, Jobs, Status, Submitted, Scheduled, Running, Compacted, Completed, Failed, status_eq, has_status, contains, job_with, changed_jobs, trimmed_jobs}
 use Rattle.fleet_model.specs.History.{Party, PutRecords, RecordChange, Entry, Answer, stood}
-use Rattle.fleet_model.specs.Records.{Unrecorded, firsts, after_change, jobs_after}
+use Rattle.fleet_model.specs.Work.Records.{Unrecorded, firsts, after_change, jobs_after}
 use Rattle.fleet_model.specs.Trees.{tables_now}
 use Rattle.fleet_model.specs.Nodes.{is_among}
 use Rattle.row_model.specs.Lists.{Pairs}
-use Rattle.fleet_model.specs.Parties.{is_leased_to}
-use Rattle.fleet_model.specs.Gates.{reserves_nodes}
+use Rattle.fleet_model.specs.Work.Parties.{is_leased_to}
+use Rattle.fleet_model.specs.Work.Gates.{reserves_nodes}
 use Rattle.fleet_model.specs.Store.{Records, stored_jobs, records_epoch}
 use Rattle.fleet_model.specs.Exchanges.{records_version}
-use Rattle.fleet_model.specs.Replay.{epoch_after, named_specs}
+use Rattle.fleet_model.specs.Past.Replay.{epoch_after, named_specs}
 use Rattle.step_model.specs.Past.{World}
 use Rattle.step_model.specs.Entries.{was_named, attempts_in, claimed_attempts, attempts_claimed_in, tables_brought_in}
-use Rattle.step_model.specs.NamesKept.{IsUpTo}
-use Rattle.step_model.specs.TablesKept.{NameApart}
+use Rattle.step_model.specs.Kept.NamesKept.{IsUpTo}
+use Rattle.step_model.specs.Kept.TablesKept.{NameApart}
 use Rattle.step_model.specs.LawfulRecords.{IsStoredAs, IsLiveAt, OfSome}
-use Rattle.step_model.specs.Keeps.{Keeps}
+use Rattle.step_model.specs.Kept.Keeps.{Keeps}
 use Rattle.step_laws.proofs.Elements.{IsIn, all_at, contains_in}
 use Rattle.step_laws.proofs.Mute.{IsQuietFor}
 use Rattle.step_laws.proofs.Bodies.{Body, JobKept, whole_of, keeps_of}

@@ -8,9 +8,9 @@ use Rattle.fleet_model.specs.Nodes.{Tables}
 use Rattle.fleet_model.specs.Jobs.{JobSpec}
 use Rattle.fleet_model.specs.History.{Entry, stood}
 use Rattle.fleet_model.specs.Store.{fresh_store}
-use Rattle.fleet_model.specs.Replay.{Objects, after_entry, plain_objects, replayed_objects}
-use Rattle.fleet_model.specs.Attempts.{claim_settings}
-use Rattle.fleet_model.specs.Claimed.{beaten_in, first_beaten, if_earlier, origin, is_worker, objects_found, objects_at_get, settings_of, planned_in, noted_plan, ranges_of, claimed_in, ClaimCut, with_first, cut_here_or, cut_at_claim, objects_after_claim}
+use Rattle.fleet_model.specs.Past.Replay.{Objects, after_entry, plain_objects, replayed_objects}
+use Rattle.fleet_model.specs.Work.Attempts.{claim_settings}
+use Rattle.fleet_model.specs.Past.Claimed.{beaten_in, first_beaten, if_earlier, origin, is_worker, objects_found, objects_at_get, settings_of, planned_in, noted_plan, ranges_of, claimed_in, ClaimCut, with_first, cut_here_or, cut_at_claim, objects_after_claim}
 use Rattle.fleet_model.proofs.ClaimCuts.{objects_got}
 
 get_stays : (tables : Tables) (specs : ℕ → JobSpec) (worker : ℕ) (history later : List Entry) (o p : Objects) → objects_at_get tables specs worker history o ≡ Some p → objects_at_get tables specs worker (history ++ later) o ≡ Some p

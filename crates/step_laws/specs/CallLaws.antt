@@ -9,7 +9,7 @@ use Rattle.fleet_model.specs.Exchanges.{Exchange, Plain, DrawsJob, DrawsTable, P
 use Rattle.step_model.specs.Past.{World}
 use Rattle.step_model.specs.Lawful.{Lawful}
 use Rattle.step_model.specs.Rivals.{Strike, MayStrike, after_call}
-use Rattle.step_model.specs.Keeps.{Keeps}
+use Rattle.step_model.specs.Kept.Keeps.{Keeps}
 
 -- A call keeps the invariant and the facts where this condition on its party and on the world
 -- holds, whether a fault strikes the call or not.

@@ -8,7 +8,7 @@ use Rattle.fleet_model.specs.Jobs.{Context, Job, Jobs, Lease, Status, Scheduled,
 use Rattle.fleet_model.specs.History.{Party, Writer, Submitter, Coordinator, Worker, Sweeper, GetManifest, Plan, ManifestEpoch, Flush, Commit, Join, RecordsEpoch, Submit, Polled, Claim, Beat, Finish}
 use Rattle.fleet_model.specs.Store.{fresh_store}
 use Rattle.fleet_model.specs.Trees.{empty_segment}
-use Rattle.fleet_model.specs.Records.{new_job}
+use Rattle.fleet_model.specs.Work.Records.{new_job}
 use Rattle.fleet_model.specs.Exchanges.{Exchange, Plain, DrawsJob, DrawsTable, PutsTable, PutsManifest, PutsRecords}
 use Rattle.step_model.specs.Past.{fresh_world}
 use Rattle.step_model.specs.Rivals.{Caller, RivalCall, RivalsFrom}

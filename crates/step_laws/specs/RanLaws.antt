@@ -1,18 +1,18 @@
 -- The laws on runs with the fault that waits.
 use Rattle.std.specs.Prelude.{◌≡◌, ℕ, List, true, Option, Some, None, ⊤}
 use Rattle.fleet_model.specs.Exchanges.{Fault}
-use Rattle.fleet_model.specs.PollStates.{PollState}
+use Rattle.fleet_model.specs.Work.PollStates.{PollState}
 use Rattle.step_model.specs.Past.{World}
 use Rattle.step_model.specs.Rivals.{Caller}
-use Rattle.step_model.specs.Course.{Course}
-use Rattle.step_model.specs.CourseRuns.{End, Gives, MeetsFault, LacksMemory, Runs}
-use Rattle.step_model.specs.Alone.{AloneEnd, run_alone}
-use Rattle.step_model.specs.Ran.{Ran}
-use Rattle.step_model.specs.StepEnds.{StepEnd}
-use Rattle.step_model.specs.ClaimSteps.{Claimed}
-use Rattle.step_model.specs.BeatSteps.{Beaten}
-use Rattle.step_model.specs.OutputSteps.{Written}
-use Rattle.step_model.specs.FinishSteps.{FinishedJob}
+use Rattle.step_model.specs.Courses.Course.{Course}
+use Rattle.step_model.specs.Courses.CourseRuns.{End, Gives, MeetsFault, LacksMemory, Runs}
+use Rattle.step_model.specs.Courses.Alone.{AloneEnd, run_alone}
+use Rattle.step_model.specs.Courses.Ran.{Ran}
+use Rattle.step_model.specs.Courses.StepEnds.{StepEnd}
+use Rattle.step_model.specs.Steps.ClaimSteps.{Claimed}
+use Rattle.step_model.specs.Steps.BeatSteps.{Beaten}
+use Rattle.step_model.specs.Steps.OutputSteps.{Written}
+use Rattle.step_model.specs.Steps.FinishSteps.{FinishedJob}
 
 -- The end of a run says the end of the course that ran alone. If memory runs out, it says nothing.
 abbrev pub IsAloneEnd : {A : Type 0} → End A → World → Option Fault → AloneEnd A → Type 0

@@ -1,18 +1,18 @@
 -- The laws on runs of steps: they keep the invariant if each lawful call does.
 use Rattle.std.specs.Prelude.{ℕ, List, ⊤}
 use Rattle.row_model.specs.Fold.{Operator}
-use Rattle.fleet_model.specs.PollStates.{PollState}
+use Rattle.fleet_model.specs.Work.PollStates.{PollState}
 use Rattle.fleet_model.specs.Exchanges.{Exchange}
 use Rattle.step_model.specs.Past.{World}
 use Rattle.step_model.specs.Rivals.{Caller, Rivals}
-use Rattle.step_model.specs.Keeps.{Keeps}
-use Rattle.step_model.specs.Course.{Course}
-use Rattle.step_model.specs.CourseRuns.{End, Runs, IsLawfulCourse}
-use Rattle.step_model.specs.StepEnds.{StepEnd}
-use Rattle.step_model.specs.ClaimSteps.{Claimed}
-use Rattle.step_model.specs.BeatSteps.{Beaten}
-use Rattle.step_model.specs.OutputSteps.{Written}
-use Rattle.step_model.specs.FinishSteps.{FinishedJob}
+use Rattle.step_model.specs.Kept.Keeps.{Keeps}
+use Rattle.step_model.specs.Courses.Course.{Course}
+use Rattle.step_model.specs.Courses.CourseRuns.{End, Runs, IsLawfulCourse}
+use Rattle.step_model.specs.Courses.StepEnds.{StepEnd}
+use Rattle.step_model.specs.Steps.ClaimSteps.{Claimed}
+use Rattle.step_model.specs.Steps.BeatSteps.{Beaten}
+use Rattle.step_model.specs.Steps.OutputSteps.{Written}
+use Rattle.step_model.specs.Steps.FinishSteps.{FinishedJob}
 use Rattle.step_laws.specs.CallLaws.{CallKeeps}
 
 -- Every lawful call keeps the invariant.

@@ -3,7 +3,7 @@
 #![tactic(auto)]
 
 ghost use Rattle.row_model.specs.Fold.{Operator};
-ghost use Rattle.step_model.specs.Keeps.{Keeps};
+ghost use Rattle.step_model.specs.Kept.Keeps.{Keeps};
 ghost use Rattle.step_model.specs.Past.{fresh_world};
 ghost use Rattle.step_laws.specs.CallLaws.{DrawsKeep, EpochsKeep, FlushesKeep, JobPutsKeep, LooksKeep, OtherCallsKeep, TableCallsKeep, VainPutsKeep, WorkerPutsKeep};
 ghost use Rattle.step_laws.specs.Later.{CallsLeadLater};

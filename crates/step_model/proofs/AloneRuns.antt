@@ -5,9 +5,9 @@ use Rattle.fleet_model.specs.History.{Event, is_get_or_put}
 use Rattle.fleet_model.specs.Exchanges.{Fault, event_of, strikes, waiting_after, struck_by, does_stand, after_answered}
 use Rattle.step_model.specs.Past.{World}
 use Rattle.step_model.specs.Rivals.{Caller, Rivals, RivalsFrom, RivalCall, after_call}
-use Rattle.step_model.specs.Course.{Course, Ends, Calls}
-use Rattle.step_model.specs.CourseRuns.{End, Gives, MeetsFault, HasRoom, Runs}
-use Rattle.step_model.specs.Alone.{AloneEnd, run_alone}
+use Rattle.step_model.specs.Courses.Course.{Course, Ends, Calls}
+use Rattle.step_model.specs.Courses.CourseRuns.{End, Gives, MeetsFault, HasRoom, Runs}
+use Rattle.step_model.specs.Courses.Alone.{AloneEnd, run_alone}
 
 -- A run alone that has no answer met its fault.
 abbrev pub end_of : {A : Type 0} → Option A → End A

@@ -3,8 +3,8 @@ use Rattle.std.specs.Prelude.{ℕ, Bool, true, false, ◌&&◌, ◌==◌, nat_lt
 use Rattle.std.specs.List.{list_any, concat}
 use Rattle.fleet_model.specs.Jobs.{contains, drawn_base}
 use Rattle.fleet_model.specs.Trees.{job_of}
-use Rattle.fleet_model.specs.Records.{firsts}
-use Rattle.fleet_model.specs.Replay.{named_specs}
+use Rattle.fleet_model.specs.Work.Records.{firsts}
+use Rattle.fleet_model.specs.Past.Replay.{named_specs}
 use Rattle.fleet_model.specs.History.{Party, Writer, Submitter, Coordinator, Worker, Sweeper, Event, PutTable, PutManifest, PutRecords, DrawJob, DrawTable, Plan, ManifestEpoch, Flush, Commit, Claim, Beat, Finish, Release, Answer, Done, Entry, stood}
 
 -- Two parties are equal if they have the same kind and the same number.

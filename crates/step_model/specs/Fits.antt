@@ -9,15 +9,15 @@ use Rattle.fleet_model.specs.Jobs.{JobSpec, Job, Jobs, job_with, is_finished}
 use Rattle.fleet_model.specs.History.{Coordinator, Worker}
 use Rattle.fleet_model.specs.Store.{Store, stored_jobs, records_epoch}
 use Rattle.fleet_model.specs.Handles.{context_tables}
-use Rattle.fleet_model.specs.Attempts.{source_rows}
-use Rattle.fleet_model.specs.Parties.{Attempt, LiveWorker, LiveCoordinator, live_attempts}
-use Rattle.fleet_model.specs.AttemptsFit.{WorkerFits}
+use Rattle.fleet_model.specs.Work.Attempts.{source_rows}
+use Rattle.fleet_model.specs.Work.Parties.{Attempt, LiveWorker, LiveCoordinator, live_attempts}
+use Rattle.fleet_model.specs.Invariants.AttemptsFit.{WorkerFits}
 use Rattle.step_model.specs.Past.{World}
 use Rattle.step_model.specs.Entries.{was_claimed, did_put_epoch, was_named}
-use Rattle.step_model.specs.Faithful.{Faithful}
-use Rattle.step_model.specs.TablesKept.{AreApart}
+use Rattle.step_model.specs.Kept.Faithful.{Faithful}
+use Rattle.step_model.specs.Kept.TablesKept.{AreApart}
 use Rattle.step_model.specs.LawfulTables.{MayUse}
-use Rattle.step_model.specs.Merging.{Local, merged_trees, taken_job}
+use Rattle.step_model.specs.Steps.Merging.{Local, merged_trees, taken_job}
 
 -- ---- a worker
 

@@ -3,7 +3,7 @@
 use Rattle.std.specs.Prelude.{◌≡◌, ⊤}
 use Rattle.row_model.specs.Fold.{Operator}
 use Rattle.fleet_model.specs.History.{Party, PutRecords}
-use Rattle.fleet_model.specs.Replay.{named_specs}
+use Rattle.fleet_model.specs.Past.Replay.{named_specs}
 use Rattle.fleet_model.specs.Exchanges.{Exchange, Plain, DrawsJob, DrawsTable, PutsTable, PutsManifest, PutsRecords, ListsTables, DeletesTable, records_version}
 use Rattle.step_model.specs.Past.{World}
 use Rattle.step_model.specs.LawfulTables.{PlainFits, DrawFits, TableFits, DeletionFits}

@@ -7,10 +7,10 @@ use Rattle.fleet_model.specs.History.{Party, Writer, Coordinator, Step, Join, Mo
 use Rattle.fleet_model.specs.Store.{Manifest, stored_jobs, records_epoch, is_held}
 use Rattle.fleet_model.specs.Tracker.{tracked_after, least_seq_of}
 use Rattle.fleet_model.specs.Trees.{flushed_trees, stepped_in, stepped_all, horizon_after_all, job_of, source_pieces, by_first_key, are_apart}
-use Rattle.fleet_model.specs.Records.{new_job}
-use Rattle.fleet_model.specs.Replay.{outputs_in}
-use Rattle.fleet_model.specs.JobsFit.{was_joined}
-use Rattle.fleet_model.specs.Gates.{submit_gate, commit_gate, is_nonempty}
+use Rattle.fleet_model.specs.Work.Records.{new_job}
+use Rattle.fleet_model.specs.Past.Replay.{outputs_in}
+use Rattle.fleet_model.specs.Invariants.JobsFit.{was_joined}
+use Rattle.fleet_model.specs.Work.Gates.{submit_gate, commit_gate, is_nonempty}
 use Rattle.step_model.specs.Past.{World}
 use Rattle.step_model.specs.Entries.{drew_job, is_mentioned, was_flushed, did_put_epoch}
 

@@ -7,17 +7,17 @@ use Rattle.fleet_model.specs.Jobs.{JobSpec, Context, Job, Jobs, Submitted, Sched
 use Rattle.fleet_model.specs.History.{Party, Submitter, Worker, RecordChange, RecordsEpoch, Submit, Claim, Beat, Finish, Release, Polled, PollChange}
 use Rattle.fleet_model.specs.Store.{stored_jobs, records_epoch, AreHeld}
 use Rattle.fleet_model.specs.Trees.{tables_now}
-use Rattle.fleet_model.specs.Records.{Unrecorded, with_new, finished_by, jobs_after}
-use Rattle.fleet_model.specs.Replay.{epoch_after}
+use Rattle.fleet_model.specs.Work.Records.{Unrecorded, with_new, finished_by, jobs_after}
+use Rattle.fleet_model.specs.Past.Replay.{epoch_after}
 use Rattle.fleet_model.specs.Handles.{context_tables}
-use Rattle.fleet_model.specs.Parties.{runs_attempt}
-use Rattle.fleet_model.specs.Claims.{is_waiting}
-use Rattle.fleet_model.specs.JobsFit.{NodesHeldOnce, SourcesStand, OutputsFit}
-use Rattle.fleet_model.specs.AttemptsFit.{ContextFits, ContextExtends}
+use Rattle.fleet_model.specs.Work.Parties.{runs_attempt}
+use Rattle.fleet_model.specs.Work.Claims.{is_waiting}
+use Rattle.fleet_model.specs.Invariants.JobsFit.{NodesHeldOnce, SourcesStand, OutputsFit}
+use Rattle.fleet_model.specs.Invariants.AttemptsFit.{ContextFits, ContextExtends}
 use Rattle.step_model.specs.Past.{World}
 use Rattle.step_model.specs.Entries.{drew_job, did_put_epoch, was_named}
-use Rattle.step_model.specs.Faithful.{Faithful, with_specs}
-use Rattle.step_model.specs.TablesKept.{AreApart}
+use Rattle.step_model.specs.Kept.Faithful.{Faithful, with_specs}
+use Rattle.step_model.specs.Kept.TablesKept.{AreApart}
 use Rattle.step_model.specs.LawfulTables.{MayUse}
 
 -- ---- names

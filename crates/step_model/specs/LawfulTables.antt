@@ -7,7 +7,7 @@ use Rattle.fleet_model.specs.Jobs.{Job, Jobs, contains, is_active, drawn_base}
 use Rattle.fleet_model.specs.History.{Party, Writer, Worker, Sweeper, Event, GetManifest, GetRecords, GetTable, DrawTable, Plan, Start, Kill, Entry}
 use Rattle.fleet_model.specs.Store.{Manifest, Store, stored_jobs, is_held}
 use Rattle.fleet_model.specs.Handles.{tree_tables, job_tables, named_tables}
-use Rattle.fleet_model.specs.TreesFit.{IsTable}
+use Rattle.fleet_model.specs.Invariants.TreesFit.{IsTable}
 use Rattle.step_model.specs.Past.{World}
 use Rattle.step_model.specs.Entries.{last_event, is_pending, last_name, was_claimed, did_event, is_put_of, drawn_tables}
 

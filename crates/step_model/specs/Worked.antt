@@ -5,13 +5,13 @@ use Rattle.fleet_model.specs.Nodes.{L0, Run, NodeName, Node, Segment, names}
 use Rattle.fleet_model.specs.Jobs.{Job, Compacted}
 use Rattle.fleet_model.specs.History.{Coordinator, Event, GetManifest, GetRecords, PutManifest, PutRecords, ManifestEpoch, Commit, Join, RecordsEpoch, Polled, Answer, Done, Absent, Stands}
 use Rattle.fleet_model.specs.Store.{Store, fresh_store}
-use Rattle.fleet_model.specs.Scheduler.{default_generate}
-use Rattle.fleet_model.specs.PollStates.{PollState}
+use Rattle.fleet_model.specs.Work.Scheduler.{default_generate}
+use Rattle.fleet_model.specs.Work.PollStates.{PollState}
 use Rattle.fleet_model.specs.Exchanges.{Fault}
-use Rattle.step_model.specs.StepEnds.{StepEnd, Reports, Fenced}
-use Rattle.step_model.specs.Alone.{AloneEnd, run_alone}
-use Rattle.step_model.specs.Merging.{merged_segment}
-use Rattle.step_model.specs.PollSteps.{PollAsk, start, poll}
+use Rattle.step_model.specs.Courses.StepEnds.{StepEnd, Reports, Fenced}
+use Rattle.step_model.specs.Courses.Alone.{AloneEnd, run_alone}
+use Rattle.step_model.specs.Steps.Merging.{merged_segment}
+use Rattle.step_model.specs.Steps.PollSteps.{PollAsk, start, poll}
 
 -- The calls in the store's history, each with its answer.
 abbrev pub calls_in : Store → List (Event × Answer)

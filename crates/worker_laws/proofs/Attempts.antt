@@ -7,11 +7,11 @@ use Rattle.row_model.specs.Lists.{Pairs}
 use Rattle.row_model.specs.Fold.{Operator}
 use Rattle.fleet_model.specs.Jobs.{JobSpec, contains, knows_cut}
 use Rattle.fleet_model.specs.Store.{stored_jobs}
-use Rattle.fleet_model.specs.Parties.{Attempt, LiveWorker, is_live, live_attempts, without_attempts, put_attempt}
-use Rattle.fleet_model.specs.AttemptsFit.{LiveFits, AttemptStands}
+use Rattle.fleet_model.specs.Work.Parties.{Attempt, LiveWorker, is_live, live_attempts, without_attempts, put_attempt}
+use Rattle.fleet_model.specs.Invariants.AttemptsFit.{LiveFits, AttemptStands}
 use Rattle.step_model.specs.Past.{World}
-use Rattle.step_model.specs.Faithful.{Faithful}
-use Rattle.step_model.specs.TablesKept.{AreApart}
+use Rattle.step_model.specs.Kept.Faithful.{Faithful}
+use Rattle.step_model.specs.Kept.TablesKept.{AreApart}
 use Rattle.step_model.specs.Fits.{AttemptHeld, NotesOwn, WorkerHolds, noted_tables}
 use Rattle.step_laws.proofs.Elements.{IsIn, all_at, all_from, all_to, in_contains}
 use Rattle.step_laws.proofs.Deletions.{in_filter}

@@ -12,18 +12,18 @@ use Rattle.fleet_model.specs.Nodes.{Tables}
 use Rattle.fleet_model.specs.Jobs.{JobSpec, Job, Jobs, job_with}
 use Rattle.fleet_model.specs.History.{Party, Worker, Event, GetManifest, PutRecords, Claim, Plan, Answer, Done, Entry, stood}
 use Rattle.fleet_model.specs.Store.{stored_jobs}
-use Rattle.fleet_model.specs.Replay.{Objects, after_entry, replayed_objects}
-use Rattle.fleet_model.specs.Claimed.{number_in, attempt_number_at, is_same, is_worker, objects_found, objects_at_get, claimant_in, planned_in, noted_plan, claimed_in}
+use Rattle.fleet_model.specs.Past.Replay.{Objects, after_entry, replayed_objects}
+use Rattle.fleet_model.specs.Past.Claimed.{number_in, attempt_number_at, is_same, is_worker, objects_found, objects_at_get, claimant_in, planned_in, noted_plan, claimed_in}
 use Rattle.fleet_model.proofs.ClaimCuts.{at_claim_or, objects_got, claim_step}
 use Rattle.fleet_model.specs.Exchanges.{Exchange, Plain, DrawsJob, DrawsTable, PutsTable, PutsManifest, PutsRecords, ListsTables, DeletesTable, event_of}
 use Rattle.step_model.specs.Past.{World}
 use Rattle.step_model.specs.Entries.{is_claim_of, was_claimed, is_in, claimed_attempts, attempts_in, planned_attempts}
 use Rattle.step_model.specs.Entries as entries
-use Rattle.step_model.specs.NamesKept.{IsUpTo}
+use Rattle.step_model.specs.Kept.NamesKept.{IsUpTo}
 use Rattle.step_model.specs.LawfulTables.{PlainFits}
 use Rattle.step_model.specs.Lawful.{Lawful}
 use Rattle.step_model.specs.Rivals.{Caller, Rivals}
-use Rattle.step_model.specs.Keeps.{Keeps}
+use Rattle.step_model.specs.Kept.Keeps.{Keeps}
 use Rattle.step_laws.specs.Runs.{CallsKeep}
 use Rattle.step_laws.proofs.Elements.{IsIn, all_at, all_from, all_push, any_element, is_itself}
 use Rattle.step_laws.proofs.Beaten.{attempt_named}

@@ -4,17 +4,17 @@ use Rattle.std.specs.Prelude.{◌==◌, filter, not}
 use Rattle.fleet_model.specs.Jobs.{Jobs}
 use Rattle.fleet_model.specs.History.{GetRecords, Beat, Release}
 use Rattle.fleet_model.specs.Store.{Records, Store, stored_jobs, jobs_in}
-use Rattle.fleet_model.specs.Records.{Unrecorded, jobs_after}
-use Rattle.fleet_model.specs.Parties.{Attempt, LiveWorker, attempt_jobs, named_attempts, is_live, live_attempts, not_owned}
-use Rattle.fleet_model.specs.Gates.{is_nonempty}
+use Rattle.fleet_model.specs.Work.Records.{Unrecorded, jobs_after}
+use Rattle.fleet_model.specs.Work.Parties.{Attempt, LiveWorker, attempt_jobs, named_attempts, is_live, live_attempts, not_owned}
+use Rattle.fleet_model.specs.Work.Gates.{is_nonempty}
 use Rattle.fleet_model.specs.Exchanges.{Exchange, Plain, PutsRecords, records_version}
 use Rattle.step_model.specs.Past.{World}
 use Rattle.step_model.specs.Rivals.{Caller, after_call}
-use Rattle.step_model.specs.Course.{Course, Ends}
-use Rattle.step_model.specs.Tries.{tries}
-use Rattle.step_model.specs.StepEnds.{StepEnd, Reports, most_refused}
-use Rattle.step_model.specs.ClaimSteps.{at_moment}
-use Rattle.step_model.specs.BeatSteps.{Beaten, published_by, beat_report, beat_of, beat_by, beat_try, heartbeat, release_live, release_by, release_try, release_all}
+use Rattle.step_model.specs.Courses.Course.{Course, Ends}
+use Rattle.step_model.specs.Courses.Tries.{tries}
+use Rattle.step_model.specs.Courses.StepEnds.{StepEnd, Reports, most_refused}
+use Rattle.step_model.specs.Steps.ClaimSteps.{at_moment}
+use Rattle.step_model.specs.Steps.BeatSteps.{Beaten, published_by, beat_report, beat_of, beat_by, beat_try, heartbeat, release_live, release_by, release_try, release_all}
 use Rattle.step_laws.specs.Runs.{CallsKeep}
 use Rattle.course_laws.specs.Afterwards.{ComesAfter}
 use Rattle.course_laws.proofs.Afterwards.{comes_itself, comes_met, comes_called}

@@ -7,19 +7,19 @@ use Rattle.row_model.specs.Lists.{Pairs}
 use Rattle.fleet_model.specs.Jobs.{Job, Jobs, Running, has_status, is_active, contains, trimmed_jobs, job_with}
 use Rattle.fleet_model.specs.History.{GetRecords, Beat}
 use Rattle.fleet_model.specs.Store.{Store, Records, jobs_in, stored_jobs}
-use Rattle.fleet_model.specs.Records.{Unrecorded, firsts, beaten_by, jobs_after}
-use Rattle.fleet_model.specs.Parties.{Attempt, LiveWorker, is_live, is_leased_to, runs_attempt, named_attempts, live_attempts}
-use Rattle.fleet_model.specs.Gates.{is_nonempty}
+use Rattle.fleet_model.specs.Work.Records.{Unrecorded, firsts, beaten_by, jobs_after}
+use Rattle.fleet_model.specs.Work.Parties.{Attempt, LiveWorker, is_live, is_leased_to, runs_attempt, named_attempts, live_attempts}
+use Rattle.fleet_model.specs.Work.Gates.{is_nonempty}
 use Rattle.fleet_model.specs.Exchanges.{Exchange, Plain, PutsRecords, records_version}
 use Rattle.step_model.specs.Past.{World}
 use Rattle.step_model.specs.LawfulRecords.{OfSome}
 use Rattle.step_model.specs.Rivals.{Caller, Rivals, after_call}
 use Rattle.step_model.specs.Fits.{WorkerHolds}
-use Rattle.step_model.specs.Course.{Course, Ends}
-use Rattle.step_model.specs.Tries.{tries}
-use Rattle.step_model.specs.CourseRuns.{End, Gives, Runs, IsLawfulCourse}
-use Rattle.step_model.specs.StepEnds.{StepEnd, Reports, GivesUp, most_refused}
-use Rattle.step_model.specs.BeatSteps.{Beaten, published_by, context_of, beat_report, beat_of, beat_by, beat_try, heartbeat}
+use Rattle.step_model.specs.Courses.Course.{Course, Ends}
+use Rattle.step_model.specs.Courses.Tries.{tries}
+use Rattle.step_model.specs.Courses.CourseRuns.{End, Gives, Runs, IsLawfulCourse}
+use Rattle.step_model.specs.Courses.StepEnds.{StepEnd, Reports, GivesUp, most_refused}
+use Rattle.step_model.specs.Steps.BeatSteps.{Beaten, published_by, context_of, beat_report, beat_of, beat_by, beat_try, heartbeat}
 use Rattle.step_laws.proofs.Elements.{IsIn, all_from, all_to, contains_in, in_contains, is_itself}
 use Rattle.step_laws.proofs.Changed.{on_these, found_job, job_found}
 use Rattle.rival_laws.proofs.JobsMerged.{StayActive, changed_stay, with_changed}

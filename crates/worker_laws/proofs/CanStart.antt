@@ -8,11 +8,11 @@ use Rattle.fleet_model.specs.Nodes.{NodeName, names_contain, names, tree_at}
 use Rattle.fleet_model.specs.Jobs.{Job, job_with}
 use Rattle.fleet_model.specs.Store.{Manifest, stored_jobs}
 use Rattle.fleet_model.specs.Sources.{older_nodes, reaches_oldest}
-use Rattle.fleet_model.specs.JobsFit.{SourcesStand, OpenedStands}
-use Rattle.fleet_model.specs.Parties.{LiveWorker, runs_attempt}
+use Rattle.fleet_model.specs.Invariants.JobsFit.{SourcesStand, OpenedStands}
+use Rattle.fleet_model.specs.Work.Parties.{LiveWorker, runs_attempt}
 use Rattle.step_model.specs.Past.{World}
-use Rattle.step_model.specs.Keeps.{Keeps}
-use Rattle.step_model.specs.ClaimSteps.{can_start}
+use Rattle.step_model.specs.Kept.Keeps.{Keeps}
+use Rattle.step_model.specs.Steps.ClaimSteps.{can_start}
 use Rattle.step_laws.proofs.Elements.{all_at, all_true_from}
 use Rattle.step_laws.proofs.PollJobs.{stretch_named}
 use Rattle.step_laws.proofs.Changed.{job_found}

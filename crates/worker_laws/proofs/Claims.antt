@@ -8,23 +8,23 @@ use Rattle.row_model.specs.Lists.{Pairs}
 use Rattle.row_model.specs.Fold.{Operator}
 use Rattle.fleet_model.specs.Jobs.{JobSpec, Job, Jobs, Context, knows_cut, contains, trimmed_jobs, job_with, ids}
 use Rattle.fleet_model.specs.History.{Worker, GetManifest, GetRecords, RecordChange, Claim}
-use Rattle.fleet_model.specs.Claimed.{noted_plan}
+use Rattle.fleet_model.specs.Past.Claimed.{noted_plan}
 use Rattle.fleet_model.specs.Store.{Store, Records, jobs_in, stored_jobs}
-use Rattle.fleet_model.specs.Records.{jobs_after}
-use Rattle.fleet_model.specs.Attempts.{context_or, fresh_context}
-use Rattle.fleet_model.specs.Claims.{is_waiting, may_take, claimed_jobs, stopped_jobs, claimed_attempt}
-use Rattle.fleet_model.specs.Parties.{Attempt, LiveWorker, attempt_jobs, runs_attempt, without_attempts, put_attempt, with_attempts}
+use Rattle.fleet_model.specs.Work.Records.{jobs_after}
+use Rattle.fleet_model.specs.Work.Attempts.{context_or, fresh_context}
+use Rattle.fleet_model.specs.Work.Claims.{is_waiting, may_take, claimed_jobs, stopped_jobs, claimed_attempt}
+use Rattle.fleet_model.specs.Work.Parties.{Attempt, LiveWorker, attempt_jobs, runs_attempt, without_attempts, put_attempt, with_attempts}
 use Rattle.fleet_model.specs.Exchanges.{Exchange, Plain, PutsRecords, records_version}
 use Rattle.step_model.specs.Past.{World}
 use Rattle.step_model.specs.Rivals.{Caller, Rivals, after_call}
-use Rattle.step_model.specs.Keeps.{Keeps}
-use Rattle.step_model.specs.Faithful.{Faithful}
+use Rattle.step_model.specs.Kept.Keeps.{Keeps}
+use Rattle.step_model.specs.Kept.Faithful.{Faithful}
 use Rattle.step_model.specs.Fits.{WorkerHolds}
-use Rattle.step_model.specs.Course.{Course, Ends, Calls}
-use Rattle.step_model.specs.Tries.{tries}
-use Rattle.step_model.specs.CourseRuns.{End, Gives, StopsAt, Runs, IsLawfulCourse}
-use Rattle.step_model.specs.StepEnds.{StepEnd, Reports, GivesUp, most_refused}
-use Rattle.step_model.specs.ClaimSteps.{WorkerOptions, Claimed, at_moment, can_start, starts_claimed, claim_of, claim_by, claim_try, claim}
+use Rattle.step_model.specs.Courses.Course.{Course, Ends, Calls}
+use Rattle.step_model.specs.Courses.Tries.{tries}
+use Rattle.step_model.specs.Courses.CourseRuns.{End, Gives, StopsAt, Runs, IsLawfulCourse}
+use Rattle.step_model.specs.Courses.StepEnds.{StepEnd, Reports, GivesUp, most_refused}
+use Rattle.step_model.specs.Steps.ClaimSteps.{WorkerOptions, Claimed, at_moment, can_start, starts_claimed, claim_of, claim_by, claim_try, claim}
 use Rattle.step_laws.proofs.Elements.{IsIn, all_at, all_from, all_to, all_append, contains_no, in_contains}
 use Rattle.step_laws.proofs.Changed.{found_job}
 use Rattle.step_laws.proofs.Mute.{mute_event}

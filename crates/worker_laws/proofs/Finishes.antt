@@ -5,27 +5,27 @@ use Rattle.std.specs.List.{AllByRecursion, concat}
 use Rattle.std.proofs.lemmas.Bool.Decides.{Decides-eqb}
 use Rattle.row_model.specs.Rows.{Row}
 use Rattle.row_model.specs.Fold.{Operator, IsLawful}
-use Rattle.step_model.specs.Keeps.{Keeps}
+use Rattle.step_model.specs.Kept.Keeps.{Keeps}
 use Rattle.step_laws.specs.Runs.{CallsKeep}
 use Rattle.course_laws.specs.Outputs.{DoesRun}
 use Rattle.course_laws.specs.Finishes.{WholeUnless}
 use Rattle.fleet_model.specs.Jobs.{Job, Jobs, contains, changed_jobs, trimmed_jobs}
 use Rattle.fleet_model.specs.History.{Worker, GetRecords, Finish}
 use Rattle.fleet_model.specs.Store.{Store, Records, jobs_in, stored_jobs}
-use Rattle.fleet_model.specs.Records.{Unrecorded, no_contexts, finished_by, jobs_after}
-use Rattle.fleet_model.specs.Attempts.{finish_cut}
-use Rattle.fleet_model.specs.Parties.{Attempt, LiveWorker, is_live, runs_attempt, live_attempts, without_attempts}
+use Rattle.fleet_model.specs.Work.Records.{Unrecorded, no_contexts, finished_by, jobs_after}
+use Rattle.fleet_model.specs.Work.Attempts.{finish_cut}
+use Rattle.fleet_model.specs.Work.Parties.{Attempt, LiveWorker, is_live, runs_attempt, live_attempts, without_attempts}
 use Rattle.fleet_model.specs.Exchanges.{Exchange, Plain, PutsRecords, records_version}
 use Rattle.step_model.specs.Past.{World}
 use Rattle.step_model.specs.Rivals.{Caller, after_call}
-use Rattle.step_model.specs.TablesKept.{AreApart}
+use Rattle.step_model.specs.Kept.TablesKept.{AreApart}
 use Rattle.step_model.specs.Fits.{WorkerHolds, noted_tables}
-use Rattle.step_model.specs.Course.{Course, Ends}
-use Rattle.step_model.specs.Tries.{tries}
-use Rattle.step_model.specs.CourseRuns.{End, Gives, Runs, IsLawfulCourse}
-use Rattle.step_model.specs.StepEnds.{StepEnd, Reports, GivesUp, NotOwner, most_refused}
-use Rattle.step_model.specs.OutputSteps.{unless_refused}
-use Rattle.step_model.specs.FinishSteps.{FinishAsk, FinishedJob, all_outputs, ends_job, ends_job_by, end_try, end_job, tables_left, puts_and_ends, finish}
+use Rattle.step_model.specs.Courses.Course.{Course, Ends}
+use Rattle.step_model.specs.Courses.Tries.{tries}
+use Rattle.step_model.specs.Courses.CourseRuns.{End, Gives, Runs, IsLawfulCourse}
+use Rattle.step_model.specs.Courses.StepEnds.{StepEnd, Reports, GivesUp, NotOwner, most_refused}
+use Rattle.step_model.specs.Steps.OutputSteps.{unless_refused}
+use Rattle.step_model.specs.Steps.FinishSteps.{FinishAsk, FinishedJob, all_outputs, ends_job, ends_job_by, end_try, end_job, tables_left, puts_and_ends, finish}
 use Rattle.step_laws.proofs.Elements.{IsIn, all_at, all_from, all_to, in_contains}
 use Rattle.step_laws.proofs.Changed.{on_these, by_these, job_found}
 use Rattle.step_laws.proofs.Deletions.{in_filter}

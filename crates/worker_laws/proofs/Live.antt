@@ -3,7 +3,7 @@ use Rattle.std.proofs.Common.{◌≡◌, refl, ℕ, List, [], ◌∷◌, cond, B
 use Rattle.std.specs.Prelude.{IsTrue, ◌&&◌, filter}
 use Rattle.std.specs.List.{AllByRecursion}
 use Rattle.fleet_model.specs.Jobs.{Job, Jobs, Status, Submitted, Scheduled, Running, Compacted, Completed, Failed, status_eq, is_finished, is_active, job_with}
-use Rattle.fleet_model.specs.Parties.{Attempt, is_live, runs_attempt}
+use Rattle.fleet_model.specs.Work.Parties.{Attempt, is_live, runs_attempt}
 use Rattle.step_laws.proofs.TableBodies.{active_if_open}
 use Rattle.step_laws.proofs.WorkerPuts.{live_open}
 

@@ -7,11 +7,11 @@ use Rattle.row_model.specs.Fold.{Operator}
 use Rattle.fleet_model.specs.Jobs.{Job, Jobs, Scheduled, Running, Compacted, has_status, is_active, changed_jobs, trimmed_jobs, job_with}
 use Rattle.fleet_model.specs.History.{Entry}
 use Rattle.fleet_model.specs.Store.{Records, stored_jobs, is_held}
-use Rattle.fleet_model.specs.JobsFit.{OutputsFit, OpenedStands}
-use Rattle.fleet_model.specs.Parties.{Attempt, is_leased_to, is_live, runs_attempt}
-use Rattle.fleet_model.specs.Records.{Unrecorded, finished_by}
+use Rattle.fleet_model.specs.Invariants.JobsFit.{OutputsFit, OpenedStands}
+use Rattle.fleet_model.specs.Work.Parties.{Attempt, is_leased_to, is_live, runs_attempt}
+use Rattle.fleet_model.specs.Work.Records.{Unrecorded, finished_by}
 use Rattle.step_model.specs.Past.{World}
-use Rattle.step_model.specs.Keeps.{Keeps}
+use Rattle.step_model.specs.Kept.Keeps.{Keeps}
 use Rattle.step_laws.proofs.Elements.{IsIn, all_at, all_from, all_true_from, contains_in, in_contains}
 use Rattle.step_laws.proofs.Bodies.{whole_of}
 use Rattle.step_laws.proofs.Changed.{on_these, IsFound, found_job, job_found}

@@ -2,16 +2,16 @@
 use Rattle.std.proofs.Common.{◌≡◌, refl, sym, subst, ℕ, List, [], ◌∷◌, false, Option, Some, None}
 use Rattle.std.specs.Prelude.{not, IfSome}
 use Rattle.fleet_model.specs.Jobs.{Context, contains}
-use Rattle.fleet_model.specs.Parties.{Attempt, LiveWorker, without_attempts}
+use Rattle.fleet_model.specs.Work.Parties.{Attempt, LiveWorker, without_attempts}
 use Rattle.step_model.specs.Past.{World}
 use Rattle.step_model.specs.Rivals.{Caller}
-use Rattle.step_model.specs.Keeps.{Keeps}
+use Rattle.step_model.specs.Kept.Keeps.{Keeps}
 use Rattle.step_model.specs.Fits.{WorkerHolds, noted_tables}
-use Rattle.step_model.specs.Course.{Ends}
-use Rattle.step_model.specs.CourseRuns.{End, Gives, Runs, IsLawfulCourse}
-use Rattle.step_model.specs.StepEnds.{StepEnd, Reports, GivesUp, NotOwner, most_refused}
-use Rattle.step_model.specs.FinishSteps.{FinishedJob, end_job}
-use Rattle.step_model.specs.MessageSteps.{attempt_run, ends_run, take_finished, release_job, gives_run, take_failed, notes_run, take_progress}
+use Rattle.step_model.specs.Courses.Course.{Ends}
+use Rattle.step_model.specs.Courses.CourseRuns.{End, Gives, Runs, IsLawfulCourse}
+use Rattle.step_model.specs.Courses.StepEnds.{StepEnd, Reports, GivesUp, NotOwner, most_refused}
+use Rattle.step_model.specs.Steps.FinishSteps.{FinishedJob, end_job}
+use Rattle.step_model.specs.Steps.MessageSteps.{attempt_run, ends_run, take_finished, release_job, gives_run, take_failed, notes_run, take_progress}
 use Rattle.step_laws.proofs.Elements.{IsIn, all_at, in_contains}
 use Rattle.course_laws.specs.Messages.{ResultFits}
 use Rattle.course_laws.proofs.Beats.{Fit}

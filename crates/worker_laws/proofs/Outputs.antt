@@ -14,20 +14,20 @@ use Rattle.fleet_model.specs.Jobs.{JobSpec, Job, contains, job_with}
 use Rattle.fleet_model.specs.History.{Worker}
 use Rattle.fleet_model.specs.Store.{stored_jobs, is_held, AreHeld}
 use Rattle.fleet_model.specs.Handles.{context_tables}
-use Rattle.fleet_model.specs.Attempts.{source_rows, range_rows, rows_left, noted_rows}
-use Rattle.fleet_model.specs.Parties.{Attempt, LiveWorker, is_live, live_attempts, without_attempts}
+use Rattle.fleet_model.specs.Work.Attempts.{source_rows, range_rows, rows_left, noted_rows}
+use Rattle.fleet_model.specs.Work.Parties.{Attempt, LiveWorker, is_live, live_attempts, without_attempts}
 use Rattle.fleet_model.specs.Sweeps.{attempt_tables}
-use Rattle.fleet_model.specs.Claimed.{IsClaimed}
-use Rattle.fleet_model.specs.AttemptsFit.{Extends, AttemptFits, TablesFit}
+use Rattle.fleet_model.specs.Past.Claimed.{IsClaimed}
+use Rattle.fleet_model.specs.Invariants.AttemptsFit.{Extends, AttemptFits, TablesFit}
 use Rattle.step_model.specs.Past.{World}
 use Rattle.step_model.specs.LawfulTables.{MayUse}
-use Rattle.step_model.specs.TablesKept.{AreApart}
+use Rattle.step_model.specs.Kept.TablesKept.{AreApart}
 use Rattle.step_model.specs.Fits.{WorkerHolds, noted_tables}
-use Rattle.step_model.specs.OutputSteps.{OutputAsk, Written, meets, gives_back, unless_refused, noted_at, noting, with_noted, rows_written, writes, output}
-use Rattle.step_model.specs.Keeps.{Keeps}
-use Rattle.step_model.specs.Course.{Ends}
-use Rattle.step_model.specs.CourseRuns.{End, Runs, IsLawfulCourse}
-use Rattle.step_model.specs.StepEnds.{StepEnd, Reports, GivesUp, OperatorRefuses, most_refused}
+use Rattle.step_model.specs.Steps.OutputSteps.{OutputAsk, Written, meets, gives_back, unless_refused, noted_at, noting, with_noted, rows_written, writes, output}
+use Rattle.step_model.specs.Kept.Keeps.{Keeps}
+use Rattle.step_model.specs.Courses.Course.{Ends}
+use Rattle.step_model.specs.Courses.CourseRuns.{End, Runs, IsLawfulCourse}
+use Rattle.step_model.specs.Courses.StepEnds.{StepEnd, Reports, GivesUp, OperatorRefuses, most_refused}
 use Rattle.step_model.specs.Rivals.{Caller}
 use Rattle.step_laws.proofs.Elements.{IsIn, all_at, all_from, all_to, all_append, all_front, all_back, all_unflat, all_true_front, all_true_from, flat_push}
 use Rattle.step_laws.proofs.Deletions.{in_filter}

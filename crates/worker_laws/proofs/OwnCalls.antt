@@ -7,16 +7,16 @@ use Rattle.row_model.specs.Fold.{Operator}
 use Rattle.fleet_model.specs.Jobs.{Job, Jobs, Running, has_status, is_active, contains, changed_jobs, trimmed_jobs, job_with}
 use Rattle.fleet_model.specs.History.{Party, Worker, Event, GetManifest, GetRecords, GetTable, Plan, Start, Kill, DrawJob, PutRecords, RecordChange, RecordsEpoch, Submit, Claim, Beat, Finish, Release, Polled, Done, Conflict, Answer, Entry, stood}
 use Rattle.fleet_model.specs.Store.{stored_jobs}
-use Rattle.fleet_model.specs.Records.{Unrecorded, firsts, claimed_by, beaten_by, finished_by, to_waiting, jobs_after}
-use Rattle.fleet_model.specs.Parties.{Attempt, LiveWorker, is_live, is_leased_to, live_attempts, runs_attempt}
-use Rattle.fleet_model.specs.Claims.{is_waiting}
-use Rattle.fleet_model.specs.Claimed.{beaten_in, if_earlier, origin}
+use Rattle.fleet_model.specs.Work.Records.{Unrecorded, firsts, claimed_by, beaten_by, finished_by, to_waiting, jobs_after}
+use Rattle.fleet_model.specs.Work.Parties.{Attempt, LiveWorker, is_live, is_leased_to, live_attempts, runs_attempt}
+use Rattle.fleet_model.specs.Work.Claims.{is_waiting}
+use Rattle.fleet_model.specs.Past.Claimed.{beaten_in, if_earlier, origin}
 use Rattle.fleet_model.specs.Exchanges.{Plain, DrawsJob, DrawsTable, PutsTable, PutsManifest, PutsRecords, ListsTables, DeletesTable, records_version, with_entry, event_of, next_job_id}
 use Rattle.step_model.specs.Past.{World, world_after}
 use Rattle.step_model.specs.LawfulTables.{PlainFits}
 use Rattle.step_model.specs.LawfulRecords.{ChangeFits, RecordsFit, OfSome, IsLiveAt, Publishes}
 use Rattle.step_model.specs.Rivals.{after_call}
-use Rattle.step_model.specs.Keeps.{Keeps}
+use Rattle.step_model.specs.Kept.Keeps.{Keeps}
 use Rattle.step_model.specs.Fits.{AttemptHeld, WorkerHolds, noted_tables}
 use Rattle.step_laws.proofs.Elements.{IsIn, all_at, all_to, in_contains}
 use Rattle.step_laws.proofs.Deletions.{in_filter}

@@ -11,10 +11,10 @@ use Rattle.fleet_model.specs.Jobs.{JobSpec, Job, Jobs, is_active, contains, chan
 use Rattle.fleet_model.specs.History.{Worker, Entry}
 use Rattle.fleet_model.specs.Store.{Records, stored_jobs}
 use Rattle.fleet_model.specs.Handles.{job_tables, context_tables}
-use Rattle.fleet_model.specs.Parties.{Attempt, LiveWorker, is_live, live_attempts, runs_attempt}
-use Rattle.fleet_model.specs.Claimed.{IsClaimed, origin}
-use Rattle.fleet_model.specs.JobsFit.{SettingsFit}
-use Rattle.fleet_model.specs.AttemptsFit.{IsPlanOf, TablesFit, Extends, ContextExtends, AttemptFits, AttemptStands, LiveFits}
+use Rattle.fleet_model.specs.Work.Parties.{Attempt, LiveWorker, is_live, live_attempts, runs_attempt}
+use Rattle.fleet_model.specs.Past.Claimed.{IsClaimed, origin}
+use Rattle.fleet_model.specs.Invariants.JobsFit.{SettingsFit}
+use Rattle.fleet_model.specs.Invariants.AttemptsFit.{IsPlanOf, TablesFit, Extends, ContextExtends, AttemptFits, AttemptStands, LiveFits}
 use Rattle.step_model.specs.Past.{World}
 use Rattle.step_model.specs.Entries.{is_put_of}
 use Rattle.step_model.specs.LawfulTables.{MayUse, IsOwnTable, other_tables}

@@ -10,22 +10,22 @@ use Rattle.fleet_model.specs.Jobs.{JobSpec, Job, Jobs, Context, knows_cut, is_ac
 use Rattle.fleet_model.specs.History.{Worker, Event, Plan, Done}
 use Rattle.fleet_model.specs.Store.{Store, stored_jobs}
 use Rattle.fleet_model.specs.Handles.{job_tables, context_tables}
-use Rattle.fleet_model.specs.Attempts.{ClaimInput, context_or, attempt_context, fresh_context}
-use Rattle.fleet_model.specs.Parties.{Attempt, LiveWorker, is_live, live_attempts, put_attempt, with_attempts}
-use Rattle.fleet_model.specs.Claims.{claimed_attempt}
-use Rattle.fleet_model.specs.Claimed.{planned_in, noted_plan}
+use Rattle.fleet_model.specs.Work.Attempts.{ClaimInput, context_or, attempt_context, fresh_context}
+use Rattle.fleet_model.specs.Work.Parties.{Attempt, LiveWorker, is_live, live_attempts, put_attempt, with_attempts}
+use Rattle.fleet_model.specs.Work.Claims.{claimed_attempt}
+use Rattle.fleet_model.specs.Past.Claimed.{planned_in, noted_plan}
 use Rattle.fleet_model.specs.Exchanges.{Plain}
 use Rattle.step_model.specs.Past.{World}
-use Rattle.step_model.specs.Faithful.{Faithful}
+use Rattle.step_model.specs.Kept.Faithful.{Faithful}
 use Rattle.step_model.specs.Rivals.{Caller, Rivals, after_call}
-use Rattle.step_model.specs.Keeps.{Keeps}
+use Rattle.step_model.specs.Kept.Keeps.{Keeps}
 use Rattle.step_model.specs.LawfulTables.{MayUse}
-use Rattle.step_model.specs.TablesKept.{AreApart, NameApart}
+use Rattle.step_model.specs.Kept.TablesKept.{AreApart, NameApart}
 use Rattle.step_model.specs.Fits.{AttemptHeld, NotesOwn, WorkerHolds, noted_tables}
-use Rattle.step_model.specs.Course.{Course, calls_each}
-use Rattle.step_model.specs.CourseRuns.{End, Runs, IsLawfulCourse}
-use Rattle.step_model.specs.StepEnds.{StepEnd}
-use Rattle.step_model.specs.ClaimSteps.{Claimed, plan_of}
+use Rattle.step_model.specs.Courses.Course.{Course, calls_each}
+use Rattle.step_model.specs.Courses.CourseRuns.{End, Runs, IsLawfulCourse}
+use Rattle.step_model.specs.Courses.StepEnds.{StepEnd}
+use Rattle.step_model.specs.Steps.ClaimSteps.{Claimed, plan_of}
 use Rattle.step_laws.proofs.Elements.{IsIn, all_at, all_to, contains_in, in_front}
 use Rattle.step_laws.proofs.Bodies.{whole_of}
 use Rattle.step_laws.proofs.Changed.{job_found}

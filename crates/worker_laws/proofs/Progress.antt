@@ -10,17 +10,17 @@ use Rattle.row_model.specs.Ranges.{Range}
 use Rattle.fleet_model.specs.Jobs.{JobSpec, Job, Context, contains, job_with}
 use Rattle.fleet_model.specs.History.{Worker}
 use Rattle.fleet_model.specs.Store.{stored_jobs, is_held, AreHeld}
-use Rattle.fleet_model.specs.Attempts.{range_rows, noted_rows}
-use Rattle.fleet_model.specs.Parties.{Attempt, LiveWorker, is_live, live_attempts, without_attempts}
+use Rattle.fleet_model.specs.Work.Attempts.{range_rows, noted_rows}
+use Rattle.fleet_model.specs.Work.Parties.{Attempt, LiveWorker, is_live, live_attempts, without_attempts}
 use Rattle.fleet_model.specs.Sweeps.{attempt_tables}
-use Rattle.fleet_model.specs.Claimed.{IsClaimed}
-use Rattle.fleet_model.specs.AttemptsFit.{Extends, AttemptFits, TablesFit}
+use Rattle.fleet_model.specs.Past.Claimed.{IsClaimed}
+use Rattle.fleet_model.specs.Invariants.AttemptsFit.{Extends, AttemptFits, TablesFit}
 use Rattle.step_model.specs.Past.{World}
-use Rattle.step_model.specs.Keeps.{Keeps}
+use Rattle.step_model.specs.Kept.Keeps.{Keeps}
 use Rattle.step_model.specs.LawfulTables.{MayUse}
-use Rattle.step_model.specs.TablesKept.{AreApart}
+use Rattle.step_model.specs.Kept.TablesKept.{AreApart}
 use Rattle.step_model.specs.Fits.{WorkerHolds, noted_tables}
-use Rattle.step_model.specs.MessageSteps.{with_context}
+use Rattle.step_model.specs.Steps.MessageSteps.{with_context}
 use Rattle.step_laws.proofs.Elements.{IsIn, all_at, all_from, all_to, all_append, all_front, all_back, all_true_front, all_true_from, in_contains}
 use Rattle.step_laws.proofs.Deletions.{in_filter}
 use Rattle.step_laws.proofs.MuteBodies.{if_some_to}

@@ -3,14 +3,14 @@ use Rattle.std.proofs.Common.{◌≡◌, refl, subst, ℕ, List, [], ◌∷◌, 
 use Rattle.std.specs.Prelude.{IfSome, filter}
 use Rattle.row_model.specs.Rows.{Row}
 use Rattle.fleet_model.specs.Store.{stored_jobs}
-use Rattle.fleet_model.specs.Parties.{Attempt, LiveWorker, is_live}
+use Rattle.fleet_model.specs.Work.Parties.{Attempt, LiveWorker, is_live}
 use Rattle.step_model.specs.Past.{World}
 use Rattle.step_model.specs.Rivals.{Caller}
-use Rattle.step_model.specs.Course.{Ends, calls_each}
-use Rattle.step_model.specs.CourseRuns.{Gives, Runs, IsLawfulCourse}
-use Rattle.step_model.specs.StepEnds.{StepEnd, Reports, OperatorRefuses, most_refused}
-use Rattle.step_model.specs.OutputSteps.{OutputAsk, Written, meets, gets_tables, gives_back, unless_refused, with_noted, rows_written, writes, output}
-use Rattle.step_model.specs.FinishSteps.{FinishAsk, FinishedJob, tables_left, puts_and_ends, finish}
+use Rattle.step_model.specs.Courses.Course.{Ends, calls_each}
+use Rattle.step_model.specs.Courses.CourseRuns.{Gives, Runs, IsLawfulCourse}
+use Rattle.step_model.specs.Courses.StepEnds.{StepEnd, Reports, OperatorRefuses, most_refused}
+use Rattle.step_model.specs.Steps.OutputSteps.{OutputAsk, Written, meets, gets_tables, gives_back, unless_refused, with_noted, rows_written, writes, output}
+use Rattle.step_model.specs.Steps.FinishSteps.{FinishAsk, FinishedJob, tables_left, puts_and_ends, finish}
 use Rattle.course_laws.proofs.Beats.{Fit}
 use Rattle.course_laws.proofs.Made.{Relies, State}
 use Rattle.course_laws.proofs.Outputs.{gets_lawful, found_in, back_lawful, outputs_are_lawful}

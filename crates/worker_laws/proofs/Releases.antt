@@ -7,19 +7,19 @@ use Rattle.row_model.specs.Lists.{Pairs}
 use Rattle.fleet_model.specs.Jobs.{Job, Jobs, contains, job_with}
 use Rattle.fleet_model.specs.History.{GetRecords, Release}
 use Rattle.fleet_model.specs.Store.{Store, Records, jobs_in, stored_jobs}
-use Rattle.fleet_model.specs.Records.{firsts, to_waiting, jobs_after}
-use Rattle.fleet_model.specs.Parties.{Attempt, LiveWorker, attempt_jobs, is_live, runs_attempt, named_attempts}
-use Rattle.fleet_model.specs.Gates.{is_nonempty}
+use Rattle.fleet_model.specs.Work.Records.{firsts, to_waiting, jobs_after}
+use Rattle.fleet_model.specs.Work.Parties.{Attempt, LiveWorker, attempt_jobs, is_live, runs_attempt, named_attempts}
+use Rattle.fleet_model.specs.Work.Gates.{is_nonempty}
 use Rattle.fleet_model.specs.Exchanges.{Exchange, Plain, PutsRecords, records_version}
 use Rattle.step_model.specs.Past.{World}
 use Rattle.step_model.specs.Rivals.{Caller, after_call}
 use Rattle.step_model.specs.Fits.{WorkerHolds}
-use Rattle.step_model.specs.Course.{Course, Ends}
-use Rattle.step_model.specs.Tries.{tries}
-use Rattle.step_model.specs.CourseRuns.{End, Gives, StopsAt, Runs, IsLawfulCourse}
-use Rattle.step_model.specs.StepEnds.{StepEnd, Reports, GivesUp, most_refused}
-use Rattle.step_model.specs.ClaimSteps.{at_moment}
-use Rattle.step_model.specs.BeatSteps.{release_live, release_by, release_try, release_all}
+use Rattle.step_model.specs.Courses.Course.{Course, Ends}
+use Rattle.step_model.specs.Courses.Tries.{tries}
+use Rattle.step_model.specs.Courses.CourseRuns.{End, Gives, StopsAt, Runs, IsLawfulCourse}
+use Rattle.step_model.specs.Courses.StepEnds.{StepEnd, Reports, GivesUp, most_refused}
+use Rattle.step_model.specs.Steps.ClaimSteps.{at_moment}
+use Rattle.step_model.specs.Steps.BeatSteps.{release_live, release_by, release_try, release_all}
 use Rattle.step_laws.proofs.Elements.{IsIn, all_from, in_contains}
 use Rattle.step_laws.proofs.Changed.{on_these, by_these, found_job, job_found}
 use Rattle.step_laws.proofs.Deletions.{in_filter}

@@ -2,16 +2,16 @@
 use Rattle.std.specs.Prelude.{⊤}
 use Rattle.std.proofs.Common.{◌≡◌, subst, List, inl, inr, ◌⊎◌, None}
 use Rattle.fleet_model.specs.Store.{Store}
-use Rattle.fleet_model.specs.Parties.{Attempt, LiveWorker}
+use Rattle.fleet_model.specs.Work.Parties.{Attempt, LiveWorker}
 use Rattle.fleet_model.specs.Exchanges.{Exchange}
 use Rattle.step_model.specs.Past.{World}
 use Rattle.step_model.specs.Lawful.{Lawful}
 use Rattle.step_model.specs.Rivals.{Caller, Rivals, after_call}
-use Rattle.step_model.specs.Keeps.{Keeps}
+use Rattle.step_model.specs.Kept.Keeps.{Keeps}
 use Rattle.step_model.specs.Fits.{WorkerHolds}
-use Rattle.step_model.specs.Course.{Course, Ends, Calls}
-use Rattle.step_model.specs.CourseRuns.{End, Gives, MeetsFault, LacksMemory, HasRoom, StopsAt, Runs, IsLawfulCourse}
-use Rattle.step_model.specs.StepEnds.{StepEnd, Reports}
+use Rattle.step_model.specs.Courses.Course.{Course, Ends, Calls}
+use Rattle.step_model.specs.Courses.CourseRuns.{End, Gives, MeetsFault, LacksMemory, HasRoom, StopsAt, Runs, IsLawfulCourse}
+use Rattle.step_model.specs.Courses.StepEnds.{StepEnd, Reports}
 use Rattle.course_laws.proofs.Calls.{keeps_after}
 use Rattle.course_laws.proofs.OwnCalls.{rivals_keep_worker}
 use Rattle.course_laws.proofs.Beats.{Fit, fit_met}

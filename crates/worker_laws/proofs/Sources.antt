@@ -11,13 +11,13 @@ use Rattle.row_model.specs.Fold.{Operator}
 use Rattle.row_laws.proofs.Merges.{apart_are_ordered}
 use Rattle.fleet_model.specs.Nodes.{NodeName, L0, Run, is_l0, Node, Tree, names, node_rows, Trees, tree_at}
 use Rattle.fleet_model.specs.Jobs.{JobSpec, Job}
-use Rattle.fleet_model.specs.Gates.{is_nonempty}
+use Rattle.fleet_model.specs.Work.Gates.{is_nonempty}
 use Rattle.fleet_model.specs.Sources.{run_ids, older_nodes, reaches_oldest, is_lowest_or_above}
 use Rattle.fleet_model.specs.Store.{is_held, AreHeld}
 use Rattle.fleet_model.specs.Trees.{source_nodes, source_pieces}
-use Rattle.fleet_model.specs.TreesFit.{IsNewer, StandsBefore}
-use Rattle.fleet_model.specs.JobsFit.{SourcesStand, DestinationFits, AreOldest}
-use Rattle.fleet_model.specs.Attempts.{is_last, is_last_run, source_rows}
+use Rattle.fleet_model.specs.Invariants.TreesFit.{IsNewer, StandsBefore}
+use Rattle.fleet_model.specs.Invariants.JobsFit.{SourcesStand, DestinationFits, AreOldest}
+use Rattle.fleet_model.specs.Work.Attempts.{is_last, is_last_run, source_rows}
 use Rattle.step_model.specs.Past.{World}
 use Rattle.step_laws.proofs.Elements.{IsIn, all_at, all_to, all_flat, all_true_front, contains_in, in_front, in_back}
 use Rattle.step_laws.proofs.Bodies.{Body}

@@ -4,23 +4,23 @@ use Rattle.std.specs.Prelude.{IsTrue, int_le, map, option_map}
 use Rattle.std.proofs.lemmas.Bool.{le-leb}
 use Rattle.std.proofs.lemmas.List.{append-nil}
 use Rattle.row_model.specs.Ranges.{Range}
-use Rattle.row_model.specs.Plan.{planned_ranges}
+use Rattle.row_model.specs.Written.Plan.{planned_ranges}
 use Rattle.fleet_laws.proofs.Cuts.{cuts_are_low}
 use Rattle.fleet_model.specs.Nodes.{table_rows}
 use Rattle.fleet_model.specs.Jobs.{JobSpec, Job, Context, Release, One, Two, knows_cut, job_with}
 use Rattle.fleet_model.specs.History.{Party, Worker, Event, GetManifest, Entry, stood}
 use Rattle.fleet_model.specs.Store.{Store, stored_jobs, fresh_store, AreHeld}
-use Rattle.fleet_model.specs.Replay.{Objects, replayed_objects, plain_objects, plain_manifest}
-use Rattle.fleet_model.specs.Attempts.{ClaimInput, claim_cut, claim_settings, fresh_context}
-use Rattle.fleet_model.specs.Parties.{Attempt, LiveWorker}
-use Rattle.fleet_model.specs.Claimed.{is_worker, settings_of, without_cut}
+use Rattle.fleet_model.specs.Past.Replay.{Objects, replayed_objects, plain_objects, plain_manifest}
+use Rattle.fleet_model.specs.Work.Attempts.{ClaimInput, claim_cut, claim_settings, fresh_context}
+use Rattle.fleet_model.specs.Work.Parties.{Attempt, LiveWorker}
+use Rattle.fleet_model.specs.Past.Claimed.{is_worker, settings_of, without_cut}
 use Rattle.fleet_model.proofs.ClaimCuts.{objects_got}
-use Rattle.fleet_model.specs.JobsFit.{SettingsFit}
+use Rattle.fleet_model.specs.Invariants.JobsFit.{SettingsFit}
 use Rattle.fleet_model.specs.Exchanges.{Plain, answer_of}
 use Rattle.step_model.specs.Past.{World}
-use Rattle.step_model.specs.Faithful.{Faithful}
+use Rattle.step_model.specs.Kept.Faithful.{Faithful}
 use Rattle.step_model.specs.Rivals.{Caller, after_call}
-use Rattle.step_model.specs.Keeps.{Keeps}
+use Rattle.step_model.specs.Kept.Keeps.{Keeps}
 use Rattle.step_laws.proofs.Elements.{all_at, all_from, is_itself}
 use Rattle.step_laws.proofs.Alike.{replays_alike}
 use Rattle.step_laws.proofs.Bodies.{whole_of}

@@ -7,17 +7,17 @@ use Rattle.fleet_model.specs.Nodes.{is_among}
 use Rattle.fleet_model.specs.Handles.{context_tables}
 use Rattle.fleet_model.specs.History.{GetTable}
 use Rattle.fleet_model.specs.Store.{Store, is_held}
-use Rattle.fleet_model.specs.Parties.{Attempt, LiveWorker}
+use Rattle.fleet_model.specs.Work.Parties.{Attempt, LiveWorker}
 use Rattle.fleet_model.specs.Sweeps.{attempt_tables}
 use Rattle.fleet_model.specs.Exchanges.{Exchange, Plain, DrawsTable, PutsTable, next_table_id}
 use Rattle.step_model.specs.Past.{World}
 use Rattle.step_model.specs.Rivals.{Caller, after_call}
-use Rattle.step_model.specs.Keeps.{Keeps}
+use Rattle.step_model.specs.Kept.Keeps.{Keeps}
 use Rattle.step_model.specs.Fits.{WorkerHolds, noted_tables}
-use Rattle.step_model.specs.Course.{Course, Calls, calls_each, puts_table, puts_tables, puts_ranges}
-use Rattle.step_model.specs.CourseRuns.{End, StopsAt, Runs, IsLawfulCourse}
-use Rattle.step_model.specs.StepEnds.{StepEnd}
-use Rattle.step_model.specs.OutputSteps.{gets_tables}
+use Rattle.step_model.specs.Courses.Course.{Course, Calls, calls_each, puts_table, puts_tables, puts_ranges}
+use Rattle.step_model.specs.Courses.CourseRuns.{End, StopsAt, Runs, IsLawfulCourse}
+use Rattle.step_model.specs.Courses.StepEnds.{StepEnd}
+use Rattle.step_model.specs.Steps.OutputSteps.{gets_tables}
 use Rattle.step_laws.proofs.Elements.{IsIn, all_at, all_append, all_back, all_true_front}
 use Rattle.step_laws.proofs.Held.{held_put}
 use Rattle.course_laws.proofs.Beats.{Fit}

@@ -9,19 +9,19 @@ use Rattle.fleet_model.specs.Jobs.{JobSpec, Job, Jobs, Context, Release, One, Tw
 use Rattle.fleet_model.specs.History.{Worker, Event, PutRecords, Claim, Beat, Entry, stood}
 use Rattle.fleet_model.specs.Store.{stored_jobs, is_held}
 use Rattle.fleet_model.specs.Handles.{job_tables, context_tables}
-use Rattle.fleet_model.specs.Records.{firsts, claimed_by, jobs_after}
-use Rattle.fleet_model.specs.Parties.{Attempt, LiveWorker}
+use Rattle.fleet_model.specs.Work.Records.{firsts, claimed_by, jobs_after}
+use Rattle.fleet_model.specs.Work.Parties.{Attempt, LiveWorker}
 use Rattle.fleet_model.specs.Sweeps.{attempt_tables}
-use Rattle.fleet_model.specs.Claims.{is_waiting, has_no_cut, may_take}
-use Rattle.fleet_model.specs.Claimed.{IsClaimed, beaten_in, first_beaten, if_earlier, origin}
-use Rattle.fleet_model.specs.AttemptsFit.{beats, was_beaten, CutFits, ContextExtends, ContextFits, AttemptFits}
+use Rattle.fleet_model.specs.Work.Claims.{is_waiting, has_no_cut, may_take}
+use Rattle.fleet_model.specs.Past.Claimed.{IsClaimed, beaten_in, first_beaten, if_earlier, origin}
+use Rattle.fleet_model.specs.Invariants.AttemptsFit.{beats, was_beaten, CutFits, ContextExtends, ContextFits, AttemptFits}
 use Rattle.step_model.specs.Past.{World}
 use Rattle.step_model.specs.Entries.{was_claimed}
-use Rattle.step_model.specs.Faithful.{Faithful}
-use Rattle.step_model.specs.Keeps.{Keeps}
+use Rattle.step_model.specs.Kept.Faithful.{Faithful}
+use Rattle.step_model.specs.Kept.Keeps.{Keeps}
 use Rattle.step_model.specs.LawfulTables.{MayUse}
 use Rattle.step_model.specs.Fits.{AttemptHeld, WorkerHolds, noted_tables}
-use Rattle.step_model.specs.ClaimSteps.{at_moment}
+use Rattle.step_model.specs.Steps.ClaimSteps.{at_moment}
 use Rattle.step_laws.proofs.Elements.{IsIn, all_at, all_from, all_append, all_front, all_true_front, all_true_from, in_contains, contains_in, in_front}
 use Rattle.step_laws.proofs.Alike.{replays_alike, settings_same}
 use Rattle.step_laws.proofs.Beaten.{attempt_named}

@@ -4,15 +4,15 @@ use Rattle.std.specs.Prelude.{not}
 use Rattle.row_model.specs.Fold.{IsLawful}
 use Rattle.fleet_model.specs.Jobs.{contains}
 use Rattle.fleet_model.specs.History.{Worker}
-use Rattle.fleet_model.specs.Parties.{Attempt, LiveWorker, attempt_jobs}
+use Rattle.fleet_model.specs.Work.Parties.{Attempt, LiveWorker, attempt_jobs}
 use Rattle.step_model.specs.Past.{World}
 use Rattle.step_model.specs.Rivals.{Caller}
-use Rattle.step_model.specs.Keeps.{Keeps}
+use Rattle.step_model.specs.Kept.Keeps.{Keeps}
 use Rattle.step_model.specs.Fits.{WorkerHolds}
-use Rattle.step_model.specs.CourseRuns.{Gives, Runs}
-use Rattle.step_model.specs.StepEnds.{StepEnd, Reports, GivesUp, Fenced, NotOwner, NoRecords, Invalid, Declined, OperatorRefuses, BadFlush}
-use Rattle.step_model.specs.ClaimSteps.{WorkerOptions, Claimed, claim}
-use Rattle.step_model.specs.FinishSteps.{FinishAsk, FinishedJob, finish}
+use Rattle.step_model.specs.Courses.CourseRuns.{Gives, Runs}
+use Rattle.step_model.specs.Courses.StepEnds.{StepEnd, Reports, GivesUp, Fenced, NotOwner, NoRecords, Invalid, Declined, OperatorRefuses, BadFlush}
+use Rattle.step_model.specs.Steps.ClaimSteps.{WorkerOptions, Claimed, claim}
+use Rattle.step_model.specs.Steps.FinishSteps.{FinishAsk, FinishedJob, finish}
 use Rattle.step_laws.specs.Runs.{CallsKeep}
 use Rattle.step_laws.proofs.Runs.{runs_keep}
 use Rattle.commit_laws.proofs.AllCalls.{calls_keep}

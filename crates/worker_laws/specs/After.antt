@@ -1,13 +1,13 @@
 -- What a worker holds after a step.
 use Rattle.std.specs.Prelude.{List, ⊤}
 use Rattle.row_model.specs.Fold.{Operator}
-use Rattle.fleet_model.specs.Parties.{Attempt, LiveWorker}
+use Rattle.fleet_model.specs.Work.Parties.{Attempt, LiveWorker}
 use Rattle.step_model.specs.Past.{World}
 use Rattle.step_model.specs.Rivals.{Caller}
 use Rattle.step_model.specs.Fits.{WorkerHolds}
-use Rattle.step_model.specs.Course.{Course}
-use Rattle.step_model.specs.CourseRuns.{End, Gives, MeetsFault, LacksMemory, Runs}
-use Rattle.step_model.specs.StepEnds.{StepEnd, Reports}
+use Rattle.step_model.specs.Courses.Course.{Course}
+use Rattle.step_model.specs.Courses.CourseRuns.{End, Gives, MeetsFault, LacksMemory, Runs}
+use Rattle.step_model.specs.Courses.StepEnds.{StepEnd, Reports}
 
 -- The worker fits the store after a step that ended so. If the step reports, the worker fits with
 -- the attempts of the report. If it ends otherwise, or memory runs out, the worker fits with those

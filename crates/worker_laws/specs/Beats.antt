@@ -2,15 +2,15 @@
 use Rattle.std.specs.Prelude.{◌≡◌, IsTrue, ℕ, Some}
 use Rattle.std.specs.List.{AllByRecursion}
 use Rattle.fleet_model.specs.History.{Worker}
-use Rattle.fleet_model.specs.Parties.{Attempt, LiveWorker, runs_attempt}
+use Rattle.fleet_model.specs.Work.Parties.{Attempt, LiveWorker, runs_attempt}
 use Rattle.step_model.specs.Past.{World}
 use Rattle.step_model.specs.Rivals.{Caller}
-use Rattle.step_model.specs.Keeps.{Keeps}
+use Rattle.step_model.specs.Kept.Keeps.{Keeps}
 use Rattle.step_model.specs.Fits.{WorkerHolds}
-use Rattle.step_model.specs.CourseRuns.{Gives, Runs}
-use Rattle.step_model.specs.StepEnds.{Reports}
+use Rattle.step_model.specs.Courses.CourseRuns.{Gives, Runs}
+use Rattle.step_model.specs.Courses.StepEnds.{Reports}
 use Rattle.step_model.specs.LawfulRecords.{IsStoredAs}
-use Rattle.step_model.specs.BeatSteps.{Beaten, heartbeat}
+use Rattle.step_model.specs.Steps.BeatSteps.{Beaten, heartbeat}
 use Rattle.step_laws.specs.Runs.{CallsKeep}
 use Rattle.worker_laws.specs.After.{FitsAfter}
 

@@ -4,18 +4,18 @@ use Rattle.std.specs.List.{AllByRecursion}
 use Rattle.fleet_model.specs.Jobs.{Job, Jobs, ids, job_with}
 use Rattle.fleet_model.specs.History.{Worker, Claim}
 use Rattle.fleet_model.specs.Store.{Records, Store, stored_jobs}
-use Rattle.fleet_model.specs.Attempts.{ClaimInput}
-use Rattle.fleet_model.specs.Records.{jobs_after}
-use Rattle.fleet_model.specs.Parties.{LiveWorker, runs_attempt, with_attempts, without_attempts}
-use Rattle.fleet_model.specs.Claims.{stopped_jobs, claimed_jobs, claimed_attempt}
+use Rattle.fleet_model.specs.Work.Attempts.{ClaimInput}
+use Rattle.fleet_model.specs.Work.Records.{jobs_after}
+use Rattle.fleet_model.specs.Work.Parties.{LiveWorker, runs_attempt, with_attempts, without_attempts}
+use Rattle.fleet_model.specs.Work.Claims.{stopped_jobs, claimed_jobs, claimed_attempt}
 use Rattle.fleet_model.specs.Exchanges.{Exchange, PutsRecords}
 use Rattle.step_model.specs.Past.{World}
 use Rattle.step_model.specs.Rivals.{Caller, Rivals, after_call}
-use Rattle.step_model.specs.Keeps.{Keeps}
+use Rattle.step_model.specs.Kept.Keeps.{Keeps}
 use Rattle.step_model.specs.Fits.{WorkerHolds}
-use Rattle.step_model.specs.CourseRuns.{Gives, Runs}
-use Rattle.step_model.specs.StepEnds.{Reports}
-use Rattle.step_model.specs.ClaimSteps.{WorkerOptions, Claimed, at_moment, can_start, claim}
+use Rattle.step_model.specs.Courses.CourseRuns.{Gives, Runs}
+use Rattle.step_model.specs.Courses.StepEnds.{Reports}
+use Rattle.step_model.specs.Steps.ClaimSteps.{WorkerOptions, Claimed, at_moment, can_start, claim}
 use Rattle.step_laws.specs.Runs.{CallsKeep}
 use Rattle.course_laws.specs.Afterwards.{ComesAfter}
 

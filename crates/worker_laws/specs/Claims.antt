@@ -4,15 +4,15 @@ use Rattle.std.specs.List.{AllByRecursion}
 use Rattle.fleet_model.specs.Jobs.{knows_cut, contains, job_with}
 use Rattle.fleet_model.specs.History.{Worker}
 use Rattle.fleet_model.specs.Store.{stored_jobs}
-use Rattle.fleet_model.specs.Attempts.{context_or}
-use Rattle.fleet_model.specs.Parties.{Attempt, LiveWorker, attempt_jobs, runs_attempt}
+use Rattle.fleet_model.specs.Work.Attempts.{context_or}
+use Rattle.fleet_model.specs.Work.Parties.{Attempt, LiveWorker, attempt_jobs, runs_attempt}
 use Rattle.step_model.specs.Past.{World}
 use Rattle.step_model.specs.Rivals.{Caller}
-use Rattle.step_model.specs.Keeps.{Keeps}
+use Rattle.step_model.specs.Kept.Keeps.{Keeps}
 use Rattle.step_model.specs.Fits.{WorkerHolds}
-use Rattle.step_model.specs.CourseRuns.{Gives, Runs}
-use Rattle.step_model.specs.StepEnds.{Reports}
-use Rattle.step_model.specs.ClaimSteps.{WorkerOptions, Claimed, claim}
+use Rattle.step_model.specs.Courses.CourseRuns.{Gives, Runs}
+use Rattle.step_model.specs.Courses.StepEnds.{Reports}
+use Rattle.step_model.specs.Steps.ClaimSteps.{WorkerOptions, Claimed, claim}
 use Rattle.step_laws.specs.Runs.{CallsKeep}
 use Rattle.worker_laws.specs.After.{FitsAfter}
 

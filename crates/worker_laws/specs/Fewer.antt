@@ -2,7 +2,7 @@
 use Rattle.std.specs.Prelude.{ℕ, Bool, filter, []}
 use Rattle.row_model.specs.Fold.{Operator}
 use Rattle.fleet_model.specs.Jobs.{Release}
-use Rattle.fleet_model.specs.Parties.{Attempt, LiveWorker}
+use Rattle.fleet_model.specs.Work.Parties.{Attempt, LiveWorker}
 use Rattle.step_model.specs.Past.{World}
 use Rattle.step_model.specs.Fits.{WorkerHolds}
 

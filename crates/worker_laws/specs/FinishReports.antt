@@ -7,20 +7,20 @@ use Rattle.row_model.specs.JobRows.{job_rows}
 use Rattle.fleet_model.specs.Jobs.{Job, Compacted, has_status, job_with}
 use Rattle.fleet_model.specs.History.{Worker, Finish}
 use Rattle.fleet_model.specs.Store.{Records, Store, stored_jobs}
-use Rattle.fleet_model.specs.Attempts.{noted_rows, source_rows}
-use Rattle.fleet_model.specs.Claimed.{settings_of, without_cut}
-use Rattle.fleet_model.specs.JobsFit.{cut_or}
-use Rattle.fleet_model.specs.Records.{jobs_after}
-use Rattle.fleet_model.specs.Replay.{IsReplayed}
-use Rattle.fleet_model.specs.Parties.{Attempt, LiveWorker, is_live, without_attempts}
+use Rattle.fleet_model.specs.Work.Attempts.{noted_rows, source_rows}
+use Rattle.fleet_model.specs.Past.Claimed.{settings_of, without_cut}
+use Rattle.fleet_model.specs.Invariants.JobsFit.{cut_or}
+use Rattle.fleet_model.specs.Work.Records.{jobs_after}
+use Rattle.fleet_model.specs.Past.Replay.{IsReplayed}
+use Rattle.fleet_model.specs.Work.Parties.{Attempt, LiveWorker, is_live, without_attempts}
 use Rattle.fleet_model.specs.Exchanges.{Exchange, PutsRecords}
 use Rattle.step_model.specs.Past.{World}
 use Rattle.step_model.specs.Rivals.{Caller, after_call}
-use Rattle.step_model.specs.Keeps.{Keeps}
+use Rattle.step_model.specs.Kept.Keeps.{Keeps}
 use Rattle.step_model.specs.Fits.{WorkerHolds}
-use Rattle.step_model.specs.CourseRuns.{Gives, Runs}
-use Rattle.step_model.specs.StepEnds.{Reports}
-use Rattle.step_model.specs.FinishSteps.{FinishAsk, FinishedJob, all_outputs, unrecorded_of_finish, finish}
+use Rattle.step_model.specs.Courses.CourseRuns.{Gives, Runs}
+use Rattle.step_model.specs.Courses.StepEnds.{Reports}
+use Rattle.step_model.specs.Steps.FinishSteps.{FinishAsk, FinishedJob, all_outputs, unrecorded_of_finish, finish}
 use Rattle.step_laws.specs.Runs.{CallsKeep}
 use Rattle.course_laws.specs.Outputs.{DoesRun}
 use Rattle.course_laws.specs.Finishes.{WholeUnless}

@@ -3,14 +3,14 @@ use Rattle.std.specs.Prelude.{◌≡◌, false}
 use Rattle.row_model.specs.Fold.{IsLawful}
 use Rattle.fleet_model.specs.History.{Worker}
 use Rattle.fleet_model.specs.Store.{stored_jobs}
-use Rattle.fleet_model.specs.Parties.{is_live}
+use Rattle.fleet_model.specs.Work.Parties.{is_live}
 use Rattle.step_model.specs.Past.{World}
 use Rattle.step_model.specs.Rivals.{Caller}
-use Rattle.step_model.specs.Keeps.{Keeps}
+use Rattle.step_model.specs.Kept.Keeps.{Keeps}
 use Rattle.step_model.specs.Fits.{WorkerHolds}
-use Rattle.step_model.specs.CourseRuns.{Gives, Runs}
-use Rattle.step_model.specs.StepEnds.{Reports}
-use Rattle.step_model.specs.FinishSteps.{FinishAsk, FinishedJob, finish}
+use Rattle.step_model.specs.Courses.CourseRuns.{Gives, Runs}
+use Rattle.step_model.specs.Courses.StepEnds.{Reports}
+use Rattle.step_model.specs.Steps.FinishSteps.{FinishAsk, FinishedJob, finish}
 use Rattle.step_laws.specs.Runs.{CallsKeep}
 use Rattle.course_laws.specs.Outputs.{DoesRun}
 use Rattle.course_laws.specs.Finishes.{WholeUnless}

@@ -7,16 +7,16 @@ use Rattle.row_model.specs.Ranges.{Range}
 use Rattle.fleet_model.specs.Jobs.{Context}
 use Rattle.fleet_model.specs.History.{Worker}
 use Rattle.fleet_model.specs.Store.{stored_jobs}
-use Rattle.fleet_model.specs.Attempts.{range_rows, noted_rows}
-use Rattle.fleet_model.specs.Parties.{Attempt, LiveWorker, is_live}
+use Rattle.fleet_model.specs.Work.Attempts.{range_rows, noted_rows}
+use Rattle.fleet_model.specs.Work.Parties.{Attempt, LiveWorker, is_live}
 use Rattle.step_model.specs.Past.{World}
 use Rattle.step_model.specs.Rivals.{Caller}
-use Rattle.step_model.specs.Keeps.{Keeps}
+use Rattle.step_model.specs.Kept.Keeps.{Keeps}
 use Rattle.step_model.specs.Fits.{WorkerHolds}
-use Rattle.step_model.specs.CourseRuns.{Gives, Runs}
-use Rattle.step_model.specs.StepEnds.{Reports}
-use Rattle.step_model.specs.FinishSteps.{FinishedJob}
-use Rattle.step_model.specs.MessageSteps.{attempt_run, take_finished, take_failed, take_progress}
+use Rattle.step_model.specs.Courses.CourseRuns.{Gives, Runs}
+use Rattle.step_model.specs.Courses.StepEnds.{Reports}
+use Rattle.step_model.specs.Steps.FinishSteps.{FinishedJob}
+use Rattle.step_model.specs.Steps.MessageSteps.{attempt_run, take_finished, take_failed, take_progress}
 use Rattle.step_laws.specs.Runs.{CallsKeep}
 use Rattle.course_laws.specs.Messages.{IsUnused, ResultFits}
 use Rattle.worker_laws.specs.After.{FitsAfter}

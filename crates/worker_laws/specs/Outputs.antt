@@ -6,14 +6,14 @@ use Rattle.row_model.specs.Ranges.{Range}
 use Rattle.fleet_model.specs.Nodes.{table_rows}
 use Rattle.fleet_model.specs.History.{Worker}
 use Rattle.fleet_model.specs.Store.{is_held}
-use Rattle.fleet_model.specs.Parties.{Attempt}
+use Rattle.fleet_model.specs.Work.Parties.{Attempt}
 use Rattle.step_model.specs.Past.{World}
 use Rattle.step_model.specs.Rivals.{Caller}
-use Rattle.step_model.specs.Keeps.{Keeps}
+use Rattle.step_model.specs.Kept.Keeps.{Keeps}
 use Rattle.step_model.specs.Fits.{WorkerHolds}
-use Rattle.step_model.specs.CourseRuns.{Gives, Runs}
-use Rattle.step_model.specs.StepEnds.{Reports}
-use Rattle.step_model.specs.OutputSteps.{OutputAsk, Written, with_noted, rows_written, output}
+use Rattle.step_model.specs.Courses.CourseRuns.{Gives, Runs}
+use Rattle.step_model.specs.Courses.StepEnds.{Reports}
+use Rattle.step_model.specs.Steps.OutputSteps.{OutputAsk, Written, with_noted, rows_written, output}
 use Rattle.step_laws.specs.Runs.{CallsKeep}
 use Rattle.course_laws.specs.Outputs.{DoesRun}
 use Rattle.worker_laws.specs.After.{FitsAfter}

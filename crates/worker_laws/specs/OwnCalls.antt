@@ -5,15 +5,15 @@ use Rattle.row_model.specs.Fold.{Operator}
 use Rattle.fleet_model.specs.Jobs.{Jobs, contains, job_with}
 use Rattle.fleet_model.specs.History.{Party, Worker, RecordChange, Claim, Beat, Finish, Release}
 use Rattle.fleet_model.specs.Store.{stored_jobs}
-use Rattle.fleet_model.specs.Records.{firsts}
-use Rattle.fleet_model.specs.Parties.{LiveWorker, live_attempts}
+use Rattle.fleet_model.specs.Work.Records.{firsts}
+use Rattle.fleet_model.specs.Work.Parties.{LiveWorker, live_attempts}
 use Rattle.fleet_model.specs.Exchanges.{Exchange, PutsManifest, PutsRecords, DeletesTable, records_version}
 use Rattle.step_model.specs.Past.{World}
 use Rattle.step_model.specs.Lawful.{Lawful}
 use Rattle.step_model.specs.LawfulRecords.{OfSome}
-use Rattle.step_model.specs.TablesKept.{AreApart}
+use Rattle.step_model.specs.Kept.TablesKept.{AreApart}
 use Rattle.step_model.specs.Rivals.{after_call}
-use Rattle.step_model.specs.Keeps.{Keeps}
+use Rattle.step_model.specs.Kept.Keeps.{Keeps}
 use Rattle.step_model.specs.Fits.{WorkerHolds, noted_tables}
 
 -- What a worker's put of the records has to see to, so that its attempts still fit. `jobs` are the

@@ -2,16 +2,16 @@
 use Rattle.std.specs.Prelude.{◌≡◌, ℕ, false, List, Some}
 use Rattle.fleet_model.specs.History.{Worker}
 use Rattle.fleet_model.specs.Store.{stored_jobs}
-use Rattle.fleet_model.specs.Parties.{Attempt, LiveWorker, is_live}
+use Rattle.fleet_model.specs.Work.Parties.{Attempt, LiveWorker, is_live}
 use Rattle.step_model.specs.Past.{World}
 use Rattle.step_model.specs.Rivals.{Caller}
-use Rattle.step_model.specs.Keeps.{Keeps}
+use Rattle.step_model.specs.Kept.Keeps.{Keeps}
 use Rattle.step_model.specs.Fits.{WorkerHolds}
-use Rattle.step_model.specs.CourseRuns.{Gives, Runs}
-use Rattle.step_model.specs.StepEnds.{StepEnd, OperatorRefuses}
-use Rattle.step_model.specs.Course.{Course}
-use Rattle.step_model.specs.OutputSteps.{OutputAsk, output}
-use Rattle.step_model.specs.FinishSteps.{FinishAsk, finish}
+use Rattle.step_model.specs.Courses.CourseRuns.{Gives, Runs}
+use Rattle.step_model.specs.Courses.StepEnds.{StepEnd, OperatorRefuses}
+use Rattle.step_model.specs.Courses.Course.{Course}
+use Rattle.step_model.specs.Steps.OutputSteps.{OutputAsk, output}
+use Rattle.step_model.specs.Steps.FinishSteps.{FinishAsk, finish}
 use Rattle.step_laws.specs.Runs.{CallsKeep}
 use Rattle.course_laws.specs.Outputs.{DoesRun}
 

@@ -2,15 +2,15 @@
 use Rattle.std.specs.Prelude.{◌≡◌, ℕ, List, [], ◌∷◌, Option}
 use Rattle.row_model.specs.Fold.{IsLawful}
 use Rattle.fleet_model.specs.History.{Worker}
-use Rattle.fleet_model.specs.Parties.{Attempt, LiveWorker, attempt_jobs, without_attempts}
+use Rattle.fleet_model.specs.Work.Parties.{Attempt, LiveWorker, attempt_jobs, without_attempts}
 use Rattle.step_model.specs.Past.{World}
 use Rattle.step_model.specs.Rivals.{Caller}
-use Rattle.step_model.specs.Keeps.{Keeps}
+use Rattle.step_model.specs.Kept.Keeps.{Keeps}
 use Rattle.step_model.specs.Fits.{WorkerHolds}
-use Rattle.step_model.specs.CourseRuns.{Gives, Runs}
-use Rattle.step_model.specs.StepEnds.{StepEnd, Reports, GivesUp}
-use Rattle.step_model.specs.ClaimSteps.{WorkerOptions, Claimed, claim}
-use Rattle.step_model.specs.FinishSteps.{FinishedJob, finish}
+use Rattle.step_model.specs.Courses.CourseRuns.{Gives, Runs}
+use Rattle.step_model.specs.Courses.StepEnds.{StepEnd, Reports, GivesUp}
+use Rattle.step_model.specs.Steps.ClaimSteps.{WorkerOptions, Claimed, claim}
+use Rattle.step_model.specs.Steps.FinishSteps.{FinishedJob, finish}
 use Rattle.course_laws.specs.Outputs.{DoesRun}
 use Rattle.course_laws.specs.Finishes.{WholeUnless}
 

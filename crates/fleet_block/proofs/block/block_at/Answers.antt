@@ -1,6 +1,6 @@
 use Rattle.std.proofs.Common.{◌≡◌, true, false, ◌∙◌, ap, ◌-◌, ◌++◌, ◌∷◌, [], ℕ, arith}
 use Rattle.std.specs.Prelude.{Option}
-use Rattle.row_model.specs.TableBytes.{rows_bytes}
+use Rattle.row_model.specs.Written.TableBytes.{rows_bytes}
 use Rattle.fleet_rows.specs.Row.{rows_of}
 use Rattle.fleet_block.specs.Finds.{AreRows, Finds, FindsLater}
 use Rattle.std.proofs.lemmas.Result.{IfOk-weaker}

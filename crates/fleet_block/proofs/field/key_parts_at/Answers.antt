@@ -2,7 +2,7 @@ use Rattle.std.proofs.Common.{refl, sym, ◌∙◌, ap, ◌++◌, ◌+◌, ◌-�
 use Rattle.std.specs.Int.{w16, to_be_bytes}
 use Rattle.std.specs.Prelude.{slice_range}
 use Rattle.std.proofs.lemmas.List.{length-drop, length-append}
-use Rattle.row_model.specs.TableBytes.{shared_len}
+use Rattle.row_model.specs.Written.TableBytes.{shared_len}
 use Rattle.fleet_block.proofs.Numbers.{part_found}
 use Rattle.fleet_block.proofs.SharedKeys.{shared_within, key_joined}
 use Rattle.fleet_block.proofs.field.key_parts_at.Goals as goal

@@ -1,7 +1,7 @@
 use Rattle.std.proofs.Common.{sym, ap, ◌++◌, length, [], arith}
 use Rattle.std.specs.List.{flat_map}
 use Rattle.std.proofs.lemmas.List.{length-append, length-drop}
-use Rattle.row_model.specs.TableBytes.{header_bytes, rows_bytes}
+use Rattle.row_model.specs.Written.TableBytes.{header_bytes, rows_bytes}
 use Rattle.fleet_block.specs.Finds.{joined_rows}
 use Rattle.fleet_block.proofs.Found.{found_none, found_some}
 use Rattle.fleet_block.proofs.Later.{view}

@@ -1,7 +1,7 @@
 use Rattle.std.proofs.Common.{◌≡◌, refl, sym, ◌∙◌, ap, subst, List}
 use Rattle.std.specs.Prelude.{Some, true, false, not, bytes_eq}
 use Rattle.std.proofs.lemmas.Slice.Eq.{bytes_eq-Decides}
-use Rattle.row_model.specs.TableBytes.{table_bytes, IsTaken, IsWritable}
+use Rattle.row_model.specs.Written.TableBytes.{table_bytes, IsTaken, IsWritable}
 use Rattle.std.specs.List.{AllByRecursion}
 use Rattle.fleet_rows.specs.declared.row.RowEntry.{RowEntry}
 use Rattle.fleet_rows.specs.Row.{rows_of}

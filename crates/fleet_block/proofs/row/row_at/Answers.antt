@@ -1,5 +1,5 @@
 use Rattle.std.proofs.Common.{◌∙◌, ap}
-use Rattle.row_model.specs.TableBytes.{row_flags}
+use Rattle.row_model.specs.Written.TableBytes.{row_flags}
 use Rattle.fleet_rows.specs.Row.{content_of, row_of}
 use Rattle.fleet_block.proofs.Fields.{after_created, after_expires, after_flags, after_key, after_seq, created_there, expires_there, kind_told, row_parts}
 use Rattle.fleet_block.proofs.Found.{found_none, found_some}

@@ -1,5 +1,5 @@
 use Rattle.std.proofs.Common.{length, ◌-◌, ◌≡◌, ◌≤◌, ◌+◌, drop}
-use Rattle.row_model.specs.TableBytes.{shared_len}
+use Rattle.row_model.specs.Written.TableBytes.{shared_len}
 use Rattle.fleet_block.proofs.shared.shared_len.Given as goal
 
 abbrev pub invariant-shared : goal.invariant-shared

@@ -1,7 +1,7 @@
 use Rattle.std.proofs.Common.{◌≡◌, sym, ap, subst, ◌++◌, ◌-◌, length, List, ℕ, arith}
 use Rattle.std.specs.Prelude.{OnOk}
 use Rattle.std.proofs.lemmas.List.{length-append, length-map}
-use Rattle.row_model.specs.TableBytes.{rows_bytes}
+use Rattle.row_model.specs.Written.TableBytes.{rows_bytes}
 use Rattle.fleet_rows.specs.Row.{row_of, rows_of}
 use Rattle.fleet_block.proofs.Headers.{header_is}
 use Rattle.fleet_block.proofs.write.put_block.Goals as goal

@@ -1,7 +1,7 @@
 use Rattle.std.proofs.Common.{◌≡◌, ◌++◌, length}
 use Rattle.std.specs.List.{AllByRecursion, flat_map}
 use Rattle.row_model.specs.Bounds.{IsInBounds}
-use Rattle.row_model.specs.TableBytes.{row_bytes, IsWritable}
+use Rattle.row_model.specs.Written.TableBytes.{row_bytes, IsWritable}
 use Rattle.fleet_rows.specs.Row.{rows_of}
 use Rattle.fleet_block.proofs.write.put_later.Given as goal
 

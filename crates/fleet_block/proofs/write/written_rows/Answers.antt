@@ -1,6 +1,6 @@
 use Rattle.std.proofs.Common.{◌≡◌, rules, ℕ, ap, ◌∙◌, ◌+◌, ◌++◌, ◌∷◌, [], length, arith}
 use Rattle.std.proofs.lemmas.List.{length-append, length-map}
-use Rattle.row_model.specs.TableBytes.{blocks_of_rows, header_bytes, rows_bytes}
+use Rattle.row_model.specs.Written.TableBytes.{blocks_of_rows, header_bytes, rows_bytes}
 use Rattle.fleet_rows.specs.Row.{row_of, rows_of}
 use Rattle.fleet_block.specs.Places.{places_from}
 use Rattle.fleet_block.proofs.Cuts as cuts

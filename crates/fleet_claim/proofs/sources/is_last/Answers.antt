@@ -1,6 +1,6 @@
 use Rattle.std.proofs.Common.{◌∙◌, sym, ap, map, take, [], ◌∷◌}
 use Rattle.std.proofs.lemmas.List.{map-append}
-use Rattle.fleet_model.specs.Attempts.{is_last}
+use Rattle.fleet_model.specs.Work.Attempts.{is_last}
 use Rattle.fleet_model.specs.Sources.{run_ids}
 use Rattle.fleet_jobs.specs.Sources.{name_of}
 use Rattle.fleet_claim.specs.Sources.{is_last_after}

@@ -1,5 +1,5 @@
 use Rattle.std.proofs.lemmas.Result.{err_from_is_err_and}
-use Rattle.step_model.specs.StepEnds.{Reports}
+use Rattle.step_model.specs.Courses.StepEnds.{Reports}
 use Rattle.fleet_coordinator.proofs.Starts as law
 use Rattle.fleet_coordinator.proofs.coordinator.hold.Goals as goal
 

@@ -1,7 +1,7 @@
 use Rattle.std.proofs.Common.{◌∙◌, ◌-◌, ◌+◌, Err, sym, ap, arith}
-use Rattle.step_model.specs.PollSteps.{start_try}
+use Rattle.step_model.specs.Steps.PollSteps.{start_try}
 use Rattle.step_model.specs.Rivals.{Caller}
-use Rattle.step_model.specs.StepEnds.{Reports}
+use Rattle.step_model.specs.Courses.StepEnds.{Reports}
 use Rattle.fleet_rows.specs.declared.errors.SlateDBError.TheVariants.{Conflict}
 use Rattle.fleet_coordinator.proofs.Starts as law
 use Rattle.fleet_step.proofs.Retries.{tries_end, tries_on, tries_out}

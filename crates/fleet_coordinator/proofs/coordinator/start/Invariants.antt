@@ -1,6 +1,6 @@
 use Rattle.std.proofs.Common.{◌-◌}
-use Rattle.step_model.specs.PollSteps.{start, start_try}
-use Rattle.step_model.specs.Tries.{tries}
+use Rattle.step_model.specs.Steps.PollSteps.{start, start_try}
+use Rattle.step_model.specs.Courses.Tries.{tries}
 use Rattle.fleet_step.specs.Steps.{Leads}
 use Rattle.fleet_coordinator.proofs.coordinator.start.Given as goal
 

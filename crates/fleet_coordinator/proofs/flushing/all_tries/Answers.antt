@@ -1,5 +1,5 @@
 use Rattle.std.proofs.Common.{◌∙◌, ◌-◌, ◌+◌, sym, arith, false}
-use Rattle.step_model.specs.FlushSteps.{flushes_from}
+use Rattle.step_model.specs.Steps.FlushSteps.{flushes_from}
 use Rattle.fleet_step.proofs.Steps.{begins}
 use Rattle.fleet_coordinator.specs.Flushes.{asked_of}
 use Rattle.fleet_coordinator.proofs.Flushes as law

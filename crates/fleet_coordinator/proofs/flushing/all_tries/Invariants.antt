@@ -1,5 +1,5 @@
 use Rattle.std.proofs.Common.{◌≡◌, ◌-◌, true, false}
-use Rattle.step_model.specs.FlushSteps.{flushes_from}
+use Rattle.step_model.specs.Steps.FlushSteps.{flushes_from}
 use Rattle.fleet_step.specs.Steps.{Leads}
 use Rattle.fleet_coordinator.specs.Flushes.{IsPutTable, asked_of}
 use Rattle.fleet_coordinator.proofs.flushing.all_tries.Given as goal

@@ -1,7 +1,7 @@
 use Rattle.std.proofs.Common.{◌∙◌, ap, sym}
 use Rattle.std.specs.List.{list_all}
 use Rattle.fleet_model.specs.Nodes.{last_seq_of, segment_at}
-use Rattle.step_model.specs.FlushSteps.{is_above}
+use Rattle.step_model.specs.Steps.FlushSteps.{is_above}
 use Rattle.fleet_tree.specs.Trees.{trees_of}
 use Rattle.fleet_coordinator.proofs.FlushRules.{bare_flushes, least_above}
 use Rattle.fleet_coordinator.proofs.flushing.are_above.Goals as goal

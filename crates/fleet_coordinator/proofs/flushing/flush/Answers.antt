@@ -1,6 +1,6 @@
 use Rattle.std.proofs.Common.{◌∙◌, ap, sym, subst, option_map}
 use Rattle.std.proofs.lemmas.Result.{err_from_is_err_and}
-use Rattle.step_model.specs.FlushSteps.{flush}
+use Rattle.step_model.specs.Steps.FlushSteps.{flush}
 use Rattle.fleet_step.proofs.Steps.{wants}
 use Rattle.fleet_coordinator.specs.Flushes.{MayFlush, ask_of, ends, fault_of}
 use Rattle.fleet_coordinator.proofs.Flushes as law

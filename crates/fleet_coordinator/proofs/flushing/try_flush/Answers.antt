@@ -1,6 +1,6 @@
 use Rattle.std.proofs.Common.{◌∙◌, ap, sym, true, option_map}
 use Rattle.std.proofs.lemmas.Result.{err_from_is_err_and}
-use Rattle.step_model.specs.FlushSteps.{flushes_from}
+use Rattle.step_model.specs.Steps.FlushSteps.{flushes_from}
 use Rattle.fleet_coordinator.specs.Flushes.{asked_of, fault_of}
 use Rattle.fleet_step.proofs.Turns.{wants_memory}
 use Rattle.fleet_coordinator.proofs.Flushes as law

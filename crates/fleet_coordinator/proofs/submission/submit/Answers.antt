@@ -1,8 +1,8 @@
 use Rattle.std.proofs.Common.{◌∙◌, ◌-◌, ◌+◌, Err, sym, ap, arith}
 use Rattle.std.specs.Prelude.{map}
 use Rattle.step_model.specs.Rivals.{Caller}
-use Rattle.step_model.specs.StepEnds.{Reports}
-use Rattle.step_model.specs.SubmitSteps.{submit_try}
+use Rattle.step_model.specs.Courses.StepEnds.{Reports}
+use Rattle.step_model.specs.Steps.SubmitSteps.{submit_try}
 use Rattle.fleet_rows.specs.declared.errors.SlateDBError.TheVariants.{Conflict}
 use Rattle.fleet_jobs.specs.Specs.{spec_of}
 use Rattle.fleet_step.proofs.Retries.{tries_end, tries_on, tries_out}

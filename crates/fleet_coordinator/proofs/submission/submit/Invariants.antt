@@ -1,7 +1,7 @@
 use Rattle.std.proofs.Common.{◌-◌}
 use Rattle.std.specs.Prelude.{map}
-use Rattle.step_model.specs.SubmitSteps.{submit, submit_try}
-use Rattle.step_model.specs.Tries.{tries}
+use Rattle.step_model.specs.Steps.SubmitSteps.{submit, submit_try}
+use Rattle.step_model.specs.Courses.Tries.{tries}
 use Rattle.fleet_jobs.specs.Specs.{spec_of}
 use Rattle.fleet_step.specs.Steps.{Leads}
 use Rattle.fleet_coordinator.proofs.submission.submit.Given as goal

@@ -1,7 +1,7 @@
 use Rattle.std.proofs.Common.{refl}
 use Rattle.std.specs.Prelude.{map}
-use Rattle.step_model.specs.StepEnds.{Reports}
-use Rattle.step_model.specs.SubmitSteps.{submit_by}
+use Rattle.step_model.specs.Courses.StepEnds.{Reports}
+use Rattle.step_model.specs.Steps.SubmitSteps.{submit_by}
 use Rattle.fleet_jobs.specs.Specs.{spec_of}
 use Rattle.fleet_step.proofs.Puts.{got_records}
 use Rattle.fleet_step.proofs.Steps.{then_tried}

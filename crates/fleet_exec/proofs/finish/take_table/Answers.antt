@@ -4,8 +4,8 @@ use Rattle.std.specs.List.{AllByRecursion}
 use Rattle.std.proofs.lemmas.Bool.{ltb-false}
 use Rattle.row_model.specs.Bounds.{IsInBounds}
 use Rattle.row_model.specs.Rows.{Row}
-use Rattle.row_model.specs.Sizes.{estimated_size}
-use Rattle.row_model.specs.Tables.{cut_from, cut_tables}
+use Rattle.row_model.specs.Written.Sizes.{estimated_size}
+use Rattle.row_model.specs.Written.Tables.{cut_from, cut_tables}
 use Rattle.fleet_rows.specs.Row.{row_of, rows_of}
 use Rattle.fleet_exec.specs.Cut.{open_with}
 use Rattle.fleet_exec.specs.Taking.{left_after}

@@ -1,5 +1,5 @@
 use Rattle.std.proofs.Common.{◌∙◌, sym, ap}
-use Rattle.fleet_model.specs.Gates.{commit_gate}
+use Rattle.fleet_model.specs.Work.Gates.{commit_gate}
 use Rattle.fleet_tree.specs.Trees.{trees_of}
 use Rattle.fleet_jobs.specs.Jobs.{job_of}
 use Rattle.fleet_jobs.specs.Specs.{spec_of}

@@ -4,7 +4,7 @@ use Rattle.fleet_model.specs.Jobs.{ids_eq}
 use Rattle.fleet_model.specs.Nodes.{Trees, names, names_contain, tree_at}
 use Rattle.fleet_model.specs.Trees.{tables_now}
 use Rattle.fleet_tree.specs.Trees.{trees_of}
-use Rattle.fleet_jobs.specs.JobParts.{JobParts}
+use Rattle.fleet_jobs.specs.Parts.JobParts.{JobParts}
 use Rattle.fleet_jobs.specs.Sources.{name_of}
 use Rattle.fleet_jobs.specs.Specs.{segment_of, sources_of, spec_of}
 use Rattle.fleet_jobs.specs.declared.spec.CompactionSpec.{CompactionSpec}

@@ -1,5 +1,5 @@
 use Rattle.std.proofs.Common.{◌≡◌, map, take, true}
-use Rattle.fleet_model.specs.Gates.{are_distinct}
+use Rattle.fleet_model.specs.Work.Gates.{are_distinct}
 use Rattle.fleet_jobs.specs.Sources.{name_of}
 use Rattle.fleet_jobs.proofs.places.are_distinct.Given as goal
 

@@ -1,5 +1,5 @@
 use Rattle.std.proofs.Common.{◌≡◌, map, length}
-use Rattle.fleet_model.specs.Gates.{names_older}
+use Rattle.fleet_model.specs.Work.Gates.{names_older}
 use Rattle.fleet_jobs.specs.Sources.{name_of}
 use Rattle.fleet_jobs.proofs.places.names_older.Given as goal
 

@@ -3,7 +3,7 @@ use Rattle.std.specs.Prelude.{max}
 use Rattle.std.proofs.lemmas.Grind.{common_steps}
 use Rattle.std.proofs.lemmas.List.{map-append}
 use Rattle.row_model.specs.Ranges.{is_in_range}
-use Rattle.row_model.specs.Plan.{sample_anchors}
+use Rattle.row_model.specs.Written.Plan.{sample_anchors}
 use Rattle.fleet_range.specs.Keys.{range_of}
 use Rattle.fleet_tree.specs.declared.block.BlockMeta.{BlockMeta}
 use Rattle.fleet_tree.specs.Handles.{block_of, blocks_of}

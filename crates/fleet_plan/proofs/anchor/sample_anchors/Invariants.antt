@@ -1,5 +1,5 @@
 use Rattle.std.proofs.Common.{length}
-use Rattle.row_model.specs.Plan.{sample_anchors}
+use Rattle.row_model.specs.Written.Plan.{sample_anchors}
 use Rattle.row_model.specs.Ranges.{is_in_range}
 use Rattle.fleet_range.specs.Keys.{range_of}
 use Rattle.fleet_tree.specs.Handles.{blocks_of}

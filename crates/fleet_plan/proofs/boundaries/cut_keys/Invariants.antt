@@ -1,5 +1,5 @@
 use Rattle.std.proofs.Common.{◌≡◌, ◌++◌, length, drop}
-use Rattle.row_model.specs.Plan.{cut_anchors, cuts}
+use Rattle.row_model.specs.Written.Plan.{cut_anchors, cuts}
 use Rattle.fleet_plan.specs.Anchors.{anchors_of}
 use Rattle.fleet_plan.proofs.boundaries.cut_keys.Given as goal
 

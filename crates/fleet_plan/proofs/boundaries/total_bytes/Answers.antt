@@ -1,7 +1,7 @@
 use Rattle.std.proofs.Common.{◌+◌, ◌∙◌, rules}
 use Rattle.std.proofs.lemmas.Iterator.{YieldsList-from_slice}
 use Rattle.std.proofs.lemmas.Iterator.Consumers.{fold_from_yields_List}
-use Rattle.row_model.specs.Sizes.{saturated_sum}
+use Rattle.row_model.specs.Written.Sizes.{saturated_sum}
 use Rattle.fleet_plan.proofs.Sums.{total-is}
 use Rattle.fleet_plan.proofs.boundaries.total_bytes.Goals as goal
 

@@ -2,7 +2,7 @@ use Rattle.std.proofs.Common.{◌≡◌, ◌∷◌, ◌++◌, ◌+◌, ◌∙◌
 use Rattle.std.specs.Prelude.{flat_map}
 use Rattle.std.proofs.lemmas.Grind.{common_steps}
 use Rattle.std.proofs.lemmas.Result.{IfOk-weaker}
-use Rattle.row_model.specs.Plan.{planned_ranges, select_boundaries}
+use Rattle.row_model.specs.Written.Plan.{planned_ranges, select_boundaries}
 use Rattle.row_model.specs.Rows.{Row}
 use Rattle.fleet_tree.specs.Views.{View}
 use Rattle.fleet_tree.specs.declared.run.SortedRun.{SortedRun}

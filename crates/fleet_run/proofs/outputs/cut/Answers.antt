@@ -1,7 +1,7 @@
 use Rattle.std.proofs.Common.{◌≡◌, ◌∙◌, sym, false, ◌+◌, arith}
 use Rattle.std.specs.Prelude.{nat_lt}
 use Rattle.std.proofs.lemmas.Bool.Decides.{nat_tests}
-use Rattle.row_model.specs.Sizes.{estimated_size}
+use Rattle.row_model.specs.Written.Sizes.{estimated_size}
 use Rattle.fleet_rows.specs.Row.{row_of}
 use Rattle.fleet_run.specs.Outputs.{all_rows_of, table_size}
 use Rattle.fleet_run.proofs.Cuts.{more_gathered}

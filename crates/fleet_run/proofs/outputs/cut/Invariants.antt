@@ -1,7 +1,7 @@
 use Rattle.std.proofs.Common.{◌≡◌, ◌++◌, ◌≤◌, length}
 use Rattle.std.specs.List.{AllByRecursion}
 use Rattle.row_model.specs.Bounds.{IsInBounds}
-use Rattle.row_model.specs.Tables.{cut_from, cut_tables}
+use Rattle.row_model.specs.Written.Tables.{cut_from, cut_tables}
 use Rattle.fleet_rows.specs.Row.{rows_of}
 use Rattle.fleet_run.specs.Outputs.{all_rows_of, table_size}
 use Rattle.fleet_run.proofs.Cuts.{rows_after_cuts}

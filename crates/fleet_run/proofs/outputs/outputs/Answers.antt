@@ -1,7 +1,7 @@
 use Rattle.std.proofs.Common.{sym, subst}
 use Rattle.std.specs.List.{AllByRecursion}
 use Rattle.row_model.specs.Bounds.{IsInBounds}
-use Rattle.row_model.specs.Tables.{cut_tables}
+use Rattle.row_model.specs.Written.Tables.{cut_tables}
 use Rattle.fleet_rows.specs.Settings.{settings_of}
 use Rattle.fleet_table.specs.Table.{IsTableRows}
 use Rattle.fleet_run.specs.Outputs.{table_size}

@@ -1,5 +1,5 @@
 use Rattle.std.proofs.Common.{◌≡◌, ◌++◌, drop}
-use Rattle.fleet_model.specs.Records.{firsts}
+use Rattle.fleet_model.specs.Work.Records.{firsts}
 use Rattle.fleet_run.proofs.tables.ids_of.Given as goal
 
 abbrev pub invariant-loop-i : goal.invariant-loop-i

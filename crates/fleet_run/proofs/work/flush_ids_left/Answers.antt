@@ -1,7 +1,7 @@
 use Rattle.std.proofs.Common.{◌∙◌, sym, ap, ℕ, ◌-◌, List, Option, length, take}
 use Rattle.std.proofs.lemmas.List.{take-map, length-map}
 use Rattle.row_model.specs.Rows.{Row}
-use Rattle.fleet_model.specs.Records.{firsts}
+use Rattle.fleet_model.specs.Work.Records.{firsts}
 use Rattle.fleet_run.specs.declared.jobs.AskedJob.{AskedJob}
 use Rattle.fleet_run.specs.Serve.{flushes_left}
 use Rattle.fleet_run.proofs.work.flush_ids_left.Goals as goal

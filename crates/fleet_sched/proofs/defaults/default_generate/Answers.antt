@@ -1,5 +1,5 @@
 use Rattle.std.proofs.Common.{◌∙◌, sym, ap, subst}
-use Rattle.fleet_model.specs.Scheduler.{Generated, Specs, default_generate}
+use Rattle.fleet_model.specs.Work.Scheduler.{Generated, Specs, default_generate}
 use Rattle.fleet_book.specs.Requests.{request_of}
 use Rattle.fleet_book.specs.declared.request.CompactionRequest.{CompactionRequest}
 use Rattle.fleet_sched.specs.Answers.{Generates}

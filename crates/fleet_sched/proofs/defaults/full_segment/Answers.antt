@@ -1,6 +1,6 @@
 use Rattle.std.proofs.Common.{rules, ◌∙◌, sym, ap, List, map}
 use Rattle.std.specs.Prelude.{option_map}
-use Rattle.fleet_model.specs.Scheduler.{Specs, one_or_invalid}
+use Rattle.fleet_model.specs.Work.Scheduler.{Specs, one_or_invalid}
 use Rattle.fleet_jobs.specs.Specs.{spec_of}
 use Rattle.fleet_jobs.specs.declared.spec.CompactionSpec.{CompactionSpec}
 use Rattle.fleet_sched.specs.Views.{trees_in}

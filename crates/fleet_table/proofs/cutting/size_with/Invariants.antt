@@ -2,7 +2,7 @@ use Rattle.std.proofs.Common.{◌≡◌, ◌+◌, length}
 use Rattle.std.specs.Prelude.{sum_by}
 use Rattle.std.specs.List.{AllByRecursion}
 use Rattle.row_model.specs.Bounds.{IsInBounds}
-use Rattle.row_model.specs.Sizes.{estimated_size, saturated_sum}
+use Rattle.row_model.specs.Written.Sizes.{estimated_size, saturated_sum}
 use Rattle.fleet_rows.specs.Row.{rows_of}
 use Rattle.fleet_table.proofs.cutting.size_with.Given as goal
 

@@ -1,5 +1,5 @@
 use Rattle.std.proofs.Common.{◌∙◌, ap, List, length, arith}
-use Rattle.row_model.specs.TableBytes.{blocks_of_rows}
+use Rattle.row_model.specs.Written.TableBytes.{blocks_of_rows}
 use Rattle.row_model.specs.Rows.{Row}
 use Rattle.fleet_block.specs.Places.{places_from}
 use Rattle.fleet_block.proofs.Places.{places_count}

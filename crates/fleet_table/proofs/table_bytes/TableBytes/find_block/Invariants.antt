@@ -1,6 +1,6 @@
 use Rattle.std.proofs.Common.{◌<◌, ◌≤◌, ◌-◌, length}
 use Rattle.std.specs.List.{prefix_len}
-use Rattle.row_model.specs.TableBytes.{blocks_of_rows}
+use Rattle.row_model.specs.Written.TableBytes.{blocks_of_rows}
 use Rattle.fleet_table.specs.Cursors.{is_before_spot, rows_before}
 use Rattle.fleet_table.proofs.table_bytes.TableBytes.find_block.Given as goal
 

@@ -1,7 +1,7 @@
 use Rattle.std.proofs.Common.{◌∙◌, ap, subst}
 use Rattle.std.specs.List.{AllByRecursion}
 use Rattle.row_model.specs.Rows.{IsStrictlyOrdered}
-use Rattle.row_model.specs.TableBytes.{IsWritable}
+use Rattle.row_model.specs.Written.TableBytes.{IsWritable}
 use Rattle.fleet_table.specs.Cursors.{before_by}
 use Rattle.fleet_table.proofs.Cursors.{bytes_after, read_on, read_there, row_there, writable_there}
 use Rattle.fleet_table.proofs.Spots.{is_ahead, is_after}

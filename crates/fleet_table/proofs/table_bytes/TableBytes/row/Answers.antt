@@ -1,7 +1,7 @@
 use Rattle.std.proofs.Common.{sym, ◌∙◌, ap, subst}
 use Rattle.std.specs.Prelude.{Some}
 use Rattle.std.specs.List.{AllByRecursion}
-use Rattle.row_model.specs.TableBytes.{IsWritable}
+use Rattle.row_model.specs.Written.TableBytes.{IsWritable}
 use Rattle.fleet_rows.specs.Row.{row_of}
 use Rattle.fleet_block.proofs.Found.{found_none, found_some}
 use Rattle.fleet_table.proofs.Cursors.{bytes_after, read_on, read_there, row_there, writable_there}

@@ -1,6 +1,6 @@
 use Rattle.std.proofs.Common.{sym, ◌∙◌, ap, List, length, arith}
 use Rattle.std.specs.Prelude.{slice_index_or}
-use Rattle.row_model.specs.TableBytes.{blocks_of_rows}
+use Rattle.row_model.specs.Written.TableBytes.{blocks_of_rows}
 use Rattle.row_model.specs.Rows.{Row}
 use Rattle.fleet_block.specs.Places.{places_from}
 use Rattle.fleet_block.proofs.Places.{places_count}

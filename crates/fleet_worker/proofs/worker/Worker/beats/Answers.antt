@@ -1,5 +1,5 @@
 use Rattle.std.proofs.Common.{◌∙◌, ◌-◌, ◌+◌, sym, ap, arith}
-use Rattle.step_model.specs.BeatSteps.{beat_try}
+use Rattle.step_model.specs.Steps.BeatSteps.{beat_try}
 use Rattle.fleet_worker.specs.Beats.{beat_ends_over}
 use Rattle.fleet_worker.specs.Workers.{WorkerParts, live_of}
 use Rattle.fleet_worker.proofs.Beats.{beat_safe, beats_nothing, first_beat}

@@ -1,6 +1,6 @@
 use Rattle.std.proofs.Common.{◌-◌}
-use Rattle.step_model.specs.BeatSteps.{beat_try, heartbeat}
-use Rattle.step_model.specs.Tries.{tries}
+use Rattle.step_model.specs.Steps.BeatSteps.{beat_try, heartbeat}
+use Rattle.step_model.specs.Courses.Tries.{tries}
 use Rattle.fleet_step.specs.Steps.{Leads}
 use Rattle.fleet_worker.specs.Workers.{live_of}
 use Rattle.fleet_worker.proofs.worker.Worker.beats.Given as goal

@@ -1,7 +1,7 @@
 use Rattle.std.proofs.Common.{◌∙◌, ap, subst, sym, refl, Ok, Err}
 use Rattle.std.specs.Bool.{OnFalse}
-use Rattle.step_model.specs.BeatSteps.{Beaten, heartbeat}
-use Rattle.fleet_model.specs.Parties.{is_live}
+use Rattle.step_model.specs.Steps.BeatSteps.{Beaten, heartbeat}
+use Rattle.fleet_model.specs.Work.Parties.{is_live}
 use Rattle.fleet_jobs.specs.Jobs.{jobs_of}
 use Rattle.fleet_store.specs.Records.{jobs_or_none}
 use Rattle.fleet_worker.specs.Beats.{beat_ends_over, beaten_with, live_parts}

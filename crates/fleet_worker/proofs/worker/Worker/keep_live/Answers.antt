@@ -1,6 +1,6 @@
 use Rattle.std.proofs.Common.{rules, ◌∙◌, ap}
 use Rattle.std.proofs.lemmas.Fn.{filter_same}
-use Rattle.fleet_model.specs.Parties.{is_live}
+use Rattle.fleet_model.specs.Work.Parties.{is_live}
 use Rattle.fleet_jobs.specs.Jobs.{jobs_of}
 use Rattle.fleet_store.specs.Records.{jobs_or_none}
 use Rattle.fleet_worker.specs.Beats.{live_parts}

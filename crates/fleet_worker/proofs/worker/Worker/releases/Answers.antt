@@ -1,5 +1,5 @@
 use Rattle.std.proofs.Common.{◌∙◌, ◌-◌, ◌+◌, sym, ap, arith}
-use Rattle.step_model.specs.StepEnds.{Reports}
+use Rattle.step_model.specs.Courses.StepEnds.{Reports}
 use Rattle.fleet_worker.specs.Workers.{WorkerParts, live_of}
 use Rattle.fleet_worker.specs.Releases.{one_release}
 use Rattle.fleet_worker.proofs.Releases.{first_try, release_safe, runs_nothing}

@@ -1,8 +1,8 @@
 use Rattle.std.proofs.Common.{subst, zero}
 use Rattle.std.proofs.lemmas.Result.{err_from_is_err_and}
-use Rattle.step_model.specs.BeatSteps.{beat_try}
-use Rattle.step_model.specs.Tries.{tries}
-use Rattle.step_model.specs.Course.{Ends}
+use Rattle.step_model.specs.Steps.BeatSteps.{beat_try}
+use Rattle.step_model.specs.Courses.Tries.{tries}
+use Rattle.step_model.specs.Courses.Course.{Ends}
 use Rattle.fleet_worker.specs.Beats.{IsBeatOf, beat_ends_over}
 use Rattle.fleet_worker.specs.Workers.{live_of}
 use Rattle.fleet_worker.proofs.Beats.{try_lawful}

@@ -1,6 +1,6 @@
 use Rattle.std.proofs.Common.{◌∙◌, sym, ap, subst, zero}
 use Rattle.std.proofs.lemmas.Result.{err_from_is_err_and}
-use Rattle.step_model.specs.Tries.{tries}
+use Rattle.step_model.specs.Courses.Tries.{tries}
 use Rattle.fleet_worker.specs.Releases.{IsReleaseOf, one_release, released_are}
 use Rattle.fleet_worker.specs.Workers.{live_of}
 use Rattle.fleet_step.proofs.Puts.{got_described, got_records}

@@ -1,0 +1,9 @@
+-- The laws on single kinds of lines.
+pub mod ReadLines
+pub mod PollRuns
+pub mod PollLines
+pub mod PollCalls
+pub mod ClaimLines
+pub mod FinishLines
+pub mod FinishedJobs
+pub mod Outputs

@@ -1,0 +1,12 @@
+-- Worked scripts.
+pub mod Worked
+pub mod WorkedInputs
+pub mod WorkedRows
+pub mod WorkedJobs
+pub mod WorkedParties
+pub mod WorkedCoordinators
+pub mod WorkedRefusal
+pub mod WorkedRetention
+pub mod WorkedSweeps
+pub mod WorkedScans
+pub mod WorkedLevels
