@@ -28,7 +28,7 @@ use Rattle.step_laws.proofs.Bodies.{Body}
 use Rattle.commit_laws.proofs.Stretches.{Named, node_of, node_in_names, pairs_first, pairs_second, all_taken, both_true}
 use Rattle.commit_laws.proofs.RunTrees.{without_sources, pieces_of_stretch}
 use Rattle.commit_laws.proofs.TreeReads.{before_these, with_horizon}
-use Rattle.commit_laws.proofs.MoveRows.{all_by_first, move_fits}
+use Rattle.commit_laws.proofs.MoveRows.{move_fits}
 use Rattle.commit_laws.proofs.OtherJobs.{in_filtered}
 use Rattle.commit_laws.proofs.Segments.{SegmentFits, segment_named, in_order, segment_with_less, all_held}
 use Rattle.commit_laws.proofs.StepTrees.{trees_on}
@@ -37,6 +37,7 @@ use Rattle.commit_laws.proofs.JoinsStand.{in_pieces}
 use Rattle.commit_laws.proofs.JobsBeside.{holds_on_run, holds_on_out}
 use Rattle.commit_laws.proofs.Steps.{StretchAt, stretch_at, as_stretch, found_there, RunMay, run_between, run_at, PiecesMay, run_changes}
 use Rattle.commit_laws.proofs.Midway.{Midway}
+use Rattle.step_laws.proofs.TableReplays.{by_first_all}
 
 -- ---- the gate
 
@@ -61,7 +62,7 @@ gated trees others spec id e =
     let all = all_pass (submitted_rules trees others [] (λ other. true) (new_job (id, spec)) (tree_at spec.segment trees)) e in
     record { some = (both_true (is_nonempty spec.sources) (are_distinct spec.sources) all.0).0; segment = all.1.1.0; stretch = all.1.1.1.1.0; to = all.1.1.1.1.1.1.0; free = all.1.1.1.1.1.1.1.0 }
 
-submitted_free : (s : Status) → IsTrue (status_eq Submitted s) → IsTrue (status_eq Scheduled s || status_eq Running s || status_eq Compacted s) → ⊥
+pub submitted_free : (s : Status) → IsTrue (status_eq Submitted s) → IsTrue (status_eq Scheduled s || status_eq Running s || status_eq Compacted s) → ⊥
 submitted_free Submitted h k = absurd (cc k)
 submitted_free Scheduled h k = absurd (cc h)
 submitted_free Running h k = absurd (cc h)
@@ -143,7 +144,7 @@ move_taken n P h = all_taken P n.a.newer (n.a.t ∷ n.a.ts) n.a.older (subst (Al
 -- What is so of each table of the sources is so of each table of the run.
 moved_all : {merge : Operator} {world : World} {specs : ℕ → JobSpec} {trees : Trees} {horizon : ℕ} {joined : List ℕ} {spec : JobSpec} {id run : ℕ} (n : NewMove merge world specs trees horizon joined spec id run) (P : ℕ → Type 0)
     → AllByRecursion (λ (node : Node). AllByRecursion P node.pieces) n.a.s.tree → AllByRecursion P (moved n)
-moved_all {merge} {world} n P h = all_by_first P world.store.tables (flat_map (λ (node : Node). node.pieces) (n.a.t ∷ n.a.ts)) (all_flat P (λ (node : Node). node.pieces) (n.a.t ∷ n.a.ts) (move_taken n (λ node. AllByRecursion P node.pieces) h))
+moved_all {merge} {world} n P h = by_first_all P world.store.tables (flat_map (λ (node : Node). node.pieces) (n.a.t ∷ n.a.ts)) (all_flat P (λ (node : Node). node.pieces) (n.a.t ∷ n.a.ts) (move_taken n (λ node. AllByRecursion P node.pieces) h))
 
 moved_old : {merge : Operator} {world : World} {specs : ℕ → JobSpec} {trees : Trees} {horizon : ℕ} {joined : List ℕ} {spec : JobSpec} {id run : ℕ} (n : NewMove merge world specs trees horizon joined spec id run) (t : ℕ) → IsIn t (moved n) → IsIn t (tree_tables n.a.s)
 moved_old n t there = all_at (λ u. IsIn u (tree_tables n.a.s)) (moved n) t

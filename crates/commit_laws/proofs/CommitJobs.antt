@@ -17,13 +17,12 @@ use Rattle.fleet_model.specs.Invariants.AttemptsFit.{ContextFits}
 use Rattle.step_model.specs.Past.{World}
 use Rattle.step_model.specs.LawfulManifests.{StepsFit, IsKnownTo, cut_of}
 use Rattle.step_model.specs.LawfulTables.{was_piece}
-use Rattle.step_model.specs.Kept.JoinsKept.{JoinStands, Gone, NotEmpty, Itself}
 use Rattle.step_laws.proofs.Elements.{IsIn, all_at, all_to, contains_in, contains_no}
 use Rattle.step_laws.proofs.Worlds.{settings_stay, ranges_stay}
 use Rattle.step_laws.proofs.Grown.{named_grows, drawn_table_grows, source_grows, beaten_stays_so}
 use Rattle.step_laws.proofs.Bodies.{JobKept, Body}
-use Rattle.step_laws.proofs.ManifestBodies.{with_manifest, faithful_before_manifest}
-use Rattle.step_laws.proofs.ManifestEpochs.{piece_stays, no_new_piece}
+use Rattle.step_laws.proofs.ManifestBodies.{with_manifest, faithful_before_manifest, or_right, or_left}
+use Rattle.step_laws.proofs.ManifestEpochs.{no_new_piece, joined_on}
 use Rattle.commit_laws.proofs.Stretches.{never_both, other_or}
 use Rattle.commit_laws.proofs.JobSteps.{is_done, JobHolds}
 use Rattle.commit_laws.proofs.Midway.{Midway, found_job, only_job}
@@ -80,14 +79,6 @@ done_same world line party steps answer job took =
     by false true = refl
     by false false = refl
 
-pub or_left : (a b : Bool) → IsTrue a → IsTrue (a || b)
-or_left true b h = refl
-or_left false b h = absurd (cc h)
-
-or_right : (a b : Bool) → IsTrue b → IsTrue (a || b)
-or_right true b h = refl
-or_right false b h = h
-
 or_split : (a b : Bool) → (a || b) ≡ true → (a ≡ true) ⊎ (b ≡ true)
 or_split true b e = inl refl
 or_split false b e = inr e
@@ -113,11 +104,6 @@ done_late merge world specs own party steps c job there kept done = by (or_split
     by : (contains (joined_by steps []) job.id ≡ true) ⊎ (was_joined world.store.history job.id ≡ true) → IsTrue (has_status Compacted job || is_finished job.status)
     by (inl now) = of_joined (all_at (IsCompacted world) (joined_by steps []) job.id (joined_compacted world own world.store.manifest.trees [] steps c.each tt) (contains_in (joined_by steps []) job.id now))
     by (inr was) = kept.facts.late was
-
-joined_on : (past : List Manifest) (new : Manifest) (trees : Trees) (job : Job) → JoinStands past trees job → JoinStands (past ++ new ∷ []) trees job
-joined_on past new trees job (Gone table there gone) = Gone table there (piece_stays past new table gone.0, gone.1)
-joined_on past new trees job (NotEmpty run there other none some) = NotEmpty run there other none some
-joined_on past new trees job (Itself run sources destination none empty) = Itself run sources destination none empty
 
 -- ---- one job
 

@@ -7,7 +7,7 @@ use Rattle.row_model.specs.Fold.{Operator, IsLawful}
 use Rattle.fleet_model.specs.Nodes.{Tables, Trees}
 use Rattle.fleet_model.specs.Jobs.{JobSpec, Job, Jobs, Compacted, has_status, job_with, contains}
 use Rattle.fleet_model.specs.History.{Party, Step, Join, Move, Drain}
-use Rattle.fleet_model.specs.Store.{Records, stored_jobs, jobs_in}
+use Rattle.fleet_model.specs.Store.{Records, stored_jobs}
 use Rattle.fleet_model.specs.Past.Replay.{outputs_in, outputs_of, plain_job, plain_records}
 use Rattle.fleet_model.specs.Trees.{stepped_in, stepped_all, horizon_after, horizon_after_all, job_of}
 use Rattle.fleet_model.specs.Invariants.JobsFit.{is_join_of}
@@ -16,29 +16,11 @@ use Rattle.step_model.specs.LawfulManifests.{StepsFit, StepFits, joined_after, I
 use Rattle.step_model.specs.Kept.JoinsKept.{join_of}
 use Rattle.commit_laws.specs.After.{joined_by}
 use Rattle.step_laws.proofs.Bodies.{Body}
+use Rattle.step_laws.proofs.KnownJobs.{outputs_are, known_spec}
 use Rattle.commit_laws.proofs.Stretches.{never_both}
-use Rattle.commit_laws.proofs.Midway.{Midway, KnownCase, Stored, New, known_case}
+use Rattle.commit_laws.proofs.Midway.{Midway}
 use Rattle.commit_laws.proofs.Joins.{join_keeps}
 use Rattle.commit_laws.proofs.AtOnce.{move_keeps, drain_keeps}
-
--- ---- what a stored job recorded
-
-outputs_stored : (records : Option Records) (id : ℕ) (job : Job) → job_with id (jobs_in records) ≡ Some job → outputs_in records id ≡ concat job.outputs
-outputs_stored None id job e = absurd (cc e)
-outputs_stored (Some records) id job e = ap outputs_of e
-
-known_spec : (party : Party) (world : World) (own : ℕ → JobSpec) (id : ℕ) (job : Job) → job_with id (stored_jobs world.store) ≡ Some job → IsKnownTo party world own id → own id ≡ job.spec
-known_spec party world own id job e known = by (known_case party world own id known)
-  where
-    same_some : (x : Job) → Some x ≡ Some job → x ≡ job
-    same_some x e = cc e
-
-    by : KnownCase party world own id → own id ≡ job.spec
-    by (Stored x there found same is) = is ∙ ap (λ (j : Job). j.spec) (same_some x (sym found ∙ e))
-    by (New none drew unmentioned) = absurd (clash (sym none ∙ e))
-      where
-        clash : None ≡ Some job → ⊥
-        clash f = absurd (cc f)
 
 -- ---- one step, and all
 
@@ -53,7 +35,7 @@ step_keeps : (merge : Operator) (world : World) (party : Party) (specs own : ℕ
     → Midway merge world (stepped_in world.store.tables step (own (job_of step)) (outputs_in world.store.records (job_of step)) trees) (horizon_after world.store.manifest.floor step (cuts world (job_of step)) horizon) (joined_after step joined)
 step_keeps merge world party specs own trees horizon joined (Join id) lawful b known fits m =
     subst (λ spec. Midway merge world (stepped_in world.store.tables (Join id) spec (outputs_in world.store.records id) trees) (horizon_after world.store.manifest.floor (Join id) (cuts world id) horizon) (id ∷ joined)) (sym (known_spec party world own id fits.job fits.stored known))
-    (subst (λ outputs. Midway merge world (stepped_in world.store.tables (Join id) fits.job.spec outputs trees) (horizon_after world.store.manifest.floor (Join id) (cuts world id) horizon) (id ∷ joined)) (sym (outputs_stored world.store.records id fits.job fits.stored))
+    (subst (λ outputs. Midway merge world (stepped_in world.store.tables (Join id) fits.job.spec outputs trees) (horizon_after world.store.manifest.floor (Join id) (cuts world id) horizon) (id ∷ joined)) (sym (outputs_are world.store.records id fits.job fits.stored))
     (subst (λ cut. Midway merge world (stepped_in world.store.tables (Join id) fits.job.spec (concat fits.job.outputs) trees) (horizon_after world.store.manifest.floor (Join id) cut horizon) (id ∷ joined)) (sym (ap cut_of fits.stored))
     (join_keeps merge world specs trees horizon joined id lawful b fits m)))
 step_keeps merge world party specs own trees horizon joined (Move id) lawful b known fits m = move_keeps merge world specs trees horizon joined (own id) id (outputs_in world.store.records id) b fits m

@@ -1,6 +1,6 @@
 -- A lawful commit keeps the invariant and the facts.
-use Rattle.std.proofs.Common.{◌≡◌, refl, sym, ◌∙◌, ap, subst, ℕ, ◌+◌, List, [], ◌∷◌, ◌++◌, cond, Bool, true, false, Option, Some, None, ℤ, arith}
-use Rattle.std.specs.Prelude.{IsTrue, ◌==◌, ◌&&◌, map, option_map, flat_map, int_le, pos, negsuc}
+use Rattle.std.proofs.Common.{◌≡◌, refl, sym, ◌∙◌, ap, subst, ℕ, ◌+◌, List, [], ◌∷◌, ◌++◌, cond, Bool, true, false, ℤ, arith}
+use Rattle.std.specs.Prelude.{IsTrue, ◌&&◌, map, option_map, flat_map, int_le, pos, negsuc}
 use Rattle.std.specs.List.{AllByRecursion}
 use Rattle.std.proofs.lemmas.Bool.{le-leb}
 use Rattle.row_model.specs.Fold.{Operator, IsLawful}
@@ -10,23 +10,23 @@ use Rattle.fleet_model.specs.Handles.{tree_tables}
 use Rattle.fleet_model.specs.History.{Party, Entry, Answer, Step, PutManifest, Commit, stood}
 use Rattle.fleet_model.specs.Work.Records.{firsts}
 use Rattle.fleet_model.specs.Store.{Manifest, stored_jobs, fresh_store, AreHeld, WerePut}
-use Rattle.fleet_model.specs.Past.Replay.{Objects, outputs_in, named_specs, after_event, after_entry, replayed_objects, plain_objects, plain_manifest, plain_records}
+use Rattle.fleet_model.specs.Past.Replay.{outputs_in, named_specs, after_event, after_entry, replayed_objects, plain_objects, plain_manifest, plain_records}
 use Rattle.fleet_model.specs.Trees.{job_of}
 use Rattle.fleet_model.specs.Invariants.ReadsFit.{TreeKeepsReads}
-use Rattle.step_model.specs.Past.{World, manifest_with}
+use Rattle.step_model.specs.Past.{World}
 use Rattle.step_model.specs.Entries.{drawn_jobs, mentioned_in, planned_attempts, attempts_in, attempts_claimed_in, epoch_in, was_named}
 use Rattle.step_model.specs.Kept.Faithful.{Faithful}
 use Rattle.step_model.specs.LawfulManifests.{IsKnownTo, StepsFit}
 use Rattle.step_model.specs.Kept.TablesKept.{IsKnownPiece, IsFlush, IsPassed}
 use Rattle.step_model.specs.Kept.JoinsKept.{join_of}
 use Rattle.step_model.specs.Kept.Keeps.{Keeps}
-use Rattle.step_laws.proofs.Elements.{IsIn, in_front, all_at, all_from, all_to, all_push, all_flat, all_unflat, any_element, contains_in, in_contains, flat_push_none, found_front, Cut, Whole, Before, cut_where}
+use Rattle.step_laws.proofs.Elements.{IsIn, in_front, all_at, all_from, all_to, all_push, all_flat, all_unflat, any_element, contains_in, in_contains, flat_push_none, Cut, Whole, Before, cut_where}
 use Rattle.step_laws.proofs.Replays.{replayed_push}
 use Rattle.step_laws.proofs.Grown.{named_grows, drawn_job_grows, up_to_grows, pieces_grow, piece_grows, flush_grows, passed_grows}
 use Rattle.step_laws.proofs.Bodies.{JobKept, Body, whole_of, keeps_of}
 use Rattle.step_laws.proofs.MuteBodies.{Matches}
 use Rattle.step_laws.proofs.Respecs.{body_by, drew_drawn}
-use Rattle.step_laws.proofs.ManifestBodies.{with_manifest, past_grows}
+use Rattle.step_laws.proofs.ManifestBodies.{with_manifest, past_grows, matches_stay}
 use Rattle.step_laws.proofs.ManifestEpochs.{stored_in_past, not_stored, epoch_rises}
 use Rattle.step_laws.proofs.ManifestPuts.{StandingPutKeeps, manifest_put_keeps}
 use Rattle.step_laws.proofs.FlushTrees.{rising_from, rising_to}
@@ -87,13 +87,6 @@ objects_after merge world specs own line party steps answer took c =
   where
     both : (a b : JobSpec) → (xs ys : List ℕ) → a ≡ b → xs ≡ ys → ◌≡◌ {A = JobSpec × List ℕ} (a, xs) (b, ys)
     both a b xs ys e f = λ i. (e i, f i)
-
-matches_stay : (past : List Manifest) (manifest : Manifest) (o : Objects) → Matches past o → Matches (past ++ manifest ∷ []) o
-matches_stay past manifest o h = by (manifest_with o.manifest.version past) refl h
-  where
-    by : (found : Option Manifest) → manifest_with o.manifest.version past ≡ found → option_map plain_manifest found ≡ Some o.manifest → Matches (past ++ manifest ∷ []) o
-    by None e h = absurd (cc h)
-    by (Some m) e h = ap (option_map plain_manifest) (found_front (λ (other : Manifest). o.manifest.version == other.version) past (manifest ∷ []) m e) ∙ h
 
 pub faithful_after : (merge : Operator) (world : World) (specs own : ℕ → JobSpec) (line : ℕ) (party : Party) (steps : List Step) (answer : Answer) → stood answer ≡ true → CommitCase merge world specs own party steps
     → Faithful (with_manifest world (manifest_of world own steps) (entry_of line party steps answer)) specs

@@ -25,6 +25,7 @@ use Rattle.commit_laws.proofs.Stretches.{never_both, pairs_second, pairs_across}
 use Rattle.commit_laws.proofs.TreeReads.{part_rows}
 use Rattle.commit_laws.proofs.RunRows.{RunFits, nodes_apart, rows_of_pieces, flushes_of_run, held_rows, flush_rows, sorted_of_key}
 use Rattle.commit_laws.specs.RunReads.{run_for, AreTables}
+use Rattle.step_laws.proofs.TableReplays.{by_first_all}
 
 -- ---- rows may be inserted in any order
 
@@ -109,20 +110,8 @@ put_sorted tables piece (q ∷ pieces) h = by (is_lt (key_cmp (first_key (table_
         ∙ sym (sorted_swap (table_rows tables piece) (table_rows tables q) (rows_of tables pieces) (all_to _ _ (table_rows tables piece) (λ r there all. all_front _ (table_rows tables q) (rows_of tables pieces) all) h))
     by false rest = refl
 
-put_all : (P : ℕ → Type 0) (tables : Tables) (piece : ℕ) (pieces : List ℕ) → P piece → AllByRecursion P pieces → AllByRecursion P (put_by_first_key tables piece pieces)
-put_all P tables piece [] p h = (p, tt)
-put_all P tables piece (q ∷ pieces) p h = by (is_lt (key_cmp (first_key (table_rows tables q)) (first_key (table_rows tables piece)))) (put_all P tables piece pieces p h.1)
-  where
-    by : (b : Bool) → AllByRecursion P (put_by_first_key tables piece pieces) → AllByRecursion P (cond b (q ∷ put_by_first_key tables piece pieces) (piece ∷ q ∷ pieces))
-    by true rest = (h.0, rest)
-    by false rest = (p, h)
-
-pub all_by_first : (P : ℕ → Type 0) (tables : Tables) (pieces : List ℕ) → AllByRecursion P pieces → AllByRecursion P (by_first_key tables pieces)
-all_by_first P tables [] h = tt
-all_by_first P tables (piece ∷ pieces) h = put_all P tables piece (by_first_key tables pieces) h.0 (all_by_first P tables pieces h.1)
-
 all_rows : (P : Row → Type 0) (tables : Tables) (pieces : List ℕ) → AllByRecursion P (rows_of tables pieces) → AllByRecursion P (rows_of tables (by_first_key tables pieces))
-all_rows P tables pieces h = all_flat P (table_rows tables) (by_first_key tables pieces) (all_by_first (λ t. AllByRecursion P (table_rows tables t)) tables pieces (all_unflat P (table_rows tables) pieces h))
+all_rows P tables pieces h = all_flat P (table_rows tables) (by_first_key tables pieces) (by_first_all (λ t. AllByRecursion P (table_rows tables t)) tables pieces (all_unflat P (table_rows tables) pieces h))
 
 pub first_key_sorted : (tables : Tables) (pieces : List ℕ) → AreApart (rows_of tables pieces) → sorted_rows (rows_of tables (by_first_key tables pieces)) ≡ sorted_rows (rows_of tables pieces)
 first_key_sorted tables [] h = refl
@@ -134,7 +123,7 @@ first_key_sorted tables (piece ∷ pieces) h =
 -- ---- tables that lie apart are in order
 
 -- The key is below, or equal.
-abbrev UpTo : List ℕ → List ℕ → Type 0
+abbrev pub UpTo : List ℕ → List ℕ → Type 0
 UpTo a b = (a ≡ b) ⊎ (key_cmp a b ≡ Less)
 
 up_to_trans : (a b c : List ℕ) → UpTo a b → UpTo b c → UpTo a c
@@ -214,7 +203,7 @@ move_fits merge store oldest id taken newest ordered are apart = record {
   covered = λ P h. all_append (λ (r : Row). P r.seq) (rows_of tables moved) (flushed_node_rows tables (run_for id moved taken))
       (all_rows (λ (r : Row). P r.seq) tables pieces (subst (AllByRecursion (λ (r : Row). P r.seq)) (sym (rows_of_pieces tables taken)) (held_rows tables (λ (r : Row). P r.seq) taken h)))
       (subst (AllByRecursion (λ (r : Row). P r.seq)) (sym (flushes_of_run tables id moved taken)) (flush_rows tables (λ (r : Row). P r.seq) taken h));
-  ordered = apart_ordered tables moved (all_by_first _ tables pieces are) apart;
+  ordered = apart_ordered tables moved (by_first_all _ tables pieces are) apart;
   reads = λ key. subst (SameReads merge store.manifest oldest key (part_rows true tables key taken)) (same key) (λ s now above below from late last. refl);
 }
   where

@@ -134,7 +134,7 @@ node_not_out x out tree none = find_filter (λ (node : Node). name_eq x node.nam
 pub sources_not_out : (xs out : List NodeName) (tree : Tree) → AllByRecursion (λ x. names_contain out x ≡ false) xs → source_nodes xs (without_nodes out tree) ≡ source_nodes xs tree
 sources_not_out xs out tree h = sources_alike xs (without_nodes out tree) tree (all_to _ _ xs (λ x there none. node_not_out x out tree none) h)
 
-after_itself : (xs o : List NodeName) → after_front xs (xs ++ o) ≡ Some o
+pub after_itself : (xs o : List NodeName) → after_front xs (xs ++ o) ≡ Some o
 after_itself [] o = refl
 after_itself (x ∷ xs) o = ap (λ b. cond b (after_front xs (xs ++ o)) None) (name_itself x) ∙ after_itself xs o
 

@@ -21,7 +21,7 @@ use Rattle.commit_laws.specs.RunReads.{run_for}
 abbrev pub HaveRows : Tables → Tree → Type 0
 HaveRows tables tree = AllByRecursion (λ (node : Node). AllByRecursion (λ t. table_rows tables t ≢ []) node.pieces) tree
 
-first_of : (rows : List Row) → rows ≢ [] → (r : Row) × IsIn r rows
+pub first_of : (rows : List Row) → rows ≢ [] → (r : Row) × IsIn r rows
 first_of [] h = absurd (h refl)
 first_of (r ∷ rows) h = (r, inl refl)
 

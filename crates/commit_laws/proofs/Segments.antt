@@ -1,11 +1,11 @@
 -- What is kept of a segment, and how it is kept where a run replaces some nodes and where nodes are taken out.
 use Rattle.std.proofs.Common.{◌≡◌, refl, sym, ◌∙◌, ap, subst, ℕ, List, [], ◌∷◌, ◌++◌, cond, Bool, true, false, inl, inr, ◌⊎◌, Option, Some, None}
-use Rattle.std.specs.Prelude.{IsTrue, ◌||◌, ◌==◌, not, filter, find, ⊤}
+use Rattle.std.specs.Prelude.{IsTrue, not, filter, ⊤}
 use Rattle.std.specs.List.{AllByRecursion}
 use Rattle.row_model.specs.Lists.{Pairs}
 use Rattle.row_model.specs.Rows.{rows_of_key, sorted_rows}
 use Rattle.row_model.specs.Fold.{Operator}
-use Rattle.fleet_model.specs.Nodes.{Tables, table_rows, rows_or_none, is_among, NodeName, L0, Run, is_l0, names_contain, Node, Tree, Segment, names, node_rows}
+use Rattle.fleet_model.specs.Nodes.{Tables, table_rows, is_among, NodeName, L0, Run, is_l0, names_contain, Node, Tree, Segment, names, node_rows}
 use Rattle.fleet_model.specs.History.{Entry}
 use Rattle.fleet_model.specs.Store.{Store, AreHeld, WerePut, is_held}
 use Rattle.fleet_model.specs.Trees.{without_nodes, watermark_after, l0_or}
@@ -22,16 +22,9 @@ use Rattle.commit_laws.proofs.RunTrees.{HaveRows, tree_named, tree_with_run}
 use Rattle.commit_laws.proofs.TreeReads.{part_rows, tree_to_part, part_to_tree, before_these, part_front, part_back, part_both, part_reads, fewer_reads}
 use Rattle.commit_laws.proofs.RunRows.{RunFits, flushes_of_run}
 use Rattle.commit_laws.specs.RunReads.{run_for, PartKeepsReads}
+use Rattle.step_laws.proofs.Flushes.{table_of}
 
 -- ---- tables that were put have rows
-
-table_of : (tables : Tables) (name : ℕ) → AllByRecursion (λ table. IsTable table.1) tables → IsTrue (is_among tables name) → IsTable (table_rows tables name)
-table_of [] name h put = absurd (cc put)
-table_of (table ∷ tables) name h put = by (table.0 == name) (table_of tables name h.1) put
-  where
-    by : (b : Bool) → (IsTrue (is_among tables name) → IsTable (table_rows tables name)) → IsTrue (b || is_among tables name) → IsTable (rows_or_none (cond b (Some table) (find (λ held. held.0 == name) tables)))
-    by true rest put = h.0
-    by false rest put = rest put
 
 pub held_table : (store : Store) (t : ℕ) → AllByRecursion (λ table. IsTable table.1) store.tables → IsTrue (is_held store t) → IsTable (table_rows store.tables t)
 held_table store t sound held = table_of store.tables t sound (held_put store t held)

@@ -15,8 +15,9 @@ use Rattle.commit_laws.specs.SparedJobs.{IsSpared, CommitsSpareJobs}
 use Rattle.commit_laws.proofs.Stretches.{other_or}
 use Rattle.commit_laws.proofs.JobSteps.{is_done, JobHolds}
 use Rattle.commit_laws.proofs.Midway.{found_job}
-use Rattle.commit_laws.proofs.CommitJobs.{trees_of, manifest_of, CommitCase, done_late, waits_not_late, or_left}
+use Rattle.commit_laws.proofs.CommitJobs.{trees_of, manifest_of, CommitCase, done_late, waits_not_late}
 use Rattle.commit_laws.proofs.Commits.{case_of}
+use Rattle.step_laws.proofs.ManifestBodies.{or_left}
 
 spared : (merge : Operator) (world : World) (specs own : ℕ → JobSpec) (party : Party) (steps : List Step) (c : CommitCase merge world specs own party steps) (job : Job) → IsIn job (stored_jobs world.store) → IsTrue (has_status Scheduled job || has_status Running job)
     → IsSpared world (manifest_of world own steps) job

@@ -19,12 +19,13 @@ use Rattle.step_laws.proofs.NewJobs.{in_new, rise_put, rise_new}
 use Rattle.step_laws.proofs.OpenJobs.{is_open}
 use Rattle.commit_laws.proofs.Midway.{only_job}
 use Rattle.coordinator_laws.proofs.Marks.{Marks, did, did_id, did_spec, did_nothing, UnmarkedAt, marks_of, is_completed, is_failed, done_to}
-use Rattle.coordinator_laws.proofs.Jobs.{Among, HeldApart, JobsReached, from_map, IsRunning, IsSubmitted, IsCompacted, MayEnd, submitted_ends, compacted_ends, in_new_old, in_put_new}
+use Rattle.coordinator_laws.proofs.Jobs.{Among, HeldApart, JobsReached, IsRunning, IsSubmitted, IsCompacted, MayEnd, submitted_ends, compacted_ends, in_new_old, in_put_new}
 use Rattle.coordinator_laws.proofs.Quiet.{JobMoves, Stays, Goes, MovedJob, Moves, id_moves}
 use Rattle.coordinator_laws.proofs.Stages.{jobs_rise}
 use Rattle.step_laws.proofs.OpenJobs.{open_reserves}
-use Rattle.course_laws.proofs.Calls.{in_map}
-use Rattle.coordinator_laws.proofs.Statuses.{status_of, submitted_holds, ends_not_open, ends_not_running}
+use Rattle.coordinator_laws.proofs.Statuses.{status_of, ends_not_open, ends_not_running}
+use Rattle.commit_laws.proofs.AtOnce.{submitted_free}
+use Rattle.step_laws.proofs.Polls.{in_map, from_map}
 
 -- ---- lists with rising ids
 
@@ -62,11 +63,8 @@ same_lists (x ∷ xs) (y ∷ ys) rise up into from =
         let equal = ap (λ (w : Job). w.id) (sym heads ∙ same) in
         absurd (omega (arith, low, equal))
 
-none_some : (A : Type 0) (x : A) → None ≡ Some x → ⊥
+pub none_some : (A : Type 0) (x : A) → None ≡ Some x → ⊥
 none_some A x e = absurd (cc e)
-
-some_same : (a b : Job) → Some a ≡ Some b → a ≡ b
-some_same a b e = cc e
 
 pub same_by_ids : (xs ys : Jobs) → Pairs (λ a b. a.id < b.id) xs → Pairs (λ a b. a.id < b.id) ys → ((id : ℕ) → job_with id xs ≡ job_with id ys) → xs ≡ ys
 same_by_ids xs ys rise up same = same_lists xs ys rise up
@@ -537,7 +535,7 @@ merged_reached got newer p a = record {
 
         old : (b : Job) → did new_marks b ≡ x → MovedJob got b ⊎ (IsSubmitted b × ((other : Job) → IsIn other got → other.id ≡ b.id → ⊥)) → IsIn b newer → Before p x
         old b is (inl m) one = moved b is m m.moves
-        old b is (inr new) one = absurd (submitted_holds x.status (subst IsSubmitted (sym (did_nothing new_marks b (no_mark got newer p a b.id (λ job there same. other job (in_new p.added got job there) same))) ∙ is) new.0) holds)
+        old b is (inr new) one = absurd (submitted_free x.status (subst IsSubmitted (sym (did_nothing new_marks b (no_mark got newer p a b.id (λ job there same. other job (in_new p.added got job there) same))) ∙ is) new.0) holds)
           where
             other : (job : Job) → ((q : ℕ × JobSpec) × (IsIn q p.added × (new_job q ≡ job))) ⊎ IsIn job got → job.id ≡ b.id → ⊥
             other job (inl q) same = a.new q.0 b q.1.0 one (ap (λ (j : Job). j.id) q.1.1 ∙ same)

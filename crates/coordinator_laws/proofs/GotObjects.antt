@@ -30,11 +30,11 @@ use Rattle.rival_laws.proofs.Coordinators.{one_put, put_grows, after_epoch, wait
 use Rattle.rival_laws.proofs.JobsMerged.{IsTaken, open_taken, merge_changed, merge_new}
 use Rattle.rival_laws.proofs.Outcomes.{Outcome, Notes, Deletes, NewTable, NewManifest, NewRecords, outcome}
 use Rattle.course_laws.proofs.Calls.{keeps_after, rivals_hold}
-use Rattle.course_laws.proofs.Held.{refused}
 use Rattle.course_laws.proofs.Later.{entry_by, call_history}
 use Rattle.coordinator_laws.specs.Merges.{GotObjectsMerge, MergedJobsAreStored, LooksKeepFit}
 use Rattle.coordinator_laws.proofs.Adoption.{combined, find_merged}
 use Rattle.coordinator_laws.proofs.Quiet.{HasEpoch, epoch_call, rivals_after}
+use Rattle.rival_laws.proofs.FreeTables.{refused}
 
 -- ---- calls that leave both objects
 

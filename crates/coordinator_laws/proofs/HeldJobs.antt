@@ -18,6 +18,7 @@ use Rattle.coordinator_laws.proofs.Jobs.{IsSubmitted}
 use Rattle.coordinator_laws.proofs.Statuses.{status_of, over_not_open}
 use Rattle.coordinator_laws.proofs.Quiet.{JobMoves, Stays, Goes, MovedJob, Moves, id_moves}
 use Rattle.coordinator_laws.proofs.Adoption.{taken_did}
+use Rattle.rival_laws.proofs.WorkerRecords.{some_same}
 
 -- ---- jobs that a put drops
 
@@ -111,9 +112,6 @@ itself job = by (adopts job.status job.status)
     by : (b : Bool) → Some (cond b job job) ≡ Some job
     by true = refl
     by false = refl
-
-some_same : (x y : Job) → Some x ≡ Some y → x ≡ y
-some_same x y e = cc e
 
 -- A job that was held before and that the poll did not reach is finished, and a finished job that the poll reached outlives it.
 abbrev pub AreOver : Option Local → Jobs → Type 0

@@ -15,17 +15,13 @@ use Rattle.step_laws.proofs.Elements.{IsIn, all_at, all_to, all_push, contains_n
 use Rattle.step_laws.proofs.NewJobs.{in_put, rise_put}
 use Rattle.commit_laws.proofs.Midway.{only_job, apart_turned}
 use Rattle.coordinator_laws.proofs.Marks.{Marks, did, did_id, did_nothing, did_unmarked, UnmarkedAt, change_one, marks_of, with_completed, with_failed, with_opened, add_tables, completes, fails, opens, completes_other, fails_other, opens_other, contains_push, firsts_push, done_push, moved_push, drained_push, lost_push, refused_push}
+use Rattle.step_laws.proofs.Polls.{from_map}
 
 -- ---- elements
 
 -- A job with this id is among these, and the property holds of it.
 abbrev pub Among : (Job → Type 0) → Jobs → ℕ → Type 0
 Among P jobs id = (job : Job) × (IsIn job jobs × ((job.id ≡ id) × P job))
-
-pub from_map : {A B : Type 0} (f : A → B) (xs : List A) (y : B) → IsIn y (map f xs) → (x : A) × (IsIn x xs × (f x ≡ y))
-from_map f [] y there = absurd there
-from_map f (x ∷ xs) y (inl same) = (x, (inl refl, same))
-from_map f (x ∷ xs) y (inr there) = let found = from_map f xs y there in (found.0, (inr found.1.0, found.1.1))
 
 pub in_put_old : (new : Job) (jobs : Jobs) (job : Job) → IsIn job jobs → IsIn job (put_job new jobs)
 in_put_old new [] job there = absurd there

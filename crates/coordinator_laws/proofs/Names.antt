@@ -32,18 +32,18 @@ use Rattle.step_laws.proofs.MuteBodies.{entered, faithful_before, Matches}
 use Rattle.step_laws.proofs.RecordsBodies.{faithful_before_records}
 use Rattle.step_laws.proofs.Replays.{replayed_push}
 use Rattle.step_laws.proofs.Respecs.{body_by, named_agree}
-use Rattle.step_laws.proofs.TableBodies.{with_table, same_with_table}
+use Rattle.step_laws.proofs.TableBodies.{with_table, same_with_table, faithful_with_table}
 use Rattle.rival_laws.proofs.Outcomes.{Outcome, Notes, Deletes, NewTable, NewManifest, NewRecords, outcome, put_manifest}
-use Rattle.rival_laws.proofs.WorkerCalls.{faithful_with_table}
-use Rattle.course_laws.proofs.Calls.{rivals_hold, in_map}
+use Rattle.course_laws.proofs.Calls.{rivals_hold}
 use Rattle.course_laws.proofs.Later.{entry_by, call_history}
 use Rattle.course_laws.proofs.NewIds.{AreFresh, names_fit, are_new, others_mention_none, entry_same}
 use Rattle.commit_laws.proofs.CommitSteps.{steps_keep}
 use Rattle.commit_laws.proofs.CommitJobs.{entry_of, manifest_of}
 use Rattle.commit_laws.proofs.Commits.{start, faithful_after}
 use Rattle.commit_laws.proofs.Midway.{KnownCase, Stored, New, known_case}
-use Rattle.course_laws.proofs.Held.{refused}
 use Rattle.course_laws.proofs.NewIds.{drew_grows}
+use Rattle.step_laws.proofs.Polls.{in_map}
+use Rattle.rival_laws.proofs.FreeTables.{refused}
 
 -- The party drew the ids of these jobs, and no put that took effect named them. Each replay may have their specs.
 pub record MayName (party : Party) (world : World) (named : List (ℕ × JobSpec)) : Type 0 where

@@ -24,23 +24,22 @@ use Rattle.step_laws.proofs.Elements.{IsIn, all_at, all_to, all_push, contains_i
 use Rattle.step_laws.proofs.Deletions.{in_filter}
 use Rattle.step_laws.proofs.Bodies.{whole_of}
 use Rattle.step_laws.proofs.PollJobs.{tree_has}
-use Rattle.step_laws.proofs.TableReplays.{TreesAll, step_all, sources_all}
-use Rattle.commit_laws.proofs.MoveRows.{all_by_first}
+use Rattle.step_laws.proofs.TableReplays.{TreesAll, step_all, sources_all, by_first_all}
 use Rattle.rival_laws.proofs.WorkerFollows.{from_filter}
-use Rattle.course_laws.proofs.Calls.{in_map}
 use Rattle.commit_laws.specs.After.{joined_by}
 use Rattle.commit_laws.proofs.JobSteps.{OutAt, stand_on_run, stand_on_out}
 use Rattle.commit_laws.proofs.Midway.{only_job}
 use Rattle.commit_laws.proofs.Segments.{SegmentFits, segment_named, in_order}
 use Rattle.commit_laws.proofs.Steps.{found_there}
 use Rattle.commit_laws.proofs.TreeReads.{with_horizon}
-use Rattle.commit_laws.proofs.AtOnce.{NewMove, move_found, run_of_move, gated}
+use Rattle.commit_laws.proofs.AtOnce.{NewMove, move_found, run_of_move, gated, submitted_free}
 use Rattle.coordinator_laws.proofs.Marks.{did, did_id, did_spec, marks_of, is_completed, is_failed, done_to}
-use Rattle.coordinator_laws.proofs.Jobs.{Among, JobsReached, from_map, IsSubmitted, submitted_ends, in_new_old, IsAwayFrom}
+use Rattle.coordinator_laws.proofs.Jobs.{Among, JobsReached, IsSubmitted, submitted_ends, in_new_old, IsAwayFrom}
 use Rattle.coordinator_laws.proofs.Gates.{submittable, passes_beside, free_of, is_free_if, opened_stands}
 use Rattle.coordinator_laws.proofs.Reached.{Case, TreesReached, MidwayAt, midway_at, Source, IsStored, IsNew, source_of, known_of, named_by, parts, cuts, fits_push, stepped_push, horizon_push, joined_push, specs_on}
-use Rattle.course_laws.proofs.Held.{refused}
-use Rattle.coordinator_laws.proofs.Statuses.{submitted_holds, scheduled_holds, submitted_scheduled}
+use Rattle.coordinator_laws.proofs.Statuses.{scheduled_holds, submitted_scheduled}
+use Rattle.step_laws.proofs.Polls.{in_map, from_map}
+use Rattle.rival_laws.proofs.FreeTables.{refused}
 
 -- ---- what stored jobs hold, the poll's jobs hold
 
@@ -89,7 +88,7 @@ held_by {merge} {party} {h} {input} {got} {drawn} {start} {own} {horizon} {p} c 
     of_own P one = subst P (only_job (with_new p.added got) one.0 b r.rise one.1.0 among one.1.1.0) one.1.1.1
 
     no_submitted : (ids : List ℕ) → AllByRecursion (Among IsSubmitted (with_new p.added got)) ids → IsTrue (contains ids b.id) → ⊥
-    no_submitted ids all one = submitted_holds b.status (of_own IsSubmitted (all_at (Among IsSubmitted (with_new p.added got)) ids b.id all (contains_in ids b.id one))) own_holds
+    no_submitted ids all one = submitted_free b.status (of_own IsSubmitted (all_at (Among IsSubmitted (with_new p.added got)) ids b.id all (contains_in ids b.id one))) own_holds
 
     not_done : IsTrue (contains p.done b.id) → ⊥
     not_done one = refused (contains (joined_by p.steps []) s.id) unjoined (subst (λ n. IsTrue (contains (joined_by p.steps []) n)) found.1.1.0 (t.joined b.id ∙ one))
@@ -217,7 +216,7 @@ put_first_same a b piece (q ∷ ps) one h =
 
 by_first_same : (a b : Tables) (ps : List ℕ) → AllByRecursion (λ id. table_rows b id ≡ table_rows a id) ps → by_first_key a ps ≡ by_first_key b ps
 by_first_same a b [] h = refl
-by_first_same a b (p ∷ ps) h = put_first_same a b p (by_first_key a ps) h.0 (all_by_first _ a ps h.1) ∙ ap (put_by_first_key b p) (by_first_same a b ps h.1)
+by_first_same a b (p ∷ ps) h = put_first_same a b p (by_first_key a ps) h.0 (by_first_all _ a ps h.1) ∙ ap (put_by_first_key b p) (by_first_same a b ps h.1)
 
 apart_same : (a b : Tables) (ps : List ℕ) → AllByRecursion (λ id. table_rows b id ≡ table_rows a id) ps → are_apart a ps ≡ are_apart b ps
 apart_same a b [] h = refl
@@ -354,7 +353,7 @@ trees_moved {merge} {party} {h} {input} {got} {drawn} {start} {own} {horizon} {p
     apart : IsTrue (is_nonempty (by_first_key h.store.tables pieces)) × IsTrue (are_apart h.store.tables (by_first_key h.store.tables pieces))
     apart = subst (λ ps. IsTrue (is_nonempty ps) × IsTrue (are_apart h.store.tables ps)) (by_first_same input.tables h.store.tables pieces all_rows)
         (let both = three input.options.moves (is_nonempty (by_first_key input.tables pieces)) (are_apart input.tables (by_first_key input.tables pieces)) may in
-        (both.0, sym (apart_same input.tables h.store.tables (by_first_key input.tables pieces) (all_by_first _ input.tables pieces all_rows)) ∙ both.1))
+        (both.0, sym (apart_same input.tables h.store.tables (by_first_key input.tables pieces) (by_first_all _ input.tables pieces all_rows)) ∙ both.1))
 
     moves_same : stepped_in input.tables (Move job.id) job.spec [] p.trees ≡ stepped_in h.store.tables (Move job.id) job.spec [] p.trees
     moves_same = move_same input.tables h.store.tables job.id job.spec p.trees (trees_rows p.trees t.pieces)

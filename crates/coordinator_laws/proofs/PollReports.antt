@@ -130,7 +130,7 @@ draws_done {A} {B} who moment pairs (x ∷ xs) next world last answer keep fresh
 
 -- ---- the puts of the records
 
-got_version : (records : Option Records) → (records_or_none records).version ≡ records_version records
+pub got_version : (records : Option Records) → (records_or_none records).version ≡ records_version records
 got_version None = refl
 got_version (Some records) = refl
 

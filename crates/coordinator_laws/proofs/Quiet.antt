@@ -42,9 +42,9 @@ use Rattle.rival_laws.proofs.Outcomes.{Outcome, Notes, Deletes, NewTable, NewMan
 use Rattle.rival_laws.proofs.Coordinators.{one_put, put_grows, after_epoch, waiting_open}
 use Rattle.rival_laws.proofs.JobsMerged.{StayActive, changed_stay, is_trimmed, trimmed_is, new_trimmed}
 use Rattle.rival_laws.proofs.WorkerManifests.{differ_on}
-use Rattle.coordinator_laws.proofs.Jobs.{IsSubmitted, from_map, in_new_old}
+use Rattle.coordinator_laws.proofs.Jobs.{IsSubmitted, in_new_old}
 use Rattle.step_laws.proofs.OpenJobs.{open_not_submitted}
-use Rattle.course_laws.proofs.Calls.{in_map}
+use Rattle.step_laws.proofs.Polls.{in_map, from_map}
 
 -- ---- jobs
 

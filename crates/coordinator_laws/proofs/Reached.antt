@@ -24,7 +24,7 @@ use Rattle.step_laws.proofs.Bodies.{Body, JobKept, whole_of}
 use Rattle.step_laws.proofs.Changed.{by_these, all_on_these}
 use Rattle.step_laws.proofs.NewJobs.{in_new}
 use Rattle.step_laws.proofs.TableReplays.{TreesAll, step_all}
-use Rattle.rival_laws.proofs.CommitsOldest.{outputs_are}
+use Rattle.step_laws.proofs.KnownJobs.{outputs_are}
 use Rattle.commit_laws.specs.After.{joined_by}
 use Rattle.commit_laws.proofs.CommitSteps.{steps_keep}
 use Rattle.commit_laws.proofs.JobSteps.{JobHolds, is_done}
@@ -36,8 +36,8 @@ use Rattle.coordinator_laws.proofs.Marks.{contains_push}
 use Rattle.coordinator_laws.proofs.Jobs.{Among, HeldApart, JobsReached, is_own, MayEnd, IsSubmitted, IsCompacted, compacted_ends}
 use Rattle.coordinator_laws.proofs.Names.{IsNamed}
 use Rattle.coordinator_laws.proofs.Gates.{commits_too, lost_by_scheduler}
-use Rattle.course_laws.proofs.Held.{refused}
 use Rattle.coordinator_laws.proofs.Statuses.{submitted_compacted}
+use Rattle.rival_laws.proofs.FreeTables.{refused}
 
 -- ---- one more step
 

@@ -18,12 +18,13 @@ use Rattle.step_model.specs.Entries.{did_put_epoch}
 use Rattle.step_model.specs.LawfulRecords.{OfSome, AreNew, RecordsFit}
 use Rattle.step_laws.proofs.Elements.{IsIn, all_at, all_from, all_to, all_append, contains_in}
 use Rattle.step_laws.proofs.Changed.{on_these, found_job, pairs_trimmed}
-use Rattle.step_laws.proofs.Polls.{poll_on, poll_map}
+use Rattle.step_laws.proofs.Polls.{poll_on, poll_map, from_map}
 use Rattle.step_laws.proofs.TableReplays.{all_trimmed}
 use Rattle.commit_laws.proofs.Midway.{only_job}
 use Rattle.coordinator_laws.proofs.Marks.{did, did_id, did_spec, marks_of, is_completed, is_failed, done_to, done_id, done_spec}
-use Rattle.coordinator_laws.proofs.Jobs.{Among, JobsReached, from_map, IsRunning, IsSubmitted, IsCompacted, MayEnd, submitted_ends, compacted_ends}
+use Rattle.coordinator_laws.proofs.Jobs.{Among, JobsReached, IsRunning, IsSubmitted, IsCompacted, MayEnd, submitted_ends, compacted_ends}
 use Rattle.coordinator_laws.proofs.Stages.{jobs_rise}
+use Rattle.course_laws.proofs.Sweeps.{all_ordered}
 
 -- ---- ids in order
 
@@ -68,18 +69,6 @@ contains_both (x ∷ xs) ys n = by (x == n) (contains_both xs ys n)
     by : (b : Bool) → contains (xs ++ ys) n ≡ (contains xs n || contains ys n) → cond b true (contains (xs ++ ys) n) ≡ (cond b true (contains xs n) || contains ys n)
     by true e = refl
     by false e = e
-
-all_put : (P : ℕ → Type 0) (id : ℕ) (xs : List ℕ) → P id → AllByRecursion P xs → AllByRecursion P (put_id id xs)
-all_put P id [] one h = (one, tt)
-all_put P id (x ∷ xs) one h = by (nat_lt id x) (all_put P id xs one h.1)
-  where
-    by : (b : Bool) → AllByRecursion P (put_id id xs) → AllByRecursion P (cond b (id ∷ x ∷ xs) (x ∷ put_id id xs))
-    by true rest = (one, h)
-    by false rest = (h.0, rest)
-
-all_ordered : (P : ℕ → Type 0) (xs : List ℕ) → AllByRecursion P xs → AllByRecursion P (in_id_order xs)
-all_ordered P [] h = tt
-all_ordered P (x ∷ xs) h = all_put P x (in_id_order xs) h.0 (all_ordered P xs h.1)
 
 -- ---- what the change makes of a job
 

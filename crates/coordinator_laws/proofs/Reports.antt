@@ -27,8 +27,6 @@ use Rattle.step_laws.proofs.NewJobs.{in_new}
 use Rattle.step_laws.proofs.Grown.{named_grows}
 use Rattle.step_laws.proofs.RecordsBodies.{with_records, world_with_records}
 use Rattle.rival_laws.proofs.JobsMerged.{none_with}
-use Rattle.course_laws.proofs.Calls.{in_map}
-use Rattle.course_laws.proofs.Held.{refused}
 use Rattle.course_laws.proofs.NewIds.{stored_named}
 use Rattle.course_laws.proofs.Puts.{got_records}
 use Rattle.coordinator_laws.specs.Locals.{job_held, IsAfter}
@@ -37,10 +35,13 @@ use Rattle.coordinator_laws.proofs.Jobs.{JobsReached, from_of, in_new_old, submi
 use Rattle.coordinator_laws.proofs.Statuses.{over_not_running, over_not_ending}
 use Rattle.coordinator_laws.proofs.Stages.{jobs_rise}
 use Rattle.coordinator_laws.proofs.Quiet.{moves_itself, id_moves}
-use Rattle.coordinator_laws.proofs.Adoption.{Adopts, MarksFit, marks_fit}
+use Rattle.coordinator_laws.proofs.Adoption.{Adopts, MarksFit, marks_fit, none_some}
 use Rattle.coordinator_laws.proofs.Tries.{Good, Puts}
 use Rattle.coordinator_laws.proofs.HeldJobs.{Outlives, outlives, outlived, JobsMergeIfThere, merge_put, merge_still}
 use Rattle.coordinator_laws.proofs.Keeping.{Older, Keeping, with_manifest_of}
+use Rattle.rival_laws.proofs.WorkerRecords.{some_same}
+use Rattle.step_laws.proofs.Polls.{in_map}
+use Rattle.rival_laws.proofs.FreeTables.{refused}
 
 -- What is so after a poll that reports, as long as no stored epoch is above the coordinator's: the jobs that it reached rise, and each local
 -- state that is after the poll merges into the stored objects.
@@ -49,12 +50,6 @@ pub record After (c : LiveCoordinator) (before : Option Local) (p : PollState) (
   pub fits : new.store.manifest.epoch ≤ c.epoch → records_epoch new.store.records ≤ c.epoch → (held : Local) → IsAfter before p held → Merges held new.store × LocalIsKnown new held
 
 -- ---- jobs that were held before
-
-none_some : (A : Type 0) (x : A) → None ≡ Some x → ⊥
-none_some A x e = absurd (cc e)
-
-some_same : (x y : Job) → Some x ≡ Some y → x ≡ y
-some_same x y e = cc e
 
 older_jobs : (c : LiveCoordinator) (before : Option Local) (world : World) (o : Older c before world) → world.store.manifest.epoch ≤ c.epoch → records_epoch world.store.records ≤ c.epoch → JobsMergeIfThere before (stored_jobs world.store)
 older_jobs c before world o manifest records = by before (o.holds.merges manifest records)
@@ -222,9 +217,9 @@ none_first : {A : Type 0} (xs : List (ℕ × A)) → is_nonempty (firsts xs) ≡
 none_first [] e = refl
 none_first (x ∷ xs) e = absurd (cc e)
 
-none_put : (id : ℕ) (xs : List ℕ) → is_nonempty (put_id id xs) ≡ true
-none_put id [] = refl
-none_put id (x ∷ xs) = by (nat_lt id x)
+pub put_some : (id : ℕ) (xs : List ℕ) → is_nonempty (put_id id xs) ≡ true
+put_some id [] = refl
+put_some id (x ∷ xs) = by (nat_lt id x)
   where
     by : (b : Bool) → is_nonempty (cond b (id ∷ x ∷ xs) (x ∷ put_id id xs)) ≡ true
     by true = refl
@@ -232,7 +227,7 @@ none_put id (x ∷ xs) = by (nat_lt id x)
 
 none_ordered : (xs : List ℕ) → is_nonempty (in_id_order xs) ≡ false → xs ≡ []
 none_ordered [] e = refl
-none_ordered (x ∷ xs) e = absurd (cc (e, none_put x (in_id_order xs)))
+none_ordered (x ∷ xs) e = absurd (cc (e, put_some x (in_id_order xs)))
 
 none_both : {A : Type 0} (xs ys : List A) → xs ++ ys ≡ [] → (xs ≡ []) × (ys ≡ [])
 none_both [] ys e = (refl, e)

@@ -6,7 +6,7 @@ use Rattle.std.specs.Cmp.Lexicographic.{pointwise}
 use Rattle.std.proofs.lemmas.Slice.Eq.{bytes_eq-Decides}
 use Rattle.row_model.specs.Fold.{Operator}
 use Rattle.fleet_model.specs.Nodes.{NodeName, L0, Run, name_eq, is_l0, names_contain, Node, Tree, Segment, Tables, Trees, tree_at}
-use Rattle.fleet_model.specs.Jobs.{JobSpec, is_drain, Job, Scheduled, Running, Compacted, has_status, job_with}
+use Rattle.fleet_model.specs.Jobs.{JobSpec, is_drain, Scheduled, Running, Compacted, has_status}
 use Rattle.fleet_model.specs.History.{Party, Step, Join, Move, Drain}
 use Rattle.fleet_model.specs.Store.{stored_jobs}
 use Rattle.fleet_model.specs.Trees.{without_nodes, is_run_below, put_run, with_run_for, to_run, by_first_key, source_pieces, l0_or, watermark_after, stepped_tree, stepped_in, stepped_all, job_of}
@@ -17,9 +17,10 @@ use Rattle.step_model.specs.LawfulManifests.{StepsFit, StepFits, joined_after, I
 use Rattle.step_model.specs.Kept.Keeps.{Keeps}
 use Rattle.step_model.specs.Steps.PollSteps.{node_eq, same_tree}
 use Rattle.step_laws.proofs.Elements.{IsIn, all_at}
-use Rattle.rival_laws.proofs.CommitsOldest.{outputs_are}
+use Rattle.step_laws.proofs.KnownJobs.{known_spec}
+use Rattle.step_laws.proofs.KnownJobs.{outputs_are}
 use Rattle.commit_laws.proofs.Stretches.{name_same}
-use Rattle.commit_laws.proofs.Midway.{KnownCase, Stored, New, known_case, found_job}
+use Rattle.commit_laws.proofs.Midway.{found_job}
 use Rattle.course_laws.proofs.Calls.{both}
 
 -- ---- how many flushes a tree has
@@ -161,19 +162,6 @@ not_drain trees tree sources spec fits = by spec.destination fits
     by None h = absurd h
     by (Some id) h = refl
 
-known_spec : (party : Party) (world : World) (own : ℕ → JobSpec) (id : ℕ) (job : Job) → job_with id (stored_jobs world.store) ≡ Some job → IsKnownTo party world own id → own id ≡ job.spec
-known_spec party world own id job e known = by (known_case party world own id known)
-  where
-    same_some : (x : Job) → Some x ≡ Some job → x ≡ job
-    same_some x e = cc e
-
-    clash : None ≡ Some job → ⊥
-    clash f = absurd (cc f)
-
-    by : KnownCase party world own id → own id ≡ job.spec
-    by (Stored x there found same is) = is ∙ ap (λ (j : Job). j.spec) (same_some x (sym found ∙ e))
-    by (New none drew unmentioned) = absurd (clash (sym none ∙ e))
-
 one_drops : (merge : Operator) (world : World) (party : Party) (own : ℕ → JobSpec) (trees : Trees) (joined : List ℕ) (step : Step) → Keeps merge world → IsKnownTo party world own (job_of step) → StepFits world trees joined (own (job_of step)) step
     → AllDrop trees (stepped_in world.store.tables step (own (job_of step)) (outputs_in world.store.records (job_of step)) trees)
 one_drops merge world party own trees joined (Drain id) k known fits = step_drops world.store.tables (Drain id) (own id) (outputs_in world.store.records id) trees tt
@@ -209,7 +197,7 @@ steps_drop merge world party own trees joined (step ∷ steps) k known fits =
 
 -- ---- the same nodes
 
-node_same : (a b : Node) → node_eq a b ≡ true → a ≡ b
+pub node_same : (a b : Node) → node_eq a b ≡ true → a ≡ b
 node_same a b e =
     let first = both (name_eq a.name b.name && bytes_eq a.flushes b.flushes) (bytes_eq a.pieces b.pieces) e in
     let second = both (name_eq a.name b.name) (bytes_eq a.flushes b.flushes) first.0 in

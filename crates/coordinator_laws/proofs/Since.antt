@@ -41,8 +41,8 @@ use Rattle.coordinator_laws.proofs.Quiet.{JobMoves, Stays, Goes, MovedJob, Moves
 use Rattle.coordinator_laws.proofs.Transfer.{AreKept, kept_outcome, rivals_kept, midway_from}
 use Rattle.coordinator_laws.proofs.Adoption.{ends_stays}
 use Rattle.step_laws.proofs.OpenJobs.{open_reserves}
-use Rattle.course_laws.proofs.Held.{refused}
-use Rattle.coordinator_laws.proofs.Statuses.{submitted_holds}
+use Rattle.commit_laws.proofs.AtOnce.{submitted_free}
+use Rattle.rival_laws.proofs.FreeTables.{refused}
 
 -- ---- what is so since a get
 
@@ -195,7 +195,7 @@ case_at who e m r h got ask drawn lawful g s fresh low = record {
         at : JobMoves f.job x → (f.job.id ≡ x.id) × ((f.job.spec ≡ x.spec) × IsTrue (reserves_nodes f.job))
         at (Stays is) = (ap (λ (j : Job). j.id) (sym is), (ap (λ (j : Job). j.spec) (sym is), subst (λ (j : Job). IsTrue (reserves_nodes j)) is holds))
         at (Goes was goes id spec tables) = (sym id, (sym spec, open_reserves f.job.status was))
-    holder x holds (inr new) = absurd (submitted_holds x.status new.0 holds)
+    holder x holds (inr new) = absurd (submitted_free x.status new.0 holds)
 
     by : (x y : Job) → HoldApart x y ⊎ HoldApart y x → HoldApart x y
     by x y (inl one) first second = one first second

@@ -13,14 +13,6 @@ status_of Completed Completed h = refl
 status_of Failed Failed h = refl
 status_of s t h = absurd (cc h)
 
-pub submitted_holds : (s : Status) → IsTrue (status_eq Submitted s) → IsTrue (status_eq Scheduled s || status_eq Running s || status_eq Compacted s) → ⊥
-submitted_holds Submitted h k = absurd (cc k)
-submitted_holds Scheduled h k = absurd (cc h)
-submitted_holds Running h k = absurd (cc h)
-submitted_holds Compacted h k = absurd (cc h)
-submitted_holds Completed h k = absurd (cc h)
-submitted_holds Failed h k = absurd (cc h)
-
 pub scheduled_holds : (s : Status) → IsTrue (status_eq Scheduled s) → IsTrue (status_eq Scheduled s || status_eq Running s || status_eq Compacted s)
 scheduled_holds Scheduled h = refl
 scheduled_holds Submitted h = absurd (cc h)

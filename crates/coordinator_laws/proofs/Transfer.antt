@@ -35,8 +35,9 @@ use Rattle.commit_laws.proofs.Midway.{Midway}
 use Rattle.coordinator_laws.proofs.Jobs.{IsSubmitted}
 use Rattle.coordinator_laws.proofs.Quiet.{JobMoves, Stays, Goes, MovedJob, Quiet}
 use Rattle.step_laws.proofs.OpenJobs.{open_not_late}
-use Rattle.course_laws.proofs.Held.{refused}
-use Rattle.coordinator_laws.proofs.Statuses.{submitted_holds, submitted_compacted, open_cases, holds_cases}
+use Rattle.coordinator_laws.proofs.Statuses.{submitted_compacted, open_cases, holds_cases}
+use Rattle.commit_laws.proofs.AtOnce.{submitted_free}
+use Rattle.rival_laws.proofs.FreeTables.{refused}
 
 -- ---- what is kept of the trees, call by call
 
@@ -190,8 +191,8 @@ midway_from merge m u k q kept = record { kept = kept; jobs = all_from _ (stored
       again = λ compacted done. again s f compacted done;
     }
     holds s (inr new) = record {
-      stand = λ reserves undone stand. absurd (submitted_holds s.status new.0 reserves);
-      oldest = λ reserves undone stand last. absurd (submitted_holds s.status new.0 reserves);
+      stand = λ reserves undone stand. absurd (submitted_free s.status new.0 reserves);
+      oldest = λ reserves undone stand last. absurd (submitted_free s.status new.0 reserves);
       unused = λ t none active undone named there. unused t none there;
       again = λ compacted done. absurd (submitted_compacted s.status new.0 compacted);
     }

@@ -35,7 +35,7 @@ use Rattle.coordinator_laws.proofs.RecordsPut.{put_fits}
 use Rattle.coordinator_laws.proofs.Quiet.{Moves, moves_itself, moves_on, Quiet, HasEpoch, rivals_after}
 use Rattle.coordinator_laws.proofs.Names.{MayName, fits_to_name, rivals_named, own_noted, own_refused}
 use Rattle.coordinator_laws.proofs.Adoption.{Adopts, merged_reached, merged_opened}
-use Rattle.course_laws.proofs.Held.{refused}
+use Rattle.rival_laws.proofs.FreeTables.{refused}
 
 -- What is so of the poll's state as long as no later epoch is in the records: its jobs are marks of those that it got, the stored jobs are those
 -- that these moved to, and the sources of the jobs that it opened stand.

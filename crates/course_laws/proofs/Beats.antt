@@ -34,9 +34,10 @@ use Rattle.step_laws.proofs.Elements.{IsIn, all_at, all_from, all_back, all_true
 use Rattle.step_laws.proofs.TableReplays.{all_filter}
 use Rattle.course_laws.specs.Beats.{BeatsAreLawful}
 use Rattle.course_laws.proofs.Later.{Later, later_itself, later_met}
-use Rattle.course_laws.proofs.Puts.{got_records, no_names, over_got, filter_passes}
+use Rattle.course_laws.proofs.Puts.{got_records, over_got, filter_passes}
 use Rattle.course_laws.proofs.Calls.{keeps_after, pairs_filter, all_map}
 use Rattle.course_laws.proofs.OwnCalls.{RivalsKeepWorker, rivals_keep_worker, holds_got, holds_refused}
+use Rattle.step_laws.proofs.MidwayCalls.{unnamed}
 
 -- ---- what a store and a worker have in common
 
@@ -103,7 +104,7 @@ are_ready who w world by fit =
     }
 
 -- What a heartbeat publishes, and when.
-abbrev beat_unrecorded : ℕ → List Attempt → Unrecorded
+abbrev pub beat_unrecorded : ℕ → List Attempt → Unrecorded
 beat_unrecorded moment live = record { moment = moment; published = published_by live; kept_cut = None; tables_of = λ spec. [] }
 
 beat_fits : (who : Caller) (w : LiveWorker) (world : World) (moment : ℕ) (live : List Attempt) → who.party ≡ Worker w.number → AreReady who w world live
@@ -130,7 +131,7 @@ Tries who w again = (version : ℕ) (world : World) → Fit who w world → IsLa
 put_fits : (who : Caller) (w : LiveWorker) (moment : ℕ) (old new : World) (got : Records) (live : List Attempt) → who.party ≡ Worker w.number → old.store.records ≡ Some got → Later old new → Fit who w new → live_attempts got.jobs w ≡ live
     → Lawful who.merge who.party new (PutsRecords got.version (Beat w.number (named_attempts live)) got.epoch (jobs_after (beat_unrecorded moment live) (Beat w.number (named_attempts live)) got.jobs))
 put_fits who w moment old new got live by is later fit these = (
-  no_names who.party new,
+  unnamed who.party new,
   λ version.
       let same = got_records old new (Some got) is later version in
       let all : live_attempts (stored_jobs new.store) w ≡ live = ap (λ r. live_attempts (jobs_in r) w) same ∙ these in

@@ -1,5 +1,5 @@
 -- Calls after which the invariant holds, gets and notes one after the other, and elements of lists.
-use Rattle.std.proofs.Common.{◌≡◌, refl, sym, ap, subst, ℕ, zero, suc, List, [], ◌∷◌, cond, Bool, true, false, inl, inr, None, take}
+use Rattle.std.proofs.Common.{◌≡◌, refl, sym, subst, ℕ, zero, suc, List, [], ◌∷◌, cond, Bool, true, false, inl, inr, None, take}
 use Rattle.std.specs.Prelude.{IsTrue, ◌&&◌, filter, map, ◌||◌, ◌⊎◌}
 use Rattle.std.specs.List.{AllByRecursion}
 use Rattle.row_model.specs.Lists.{Pairs}
@@ -48,10 +48,6 @@ pub or_cases : (a b : Bool) → (a || b) ≡ true → (a ≡ true) ⊎ (b ≡ tr
 or_cases true b e = inl refl
 or_cases false b e = inr e
 
-pub and_first : (a b : Bool) → (a && b) ≡ true → a ≡ true
-and_first true b e = refl
-and_first false b e = absurd (cc e)
-
 pub pairs_filter : {A : Type 0} (R : A → A → Type 0) (p : A → Bool) (xs : List A) → Pairs R xs → Pairs R (filter p xs)
 pairs_filter R p [] h = tt
 pairs_filter R p (x ∷ xs) h = by (p x) (pairs_filter R p xs h.1)
@@ -82,11 +78,6 @@ filtered {A} p (x ∷ xs) = by (p x) refl (all_to _ _ (filter p xs) (λ y there 
 pub all_map : {A B : Type 0} (P : B → Type 0) (f : A → B) (xs : List A) → AllByRecursion (λ x. P (f x)) xs → AllByRecursion P (map f xs)
 all_map P f [] h = tt
 all_map P f (x ∷ xs) h = (h.0, all_map P f xs h.1)
-
-pub in_map : {A B : Type 0} (f : A → B) (xs : List A) (x : A) → IsIn x xs → IsIn (f x) (map f xs)
-in_map f [] x there = absurd there
-in_map f (y ∷ xs) x (inl same) = inl (ap f same)
-in_map f (y ∷ xs) x (inr there) = inr (in_map f xs x there)
 
 -- ---- what calls of others leave
 

@@ -30,8 +30,11 @@ use Rattle.step_laws.proofs.Changed.{found_job}
 use Rattle.step_laws.proofs.TableReplays.{all_filter}
 use Rattle.course_laws.specs.Claims.{ClaimsAreLawful}
 use Rattle.course_laws.proofs.Later.{Later, later_itself, later_met, later_then, later_by, rivals_later, call_history}
-use Rattle.course_laws.proofs.Puts.{got_records, no_names, over_got}
-use Rattle.course_laws.proofs.Calls.{keeps_after, calls_lawful, done_later, and_first, pairs_filter, all_take, pairs_take, filtered, all_map, in_map}
+use Rattle.course_laws.proofs.Puts.{got_records, over_got}
+use Rattle.course_laws.proofs.Calls.{keeps_after, calls_lawful, done_later, pairs_filter, all_take, pairs_take, filtered, all_map}
+use Rattle.step_laws.proofs.Polls.{in_map}
+use Rattle.rival_laws.proofs.JobsMerged.{and_first}
+use Rattle.step_laws.proofs.MidwayCalls.{unnamed}
 
 -- ---- the claimed jobs
 
@@ -72,7 +75,7 @@ claim_fits who w new got these by same c = record {
 put_fits : (who : Caller) (moment : ℕ) (w : LiveWorker) (old new : World) (got : Records) (these : Jobs) → who.party ≡ Worker w.number → old.store.records ≡ Some got → Later old new → Chosen got.jobs these
     → let change = Claim w.number (map next_attempt these) in Lawful who.merge who.party new (PutsRecords got.version change got.epoch (jobs_after (at_moment moment) change got.jobs))
 put_fits who moment w old new got these by is later c = (
-  no_names who.party new,
+  unnamed who.party new,
   λ version.
       let same = got_records old new (Some got) is later version in
       over_got who.merge who.party new got (Claim w.number (map next_attempt these)) (at_moment moment) got.epoch same (λ r there stored. rw stored there) refl (claim_fits who w new got these by same c),

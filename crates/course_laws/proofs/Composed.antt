@@ -1,13 +1,14 @@
 -- Two courses, one after the other: their runs, and when both are lawful.
-use Rattle.std.proofs.Common.{◌≡◌, refl, sym, ◌∙◌, subst, true, [], Option, None, inl, inr}
+use Rattle.std.proofs.Common.{◌≡◌, refl, sym, ◌∙◌, subst, true, Option, None, inl, inr}
 use Rattle.fleet_model.specs.Exchanges.{Fault, event_of}
 use Rattle.fleet_model.specs.Store.{Store}
 use Rattle.step_model.specs.Past.{World}
-use Rattle.step_model.specs.Rivals.{Caller, Rivals, after_call}
+use Rattle.step_model.specs.Rivals.{Caller, after_call}
 use Rattle.step_model.specs.Courses.Course.{Course, Ends, Calls, then_course}
 use Rattle.step_model.specs.Courses.CourseRuns.{End, Gives, MeetsFault, LacksMemory, Runs, IsLawfulCourse}
 use Rattle.step_model.specs.Courses.Ran.{Ran, Spares, Strikes}
 use Rattle.course_laws.specs.Composed.{RanOn, RanThen, GoesOn, IsStruck, Lacks, Composes, LoopsCompose}
+use Rattle.rival_laws.proofs.Runs.{rivals_none}
 
 -- ---- runs of both
 
@@ -27,13 +28,10 @@ then_struck who (Ends answer) second old new run = absurd run.1
 then_struck who (Calls x next) second old new (met, (rivals, inl stops)) = (met, (rivals, inl stops))
 then_struck {A} {B} who (Calls x next) second old new (met, (rivals, inr (room, run))) = (met, (rivals, inr (room, then_struck {A = A} {B = B} who (next met.store) second _ new run)))
 
-no_rivals : (who : Caller) (world : World) → Rivals who world world
-no_rivals who world = record { calls = []; lead = refl; none = λ alone. refl }
-
 -- Memory may run out as a course begins.
 lacks_now : {A : Type 0} (who : Caller) (course : Course A) (old new : World) → old ≡ new → Runs who course old new LacksMemory
 lacks_now who (Ends answer) old new same = (same, tt)
-lacks_now who (Calls x next) old new same = (old, (no_rivals who old, inl same))
+lacks_now who (Calls x next) old new same = (old, (rivals_none who old, inl same))
 
 pub then_lacks : {A B : Type 0} (who : Caller) (first : Course A) (second : A → Course B) (old new : World) → Runs who first old new LacksMemory → Runs who (then_course first second) old new LacksMemory
 then_lacks {A} {B} who (Ends answer) second old new run = lacks_now {A = B} who (second answer) old new run.0
@@ -90,7 +88,7 @@ then_ran_struck {A} {B} who (Calls x next) second old new waits left (met, (riva
 
 ran_lacks_now : {A : Type 0} (who : Caller) (course : Course A) (old new : World) (waits left : Option Fault) → old ≡ new → (who.alone ≡ true → left ≡ waits) → Ran who course old new waits left LacksMemory
 ran_lacks_now who (Ends answer) old new waits left same left_same = (same, (left_same, tt))
-ran_lacks_now who (Calls x next) old new waits left same left_same = (old, (no_rivals who old, inl (same, left_same)))
+ran_lacks_now who (Calls x next) old new waits left same left_same = (old, (rivals_none who old, inl (same, left_same)))
 
 pub then_ran_lacks : {A B : Type 0} (who : Caller) (first : Course A) (second : A → Course B) (old new : World) (waits left : Option Fault) → Ran who first old new waits left LacksMemory → Ran who (then_course first second) old new waits left LacksMemory
 then_ran_lacks {A} {B} who (Ends answer) second old new waits left (is, (same, ends)) = ran_lacks_now {A = B} who (second answer) old new waits left is same

@@ -45,12 +45,13 @@ use Rattle.step_laws.proofs.Elements.{IsIn, all_at, all_from, all_to, all_append
 use Rattle.step_laws.proofs.Deletions.{in_filter}
 use Rattle.course_laws.specs.Finishes.{WholeUnless, FinishesAreLawful}
 use Rattle.course_laws.proofs.Later.{Later, later_itself, later_met}
-use Rattle.course_laws.proofs.Puts.{got_records, no_names, over_got}
+use Rattle.course_laws.proofs.Puts.{got_records, over_got}
 use Rattle.course_laws.proofs.Calls.{keeps_after, all_map}
 use Rattle.course_laws.proofs.JobBounds.{IsShort, AreGood, left_good}
 use Rattle.rival_laws.proofs.FreeTables.{free_own}
 use Rattle.course_laws.proofs.Made.{Relies, State, state_met, state_got, state_table, state_refused, ids_of, tables_of, all_of, ranges_made}
 use Rattle.course_laws.proofs.Outputs.{found_in, back_lawful}
+use Rattle.step_laws.proofs.MidwayCalls.{unnamed}
 
 -- ---- the tables that are cut
 
@@ -222,7 +223,7 @@ put_fits : (who : Caller) (w : LiveWorker) (start old new : World) (moment : ℕ
     → let change = Finish w.number a.job a.number (all_outputs a.context.ranges (map ids_of made)) in
     Lawful who.merge who.party new (PutsRecords got.version change got.epoch (jobs_after (end_unrecorded moment w a) change got.jobs))
 put_fits who w start old new moment a made got b e is later s live = (
-  no_names who.party new,
+  unnamed who.party new,
   λ version.
       let outputs = all_outputs a.context.ranges (map ids_of made) in
       let same = got_records old new (Some got) is later version in

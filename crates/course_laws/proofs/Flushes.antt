@@ -39,7 +39,9 @@ use Rattle.course_laws.specs.Flushes.{MayAsk, FlushesAreLawful}
 use Rattle.course_laws.proofs.Later.{Later, later_itself, later_then, later_by, rivals_later, later_met, entry_by, answer_by, call_history}
 use Rattle.course_laws.proofs.Calls.{keeps_after, rivals_hold, both}
 use Rattle.course_laws.proofs.Stood.{unless_both, stood_version}
-use Rattle.course_laws.proofs.Held.{refused, HasRows, call_rows, put_has_rows, drawn_is_high, last_drawn}
+use Rattle.course_laws.proofs.Held.{HasRows, call_rows, put_has_rows, drawn_is_high}
+use Rattle.step_laws.proofs.TablePuts.{last_drawn}
+use Rattle.rival_laws.proofs.FreeTables.{refused}
 
 -- ---- the faults
 

@@ -27,8 +27,9 @@ use Rattle.rival_laws.specs.Free.{IsFree}
 use Rattle.course_laws.proofs.Later.{entry_by}
 use Rattle.course_laws.proofs.Calls.{rivals_hold, filtered}
 use Rattle.course_laws.proofs.Puts.{party_itself}
-use Rattle.course_laws.proofs.Held.{refused, last_drawn}
 use Rattle.course_laws.proofs.NewTables.{IsLastDrawn, last_drawn_on, drawn_last, next_is_new}
+use Rattle.step_laws.proofs.TablePuts.{last_drawn}
+use Rattle.rival_laws.proofs.FreeTables.{refused}
 
 -- ---- a table that is not put yet is named by nothing
 

@@ -1,24 +1,21 @@
 -- What calls leave of tables: a table that is held stays held, unless it is deleted, and its rows stay.
-use Rattle.std.proofs.Common.{◌≡◌, refl, ◌∙◌, ap, ℕ, ◌+◌, ◌*◌, ◌%◌, ◌^◌, ◌<◌, List, [], ◌∷◌, ◌++◌, cond, Bool, true, false, inl, inr, ◌⊎◌, Option, Some, None, arith}
-use Rattle.std.specs.Prelude.{IsTrue, ◌==◌, ◌||◌, find, option_map}
-use Rattle.std.proofs.lemmas.Nat.{mod-mul-add}
+use Rattle.std.proofs.Common.{◌≡◌, refl, ◌∙◌, ap, ℕ, ◌+◌, ◌<◌, List, [], ◌∷◌, ◌++◌, cond, Bool, true, false, Some, None, arith}
+use Rattle.std.specs.Prelude.{IsTrue, ◌==◌, ◌||◌, find}
 use Rattle.row_model.specs.Rows.{Row}
 use Rattle.row_model.specs.Fold.{Operator}
 use Rattle.fleet_model.specs.Nodes.{Tables, is_among, table_rows, rows_or_none}
-use Rattle.fleet_model.specs.Jobs.{contains, number_of, drawn_base}
-use Rattle.fleet_model.specs.History.{Party, Event, DrawTable, Entry}
+use Rattle.fleet_model.specs.Jobs.{contains, drawn_base}
+use Rattle.fleet_model.specs.History.{Party}
 use Rattle.fleet_model.specs.Store.{Store, is_held, WerePut}
 use Rattle.fleet_model.specs.Exchanges.{Exchange, Plain, DrawsJob, DrawsTable, PutsTable, PutsManifest, PutsRecords, ListsTables, DeletesTable, records_version, after_exchange}
 use Rattle.step_model.specs.Past.{World}
-use Rattle.step_model.specs.Entries.{party_eq, last_from, last_event, drawn_tables, table_drawn_in}
+use Rattle.step_model.specs.Entries.{drawn_tables}
 use Rattle.step_model.specs.Rivals.{Strike, store_after_call, is_deletion}
 use Rattle.step_model.specs.Kept.Keeps.{Keeps}
-use Rattle.step_laws.proofs.Elements.{IsIn, all_at, all_true_front, any_push_yes, is_itself, contains_in, in_contains, in_front, in_back}
+use Rattle.step_laws.proofs.Elements.{all_at, all_true_front, any_push_yes, is_itself, contains_in}
 use Rattle.step_laws.proofs.Held.{is_held_so, held_grows, held_put, rows_stay}
-
-pub refused : (b : Bool) → b ≡ false → b ≡ true → ⊥
-refused true e f = absurd (cc e)
-refused false e f = absurd (cc f)
+use Rattle.step_laws.proofs.FlushNodes.{small_number}
+use Rattle.rival_laws.proofs.FreeTables.{refused}
 
 -- The table is held and has these rows.
 pub record HasRows (id : ℕ) (rows : List Row) (store : Store) : Type 0 where
@@ -77,51 +74,9 @@ put_has_rows line party store id rows put new =
 
 -- ---- ids
 
-pub small_number : (name : ℕ) → name < drawn_base → number_of name ≡ name
-small_number name low = ap (λ n. n % 2 ^ 80) (plain name) ∙ mod-mul-add 0 (2 ^ 80) name (omega (arith, low))
-  where
-    plain : (n : ℕ) → n ≡ 0 * 2 ^ 80 + n
-    plain n = omega arith
-
 -- A drawn table has no name of a flush.
 pub drawn_is_high : (merge : Operator) (world : World) (id : ℕ) → Keeps merge world → IsTrue (contains (drawn_tables world.store.history) id) → id < drawn_base → ⊥
 drawn_is_high merge world id kept drawn low =
     let high = (all_at _ (drawn_tables world.store.history) id kept.facts.draws.tables_counted (contains_in (drawn_tables world.store.history) id drawn)).0 in
     let number = small_number id low in
     omega (arith, high, number, low)
-
--- The last event of a party is one of the history.
-last_in : (party : Party) (id : ℕ) (history : List Entry) (last : Option Entry) → option_map (λ (e : Entry). e.event) (last_from last party history) ≡ Some (DrawTable id)
-    → (option_map (λ (e : Entry). e.event) last ≡ Some (DrawTable id)) ⊎ IsIn id (drawn_tables history)
-last_in party id [] last e = inl e
-last_in party id (entry ∷ history) last e = by (party_eq party entry.party) (last_in party id history (Some entry)) (last_in party id history last) e
-  where
-    drawn : (event : Event) → Some event ≡ Some (DrawTable id) → IsIn id (table_drawn_in event)
-    drawn (DrawTable other) same = inl (number same)
-      where
-        number : Some (DrawTable other) ≡ Some (DrawTable id) → other ≡ id
-        number same = cc same
-    drawn event same = absurd (cc same)
-
-    here : (Some entry.event ≡ Some (DrawTable id)) ⊎ IsIn id (drawn_tables history) → (option_map (λ (e : Entry). e.event) last ≡ Some (DrawTable id)) ⊎ IsIn id (drawn_tables (entry ∷ history))
-    here (inl same) = inr (in_front id (table_drawn_in entry.event) (drawn_tables history) (drawn entry.event same))
-    here (inr there) = inr (in_back id (table_drawn_in entry.event) (drawn_tables history) there)
-
-    further : (option_map (λ (e : Entry). e.event) last ≡ Some (DrawTable id)) ⊎ IsIn id (drawn_tables history) → (option_map (λ (e : Entry). e.event) last ≡ Some (DrawTable id)) ⊎ IsIn id (drawn_tables (entry ∷ history))
-    further (inl same) = inl same
-    further (inr there) = inr (in_back id (table_drawn_in entry.event) (drawn_tables history) there)
-
-    by : (own : Bool)
-        → (option_map (λ (e : Entry). e.event) (last_from (Some entry) party history) ≡ Some (DrawTable id) → (Some entry.event ≡ Some (DrawTable id)) ⊎ IsIn id (drawn_tables history))
-        → (option_map (λ (e : Entry). e.event) (last_from last party history) ≡ Some (DrawTable id) → (option_map (λ (e : Entry). e.event) last ≡ Some (DrawTable id)) ⊎ IsIn id (drawn_tables history))
-        → option_map (λ (e : Entry). e.event) (last_from (cond own (Some entry) last) party history) ≡ Some (DrawTable id)
-        → (option_map (λ (e : Entry). e.event) last ≡ Some (DrawTable id)) ⊎ IsIn id (drawn_tables (entry ∷ history))
-    by true own other e = here (own e)
-    by false own other e = further (other e)
-
-pub last_drawn : (party : Party) (id : ℕ) (history : List Entry) → last_event party history ≡ Some (DrawTable id) → IsTrue (contains (drawn_tables history) id)
-last_drawn party id history e = by (last_in party id history None e)
-  where
-    by : (None ≡ Some (DrawTable id)) ⊎ IsIn id (drawn_tables history) → IsTrue (contains (drawn_tables history) id)
-    by (inl never) = absurd (cc never)
-    by (inr there) = in_contains (drawn_tables history) id there

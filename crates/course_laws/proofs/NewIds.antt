@@ -8,7 +8,7 @@ use Rattle.row_model.specs.Lists.{Pairs}
 use Rattle.row_model.specs.Fold.{Operator}
 use Rattle.fleet_model.specs.Nodes.{Tables, Trees}
 use Rattle.fleet_model.specs.Jobs.{JobSpec, Job, job_with, contains, number_of, id_of}
-use Rattle.fleet_model.specs.History.{Party, Writer, Submitter, Coordinator, Worker, Sweeper, Event, DrawJob, PutManifest, PutRecords, ManifestChange, ManifestEpoch, Flush, Commit, RecordChange, Step, Entry, stood}
+use Rattle.fleet_model.specs.History.{Party, Event, DrawJob, PutManifest, PutRecords, ManifestChange, ManifestEpoch, Flush, Commit, RecordChange, Step, Entry, stood}
 use Rattle.fleet_model.specs.Store.{Manifest, stored_jobs, fresh_store}
 use Rattle.fleet_model.specs.Trees.{job_of, stepped_in, stepped_all}
 use Rattle.fleet_model.specs.Work.Records.{firsts}
@@ -28,20 +28,14 @@ use Rattle.step_laws.proofs.Elements.{IsIn, all_at, all_from, all_to, all_push, 
 use Rattle.step_laws.proofs.Respecs.{drew_drawn, all_firsts}
 use Rattle.step_laws.proofs.Changed.{job_found}
 use Rattle.course_laws.proofs.Later.{entry_by, answer_by, call_history}
-use Rattle.course_laws.proofs.Calls.{rivals_hold, in_map, both, or_cases, all_map}
+use Rattle.course_laws.proofs.Calls.{rivals_hold, both, or_cases, all_map}
 use Rattle.course_laws.proofs.Puts.{party_itself}
 use Rattle.course_laws.proofs.Stood.{stood_version}
-use Rattle.course_laws.proofs.Held.{refused}
+use Rattle.rival_laws.proofs.SameParty.{party_same}
+use Rattle.step_laws.proofs.Polls.{in_map}
+use Rattle.rival_laws.proofs.FreeTables.{refused}
 
 -- ---- one draw, one party
-
-pub party_same : (a b : Party) → party_eq a b ≡ true → a ≡ b
-party_same Writer Writer e = refl
-party_same Submitter Submitter e = refl
-party_same Sweeper Sweeper e = refl
-party_same (Coordinator n) (Coordinator m) e = ap Coordinator ((Decides-eqb n m).0 e)
-party_same (Worker n) (Worker m) e = ap Worker ((Decides-eqb n m).0 e)
-party_same a b e = absurd (cc e)
 
 -- An id is drawn once, so one party drew it.
 one_drew : (a b : Party) (id : ℕ) (history : List Entry) → Pairs (λ x y. number_of x < number_of y) (drawn_jobs history) → IsTrue (drew_job a history id) → IsTrue (drew_job b history id) → a ≡ b

@@ -24,10 +24,13 @@ use Rattle.step_laws.proofs.Elements.{IsIn, all_at, any_element, any_push_no, Pa
 use Rattle.course_laws.proofs.Later.{entry_by, call_history}
 use Rattle.course_laws.proofs.Calls.{rivals_hold, both, or_cases}
 use Rattle.course_laws.proofs.Puts.{party_itself}
-use Rattle.course_laws.proofs.NewIds.{party_same, number}
+use Rattle.course_laws.proofs.NewIds.{number}
 use Rattle.course_laws.proofs.Sweeps.{last_other}
 use Rattle.course_laws.proofs.Flushes.{not_flushed}
-use Rattle.course_laws.proofs.Held.{refused, last_drawn, drawn_is_high}
+use Rattle.course_laws.proofs.Held.{drawn_is_high}
+use Rattle.rival_laws.proofs.SameParty.{party_same}
+use Rattle.step_laws.proofs.TablePuts.{last_drawn}
+use Rattle.rival_laws.proofs.FreeTables.{refused}
 
 -- ---- one draw, one party
 
@@ -39,11 +42,11 @@ draws_table id event = false
 abbrev drew_table : Party → List Entry → ℕ → Bool
 drew_table party history id = list_any (λ entry. party_eq party entry.party && draws_table id entry.event) history
 
-or_left : (a b : Bool) → a ≡ true → (a || b) ≡ true
+pub or_left : (a b : Bool) → a ≡ true → (a || b) ≡ true
 or_left true b e = refl
 or_left false b e = absurd (cc e)
 
-or_right : (a b : Bool) → b ≡ true → (a || b) ≡ true
+pub or_right : (a b : Bool) → b ≡ true → (a || b) ≡ true
 or_right true b e = refl
 or_right false b e = e
 
@@ -215,7 +218,7 @@ last_name_small (entry ∷ history) = let first = small entry.event in let rest 
 is_high : (moment n : ℕ) → drawn_base + n ≤ table_id_of moment n
 is_high moment n = omega arith
 
-last_own : (party : Party) (history : List Entry) (entry : Entry) (last : Option Entry) → party_eq party entry.party ≡ true → last_from last party (history ++ entry ∷ []) ≡ Some entry
+pub last_own : (party : Party) (history : List Entry) (entry : Entry) (last : Option Entry) → party_eq party entry.party ≡ true → last_from last party (history ++ entry ∷ []) ≡ Some entry
 last_own party [] entry last own = ap (λ b. cond b (Some entry) last) own
 last_own party (first ∷ history) entry last own = last_own party history entry (cond (party_eq party first.party) (Some first) last) own
 

@@ -10,7 +10,7 @@ use Rattle.fleet_model.specs.Past.Replay.{epoch_after}
 use Rattle.fleet_model.specs.Exchanges.{records_version}
 use Rattle.step_model.specs.Past.{World}
 use Rattle.step_model.specs.Entries.{party_eq, did_event}
-use Rattle.step_model.specs.LawfulRecords.{NamesFit, RecordsFit, ChangeFits, may_make}
+use Rattle.step_model.specs.LawfulRecords.{RecordsFit, ChangeFits, may_make}
 use Rattle.step_laws.proofs.Elements.{any_front, is_itself}
 use Rattle.course_laws.proofs.Later.{Later}
 
@@ -30,10 +30,6 @@ did_later is party old new later h =
 -- Records that were got are stored, if their version is.
 pub got_records : (old new : World) (got : Option Records) → old.store.records ≡ got → Later old new → records_version got ≡ records_version new.store.records → new.store.records ≡ got
 got_records old new got is later same = later.records.same (ap records_version is ∙ same) ∙ is
-
--- No job is named.
-pub no_names : (party : Party) (world : World) → NamesFit party world []
-no_names party world = record { once = tt; drawn = tt; replays = λ specs faithful. faithful }
 
 -- A put fits over the records that were got, if its jobs are what the change makes of them.
 pub over_got : (merge : Operator) (party : Party) (world : World) (got : Records) (change : RecordChange) (u : Unrecorded) (epoch : ℕ) → world.store.records ≡ Some got

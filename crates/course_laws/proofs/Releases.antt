@@ -21,7 +21,8 @@ use Rattle.step_model.specs.Courses.StepEnds.{StepEnd, Reports, most_refused}
 use Rattle.step_model.specs.Courses.Course.{Course, Ends}
 use Rattle.course_laws.specs.Releases.{ReleasesAreLawful}
 use Rattle.course_laws.proofs.Later.{Later, later_itself, later_met}
-use Rattle.course_laws.proofs.Puts.{got_records, no_names, over_got, filter_passes}
+use Rattle.course_laws.proofs.Puts.{got_records, over_got, filter_passes}
+use Rattle.step_laws.proofs.MidwayCalls.{unnamed}
 
 -- The attempts are live over the stored jobs.
 live_stored : (world : World) (got : Records) (w : LiveWorker) (live : List Attempt) → world.store.records ≡ Some got → AllByRecursion (λ a. is_live got.jobs w.number a ≡ true) live
@@ -38,7 +39,7 @@ put_fits : (who : Caller) (w : LiveWorker) (old new : World) (got : Records) (a 
     → AllByRecursion (λ a. is_live got.jobs w.number a ≡ true) (a ∷ live)
     → let change = Release w.number (named_attempts (a ∷ live)) in Lawful who.merge who.party new (PutsRecords got.version change got.epoch (jobs_after (at_moment 0) change got.jobs))
 put_fits who w old new got a live by is later all = (
-  no_names who.party new,
+  unnamed who.party new,
   λ version.
       let same = got_records old new (Some got) is later version in
       over_got who.merge who.party new got (Release w.number (named_attempts (a ∷ live))) (at_moment 0) got.epoch same (λ r there stored. rw stored there) refl

@@ -21,7 +21,8 @@ use Rattle.step_model.specs.Courses.Course.{Course, Ends}
 use Rattle.step_laws.proofs.Elements.{any_push_yes, is_itself}
 use Rattle.course_laws.specs.Starts.{StartsAreLawful}
 use Rattle.course_laws.proofs.Later.{Later, later_itself, rivals_later, later_met, call_history}
-use Rattle.course_laws.proofs.Puts.{party_itself, did_later, got_records, no_names}
+use Rattle.course_laws.proofs.Puts.{party_itself, did_later, got_records}
+use Rattle.step_laws.proofs.MidwayCalls.{unnamed}
 
 epoch_fits : (party : Party) (number : ℕ) (old new : World) (records : Option Records) → party ≡ Coordinator number → Later old new → old.store.manifest.version ≡ new.store.manifest.version
     → ManifestEpochFits party new (epoch_above old.store.manifest records) (record old.store.manifest { epoch = epoch_above old.store.manifest records })
@@ -37,7 +38,7 @@ epoch_fits party number old new records by later version =
 
 records_fit : (who : Caller) (old new : World) (records : Option Records) (epoch : ℕ) → old.store.records ≡ records → Later old new → records_epoch records + 1 ≤ epoch → IsTrue (did_put_epoch who.party new.store.history epoch)
     → Lawful who.merge who.party new (PutsRecords (records_version records) (RecordsEpoch epoch) epoch (trimmed_jobs (jobs_in records)))
-records_fit who old new records epoch is later low put = (no_names who.party new, fits)
+records_fit who old new records epoch is later low put = (unnamed who.party new, fits)
   where
     fits : records_version records ≡ records_version new.store.records → RecordsFit who.merge who.party new (RecordsEpoch epoch) epoch (trimmed_jobs (jobs_in records))
     fits version =

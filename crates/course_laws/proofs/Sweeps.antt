@@ -15,7 +15,7 @@ use Rattle.step_model.specs.Past.{World}
 use Rattle.step_model.specs.Entries.{party_eq, last_from, is_pending, is_pending_in}
 use Rattle.step_model.specs.Lawful.{Lawful}
 use Rattle.step_model.specs.LawfulTables.{DeletionFits}
-use Rattle.step_model.specs.Rivals.{Caller, RivalsFrom, Rivals, after_call}
+use Rattle.step_model.specs.Rivals.{Caller, after_call}
 use Rattle.step_model.specs.Courses.CourseRuns.{IsLawfulCourse}
 use Rattle.step_model.specs.Steps.SweepSteps.{deletes_each, sweep}
 use Rattle.step_model.specs.Courses.Course.{Course, Ends, Calls}
@@ -23,21 +23,19 @@ use Rattle.step_laws.proofs.Elements.{all_from, in_contains, pairs_map}
 use Rattle.step_laws.proofs.Held.{held_but}
 use Rattle.course_laws.specs.Sweeps.{SweepsAreLawful}
 use Rattle.course_laws.proofs.Calls.{pairs_filter}
+use Rattle.step_laws.proofs.RanLaws.{only_met}
 
 -- ---- a party that is alone
-
-pub alone_same : (who : Caller) (old new : World) → who.alone ≡ true → Rivals who old new → old ≡ new
-alone_same who old new alone rivals = subst (λ calls. RivalsFrom who calls old new) (rivals.none alone) rivals.lead
 
 -- A party that is alone meets what its last call left.
 alone_call : {A : Type 0} (who : Caller) (world : World) (x : Exchange) (next : Store → Course A) → who.alone ≡ true → Lawful who.merge who.party world x
     → IsLawfulCourse who (after_call who.line who.party x None world) (next world.store) → IsLawfulCourse who world (Calls x next)
 alone_call who world x next alone lawful rest = λ met rivals room.
-    subst (λ (t : World). Lawful who.merge who.party t x × IsLawfulCourse who (after_call who.line who.party x None t) (next t.store)) (alone_same who world met alone rivals) (lawful, rest)
+    subst (λ (t : World). Lawful who.merge who.party t x × IsLawfulCourse who (after_call who.line who.party x None t) (next t.store)) (only_met who world met alone rivals) (lawful, rest)
 
 -- ---- the order of ids
 
-all_put : (P : ℕ → Type 0) (id : ℕ) (ids : List ℕ) → P id → AllByRecursion P ids → AllByRecursion P (put_id id ids)
+pub all_put : (P : ℕ → Type 0) (id : ℕ) (ids : List ℕ) → P id → AllByRecursion P ids → AllByRecursion P (put_id id ids)
 all_put P id [] one all = (one, tt)
 all_put P id (other ∷ ids) one all = by (nat_lt id other) (all_put P id ids one all.1)
   where
@@ -53,7 +51,7 @@ differ_put id (other ∷ ids) differs pairs = by (nat_lt id other) (differ_put i
     by true rest = (differs, pairs)
     by false rest = (all_put (λ n. other ≢ n) id ids (λ same. differs.0 (sym same)) pairs.0, rest)
 
-all_ordered : (P : ℕ → Type 0) (ids : List ℕ) → AllByRecursion P ids → AllByRecursion P (in_id_order ids)
+pub all_ordered : (P : ℕ → Type 0) (ids : List ℕ) → AllByRecursion P ids → AllByRecursion P (in_id_order ids)
 all_ordered P [] all = tt
 all_ordered P (id ∷ ids) all = all_put P id (in_id_order ids) all.0 (all_ordered P ids all.1)
 

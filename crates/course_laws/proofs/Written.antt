@@ -17,9 +17,7 @@ use Rattle.fleet_model.specs.Sweeps.{attempt_tables}
 use Rattle.fleet_model.specs.Invariants.AttemptsFit.{AttemptFits, WorkerFits, TablesFit}
 use Rattle.fleet_model.specs.Exchanges.{DrawsTable, PutsTable, next_table_id}
 use Rattle.step_model.specs.Past.{World}
-use Rattle.step_model.specs.Kept.Faithful.{Faithful}
 use Rattle.step_model.specs.LawfulTables.{MayUse}
-use Rattle.step_model.specs.Kept.TablesKept.{PutsKept}
 use Rattle.step_model.specs.Fits.{noted_tables, WorkerHolds}
 use Rattle.step_model.specs.Kept.Keeps.{Keeps}
 use Rattle.step_model.specs.Rivals.{after_call}
@@ -27,17 +25,11 @@ use Rattle.step_laws.proofs.Elements.{IsIn, all_at, all_from, all_to, all_front,
 use Rattle.step_laws.proofs.Alike.{settings_same}
 use Rattle.step_laws.proofs.Held.{held_put, held_grows, rows_stay, flat_rows_stay}
 use Rattle.step_laws.proofs.Mute.{mute_event}
-use Rattle.step_laws.proofs.MuteBodies.{Matches, if_some_to}
+use Rattle.step_laws.proofs.MuteBodies.{if_some_to}
 use Rattle.step_laws.proofs.Quiet.{world_entered}
-use Rattle.step_laws.proofs.TableBodies.{with_table, same_with_table}
+use Rattle.step_laws.proofs.TableBodies.{with_table, same_with_table, faithful_without_table}
 use Rattle.course_laws.proofs.Calls.{filtered}
 use Rattle.course_laws.proofs.OwnCalls.{holds_entered}
-
-faithful_without : (world : World) (new : ℕ × List Row) (specs : ℕ → JobSpec) → PutsKept world.store.history world.store.tables → Faithful (with_table world new) specs → Faithful world specs
-faithful_without world new specs puts f = record {
-  agrees = f.agrees;
-  manifests = λ front back e. subst (Matches world.past) (same_with_table world new specs puts front back e) (f.manifests front back e);
-}
 
 -- All these tables were put.
 abbrev ArePut : Tables → List ℕ → Type 0
@@ -75,7 +67,7 @@ put_for store a held =
 -- What a worker holds stays as a table is put.
 holds_with_table : (merge : Operator) (world : World) (new : ℕ × List Row) (w : LiveWorker) → Keeps merge world → WorkerHolds merge world w → WorkerHolds merge (with_table world new) w
 holds_with_table merge world new w kept h = record {
-  fits = λ specs f. fits specs (h.fits specs (faithful_without world new specs kept.facts.puts f));
+  fits = λ specs f. fits specs (h.fits specs (faithful_without_table world new specs kept.facts.puts f));
   each = all_to _ _ w.attempts (λ a there held. record {
     counted = held.counted;
     claimed = held.claimed;

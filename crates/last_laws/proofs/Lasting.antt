@@ -15,22 +15,20 @@ use Rattle.step_model.specs.Rivals.{Strike, store_after_call}
 use Rattle.step_model.specs.Courses.Course.{Course, Ends, Calls, then_course, calls_each}
 use Rattle.step_model.specs.Courses.Tries.{counted_tries}
 use Rattle.step_model.specs.Courses.StepEnds.{StepEnd, Reports, most_refused}
-use Rattle.step_model.specs.Courses.Alone.{AloneEnd, run_alone}
+use Rattle.step_model.specs.Courses.Alone.{run_alone}
 use Rattle.step_model.specs.Steps.ClaimSteps.{WorkerOptions, Claimed, at_moment, can_start, plan_of, starts_claimed, claim_of, claim_by, claim_try, claim}
 use Rattle.course_laws.proofs.Later.{entry_by, call_history}
-use Rattle.script_model.specs.Script.{Line, Options, Clock, SetFault, ClaimJobs}
+use Rattle.script_model.specs.Script.{Line, ClaimJobs}
 use Rattle.script_model.specs.States.{Inputs, State}
 use Rattle.script_model.specs.Replies.{claim_reply}
 use Rattle.script_model.specs.LineRuns.{LineCourse, run_line, no_such_party, if_some}
 use Rattle.script_model.specs.LineCourses.{prepared_state, course_of}
 use Rattle.script_model.specs.LineSteps.{OneCourse}
 use Rattle.script_model.specs.Lines.WorkLines.{worker_line, worker_options}
+use Rattle.line_laws.proofs.Scripts.{prepared_history}
+use Rattle.line_laws.proofs.AloneRuns.{struck_end}
 
 -- ---- histories
-
--- The end of a run whose next call is struck.
-abbrev struck_end : {A : Type 0} → ℕ → Party → Exchange → Option Fault → Store → AloneEnd A
-struck_end line party x fault store = record { answer = None; store = struck_by (does_stand fault) line party x store; fault = None }
 
 onward : {A : Type 0} (xs ys zs : List A) → IsPrefixOf xs ys → IsPrefixOf ys zs → IsPrefixOf xs zs
 onward xs ys zs (one, e) (two, f) = (one ++ two, sym (append_assoc xs one two) ∙ ap (λ front. front ++ two) e ∙ f)
@@ -48,16 +46,10 @@ course_grows {A} line party (Calls x next) fault store =
     by true rest = call_grows line party x (Some (does_stand fault)) store
     by false rest = onward store.history (after_answered line party x store).history _ (call_grows line party x None store) rest
 
-same_store : (line : Line) (s : State) → (prepared_state line s).store ≡ s.store
-same_store (Options timeout concurrent slots ranges table_size moves retention) s = refl
-same_store (Clock moment) s = refl
-same_store (SetFault n stands) s = refl
-same_store line s = refl
-
 pub one_grows : (inputs : Inputs) (number : ℕ) (line : Line) (old : State) (answer : List ℕ) (new : State) → OneCourse inputs number old line answer new → IsPrefixOf old.store.history new.store.history
 one_grows inputs number line old answer new one =
     let s : State = prepared_state line old in
-    subst (λ (store : Store). IsPrefixOf store.history new.store.history) (same_store line old)
+    subst (λ (store : Store). IsPrefixOf store.history new.store.history) (prepared_history line old)
     (subst (λ (t : State). IsPrefixOf s.store.history t.store.history) (ap (λ (p : List ℕ × State). p.1) one.ends) (course_grows number one.course.party one.course.course s.fault s.store))
 
 -- ---- the manifest

@@ -1,6 +1,6 @@
 -- Two pages of a scan are one: the rest of the answers, from the key before which the first page stops, is the
 -- scan from that key on.
-use Rattle.std.proofs.Common.{◌≡◌, refl, sym, ◌∙◌, ap, subst, ℕ, zero, suc, ◌+◌, List, [], ◌∷◌, map, Bool, true, false, cond, ◌⊎◌, inl, inr, None, Some, arith}
+use Rattle.std.proofs.Common.{◌≡◌, refl, sym, ◌∙◌, ap, subst, ℕ, zero, suc, ◌+◌, List, [], ◌∷◌, map, Bool, true, false, cond, inl, inr, None, Some, arith}
 use Rattle.std.specs.Prelude.{◌&&◌, ℤ, drop, not, bytes_eq}
 use Rattle.std.specs.List.Sorted.{IsStrictlySortedBy}
 use Rattle.std.specs.declared.cmp.Ordering.{Ordering}
@@ -19,6 +19,7 @@ use Rattle.fleet_laws.specs.Scans.{AnswersAsReads}
 use Rattle.fleet_laws.proofs.Scans.{Above, above_later, answer_at, first_answer, none_above, reversed, same_answers, same_bytes, scans_answer_as_reads}
 use Rattle.script_model.specs.Lines.Scans.{range_start, range_end, keys_between, ScanEnd, NoneLeft, RefusedAt, StopsBefore, Page, first_page, with_answer}
 use Rattle.last_laws.specs.Pages.{joined_pages, ScansResume}
+use Rattle.commit_laws.proofs.MoveRows.{UpTo}
 
 -- The answers of a scan.
 abbrev Answers : Type 0
@@ -64,11 +65,7 @@ pages_join (suc limit) other (x ∷ answers) key h =
 
 -- ---- keys at and after the key of a page
 
--- The key is the other one, or below it.
-abbrev IsFrom : List ℕ → List ℕ → Type 0
-IsFrom key other = (key ≡ other) ⊎ (key_cmp key other ≡ Less)
-
-starts_at : (key other : List ℕ) → IsFrom key other → is_after_start (range_start key) other ≡ true
+starts_at : (key other : List ℕ) → UpTo key other → is_after_start (range_start key) other ≡ true
 starts_at [] other h = refl
 starts_at (b ∷ key) other (inl same) = ap (λ k. not (is_gt (key_cmp (b ∷ key) k))) (sym same) ∙ ap (λ o. not (is_gt o)) (key_alike (b ∷ key))
 starts_at (b ∷ key) other (inr low) = ap (λ o. not (is_gt o)) low
@@ -78,7 +75,7 @@ starts_not [] [] low = absurd (cc low)
 starts_not [] (b ∷ other) low = absurd (cc low)
 starts_not (b ∷ key) other low = ap (λ o. not (is_gt o)) (reversed other (b ∷ key) Less low)
 
-starts_too : (from key other : List ℕ) → is_after_start (range_start from) key ≡ true → IsFrom key other → is_after_start (range_start from) other ≡ true
+starts_too : (from key other : List ℕ) → is_after_start (range_start from) key ≡ true → UpTo key other → is_after_start (range_start from) other ≡ true
 starts_too [] key other after h = refl
 starts_too (b ∷ from) key other after (inl same) = ap (is_after_start (range_start (b ∷ from))) (sym same) ∙ after
 starts_too (b ∷ from) key other after (inr low) = by (key_cmp (b ∷ from) key) refl after
@@ -106,7 +103,7 @@ above_drop (suc n) key [] h = h
 above_drop (suc n) key (x ∷ answers) h = above_drop n key answers h.1
 
 -- A key from the first one of the later answers on has its answer among these, if it has one.
-after_drop : (n : ℕ) (answers : Answers) (key other : List ℕ) → IsStrictlySortedBy key_cmp (map (λ pair. pair.0) answers) → Stops key (drop n answers) → IsFrom key other
+after_drop : (n : ℕ) (answers : Answers) (key other : List ℕ) → IsStrictlySortedBy key_cmp (map (λ pair. pair.0) answers) → Stops key (drop n answers) → UpTo key other
     → answer_at other (drop n answers) ≡ answer_at other answers
 unfolding IsStrictlySortedBy
 after_drop zero answers key other rises s h = refl
@@ -118,7 +115,7 @@ after_drop (suc n) (x ∷ answers) key other rises s h =
     let alike = key_alike x.0 in
     let low : key_cmp x.0 x.0 ≡ Less = by this h (subst (λ (rest : Answers). Above x.0 (map (λ pair. pair.0) rest)) s.is (above_drop n x.0 answers rises.0)).0 in cc (alike, low))))
   where
-    by : x.0 ≡ other → IsFrom key other → key_cmp x.0 key ≡ Less → key_cmp x.0 x.0 ≡ Less
+    by : x.0 ≡ other → UpTo key other → key_cmp x.0 key ≡ Less → key_cmp x.0 x.0 ≡ Less
     by this (inl same) low = ap (key_cmp x.0) (this ∙ sym same) ∙ low
     by this (inr later) low = ap (key_cmp x.0) this ∙ nat_list_cmp_total.trans x.0 key other low later
 
@@ -149,7 +146,7 @@ goes_on merge store segment from to key seq now limit s =
 
     later : AnswersAsReads (keys_between from to) (λ key. flushed_read merge store segment key seq now) (flushed_scan merge store segment (keys_between from to) seq now)
         → AnswersAsReads (keys_between key to) (λ key. flushed_read merge store segment key seq now) (flushed_scan merge store segment (keys_between key to) seq now)
-        → is_after_start (range_start from) key ≡ true → (other : List ℕ) → IsFrom key other → (b : Bool) → is_before_end (range_end to) other ≡ b
+        → is_after_start (range_start from) key ≡ true → (other : List ℕ) → UpTo key other → (b : Bool) → is_before_end (range_end to) other ≡ b
         → answer_at other (flushed_scan merge store segment (keys_between key to) seq now) ≡ answer_at other (flushed_scan merge store segment (keys_between from to) seq now)
     later scan onward starts other h true is =
         onward.within other (ap (λ b. b && is_before_end (range_end to) other) (starts_at key other h) ∙ is)
@@ -166,11 +163,11 @@ goes_on merge store segment from to key seq now limit s =
         onward.beyond other (ap (λ b. b && is_before_end (range_end to) other) (starts_not key other low))
         ∙ sym (before_all key other (drop limit (flushed_scan merge store segment (keys_between from to) seq now)) s (rising_drop limit (flushed_scan merge store segment (keys_between from to) seq now) scan.rising) low)
     by scan onward starts other Equal is =
-        let h : IsFrom key other = inl (sym (exact other key is)) in
+        let h : UpTo key other = inl (sym (exact other key is)) in
         later scan onward starts other h (is_before_end (range_end to) other) refl
         ∙ sym (after_drop limit (flushed_scan merge store segment (keys_between from to) seq now) key other scan.rising s h)
     by scan onward starts other Greater is =
-        let h : IsFrom key other = inr (reversed other key Greater is) in
+        let h : UpTo key other = inr (reversed other key Greater is) in
         later scan onward starts other h (is_before_end (range_end to) other) refl
         ∙ sym (after_drop limit (flushed_scan merge store segment (keys_between from to) seq now) key other scan.rising s h)
 

@@ -44,7 +44,8 @@ use Rattle.line_laws.specs.Lines.PollRuns.{input_at, reached_state, manifest_aft
 use Rattle.line_laws.proofs.Parties.{found}
 use Rattle.line_laws.proofs.Lines.{caller_of, world_of}
 use Rattle.line_laws.proofs.PollLines.{reported, whole_is}
-use Rattle.line_laws.proofs.PollRuns.{Going, alone_next, got_version, poll_did}
+use Rattle.line_laws.proofs.PollRuns.{Going, alone_next, poll_did}
+use Rattle.coordinator_laws.proofs.PollReports.{got_version}
 
 -- ---- what calls leave
 

@@ -3,7 +3,7 @@ use Rattle.std.proofs.Common.{◌≡◌, ◌≢◌, refl, sym, ◌∙◌, ap, su
 use Rattle.std.specs.Prelude.{◌||◌, IsTrue, filter}
 use Rattle.std.specs.List.{list_any, AllByRecursion}
 use Rattle.row_model.specs.Lists.{Pairs}
-use Rattle.fleet_model.specs.Jobs.{JobSpec, is_drain, Job, Jobs, Status, Submitted, Scheduled, Running, Compacted, Completed, Failed, is_finished, status_eq, has_status, is_active, contains, put_job, ids}
+use Rattle.fleet_model.specs.Jobs.{JobSpec, is_drain, Job, Jobs, Status, Submitted, Scheduled, Running, Compacted, Completed, Failed, status_eq, has_status, is_active, contains, put_job, ids}
 use Rattle.fleet_model.specs.Work.Records.{new_job, with_new}
 use Rattle.fleet_model.specs.Work.Gates.{is_nonempty, submit_gate}
 use Rattle.fleet_model.specs.Work.PollStates.{PollInput, PollState, accepts}
@@ -11,12 +11,13 @@ use Rattle.fleet_model.specs.Work.Polls.{each, add_drawn, can_move, lost_to_sche
 use Rattle.step_laws.proofs.Elements.{IsIn, all_at, all_from, all_to, in_contains}
 use Rattle.step_laws.proofs.NewJobs.{in_new, rise_new}
 use Rattle.course_laws.proofs.Calls.{filtered, all_map}
-use Rattle.commit_laws.proofs.Stretches.{other_or}
+use Rattle.commit_laws.proofs.Stretches.{other_or, filter_none}
 use Rattle.commit_laws.proofs.Midway.{only_job}
-use Rattle.coordinator_laws.proofs.Jobs.{in_put_new, in_put_old}
+use Rattle.coordinator_laws.proofs.Jobs.{in_put_new, in_new_old}
 use Rattle.last_laws.specs.Weights.{IsHeavy, Lightens}
 use Rattle.last_laws.proofs.Commits.{IsCalmTill, Committed, passing_in}
 use Rattle.last_laws.proofs.Opens.{IsCalmNew, Adds, adds_all, first_added, Opened, opens_all}
+use Rattle.rival_laws.proofs.WorkerRecords.{submitted_active}
 
 -- ---- ids
 
@@ -39,14 +40,6 @@ in_ids (other ∷ jobs) job (inr there) = inr (in_ids jobs job there)
 
 -- ---- statuses
 
-submitted_active : (s : Status) → IsTrue (status_eq Submitted s) → IsTrue (cond (is_finished s) false true)
-submitted_active Submitted h = refl
-submitted_active Scheduled h = absurd (cc h)
-submitted_active Running h = absurd (cc h)
-submitted_active Compacted h = absurd (cc h)
-submitted_active Completed h = absurd (cc h)
-submitted_active Failed h = absurd (cc h)
-
 submitted_waits : (s : Status) → IsTrue (status_eq Submitted s) → IsTrue (status_eq Scheduled s) → ⊥
 submitted_waits Submitted h k = cc k
 submitted_waits Scheduled h k = cc h
@@ -66,10 +59,6 @@ waits_now job calm active = by (calm active)
 none_submitted : (job : Job) → IsCalmTill [] job → has_status Submitted job ≡ false
 none_submitted job calm = other_or (has_status Submitted job) (λ new. submitted_waits job.status new (waits_now job calm (submitted_active job.status new)).1.0)
 
-pub none_pass : {A : Type 0} (test : A → Bool) (xs : List A) → AllByRecursion (λ x. test x ≡ false) xs → filter test xs ≡ []
-none_pass test [] h = refl
-none_pass test (x ∷ xs) h = ap (λ b. cond b (x ∷ filter test xs) (filter test xs)) h.0 ∙ none_pass test xs h.1
-
 pub none_active : (jobs : Jobs) → list_any is_active jobs ≡ false → AllByRecursion (λ job. is_active job ≡ false) jobs
 none_active [] h = tt
 none_active (job ∷ jobs) h = by (none_active jobs) (is_active job) refl h
@@ -79,10 +68,6 @@ none_active (job ∷ jobs) h = by (none_active jobs) (is_active job) refl h
     by rest false e h = (e, rest h)
 
 -- ---- a job that was added is there
-
-still_there : (named : List (ℕ × JobSpec)) (jobs : Jobs) (job : Job) → IsIn job jobs → IsIn job (with_new named jobs)
-still_there [] jobs job there = there
-still_there (q ∷ named) jobs job there = still_there named (put_job (new_job q) jobs) job (in_put_old (new_job q) jobs job there)
 
 some_pass : (test : Job → Bool) (jobs : Jobs) (job : Job) → IsIn job jobs → test job ≡ true → is_nonempty (filter test jobs) ≡ true
 some_pass test [] job there h = absurd there
@@ -95,7 +80,7 @@ some_pass test (other ∷ jobs) job there h = by (test other) refl there (λ one
 
 added_submitted : (named : List (ℕ × JobSpec)) (jobs : Jobs) → is_nonempty named ≡ true → is_nonempty (filter (has_status Submitted) (with_new named jobs)) ≡ true
 added_submitted [] jobs h = absurd (cc h)
-added_submitted (q ∷ named) jobs h = some_pass (has_status Submitted) (with_new named (put_job (new_job q) jobs)) (new_job q) (still_there named (put_job (new_job q) jobs) (new_job q) (in_put_new (new_job q) jobs)) refl
+added_submitted (q ∷ named) jobs h = some_pass (has_status Submitted) (with_new named (put_job (new_job q) jobs)) (new_job q) (in_new_old named (put_job (new_job q) jobs) (new_job q) (in_put_new (new_job q) jobs)) refl
 
 -- Opening jobs adds none.
 added_stay : (input : PollInput) (jobs : Jobs) (p : PollState) → (each (open_job input) jobs p).added ≡ p.added
@@ -204,7 +189,7 @@ poll_works input count drawn begun committed p is no_steps no_added rise c heavy
 
     unmoved : q.added ≡ [] → p ≡ q
     unmoved none =
-        is ∙ ap (λ js. each (open_job input) js q) (ap (filter (has_status Submitted)) (base none) ∙ none_pass (has_status Submitted) committed.jobs (all_to _ _ committed.jobs (λ job there h. none_submitted job h) c.calm))
+        is ∙ ap (λ js. each (open_job input) js q) (ap (filter (has_status Submitted)) (base none) ∙ filter_none (has_status Submitted) committed.jobs (all_to _ _ committed.jobs (λ job there h. none_submitted job h) c.calm))
 
     quietly : q.added ≡ [] → list_any is_active p.jobs ≡ false → WasQuiet drawn committed p
     quietly none over =

@@ -16,9 +16,11 @@ use Rattle.step_laws.proofs.Elements.{IsIn, all_at, contains_in}
 use Rattle.step_laws.proofs.Changed.{job_found}
 use Rattle.course_laws.proofs.Calls.{filtered, both}
 use Rattle.commit_laws.proofs.Midway.{only_job}
-use Rattle.coordinator_laws.proofs.Jobs.{from_map}
 use Rattle.last_laws.specs.Weights.{IsHeavy, Lightens}
 use Rattle.last_laws.proofs.Opens.{IsCalmNew}
+use Rattle.rival_laws.proofs.WorkerRecords.{running_active}
+use Rattle.step_laws.proofs.Polls.{in_map, from_map}
+use Rattle.course_laws.proofs.NewTables.{or_right}
 
 -- ---- jobs in a round
 
@@ -26,15 +28,6 @@ use Rattle.last_laws.proofs.Opens.{IsCalmNew}
 -- these, or it is Compacted and its sources stand.
 abbrev pub IsBusy : Trees → List ℕ → Job → Type 0
 IsBusy trees these job = IsTrue (is_active job) → Lightens job.spec × ((IsTrue (has_status Scheduled job) × (job.context ≡ None)) ⊎ ((IsTrue (has_status Running job) × (contains these job.id ≡ true)) ⊎ (IsTrue (has_status Compacted job) × SourcesStand trees job)))
-
-pub all_trimmed : (P : Job → Type 0) (jobs : Jobs) → AllByRecursion P jobs → AllByRecursion P (trimmed_jobs jobs)
-all_trimmed P [] h = tt
-all_trimmed P (job ∷ jobs) h = by (is_active job) (finished_later jobs) (all_trimmed P jobs h.1)
-  where
-    by : (a b : Bool) → AllByRecursion P (trimmed_jobs jobs) → AllByRecursion P (cond a (job ∷ trimmed_jobs jobs) (cond b (trimmed_jobs jobs) (job ∷ trimmed_jobs jobs)))
-    by true b rest = (h.0, rest)
-    by false true rest = rest
-    by false false rest = (h.0, rest)
 
 pub waiting_new : (job : Job) → IsCalmNew [] job → IsTrue (is_active job) → Lightens job.spec × (IsTrue (has_status Scheduled job) × (job.context ≡ None))
 waiting_new job calm active = by (calm active)
@@ -50,18 +43,6 @@ scheduled_active Running h = absurd (cc h)
 scheduled_active Compacted h = absurd (cc h)
 scheduled_active Completed h = absurd (cc h)
 scheduled_active Failed h = absurd (cc h)
-
-running_is_active : (s : Status) → IsTrue (status_eq Running s) → IsTrue (cond (is_finished s) false true)
-running_is_active Running h = refl
-running_is_active Submitted h = absurd (cc h)
-running_is_active Scheduled h = absurd (cc h)
-running_is_active Compacted h = absurd (cc h)
-running_is_active Completed h = absurd (cc h)
-running_is_active Failed h = absurd (cc h)
-
-either_true : (a b : Bool) → b ≡ true → (a || b) ≡ true
-either_true true b h = refl
-either_true false b h = h
 
 three_true : (a b c : Bool) → a ≡ true → b ≡ true → c ≡ true → (a && b && c) ≡ true
 three_true true true true h k l = refl
@@ -79,9 +60,9 @@ is_takeable : (w : LiveWorker) (job : Job) → w.attempts ≡ [] → (IsTrue (ha
 unfolding takeable
 is_takeable w job idle lease waits none =
     three_true (is_waiting job) (not (contains (attempt_jobs w.attempts) job.id)) (may_take w.release job)
-    (and_true (has_status Scheduled job) (is_none job.lease) waits (lease (either_true (has_status Submitted job) (has_status Scheduled job) waits)))
+    (and_true (has_status Scheduled job) (is_none job.lease) waits (lease (or_right (has_status Submitted job) (has_status Scheduled job) waits)))
     (ap (λ attempts. not (contains (attempt_jobs attempts) job.id)) idle)
-    (either_true (knows_cut w.release) (has_no_cut job.context) (ap has_no_cut none))
+    (or_right (knows_cut w.release) (has_no_cut job.context) (ap has_no_cut none))
   where
     and_true : (a b : Bool) → a ≡ true → b ≡ true → (a && b) ≡ true
     and_true true b h k = k
@@ -156,17 +137,12 @@ new_with [] attempts x there = absurd there
 new_with (a ∷ new) attempts x (inl same) = still_with new (put_attempt a attempts) x (subst (λ y. IsIn y (put_attempt a attempts)) same (in_put a attempts))
 new_with (a ∷ new) attempts x (inr there) = new_with new (put_attempt a attempts) x there
 
-in_mapped : {A B : Type 0} (f : A → B) (xs : List A) (x : A) → IsIn x xs → IsIn (f x) (map f xs)
-in_mapped f [] x there = absurd there
-in_mapped f (y ∷ xs) x (inl same) = inl (ap f same)
-in_mapped f (y ∷ xs) x (inr there) = inr (in_mapped f xs x there)
-
 -- A claimed job has an attempt.
 pub has_attempt : (input : ClaimInput) (taken : Jobs) (attempts : List Attempt) (id : ℕ) → IsIn id (ids taken) → IsIn id (attempt_jobs (with_attempts (map (claimed_attempt input) taken) attempts))
 has_attempt input taken attempts id there =
     let (job, (one, same)) = from_map (λ (job : Job). job.id) taken id there in
     subst (λ n. IsIn n (attempt_jobs (with_attempts (map (claimed_attempt input) taken) attempts))) same
-    (in_mapped (λ (a : Attempt). a.job) (with_attempts (map (claimed_attempt input) taken) attempts) (claimed_attempt input job) (new_with (map (claimed_attempt input) taken) attempts (claimed_attempt input job) (in_mapped (claimed_attempt input) taken job one)))
+    (in_map (λ (a : Attempt). a.job) (with_attempts (map (claimed_attempt input) taken) attempts) (claimed_attempt input job) (new_with (map (claimed_attempt input) taken) attempts (claimed_attempt input job) (in_map (claimed_attempt input) taken job one)))
 
 some_in : {A : Type 0} (xs : List A) (x : A) → IsIn x xs → 1 ≤ length xs
 some_in [] x there = absurd there
@@ -268,7 +244,7 @@ busy_ended trees worker id unrecorded outputs attempts all (job ∷ jobs) rise e
 
     by : (b : Bool) → (id == job.id) ≡ b → IsBusy trees (attempt_jobs (without_attempts (id ∷ []) attempts)) (cond (cond b true false) (finished_by worker unrecorded outputs job) job)
     by true e active =
-        let busy = h.0.1 (running_is_active job.status (runs e)) in
+        let busy = h.0.1 (running_active job.status (runs e)) in
         (busy.0, inr (inr (refl, stands_ended trees worker unrecorded outputs job (stands job h.0.0 (runs e)))))
     by false e active = let busy = h.0.1 active in (busy.0, other e busy.1)
 
@@ -276,7 +252,7 @@ pub ended_there : (worker id : ℕ) (unrecorded : Unrecorded) (outputs : List (L
 ended_there worker id unrecorded outputs [] there = absurd there
 ended_there worker id unrecorded outputs (job ∷ jobs) (inl same) =
     ap (λ b. has_status Compacted (cond (cond b true false) (finished_by worker unrecorded outputs job) job) || list_any (has_status Compacted) (changed_jobs (finished_by worker unrecorded outputs) (id ∷ []) jobs)) ((Decides-eqb id job.id).1 (sym same))
-ended_there worker id unrecorded outputs (job ∷ jobs) (inr there) = either_true _ _ (ended_there worker id unrecorded outputs jobs there)
+ended_there worker id unrecorded outputs (job ∷ jobs) (inr there) = or_right _ _ (ended_there worker id unrecorded outputs jobs there)
 
 compacted_is_active : (s : Status) → IsTrue (status_eq Compacted s) → cond (is_finished s) false true ≡ true
 compacted_is_active Compacted h = refl
@@ -295,6 +271,6 @@ compacted_stays (job ∷ jobs) h = by (has_status Compacted job) refl (is_active
         → list_any (has_status Compacted) (cond b (job ∷ trimmed_jobs jobs) (cond c (trimmed_jobs jobs) (job ∷ trimmed_jobs jobs))) ≡ true
     by true e true f c h rest = ap (λ a. a || list_any (has_status Compacted) (trimmed_jobs jobs)) e
     by true e false f c h rest = let here = compacted_is_active job.status e in absurd (cc (here, f))
-    by false e true f c h rest = either_true (has_status Compacted job) (list_any (has_status Compacted) (trimmed_jobs jobs)) (rest h)
+    by false e true f c h rest = or_right (has_status Compacted job) (list_any (has_status Compacted) (trimmed_jobs jobs)) (rest h)
     by false e false f true h rest = rest h
-    by false e false f false h rest = either_true (has_status Compacted job) (list_any (has_status Compacted) (trimmed_jobs jobs)) (rest h)
+    by false e false f false h rest = or_right (has_status Compacted job) (list_any (has_status Compacted) (trimmed_jobs jobs)) (rest h)

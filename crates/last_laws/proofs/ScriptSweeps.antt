@@ -10,7 +10,7 @@ use Rattle.fleet_laws.proofs.Transparent.{sweeps_are_transparent}
 use Rattle.step_model.specs.Courses.Course.{Course, Ends, Calls, then_course}
 use Rattle.step_model.specs.Steps.SweepSteps.{deletes_each, sweep}
 use Rattle.step_model.specs.Rivals.{Strike, store_after_call}
-use Rattle.step_model.specs.Courses.Alone.{AloneEnd, run_alone}
+use Rattle.step_model.specs.Courses.Alone.{run_alone}
 use Rattle.step_laws.proofs.Elements.{all_push}
 use Rattle.course_laws.proofs.Later.{entry_by, call_history}
 use Rattle.script_model.specs.Script.{Line, Options, Clock, StartCoordinator, StartWorker, KillCoordinator, KillWorker, StopCoordinator, StopWorker, FlushRows, ReadKey, SubmitJob, SubmitDrain, SubmitFull, Poll, CommitOnly, ClaimJobs, Heartbeat, Output, FinishJob, SetFault, ShowTrees, ShowJobs, ShowTables, Dump, Sweep, Scan, Settle, Together}
@@ -31,6 +31,7 @@ use Rattle.script_model.specs.Lines.Settles.{are_live}
 use Rattle.script_model.specs.Follows.{LineStep, ScriptRun}
 use Rattle.line_laws.proofs.Scripts.{StepsRun, settle_steps}
 use Rattle.last_laws.specs.ScriptSweeps.{ScriptsSweepClean}
+use Rattle.line_laws.proofs.AloneRuns.{struck_end}
 
 -- ---- courses
 
@@ -120,10 +121,6 @@ call_clean : (line : ℕ) (party : Party) (x : Exchange) (strike : Strike) (stor
 call_clean line party x strike store well h =
     subst SweepersOnlySweep (sym (call_history line party x strike store))
     (all_push (λ (entry : Entry). IsTrue (is_sweeper entry.party) → IsTrue (is_of_sweep entry.event)) store.history (entry_by line party x strike store) h well)
-
--- The end of a run whose next call is struck.
-abbrev struck_end : {A : Type 0} → ℕ → Party → Exchange → Option Fault → Store → AloneEnd A
-struck_end line party x fault store = record { answer = None; store = struck_by (does_stand fault) line party x store; fault = None }
 
 -- A run of such a course adds only such entries.
 course_clean : {A : Type 0} (line : ℕ) (party : Party) (course : Course A) (fault : Option Fault) (store : Store) → CallsWell party course → SweepersOnlySweep store.history

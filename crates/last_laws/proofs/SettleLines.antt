@@ -41,8 +41,9 @@ use Rattle.last_laws.proofs.Opens.{IsCalmNew}
 use Rattle.last_laws.proofs.PollWorks.{in_ids, none_active}
 use Rattle.last_laws.proofs.Rounds.{FittingRoundsLower, all_rounds_settle}
 use Rattle.last_laws.proofs.Lasting.{claim_keeps_manifest}
-use Rattle.last_laws.proofs.RoundWorks.{IsBusy, all_trimmed, waiting_new, claims_some, has_attempt, some_attempt, firsts_are, busy_claimed, Ended, live_runs, fewer, busy_ended, ended_there, compacted_stays}
+use Rattle.last_laws.proofs.RoundWorks.{IsBusy, waiting_new, claims_some, has_attempt, some_attempt, firsts_are, busy_claimed, Ended, live_runs, fewer, busy_ended, ended_there, compacted_stays}
 use Rattle.last_laws.proofs.SettlePolls.{Fits, fits_back, finished_count, Ready, PollLeft, poll_settles, same_options, calm_of, waits_of}
+use Rattle.step_laws.proofs.TableReplays.{all_trimmed}
 
 -- ---- a round at work
 

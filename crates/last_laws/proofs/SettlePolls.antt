@@ -1,13 +1,13 @@
 -- What a poll of a settle line does to the state.
 use Rattle.std.proofs.Common.{◌≡◌, ◌≢◌, refl, sym, ◌∙◌, ap, subst, ℕ, zero, suc, ◌+◌, ◌-◌, ◌≤◌, ◌<◌, List, [], ◌∷◌, ◌++◌, map, Bool, true, false, cond, ◌⊎◌, inl, inr, Option, None, Some, length, length-append, arith}
-use Rattle.std.specs.Prelude.{◌==◌, ◌&&◌, ◌||◌, not, nat_lt, IsTrue, filter, flat_map, take, count_by, bytes_eq, option_map, IfSome}
+use Rattle.std.specs.Prelude.{◌==◌, ◌||◌, not, IsTrue, filter, flat_map, take, count_by, option_map, IfSome}
 use Rattle.std.specs.List.{list_any, AllByRecursion}
 use Rattle.std.specs.Cmp.Lexicographic.{pointwise}
 use Rattle.std.proofs.lemmas.List.{append-nil}
 use Rattle.std.proofs.lemmas.List.Sums.{length-filter}
 use Rattle.row_model.specs.Lists.{Pairs, IsPrefixOf}
 use Rattle.row_model.specs.Fold.{IsLawful}
-use Rattle.fleet_model.specs.Nodes.{name_eq, Node, Tables, Tree, Trees, Segment, names}
+use Rattle.fleet_model.specs.Nodes.{Node, Tables, Tree, Trees, Segment, names}
 use Rattle.fleet_model.specs.Jobs.{JobSpec, Job, Jobs, Status, Submitted, Scheduled, Running, Compacted, Completed, Failed, status_eq, has_status, is_finished, is_active, trimmed_jobs, finished_later, put_id, in_id_order, contains}
 use Rattle.fleet_model.specs.History.{Party, Coordinator, Entry, Event, PutRecords, Polled}
 use Rattle.fleet_model.specs.Store.{Manifest, Records, stored_jobs, jobs_in, records_epoch}
@@ -21,10 +21,10 @@ use Rattle.fleet_model.specs.Work.PollStates.{PollInput, PollState, poll_begun, 
 use Rattle.fleet_model.specs.Work.Polls.{proposals, each, commit_job, commit_finished, free_stale, add_drawn, open_submitted, change_of, is_nothing}
 use Rattle.fleet_model.specs.Exchanges.{records_version}
 use Rattle.step_model.specs.Entries.{party_eq, last_from, last_event}
-use Rattle.step_model.specs.Steps.PollSteps.{PollAsk, first_steps, records_or_none, is_unchanged, same_tree, node_eq}
+use Rattle.step_model.specs.Steps.PollSteps.{PollAsk, first_steps, is_unchanged, same_tree, node_eq}
 use Rattle.step_laws.proofs.Elements.{all_at, all_to, all_front}
-use Rattle.course_laws.proofs.Calls.{both}
-use Rattle.commit_laws.proofs.Stretches.{name_same, other_or}
+use Rattle.course_laws.proofs.Calls.{both, all_take}
+use Rattle.commit_laws.proofs.Stretches.{other_or, filter_none}
 use Rattle.script_model.specs.Script.{Line, Poll}
 use Rattle.script_model.specs.States.{Inputs, State}
 use Rattle.script_model.specs.LineCourses.{prepared_state}
@@ -35,7 +35,6 @@ use Rattle.line_laws.specs.Alone.{HadRoom}
 use Rattle.line_laws.specs.States.{StateKeeps}
 use Rattle.line_laws.specs.Lines.PollRuns.{input_at, manifest_after, records_after}
 use Rattle.line_laws.proofs.Scripts.{course_leads}
-use Rattle.fleet_laws.proofs.Scans.{same_bytes}
 use Rattle.last_laws.specs.Weights.{IsHeavy, Lightens, weight_of, trees_weight, WaitsToLighten}
 use Rattle.last_laws.specs.Settling.{HasFreeId, WaitsOrStands, Settling, AreSmall}
 use Rattle.last_laws.proofs.Weights.{weight_both}
@@ -43,10 +42,13 @@ use Rattle.last_laws.proofs.PollWeights.{polls_lighten}
 use Rattle.last_laws.proofs.PollSeen.{PolledLine, poll_line_did, none_added}
 use Rattle.last_laws.proofs.Commits.{Passes, IsCalm, Committed, stands_pass, frees_none, poll_commits}
 use Rattle.last_laws.proofs.Opens.{IsCalmNew}
-use Rattle.last_laws.proofs.PollWorks.{WasQuiet, Worked, poll_works, none_pass}
+use Rattle.last_laws.proofs.PollWorks.{WasQuiet, Worked, poll_works}
 use Rattle.last_laws.proofs.Rounds.{GoesBack}
-use Rattle.last_laws.proofs.RoundWorks.{all_trimmed}
 use Rattle.last_laws.proofs.Lasting.{one_grows}
+use Rattle.coordinator_laws.proofs.Reports.{put_some}
+use Rattle.coordinator_laws.proofs.PollReports.{got_jobs}
+use Rattle.coordinator_laws.proofs.SameTrees.{node_same}
+use Rattle.step_laws.proofs.TableReplays.{all_trimmed}
 
 -- ---- what is asked of the last state of a line
 
@@ -83,14 +85,6 @@ free_added party history p h named = by p.added refl
     by (q ∷ added) e = subst (AllByRecursion HasFreeId) e (last_holds (λ event. AllByRecursion HasFreeId (named_specs event)) party None history (PutRecords (Polled (change_of p))) h tt (named (ap is_nonempty e)))
 
 -- ---- trees with the same nodes
-
-node_same : (a b : Node) → node_eq a b ≡ true → a ≡ b
-node_same a b e =
-    let first = both (name_eq a.name b.name && bytes_eq a.flushes b.flushes) (bytes_eq a.pieces b.pieces) e in
-    let second = both (name_eq a.name b.name) (bytes_eq a.flushes b.flushes) first.0 in
-    ap (λ name. record a { name = name }) (name_same a.name b.name second.0)
-    ∙ ap (λ (flushes : List ℕ). record a { name = b.name; flushes = flushes }) (same_bytes a.flushes b.flushes second.1)
-    ∙ ap (λ (pieces : List ℕ). record b { pieces = pieces }) (same_bytes a.pieces b.pieces first.1)
 
 all_equal : {A B : Type 0} (test : A → A → Bool) (f : A → B) (xs ys : List A) → ((x y : A) → test x y ≡ true → f x ≡ f y) → pointwise test xs ys ≡ true → map f xs ≡ map f ys
 all_equal test f [] [] same e = refl
@@ -143,10 +137,6 @@ small_same is_small tables a b same h =
 
 -- ---- jobs
 
-got_jobs : (records : Option Records) → (records_or_none records).jobs ≡ jobs_in records
-got_jobs None = refl
-got_jobs (Some records) = refl
-
 pub calm_of : (trees : Trees) (job : Job) → WaitsOrStands trees job → IsCalm trees job
 calm_of trees job h active = by (h active)
   where
@@ -186,14 +176,6 @@ active_trimmed (job ∷ jobs) = by (is_active job) refl (finished_later jobs) (a
 
 -- ---- a poll that changes no job
 
-put_some : (id : ℕ) (ids : List ℕ) → is_nonempty (put_id id ids) ≡ true
-put_some id [] = refl
-put_some id (other ∷ ids) = by (nat_lt id other)
-  where
-    by : (b : Bool) → is_nonempty (cond b (id ∷ other ∷ ids) (other ∷ put_id id ids)) ≡ true
-    by true = refl
-    by false = refl
-
 -- A poll that changes no job commits none.
 none_done : (p : PollState) → is_nothing (change_of p) ≡ true → p.done ≡ []
 none_done p h = by p.done (is_nonempty p.freed) (is_nonempty (firsts p.added)) (is_nonempty p.opened) (is_nonempty (in_id_order (firsts p.lost ++ firsts p.refused))) h
@@ -212,11 +194,6 @@ none_left [] h = refl
 none_left (x ∷ xs) h = absurd (omega (arith, h))
 
 -- ---- proposals
-
-all_take : {A : Type 0} (P : A → Type 0) (n : ℕ) (xs : List A) → AllByRecursion P xs → AllByRecursion P (take n xs)
-all_take P zero xs h = tt
-all_take P (suc n) [] h = tt
-all_take P (suc n) (x ∷ xs) h = (h.0, all_take P n xs h.1)
 
 take_nothing : {A : Type 0} (n : ℕ) (xs : List A) → 1 ≤ n → take n xs ≡ [] → xs ≡ []
 take_nothing zero xs low h = absurd (omega (arith, low))
@@ -393,13 +370,13 @@ found_small inputs is_small coordinator old new l settling ready parts quiet =
     view = view_of input committed
 
     none_shown : view.jobs ≡ []
-    none_shown = none_pass is_active committed.jobs quiet.over
+    none_shown = filter_none is_active committed.jobs quiet.over
 
     named : named_tables committed.trees (filter is_active committed.jobs) ≡ flat_map tree_tables committed.trees
     named = ap (λ jobs. flat_map tree_tables committed.trees ++ flat_map job_tables jobs) none_shown ∙ append-nil (flat_map tree_tables committed.trees)
 
     none_runs : count_by (has_status Running) committed.jobs ≡ 0
-    none_runs = sym (length-filter (has_status Running) committed.jobs) ∙ ap length (none_pass (has_status Running) committed.jobs (all_to _ _ committed.jobs (λ job there over. other_or (has_status Running job) (λ runs. let active = (active_status job.status).1.1 runs in cc (active, over))) quiet.over))
+    none_runs = sym (length-filter (has_status Running) committed.jobs) ∙ ap length (filter_none (has_status Running) committed.jobs (all_to _ _ committed.jobs (λ job there over. other_or (has_status Running job) (λ runs. let active = (active_status job.status).1.1 runs in cc (active, over))) quiet.over))
 
     some_room : 1 ≤ input.options.concurrent - count_by (has_status Running) committed.jobs
     some_room = let place = ready.some_place in let none = none_runs in omega (arith, place, none)

@@ -6,12 +6,13 @@ use Rattle.fleet_model.specs.History.{Party, Event, is_get_or_put}
 use Rattle.fleet_model.specs.Store.{Store}
 use Rattle.fleet_model.specs.Exchanges.{Exchange, Plain, DrawsJob, DrawsTable, PutsTable, PutsManifest, PutsRecords, ListsTables, DeletesTable, Fault, event_of, after_answered, strikes, waiting_after, struck_by, does_stand}
 use Rattle.step_model.specs.Past.{World}
-use Rattle.step_model.specs.Rivals.{Caller, Rivals, Strike, store_after_call, after_call}
+use Rattle.step_model.specs.Rivals.{Caller, Strike, store_after_call, after_call}
 use Rattle.step_model.specs.Courses.Course.{Course, Ends, Calls}
 use Rattle.step_model.specs.Courses.CourseRuns.{HasRoom}
 use Rattle.step_model.specs.Courses.Alone.{AloneEnd, run_alone}
 use Rattle.course_laws.proofs.Later.{entry_by, call_history}
 use Rattle.line_laws.specs.Alone.{HadRoom, IsRun, AloneRuns}
+use Rattle.rival_laws.proofs.Runs.{rivals_none}
 
 -- ---- histories grow
 
@@ -19,7 +20,7 @@ pub call_grows : (line : ℕ) (party : Party) (x : Exchange) (strike : Strike) (
 call_grows line party x strike store = ap length (call_history line party x strike store) ∙ length-append store.history (entry_by line party x strike store ∷ [])
 
 -- The end of a run whose next call is struck, and of one whose next call is answered.
-abbrev struck_end : {A : Type 0} → ℕ → Party → Exchange → Option Fault → Store → AloneEnd A
+abbrev pub struck_end : {A : Type 0} → ℕ → Party → Exchange → Option Fault → Store → AloneEnd A
 struck_end line party x fault store = record { answer = None; store = struck_by (does_stand fault) line party x store; fault = None }
 
 abbrev answered_end : {A : Type 0} → ℕ → Party → Exchange → (Store → Course A) → Option Fault → Store → AloneEnd A
@@ -35,10 +36,6 @@ alone_grows {A} line party (Calls x next) fault store = by (strikes (event_of x 
     by false rest = let one = call_grows line party x None store in omega (arith, one, rest)
 
 -- ---- runs
-
--- No calls of others lead from one world to the next.
-pub no_rivals : (who : Caller) (world : World) → Rivals who world world
-no_rivals who world = record { calls = []; lead = refl; none = λ alone. refl }
 
 struck_counts : (event : Event) (fault : Option Fault) → strikes event fault ≡ true → IsTrue (is_get_or_put event)
 struck_counts event None e = absurd (cc e)
@@ -65,7 +62,7 @@ alone_runs {A} who (Calls x next) world fault room =
     by (strikes (event_of x world.store) fault) refl (alone_runs who (next world.store) (after_call who.line who.party x None world) (waiting_after (event_of x world.store) fault)) room
   where
     further : (end : AloneEnd A) → length world.store.history + 1 < drawn_base → IsRun who (next world.store) (after_call who.line who.party x None world) end → IsRun who (Calls x next) world end
-    further end room rest = record { new = rest.new; left = rest.left; run = (world, (no_rivals who world, inr (has_room x world room, rest.run))) }
+    further end room rest = record { new = rest.new; left = rest.left; run = (world, (rivals_none who world, inr (has_room x world room, rest.run))) }
 
     by : (b : Bool) → strikes (event_of x world.store) fault ≡ b
         → (HadRoom (answered_end who.line who.party x next fault world.store).store → IsRun who (next world.store) (after_call who.line who.party x None world) (answered_end who.line who.party x next fault world.store))
@@ -74,7 +71,7 @@ alone_runs {A} who (Calls x next) world fault room =
     by true e rest room = record {
       new = after_call who.line who.party x (Some (does_stand fault)) world;
       left = refl;
-      run = (world, (no_rivals who world, inl (struck_counts (event_of x world.store) fault e, (does_stand fault, refl))));
+      run = (world, (rivals_none who world, inl (struck_counts (event_of x world.store) fault e, (does_stand fault, refl))));
     }
     by false e rest room =
         let one = call_grows who.line who.party x None world.store in

@@ -10,7 +10,7 @@ use Rattle.fleet_model.specs.History.{Event, GetManifest, GetRecords, Claim}
 use Rattle.fleet_model.specs.Store.{Manifest, Records, Store, stored_jobs, jobs_in}
 use Rattle.fleet_model.specs.Work.Attempts.{ClaimInput}
 use Rattle.fleet_model.specs.Work.Records.{jobs_after}
-use Rattle.fleet_model.specs.Work.Parties.{Attempt, LiveWorker, attempt_jobs, with_attempts, without_attempts}
+use Rattle.fleet_model.specs.Work.Parties.{LiveWorker, attempt_jobs, with_attempts, without_attempts}
 use Rattle.fleet_model.specs.Invariants.JobsFit.{OpenedStands}
 use Rattle.fleet_model.specs.Work.Claims.{is_waiting, may_take, stopped_jobs, claimed_jobs, claimed_attempt}
 use Rattle.fleet_model.specs.Exchanges.{Plain, PutsRecords, records_version, after_exchange}
@@ -24,10 +24,12 @@ use Rattle.step_model.specs.Steps.ClaimSteps.{WorkerOptions, Claimed, at_moment,
 use Rattle.step_laws.specs.Runs.{CallsKeep}
 use Rattle.step_laws.proofs.Elements.{all_at, all_to}
 use Rattle.commit_laws.proofs.Stretches.{filter_all}
-use Rattle.course_laws.proofs.Calls.{all_take, filtered, and_first}
+use Rattle.course_laws.proofs.Calls.{all_take, filtered}
 use Rattle.worker_laws.proofs.CanStart.{stands_starts}
 use Rattle.line_laws.specs.Lines.ClaimLines.{with_claimed}
 use Rattle.line_laws.proofs.PollRuns.{Going, alone_next, RecordsPut, records_put}
+use Rattle.worker_laws.proofs.Claims.{none_stopped}
+use Rattle.rival_laws.proofs.JobsMerged.{and_first}
 
 -- ---- jobs that can start
 
@@ -84,10 +86,6 @@ took_these options moment w old jobs these new report same t = at (subst (λ (js
 take_none : {A : Type 0} (n : ℕ) → take {A = A} n [] ≡ []
 take_none zero = refl
 take_none (suc n) = refl
-
-none_stopped : (attempts : List Attempt) → without_attempts [] attempts ≡ attempts
-none_stopped [] = refl
-none_stopped (a ∷ attempts) = ap (λ (rest : List Attempt). a ∷ rest) (none_stopped attempts)
 
 -- The report of a claim that starts these jobs.
 abbrev started : ClaimInput → LiveWorker → List ℕ → Jobs → Jobs → Claimed

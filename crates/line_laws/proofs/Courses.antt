@@ -14,7 +14,7 @@ use Rattle.step_model.specs.Courses.Course.{Course, Ends, Calls, then_course, ca
 use Rattle.step_model.specs.Courses.CourseRuns.{End, Gives, MeetsFault, LacksMemory, HasRoom, StopsAt, Runs, IsLawfulCourse}
 use Rattle.step_laws.specs.Runs.{CallsKeep}
 use Rattle.step_laws.proofs.Runs.{struck_has_room}
-use Rattle.course_laws.proofs.Sweeps.{alone_same}
+use Rattle.step_laws.proofs.RanLaws.{only_met}
 
 -- ---- lawful courses
 
@@ -76,10 +76,10 @@ pub runs_hold : {A : Type 0} (who : Caller) (Q : Exchange → Type 0) (P : World
     → IsLawfulCourse who old course → Runs who course old new end → P old → P new
 runs_hold who Q P (Ends answer) alone keep hold all old new end kept lawful run p = subst P run.0 p
 runs_hold who Q P (Calls x next) alone keep hold all old new end kept lawful (met, (rivals, inl stops)) p =
-    let same = alone_same who old met alone rivals in
+    let same = only_met who old met alone rivals in
     stops_hold who Q P x met new end hold (subst (Keeps who.merge) same kept) (λ room. (lawful met rivals room).0) all.0 stops (subst P same p)
 runs_hold who Q P (Calls x next) alone keep hold all old new end kept lawful (met, (rivals, inr (room, run))) p =
-    let same = alone_same who old met alone rivals in
+    let same = only_met who old met alone rivals in
     let there = subst (Keeps who.merge) same kept in
     let here = lawful met rivals room in
     runs_hold who Q P (next met.store) alone keep hold (all.1 met.store) _ new end (keep x who.line who.party None met there here.0 tt) here.1 run (hold x None met there here.0 tt all.0 (subst P same p))

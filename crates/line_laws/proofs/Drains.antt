@@ -1,6 +1,6 @@
 -- What the steps of a commit do to the flushes that a tree's nodes name: a drain takes those of its sources, and a join and a move take none.
 use Rattle.std.proofs.Common.{◌≡◌, ◌≢◌, refl, sym, ◌∙◌, ap, subst, ℕ, ◌<◌, List, [], ◌∷◌, ◌++◌, cond, Bool, true, false, inl, inr, Option, Some, None, append_assoc, append-nil, arith}
-use Rattle.std.specs.Prelude.{IsTrue, ◌==◌, ◌||◌, not, filter, find, flat_map, bytes_eq, option_map}
+use Rattle.std.specs.Prelude.{IsTrue, not, filter, flat_map, bytes_eq, option_map}
 use Rattle.std.specs.List.{AllByRecursion, concat, cons_option}
 use Rattle.std.proofs.lemmas.Grind.{flat_map-append}
 use Rattle.std.proofs.lemmas.Bool.Decides.{Decides-eqb}
@@ -8,14 +8,14 @@ use Rattle.std.proofs.lemmas.Slice.Eq.{bytes_eq-Decides}
 use Rattle.row_model.specs.Rows.{Row}
 use Rattle.row_model.specs.Lists.{Pairs}
 use Rattle.row_model.specs.Fold.{Operator, IsLawful}
-use Rattle.fleet_model.specs.Nodes.{Tables, table_rows, rows_or_none, NodeName, name_eq, names_contain, L0, Run, is_among, Node, Tree, node_named, node_rows, Segment, Trees, segment_at, tree_at, tree_or_empty}
+use Rattle.fleet_model.specs.Nodes.{Tables, table_rows, NodeName, name_eq, names_contain, L0, Run, is_among, Node, Tree, node_named, node_rows, Segment, Trees, segment_at, tree_at, tree_or_empty}
 use Rattle.fleet_model.specs.Jobs.{JobSpec, Job, contains, job_with}
 use Rattle.fleet_model.specs.History.{Party, Step, Join, Move, Drain}
-use Rattle.fleet_model.specs.Store.{Records, jobs_in, stored_jobs}
-use Rattle.fleet_model.specs.Past.Replay.{outputs_in, outputs_of}
+use Rattle.fleet_model.specs.Store.{stored_jobs}
+use Rattle.fleet_model.specs.Past.Replay.{outputs_in}
 use Rattle.fleet_model.specs.Trees.{source_nodes, without_nodes, on_segment, stepped_in, stepped_all, watermark_after, job_of}
 use Rattle.fleet_model.specs.Invariants.JobsFit.{was_joined}
-use Rattle.fleet_model.specs.Invariants.TreesFit.{IsNewer, IsTable, node_and_flushed_rows}
+use Rattle.fleet_model.specs.Invariants.TreesFit.{IsNewer, node_and_flushed_rows}
 use Rattle.step_model.specs.Past.{World}
 use Rattle.step_model.specs.Entries.{drew_job, is_mentioned}
 use Rattle.step_model.specs.LawfulManifests.{IsKnownTo, StepFits, StepsFit}
@@ -36,6 +36,9 @@ use Rattle.commit_laws.proofs.StepForms.{joins_replace, moves_replace}
 use Rattle.coordinator_laws.proofs.PollReports.{fits_at}
 use Rattle.line_laws.proofs.Parties.{found}
 use Rattle.line_laws.specs.Undrained.{flushes_in, taken_by, without_flushes, left_by}
+use Rattle.step_laws.proofs.Flushes.{table_of}
+use Rattle.step_laws.proofs.KnownJobs.{outputs_are}
+use Rattle.commit_laws.proofs.RunTrees.{first_of}
 
 -- ---- lists
 
@@ -71,14 +74,10 @@ kept_flushes keep left (node ∷ tree) stay go = by (keep node) refl (kept_flush
 
 -- ---- one tree
 
-has_first : (rows : List Row) → rows ≢ [] → (r : Row) × IsIn r rows
-has_first [] h = absurd (h refl)
-has_first (r ∷ rows) h = (r, inl refl)
-
 -- No flush is in a newer node and in an older one.
 flush_once : (tables : Tables) (newer older : Node) (flush : ℕ) → IsNewer tables newer older → IsIn flush newer.flushes → IsIn flush older.flushes → table_rows tables flush ≢ [] → ⊥
 flush_once tables newer older flush h one other some =
-    let first = has_first (table_rows tables flush) some in
+    let first = first_of (table_rows tables flush) some in
     let low = all_at (λ (q : Row). q.seq < first.0.seq) (node_and_flushed_rows tables older) first.0
     (all_at (λ (r : Row). AllByRecursion (λ (q : Row). q.seq < r.seq) (node_and_flushed_rows tables older)) (node_and_flushed_rows tables newer) first.0 h (in_back first.0 (node_rows tables newer) _ (in_flat (table_rows tables) newer.flushes flush first.0 one first.1)))
     (in_back first.0 (node_rows tables older) _ (in_flat (table_rows tables) older.flushes flush first.0 other first.1)) in
@@ -218,10 +217,6 @@ drain_flushes tables trees spec id outputs each prefix = ap (λ (o : Option Segm
 
 -- ---- the steps
 
-outputs_are : (records : Option Records) (id : ℕ) (job : Job) → job_with id (jobs_in records) ≡ Some job → outputs_in records id ≡ concat job.outputs
-outputs_are None id job e = absurd (cc e)
-outputs_are (Some records) id job e = ap outputs_of e
-
 spec_is : (party : Party) (world : World) (specs : ℕ → JobSpec) (id : ℕ) (job : Job) → job_with id (stored_jobs world.store) ≡ Some job → IsKnownTo party world specs id → specs id ≡ job.spec
 spec_is party world specs id job stored known = at (job_with id (stored_jobs world.store)) stored known
   where
@@ -235,15 +230,6 @@ spec_is party world specs id job stored known = at (job_with id (stored_jobs wor
       where
         same : Some other ≡ Some job → other ≡ job
         same e = cc e
-
--- A table that was put is a table.
-table_of : (tables : Tables) (name : ℕ) → AllByRecursion (λ table. IsTable table.1) tables → IsTrue (is_among tables name) → IsTable (table_rows tables name)
-table_of [] name h put = absurd (cc put)
-table_of (table ∷ tables) name h put = by (table.0 == name) (table_of tables name h.1) put
-  where
-    by : (b : Bool) → (IsTrue (is_among tables name) → IsTable (table_rows tables name)) → IsTrue (b || is_among tables name) → IsTable (rows_or_none (cond b (Some table) (find (λ held. held.0 == name) tables)))
-    by true rest put = h.0
-    by false rest put = rest put
 
 -- A step after the first ones of a commit, over the trees that these left.
 record StepAt (merge : Operator) (world : World) (party : Party) (specs : ℕ → JobSpec) (first : List Step) (step : Step) : Type 0 where

@@ -17,13 +17,14 @@ use Rattle.step_model.specs.Kept.Keeps.{Keeps}
 use Rattle.step_model.specs.LawfulRecords.{OfSome, IsStoredAs, IsLiveAt, NamesFit, RecordsFit, ChangeFits, PollFits}
 use Rattle.step_laws.proofs.Elements.{IsIn, all_at, any_of, contains_in}
 use Rattle.step_laws.proofs.Changed.{found_job, job_found, on_these, by_these, all_on_these}
-use Rattle.step_laws.proofs.Mute.{IsMute}
+use Rattle.step_laws.proofs.Mute.{IsMute, and_never}
 use Rattle.step_laws.proofs.Bodies.{whole_of}
 use Rattle.step_laws.proofs.NewJobs.{in_new, rise_new, new_ids}
 use Rattle.rival_laws.proofs.Outcomes.{Outcome, Notes, Deletes, NewTable, NewManifest, NewRecords, outcome}
-use Rattle.course_laws.proofs.Calls.{and_first}
 use Rattle.line_laws.specs.States.{awaits_commit, FinishedAreStored}
 use Rattle.line_laws.proofs.Courses.{CallsHold}
+use Rattle.step_laws.proofs.Plain.{opened_among}
+use Rattle.rival_laws.proofs.JobsMerged.{and_first}
 
 -- ---- the history
 
@@ -47,16 +48,12 @@ mute_says_none true event id before mute = refl
 abbrev pub awaits : ℕ → Jobs → Bool
 awaits id jobs = list_any (awaits_commit id) jobs
 
-or_none : (b : Bool) → (b || false) ≡ b
+pub or_none : (b : Bool) → (b || false) ≡ b
 or_none true = refl
 or_none false = refl
 
-and_none : (b : Bool) → (b && false) ≡ false
-and_none true = refl
-and_none false = refl
-
 ended_awaits_none : (id : ℕ) (job : Job) → is_active job ≡ false → awaits_commit id job ≡ false
-ended_awaits_none id job ended = ap (λ (b : Bool). (id == job.id) && b) (by job.status ended) ∙ and_none (id == job.id)
+ended_awaits_none id job ended = ap (λ (b : Bool). (id == job.id) && b) (by job.status ended) ∙ and_never (id == job.id)
   where
     by : (status : Status) → cond (is_finished status) false true ≡ false → status_eq Compacted status ≡ false
     by Compacted e = absurd (cc e)
@@ -87,11 +84,11 @@ awaits_changed id f these (job ∷ jobs) same =
 
 -- A job that is put in is Submitted.
 awaits_put : (id : ℕ) (p : ℕ × JobSpec) (jobs : Jobs) → awaits id (put_job (new_job p) jobs) ≡ awaits id jobs
-awaits_put id p [] = ap (λ (b : Bool). b || false) (and_none (id == p.0))
+awaits_put id p [] = ap (λ (b : Bool). b || false) (and_never (id == p.0))
 awaits_put id p (job ∷ jobs) = by (nat_lt p.0 job.id) (awaits_put id p jobs)
   where
     by : (b : Bool) → awaits id (put_job (new_job p) jobs) ≡ awaits id jobs → awaits id (cond b (new_job p ∷ job ∷ jobs) (job ∷ put_job (new_job p) jobs)) ≡ (awaits_commit id job || awaits id jobs)
-    by true rest = ap (λ (b : Bool). b || (awaits_commit id job || awaits id jobs)) (and_none (id == p.0))
+    by true rest = ap (λ (b : Bool). b || (awaits_commit id job || awaits id jobs)) (and_never (id == p.0))
     by false rest = ap (λ (b : Bool). awaits_commit id job || b) rest
 
 awaits_new : (id : ℕ) (named : List (ℕ × JobSpec)) (jobs : Jobs) → awaits id (with_new named jobs) ≡ awaits id jobs
@@ -101,7 +98,7 @@ awaits_new id (p ∷ named) jobs = awaits_new id named (put_job (new_job p) jobs
 -- ---- one change
 
 neither : (id : ℕ) (old new : Job) → has_status Compacted old ≡ false → has_status Compacted new ≡ false → awaits_commit id new ≡ awaits_commit id old
-neither id old new was is = ap (λ (b : Bool). (id == new.id) && b) is ∙ and_none (id == new.id) ∙ sym (ap (λ (b : Bool). (id == old.id) && b) was ∙ and_none (id == old.id))
+neither id old new was is = ap (λ (b : Bool). (id == new.id) && b) is ∙ and_never (id == new.id) ∙ sym (ap (λ (b : Bool). (id == old.id) && b) was ∙ and_never (id == old.id))
 
 pub other_awaits_none : (id : ℕ) (job : Job) → (id ≡ job.id → ⊥) → awaits_commit id job ≡ false
 other_awaits_none id job other = by (id == job.id) refl
@@ -164,15 +161,12 @@ all_to_any P Q (x ∷ xs) to h = (to x h.0, all_to_any P Q xs to h.1)
 
 -- ---- a poll's change
 
-abbrev freed_jobs : PollChange → Jobs → Jobs
-freed_jobs change jobs = changed_jobs to_waiting change.freed (with_new change.added jobs)
-
 abbrev opened_jobs : Unrecorded → PollChange → Jobs → Jobs
-opened_jobs u change jobs = changed_jobs (to_scheduled u.tables_of) change.scheduled (freed_jobs change jobs)
+opened_jobs u change jobs = changed_jobs (to_scheduled u.tables_of) change.scheduled (opened_among change jobs)
 
 -- A freed job ran, and no new job is freed into a job that waits for its commit.
 freed_awaits : (merge : Operator) (party : Party) (world : World) (u : Unrecorded) (change : PollChange) (jobs : Jobs) (id : ℕ) → Pairs (λ a b. a.id < b.id) (stored_jobs world.store) → PollFits party world u change jobs
-    → awaits id (freed_jobs change (stored_jobs world.store)) ≡ awaits id (stored_jobs world.store)
+    → awaits id (opened_among change (stored_jobs world.store)) ≡ awaits id (stored_jobs world.store)
 freed_awaits merge party world u change jobs id rise fits =
     awaits_changed id to_waiting change.freed (with_new change.added (stored_jobs world.store)) (λ job there named. neither id job (to_waiting job) (was job named (in_new change.added (stored_jobs world.store) job there)) refl)
     ∙ awaits_new id change.added (stored_jobs world.store)
@@ -185,7 +179,7 @@ freed_awaits merge party world u change jobs id rise fits =
 
 -- An opened job was Submitted.
 opened_awaits : (party : Party) (world : World) (u : Unrecorded) (change : PollChange) (jobs : Jobs) (id : ℕ) → Pairs (λ a b. a.id < b.id) (with_new change.added (stored_jobs world.store)) → PollFits party world u change jobs
-    → awaits id (opened_jobs u change (stored_jobs world.store)) ≡ awaits id (freed_jobs change (stored_jobs world.store))
+    → awaits id (opened_jobs u change (stored_jobs world.store)) ≡ awaits id (opened_among change (stored_jobs world.store))
 opened_awaits party world u change jobs id rise fits = by all
   where
     begun : Jobs
@@ -196,13 +190,13 @@ opened_awaits party world u change jobs id rise fits = by all
         (of_some_to _ (λ other. has_status Compacted other ≡ false) (job_with job.id begun) (λ other is. status_not Submitted other is.0 refl)
         (all_at _ change.scheduled job.id fits.opened (contains_in change.scheduled job.id named)))
 
-    all : AllByRecursion (λ job. IsTrue (contains change.scheduled job.id) → has_status Compacted job ≡ false) (freed_jobs change (stored_jobs world.store))
+    all : AllByRecursion (λ job. IsTrue (contains change.scheduled job.id) → has_status Compacted job ≡ false) (opened_among change (stored_jobs world.store))
     all = all_on_these (λ job. IsTrue (contains change.scheduled job.id) → has_status Compacted job ≡ false) to_waiting change.freed begun
         (λ job there. by_these (λ (other : Job). IsTrue (contains change.scheduled other.id) → has_status Compacted other ≡ false) to_waiting change.freed job (λ freed named. refl) (λ kept named. submitted job there named))
 
-    by : AllByRecursion (λ job. IsTrue (contains change.scheduled job.id) → has_status Compacted job ≡ false) (freed_jobs change (stored_jobs world.store)) → awaits id (opened_jobs u change (stored_jobs world.store)) ≡ awaits id (freed_jobs change (stored_jobs world.store))
-    by h = awaits_changed id (to_scheduled u.tables_of) change.scheduled (freed_jobs change (stored_jobs world.store))
-        (λ job there named. neither id job (to_scheduled u.tables_of job) (all_at (λ (other : Job). IsTrue (contains change.scheduled other.id) → has_status Compacted other ≡ false) (freed_jobs change (stored_jobs world.store)) job h there named) refl)
+    by : AllByRecursion (λ job. IsTrue (contains change.scheduled job.id) → has_status Compacted job ≡ false) (opened_among change (stored_jobs world.store)) → awaits id (opened_jobs u change (stored_jobs world.store)) ≡ awaits id (opened_among change (stored_jobs world.store))
+    by h = awaits_changed id (to_scheduled u.tables_of) change.scheduled (opened_among change (stored_jobs world.store))
+        (λ job there named. neither id job (to_scheduled u.tables_of job) (all_at (λ (other : Job). IsTrue (contains change.scheduled other.id) → has_status Compacted other ≡ false) (opened_among change (stored_jobs world.store)) job h there named) refl)
 
 contains_none : (xs ys : List ℕ) (n : ℕ) → contains (xs ++ ys) n ≡ false → (contains xs n ≡ false) × (contains ys n ≡ false)
 contains_none [] ys n e = (refl, e)
@@ -237,12 +231,12 @@ unended_awaits id change jobs none =
 -- A job that the change ends awaits nothing.
 ended_awaits : (id : ℕ) (change : PollChange) (jobs : Jobs) → contains (change.completed ++ change.failed) id ≡ true → awaits id (changed_jobs to_failed change.failed (changed_jobs to_completed change.completed jobs)) ≡ false
 ended_awaits id change jobs ends = none_awaits id _ (all_on_these (λ job. awaits_commit id job ≡ false) to_failed change.failed (changed_jobs to_completed change.completed jobs) (λ job there.
-    by_these (λ (other : Job). awaits_commit id other ≡ false) to_failed change.failed job (λ named. and_none (id == job.id)) (λ unnamed.
+    by_these (λ (other : Job). awaits_commit id other ≡ false) to_failed change.failed job (λ named. and_never (id == job.id)) (λ unnamed.
     all_at (λ (other : Job). contains change.failed other.id ≡ false → awaits_commit id other ≡ false) (changed_jobs to_completed change.completed jobs) job completed there unnamed)))
   where
     completed : AllByRecursion (λ job. contains change.failed job.id ≡ false → awaits_commit id job ≡ false) (changed_jobs to_completed change.completed jobs)
     completed = all_on_these (λ job. contains change.failed job.id ≡ false → awaits_commit id job ≡ false) to_completed change.completed jobs (λ job there.
-        by_these (λ (other : Job). contains change.failed other.id ≡ false → awaits_commit id other ≡ false) to_completed change.completed job (λ named unfailed. and_none (id == job.id)) (λ unnamed unfailed.
+        by_these (λ (other : Job). contains change.failed other.id ≡ false → awaits_commit id other ≡ false) to_completed change.completed job (λ named unfailed. and_never (id == job.id)) (λ unnamed unfailed.
         other_awaits_none id job (λ same. never (contains_either change.completed change.failed id ends (ap (contains change.completed) same ∙ unnamed)) (ap (contains change.failed) same ∙ unfailed))))
       where
         never : contains change.failed id ≡ true → contains change.failed id ≡ false → ⊥

@@ -14,19 +14,17 @@ use Rattle.step_model.specs.Steps.PollSteps.{PollAsk}
 use Rattle.step_model.specs.LawfulRecords.{OfSome}
 use Rattle.step_laws.proofs.Elements.{IsIn, all_at, all_from, all_to, is_itself, any_element, in_contains, contains_in}
 use Rattle.step_laws.proofs.Changed.{found_job}
-use Rattle.course_laws.proofs.Calls.{and_first, filtered, all_map, in_map}
+use Rattle.course_laws.proofs.Calls.{filtered, all_map}
 use Rattle.line_laws.specs.States.{awaits_commit}
 use Rattle.line_laws.specs.Lines.FinishedJobs.{FinishedJobsWait}
 use Rattle.line_laws.specs.Lines.PollRuns.{input_at}
 use Rattle.coordinator_laws.specs.PollSays.{verdicts, all_verdicts, before_commits}
 use Rattle.coordinator_laws.proofs.PollReports.{got_jobs}
-use Rattle.line_laws.proofs.FinishedJobs.{awaits, none_awaits, other_awaits_none, stored_has, status_not}
+use Rattle.line_laws.proofs.FinishedJobs.{awaits, none_awaits, other_awaits_none, stored_has, status_not, or_none}
+use Rattle.step_laws.proofs.Polls.{in_map}
+use Rattle.rival_laws.proofs.JobsMerged.{and_first}
 
 -- ---- one job
-
-or_none : (b : Bool) → (b || false) ≡ b
-or_none true = refl
-or_none false = refl
 
 -- A stored job awaits its commit by its id if it is Compacted.
 awaits_own : (jobs : Jobs) (job : Job) → Pairs (λ a b. a.id < b.id) jobs → IsIn job jobs → awaits job.id jobs ≡ has_status Compacted job

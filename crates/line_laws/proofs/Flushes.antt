@@ -1,5 +1,5 @@
 -- A flush that is alone leaves no table that is still to come to a tree.
-use Rattle.std.proofs.Common.{◌≡◌, refl, sym, ◌∙◌, ap, subst, ℕ, zero, suc, List, [], ◌∷◌, ◌++◌, cond, Bool, true, false, Option, Some, None, inl, inr}
+use Rattle.std.proofs.Common.{◌≡◌, refl, sym, ◌∙◌, ap, subst, ℕ, zero, suc, List, cond, Bool, true, false, Option, Some, None, inl, inr}
 use Rattle.std.specs.Prelude.{◌==◌, ◌&&◌, ⊤}
 use Rattle.fleet_model.specs.History.{Party, Writer, Event, PutTable, Flush, Entry, Answer, Lost, Stands, Conflict}
 use Rattle.fleet_model.specs.Store.{Manifest, Store}
@@ -14,12 +14,9 @@ use Rattle.step_model.specs.Steps.FlushSteps.{FlushAsk, flush, flushes_from, unl
 use Rattle.course_laws.proofs.Later.{entry_by, call_history}
 use Rattle.course_laws.proofs.Sweeps.{NonePending}
 use Rattle.line_laws.proofs.Steps.{HasEnded}
+use Rattle.course_laws.proofs.NewTables.{last_own}
 
 -- ---- the writer's last entry
-
-last_own : (party : Party) (history : List Entry) (entry : Entry) (last : Option Entry) → party_eq party entry.party ≡ true → last_from last party (history ++ entry ∷ []) ≡ Some entry
-last_own party [] entry last own = ap (λ b. cond b (Some entry) last) own
-last_own party (first ∷ history) entry last own = last_own party history entry (cond (party_eq party first.party) (Some first) last) own
 
 -- ---- entries that are not pending
 

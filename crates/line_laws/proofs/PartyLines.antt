@@ -21,7 +21,7 @@ use Rattle.step_laws.specs.Runs.{CallsKeep}
 use Rattle.step_laws.proofs.Runs.{runs_keep}
 use Rattle.step_laws.proofs.Elements.{all_append}
 use Rattle.commit_laws.proofs.AllCalls.{calls_keep}
-use Rattle.course_laws.proofs.Sweeps.{alone_same, NonePending}
+use Rattle.course_laws.proofs.Sweeps.{NonePending}
 use Rattle.course_laws.proofs.Starts.{starts_are_lawful}
 use Rattle.worker_laws.proofs.Fewer.{idle_workers_fit}
 use Rattle.coordinator_laws.proofs.Coordinators.{starts_fit}
@@ -36,6 +36,7 @@ use Rattle.line_laws.proofs.Others.{coordinator_holds}
 use Rattle.line_laws.proofs.Lines.{caller_of, world_of, Left, Spares, line_keeps, coordinator_gone, coordinator_comes, worker_gone, worker_stays}
 use Rattle.line_laws.proofs.Steps.{none_comes}
 use Rattle.line_laws.proofs.SameLines.{no_party_keeps}
+use Rattle.step_laws.proofs.RanLaws.{only_met}
 
 -- ---- notes
 
@@ -85,7 +86,7 @@ after_notes who [] next old new answer keep alone own kept run = record { mid = 
 after_notes who (note ∷ notes) next old new answer keep alone own kept (met, (rivals, inl stops)) = absurd stops
 after_notes who (note ∷ notes) next old new answer keep alone own kept (met, (rivals, inr (room, run))) =
     after_notes who notes next (after_call who.line who.party (Plain note) None met) new answer keep alone own.1
-    (keep (Plain note) who.line who.party None met (subst (Keeps who.merge) (alone_same who old met alone rivals) kept) (own.0.fits met.store) tt) run
+    (keep (Plain note) who.line who.party None met (subst (Keeps who.merge) (only_met who old met alone rivals) kept) (own.0.fits met.store) tt) run
 
 -- ---- lines of notes alone
 

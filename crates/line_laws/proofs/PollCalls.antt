@@ -23,8 +23,9 @@ use Rattle.line_laws.specs.Lines.PollLines.{spell_poll}
 use Rattle.line_laws.specs.Faults.{calls_made, answer_made, MadeOf, AllMade, CutAt, answer_if, RunsCut}
 use Rattle.line_laws.specs.Lines.PollCalls.{reached_at, calls_of, ends_as, PollCalled, PollCalledBy, PollsCall}
 use Rattle.line_laws.proofs.Faults.{runs_cut}
-use Rattle.line_laws.proofs.PollRuns.{got_version, put_manifest_left}
+use Rattle.line_laws.proofs.PollRuns.{put_manifest_left}
 use Rattle.line_laws.proofs.PollLines.{whole_is, only_is}
+use Rattle.coordinator_laws.proofs.PollReports.{got_version}
 
 -- ---- courses
 

@@ -24,13 +24,14 @@ use Rattle.step_model.specs.Lawful.{Lawful}
 use Rattle.step_laws.specs.Runs.{CallsKeep}
 use Rattle.step_laws.proofs.Elements.{is_itself}
 use Rattle.rival_laws.proofs.Coordinators.{put_low}
-use Rattle.course_laws.proofs.Sweeps.{alone_same}
 use Rattle.course_laws.proofs.NewIds.{AreFresh, drawn_fresh}
 use Rattle.coordinator_laws.proofs.Quiet.{HasEpoch}
 use Rattle.coordinator_laws.proofs.Since.{Since, Got, Ready, ready_noted, drawn_noted}
 use Rattle.coordinator_laws.proofs.Course.{commit_lawful, got_both, ready_both, since_first, kept_first}
 use Rattle.line_laws.specs.Lines.PollRuns.{input_at, reached_state, with_ids, drawn_at, entry_of, draw_of, records_puts, calls_before, store_before, records_after, store_after, PollDid, CommitPut, JobsPut}
-use Rattle.line_laws.proofs.AloneRuns.{no_rivals}
+use Rattle.rival_laws.proofs.Runs.{rivals_none}
+use Rattle.coordinator_laws.proofs.PollReports.{got_version}
+use Rattle.step_laws.proofs.RanLaws.{only_met}
 
 -- ---- a party that is alone
 
@@ -54,7 +55,7 @@ alone_next {A} who x next world new answer keep alone going = by going.run
     by : Runs who (Calls x next) world new (Gives answer) → Gone who x next world new answer
     by (met, (rivals, inl stops)) = absurd stops
     by (met, (rivals, inr (room, run))) =
-        let same = alone_same who world met alone rivals in
+        let same = only_met who world met alone rivals in
         let here = going.lawful met rivals room in
         subst (λ (t : World). Gone who x next t new answer) (sym same) (at met (subst (Keeps who.merge) same going.kept) here.0 here.1 run)
 
@@ -113,10 +114,6 @@ draws_done {A} {B} who e m r moment before (x ∷ xs) next world new answer keep
     }
 
 -- ---- puts
-
-pub got_version : (records : Option Records) → (records_or_none records).version ≡ records_version records
-got_version None = refl
-got_version (Some records) = refl
 
 got_epoch : (records : Option Records) → (records_or_none records).epoch ≡ records_epoch records
 got_epoch None = refl
@@ -321,7 +318,7 @@ polls_did : (who : Caller) (ask : PollAsk) (left seen : ℕ) (world new : World)
 polls_did who ask zero seen world new p keep alone lawful counted own going = absurd (cc (going.run.1))
 polls_did who ask (suc left) seen world new p keep alone lawful counted own going = by
     (draws_done who e world first ask.moment [] (proposed_specs ask input (first_steps ask input)) (λ drawn. puts_trees e (reached_state ask world.store drawn) m got (suc left) seen (counted_tries (poll_try ask) left)) second new (Reports p) keep alone
-    (ready_both who e world first keep since (kept_first who world first keep going.kept (no_rivals who first))) (record { drawn = tt; fresh = tt; once = tt }) four.going)
+    (ready_both who e world first keep since (kept_first who world first keep going.kept (rivals_none who first))) (record { drawn = tt; fresh = tt; once = tt }) four.going)
   where
     e : ℕ
     e = ask.epoch
@@ -353,7 +350,7 @@ polls_did who ask (suc left) seen world new p keep alone lawful counted own goin
     four = unfenced who e got.epoch (polls_over ask world.store.tables m got (suc left) seen (counted_tries (poll_try ask) left)) second new p (alone_next who (Plain GetRecords) over first new (Reports p) keep alone two.going).going
 
     since : Since who e world first
-    since = since_first who e world first keep going.kept own (no_rivals who first)
+    since = since_first who e world first keep going.kept own (rivals_none who first)
 
     same_epoch : m.epoch ≡ e
     same_epoch = let low = two.low in let high = put_low m.epoch world.store.history e who.party going.kept.facts.epochs own.put in omega (arith, low, high)

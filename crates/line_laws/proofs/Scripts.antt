@@ -94,7 +94,7 @@ leads_on merge old mid new first second =
     let high = second.grows in
     record { grows = omega (arith, low, high); keeps = λ room k. second.keeps room (first.keeps (omega (arith, high, room)) k) }
 
-prepared_history : (line : Line) (s : State) → (prepared_state line s).store ≡ s.store
+pub prepared_history : (line : Line) (s : State) → (prepared_state line s).store ≡ s.store
 prepared_history (Options timeout concurrent slots ranges table_size moves retention) s = refl
 prepared_history (Clock moment) s = refl
 prepared_history (SetFault n stands) s = refl

@@ -1,9 +1,8 @@
 -- What the history says of an attempt that was claimed: its job was named, is at this attempt or a later one, and is no longer Submitted.
 use Rattle.std.proofs.Common.{◌≡◌, refl, sym, ◌∙◌, ap, subst, ℕ, ◌≤◌, List, [], ◌∷◌, ◌++◌, cond, Bool, true, false, Option, Some, None, arith}
-use Rattle.std.specs.Prelude.{IsTrue, ◌==◌, ◌&&◌, map, option_map, nat_lt, if◌then◌else◌}
+use Rattle.std.specs.Prelude.{IsTrue, map, option_map, nat_lt, if◌then◌else◌}
 use Rattle.std.specs.List.{AllByRecursion}
 use Rattle.std.proofs.lemmas.Bool.{ltb-true}
-use Rattle.std.proofs.lemmas.Bool.Decides.{Decides-eqb}
 use Rattle.std.specs.Option.{option_or}
 use Rattle.row_model.specs.Fold.{Operator}
 use Rattle.fleet_model.specs.Nodes.{Tables}
@@ -14,44 +13,13 @@ use Rattle.fleet_model.specs.Past.Replay.{Objects, plain_job, plain_objects, pla
 use Rattle.fleet_model.specs.Store.{Records, fresh_store, jobs_in, stored_jobs}
 use Rattle.fleet_model.specs.Past.Claimed.{beaten_in, first_beaten, if_earlier, origin}
 use Rattle.step_model.specs.Past.{World}
-use Rattle.step_model.specs.Entries.{was_claimed, is_claim_of, is_in, attempts_in}
-use Rattle.step_model.specs.Kept.NamesKept.{IsUpTo}
-use Rattle.step_laws.proofs.Elements.{all_at, all_from, any_element, Passes}
+use Rattle.step_laws.proofs.Elements.{all_from}
 use Rattle.step_laws.proofs.Worlds.{beaten_stays}
 use Rattle.step_laws.proofs.Bodies.{Body}
 use Rattle.step_laws.proofs.TableReplays.{all_trimmed, all_changed, all_with_new}
+use Rattle.step_laws.proofs.Beats.{beaten_push}
 
 -- ---- a claimed attempt is up to the stored one
-
-pub claimed_up_to : (merge : Operator) (world : World) (specs : ℕ → JobSpec) → Body merge world specs → (worker job attempt : ℕ) → IsTrue (was_claimed world.store.history worker job attempt) → IsUpTo world.store.history (stored_jobs world.store) (job, attempt)
-claimed_up_to merge world specs b worker job attempt h = at (any_element (λ (e : Entry). is_claim_of worker job attempt e.event && stood e.answer) world.store.history h)
-  where
-    same : (x : ℕ × ℕ) → (job == x.0 && attempt == x.1) ≡ true → IsUpTo world.store.history (stored_jobs world.store) x → IsUpTo world.store.history (stored_jobs world.store) (job, attempt)
-    same x e up = by (job == x.0) (attempt == x.1) refl refl e
-      where
-        by : (p q : Bool) → (job == x.0) ≡ p → (attempt == x.1) ≡ q → (p && q) ≡ true → IsUpTo world.store.history (stored_jobs world.store) (job, attempt)
-        by true true one other e = rw ((Decides-eqb job x.0).0 one, (Decides-eqb attempt x.1).0 other) up
-        by true false one other e = absurd (cc e)
-        by false q one other e = absurd (cc e)
-
-    listed : (attempts : List (ℕ × ℕ)) → IsTrue (is_in job attempt attempts) → AllByRecursion (IsUpTo world.store.history (stored_jobs world.store)) attempts → IsUpTo world.store.history (stored_jobs world.store) (job, attempt)
-    listed attempts there all =
-        let found = any_element (λ (a : ℕ × ℕ). job == a.0 && attempt == a.1) attempts there in
-        same found.element found.passes (all_at _ attempts found.element all found.there)
-
-    claim : (event : Event) (took : Bool) → (is_claim_of worker job attempt event && took) ≡ true → (IsTrue took → AllByRecursion (IsUpTo world.store.history (stored_jobs world.store)) (attempts_in event))
-        → IsUpTo world.store.history (stored_jobs world.store) (job, attempt)
-    claim (PutRecords (Claim other attempts)) took e all = by (worker == other) (is_in job attempt attempts) took refl e all
-      where
-        by : (own there took : Bool) → is_in job attempt attempts ≡ there → ((own && there) && took) ≡ true → (IsTrue took → AllByRecursion (IsUpTo world.store.history (stored_jobs world.store)) attempts) → IsUpTo world.store.history (stored_jobs world.store) (job, attempt)
-        by true true true is e all = listed attempts is (all refl)
-        by true true false is e all = absurd (cc e)
-        by true false took is e all = absurd (cc e)
-        by false there took is e all = absurd (cc e)
-    claim event took e all = absurd (cc e)
-
-    at : Passes (λ (e : Entry). is_claim_of worker job attempt e.event && stood e.answer) world.store.history → IsUpTo world.store.history (stored_jobs world.store) (job, attempt)
-    at found = claim found.element.event (stood found.element.answer) found.passes (all_at _ world.store.history found.element b.up_to found.there)
 
 -- ---- a Submitted job has no attempt yet
 
@@ -102,19 +70,6 @@ submitted_none merge world specs b =
     stored (Some records) h = unplain_none records.jobs h
 
 -- ---- the origin of an attempt
-
-beaten_push : (job : ℕ) (history : List Entry) (entry : Entry) → first_beaten job (history ++ entry ∷ []) ≡ option_or (first_beaten job history) (if stood entry.answer then beaten_in job entry.event else None)
-beaten_push job [] entry = by (if stood entry.answer then beaten_in job entry.event else None)
-  where
-    by : (o : Option ℕ) → option_or o None ≡ o
-    by None = refl
-    by (Some n) = refl
-beaten_push job (first ∷ history) entry =
-    ap (option_or (if stood first.answer then beaten_in job first.event else None)) (beaten_push job history entry) ∙ by (if stood first.answer then beaten_in job first.event else None)
-  where
-    by : (o : Option ℕ) → option_or o (option_or (first_beaten job history) (if stood entry.answer then beaten_in job entry.event else None)) ≡ option_or (option_or o (first_beaten job history)) (if stood entry.answer then beaten_in job entry.event else None)
-    by None = refl
-    by (Some n) = refl
 
 not_earlier : (n attempt : ℕ) → attempt ≤ n → if_earlier attempt (Some n) ≡ attempt
 not_earlier n attempt low = by (nat_lt n attempt) refl

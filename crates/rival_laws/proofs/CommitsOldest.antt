@@ -1,6 +1,6 @@
 -- A lawful commit leaves the oldest sources of a Running job the oldest.
 use Rattle.std.proofs.Common.{◌≡◌, refl, sym, ◌∙◌, ap, subst, ℕ, ◌<◌, List, [], ◌∷◌, ◌++◌, cond, Bool, true, false, inl, inr, ◌⊎◌, Option, Some, None, arith}
-use Rattle.std.specs.Prelude.{IsTrue, IfSome, ◌==◌, ◌&&◌, ◌||◌, not, map, flat_map, find, option_map, bytes_eq, is_some, ⊤}
+use Rattle.std.specs.Prelude.{IsTrue, IfSome, ◌==◌, ◌&&◌, ◌||◌, not, map, flat_map, option_map, bytes_eq, is_some, ⊤}
 use Rattle.std.specs.List.{AllByRecursion, list_all, concat}
 use Rattle.std.proofs.lemmas.Bool.Decides.{Decides-eqb}
 use Rattle.std.proofs.lemmas.List.{append-nil}
@@ -8,15 +8,15 @@ use Rattle.std.proofs.lemmas.Slice.Eq.{bytes_eq-Decides}
 use Rattle.row_model.specs.Lists.{Pairs}
 use Rattle.row_model.specs.Rows.{Row}
 use Rattle.row_model.specs.Fold.{Operator}
-use Rattle.fleet_model.specs.Nodes.{NodeName, L0, Run, is_l0, Node, Tree, Trees, Segment, Tables, is_among, names, names_contain, node_rows, table_rows, rows_or_none, segment_at, tree_at, tree_or_empty}
+use Rattle.fleet_model.specs.Nodes.{NodeName, L0, Run, is_l0, Node, Tree, Trees, Segment, Tables, is_among, names, names_contain, node_rows, table_rows, segment_at, tree_at, tree_or_empty}
 use Rattle.fleet_model.specs.Jobs.{JobSpec, Job, Status, Submitted, Scheduled, Running, Compacted, Completed, Failed, status_eq, has_status, is_finished, job_with, contains, nodes_of, with_destination, is_drain, is_drain_to}
 use Rattle.fleet_model.specs.History.{Party, Step, Join, Move, Drain}
 use Rattle.fleet_model.specs.Trees.{on_segment, stepped_tree, stepped_in, stepped_all, to_run, with_run_for, job_of, watermark_after}
 use Rattle.fleet_model.specs.Work.Records.{new_job}
-use Rattle.fleet_model.specs.Past.Replay.{outputs_in, outputs_of}
+use Rattle.fleet_model.specs.Past.Replay.{outputs_in}
 use Rattle.fleet_model.specs.Work.Gates.{is_nonempty, first_failing, reserves_nodes, is_free, destination_fits, are_distinct, names_older}
 use Rattle.fleet_model.specs.Sources.{run_ids, all_run_ids, older_nodes, reaches_oldest, is_whole_stretch, is_lowest_or_above, is_apart}
-use Rattle.fleet_model.specs.Store.{Manifest, Records, stored_jobs, jobs_in, is_held}
+use Rattle.fleet_model.specs.Store.{Manifest, stored_jobs, is_held}
 use Rattle.fleet_model.specs.Invariants.TreesFit.{StandsBefore, IsTree, IsTable, IsNewer, node_and_flushed_rows}
 use Rattle.fleet_model.specs.Invariants.JobsFit.{HoldApart, SourcesStand, DestinationFits, AreOldest, was_joined}
 use Rattle.step_model.specs.Past.{World}
@@ -31,16 +31,11 @@ use Rattle.step_laws.proofs.Changed.{IsFound, found_job, job_found}
 use Rattle.step_laws.proofs.PollJobs.{tree_has}
 use Rattle.rival_laws.proofs.SameParty.{pairs_across, pairs_back}
 use Rattle.rival_laws.proofs.Tails.{older_split, Tail, tail_oldest, apart_names, in_runs, run_above, tail_without, tail_with_run}
+use Rattle.step_laws.proofs.Flushes.{table_of}
+use Rattle.step_laws.proofs.Beats.{pairs_either}
+use Rattle.step_laws.proofs.KnownJobs.{outputs_are, known_spec}
 
 -- ---- names of a tree differ
-
-table_of : (tables : Tables) (name : ℕ) → AllByRecursion (λ table. IsTable table.1) tables → IsTrue (is_among tables name) → IsTable (table_rows tables name)
-table_of [] name h put = absurd (cc put)
-table_of (table ∷ tables) name h put = by (table.0 == name) (table_of tables name h.1) put
-  where
-    by : (b : Bool) → (IsTrue (is_among tables name) → IsTable (table_rows tables name)) → IsTrue (b || is_among tables name) → IsTable (rows_or_none (cond b (Some table) (find (λ held. held.0 == name) tables)))
-    by true rest put = h.0
-    by false rest put = rest put
 
 -- Two flushes of a tree have two names.
 abbrev FlushesDiffer : NodeName → NodeName → Type 0
@@ -170,10 +165,6 @@ running_stand merge world specs b job there runs = (all_at (JobKept merge world 
     waits Completed h = absurd (cc h)
     waits Failed h = absurd (cc h)
 
-pub outputs_are : (records : Option Records) (id : ℕ) (job : Job) → job_with id (jobs_in records) ≡ Some job → outputs_in records id ≡ concat job.outputs
-outputs_are None id job e = absurd (cc e)
-outputs_are (Some records) id job e = ap outputs_of e
-
 -- ---- what a step makes of a tail
 
 in_nodes : (destination : Option ℕ) (sources : List NodeName) (x : NodeName) → IsIn x sources → IsIn x (with_destination destination sources)
@@ -230,13 +221,6 @@ compacted_reserves Scheduled h = refl
 compacted_reserves Submitted h = absurd (cc h)
 compacted_reserves Completed h = absurd (cc h)
 compacted_reserves Failed h = absurd (cc h)
-
-pairs_either : {A : Type 0} (R : A → A → Type 0) (xs : List A) (a b : A) → Pairs R xs → IsIn a xs → IsIn b xs → (a ≡ b → ⊥) → R a b ⊎ R b a
-pairs_either R [] a b h one other differs = absurd one
-pairs_either R (x ∷ xs) a b h (inl first) (inl second) differs = absurd (differs (sym first ∙ second))
-pairs_either R (x ∷ xs) a b h (inl first) (inr other) differs = inl (subst (λ y. R y b) first (all_at (R x) xs b h.0 other))
-pairs_either R (x ∷ xs) a b h (inr one) (inl second) differs = inr (subst (λ y. R y a) second (all_at (R x) xs a h.0 one))
-pairs_either R (x ∷ xs) a b h (inr one) (inr other) differs = pairs_either R xs a b h.1 one other differs
 
 above_at : (sources ns out : List NodeName) (id : ℕ) (runs : List ℕ) → Tail sources ns → Pairs StandsBefore sources → IsTrue (is_nonempty out) → IsTrue (reaches_oldest out (older_nodes out ns)) → ((x : NodeName) → IsIn x out → IsIn x sources → ⊥)
     → IsTrue (is_lowest_or_above id (run_ids out) runs) → ((run : ℕ) → IsIn (Run run) ns → IsIn run runs) → AllByRecursion (StandsBefore (Run id)) sources
@@ -406,9 +390,6 @@ drain_tail merge world specs job trees joined id spec outputs c fits lacks t = t
     (λ same h. tail_without job.spec.sources spec.sources (tree_at job.spec.segment trees) h (at_once_apart merge world specs job trees joined id spec c fits lacks))
 
 -- ---- all steps
-
-known_spec : (party : Party) (world : World) (others : ℕ → JobSpec) (id : ℕ) (job : Job) → job_with id (stored_jobs world.store) ≡ Some job → IsKnownTo party world others id → others id ≡ job.spec
-known_spec party world others id job stored known = rw stored at known
 
 steps_tail : (merge : Operator) (world : World) (specs others : ℕ → JobSpec) (party : Party) (job : Job) → Case merge world specs job → (trees : Trees) (joined : List ℕ) (steps : List Step) → AllByRecursion (λ step. IsKnownTo party world others (job_of step)) steps → StepsFit world others trees joined steps
     → contains joined job.id ≡ false → InTrees job trees → InTrees job (stepped_all world.store.tables (λ id. (others id, outputs_in world.store.records id)) steps trees)

@@ -34,7 +34,7 @@ use Rattle.rival_laws.proofs.WorkerCalls.{did_grows}
 use Rattle.rival_laws.proofs.WorkerManifests.{AreSpared, trees_lack, lacked, compacted_active, commit_tables}
 use Rattle.rival_laws.proofs.WorkerRecords.{Case, JobSpares, change_spares, from_flat}
 
-refused : (b : Bool) → b ≡ false → b ≡ true → ⊥
+pub refused : (b : Bool) → b ≡ false → b ≡ true → ⊥
 refused true e f = absurd (cc e)
 refused false e f = absurd (cc f)
 

@@ -23,21 +23,18 @@ use Rattle.step_laws.proofs.TableReplays.{all_trimmed}
 use Rattle.step_laws.proofs.WorkerPuts.{each_named, stored_to, live_open}
 use Rattle.rival_laws.proofs.Coordinators.{waiting_open}
 use Rattle.rival_laws.specs.Idle.{NoneActive, brings_no_job, CallStaysIdle, StaysIdle}
+use Rattle.step_laws.proofs.FlushNodes.{refused}
 
 -- The job is active.
 abbrev IsActive : Job → Type 0
 IsActive job = IsTrue (is_active job)
-
-clash : (b : Bool) → b ≡ false → IsTrue b → ⊥
-clash true e h = absurd (cc e)
-clash false e h = absurd (cc h)
 
 -- A change of jobs that are active changes nothing if none is.
 none_changed : (f : Job → Job) (these : List ℕ) (jobs : Jobs) → ((job : Job) → IsIn job jobs → IsTrue (contains these job.id) → IsActive job) → AllByRecursion (λ job. is_active job ≡ false) jobs
     → AllByRecursion (λ job. is_active job ≡ false) (trimmed_jobs (changed_jobs f these jobs))
 none_changed f these jobs active none = all_trimmed _ (changed_jobs f these jobs) (all_on_these (λ job. is_active job ≡ false) f these jobs (λ job there.
     by_these (λ (j : Job). is_active j ≡ false) f these job
-    (λ named. absurd (clash (is_active job) (all_at (λ (j : Job). is_active j ≡ false) jobs job none there) (active job there named)))
+    (λ named. absurd (refused (is_active job) (all_at (λ (j : Job). is_active j ≡ false) jobs job none there) (active job there named)))
     (λ other. all_at (λ (j : Job). is_active j ≡ false) jobs job none there)))
 
 -- The change neither submits jobs nor is that of a poll.

@@ -192,7 +192,7 @@ open_active Failed is = absurd (cc is)
 pub stay_active : (f : Job → Job) (these : List ℕ) (jobs : Jobs) → TakesOver f these jobs → StayActive f these jobs
 stay_active f these jobs t = all_from _ jobs (λ job there named. (open_active job.status (t.opened job there named), taken_active (f job).status (t.takes job (t.opened job there named))))
 
-and_first : (a b : Bool) → (a && b) ≡ true → a ≡ true
+pub and_first : (a b : Bool) → (a && b) ≡ true → a ≡ true
 and_first true b e = refl
 and_first false b e = absurd (cc e)
 

@@ -29,7 +29,7 @@ rivals_then other a b c shared one two = record {
   none = λ alone. absurd (cc (alone, shared));
 }
 
-rivals_none : (other : Caller) (world : World) → Rivals other world world
+pub rivals_none : (other : Caller) (world : World) → Rivals other world world
 rivals_none other world = record { calls = []; lead = refl; none = λ alone. refl }
 
 -- Only a sweeper deletes tables.

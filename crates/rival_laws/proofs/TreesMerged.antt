@@ -8,7 +8,6 @@ use Rattle.std.proofs.lemmas.Bool.Decides.{Decides-eqb}
 use Rattle.std.proofs.lemmas.Cmp.{nat_list_cmp_total}
 use Rattle.std.proofs.lemmas.Slice.Eq.{bytes_eq-Decides}
 use Rattle.row_model.specs.Rows.{Row, key_cmp}
-use Rattle.row_laws.proofs.KeyRows.{key_alike}
 use Rattle.fleet_model.specs.Nodes.{L0, NodeName, Segment, Trees, names, segment_at, runs_of}
 use Rattle.fleet_model.specs.Trees.{flushed_trees, flushed_on, empty_segment}
 use Rattle.fleet_model.specs.History.{Entry}
@@ -16,7 +15,7 @@ use Rattle.step_model.specs.Entries.{was_flushed}
 use Rattle.step_model.specs.Kept.TablesKept.{IsPassed}
 use Rattle.step_model.specs.Steps.Merging.{is_watermark, flushes_before, merged_segment, merged_trees}
 use Rattle.step_laws.proofs.Elements.{IsIn, all_at, all_to}
-use Rattle.step_laws.proofs.FlushTrees.{Rising}
+use Rattle.step_laws.proofs.FlushTrees.{Rising, none_above}
 
 -- ---- a merge, segment by segment
 
@@ -36,17 +35,6 @@ each_merges local (s ∷ remote) h =
     λ i. first i ∷ rest i
 
 -- ---- a flush
-
-none_above : (p : List ℕ) (trees : Trees) → AllByRecursion (λ s. key_cmp p s.prefix ≡ Less) trees → segment_at p trees ≡ None
-none_above p [] h = refl
-none_above p (s ∷ trees) h = by (bytes_eq p s.prefix) refl (none_above p trees h.1)
-  where
-    by : (b : Bool) → bytes_eq p s.prefix ≡ b → segment_at p trees ≡ None → cond b (Some s) (segment_at p trees) ≡ None
-    by true e rest = let same = (bytes_eq-Decides p s.prefix).0 e in absurd (clash (subst (λ q. key_cmp p q ≡ Less) (sym same) h.0) (key_alike p))
-      where
-        clash : key_cmp p p ≡ Less → key_cmp p p ≡ Equal → ⊥
-        clash a b = absurd (cc (a, b))
-    by false e rest = rest
 
 less_from : (p : List ℕ) (s : Segment) (trees : Trees) → is_lt (key_cmp p s.prefix) ≡ true → AllByRecursion (λ t. key_cmp s.prefix t.prefix ≡ Less) trees → AllByRecursion (λ t. key_cmp p t.prefix ≡ Less) (s ∷ trees)
 less_from p s trees low rise =

@@ -14,7 +14,6 @@ use Rattle.fleet_model.specs.Invariants.JobsFit.{SettingsFit}
 use Rattle.fleet_model.specs.Past.Claimed.{beaten_in, if_earlier, origin}
 use Rattle.step_model.specs.Past.{World}
 use Rattle.step_model.specs.Entries.{is_claim_of, was_claimed, did_event, party_eq, is_put_of}
-use Rattle.step_model.specs.Kept.Faithful.{Faithful}
 use Rattle.step_model.specs.LawfulTables.{MayUse, IsOwnTable}
 use Rattle.step_model.specs.Kept.TablesKept.{PutsKept}
 use Rattle.step_model.specs.Fits.{AttemptHeld}
@@ -25,8 +24,8 @@ use Rattle.step_laws.proofs.Alike.{settings_same}
 use Rattle.step_laws.proofs.Grown.{drawn_table_grows}
 use Rattle.step_laws.proofs.Bodies.{Body}
 use Rattle.step_laws.proofs.Held.{held_grows, rows_stay}
-use Rattle.step_laws.proofs.MuteBodies.{entered, Matches, faithful_before}
-use Rattle.step_laws.proofs.TableBodies.{with_table, same_with_table}
+use Rattle.step_laws.proofs.MuteBodies.{entered, faithful_before}
+use Rattle.step_laws.proofs.TableBodies.{with_table, same_with_table, faithful_without_table}
 use Rattle.step_laws.proofs.ManifestEpochs.{no_new_piece}
 use Rattle.step_laws.proofs.ManifestBodies.{with_manifest, faithful_before_manifest}
 use Rattle.rival_laws.proofs.WorkerFollows.{Follows}
@@ -70,18 +69,6 @@ follows_entry world w deleted jobs_drawn tables_drawn entry mute held = record {
     still job t (inr own) = inr (record { drawn = drawn_table_grows world.store.history entry t own.drawn; put = did_grows (is_put_of t) (Worker w.number) world.store.history entry own.put; unused = own.unused; unnamed = own.unnamed })
 
 -- ---- a table
-
-pub faithful_with_table : (world : World) (new : ℕ × List Row) (specs : ℕ → JobSpec) → PutsKept world.store.history world.store.tables → Faithful world specs → Faithful (with_table world new) specs
-faithful_with_table world new specs puts f = record {
-  agrees = f.agrees;
-  manifests = λ front back e. subst (Matches world.past) (sym (same_with_table world new specs puts front back e)) (f.manifests front back e);
-}
-
-faithful_without_table : (world : World) (new : ℕ × List Row) (specs : ℕ → JobSpec) → PutsKept world.store.history world.store.tables → Faithful (with_table world new) specs → Faithful world specs
-faithful_without_table world new specs puts f = record {
-  agrees = f.agrees;
-  manifests = λ front back e. subst (Matches world.past) (same_with_table world new specs puts front back e) (f.manifests front back e);
-}
 
 pub follows_table : (world : World) (w : LiveWorker) (new : ℕ × List Row) → PutsKept world.store.history world.store.tables → Follows world (with_table world new) w
 follows_table world w new puts = record {

@@ -1,6 +1,6 @@
 -- What a worker holds, after a call that leaves its claims, its tables, its live jobs and their settings.
 use Rattle.std.proofs.Common.{◌≡◌, refl, sym, ◌∙◌, ap, subst, ℕ, List, [], ◌∷◌, ◌++◌, cond, Bool, true, false, inl, inr, ◌⊎◌, Option, Some, None}
-use Rattle.std.specs.Prelude.{IsTrue, IfSome, ◌==◌, ◌&&◌, map, filter, flat_map}
+use Rattle.std.specs.Prelude.{IsTrue, IfSome, ◌==◌, map, filter, flat_map}
 use Rattle.std.specs.List.{AllByRecursion}
 use Rattle.std.proofs.lemmas.Bool.Decides.{Decides-eqb}
 use Rattle.row_model.specs.Lists.{Pairs, IsPrefixOf}
@@ -29,6 +29,7 @@ use Rattle.step_laws.proofs.Elements.{IsIn, all_at, all_from, all_to, all_front,
 use Rattle.step_laws.proofs.Deletions.{in_filter}
 use Rattle.step_laws.proofs.Held.{are_put}
 use Rattle.step_laws.proofs.Changed.{job_found}
+use Rattle.step_laws.proofs.WorkerPuts.{last_of_three, first_of_three}
 
 -- ---- what follows
 
@@ -111,15 +112,6 @@ fewer_pairs {A} R p q (x ∷ xs) h pairs = by (p x) refl (q x) refl (λ rest. fe
 
 -- ---- an attempt that is live
 
-first_of : (a b c : Bool) → IsTrue (a && b && c) → IsTrue a
-first_of true b c h = refl
-first_of false b c h = absurd (cc h)
-
-last_of : (a b c : Bool) → IsTrue (a && b && c) → IsTrue c
-last_of true true c h = h
-last_of true false c h = absurd (cc h)
-last_of false b c h = absurd (cc h)
-
 -- A live attempt, with its stored job, which was stored before too.
 record StillLive (old new : World) (w : LiveWorker) (a : Attempt) : Type 0 where
   pub job : Job
@@ -141,10 +133,10 @@ still_live old new w a f there held live = by (job_with a.job (stored_jobs new.s
 
 -- The stored job of a live attempt is Running.
 pub runs_running : (w : LiveWorker) (a : Attempt) (job : Job) → IsTrue (runs_attempt w.number a.number (Some job)) → IsTrue (has_status Running job)
-runs_running w a job runs = first_of (has_status Running job) (is_leased_to w.number job.lease) (a.number == job.attempt) runs
+runs_running w a job runs = first_of_three (has_status Running job) (is_leased_to w.number job.lease) (a.number == job.attempt) runs
 
 pub runs_number : (w : LiveWorker) (a : Attempt) (job : Job) → IsTrue (runs_attempt w.number a.number (Some job)) → a.number ≡ job.attempt
-runs_number w a job runs = (Decides-eqb a.number job.attempt).0 (last_of (has_status Running job) (is_leased_to w.number job.lease) (a.number == job.attempt) runs)
+runs_number w a job runs = (Decides-eqb a.number job.attempt).0 (last_of_three (has_status Running job) (is_leased_to w.number job.lease) (a.number == job.attempt) runs)
 
 pub holds_after : (merge : Operator) (old new : World) (w : LiveWorker) (some : ℕ → JobSpec) → Faithful old some → Follows old new w → WorkerHolds merge old w → WorkerHolds merge new w
 holds_after merge old new w some was_faithful f h = record {

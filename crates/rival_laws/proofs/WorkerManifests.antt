@@ -30,7 +30,8 @@ use Rattle.step_laws.proofs.FlushNodes.{Differ, source_differs, known_differs, n
 use Rattle.step_laws.proofs.FlushTrees.{rising_from}
 use Rattle.step_laws.proofs.FlushFollows.{oldest_on}
 use Rattle.step_laws.proofs.ManifestEpochs.{not_stored}
-use Rattle.rival_laws.proofs.CommitsOldest.{running_stand, outputs_are, not_both, commits_leave_oldest}
+use Rattle.rival_laws.proofs.CommitsOldest.{running_stand, not_both, commits_leave_oldest}
+use Rattle.step_laws.proofs.KnownJobs.{outputs_are}
 use Rattle.rival_laws.proofs.Outcomes.{put_manifest}
 use Rattle.rival_laws.proofs.WorkerCalls.{ManifestSpares}
 

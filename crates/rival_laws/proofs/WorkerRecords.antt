@@ -32,10 +32,13 @@ use Rattle.step_laws.proofs.Changed.{on_these, by_these, all_on_these, found_job
 use Rattle.step_laws.proofs.NewJobs.{in_new, new_ids}
 use Rattle.step_laws.proofs.WorkerPuts.{stored_as, stored_to, each_named, live_open, live_attempt}
 use Rattle.rival_laws.proofs.SameParty.{same_party}
-use Rattle.rival_laws.proofs.AttemptFacts.{claimed_up_to, HasNone, submitted_none, origin_kept}
+use Rattle.rival_laws.proofs.AttemptFacts.{HasNone, submitted_none, origin_kept}
 use Rattle.rival_laws.proofs.WorkerFollows.{Follows, from_filter}
 use Rattle.rival_laws.proofs.WorkerCalls.{claim_grows, did_grows, held_sources}
 use Rattle.rival_laws.proofs.WorkerManifests.{not_named_by}
+use Rattle.step_laws.proofs.FlushNodes.{refused}
+use Rattle.step_laws.proofs.Claims.{scheduled_open}
+use Rattle.step_laws.proofs.Quiet.{claimed_up_to}
 
 -- ---- what a put of the records has to leave
 
@@ -143,10 +146,6 @@ old_spares merge world specs party w job c there = record {
 claimed : (merge : Operator) (world : World) (specs : ℕ → JobSpec) (party : Party) (w : LiveWorker) (a : Attempt) → Case merge world specs party w → AttemptHeld world w.number a → IsUpTo world.store.history (stored_jobs world.store) (a.job, a.number)
 claimed merge world specs party w a c h = claimed_up_to merge world specs c.body w.number a.job a.number h.claimed
 
-refused : (b : Bool) → b ≡ false → IsTrue b → ⊥
-refused true e h = absurd (cc e)
-refused false e h = absurd (cc h)
-
 -- The worker claimed no job that is new.
 new_unclaimed : (merge : Operator) (world : World) (specs : ℕ → JobSpec) (party : Party) (w : LiveWorker) (a : Attempt) (named : List (ℕ × JobSpec)) (p : ℕ × JobSpec) → Case merge world specs party w → AttemptHeld world w.number a → AreNew world named → IsIn p named → p.0 ≡ a.job → ⊥
 new_unclaimed merge world specs party w a named p c h new there same =
@@ -194,14 +193,6 @@ worker_spares merge world specs party w f these c each = all_from (JobSpares wor
 
 not_leased : (n m : ℕ) (party : Party) → party ≡ Worker m → party ≢ Worker n → IsTrue (n == m) → ⊥
 not_leased n m party by other h = other (by ∙ ap Worker (sym ((Decides-eqb n m).0 h)))
-
-scheduled_open : (s : Status) (unleased : Bool) → IsTrue (status_eq Scheduled s && unleased) → IsTrue (is_open s)
-scheduled_open Scheduled unleased h = refl
-scheduled_open Running unleased h = refl
-scheduled_open Submitted unleased h = absurd (cc h)
-scheduled_open Compacted unleased h = absurd (cc h)
-scheduled_open Completed unleased h = absurd (cc h)
-scheduled_open Failed unleased h = absurd (cc h)
 
 claim_spares : (merge : Operator) (world : World) (specs : ℕ → JobSpec) (party : Party) (w : LiveWorker) (u : Unrecorded) (worker : ℕ) (attempts : List (ℕ × ℕ)) → Case merge world specs party w → ClaimFits party world worker attempts
     → AllByRecursion (JobSpares world w) (jobs_after u (Claim worker attempts) (stored_jobs world.store))
@@ -301,7 +292,7 @@ opened_before party world u change jobs id fits named = by (job_with id (based w
     by None e never = absurd never
     by (Some job) e is = let found = job_found id (based world change) job e in record { job = job; there = found.there; same = found.same; submitted = is.0 }
 
-submitted_active : (s : Status) → IsTrue (status_eq Submitted s) → IsTrue (cond (is_finished s) false true)
+pub submitted_active : (s : Status) → IsTrue (status_eq Submitted s) → IsTrue (cond (is_finished s) false true)
 submitted_active Submitted h = refl
 submitted_active Scheduled h = absurd (cc h)
 submitted_active Running h = absurd (cc h)
@@ -309,7 +300,7 @@ submitted_active Compacted h = absurd (cc h)
 submitted_active Completed h = absurd (cc h)
 submitted_active Failed h = absurd (cc h)
 
-running_active : (s : Status) → IsTrue (status_eq Running s) → IsTrue (cond (is_finished s) false true)
+pub running_active : (s : Status) → IsTrue (status_eq Running s) → IsTrue (cond (is_finished s) false true)
 running_active Running h = refl
 running_active Submitted h = absurd (cc h)
 running_active Scheduled h = absurd (cc h)
@@ -317,7 +308,7 @@ running_active Compacted h = absurd (cc h)
 running_active Completed h = absurd (cc h)
 running_active Failed h = absurd (cc h)
 
-some_same : (a b : Job) → Some a ≡ Some b → a ≡ b
+pub some_same : (a b : Job) → Some a ≡ Some b → a ≡ b
 some_same a b e = cc e
 
 -- Two stored jobs with one id are one.

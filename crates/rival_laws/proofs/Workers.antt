@@ -18,11 +18,11 @@ use Rattle.step_laws.proofs.Elements.{IsIn, all_to, all_true_front, all_true_fro
 use Rattle.step_laws.proofs.Bodies.{whole_of}
 use Rattle.step_laws.proofs.Held.{held_but}
 use Rattle.step_laws.proofs.Deletions.{in_flat}
-use Rattle.step_laws.proofs.TableBodies.{with_table}
+use Rattle.step_laws.proofs.TableBodies.{with_table, faithful_with_table}
 use Rattle.rival_laws.specs.FitLaws.{SparesTables, WorkersKeep, RivalsKeepWorkers}
 use Rattle.rival_laws.proofs.Outcomes.{Outcome, Notes, Deletes, NewTable, NewManifest, NewRecords, outcome, put_manifest, put_records}
 use Rattle.rival_laws.proofs.WorkerFollows.{Follows, holds_after}
-use Rattle.rival_laws.proofs.WorkerCalls.{follows_entry, faithful_with_table, follows_table, follows_manifest}
+use Rattle.rival_laws.proofs.WorkerCalls.{follows_entry, follows_table, follows_manifest}
 use Rattle.rival_laws.proofs.WorkerManifests.{manifest_spares}
 use Rattle.rival_laws.proofs.WorkerRecords.{Case, JobSpares, follows_records, change_spares, origins_stay}
 

@@ -17,7 +17,7 @@ use Rattle.sched_laws.proofs.Begins.{differ_begins, looked_at, midway_begins, re
 use Rattle.sched_laws.proofs.Lists.{all_append, all_at, all_back, all_weaken, pairs_after, pairs_before, true_and}
 use Rattle.sched_laws.proofs.Names.{apart_back, within_from}
 use Rattle.sched_laws.proofs.Passes.{Fits, IsApartFrom, Rises, passes_keep}
-use Rattle.sched_laws.proofs.Picks.{or_true}
+use Rattle.course_laws.proofs.NewTables.{or_left, or_right}
 
 -- ---- all proposals
 
@@ -48,24 +48,20 @@ IsApartFromSpecs others spec = AllByRecursion (λ s. HasFreeId s → is_apart (n
 abbrev leaves_free : Job → Job → Bool
 leaves_free job other = (job.id == other.id) || not (reserves_nodes other || contains [] other.id) || is_apart (nodes_of job.spec) (nodes_of other.spec)
 
-true_or : (a b : Bool) → a ≡ true → (a || b) ≡ true
-true_or true b e = refl
-true_or false b e = absurd (cc e)
-
 module _ (known : Jobs) (others : List JobSpec) (job : Job) (free : IsApartFrom known job.spec) (apart : IsApartFromSpecs others job.spec) where
   beside_idle : (other : Job) → reserves_nodes other ≡ false → leaves_free job other ≡ true
   beside_idle other none =
       let idle : not (reserves_nodes other || contains [] other.id) ≡ true = ap (λ b. not (b || false)) none in
-      true_or ((job.id == other.id) || not (reserves_nodes other || contains [] other.id)) (is_apart (nodes_of job.spec) (nodes_of other.spec))
-      (or_true (job.id == other.id) (not (reserves_nodes other || contains [] other.id)) idle)
+      or_left ((job.id == other.id) || not (reserves_nodes other || contains [] other.id)) (is_apart (nodes_of job.spec) (nodes_of other.spec))
+      (or_right (job.id == other.id) (not (reserves_nodes other || contains [] other.id)) idle)
 
   beside_apart : (other : Job) → is_apart (nodes_of job.spec) (nodes_of other.spec) ≡ true → leaves_free job other ≡ true
-  beside_apart other away = or_true ((job.id == other.id) || not (reserves_nodes other || contains [] other.id)) (is_apart (nodes_of job.spec) (nodes_of other.spec)) away
+  beside_apart other away = or_right ((job.id == other.id) || not (reserves_nodes other || contains [] other.id)) (is_apart (nodes_of job.spec) (nodes_of other.spec)) away
 
   one_is_free : (other : Job) → MayBeThere known others job.id other → leaves_free job other ≡ true
   one_is_free other (Itself same) =
-      true_or ((job.id == other.id) || not (reserves_nodes other || contains [] other.id)) (is_apart (nodes_of job.spec) (nodes_of other.spec))
-      (true_or (job.id == other.id) (not (reserves_nodes other || contains [] other.id)) (eq-eqb job.id other.id (sym same)))
+      or_left ((job.id == other.id) || not (reserves_nodes other || contains [] other.id)) (is_apart (nodes_of job.spec) (nodes_of other.spec))
+      (or_left (job.id == other.id) (not (reserves_nodes other || contains [] other.id)) (eq-eqb job.id other.id (sym same)))
   one_is_free other (HoldsNothing none) = beside_idle other none
   one_is_free other (Known there) = by (reserves_nodes other) refl
     where
@@ -95,7 +91,7 @@ is_accepted view spec fits =
     let nodes = names (tree_at spec.segment trees) in
     let stretch = is_stretch (tree_at spec.segment trees) spec.sources in
     let stands : stretch ≡ true = true_and (is_nonempty spec.sources) (is_some (older_nodes spec.sources nodes)) fits.pick.some (found_stretch spec.sources (older_nodes spec.sources nodes) fits.pick.stretch) in
-    or_true (is_drain spec) (is_some (segment_at spec.segment trees) && stretch && agree (lowest_run spec.sources) spec.destination)
+    or_right (is_drain spec) (is_some (segment_at spec.segment trees) && stretch && agree (lowest_run spec.sources) spec.destination)
     (true_and (is_some (segment_at spec.segment trees) && stretch) (agree (lowest_run spec.sources) spec.destination)
     (true_and (is_some (segment_at spec.segment trees)) stretch fits.pick.found stands) fits.pick.agrees)
 
@@ -115,7 +111,7 @@ fitting_passes view job jobs fits small free accepts accepted =
           (
             within_from spec.sources (names tree) fits.pick.within,
             (
-              or_true (is_drain spec) (is_whole_stretch tree spec.sources) fits.pick.stretch,
+              or_right (is_drain spec) (is_whole_stretch tree spec.sources) fits.pick.stretch,
               (
                 ap (λ b. not b || names_older spec.sources (names tree)) fits.pick.no_drain,
                 (

@@ -27,9 +27,10 @@ use Rattle.sched_laws.proofs.LevelTrees.{IsRun, StandsHere, all_runs, all_stand_
 use Rattle.sched_laws.proofs.Lists.{all_append, all_back, all_front, all_weaken, pairs_back, pairs_front, true_and}
 use Rattle.sched_laws.proofs.Names.{In, in_back, in_first, in_front, in_later}
 use Rattle.sched_laws.proofs.Passes.{Fits, IsMidway, Rises, with_one_more}
-use Rattle.sched_laws.proofs.Picks.{IntoLowest, IsPick, IsPlaced, Makes, or_true, placed}
+use Rattle.sched_laws.proofs.Picks.{IntoLowest, IsPick, IsPlaced, Makes, placed}
 use Rattle.sched_laws.proofs.Stretches.{stretch_is_in}
 use Rattle.sched_laws.proofs.Trees.{all_at_prefixes}
+use Rattle.course_laws.proofs.NewTables.{or_right}
 
 -- A tree as the size-tiered scheduler keeps it, of which the laws read the segment and the used nodes alone.
 abbrev looked_at : Segment → List NodeName → Planned
@@ -63,7 +64,7 @@ is_pick trees s stand used sources rest id stretch unused agrees = record {
   no_drain = refl;
   found = stand.found;
   within = λ x h. stretch_is_in sources (names (tree_at s.prefix trees)) rest x stretch.place.stretch h;
-  stretch = ap (reaches_oldest sources) stretch.place.stretch ∙ or_true (not (list_any is_l0 sources)) (begins_with_run rest) stretch.runs;
+  stretch = ap (reaches_oldest sources) stretch.place.stretch ∙ or_right (not (list_any is_l0 sources)) (begins_with_run rest) stretch.runs;
   unused = unused;
   agrees = agrees;
 }

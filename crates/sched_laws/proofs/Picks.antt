@@ -22,6 +22,7 @@ use Rattle.sched_laws.proofs.Names.{In, apart_at, distinct_back, distinct_front,
 use Rattle.sched_laws.proofs.Series.{last_is_contained, last_is_in, last_is_low, last_some, lowest_is_last, series_is_found, tiered_bounds}
 use Rattle.sched_laws.proofs.Stretches.{stands, stretch_is_in}
 use Rattle.sched_laws.proofs.Trees.{StandsIn}
+use Rattle.course_laws.proofs.NewTables.{or_right}
 
 -- There are sources, each is named once, and they stand among the nodes with the rest after them.
 pub record IsPlaced (nodes sources rest : List NodeName) : Type 0 where
@@ -71,10 +72,6 @@ runs_begin : (runs : List Sized) → begins_with_run (run_names runs) ≡ true
 runs_begin [] = refl
 runs_begin (run ∷ runs) = refl
 
-pub or_true : (a b : Bool) → b ≡ true → (a || b) ≡ true
-or_true true b e = refl
-or_true false b e = e
-
 -- The spec that makes the fresh run of these flushes of a tree.
 abbrev flush_spec : ℕ → Planned → List Sized → JobSpec
 flush_spec fresh t flushes = record { segment = t.tree.segment; sources = flush_names flushes; destination = Some fresh }
@@ -103,7 +100,7 @@ flushes_are_pick fresh t trees stand before first others is apart =
       no_drain = refl;
       found = stand.found;
       within = λ x h. stretch_is_in sources (names (tree_at t.tree.segment trees)) (run_names t.tree.runs) x place.stretch h;
-      stretch = ap (reaches_oldest sources) place.stretch ∙ or_true (not (list_any is_l0 sources)) (begins_with_run (run_names t.tree.runs)) (runs_begin t.tree.runs);
+      stretch = ap (reaches_oldest sources) place.stretch ∙ or_right (not (list_any is_l0 sources)) (begins_with_run (run_names t.tree.runs)) (runs_begin t.tree.runs);
       unused = λ x h there. apart_at (Run fresh ∷ sources) t.used x apart (in_later x (Run fresh) sources h) there;
       agrees = ap (λ ids. agree (fold lower None ids) (Some fresh)) (no_runs_in (first ∷ others));
     }

@@ -31,6 +31,7 @@ use Rattle.course_laws.proofs.Calls.{filtered, pairs_filter}
 use Rattle.sched_laws.proofs.Gate.{all_hold}
 use Rattle.sched_laws.proofs.Lists.{both_true}
 use Rattle.sched_laws.proofs.PollTrees.{IsStepped, TreesStand, joined}
+use Rattle.step_laws.proofs.Releases.{waiting_change}
 
 -- ---- jobs that a scheduler accepts
 
@@ -100,9 +101,6 @@ pub record Committing (got : List ℕ) (p : PollState) : Type 0 where
   pub refused : p.refused ≡ []
   pub got_jobs : (job : Job) → IsIn job p.jobs → IsIn job.id got
 
-waits : IsWorkerChange to_waiting
-waits = record { ids = λ job. refl; specs = λ job. refl; attempts = λ job. omega arith }
-
 completes : IsWorkerChange to_completed
 completes = record { ids = λ job. refl; specs = λ job. refl; attempts = λ job. omega arith }
 
@@ -118,8 +116,8 @@ filter_holds p jobs job there = let both = all_at (λ x. IsIn x jobs × (p x ≡
 pub freed : (got : List ℕ) (input : PollInput) (p : PollState) → p.freed ≡ [] → Committing got p → Committing got (free_stale input p)
 freed got input p none c = record {
   trees = c.trees;
-  rise = ids_rise to_waiting these p.jobs waits c.rise;
-  held = held_once_on to_waiting these p.jobs waits (λ job there named holds. was_held job there named) c.held;
+  rise = ids_rise to_waiting these p.jobs waiting_change c.rise;
+  held = held_once_on to_waiting these p.jobs waiting_change (λ job there named holds. was_held job there named) c.held;
   stand = λ job there holds. by job holds (changed_from to_waiting these p.jobs job there);
   lost = c.lost;
   added = c.added;

@@ -29,10 +29,11 @@ use Rattle.sched_laws.proofs.Holding.{RisesTo, node_cases}
 use Rattle.sched_laws.proofs.Lists.{both_true, true_and}
 use Rattle.sched_laws.proofs.Names.{In, apart_from, within_at}
 use Rattle.sched_laws.proofs.Passes.{SourcesUnused}
-use Rattle.sched_laws.proofs.Picks.{or_true}
 use Rattle.sched_laws.proofs.PollCommits.{AcceptsSound, IsChanged, IsSound, Stayed, WasChanged, changed_from, found_at, other_id, one_id}
 use Rattle.sched_laws.proofs.PollTrees.{IsStepped, TreesStand, drained, moved}
 use Rattle.sched_laws.proofs.Trees.{contained_is_run, equal_prefixes, run_of_trees, same_prefix, trees_apart}
+use Rattle.step_laws.proofs.ManifestBodies.{or_left}
+use Rattle.course_laws.proofs.NewTables.{or_right}
 
 -- ---- what is known of the proposals
 
@@ -123,10 +124,6 @@ record Passed (p : PollState) (job : Job) : Type 0 where
   small : HasFreeId job.spec
   away : (other : Job) → IsIn other p.jobs → (job.id ≡ other.id → ⊥) → IsTrue (reserves_nodes other) → IsTrue (is_apart (nodes_of job.spec) (nodes_of other.spec))
 
-either_true : (a b : Bool) → IsTrue a → IsTrue (a || b)
-either_true true b h = refl
-either_true false b h = absurd (cc h)
-
 passed : (p : PollState) (lost : List ℕ) (accepts : JobSpec → Bool) (job : Job) → submit_gate p.trees p.jobs lost accepts job ≡ None → Passed p job
 passed p lost accepts job gate =
     let all = all_pass (submitted_rules p.trees p.jobs lost accepts job (tree_at job.spec.segment p.trees)) gate in
@@ -135,7 +132,7 @@ passed p lost accepts job gate =
       found = all.1.1.0;
       to = all.1.1.1.1.1.1.0;
       small = λ greatest. greatest_id_is_refused p.trees p.jobs lost accepts job greatest gate;
-      away = λ other there differs holds. free_of p.jobs lost job other (submittable p.trees p.jobs lost accepts job gate).free there differs (either_true (reserves_nodes other) (contains lost other.id) holds);
+      away = λ other there differs holds. free_of p.jobs lost job other (submittable p.trees p.jobs lost accepts job gate).free there differs (or_left (reserves_nodes other) (contains lost other.id) holds);
     }
 
 module _ (input : PollInput) (known : Jobs) (drawn : List (ℕ × JobSpec)) (are : AreProposed input known drawn) where
@@ -159,7 +156,7 @@ module _ (input : PollInput) (known : Jobs) (drawn : List (ℕ × JobSpec)) (are
             (
               all_true_from (names_contain (names tree)) spec.sources (stretch_in tree spec.sources stretch),
               (
-                or_true (is_drain spec) (is_whole_stretch tree spec.sources) stretch,
+                or_right (is_drain spec) (is_whole_stretch tree spec.sources) stretch,
                 (
                   ap (λ b. not b || names_older spec.sources (names tree)) (are.no_drain d there),
                   (pending.fits, (ap (λ lost. is_free p.jobs lost (new_job d)) none ∙ free, (are.accepted p spec sound, tt))),

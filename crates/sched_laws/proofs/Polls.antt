@@ -28,8 +28,7 @@ use Rattle.step_laws.proofs.PollJobs.{submitted_active}
 use Rattle.commit_laws.proofs.OtherJobs.{in_filtered}
 use Rattle.coordinator_laws.proofs.Gates.{opened_stands}
 use Rattle.coordinator_laws.proofs.Stages.{in_pushed, opened_added}
-use Rattle.coordinator_laws.proofs.Statuses.{submitted_holds}
-use Rattle.course_laws.proofs.Calls.{in_map, pairs_filter}
+use Rattle.course_laws.proofs.Calls.{pairs_filter}
 use Rattle.sched_laws.specs.Polls.{AcceptsItsOwn, AreDrawn, PollStands, polled}
 use Rattle.sched_laws.specs.Proposals.{AreApart, HasFreeId}
 use Rattle.sched_laws.specs.Stores.{store_view}
@@ -39,11 +38,13 @@ use Rattle.sched_laws.proofs.Holding.{RisesTo}
 use Rattle.sched_laws.proofs.LevelFits.{levels_fit}
 use Rattle.sched_laws.proofs.Lists.{all_front, both_true, pairs_front, true_and}
 use Rattle.sched_laws.proofs.Passes.{Fits, Rises, SourcesUnused}
-use Rattle.sched_laws.proofs.Picks.{or_true}
 use Rattle.sched_laws.proofs.PollCommits.{AcceptsSound, Committing, IsSound, all_committed, filter_holds, found_at, freed}
 use Rattle.sched_laws.proofs.PollOpens.{AreProposed, IsPending, Opening, Origin, WasAdded, WasKnown, all_opened}
 use Rattle.sched_laws.proofs.PollTrees.{TreesStand, trees_of_view, view_of_trees}
 use Rattle.sched_laws.proofs.Stores.{stored_stand, views_stand}
+use Rattle.commit_laws.proofs.AtOnce.{submitted_free}
+use Rattle.step_laws.proofs.Polls.{in_map}
+use Rattle.course_laws.proofs.NewTables.{or_right}
 
 -- ---- lists
 
@@ -292,7 +293,7 @@ module _ (merge : Operator) (input : PollInput) (stands : PollStands merge input
       apart : Fits asked.trees shown.jobs d.1 → (other : Job) → IsTrue (reserves_nodes other) → Origin asked.jobs drawn other → IsTrue (is_apart (nodes_of d.1) (nodes_of other.spec))
       apart fits other holds (WasKnown one) =
           all_at (λ job. IsTrue (reserves_nodes job) → is_apart (nodes_of d.1) (nodes_of job.spec) ≡ true) shown.jobs other (fits.apart free) (in_filter is_active asked.jobs other one (holds_active other.status holds)) holds
-      apart fits other holds (WasAdded e one same) = absurd (submitted_holds other.status (subst (λ (j : Job). IsTrue (has_status Submitted j)) same refl) holds)
+      apart fits other holds (WasAdded e one same) = absurd (submitted_free other.status (subst (λ (j : Job). IsTrue (has_status Submitted j)) same refl) holds)
 
   -- What stands before the first job is opened.
   opens : Opening asked.jobs drawn with_added (filter (has_status Submitted) with_added.jobs)
@@ -311,7 +312,7 @@ module _ (merge : Operator) (input : PollInput) (stands : PollStands merge input
     where
       stood : (job : Job) → IsTrue (reserves_nodes job) → Origin asked.jobs drawn job → SourcesStand with_added.trees job
       stood job holds (WasKnown one) = subst (λ trees. SourcesStand trees job) (sym adds.trees) (first.stand job one holds)
-      stood job holds (WasAdded e one same) = absurd (submitted_holds job.status (subst (λ (j : Job). IsTrue (has_status Submitted j)) same refl) holds)
+      stood job holds (WasAdded e one same) = absurd (submitted_free job.status (subst (λ (j : Job). IsTrue (has_status Submitted j)) same refl) holds)
 
   accepts_its_own : AcceptsItsOwn input drawn
   accepts_its_own =
@@ -331,7 +332,7 @@ tiered_sound o most input is p spec sound =
     let stretch : is_stretch tree spec.sources ≡ true =
     true_and (is_nonempty spec.sources) (is_some (older_nodes spec.sources (names tree))) sound.some (found_stretch spec.sources (older_nodes spec.sources (names tree)) sound.stretch) in
     ap (λ (s : Scheduler). s.validate (view_of input p) spec) is
-    ∙ or_true (is_drain spec) (found && is_stretch tree spec.sources && agree (lowest_run spec.sources) spec.destination)
+    ∙ or_right (is_drain spec) (found && is_stretch tree spec.sources && agree (lowest_run spec.sources) spec.destination)
     (true_and (found && is_stretch tree spec.sources) (agree (lowest_run spec.sources) spec.destination) (true_and found (is_stretch tree spec.sources) sound.found stretch) sound.agrees)
 
 pub polls_accept_tiered : (merge : Operator) (o : TieredOptions) → are_tiered o ≡ true → (most : ℕ) (input : PollInput) → PollStands merge input → input.scheduler ≡ tiered_scheduler o most

@@ -4,15 +4,12 @@ use Rattle.std.specs.Prelude.{Option, Some, None}
 use Rattle.fleet_model.specs.Work.Gates.{are_distinct}
 use Rattle.fleet_model.specs.Nodes.{NodeName, name_eq}
 use Rattle.fleet_model.specs.Sources.{after_front, older_nodes, or_later}
-use Rattle.sched_laws.proofs.Names.{In, equal_names, name_itself, in_cases, in_first, in_later, in_back, distinct_first, distinct_rest}
-
-front_here : (names rest : List NodeName) → after_front names (names ++ rest) ≡ Some rest
-front_here [] rest = refl
-front_here (x ∷ names) rest = ap (λ b. cond b (after_front names (names ++ rest)) None) (name_itself x) ∙ front_here names rest
+use Rattle.sched_laws.proofs.Names.{In, equal_names, in_cases, in_first, in_later, in_back, distinct_first, distinct_rest}
+use Rattle.commit_laws.proofs.OtherStretches.{after_itself}
 
 -- Names that are in a list once stand where they are, and the names after them are older.
 pub stands : (front : List NodeName) (x : NodeName) (names rest : List NodeName) → are_distinct (front ++ (x ∷ names ++ rest)) ≡ true → older_nodes (x ∷ names) (front ++ (x ∷ names ++ rest)) ≡ Some rest
-stands [] x names rest once = ap (λ found. or_later found (older_nodes (x ∷ names) (names ++ rest))) (front_here (x ∷ names) rest)
+stands [] x names rest once = ap (λ found. or_later found (older_nodes (x ∷ names) (names ++ rest))) (after_itself (x ∷ names) rest)
 stands (y ∷ front) x names rest once = by (name_eq x y) refl (stands front x names rest (distinct_rest y (front ++ (x ∷ names ++ rest)) once))
   where
     by : (b : Bool) → name_eq x y ≡ b → older_nodes (x ∷ names) (front ++ (x ∷ names ++ rest)) ≡ Some rest → or_later (cond b (after_front names (front ++ (x ∷ names ++ rest))) None) (older_nodes (x ∷ names) (front ++ (x ∷ names ++ rest))) ≡ Some rest

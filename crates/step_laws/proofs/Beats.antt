@@ -60,7 +60,7 @@ named_for merge world specs attempts P b each job there named = find_in attempts
     }
     find_in (a ∷ list) all (inr one) = further a list (find_in list all.1 one)
 
-pairs_either : {A : Type 0} (R : A → A → Type 0) (xs : List A) (a b : A) → Pairs R xs → IsIn a xs → IsIn b xs → (a ≡ b → ⊥) → R a b ⊎ R b a
+pub pairs_either : {A : Type 0} (R : A → A → Type 0) (xs : List A) (a b : A) → Pairs R xs → IsIn a xs → IsIn b xs → (a ≡ b → ⊥) → R a b ⊎ R b a
 pairs_either R [] a b h one other differs = absurd one
 pairs_either R (x ∷ xs) a b h (inl first) (inl second) differs = absurd (differs (sym first ∙ second))
 pairs_either R (x ∷ xs) a b h (inl first) (inr other) differs = inl (subst (λ y. R y b) first (all_at (R x) xs b h.0 other))
@@ -69,7 +69,7 @@ pairs_either R (x ∷ xs) a b h (inr one) (inr other) differs = pairs_either R x
 
 -- ---- the origin
 
-beaten_push : (job : ℕ) (history : List Entry) (entry : Entry) → first_beaten job (history ++ entry ∷ []) ≡ option_or (first_beaten job history) (if stood entry.answer then beaten_in job entry.event else None)
+pub beaten_push : (job : ℕ) (history : List Entry) (entry : Entry) → first_beaten job (history ++ entry ∷ []) ≡ option_or (first_beaten job history) (if stood entry.answer then beaten_in job entry.event else None)
 beaten_push job [] entry = by (if stood entry.answer then beaten_in job entry.event else None)
   where
     by : (o : Option ℕ) → option_or o None ≡ o

@@ -61,7 +61,7 @@ new_claims merge world specs attempts b once each = pairs_append _ (claimed_atte
 
 -- ---- the law
 
-scheduled_open : (s : Status) (unleased : Bool) → IsTrue (status_eq Scheduled s && unleased) → IsTrue (is_open s)
+pub scheduled_open : (s : Status) (unleased : Bool) → IsTrue (status_eq Scheduled s && unleased) → IsTrue (is_open s)
 scheduled_open Scheduled unleased h = refl
 scheduled_open Running unleased h = refl
 scheduled_open Submitted unleased h = absurd (cc h)

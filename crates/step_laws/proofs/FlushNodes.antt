@@ -18,13 +18,13 @@ use Rattle.step_model.specs.Kept.TablesKept.{IsKnownPiece, IsFlushed}
 use Rattle.step_laws.proofs.Elements.{IsIn, all_at, all_from, all_to, all_flat, contains_in, contains_no, in_contains, in_front, in_back}
 use Rattle.step_laws.proofs.FlushTrees.{Rising, each_flushed, new_node, tree_flushed}
 
-refused : (b : Bool) → b ≡ false → IsTrue b → ⊥
+pub refused : (b : Bool) → b ≡ false → IsTrue b → ⊥
 refused true e h = absurd (cc e)
 refused false e h = absurd (cc h)
 
 -- ---- the name is new
 
-small_number : (name : ℕ) → name < drawn_base → number_of name ≡ name
+pub small_number : (name : ℕ) → name < drawn_base → number_of name ≡ name
 small_number name low = ap (λ n. n % 2 ^ 80) (plain name) ∙ mod-mul-add 0 (2 ^ 80) name (omega (arith, low))
   where
     plain : (n : ℕ) → n ≡ 0 * 2 ^ 80 + n

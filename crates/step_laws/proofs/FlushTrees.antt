@@ -15,6 +15,7 @@ use Rattle.fleet_model.specs.Nodes.{L0, Node, Segment, Trees, segment_at, tree_a
 use Rattle.fleet_model.specs.Trees.{flushed_trees, flushed_on, empty_segment}
 use Rattle.fleet_model.specs.Invariants.TreesFit.{RootIsFirst}
 use Rattle.step_laws.proofs.Elements.{IsIn, all_from, all_to}
+use Rattle.row_laws.proofs.ApartRows.{lt_is}
 
 -- ---- prefixes
 
@@ -38,11 +39,6 @@ pub rising_to : (trees : Trees) → Rising trees → IsStrictlySortedBy key_cmp 
 unfolding IsStrictlySortedBy
 rising_to [] h = tt
 rising_to (s ∷ trees) h = (prefixes_all s.prefix trees h.0, rising_to trees h.1)
-
-lt_less : (o : Ordering) → is_lt o ≡ true → o ≡ Less
-lt_less Less e = refl
-lt_less Equal e = absurd (cc e)
-lt_less Greater e = absurd (cc e)
 
 -- A key that is neither equal nor below is above.
 above : (p q : List ℕ) → bytes_eq p q ≡ false → is_lt (key_cmp p q) ≡ false → key_cmp q p ≡ Less
@@ -110,7 +106,7 @@ rising_flushed prefix name rows (s ∷ trees) h = by (bytes_eq prefix s.prefix) 
     by : (same : Bool) → bytes_eq prefix s.prefix ≡ same → (below : Bool) → is_lt (key_cmp prefix s.prefix) ≡ below → Rising (flushed_trees prefix name rows trees)
         → Rising (cond same (flushed_on name rows s ∷ trees) (cond below (flushed_on name rows (empty_segment prefix) ∷ s ∷ trees) (s ∷ flushed_trees prefix name rows trees)))
     by true e below f rest = (h.0, h.1)
-    by false e true f rest = let low = lt_less (key_cmp prefix s.prefix) f in ((low, all_to _ _ trees (λ t there p. nat_list_cmp_total.trans prefix s.prefix t.prefix low p) h.0), h)
+    by false e true f rest = let low = lt_is (key_cmp prefix s.prefix) f in ((low, all_to _ _ trees (λ t there p. nat_list_cmp_total.trans prefix s.prefix t.prefix low p) h.0), h)
     by false e false f rest = (less_on s.prefix prefix name rows trees (above prefix s.prefix e f) h.0, rest)
 
 not_below_empty : (p : List ℕ) → is_lt (key_cmp p []) ≡ false
@@ -131,7 +127,7 @@ root_flushed prefix name rows (s ∷ trees) h = by (bytes_eq prefix s.prefix) (i
 abbrev pub new_node : ℕ → Node
 new_node name = record { name = L0 name; flushes = name ∷ []; pieces = name ∷ [] }
 
-none_above : (p : List ℕ) (trees : Trees) → AllByRecursion (λ s. key_cmp p s.prefix ≡ Less) trees → segment_at p trees ≡ None
+pub none_above : (p : List ℕ) (trees : Trees) → AllByRecursion (λ s. key_cmp p s.prefix ≡ Less) trees → segment_at p trees ≡ None
 none_above p [] h = refl
 none_above p (s ∷ trees) h = by (bytes_eq p s.prefix) refl (none_above p trees h.1)
   where
@@ -174,5 +170,5 @@ tree_flushed p prefix name rows (s ∷ trees) h = by (bytes_eq prefix s.prefix) 
     by : (same : Bool) → bytes_eq prefix s.prefix ≡ same → (below : Bool) → is_lt (key_cmp prefix s.prefix) ≡ below → tree_at p (flushed_trees prefix name rows trees) ≡ cond (bytes_eq p prefix) (new_node name ∷ tree_at p trees) (tree_at p trees)
         → tree_at p (cond same (flushed_on name rows s ∷ trees) (cond below (flushed_on name rows (empty_segment prefix) ∷ s ∷ trees) (s ∷ flushed_trees prefix name rows trees))) ≡ cond (bytes_eq p prefix) (new_node name ∷ tree_at p (s ∷ trees)) (tree_at p (s ∷ trees))
     by true e below f rest = here ((bytes_eq-Decides prefix s.prefix).0 e) (bytes_eq p s.prefix) refl
-    by false e true f rest = front (lt_less (key_cmp prefix s.prefix) f) (bytes_eq p prefix) refl
+    by false e true f rest = front (lt_is (key_cmp prefix s.prefix) f) (bytes_eq p prefix) refl
     by false e false f rest = after e (bytes_eq p s.prefix) refl rest

@@ -34,20 +34,16 @@ use Rattle.step_laws.proofs.ManifestEpochs.{no_new_piece, not_stored, stored_in_
 use Rattle.step_laws.proofs.Deletions.{in_flat}
 use Rattle.row_laws.proofs.RetentionReads.{int_le_trans}
 use Rattle.step_laws.proofs.FlushTrees.{rising_from, rising_to, rising_flushed, root_flushed, each_flushed, pairs_flushed, new_node}
-use Rattle.step_laws.proofs.FlushNodes.{Differ, known_differs, source_differs, not_in_flushed}
+use Rattle.step_laws.proofs.FlushNodes.{Differ, known_differs, source_differs, not_in_flushed, refused}
 use Rattle.step_laws.proofs.FlushFollows.{stand_on, oldest_on, joined_flushed, tree_on, found_segment, reads_fewer, reads_new}
 use Rattle.step_laws.proofs.Quiet.{draws_mute, puts_kept, table_none}
-
-refused : (b : Bool) → b ≡ false → IsTrue b → ⊥
-refused true e h = absurd (cc e)
-refused false e h = absurd (cc h)
 
 quiet_flush : (took : Bool) (name : ℕ) (segment : List ℕ) (floor : ℕ) (tick : ℤ) → IsQuiet took (PutManifest (Flush name segment floor tick))
 quiet_flush true name segment floor tick = record { steps = refl; attempts = λ took. refl; claims = refl; beats = λ job. refl; beaten = λ job. refl; joins = λ job. refl; joined = λ took. refl }
 quiet_flush false name segment floor tick = record { steps = refl; attempts = λ took. refl; claims = refl; beats = λ job. refl; beaten = λ job. refl; joins = λ job. refl; joined = λ took. refl }
 
 -- The rows of a table that was put are a table.
-table_of : (tables : Tables) (name : ℕ) → AllByRecursion (λ table. IsTable table.1) tables → IsTrue (is_among tables name) → IsTable (table_rows tables name)
+pub table_of : (tables : Tables) (name : ℕ) → AllByRecursion (λ table. IsTable table.1) tables → IsTrue (is_among tables name) → IsTable (table_rows tables name)
 table_of [] name h put = absurd (cc put)
 table_of (table ∷ tables) name h put = by (table.0 == name) (table_of tables name h.1) put
   where
@@ -196,7 +192,7 @@ tables_second a b name rows none h = apart_from (tree_tables a) (name ∷ tree_t
     at t in_a (inl same) = none (subst (λ n. IsIn n (tree_tables a)) (sym same) in_a)
     at t in_a (inr in_b) = apart_at (tree_tables a) (tree_tables b) t h in_a in_b
 
-tables_none : (a : List ℕ) → AreApart a []
+pub tables_none : (a : List ℕ) → AreApart a []
 tables_none [] = refl
 tables_none (x ∷ a) = tables_none a
 

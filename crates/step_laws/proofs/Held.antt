@@ -55,7 +55,7 @@ among_grows tables new id h = any_front (λ (other : ℕ × List Row). other.0 =
 pub held_grows : (store : Store) (new : ℕ × List Row) (id : ℕ) → IsTrue (is_held store id) → IsTrue (is_held (record store { tables = store.tables ++ new ∷ [] }) id)
 held_grows store new id h = rw (is_held_so (record store { tables = store.tables ++ new ∷ [] }) id, among_grows store.tables new id (held_put store id h)) (held_not_gone store id h)
 
-and_true : (a b : Bool) → IsTrue a → IsTrue b → IsTrue (a && b)
+pub and_true : (a b : Bool) → IsTrue a → IsTrue b → IsTrue (a && b)
 and_true true b h k = k
 and_true false b h k = absurd (cc h)
 

@@ -47,3 +47,4 @@ pub mod Midway
 pub mod MidwayCalls
 pub mod Later
 pub mod RanLaws
+pub mod KnownJobs

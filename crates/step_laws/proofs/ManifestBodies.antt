@@ -106,7 +106,7 @@ pub record JobFollows (world : World) (manifest : Manifest) (job : Job) : Type 0
 
 -- ---- faithful specs
 
-matches_stay : (past : List Manifest) (manifest : Manifest) (o : Objects) → Matches past o → Matches (past ++ manifest ∷ []) o
+pub matches_stay : (past : List Manifest) (manifest : Manifest) (o : Objects) → Matches past o → Matches (past ++ manifest ∷ []) o
 matches_stay past manifest o h = by (manifest_with o.manifest.version past) refl h
   where
     by : (found : Option Manifest) → manifest_with o.manifest.version past ≡ found → option_map plain_manifest found ≡ Some o.manifest → Matches (past ++ manifest ∷ []) o
@@ -153,11 +153,11 @@ faithful_before_manifest merge world specs others manifest entry b next f = reco
 
 -- ---- one job
 
-or_left : (a b : Bool) → IsTrue a → IsTrue (a || b)
+pub or_left : (a b : Bool) → IsTrue a → IsTrue (a || b)
 or_left true b h = refl
 or_left false b h = absurd (cc h)
 
-or_right : (a b : Bool) → IsTrue b → IsTrue (a || b)
+pub or_right : (a b : Bool) → IsTrue b → IsTrue (a || b)
 or_right true b h = refl
 or_right false b h = h
 

@@ -59,7 +59,7 @@ pub no_new_piece : (past : List Manifest) (new : Manifest) (table : ℕ) → con
 no_new_piece past new table none h = any_push_no (λ (m : Manifest). contains (flat_map tree_tables m.trees) table) past new none ∙ h
 
 -- A join that stands does so where the trees are the same.
-joined_on : (past : List Manifest) (new : Manifest) (trees : Trees) (job : Job) → JoinStands past trees job → JoinStands (past ++ new ∷ []) trees job
+pub joined_on : (past : List Manifest) (new : Manifest) (trees : Trees) (job : Job) → JoinStands past trees job → JoinStands (past ++ new ∷ []) trees job
 joined_on past new trees job (Gone table there gone) = Gone table there (piece_stays past new table gone.0, gone.1)
 joined_on past new trees job (NotEmpty run there other none some) = NotEmpty run there other none some
 joined_on past new trees job (Itself run sources destination none empty) = Itself run sources destination none empty

@@ -46,7 +46,7 @@ abbrev at_moment : ℕ → Unrecorded
 at_moment moment = record { moment = moment; published = no_contexts; kept_cut = None; tables_of = tables_now claimed_manifest.trees }
 
 -- A put that names no job is fit to name jobs.
-unnamed : (party : Party) (world : World) → NamesFit party world []
+pub unnamed : (party : Party) (world : World) → NamesFit party world []
 unnamed party world = record { once = tt; drawn = tt; replays = λ specs given. given }
 
 -- The world before and after some calls.

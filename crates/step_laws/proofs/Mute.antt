@@ -43,7 +43,7 @@ puts_object (PutManifest change) = true
 puts_object (PutRecords change) = true
 puts_object _ = false
 
-and_never : (b : Bool) → (b && false) ≡ false
+pub and_never : (b : Bool) → (b && false) ≡ false
 and_never true = refl
 and_never false = refl
 

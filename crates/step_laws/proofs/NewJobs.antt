@@ -27,6 +27,7 @@ use Rattle.step_laws.proofs.Bodies.{Body, JobKept}
 use Rattle.step_laws.proofs.RecordsBodies.{with_records}
 use Rattle.step_laws.proofs.Changed.{found_job, kept_quiet}
 use Rattle.step_laws.proofs.WorkerPuts.{named_in}
+use Rattle.step_laws.proofs.FlushNodes.{refused}
 
 -- ---- jobs that are put in
 
@@ -119,10 +120,6 @@ pub held_once_new : (named : List (ℕ × JobSpec)) (jobs : Jobs) → NodesHeldO
 held_once_new named jobs h = pairs_new HoldApart named jobs (λ p job. ((λ first second. absurd (cc first)), (λ first second. absurd (cc second)))) h
 
 -- ---- nothing is said of a new job
-
-refused : (b : Bool) → b ≡ false → IsTrue b → ⊥
-refused true e h = absurd (cc e)
-refused false e h = absurd (cc h)
 
 not_beaten : (merge : Operator) (world : World) (specs : ℕ → JobSpec) → Body merge world specs → (id : ℕ) → was_named world.store.history id ≡ false → was_beaten world.store.history id ≡ false
 not_beaten merge world specs b id unnamed = by (was_beaten world.store.history id) refl

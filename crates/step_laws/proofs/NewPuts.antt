@@ -1,5 +1,5 @@
 -- A put of the records that names new jobs keeps the invariant, if the jobs that it makes do.
-use Rattle.std.proofs.Common.{◌≡◌, refl, sym, ◌∙◌, ap, subst, ℕ, ◌+◌, ◌<◌, ◌≤◌, List, [], ◌∷◌, Bool, true, false, Option, Some, None}
+use Rattle.std.proofs.Common.{◌≡◌, refl, sym, ◌∙◌, ap, subst, ℕ, ◌+◌, ◌<◌, ◌≤◌, List, [], Bool, true, false, Option, Some, None}
 use Rattle.std.specs.Prelude.{IfSome}
 use Rattle.std.proofs.lemmas.List.{append-nil}
 use Rattle.row_model.specs.Lists.{Pairs}
@@ -18,7 +18,7 @@ use Rattle.step_model.specs.Entries.{attempts_in, attempts_claimed_in, tables_br
 use Rattle.step_model.specs.Kept.Faithful.{with_specs}
 use Rattle.step_model.specs.LawfulRecords.{NamesFit}
 use Rattle.step_model.specs.Kept.NamesKept.{IsUpTo}
-use Rattle.step_model.specs.Kept.TablesKept.{AreApart, NameApart}
+use Rattle.step_model.specs.Kept.TablesKept.{NameApart}
 use Rattle.step_model.specs.Kept.Keeps.{Keeps}
 use Rattle.step_laws.proofs.Elements.{IsIn, all_from}
 use Rattle.step_laws.proofs.Mute.{IsQuietFor}
@@ -33,6 +33,7 @@ use Rattle.step_laws.proofs.RecordsBodies.{with_records, objects_after, body_wit
 use Rattle.step_laws.proofs.RecordsPuts.{StandingPutKeeps}
 use Rattle.step_laws.proofs.Changed.{job_found, in_trimmed, pairs_trimmed, same_epoch_fits}
 use Rattle.step_laws.proofs.NewJobs.{rise_new, pairs_new, held_once_new, all_kept_new, new_ids, later_new}
+use Rattle.step_laws.proofs.Flushes.{tables_none}
 
 -- The records after a put that makes these jobs.
 abbrev pub new_records : World → Jobs → Records
@@ -104,13 +105,9 @@ new_put_keeps merge world u change after line party answer epoch jobs took k nam
 
 -- ---- submits
 
-none_apart : (xs : List ℕ) → AreApart xs []
-none_apart [] = refl
-none_apart (x ∷ xs) = none_apart xs
-
 -- New jobs name no table.
 pub names_new : (named : List (ℕ × JobSpec)) (jobs : Jobs) → Pairs NameApart jobs → Pairs NameApart (with_new named jobs)
-names_new named jobs h = pairs_new NameApart named jobs (λ p job. ((λ first second. refl), (λ first second. none_apart (job_tables job)))) h
+names_new named jobs h = pairs_new NameApart named jobs (λ p job. ((λ first second. refl), (λ first second. tables_none (job_tables job)))) h
 
 quiet_submit : (took : Bool) (named : List (ℕ × JobSpec)) (job : ℕ) → IsQuietFor took (PutRecords (Submit named)) job
 quiet_submit true named job = record { beats = refl; beaten = refl; joins = refl }

@@ -21,6 +21,7 @@ use Rattle.step_laws.proofs.Elements.{all_to, all_back, all_true_front, all_true
 use Rattle.step_laws.proofs.Bodies.{JobKept}
 use Rattle.step_laws.proofs.OpenJobs.{is_open}
 use Rattle.step_laws.proofs.TableReplays.{IsPut, TreeAll, sources_all, all_found_at}
+use Rattle.step_laws.proofs.Held.{and_true}
 
 -- ---- statuses
 
@@ -56,7 +57,7 @@ over_not_submitted Compacted h k = absurd (cc h)
 over_not_submitted Completed h k = absurd (cc k)
 over_not_submitted Failed h k = absurd (cc k)
 
-over_not_active : (s : Status) → IsTrue (is_finished s) → IsTrue (cond (is_finished s) false true) → ⊥
+pub over_not_active : (s : Status) → IsTrue (is_finished s) → IsTrue (cond (is_finished s) false true) → ⊥
 over_not_active Submitted h k = absurd (cc h)
 over_not_active Scheduled h k = absurd (cc h)
 over_not_active Running h k = absurd (cc h)
@@ -119,10 +120,6 @@ ended_active Running h = refl
 ended_active Compacted h = refl
 ended_active Completed h = absurd (cc h)
 ended_active Failed h = absurd (cc h)
-
-both : (a b : Bool) → IsTrue a → IsTrue b → IsTrue (a && b)
-both true b h k = k
-both false b h k = absurd (cc h)
 
 first : (a b : Bool) → IsTrue (a && b) → IsTrue a
 first true b h = refl
@@ -260,7 +257,7 @@ kept_scheduled merge world specs tables_of job submitted tables put flushes stan
     flushed = λ holds. all_to _ _ job.spec.sources (λ name there named. node_flushed world.store.history (tree_at job.spec.segment world.store.manifest.trees) name
         (tree_has (λ tree. AllByRecursion (λ node. IsFlush world.store.history node node.name) tree) job.spec.segment world.store.manifest.trees tt flushes) named) (stretch_in (tree_at job.spec.segment world.store.manifest.trees) job.spec.sources stand.stretch);
     drawn = λ active. all_back _ (context_tables job.context) (concat job.outputs) (kept.facts.drawn was);
-    unused = λ unjoined. all_back _ (context_tables job.context) (concat job.outputs) (kept.facts.unused (both (is_active job) (not (was_joined world.store.history job.id)) was unjoined));
+    unused = λ unjoined. all_back _ (context_tables job.context) (concat job.outputs) (kept.facts.unused (and_true (is_active job) (not (was_joined world.store.history job.id)) was unjoined));
     late = λ joined. absurd (submitted_not_late job.status submitted (kept.facts.late joined));
     stand = λ compacted joined. absurd (cc compacted);
   };

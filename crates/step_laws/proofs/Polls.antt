@@ -31,7 +31,7 @@ use Rattle.step_laws.proofs.RecordsPuts.{StandingPutKeeps}
 use Rattle.step_laws.proofs.Changed.{on_these, found_job, job_found, by_these}
 use Rattle.step_laws.proofs.NewJobs.{in_new, rise_new, all_kept_new, new_ids, later_new}
 use Rattle.step_laws.proofs.NewPuts.{new_records, new_specs, names_new, new_put_keeps}
-use Rattle.step_laws.proofs.PollJobs.{with_end, kept_over, kept_scheduled, submitted_active, ended_not_open}
+use Rattle.step_laws.proofs.PollJobs.{with_end, kept_over, kept_scheduled, submitted_active, ended_not_open, over_not_active}
 use Rattle.step_laws.proofs.WorkerPuts.{Named, stored_as}
 
 -- ---- what a poll makes of a job
@@ -164,26 +164,18 @@ pub record Shrinks (old new : Job) : Type 0 where
   pub active : IsTrue (is_active old)
   pub tables : (t : ℕ) → IsIn t (job_tables new) → IsIn t (job_tables old)
 
-over_not_active : (s : Status) → IsTrue (is_finished s) → IsTrue (cond (is_finished s) false true) → ⊥
-over_not_active Submitted h k = absurd (cc h)
-over_not_active Scheduled h k = absurd (cc h)
-over_not_active Running h k = absurd (cc h)
-over_not_active Compacted h k = absurd (cc h)
-over_not_active Completed h k = absurd (cc k)
-over_not_active Failed h k = absurd (cc k)
-
 shrinks : (u : Unrecorded) (tables : List ℕ) (change : PollChange) (job : Job) → Outcome u tables change job → IsTrue (is_active (poll_on u change job)) → Shrinks job (poll_on u change job)
 shrinks u tables change job (Waits runs e) active = subst (Shrinks job) (sym e) (record { active = active_if_open job runs; tables = λ t there. there })
 shrinks u tables change job (Opens submitted same named e) active = subst (Shrinks job) (sym e) (record { active = submitted_active job.status submitted; tables = λ t there. in_back t (context_tables job.context) (concat job.outputs) there })
 shrinks u tables change job (Ends status context sources over none e) active = absurd (over_not_active status over (subst (λ (j : Job). IsTrue (is_active j)) e active))
 shrinks u tables change job (Stays e) active = subst (Shrinks job) (sym e) (record { active = subst (λ (j : Job). IsTrue (is_active j)) e active; tables = λ t there. there })
 
-in_map : {A B : Type 0} (f : A → B) (xs : List A) (x : A) → IsIn x xs → IsIn (f x) (map f xs)
+pub in_map : {A B : Type 0} (f : A → B) (xs : List A) (x : A) → IsIn x xs → IsIn (f x) (map f xs)
 in_map f [] x there = absurd there
 in_map f (y ∷ xs) x (inl same) = inl (ap f same)
 in_map f (y ∷ xs) x (inr there) = inr (in_map f xs x there)
 
-from_map : {A B : Type 0} (f : A → B) (xs : List A) (y : B) → IsIn y (map f xs) → (x : A) × (IsIn x xs × (f x ≡ y))
+pub from_map : {A B : Type 0} (f : A → B) (xs : List A) (y : B) → IsIn y (map f xs) → (x : A) × (IsIn x xs × (f x ≡ y))
 from_map f [] y there = absurd there
 from_map f (x ∷ xs) y (inl same) = (x, (inl refl, same))
 from_map f (x ∷ xs) y (inr there) = let found = from_map f xs y there in (found.0, (inr found.1.0, found.1.1))

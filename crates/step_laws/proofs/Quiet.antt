@@ -97,7 +97,7 @@ keeps_mute merge world entry mute unnamed no_job no_table no_put planned k =
 
 -- ---- gets and notes
 
-claimed_up_to : (merge : Operator) (world : World) (specs : ℕ → JobSpec) → Body merge world specs → (worker job attempt : ℕ) → IsTrue (was_claimed world.store.history worker job attempt) → IsUpTo world.store.history (stored_jobs world.store) (job, attempt)
+pub claimed_up_to : (merge : Operator) (world : World) (specs : ℕ → JobSpec) → Body merge world specs → (worker job attempt : ℕ) → IsTrue (was_claimed world.store.history worker job attempt) → IsUpTo world.store.history (stored_jobs world.store) (job, attempt)
 claimed_up_to merge world specs b worker job attempt h = at (any_element (λ (e : Entry). is_claim_of worker job attempt e.event && stood e.answer) world.store.history h)
   where
     same : (x : ℕ × ℕ) → (job == x.0 && attempt == x.1) ≡ true → IsUpTo world.store.history (stored_jobs world.store) x → IsUpTo world.store.history (stored_jobs world.store) (job, attempt)

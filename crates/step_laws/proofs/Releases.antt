@@ -21,7 +21,7 @@ use Rattle.step_laws.proofs.RecordsPuts.{StandingPutKeeps}
 use Rattle.step_laws.proofs.Changed.{IsWorkerChange, own_on, name_apart_on, kept_quiet}
 use Rattle.step_laws.proofs.WorkerPuts.{stored_as, each_named, stored_to, live_open, live_attempt, named_in, worker_records, worker_put_keeps, stored_named}
 
-waiting_change : IsWorkerChange to_waiting
+pub waiting_change : IsWorkerChange to_waiting
 waiting_change = record { ids = λ job. refl; specs = λ job. refl; attempts = λ job. omega arith }
 
 quiet_release : (took : Bool) (worker : ℕ) (attempts : List (ℕ × ℕ)) (job : ℕ) → IsQuietFor took (PutRecords (Release worker attempts)) job

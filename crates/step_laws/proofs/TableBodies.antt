@@ -45,13 +45,13 @@ same_with_table world new specs puts front back e =
     (all_front _ front back (subst (λ h. AllByRecursion (λ (entry : Entry). AllByRecursion (IsPut world.store.tables) (tables_brought_in (stood entry.answer) entry.event)) h) (sym e) puts.brought))
     (record { trees = (tt, tt); outputs = tt })
 
-faithful_with_table : (world : World) (new : ℕ × List Row) (specs : ℕ → JobSpec) → PutsKept world.store.history world.store.tables → Faithful world specs → Faithful (with_table world new) specs
+pub faithful_with_table : (world : World) (new : ℕ × List Row) (specs : ℕ → JobSpec) → PutsKept world.store.history world.store.tables → Faithful world specs → Faithful (with_table world new) specs
 faithful_with_table world new specs puts f = record {
   agrees = f.agrees;
   manifests = λ front back e. subst (Matches world.past) (sym (same_with_table world new specs puts front back e)) (f.manifests front back e);
 }
 
-faithful_without_table : (world : World) (new : ℕ × List Row) (specs : ℕ → JobSpec) → PutsKept world.store.history world.store.tables → Faithful (with_table world new) specs → Faithful world specs
+pub faithful_without_table : (world : World) (new : ℕ × List Row) (specs : ℕ → JobSpec) → PutsKept world.store.history world.store.tables → Faithful (with_table world new) specs → Faithful world specs
 faithful_without_table world new specs puts f = record {
   agrees = f.agrees;
   manifests = λ front back e. subst (Matches world.past) (same_with_table world new specs puts front back e) (f.manifests front back e);

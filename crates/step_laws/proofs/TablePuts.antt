@@ -28,7 +28,7 @@ use Rattle.step_laws.proofs.Vain.{vain_puts_keep}
 -- ---- the id is known
 
 -- The last event of a party is one of the history.
-last_in : (party : Party) (id : ℕ) (history : List Entry) (last : Option Entry) → option_map (λ (e : Entry). e.event) (last_from last party history) ≡ Some (DrawTable id)
+pub last_in : (party : Party) (id : ℕ) (history : List Entry) (last : Option Entry) → option_map (λ (e : Entry). e.event) (last_from last party history) ≡ Some (DrawTable id)
     → (option_map (λ (e : Entry). e.event) last ≡ Some (DrawTable id)) ⊎ IsIn id (drawn_tables history)
 last_in party id [] last e = inl e
 last_in party id (entry ∷ history) last e = by (party_eq party entry.party) (last_in party id history (Some entry)) (last_in party id history last) e
@@ -56,7 +56,7 @@ last_in party id (entry ∷ history) last e = by (party_eq party entry.party) (l
     by true own other e = here (own e)
     by false own other e = further (other e)
 
-last_drawn : (party : Party) (id : ℕ) (history : List Entry) → last_event party history ≡ Some (DrawTable id) → IsTrue (contains (drawn_tables history) id)
+pub last_drawn : (party : Party) (id : ℕ) (history : List Entry) → last_event party history ≡ Some (DrawTable id) → IsTrue (contains (drawn_tables history) id)
 last_drawn party id history e = by (last_in party id history None e)
   where
     by : (None ≡ Some (DrawTable id)) ⊎ IsIn id (drawn_tables history) → IsTrue (contains (drawn_tables history) id)

@@ -62,7 +62,7 @@ put_run_all P id run (node ∷ tree) new h = by (is_run_below id node.name) (put
 run_all : (P : ℕ → Type 0) (sources : List NodeName) (id : ℕ) (pieces : List ℕ) (tree : Tree) → AllByRecursion P pieces → TreeAll P tree → TreeAll P (with_run_for sources id pieces tree)
 run_all P sources id pieces tree new h = put_run_all P id _ (without_nodes sources tree) new (all_filter _ _ tree h)
 
-put_first_all : (P : ℕ → Type 0) (tables : Tables) (piece : ℕ) (pieces : List ℕ) → P piece → AllByRecursion P pieces → AllByRecursion P (put_by_first_key tables piece pieces)
+pub put_first_all : (P : ℕ → Type 0) (tables : Tables) (piece : ℕ) (pieces : List ℕ) → P piece → AllByRecursion P pieces → AllByRecursion P (put_by_first_key tables piece pieces)
 put_first_all P tables piece [] p h = (p, tt)
 put_first_all P tables piece (q ∷ pieces) p h = by (is_lt (key_cmp (first_key (table_rows tables q)) (first_key (table_rows tables piece)))) (put_first_all P tables piece pieces p h.1)
   where
@@ -70,7 +70,7 @@ put_first_all P tables piece (q ∷ pieces) p h = by (is_lt (key_cmp (first_key 
     by true rest = (h.0, rest)
     by false rest = (p, h)
 
-by_first_all : (P : ℕ → Type 0) (tables : Tables) (pieces : List ℕ) → AllByRecursion P pieces → AllByRecursion P (by_first_key tables pieces)
+pub by_first_all : (P : ℕ → Type 0) (tables : Tables) (pieces : List ℕ) → AllByRecursion P pieces → AllByRecursion P (by_first_key tables pieces)
 by_first_all P tables [] h = tt
 by_first_all P tables (piece ∷ pieces) h = put_first_all P tables piece (by_first_key tables pieces) h.0 (by_first_all P tables pieces h.1)
 

@@ -87,7 +87,7 @@ pub first_of_three : (a b c : Bool) → IsTrue (a && b && c) → IsTrue a
 first_of_three true b c h = refl
 first_of_three false b c h = absurd (cc h)
 
-last_of_three : (a b c : Bool) → IsTrue (a && b && c) → IsTrue c
+pub last_of_three : (a b c : Bool) → IsTrue (a && b && c) → IsTrue c
 last_of_three true true c h = h
 last_of_three true false c h = absurd (cc h)
 last_of_three false b c h = absurd (cc h)

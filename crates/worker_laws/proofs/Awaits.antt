@@ -32,6 +32,7 @@ use Rattle.rival_laws.proofs.WorkerCalls.{claim_grows}
 use Rattle.course_laws.proofs.Calls.{rivals_hold}
 use Rattle.course_laws.proofs.Claims.{next_attempt}
 use Rattle.course_laws.proofs.Later.{entry_by, call_history}
+use Rattle.rival_laws.proofs.JobsMerged.{and_first}
 
 -- ---- the get that follows a claim
 
@@ -199,28 +200,24 @@ none_planned history (entry ∷ old) jobs job all stored =
 
 -- ---- one worker claims an attempt
 
-and_left : (a b : Bool) → (a && b) ≡ true → a ≡ true
-and_left true b e = refl
-and_left false b e = absurd (cc e)
-
 and_right : (a b : Bool) → (a && b) ≡ true → b ≡ true
 and_right true b e = e
 and_right false b e = absurd (cc e)
 
 claim_says : (worker job attempt : ℕ) (took : Bool) (event : Event) → (is_claim_of worker job attempt event && took) ≡ true → IsIn (job, attempt) (entries.attempts_claimed_in took event)
-claim_says worker job attempt true (PutRecords (Claim other attempts)) e = listed attempts (and_right (worker == other) (is_in job attempt attempts) (and_left _ true e))
+claim_says worker job attempt true (PutRecords (Claim other attempts)) e = listed attempts (and_right (worker == other) (is_in job attempt attempts) (and_first _ true e))
   where
     listed : (attempts : List (ℕ × ℕ)) → is_in job attempt attempts ≡ true → IsIn (job, attempt) attempts
     listed attempts there =
         let found = any_element (λ (a : ℕ × ℕ). job == a.0 && attempt == a.1) attempts there in
-        let first = (Decides-eqb job found.element.0).0 (and_left (job == found.element.0) (attempt == found.element.1) found.passes) in
+        let first = (Decides-eqb job found.element.0).0 (and_first (job == found.element.0) (attempt == found.element.1) found.passes) in
         let second = (Decides-eqb attempt found.element.1).0 (and_right (job == found.element.0) (attempt == found.element.1) found.passes) in
         subst (λ p. IsIn p attempts) (λ i. (sym first i, sym second i)) found.there
 claim_says worker job attempt false event e = absurd (cc (and_right (is_claim_of worker job attempt event) false e))
 claim_says worker job attempt true event e = absurd (cc e)
 
 claim_worker : (one other job attempt : ℕ) (event : Event) → is_claim_of one job attempt event ≡ true → is_claim_of other job attempt event ≡ true → one ≡ other
-claim_worker one other job attempt (PutRecords (Claim worker attempts)) e f = (Decides-eqb one worker).0 (and_left (one == worker) _ e) ∙ sym ((Decides-eqb other worker).0 (and_left (other == worker) _ f))
+claim_worker one other job attempt (PutRecords (Claim worker attempts)) e f = (Decides-eqb one worker).0 (and_first (one == worker) _ e) ∙ sym ((Decides-eqb other worker).0 (and_first (other == worker) _ f))
 claim_worker one other job attempt event e f = absurd (cc e)
 
 -- An attempt is claimed by one worker.
@@ -230,7 +227,7 @@ one_claimer one other job attempt history once first second =
     let b = any_element (λ (e : Entry). is_claim_of other job attempt e.event && stood e.answer) history second in
     let same = same_place (λ (e : Entry). entries.attempts_claimed_in (stood e.answer) e.event) (λ x y. x ≢ y) (job, attempt) (λ differs. differs refl) history a.element b.element once a.there b.there
     (claim_says one job attempt (stood a.element.answer) a.element.event a.passes) (claim_says other job attempt (stood b.element.answer) b.element.event b.passes) in
-    claim_worker one other job attempt b.element.event (subst (λ (e : Entry). is_claim_of one job attempt e.event ≡ true) same (and_left _ (stood a.element.answer) a.passes)) (and_left _ (stood b.element.answer) b.passes)
+    claim_worker one other job attempt b.element.event (subst (λ (e : Entry). is_claim_of one job attempt e.event ≡ true) same (and_first _ (stood a.element.answer) a.passes)) (and_first _ (stood b.element.answer) b.passes)
 
 -- The plan of an attempt that the worker claimed is not noted yet.
 pub record IsUnplanned (worker job attempt : ℕ) (history : List Entry) : Type 0 where

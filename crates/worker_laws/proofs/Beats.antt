@@ -7,7 +7,7 @@ use Rattle.row_model.specs.Lists.{Pairs}
 use Rattle.fleet_model.specs.Jobs.{Job, Jobs, Running, has_status, is_active, contains, trimmed_jobs, job_with}
 use Rattle.fleet_model.specs.History.{GetRecords, Beat}
 use Rattle.fleet_model.specs.Store.{Store, Records, jobs_in, stored_jobs}
-use Rattle.fleet_model.specs.Work.Records.{Unrecorded, firsts, beaten_by, jobs_after}
+use Rattle.fleet_model.specs.Work.Records.{firsts, beaten_by, jobs_after}
 use Rattle.fleet_model.specs.Work.Parties.{Attempt, LiveWorker, is_live, is_leased_to, runs_attempt, named_attempts, live_attempts}
 use Rattle.fleet_model.specs.Work.Gates.{is_nonempty}
 use Rattle.fleet_model.specs.Exchanges.{Exchange, Plain, PutsRecords, records_version}
@@ -24,8 +24,8 @@ use Rattle.step_laws.proofs.Elements.{IsIn, all_from, all_to, contains_in, in_co
 use Rattle.step_laws.proofs.Changed.{on_these, found_job, job_found}
 use Rattle.rival_laws.proofs.JobsMerged.{StayActive, changed_stay, with_changed}
 use Rattle.rival_laws.proofs.WorkerFollows.{from_filter}
-use Rattle.course_laws.proofs.Beats.{Fit, fit_got, found_attempt, beats_are_lawful}
-use Rattle.course_laws.proofs.Calls.{in_map, pairs_filter}
+use Rattle.course_laws.proofs.Beats.{Fit, fit_got, found_attempt, beats_are_lawful, beat_unrecorded}
+use Rattle.course_laws.proofs.Calls.{pairs_filter}
 use Rattle.course_laws.proofs.Later.{later_itself, later_met}
 use Rattle.course_laws.proofs.Puts.{got_records}
 use Rattle.course_laws.proofs.Made.{Relies}
@@ -35,16 +35,13 @@ use Rattle.worker_laws.proofs.Live.{IsLive, live_at, live_active, leased_runs}
 use Rattle.worker_laws.proofs.Runs.{Made, Left, call_by, left_stopped, left_reported, left_ended}
 use Rattle.worker_laws.proofs.Attempts.{holds_fewer}
 use Rattle.worker_laws.proofs.OwnCalls.{put_world, own_calls_keep}
+use Rattle.step_laws.proofs.Polls.{in_map}
 
 -- ---- what the put leaves
 
--- What a heartbeat with these attempts publishes, and when.
-abbrev published_at : ℕ → List Attempt → Unrecorded
-published_at moment live = record { moment = moment; published = published_by live; kept_cut = None; tables_of = λ spec. [] }
-
 -- The jobs that a heartbeat with these attempts puts.
 abbrev beaten_jobs : ℕ → LiveWorker → List Attempt → Jobs → Jobs
-beaten_jobs moment w live jobs = jobs_after (published_at moment live) (Beat w.number (named_attempts live)) jobs
+beaten_jobs moment w live jobs = jobs_after (beat_unrecorded moment live) (Beat w.number (named_attempts live)) jobs
 
 -- The job is Running with the worker at the attempt, and has the attempt's context.
 abbrev HasBeaten : ℕ → Attempt → Jobs → Type 0
@@ -74,7 +71,7 @@ is_beaten moment w jobs rise short jobs_rise a there =
     these = firsts (named_attempts live)
 
     f : Job → Job
-    f = beaten_by w.number (published_at moment live)
+    f = beaten_by w.number (beat_unrecorded moment live)
 
     has : (b : Attempt) → IsIn b live → IsTrue (contains these b.job)
     has b one = in_contains these b.job (in_map (λ (p : ℕ × ℕ). p.0) (named_attempts live) (b.job, b.number) (in_map (λ (x : Attempt). (x.job, x.number)) live b one))

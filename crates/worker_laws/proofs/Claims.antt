@@ -35,12 +35,11 @@ use Rattle.rival_laws.proofs.WorkerFollows.{Follows, holds_after, from_filter}
 use Rattle.rival_laws.proofs.WorkerCalls.{claim_grows}
 use Rattle.rival_laws.proofs.Workers.{rivals_follow}
 use Rattle.course_laws.proofs.Beats.{Fit, fit_got}
-use Rattle.course_laws.proofs.Calls.{all_map, all_take, pairs_take, pairs_filter, filtered, in_map}
+use Rattle.course_laws.proofs.Calls.{all_map, all_take, pairs_take, pairs_filter, filtered}
 use Rattle.course_laws.proofs.Claims.{next_attempt, put_stood, claims_are_lawful}
 use Rattle.course_laws.proofs.Later.{later_itself, later_met}
 use Rattle.course_laws.proofs.Puts.{got_records}
 use Rattle.course_laws.proofs.Made.{Relies}
-use Rattle.course_laws.proofs.Held.{refused}
 use Rattle.course_laws.specs.Afterwards.{ComesAfter}
 use Rattle.course_laws.proofs.Afterwards.{comes_itself, comes_then, comes_by, comes_met, comes_called}
 use Rattle.step_laws.specs.Runs.{CallsKeep}
@@ -55,6 +54,8 @@ use Rattle.worker_laws.proofs.Taken.{attempt_with, taken_by, blank, over_taken, 
 use Rattle.worker_laws.proofs.Awaits.{AwaitsGet, awaits_after, rivals_await, IsUnplanned, none_planned, noted_none, rivals_unplanned}
 use Rattle.worker_laws.proofs.Starts.{plain_entry, plain_world, follow_plain, begins_at_get}
 use Rattle.worker_laws.proofs.Plans.{Began, attempt_of, left_of, IsStarting, IsStarted, runs_follow, counted_next, plans_noted, holds_begun}
+use Rattle.step_laws.proofs.Polls.{in_map}
+use Rattle.rival_laws.proofs.FreeTables.{refused}
 
 -- ---- the jobs that a claim takes
 
@@ -473,7 +474,7 @@ those c left again ran r new end tries met got (job ∷ rest) comes make is chos
             after_put c these left ran r new end after (did stored) chosen.rise not_run (pending_after c.who c.w c.moment m.met got these stored chosen e m.fit.kept m.kept) (record { kept = m.kept; holds = holds }) lawful run
         by false e lawful run = tries (records_version m.met.store.records) after (comes_called c.who x c.start m.met (comes_then c.start met m.met comes comes_at)) (record { kept = m.kept; holds = holds }) lawful run
 
-none_stopped : (attempts : List Attempt) → without_attempts [] attempts ≡ attempts
+pub none_stopped : (attempts : List Attempt) → without_attempts [] attempts ≡ attempts
 none_stopped [] = refl
 none_stopped (a ∷ attempts) = ap (λ (rest : List Attempt). a ∷ rest) (none_stopped attempts)
 

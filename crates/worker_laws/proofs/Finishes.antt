@@ -37,7 +37,6 @@ use Rattle.course_laws.proofs.Puts.{got_records}
 use Rattle.course_laws.proofs.Outputs.{found_in}
 use Rattle.course_laws.proofs.Made.{Relies, State, ids_of, all_of}
 use Rattle.course_laws.proofs.Finishes.{outputs_all, finishes_are_lawful}
-use Rattle.course_laws.proofs.Held.{refused}
 use Rattle.worker_laws.specs.OwnCalls.{SparesOwn}
 use Rattle.worker_laws.specs.Finishes.{FinishesKeepFit}
 use Rattle.worker_laws.specs.FinishReports.{FinishDid, FinishesReport}
@@ -49,6 +48,7 @@ use Rattle.worker_laws.proofs.Runs.{Made, Left, call_by, left_stopped, left_repo
 use Rattle.worker_laws.proofs.OwnCalls.{own_entry, put_world, own_calls_keep}
 use Rattle.worker_laws.proofs.Tables.{Stops, AreUnnoted, gets, puts_all}
 use Rattle.worker_laws.proofs.Outputs.{begins, gives_back_left}
+use Rattle.rival_laws.proofs.FreeTables.{refused}
 
 -- What a lawful course leads to, from a store that the worker fits.
 abbrev pub After : Caller → ℕ → LiveWorker → Attempt → Course (StepEnd FinishedJob) → (old new : World) → End (StepEnd FinishedJob) → Type 0

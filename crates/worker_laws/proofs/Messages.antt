@@ -15,7 +15,6 @@ use Rattle.step_model.specs.Steps.MessageSteps.{attempt_run, ends_run, take_fini
 use Rattle.step_laws.proofs.Elements.{IsIn, all_at, in_contains}
 use Rattle.course_laws.specs.Messages.{ResultFits}
 use Rattle.course_laws.proofs.Beats.{Fit}
-use Rattle.course_laws.proofs.Held.{refused}
 use Rattle.course_laws.proofs.Made.{Relies, all_of}
 use Rattle.course_laws.proofs.Messages.{run_there, new_tables, result_is, result_all, result_lawful, messages_are_lawful}
 use Rattle.worker_laws.specs.After.{FitsAfterwards}
@@ -27,6 +26,7 @@ use Rattle.worker_laws.proofs.Progress.{progress_holds}
 use Rattle.worker_laws.proofs.Releases.{released}
 use Rattle.worker_laws.proofs.Runs.{Left, reported, left_stopped, left_reported, left_ended}
 use Rattle.worker_laws.proofs.Tables.{AreUnnoted, IsUnnoted}
+use Rattle.rival_laws.proofs.FreeTables.{refused}
 
 -- ---- an attempt that finished
 

@@ -34,13 +34,12 @@ use Rattle.step_laws.proofs.Deletions.{in_filter}
 use Rattle.step_laws.proofs.MuteBodies.{if_some_to}
 use Rattle.step_laws.proofs.OwnTables.{apart_from, apart_at}
 use Rattle.rival_laws.specs.Free.{IsFree}
-use Rattle.rival_laws.proofs.FreeTables.{free_own}
+use Rattle.rival_laws.proofs.FreeTables.{free_own, refused}
 use Rattle.rival_laws.proofs.WorkerFollows.{from_filter}
 use Rattle.course_laws.proofs.Beats.{Fit}
 use Rattle.course_laws.proofs.Outputs.{found_in, outputs_are_lawful}
 use Rattle.course_laws.proofs.Made.{Relies, State}
 use Rattle.course_laws.proofs.Finishes.{flat_same, drop_front}
-use Rattle.course_laws.proofs.Held.{refused}
 use Rattle.worker_laws.specs.After.{FitsAfterwards}
 use Rattle.worker_laws.specs.Outputs.{IsRangeAt, OutputsKeepFit}
 use Rattle.worker_laws.proofs.Runs.{Left, stopped, reported, left_stopped, left_ended}

@@ -24,19 +24,19 @@ use Rattle.step_laws.proofs.OwnTables.{apart_at}
 use Rattle.step_laws.proofs.Mute.{IsMute, mute_event}
 use Rattle.step_laws.proofs.Worlds.{beaten_stays}
 use Rattle.step_laws.proofs.Beaten.{attempt_named}
-use Rattle.step_laws.proofs.Quiet.{world_entered}
+use Rattle.step_laws.proofs.Quiet.{world_entered, claimed_up_to}
 use Rattle.step_laws.proofs.Bodies.{whole_of}
 use Rattle.step_laws.proofs.TableBodies.{active_if_open}
 use Rattle.step_laws.proofs.RecordsBodies.{with_records, world_with_records}
 use Rattle.step_laws.proofs.Changed.{found_job}
 use Rattle.step_laws.proofs.WorkerPuts.{stored_as, stored_to, each_named, live_open, live_attempt}
-use Rattle.rival_laws.proofs.AttemptFacts.{claimed_up_to, origin_kept}
+use Rattle.rival_laws.proofs.AttemptFacts.{origin_kept}
 use Rattle.course_laws.proofs.OwnCalls.{holds_entered, holds_refused}
 use Rattle.course_laws.proofs.Written.{holds_put, holds_drawn}
-use Rattle.course_laws.proofs.Held.{refused}
 use Rattle.worker_laws.specs.OwnCalls.{SparesOwn, OwnCallsKeep}
 use Rattle.worker_laws.proofs.Live.{waiting_active, leased_runs}
 use Rattle.worker_laws.proofs.OwnPuts.{LeftAs, OwnPut, holds_own}
+use Rattle.rival_laws.proofs.FreeTables.{refused}
 
 -- ---- entries
 

@@ -25,10 +25,9 @@ use Rattle.step_laws.proofs.Elements.{IsIn, all_at, all_from, all_to, all_append
 use Rattle.step_laws.proofs.Deletions.{in_filter}
 use Rattle.step_laws.proofs.MuteBodies.{if_some_to}
 use Rattle.step_laws.proofs.OwnTables.{apart_from, apart_at}
-use Rattle.rival_laws.proofs.FreeTables.{free_own}
+use Rattle.rival_laws.proofs.FreeTables.{free_own, refused}
 use Rattle.rival_laws.proofs.WorkerFollows.{from_filter}
 use Rattle.course_laws.specs.Messages.{IsUnused}
-use Rattle.course_laws.proofs.Held.{refused}
 use Rattle.worker_laws.specs.Messages.{GoesOn, ProgressFits}
 use Rattle.worker_laws.proofs.Attempts.{Added, holds_fewer, holds_added, apart_two, left_other}
 

@@ -24,17 +24,17 @@ use Rattle.step_laws.proofs.Elements.{IsIn, all_from, in_contains}
 use Rattle.step_laws.proofs.Changed.{on_these, by_these, found_job, job_found}
 use Rattle.step_laws.proofs.Deletions.{in_filter}
 use Rattle.course_laws.proofs.Beats.{Fit, fit_got}
-use Rattle.course_laws.proofs.Calls.{in_map}
 use Rattle.course_laws.proofs.Later.{later_itself, later_met}
 use Rattle.course_laws.proofs.Puts.{got_records}
 use Rattle.course_laws.proofs.Made.{Relies}
 use Rattle.course_laws.proofs.Releases.{releases_are_lawful}
-use Rattle.course_laws.proofs.Held.{refused}
 use Rattle.worker_laws.specs.Releases.{ReleasesKeepFit}
 use Rattle.worker_laws.proofs.Live.{live_at, none_pass, pass_none}
 use Rattle.worker_laws.proofs.Runs.{Made, Left, call_by, left_stopped, left_reported, left_ended}
 use Rattle.worker_laws.proofs.OwnPuts.{from_stored}
 use Rattle.worker_laws.proofs.OwnCalls.{put_world, own_calls_keep}
+use Rattle.step_laws.proofs.Polls.{in_map}
+use Rattle.rival_laws.proofs.FreeTables.{refused}
 
 -- ---- no attempt is live
 

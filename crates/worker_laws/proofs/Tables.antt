@@ -23,8 +23,8 @@ use Rattle.step_laws.proofs.Held.{held_put}
 use Rattle.course_laws.proofs.Beats.{Fit}
 use Rattle.course_laws.proofs.Free.{rivals_unput, drawn_unput}
 use Rattle.course_laws.proofs.Made.{Relies, State, state_met, state_drawn, state_put, state_table, ids_of, all_of}
-use Rattle.course_laws.proofs.Held.{refused}
 use Rattle.worker_laws.proofs.Runs.{Made, call_by}
+use Rattle.rival_laws.proofs.FreeTables.{refused}
 
 -- Where a run of the worker stops at a call, this follows.
 abbrev pub Stops : {A : Type 0} → Type 0 → Caller → LiveWorker → World → End (StepEnd A) → Type 0

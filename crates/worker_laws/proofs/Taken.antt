@@ -28,12 +28,12 @@ use Rattle.step_laws.proofs.Beaten.{attempt_named}
 use Rattle.step_laws.proofs.Bodies.{JobKept, whole_of}
 use Rattle.step_laws.proofs.Changed.{on_these, found_job, job_found}
 use Rattle.rival_laws.proofs.JobsMerged.{StayActive, changed_stay, with_changed}
-use Rattle.course_laws.proofs.Calls.{in_map}
 use Rattle.course_laws.proofs.Claims.{next_attempt}
 use Rattle.worker_laws.proofs.Live.{waiting_active}
 use Rattle.worker_laws.proofs.OwnPuts.{ranges_extend}
 use Rattle.worker_laws.proofs.Sources.{sources_ordered, sources_held}
 use Rattle.worker_laws.proofs.Begun.{single, RunsAs, Waits, holds_alone}
+use Rattle.step_laws.proofs.Polls.{in_map}
 
 -- ---- the jobs
 
