@@ -160,7 +160,7 @@ opened_jobs_hold_their_nodes tables_of nodes jobs lost job held among = λ name.
     ∙ opened_jobs tables_of name job.id jobs lost
     ∙ sym (held_are (changed_jobs (to_scheduled tables_of) (job.id ∷ []) jobs) lost name)
 
-contains_more : (xs : List ℕ) (y n : ℕ) → contains (xs ++ y ∷ []) n ≡ (contains xs n || (y == n))
+pub contains_more : (xs : List ℕ) (y n : ℕ) → contains (xs ++ y ∷ []) n ≡ (contains xs n || (y == n))
 contains_more [] y n = by (y == n)
   where
     by : (b : Bool) → cond b true false ≡ b

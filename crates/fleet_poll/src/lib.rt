@@ -1,0 +1,11 @@
+//! Polls: what a coordinator does with the manifest and the records that it got, before it puts
+//! them.
+#![tactic(auto)]
+
+mod adding;
+mod freeing;
+mod poll;
+mod report;
+
+pub use poll::Poll;
+pub use report::PollReport;
