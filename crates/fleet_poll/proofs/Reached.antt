@@ -1,13 +1,13 @@
 -- What a poll has reached after a proposal.
 use Rattle.std.proofs.Common.{◌≡◌, refl, sym, ◌∙◌, ap, subst, ℕ, zero, suc, ◌+◌, ◌<◌, arith, drop, get_or, length, take, List, [], ◌∷◌, ◌++◌, map, Bool, true, false, ◌||◌}
-use Rattle.std.specs.Prelude.{◌==◌, None, Ok, Err, IsOkUnless, OnOk, Result}
+use Rattle.std.specs.Prelude.{◌==◌, filter, None, Ok, Err, IsOkUnless, OnOk, Result}
 use Rattle.std.specs.List.{AllByRecursion, list_any}
 use Rattle.std.proofs.lemmas.List.{length-take-le, map-append, take_more}
 use Rattle.row_model.specs.Lists.{Pairs}
-use Rattle.fleet_model.specs.Jobs.{JobSpec, Jobs, put_job}
-use Rattle.fleet_model.specs.Work.Polls.{add_by, add_drawn, clashes}
-use Rattle.fleet_model.specs.Work.PollStates.{PollState}
-use Rattle.fleet_model.specs.Work.Records.{new_job}
+use Rattle.fleet_model.specs.Jobs.{JobSpec, Jobs, changed_jobs, ids, is_stale, put_job}
+use Rattle.fleet_model.specs.Work.Polls.{add_by, add_drawn, clashes, free_stale}
+use Rattle.fleet_model.specs.Work.PollStates.{PollInput, PollState}
+use Rattle.fleet_model.specs.Work.Records.{new_job, to_waiting}
 use Rattle.fleet_rows.specs.declared.errors.SlateDBError.{SlateDBError}
 use Rattle.fleet_rows.specs.declared.errors.SlateDBError.TheVariants.{InvalidCompaction, Memory}
 use Rattle.fleet_tree.specs.Trees.{RunFlushes, trees_of}
@@ -20,7 +20,8 @@ use Rattle.fleet_history.specs.Changes.{new_specs}
 use Rattle.fleet_book.specs.Records.{record_with}
 use Rattle.fleet_book.specs.StateParts.{StateParts}
 use Rattle.fleet_book.specs.States.{is_taken, own_jobs}
-use Rattle.fleet_poll.specs.Polls.{HasSameObjects, poll_of, report_of}
+use Rattle.fleet_poll.specs.Polls.{HasSameObjects, freed_record, poll_of, report_of}
+use Rattle.fleet_poll.proofs.Freed.{freed_are}
 use Rattle.fleet_poll.specs.declared.poll.Poll.{Poll}
 
 pub on_ok : {A E P Q : Type 0} (r : Result A E) → (P → Q) → OnOk r P → OnOk r Q
@@ -41,6 +42,16 @@ must_be_taken false r e memory is refused =
 -- What the model's poll has reached with a program's manifest, jobs, new specs and dropped places.
 abbrev reached : RunFlushes → Poll → VersionedManifest → Jobs → List (ℕ × JobSpec) → List ℕ → PollState
 reached flushes poll manifest jobs added dropped = record (poll_of flushes poll) { trees = trees_of flushes manifest.manifest.core; horizon = manifest.manifest.core.horizon; jobs = jobs; added = added; dropped = dropped }
+
+pub stale_freed : (flushes : RunFlushes) (input : PollInput) (poll : Poll) (state : StateParts) (freed : List ℕ) (timeout moment : ℕ) → input.options.timeout ≡ timeout → input.moment ≡ moment
+    → HasSameObjects poll.state state → own_jobs state ≡ map (freed_record freed) (own_jobs poll.state) → freed ≡ ids (filter (is_stale timeout moment) (jobs_of (own_jobs poll.state)))
+    → poll_of flushes (record poll { state = state; freed = freed }) ≡ free_stale input (poll_of flushes poll)
+stale_freed flushes input poll state freed timeout moment late now same jobs stale =
+    let before = jobs_of (own_jobs poll.state) in
+    let by : Jobs → List ℕ → PollState = λ js these. record (poll_of flushes poll) { jobs = js; freed = these } in
+    ap (λ m. record (reached flushes poll m (jobs_of (own_jobs state)) (new_specs poll.added) poll.dropped) { freed = freed }) same.manifest
+    ∙ ap (λ js. by js freed) (ap jobs_of jobs ∙ freed_are freed (own_jobs poll.state))
+    ∙ ap (λ these. by (changed_jobs to_waiting these before) these) (stale ∙ ap (λ t. ids (filter (is_stale t moment) before)) (sym late) ∙ ap (λ m. ids (filter (is_stale input.options.timeout m) before)) (sym now))
 
 pub proposal_added : (flushes : RunFlushes) (poll : Poll) (state : StateParts) (added : List (ℕ × CompactionSpec)) (place id : ℕ) (spec : CompactionSpec) (taken : Bool) → taken ≡ false
     → HasSameObjects poll.state state → jobs_of (own_jobs state) ≡ put_job (new_job (id, spec_of spec)) (jobs_of (own_jobs poll.state)) → added ≡ poll.added ++ (id, spec) ∷ []

@@ -1,12 +1,14 @@
 -- What a poll has reached, as the model has it.
-use Rattle.std.specs.Prelude.{◌≡◌, ℕ, ◌==◌, false, List, map, None}
+use Rattle.std.specs.Prelude.{◌≡◌, ℕ, ◌==◌, false, List, map, None, if◌then◌else◌}
 use Rattle.std.specs.List.{AllByRecursion}
 use Rattle.row_model.specs.Lists.{Pairs}
+use Rattle.fleet_model.specs.Jobs.{contains}
 use Rattle.fleet_model.specs.Work.PollStates.{PollState}
 use Rattle.fleet_tree.specs.Trees.{RunFlushes, trees_of}
 use Rattle.fleet_jobs.specs.Parts.JobParts.{JobParts}
-use Rattle.fleet_jobs.specs.Jobs.{jobs_of}
+use Rattle.fleet_jobs.specs.Jobs.{jobs_of, with_status}
 use Rattle.fleet_jobs.specs.declared.spec.CompactionSpec.{CompactionSpec}
+use Rattle.fleet_jobs.specs.declared.status.CompactionStatus.TheVariants as own
 use Rattle.fleet_history.specs.Changes.{new_specs, step_of}
 use Rattle.fleet_book.specs.Records.{record_with}
 use Rattle.fleet_book.specs.StateParts.{StateParts}
@@ -32,6 +34,10 @@ poll_of flushes poll = record {
   drained = poll.drained;
   refused = poll.refused;
 }
+
+-- The record of the job. If its id is among these, it waits for a worker.
+abbrev pub freed_record : List ℕ → JobParts → JobParts
+freed_record these job = if contains these job.id then record (with_status own.Scheduled job) { worker = None } else job
 
 -- Both states have one manifest, and the records have one version and epoch.
 pub record HasSameObjects (old new : StateParts) : Type 0 where

@@ -3,16 +3,15 @@
 ghost use Rattle.std.specs.Prelude.{◌≡◌, ◌++◌, [], ◌∷◌, filter, map, IfOk, IsOkUnless, OnOk};
 ghost use Rattle.std.specs.Option.{option_copied};
 ghost use Rattle.std.specs.Prelude.{option_map};
-ghost use Rattle.fleet_model.specs.Jobs.{changed_jobs, ids, is_overdue, is_stale};
+ghost use Rattle.fleet_model.specs.Jobs.{ids, is_overdue, is_stale};
 ghost use Rattle.fleet_model.specs.Work.Polls.{free_stale};
 ghost use Rattle.fleet_model.specs.Work.PollStates.{PollInput};
-ghost use Rattle.fleet_model.specs.Work.Records.{to_waiting};
 ghost use Rattle.fleet_tree.specs.Trees.{RunFlushes};
 ghost use Rattle.fleet_jobs.specs.Jobs.{job_of, jobs_of};
 ghost use Rattle.fleet_jobs.specs.Workers.{lease_of};
 ghost use Rattle.fleet_book.specs.Records.{AreRising};
 ghost use Rattle.fleet_book.specs.States.{own_jobs};
-ghost use Rattle.fleet_poll.specs.Polls.{HasSameObjects, poll_of};
+ghost use Rattle.fleet_poll.specs.Polls.{HasSameObjects, freed_record, poll_of};
 
 use crate::Poll;
 use fleet_book::{Compaction, CompactionStatus, CompactorState, VersionedCompactions, WorkerSpec};
@@ -33,6 +32,8 @@ impl Poll {
             → input.options.timeout ≡ options.now.worker_heartbeat_timeout_ms
             → input.moment ≡ moment
             → OnOk result (poll_of flushes self.new ≡ free_stale input (poll_of flushes self.old)) }
+        ensures jobs { OnOk result (own_jobs self.new.state
+            ≡ map (freed_record self.new.freed) (own_jobs self.old.state)) }
         ensures same { OnOk result (HasSameObjects self.old.state self.new.state) }
         ensures memory { IsOkUnless result SlateDBError.Memory }
     {
@@ -98,8 +99,8 @@ fn is_overdue(worker: Option<&WorkerSpec>, timeout: u64, moment: u64) -> bool
 
 // Makes these jobs wait for a worker.
 fn free_jobs(state: &mut CompactorState, jobs: &[Ulid]) -> Result<(), SlateDBError>
-    ensures jobs { OnOk result (jobs_of (own_jobs state.new)
-        ≡ changed_jobs to_waiting jobs.now (jobs_of (own_jobs state.old))) }
+    ensures jobs { OnOk result
+        (own_jobs state.new ≡ map (freed_record jobs.now) (own_jobs state.old)) }
     ensures same { OnOk result (HasSameObjects state.old state.new) }
     ensures memory { IsOkUnless result SlateDBError.Memory }
 {
@@ -111,8 +112,8 @@ fn free_jobs(state: &mut CompactorState, jobs: &[Ulid]) -> Result<(), SlateDBErr
 
 // Makes the job wait for a worker, if it is there.
 fn free_job(state: &mut CompactorState, id: Ulid) -> Result<(), SlateDBError>
-    ensures jobs { OnOk result (jobs_of (own_jobs state.new)
-        ≡ changed_jobs to_waiting (id ∷ []) (jobs_of (own_jobs state.old))) }
+    ensures jobs { OnOk result
+        (own_jobs state.new ≡ map (freed_record (id ∷ [])) (own_jobs state.old)) }
     ensures same { OnOk result (HasSameObjects state.old state.new) }
     ensures memory { IsOkUnless result SlateDBError.Memory }
 {

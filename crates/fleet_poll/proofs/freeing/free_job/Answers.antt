@@ -1,16 +1,16 @@
 use Rattle.std.proofs.Common.{◌∙◌, sym, ap, subst}
 use Rattle.std.specs.Option.{option_copied}
-use Rattle.fleet_model.specs.Work.Records.{to_waiting}
-use Rattle.fleet_jobs.specs.Jobs.{jobs_of, with_status}
+use Rattle.fleet_jobs.specs.Jobs.{with_status}
 use Rattle.fleet_jobs.specs.declared.status.CompactionStatus.TheVariants as own
 use Rattle.fleet_book.specs.Records.{AreRising, record_with}
 use Rattle.fleet_book.specs.States.{own_jobs}
-use Rattle.fleet_poll.proofs.Changed.{freed_job, there_is, unchanged}
+use Rattle.fleet_poll.proofs.Changed.{there_is}
+use Rattle.fleet_poll.proofs.Freed.{freed_job, not_there}
 use Rattle.fleet_poll.proofs.freeing.free_job.Goals as goal
 
 pub returns-in_default-clause-jobs : goal.returns-in_default-clause-jobs
 returns-in_default-clause-jobs c =
-    unchanged to_waiting c.args.id (own_jobs c.args.state.now)
+    not_there c.args.id (own_jobs c.args.state.now)
     (sym (ap option_copied (sym c.in_default.is) ∙ c.get.ensures ∙ ap (λ v. record_with c.args.id v.jobs) (c.compactions-3.ensures ∙ ap (λ v. v.compactions) c.compactions-2.ensures)))
 
 pub set_compaction-requires : goal.set_compaction-requires
@@ -29,4 +29,4 @@ returns-clause-jobs c =
     let found = sym (ap option_copied (sym c.in-Some.is) ∙ c.get.ensures ∙ ap (record_with c.args.id) seen) in
     let rising = subst (λ v. AreRising v.compactions.jobs) c.compactions.ensures c.know_rising.ensures in
     let freed = freed_job c.args.id jobs _ _ _ rising found (c.set_status.ensures ∙ ap (with_status own.Scheduled) c.in_ok-freed.ensures.copy) c.set_worker.ensures in
-    ap (λ s. jobs_of (own_jobs s)) c.set_compaction.ensures ∙ freed.1
+    ap own_jobs c.set_compaction.ensures ∙ freed.1
