@@ -1,18 +1,10 @@
 -- How records of jobs are found, and which ones stay.
-use Rattle.std.proofs.Common.{◌≡◌, refl, sym, ◌∙◌, ap, subst, ℕ, ◌+◌, ◌<◌, length, get_or, take, List, [], ◌∷◌, ◌++◌, Bool, true, false, ◌||◌, cond}
+use Rattle.std.proofs.Common.{◌≡◌, refl, sym, ◌∙◌, ap, subst, ℕ, List, [], ◌∷◌, Bool, true, false, cond}
 use Rattle.std.specs.Prelude.{◌==◌, nat_lt, IsSome, Some, None}
 use Rattle.std.proofs.lemmas.Bool.{eqb-true}
-use Rattle.std.proofs.lemmas.Cmp.{nat_eq_equiv}
-use Rattle.std.proofs.lemmas.List.{take_more}
-use Rattle.fleet_model.specs.Jobs.{Job, Jobs, changed_jobs, contains}
-use Rattle.fleet_model.specs.Work.Records.{to_waiting}
 use Rattle.fleet_jobs.specs.Parts.JobParts.{JobParts}
-use Rattle.fleet_jobs.specs.Jobs.{job_of, jobs_of, with_status}
-use Rattle.fleet_book.specs.Records.{AreRising, put_record, record_with}
-use Rattle.fleet_jobs.specs.declared.status.CompactionStatus.TheVariants as own
-use Rattle.fleet_book.proofs.Replaced.{replacements_are_the_models}
+use Rattle.fleet_book.specs.Records.{put_record, record_with}
 use Rattle.fleet_book.specs.StateParts.{StateParts}
-use Rattle.fleet_gates.proofs.HeldNodes.{contains_more}
 use Rattle.fleet_poll.specs.Polls.{HasSameObjects}
 
 -- A job that is found by an id has this id.

@@ -1,11 +1,11 @@
 -- Jobs that wait for a worker again.
 use Rattle.std.proofs.Common.{◌≡◌, refl, sym, ◌∙◌, ap, subst, ℕ, ◌+◌, ◌<◌, arith, length, get_or, take, List, [], ◌∷◌, ◌++◌, map, Bool, true, false, ◌||◌, cond}
-use Rattle.std.specs.Prelude.{◌==◌, nat_lt, Option, Some, None}
+use Rattle.std.specs.Prelude.{◌==◌, nat_lt, Some, None}
 use Rattle.std.specs.List.{AllByRecursion}
 use Rattle.std.proofs.lemmas.Bool.{eq-eqb, eqb-true, ltb-false, ltb-true}
 use Rattle.std.proofs.lemmas.Cmp.{nat_eq_equiv}
 use Rattle.std.proofs.lemmas.List.{take_more}
-use Rattle.fleet_model.specs.Jobs.{Jobs, changed_jobs, contains}
+use Rattle.fleet_model.specs.Jobs.{changed_jobs, contains}
 use Rattle.fleet_model.specs.Work.Records.{to_waiting}
 use Rattle.fleet_jobs.specs.Parts.JobParts.{JobParts}
 use Rattle.fleet_jobs.specs.Jobs.{job_of, jobs_of, with_status}

@@ -1,7 +1,8 @@
 -- What a poll has reached after a proposal.
 use Rattle.std.proofs.Common.{◌≡◌, refl, sym, ◌∙◌, ap, subst, ℕ, zero, suc, ◌+◌, ◌<◌, arith, drop, get_or, length, take, List, [], ◌∷◌, ◌++◌, map, Bool, true, false, ◌||◌}
-use Rattle.std.specs.Prelude.{◌==◌, filter, None, Ok, Err, IsOkUnless, OnOk, Result}
+use Rattle.std.specs.Prelude.{◌==◌, filter, None, Some, Ok, Err, IsOkUnless, OnOk, Result}
 use Rattle.std.specs.List.{AllByRecursion, list_any}
+use Rattle.std.proofs.lemmas.Bool.{eqb-true}
 use Rattle.std.proofs.lemmas.List.{length-take-le, map-append, take_more}
 use Rattle.row_model.specs.Lists.{Pairs}
 use Rattle.fleet_model.specs.Jobs.{JobSpec, Jobs, changed_jobs, ids, is_stale, put_job}
@@ -137,3 +138,21 @@ new_more drawn i d before after below is once stay new =
 pub ok_anyway : {A E P : Type 0} (r : Result A E) → P → OnOk r P
 ok_anyway (Ok x) p = p
 ok_anyway (Err e) p = tt
+
+head_of : (P : (ℕ × CompactionSpec) → Type 0) (drawn : List (ℕ × CompactionSpec)) (i : ℕ) (d : ℕ × CompactionSpec) → i < length drawn → d ≡ get_or drawn i d → AllByRecursion P (drop i drawn) → P d
+head_of P [] i d below is all = absurd (omega (arith, below))
+head_of P (first ∷ drawn) zero d below is all = subst P (sym is) all.0
+head_of P (first ∷ drawn) (suc i) d below is all = head_of P drawn i d (omega (arith, below)) is all
+
+-- A job that was there stays as it is, since a proposal's id is new.
+pub kept_more : (drawn : List (ℕ × CompactionSpec)) (i : ℕ) (d : ℕ × CompactionSpec) (before after : List JobParts) → i < length drawn → d ≡ get_or drawn i d
+    → AllByRecursion (λ x. record_with x.0 before ≡ None) (drop i drawn) → ((other : ℕ) → (d.0 == other) ≡ false → record_with other after ≡ record_with other before)
+    → (id : ℕ) (job : JobParts) → record_with id before ≡ Some job → record_with id after ≡ Some job
+kept_more drawn i d before after below is new stay id job found = by (d.0 == id) refl
+  where
+    by : (b : Bool) → (d.0 == id) ≡ b → record_with id after ≡ Some job
+    by true e =
+        let none = head_of (λ x. record_with x.0 before ≡ None) drawn i d below is new in
+        let clash : None ≡ Some job = sym none ∙ ap (λ n. record_with n before) (eqb-true d.0 id e) ∙ found in
+        absurd (cc clash)
+    by false e = stay id e ∙ found

@@ -1,9 +1,10 @@
 //! Step 3 of a poll: the scheduler's proposals become jobs.
 
-ghost use Rattle.std.specs.Prelude.{◌≡◌, ◌==◌, ℕ, None, false, IsOkUnless, OnOk};
+ghost use Rattle.std.specs.Prelude.{◌≡◌, ◌==◌, ℕ, None, Some, false, IsOkUnless, OnOk};
 ghost use Rattle.std.specs.List.{list_any};
 ghost use Rattle.fleet_model.specs.Work.Polls.{add_by, add_drawn, clashes};
 ghost use Rattle.fleet_tree.specs.Trees.{RunFlushes};
+ghost use Rattle.fleet_jobs.specs.Parts.JobParts.{JobParts};
 ghost use Rattle.fleet_jobs.specs.Jobs.{jobs_of};
 ghost use Rattle.fleet_jobs.specs.Specs.{spec_of};
 ghost use Rattle.fleet_history.specs.Changes.{new_specs};
@@ -28,6 +29,10 @@ impl Poll {
         requires { AreNew drawn.now (own_jobs self.old.state) }
         ensures poll { (flushes : RunFlushes) → OnOk result (poll_of flushes self.new
             ≡ add_drawn 1 (new_specs drawn.now) (poll_of flushes self.old)) }
+        // The jobs that were there stay as they are.
+        ensures kept { OnOk result ((id : ℕ) (job : JobParts)
+            → record_with id (own_jobs self.old.state) ≡ Some job
+            → record_with id (own_jobs self.new.state) ≡ Some job) }
         ensures same { OnOk result (HasSameObjects self.old.state self.new.state) }
         ensures memory { IsOkUnless result SlateDBError.Memory }
     {
