@@ -4,3 +4,5 @@ pub mod Submits
 pub mod FlushRules
 pub mod FlushPuts
 pub mod Flushes
+pub mod ShownViews
+pub mod Requests

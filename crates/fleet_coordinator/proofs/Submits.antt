@@ -79,7 +79,7 @@ module _ (view : StoreView) (moment : ℕ) (specs : List JobSpec) (merges : IsLa
 
 -- ---- the get of the records
 
-named_later : (old new : World) → Later old new → (jobs : Jobs) → AllByRecursion (λ job. IsTrue (was_named old.store.history job.id)) jobs → AllByRecursion (λ job. IsTrue (was_named new.store.history job.id)) jobs
+pub named_later : (old new : World) → Later old new → (jobs : Jobs) → AllByRecursion (λ job. IsTrue (was_named old.store.history job.id)) jobs → AllByRecursion (λ job. IsTrue (was_named new.store.history job.id)) jobs
 named_later old new later [] all = tt
 named_later old new later (job ∷ jobs) all = (done_later (λ event. contains (firsts (named_specs event)) job.id) old new later all.0, named_later old new later jobs all.1)
 

@@ -4,8 +4,10 @@
 
 mod coordinator;
 mod flushing;
+mod requesting;
 mod submission;
 
 pub use coordinator::start;
 pub use flushing::{FlushAsk, FlushFault, flush};
+pub use requesting::submit_request;
 pub use submission::submit;
