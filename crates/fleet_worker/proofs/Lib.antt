@@ -6,3 +6,6 @@ pub mod GivenBack
 pub mod Releases
 pub mod Beaten
 pub mod Beats
+pub mod Inserted
+pub mod Claims
+pub mod TryClaims

@@ -80,7 +80,7 @@ ready_midway old new w attempts course rest merges ready safe lead = record {
 }
 
 -- The store is later after a step that tells its end.
-step_later : {A B : Type 0} (ends : A → StepEnd B) (old new : StoreView) (course : Course (StepEnd B)) (result : Result A SlateDBError) → StepRan ends course old new result → IsLater old.world.store new.world.store
+pub step_later : {A B : Type 0} (ends : A → StepEnd B) (old new : StoreView) (course : Course (StepEnd B)) (result : Result A SlateDBError) → StepRan ends course old new result → IsLater old.world.store new.world.store
 step_later {B = B} ends old new course result ran = by (end_of ends result) ran.to_end
   where
     by : (end : Option (End (StepEnd B))) → OfSome (RunsTo course old new) end → IsLater old.world.store new.world.store
@@ -115,16 +115,28 @@ may_after {A = A} {B = B} report attempts old new w course merges may safe resul
     by (Err (error.CompactionFilter cause)) e runs = absurd runs
 
 -- A worker is ready after its step, unless the step stops it. `next` are the attempts that it then runs: those of
--- the report, or the same as before.
+-- the report, or the same as before. What they have noted is described.
+pub ready_with : {A B : Type 0} (report : A → B) (attempts : B → List Attempt) (old new : StoreView) (w : WorkerParts) (course : Course (StepEnd B)) → IsLawful old.who.merge → IsReady old w → IsSafe old (live_of w) attempts course
+    → (result : Result A SlateDBError) → StepRan (λ answer. Reports (report answer)) course old new result → (stopped : Bool) → stopped ≡ stops result
+    → (next : List AttemptParts) → record (live_of w) { attempts = map attempt_of next } ≡ worker_after (λ answer. attempts (report answer)) (live_of w) result → AreNoted next new.world.store
+    → OnFalse stopped (IsReady new (record w { attempts = next; stopped = stopped }))
+ready_with report attempts old new w course merges ready safe result ran true e next same noted = tt
+ready_with report attempts old new w course merges ready safe result ran false e next same noted = record {
+  may = subst (MayStep new) (sym same) (may_after report attempts old new (live_of w) course merges ready.may safe result ran (sym e));
+  noted = noted;
+}
+
+-- What a worker has noted is described after its step.
+pub noted_after : {A B : Type 0} (ends : A → StepEnd B) (old new : StoreView) (w : WorkerParts) (course : Course (StepEnd B)) (result : Result A SlateDBError) → StepRan ends course old new result → IsReady old w → AreNoted w.attempts new.world.store
+noted_after ends old new w course result ran ready = still_noted old.world.store new.world.store w.attempts (step_later ends old new course result ran) ready.noted
+
+-- The same for a worker that runs no attempt that it did not run before.
 pub ready_after : {A B : Type 0} (report : A → B) (attempts : B → List Attempt) (old new : StoreView) (w : WorkerParts) (course : Course (StepEnd B)) → IsLawful old.who.merge → IsReady old w → IsSafe old (live_of w) attempts course
     → (result : Result A SlateDBError) → StepRan (λ answer. Reports (report answer)) course old new result → (stopped : Bool) → stopped ≡ stops result
     → (next : List AttemptParts) → record (live_of w) { attempts = map attempt_of next } ≡ worker_after (λ answer. attempts (report answer)) (live_of w) result → ((store : Store) → AreNoted w.attempts store → AreNoted next store)
     → OnFalse stopped (IsReady new (record w { attempts = next; stopped = stopped }))
-ready_after report attempts old new w course merges ready safe result ran true e next same noted = tt
-ready_after report attempts old new w course merges ready safe result ran false e next same noted = record {
-  may = subst (MayStep new) (sym same) (may_after report attempts old new (live_of w) course merges ready.may safe result ran (sym e));
-  noted = noted new.world.store (still_noted old.world.store new.world.store w.attempts (step_later (λ answer. Reports (report answer)) old new course result ran) ready.noted);
-}
+ready_after report attempts old new w course merges ready safe result ran stopped e next same noted =
+    ready_with report attempts old new w course merges ready safe result ran stopped e next same (noted new.world.store (noted_after (λ answer. Reports (report answer)) old new w course result ran ready))
 
 -- A worker that runs nothing is ready anywhere.
 pub idle_ready : (number : ℕ) (release : Release) → IsReadyAnywhere (started number release)

@@ -2,3 +2,4 @@ pub mod Workers
 pub mod Releases
 pub mod Beats
 pub mod Held
+pub mod Claims

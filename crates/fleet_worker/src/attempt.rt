@@ -5,10 +5,12 @@ ghost use Rattle.std.specs.Option.{option_copied};
 ghost use Rattle.fleet_model.specs.Work.Parties.{is_leased_to, is_live, runs_attempt};
 ghost use Rattle.fleet_jobs.specs.Jobs.{job_of, jobs_of};
 ghost use Rattle.fleet_jobs.specs.Workers.{lease_of};
+ghost use Rattle.fleet_worker.specs.Claims.{parts_of};
 ghost use Rattle.fleet_worker.specs.Releases.{live_named};
 ghost use Rattle.fleet_worker.specs.Workers.{attempt_of, run_at};
 
 use fleet_book::Compactions;
+use fleet_claim::ClaimedAttempt;
 use fleet_jobs::{Compaction, CompactionContext, CompactionStatus, WorkerSpec};
 use fleet_rows::{AttemptList, IdList, SlateDBError, Ulid};
 use std::alloc::Global;
@@ -37,6 +39,31 @@ impl Model for RunAttempt {
 }
 
 impl RunAttempt {
+    /// The attempt that a claim begins.
+    pub(crate) fn from_claimed(attempt: ClaimedAttempt) -> RunAttempt
+        ensures { result ≡ parts_of attempt }
+    {
+        RunAttempt {
+            job: attempt.job,
+            number: attempt.number,
+            sources: attempt.sources,
+            ctx: attempt.ctx,
+        }
+    }
+
+    /// A copy.
+    pub(crate) fn clone(&self) -> Result<RunAttempt, SlateDBError>
+        ensures copy { IfOk result (λ copy. copy ≡ self.now) }
+        ensures memory { IsOkUnless result SlateDBError.Memory }
+    {
+        Ok(RunAttempt {
+            job: self.job,
+            number: self.number,
+            sources: self.sources.clone()?,
+            ctx: self.ctx.clone()?,
+        })
+    }
+
     /// The id of the job.
     pub fn job(&self) -> Ulid
         ensures { result ≡ self.now.job }

@@ -3,10 +3,13 @@
 
 mod attempt;
 mod beat;
+mod claim;
 mod held;
 mod release;
 mod worker;
 
 pub use attempt::RunAttempt;
 pub use beat::BeatReport;
+pub use claim::ClaimReport;
+pub use fleet_claim::CompactionWorkerOptions;
 pub use worker::Worker;

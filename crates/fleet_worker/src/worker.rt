@@ -1,28 +1,44 @@
 //! Workers.
 
-ghost use Rattle.std.specs.Prelude.{◌≡◌, ◌≢◌, [], IfOk, IsOkUnless, OnErr, false};
+ghost use Rattle.std.specs.Prelude.{◌≡◌, ◌≢◌, ◌<◌, ◌^◌, [], IfOk, IsOkUnless, OnErr, false};
 ghost use Rattle.std.specs.Bool.{OnFalse};
+ghost use Rattle.fleet_model.specs.Store as model;
 ghost use Rattle.step_model.specs.Steps.BeatSteps.{beat_try, heartbeat, release_all};
+ghost use Rattle.step_model.specs.Steps.ClaimSteps.{claim, claim_try};
+ghost use Rattle.step_model.specs.Courses.CourseRuns.{IsLawfulCourse};
+ghost use Rattle.step_model.specs.Kept.Keeps.{Keeps};
 ghost use Rattle.step_model.specs.Courses.StepEnds.{Reports};
-ghost use Rattle.fleet_store.specs.Records.{jobs_or_none};
+ghost use Rattle.fleet_claim.specs.Beginnings.{options_of};
+ghost use Rattle.fleet_jobs.specs.Jobs.{jobs_of};
+ghost use Rattle.fleet_store.specs.Records.{DescribeTables, jobs_or_none};
 ghost use Rattle.fleet_worker.specs.Beats.{IsBeatOf, IsBeatPut, IsReport, beat_ends, beat_ends_over, live_parts};
+ghost use Rattle.fleet_worker.specs.Claims.{AreNew, BeginsNothing, IsChoice, IsClaimPut, IsClaimStart, MayTakeAll, after_put, claim_ends, claim_ends_with};
 ghost use Rattle.fleet_worker.specs.Held.{all_held};
 ghost use Rattle.fleet_worker.specs.Releases.{IsReleaseOf, is_over, one_release};
 ghost use Rattle.fleet_step.specs.Steps.{StepRan, TryRan, stops};
-ghost use Rattle.fleet_worker.specs.Workers.{IsReady, IsReadyAnywhere, live_of, ranges_at, started};
+ghost use Rattle.fleet_worker.specs.Workers.{AreNoted, IsReady, IsReadyAnywhere, live_of, ranges_at, started};
 
 use crate::RunAttempt;
 use crate::attempt::{live_attempts, run_at};
 use crate::beat::{
     BeatPut, BeatReport, beaten_records, is_live_in, live_jobs, lost_jobs, no_report,
 };
+use crate::claim::{
+    ClaimPut, ClaimReport, ClaimStart, attempts_after, begun_jobs, note_each, other_attempts,
+    run_jobs,
+};
 use crate::held::all_held;
 use crate::release::{is_over, jobs_of, released};
 use fleet_book::{Compactions, VersionedCompactions};
-use fleet_jobs::Release;
+use fleet_claim::{
+    CompactionWorkerOptions, Starts, begin_all, claimed_jobs, claimed_records, next_attempts,
+    stopped_jobs,
+};
+use fleet_jobs::{Compaction, Release};
 use fleet_rows::{IdList, JobList, ListOf, SlateDBError, Ulid};
 use fleet_step::{MOST_REFUSED, put_answer, refused_at, stops};
 use fleet_store::{RecordChange, Store};
+use fleet_tree::VersionedManifest;
 use std::alloc::Global;
 use std::marker::Model;
 
@@ -323,6 +339,226 @@ impl Worker {
         match beaten {
             Ok((report, got)) => {
                 self.keep_live(&got);
+                Ok(report)
+            }
+            Err(error) => Err(error),
+        }
+    }
+
+    // The jobs that a claim takes over these records, and those that it stops.
+    fn claim_choice(
+        &self,
+        options: &CompactionWorkerOptions,
+        records: &Compactions,
+    ) -> Result<(Vec<Compaction>, JobList), SlateDBError>
+        ensures choice { IfOk result (λ choice.
+            IsChoice options.now self.now records.now.jobs choice.0.items choice.1) }
+        ensures memory { IsOkUnless result SlateDBError.Memory }
+    {
+        let running = run_jobs(self.alloc, self.attempts.as_slice())?;
+        let Compactions { jobs, .. } = records.clone()?;
+        let jobs = jobs.into_vec();
+        let stopped = stopped_jobs(self.alloc, &jobs, running.as_slice())?;
+        let slots = options.max_concurrent_compactions;
+        let claimed = claimed_jobs(jobs, running.as_slice(), self.release, slots);
+        Ok((claimed, stopped))
+    }
+
+    // The put that claims these jobs.
+    fn claim_put(
+        &self,
+        moment: u64,
+        got: &VersionedCompactions,
+        claimed: &[Compaction],
+    ) -> Result<ClaimPut, SlateDBError>
+        ensures put { IfOk result (IsClaimPut moment self.now got.now claimed.now) }
+        ensures memory { IsOkUnless result SlateDBError.Memory }
+    {
+        let attempts = next_attempts(self.alloc, claimed)?;
+        let records = got.compactions();
+        let numbers = attempts.as_slice();
+        Ok(ClaimPut {
+            version: got.id(),
+            value: claimed_records(self.alloc, records, self.id, moment, numbers)?,
+            why: RecordChange::Claim(self.id, attempts),
+        })
+    }
+
+    // The end of a claim that takes no job and stops these.
+    fn no_claim(&self, stopped: JobList) -> Result<(ClaimReport, ListOf<RunAttempt>), SlateDBError>
+        ensures end { IfOk result
+            (λ end. BeginsNothing self.now stopped end.0 end.1) }
+        ensures memory { IsOkUnless result SlateDBError.Memory }
+    {
+        let attempts = other_attempts(self.alloc, self.attempts.as_slice(), stopped.as_slice())?;
+        let report = ClaimReport {
+            claimed: JobList::new(self.alloc),
+            stopped,
+            released: JobList::new(self.alloc),
+        };
+        Ok((report, ListOf::from_vec(attempts)))
+    }
+
+    // How the claimed jobs start under this manifest.
+    fn start_under(
+        &self,
+        options: &CompactionWorkerOptions,
+        moment: u64,
+        manifest: VersionedManifest,
+        claimed: &[Compaction],
+        stopped: JobList,
+    ) -> Result<ClaimStart, SlateDBError>
+        requires few { options.now.max_subcompactions < 2 ^ 32 }
+        ensures start { IfOk result
+            (IsClaimStart options.now moment self.now manifest claimed.now stopped) }
+        ensures memory { IsOkUnless result SlateDBError.Memory }
+    {
+        let Starts {
+            begun,
+            notes,
+            released,
+        } = begin_all(
+            self.alloc,
+            self.release,
+            options,
+            moment,
+            &manifest,
+            claimed,
+        )?;
+        let jobs = begun_jobs(self.alloc, &begun)?;
+        let running = self.attempts.as_slice();
+        let attempts = attempts_after(self.alloc, running, stopped.as_slice(), begun)?;
+        let report = ClaimReport {
+            claimed: jobs,
+            stopped,
+            released: JobList::from_vec(released),
+        };
+        Ok(ClaimStart {
+            report,
+            attempts: ListOf::from_vec(attempts),
+            notes,
+        })
+    }
+
+    // Starts the claimed jobs under the manifest that it gets.
+    fn start_claimed<S: Store>(
+        &self,
+        store: &mut S,
+        options: &CompactionWorkerOptions,
+        moment: u64,
+        claimed: &[Compaction],
+        stopped: JobList,
+    ) -> Result<(ClaimReport, ListOf<RunAttempt>), SlateDBError>
+        requires few { options.now.max_subcompactions < 2 ^ 32 }
+        requires keeps { Keeps (S.view store.old).who.merge (S.view store.old).world }
+        requires lawful { IsLawfulCourse (S.view store.old).who (S.view store.old).world
+            (after_put (options_of options.now) moment (live_of self.now)
+            (jobs_of claimed.now) stopped) }
+        requires may { MayTakeAll self.now claimed.now }
+        requires new { AreNew self.now claimed.now }
+        ensures ran { (again : _) → TryRan claim_ends_with
+            (after_put (options_of options.now) moment (live_of self.now)
+            (jobs_of claimed.now) stopped) again
+            (S.view store.old) (S.view store.new) result }
+        ensures noted { IfOk result (λ end. (later : model.Store) → DescribeTables claimed.now later
+            → AreNoted self.now.attempts later → AreNoted end.1 later) }
+    {
+        let manifest = store.get_manifest()?;
+        let start = self.start_under(options, moment, manifest, claimed, stopped)?;
+        note_each(store, start.notes)?;
+        Ok((start.report, start.attempts))
+    }
+
+    // One try of a claim. The answer has the report and the attempts that the worker runs then.
+    fn try_claim<S: Store>(
+        &self,
+        store: &mut S,
+        options: &CompactionWorkerOptions,
+        moment: u64,
+    ) -> Result<(ClaimReport, ListOf<RunAttempt>), SlateDBError>
+        requires few { options.now.max_subcompactions < 2 ^ 32 }
+        requires ready { IsReady (S.view store.old) self.now }
+        ensures ran { (again : _) → TryRan claim_ends_with
+            (claim_try (options_of options.now) moment (live_of self.now) again) again
+            (S.view store.old) (S.view store.new) result }
+        ensures noted { IfOk result
+            (λ end. AreNoted end.1 (S.view store.new).world.store) }
+    {
+        let got = store.get_records()?;
+        let Some(got) = got else {
+            let end = self.no_claim(JobList::new(self.alloc))?;
+            return Ok(end);
+        };
+        let (claimed, stopped) = self.claim_choice(options, got.compactions())?;
+        if claimed.is_empty() {
+            let end = self.no_claim(stopped)?;
+            return Ok(end);
+        }
+        let put = self.claim_put(moment, &got, &claimed)?;
+        store.put_records(put.version, put.value, put.why)?;
+        self.start_claimed(store, options, moment, &claimed, stopped)
+    }
+
+    // The tries of a claim.
+    fn claims<S: Store>(
+        &self,
+        store: &mut S,
+        options: &CompactionWorkerOptions,
+        moment: u64,
+    ) -> Result<(ClaimReport, ListOf<RunAttempt>), SlateDBError>
+        requires few { options.now.max_subcompactions < 2 ^ 32 }
+        requires ready { IsReady (S.view store.old) self.now }
+        ensures ran { StepRan claim_ends_with
+            (claim (options_of options.now) moment (live_of self.now))
+            (S.view store.old) (S.view store.new) result }
+        ensures noted { IfOk result
+            (λ end. AreNoted end.1 (S.view store.new).world.store) }
+    {
+        let mut seen = 0;
+        'tries: for tries in 0..MOST_REFUSED {
+            let tried = self.try_claim(store, options, moment);
+            let Some(version) = refused_at(&tried) else {
+                return tried;
+            };
+            seen = version;
+        }
+        Err(SlateDBError::Conflict { seen })
+    }
+
+    /// Claims waiting jobs at this moment in milliseconds, at most as many as the slots that are
+    /// free as the claim begins, and begins attempts at them under the manifest that it gets then.
+    /// It stops each job that waits although the worker runs it. The lists of the report are in
+    /// rising order.
+    ///
+    /// `Conflict` means that 64 puts were refused in a row. After `StoreFault` the worker is
+    /// stopped. After `StoreFault` and after `Memory` the records may name the worker at jobs that
+    /// it does not run; their leases run out.
+    pub fn claim<S: Store>(
+        &mut self,
+        store: &mut S,
+        options: &CompactionWorkerOptions,
+        moment: u64,
+    ) -> Result<ClaimReport, SlateDBError>
+        requires running { self.old.stopped ≡ false }
+        requires ready { IsReady (S.view store.old) self.old }
+        requires few { options.now.max_subcompactions < 2 ^ 32 }
+        ensures ran { StepRan (claim_ends self.new.attempts)
+            (claim (options_of options.now) moment (live_of self.old))
+            (S.view store.old) (S.view store.new) result }
+        ensures stopped { self.new.stopped ≡ stops result }
+        ensures same { self.new ≡ record self.old {
+          attempts = self.new.attempts;
+          stopped = self.new.stopped;
+        } }
+        ensures err { OnErr result (self.new.attempts ≡ self.old.attempts) }
+        ensures ready { OnFalse self.new.stopped
+            (IsReady (S.view store.new) self.new) }
+    {
+        let claimed = self.claims(store, options, moment);
+        self.stopped = stops(&claimed);
+        match claimed {
+            Ok((report, attempts)) => {
+                self.attempts = attempts;
                 Ok(report)
             }
             Err(error) => Err(error),
