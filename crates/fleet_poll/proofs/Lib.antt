@@ -1,3 +1,3 @@
 pub mod Changed
-pub mod Freed
+pub mod Records
 pub mod Reached

@@ -8,7 +8,7 @@ use Rattle.row_model.specs.Lists.{Pairs}
 use Rattle.fleet_model.specs.Jobs.{JobSpec, Jobs, changed_jobs, ids, is_stale, put_job}
 use Rattle.fleet_model.specs.Work.Polls.{add_by, add_drawn, clashes, free_stale}
 use Rattle.fleet_model.specs.Work.PollStates.{PollInput, PollState}
-use Rattle.fleet_model.specs.Work.Records.{new_job, to_waiting}
+use Rattle.fleet_model.specs.Work.Records.{new_job, to_failed, to_waiting}
 use Rattle.fleet_rows.specs.declared.errors.SlateDBError.{SlateDBError}
 use Rattle.fleet_rows.specs.declared.errors.SlateDBError.TheVariants.{InvalidCompaction, Memory}
 use Rattle.fleet_tree.specs.Trees.{RunFlushes, trees_of}
@@ -21,8 +21,8 @@ use Rattle.fleet_history.specs.Changes.{new_specs}
 use Rattle.fleet_book.specs.Records.{record_with}
 use Rattle.fleet_book.specs.StateParts.{StateParts}
 use Rattle.fleet_book.specs.States.{is_taken, own_jobs}
-use Rattle.fleet_poll.specs.Polls.{HasSameObjects, freed_record, poll_of, report_of}
-use Rattle.fleet_poll.proofs.Freed.{freed_are}
+use Rattle.fleet_poll.specs.Polls.{HasSameObjects, changed_record, failed, waiting, poll_of, report_of}
+use Rattle.fleet_poll.proofs.Records.{failed_are, freed_are}
 use Rattle.fleet_poll.specs.declared.poll.Poll.{Poll}
 
 pub on_ok : {A E P Q : Type 0} (r : Result A E) → (P → Q) → OnOk r P → OnOk r Q
@@ -45,7 +45,7 @@ abbrev reached : RunFlushes → Poll → VersionedManifest → Jobs → List (�
 reached flushes poll manifest jobs added dropped = record (poll_of flushes poll) { trees = trees_of flushes manifest.manifest.core; horizon = manifest.manifest.core.horizon; jobs = jobs; added = added; dropped = dropped }
 
 pub stale_freed : (flushes : RunFlushes) (input : PollInput) (poll : Poll) (state : StateParts) (freed : List ℕ) (timeout moment : ℕ) → input.options.timeout ≡ timeout → input.moment ≡ moment
-    → HasSameObjects poll.state state → own_jobs state ≡ map (freed_record freed) (own_jobs poll.state) → freed ≡ ids (filter (is_stale timeout moment) (jobs_of (own_jobs poll.state)))
+    → HasSameObjects poll.state state → own_jobs state ≡ map (changed_record waiting freed) (own_jobs poll.state) → freed ≡ ids (filter (is_stale timeout moment) (jobs_of (own_jobs poll.state)))
     → poll_of flushes (record poll { state = state; freed = freed }) ≡ free_stale input (poll_of flushes poll)
 stale_freed flushes input poll state freed timeout moment late now same jobs stale =
     let before = jobs_of (own_jobs poll.state) in
@@ -156,3 +156,24 @@ kept_more drawn i d before after below is new stay id job found = by (d.0 == id)
         let clash : None ≡ Some job = sym none ∙ ap (λ n. record_with n before) (eqb-true d.0 id e) ∙ found in
         absurd (cc clash)
     by false e = stay id e ∙ found
+
+-- The model's poll after a job failed, with the manifest and the records of a program.
+pub failed_in : (flushes : RunFlushes) (poll : Poll) (state : StateParts) (id other : ℕ) → other ≡ id → HasSameObjects poll.state state → own_jobs state ≡ map (changed_record failed (id ∷ [])) (own_jobs poll.state)
+    → poll_of flushes (record poll { state = state }) ≡ record (poll_of flushes poll) { jobs = changed_jobs to_failed (other ∷ []) (jobs_of (own_jobs poll.state)) }
+failed_in flushes poll state id other same objects jobs =
+    ap (λ m. reached flushes poll m (jobs_of (own_jobs state)) (new_specs poll.added) poll.dropped) objects.manifest
+    ∙ ap (λ js. reached flushes poll poll.state.manifest js (new_specs poll.added) poll.dropped) (ap jobs_of jobs ∙ failed_are (id ∷ []) (own_jobs poll.state) ∙ ap (λ i. changed_jobs to_failed (i ∷ []) (jobs_of (own_jobs poll.state))) (sym same))
+
+pub lost_in : (flushes : RunFlushes) (poll : Poll) (state : StateParts) (lost : List (ℕ × ℕ)) (id other rule : ℕ) → other ≡ id → HasSameObjects poll.state state
+    → own_jobs state ≡ map (changed_record failed (id ∷ [])) (own_jobs poll.state) → lost ≡ poll.lost ++ (id, rule) ∷ []
+    → poll_of flushes (record poll { state = state; lost = lost }) ≡ record (poll_of flushes poll) { jobs = changed_jobs to_failed (other ∷ []) (jobs_of (own_jobs poll.state)); lost = poll.lost ++ (other, rule) ∷ [] }
+lost_in flushes poll state lost id other rule same objects jobs more =
+    ap {A = PollState} {B = PollState} (λ p. record p { lost = lost }) (failed_in flushes poll state id other same objects jobs)
+    ∙ ap (λ xs. record (poll_of flushes poll) { jobs = changed_jobs to_failed (other ∷ []) (jobs_of (own_jobs poll.state)); lost = xs }) (more ∙ ap (λ i. poll.lost ++ (i, rule) ∷ []) (sym same))
+
+pub refused_in : (flushes : RunFlushes) (poll : Poll) (state : StateParts) (refused : List (ℕ × ℕ)) (id other rule : ℕ) → other ≡ id → HasSameObjects poll.state state
+    → own_jobs state ≡ map (changed_record failed (id ∷ [])) (own_jobs poll.state) → refused ≡ poll.refused ++ (id, rule) ∷ []
+    → poll_of flushes (record poll { state = state; refused = refused }) ≡ record (poll_of flushes poll) { jobs = changed_jobs to_failed (other ∷ []) (jobs_of (own_jobs poll.state)); refused = poll.refused ++ (other, rule) ∷ [] }
+refused_in flushes poll state refused id other rule same objects jobs more =
+    ap {A = PollState} {B = PollState} (λ p. record p { refused = refused }) (failed_in flushes poll state id other same objects jobs)
+    ∙ ap (λ xs. record (poll_of flushes poll) { jobs = changed_jobs to_failed (other ∷ []) (jobs_of (own_jobs poll.state)); refused = xs }) (more ∙ ap (λ i. poll.refused ++ (i, rule) ∷ []) (sym same))

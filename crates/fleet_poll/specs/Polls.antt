@@ -35,9 +35,17 @@ poll_of flushes poll = record {
   refused = poll.refused;
 }
 
--- The record of the job. If its id is among these, it waits for a worker.
-abbrev pub freed_record : List ℕ → JobParts → JobParts
-freed_record these job = if contains these job.id then record (with_status own.Scheduled job) { worker = None } else job
+-- The record of a job that waits for a worker again.
+abbrev pub waiting : JobParts → JobParts
+waiting job = record (with_status own.Scheduled job) { worker = None }
+
+-- The record of a job that failed.
+abbrev pub failed : JobParts → JobParts
+failed job = with_status own.Failed job
+
+-- The record of a job after a change of the jobs with these ids.
+abbrev pub changed_record : (JobParts → JobParts) → List ℕ → JobParts → JobParts
+changed_record change these job = if contains these job.id then change job else job
 
 -- Both states have one manifest, and the records have one version and epoch.
 pub record HasSameObjects (old new : StateParts) : Type 0 where

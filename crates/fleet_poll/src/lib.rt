@@ -3,6 +3,7 @@
 #![tactic(auto)]
 
 mod adding;
+mod failing;
 mod freeing;
 mod poll;
 mod report;

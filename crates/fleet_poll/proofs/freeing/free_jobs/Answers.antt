@@ -1,6 +1,6 @@
 use Rattle.std.proofs.Common.{refl}
 use Rattle.fleet_book.specs.States.{own_jobs}
-use Rattle.fleet_poll.proofs.Freed.{none_freed, freed_more}
+use Rattle.fleet_poll.proofs.Records.{none_freed, freed_more}
 use Rattle.fleet_poll.proofs.Changed.{same_again}
 use Rattle.fleet_poll.proofs.freeing.free_jobs.Goals as goal
 

@@ -1,0 +1,170 @@
+-- Records of jobs that a step of a poll changes.
+use Rattle.std.proofs.Common.{◌≡◌, refl, sym, ◌∙◌, ap, subst, ℕ, ◌+◌, ◌<◌, arith, length, get_or, take, List, [], ◌∷◌, ◌++◌, map, Bool, true, false, ◌||◌, cond}
+use Rattle.std.specs.Prelude.{◌==◌, nat_lt, Option, Some, None, IfSome, IsSome}
+use Rattle.std.specs.List.{AllByRecursion}
+use Rattle.std.proofs.lemmas.Bool.{eq-eqb, eqb-true, ltb-false, ltb-true}
+use Rattle.std.proofs.lemmas.Cmp.{nat_eq_equiv}
+use Rattle.std.proofs.lemmas.List.{take_more}
+use Rattle.fleet_model.specs.Jobs.{Job, changed_jobs, contains}
+use Rattle.fleet_model.specs.Work.Records.{to_failed, to_waiting}
+use Rattle.fleet_jobs.specs.Parts.JobParts.{JobParts}
+use Rattle.fleet_jobs.specs.Jobs.{job_of, jobs_of, with_status}
+use Rattle.fleet_jobs.specs.declared.status.CompactionStatus.TheVariants as own
+use Rattle.fleet_book.specs.Records.{AreRising, put_record, record_with}
+use Rattle.fleet_book.specs.StateParts.{StateParts}
+use Rattle.fleet_book.specs.States.{own_jobs}
+use Rattle.fleet_book.specs.Versions.{with_jobs}
+use Rattle.fleet_gates.proofs.HeldNodes.{contains_more}
+use Rattle.fleet_poll.specs.Polls.{HasSameObjects, changed_record, failed, waiting}
+use Rattle.fleet_poll.proofs.Changed.{found_has_id}
+
+no_two : (b : Bool) → b ≡ true → b ≡ false → ⊥
+no_two true e f = absurd (cc f)
+no_two false e f = absurd (cc e)
+
+-- ---- no job with an id
+
+pub not_there : (change : JobParts → JobParts) (id : ℕ) (jobs : List JobParts) → record_with id jobs ≡ None → jobs ≡ map (changed_record change (id ∷ [])) jobs
+not_there change id [] e = refl
+not_there change id (job ∷ jobs) e = by (job.id == id) refl e (not_there change id jobs)
+  where
+    by : (b : Bool) → (job.id == id) ≡ b → cond b (Some job) (record_with id jobs) ≡ None → (record_with id jobs ≡ None → jobs ≡ map (changed_record change (id ∷ [])) jobs)
+        → (job ∷ jobs) ≡ (cond (cond (id == job.id) true false) (change job) job ∷ map (changed_record change (id ∷ [])) jobs)
+    by true f h rest = absurd (cc h)
+    by false f h rest =
+        ap (λ js. job ∷ js) (rest h) ∙ sym (ap (λ b. cond (cond b true false) (change job) job ∷ map (changed_record change (id ∷ [])) jobs) (nat_eq_equiv.symm id job.id ∙ f))
+
+above_none : (id : ℕ) (jobs : List JobParts) → AllByRecursion (λ job. id < job.id) jobs → record_with id jobs ≡ None
+above_none id [] above = refl
+above_none id (job ∷ jobs) above = by (job.id == id) refl (above_none id jobs above.1)
+  where
+    by : (b : Bool) → (job.id == id) ≡ b → record_with id jobs ≡ None → cond b (Some job) (record_with id jobs) ≡ None
+    by true e rest = let same = eqb-true job.id id e in let high = above.0 in let clash : ⊥ = omega (arith, same, high) in absurd clash
+    by false e rest = rest
+
+-- ---- one job
+
+-- If neither comes first nor both are equal, the other is below.
+is_below : (a b : ℕ) → nat_lt a b ≡ false → (a == b) ≡ false → b < a
+is_below a b e f = by (nat_lt b a) refl
+  where
+    by : (c : Bool) → nat_lt b a ≡ c → b < a
+    by true g = ltb-true b a g
+    by false g =
+        let one = ltb-false a b e in
+        let other = ltb-false b a g in
+        let same : a ≡ b = omega (arith, one, other) in
+        absurd (no_two (a == b) (eq-eqb a b same) f)
+
+still_above : (low high : ℕ) (jobs : List JobParts) → low < high → AllByRecursion (λ job. high < job.id) jobs → AllByRecursion (λ job. low < job.id) jobs
+still_above low high [] below above = tt
+still_above low high (job ∷ jobs) below above = let first = above.0 in (omega (arith, below, first), still_above low high jobs below above.1)
+
+-- A changed record takes the place of the record with its id.
+pub put_changed : (change : JobParts → JobParts) (jobs : List JobParts) (job freed : JobParts) → AreRising jobs → record_with freed.id jobs ≡ Some job → freed ≡ change job → put_record freed jobs ≡ map (changed_record change (freed.id ∷ [])) jobs
+put_changed change [] job freed rising found is = absurd (cc found)
+put_changed change (first ∷ jobs) job freed rising found is = by (nat_lt first.id freed.id) (first.id == freed.id) refl refl found (λ later. put_changed change jobs job freed rising.1 later is)
+  where
+    turned : (b : Bool) → (first.id == freed.id) ≡ b
+        → (changed_record change (freed.id ∷ []) first ∷ map (changed_record change (freed.id ∷ [])) jobs) ≡ (cond (cond b true false) (change first) first ∷ map (changed_record change (freed.id ∷ [])) jobs)
+    turned b e = ap (λ c. cond (cond c true false) (change first) first ∷ map (changed_record change (freed.id ∷ [])) jobs) (nat_eq_equiv.symm freed.id first.id ∙ e)
+
+    by : (lt eq : Bool) → nat_lt first.id freed.id ≡ lt → (first.id == freed.id) ≡ eq → cond eq (Some first) (record_with freed.id jobs) ≡ Some job
+        → (record_with freed.id jobs ≡ Some job → put_record freed jobs ≡ map (changed_record change (freed.id ∷ [])) jobs)
+        → cond lt (first ∷ put_record freed jobs) (cond eq (freed ∷ jobs) (freed ∷ first ∷ jobs)) ≡ (changed_record change (freed.id ∷ []) first ∷ map (changed_record change (freed.id ∷ [])) jobs)
+    by true true e f h rest = let low = ltb-true first.id freed.id e in let same = eqb-true first.id freed.id f in let clash : ⊥ = omega (arith, low, same) in absurd clash
+    by true false e f h rest = ap (λ js. first ∷ js) (rest h) ∙ sym (turned false f)
+    by false true e f h rest =
+        let same : first ≡ job = cc h in
+        let above = subst (λ n. AllByRecursion (λ later. n < later.id) jobs) (eqb-true first.id freed.id f) rising.0 in
+        ap (λ j. j ∷ jobs) (is ∙ sym (ap change same))
+        ∙ ap (λ js. change first ∷ js) (not_there change freed.id jobs (above_none freed.id jobs above))
+        ∙ sym (turned true f)
+    by false false e f h rest =
+        let none = above_none freed.id jobs (still_above freed.id first.id jobs (is_below first.id freed.id e f) rising.0) in
+        let clash : None ≡ Some job = sym none ∙ h in
+        absurd (cc clash)
+
+-- A job that is set to wait takes the place of its record.
+pub freed_job : (id : ℕ) (jobs : List JobParts) (job set freed : JobParts) → AreRising jobs → record_with id jobs ≡ Some job → set ≡ with_status own.Scheduled job → freed ≡ record set { worker = None }
+    → (freed.id ≡ id) × (put_record freed jobs ≡ map (changed_record waiting (id ∷ [])) jobs)
+freed_job id jobs job set freed rising found is_set is_freed =
+    let is : freed ≡ waiting job = is_freed ∙ ap {A = JobParts} {B = JobParts} (λ s. record s { worker = None }) is_set in
+    let same : freed.id ≡ id = ap (λ j. j.id) is ∙ found_has_id id jobs job found in
+    let there : record_with freed.id jobs ≡ Some job = ap (λ i. record_with i jobs) same ∙ found in
+    (same, put_changed waiting jobs job freed rising there is ∙ ap (λ i. map (changed_record waiting (i ∷ [])) jobs) same)
+
+-- ---- several jobs
+
+pub none_freed : (jobs : List JobParts) → jobs ≡ map (changed_record waiting []) jobs
+none_freed [] = refl
+none_freed (job ∷ jobs) = ap (λ js. job ∷ js) (none_freed jobs)
+
+freed_once : (ids : List ℕ) (id : ℕ) (job : JobParts) → changed_record waiting (ids ++ id ∷ []) job ≡ changed_record waiting (id ∷ []) (changed_record waiting ids job)
+freed_once ids id job = ap (λ b. cond b (waiting job) job) (contains_more ids id job.id) ∙ by (contains ids job.id)
+  where
+    again : (b : Bool) → waiting job ≡ cond (cond b true false) (waiting (waiting job)) (waiting job)
+    again true = refl
+    again false = refl
+
+    first : (b : Bool) → cond b (waiting job) job ≡ cond (cond b true false) (waiting job) job
+    first true = refl
+    first false = refl
+
+    by : (a : Bool) → cond (a || (id == job.id)) (waiting job) job ≡ cond (cond (id == (cond a (waiting job) job).id) true false) (waiting (cond a (waiting job) job)) (cond a (waiting job) job)
+    by true = again (id == job.id)
+    by false = first (id == job.id)
+
+freed_one_more : (ids : List ℕ) (id : ℕ) (jobs : List JobParts) → map (changed_record waiting (ids ++ id ∷ [])) jobs ≡ map (changed_record waiting (id ∷ [])) (map (changed_record waiting ids) jobs)
+freed_one_more ids id [] = refl
+freed_one_more ids id (job ∷ jobs) =
+    ap (λ j. j ∷ map (changed_record waiting (ids ++ id ∷ [])) jobs) (freed_once ids id job) ∙ ap (λ js. changed_record waiting (id ∷ []) (changed_record waiting ids job) ∷ js) (freed_one_more ids id jobs)
+
+pub freed_more : (ids : List ℕ) (i id : ℕ) (before now after : List JobParts) → i < length ids → id ≡ get_or ids i id → now ≡ map (changed_record waiting (take i ids)) before → after ≡ map (changed_record waiting (id ∷ [])) now
+    → after ≡ map (changed_record waiting (take (i + 1) ids)) before
+freed_more ids i id before now after below is so more =
+    more
+    ∙ ap (map (changed_record waiting (id ∷ []))) so
+    ∙ sym (freed_one_more (take i ids) id before)
+    ∙ sym (ap (λ these. map (changed_record waiting these) before) (take_more ids i id below ∙ ap (λ y. take i ids ++ y ∷ []) (sym is)))
+
+-- ---- in the model
+
+changed_too : (change : JobParts → JobParts) (model : Job → Job) (these : List ℕ) (job : JobParts) → job_of (change job) ≡ model (job_of job)
+    → job_of (changed_record change these job) ≡ cond (contains these job.id) (model (job_of job)) (job_of job)
+changed_too change model these job same = by (contains these job.id)
+  where
+    by : (b : Bool) → job_of (cond b (change job) job) ≡ cond b (model (job_of job)) (job_of job)
+    by true = same
+    by false = refl
+
+changed_are : (change : JobParts → JobParts) (model : Job → Job) (these : List ℕ) (jobs : List JobParts) → ((job : JobParts) → job_of (change job) ≡ model (job_of job))
+    → jobs_of (map (changed_record change these) jobs) ≡ changed_jobs model these (jobs_of jobs)
+changed_are change model these [] same = refl
+changed_are change model these (job ∷ jobs) same =
+    ap (λ j. j ∷ jobs_of (map (changed_record change these) jobs)) (changed_too change model these job (same job))
+    ∙ ap (λ js. cond (contains these job.id) (model (job_of job)) (job_of job) ∷ js) (changed_are change model these jobs same)
+
+-- The jobs that wait are the model's.
+pub freed_are : (these : List ℕ) (jobs : List JobParts) → jobs_of (map (changed_record waiting these) jobs) ≡ changed_jobs to_waiting these (jobs_of jobs)
+freed_are these jobs = changed_are waiting to_waiting these jobs (λ job. refl)
+
+-- The jobs that failed are the model's.
+pub failed_are : (these : List ℕ) (jobs : List JobParts) → jobs_of (map (changed_record failed these) jobs) ≡ changed_jobs to_failed these (jobs_of jobs)
+failed_are these jobs = changed_are failed to_failed these jobs (λ job. refl)
+
+-- A job that is set Failed takes the place of its record.
+pub failed_job : (id : ℕ) (old new : StateParts) → AreRising (own_jobs old) → IsSome (record_with id (own_jobs old))
+    → IfSome (record_with id (own_jobs old)) (λ job. new ≡ record old { compactions = with_jobs (put_record (failed job) (own_jobs old)) old.compactions })
+    → (own_jobs new ≡ map (changed_record failed (id ∷ [])) (own_jobs old)) × HasSameObjects old new
+failed_job id old new rising some set = by (record_with id (own_jobs old)) refl some set
+  where
+    by : (found : Option JobParts) → record_with id (own_jobs old) ≡ found → IsSome found → IfSome found (λ job. new ≡ record old { compactions = with_jobs (put_record (failed job) (own_jobs old)) old.compactions })
+        → (own_jobs new ≡ map (changed_record failed (id ∷ [])) (own_jobs old)) × HasSameObjects old new
+    by None e there is = absurd (cc there)
+    by (Some job) e there is =
+        let same : job.id ≡ id = found_has_id id (own_jobs old) job e in
+        let found : record_with job.id (own_jobs old) ≡ Some job = ap (λ i. record_with i (own_jobs old)) same ∙ e in (
+          ap own_jobs is ∙ put_changed failed (own_jobs old) job (failed job) rising found refl ∙ ap (λ i. map (changed_record failed (i ∷ [])) (own_jobs old)) same,
+          record { manifest = ap (λ s. s.manifest) is; version = ap (λ s. s.compactions.id) is; epoch = ap (λ s. s.compactions.compactions.compactor_epoch) is },
+        )
