@@ -30,6 +30,10 @@ pub mod QuietCalls
 pub mod LiveWorkers
 pub mod LiveLines
 pub mod LiveRuns
+pub mod LiveCoordinators
+pub mod StartCalls
+pub mod CoordinatorLines
+pub mod CoordinatorRuns
 pub mod Goes
 pub mod Outputs
 pub mod WorkedRun

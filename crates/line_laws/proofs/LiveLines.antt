@@ -178,7 +178,7 @@ work_line number s w course answer new is quiet ends there live = by (line_made 
 -- ---- notes
 
 -- Notes are never struck.
-never_cut : (calls before : List Answered) (event : Event) (answer : Answer) (after : List Answered) → AllByRecursion (λ (call : Answered). is_get_or_put call.0 ≡ false) calls → calls ≡ before ++ (event, answer) ∷ after → IsTrue (is_get_or_put event) → ⊥
+pub never_cut : (calls before : List Answered) (event : Event) (answer : Answer) (after : List Answered) → AllByRecursion (λ (call : Answered). is_get_or_put call.0 ≡ false) calls → calls ≡ before ++ (event, answer) ∷ after → IsTrue (is_get_or_put event) → ⊥
 never_cut [] [] event answer after none whole counts = absurd (cc whole)
 never_cut [] (call ∷ before) event answer after none whole counts = absurd (cc whole)
 never_cut (first ∷ calls) [] event answer after none whole counts = let same : first ≡ (event, answer) = cc whole in let e = none.0 in let f = ap (λ (call : Answered). is_get_or_put call.0) same in absurd (cc (e, f, counts))

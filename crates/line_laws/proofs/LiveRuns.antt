@@ -51,7 +51,7 @@ notes_answer : {A : Type 0} (line : ℕ) (party : Party) (notes : List Event) (a
 notes_answer line party [] answer store = refl
 notes_answer line party (note ∷ notes) answer store = notes_answer line party notes answer _
 
-then_notes : {A B : Type 0} (line : ℕ) (party : Party) (step : Course A) (notes : A → List Event) (ends : A → B) (store : Store) → answer_made line party (then_course step (λ end. calls_each (notes end) (Ends (ends end)))) store ≡ ends (answer_made line party step store)
+pub then_notes : {A B : Type 0} (line : ℕ) (party : Party) (step : Course A) (notes : A → List Event) (ends : A → B) (store : Store) → answer_made line party (then_course step (λ end. calls_each (notes end) (Ends (ends end)))) store ≡ ends (answer_made line party step store)
 then_notes line party (Ends answer) notes ends store = notes_answer line party (notes answer) (ends answer) store
 then_notes line party (Calls x next) notes ends store = then_notes line party (next store) notes ends (after_answered line party x store)
 
@@ -165,7 +165,7 @@ kill_live number n s answer new is live = by (worker_with n s.parties) is
     by None is = refused_live number s answer new is live
     by (Some w) is = note_line number n s (calls_each (Kill (Worker n) ∷ []) (Ends (record { reply = ok; parties = without_worker n s.parties }))) ((Kill (Worker n), Done 0) ∷ []) (without_worker n s.parties) answer new is refl (refl, tt) refl (same_without n (live_in s.store.history) s.parties live)
 
-front_plain : (P : Answered → Type 0) (xs : List Answered) (y : Answered) (before : List Answered) (z : Answered) (after : List Answered) → AllByRecursion P xs → xs ++ y ∷ [] ≡ before ++ z ∷ after → AllByRecursion P before
+pub front_plain : (P : Answered → Type 0) (xs : List Answered) (y : Answered) (before : List Answered) (z : Answered) (after : List Answered) → AllByRecursion P xs → xs ++ y ∷ [] ≡ before ++ z ∷ after → AllByRecursion P before
 front_plain P xs y [] z after all e = tt
 front_plain P [] y (b ∷ before) z after all e = absurd (never before (cc e))
   where

@@ -189,7 +189,7 @@ poll_made line party ask store = tries_made line party ask 63 0 store
 
 -- ---- the line
 
-called : (inputs : Inputs) (number : ℕ) (commits_only : Bool) (n : ℕ) (old : State) (answer : List ℕ) (new : State) → run_line number old (polls commits_only (spell_poll commits_only) inputs n old) ≡ (answer, new)
+pub called : (inputs : Inputs) (number : ℕ) (commits_only : Bool) (n : ℕ) (old : State) (answer : List ℕ) (new : State) → run_line number old (polls commits_only (spell_poll commits_only) inputs n old) ≡ (answer, new)
     → PollCalledBy inputs number commits_only n old answer new (coordinator_with n old.parties)
 called inputs number commits_only n old answer new is = by (coordinator_with n old.parties) is
   where

@@ -115,7 +115,7 @@ draws_done {A} {B} who e m r moment before (x ∷ xs) next world new answer keep
 
 -- ---- puts
 
-got_epoch : (records : Option Records) → (records_or_none records).epoch ≡ records_epoch records
+pub got_epoch : (records : Option Records) → (records_or_none records).epoch ≡ records_epoch records
 got_epoch None = refl
 got_epoch (Some records) = refl
 

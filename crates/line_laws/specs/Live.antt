@@ -1,5 +1,5 @@
--- The law on live workers: the history alone says which workers are live.
-use Rattle.std.specs.Prelude.{◌≡◌, ℕ, List, is_some}
+-- The laws on live parties: the history alone says which coordinators and workers are live.
+use Rattle.std.specs.Prelude.{◌≡◌, ℕ, List, map, is_some}
 use Rattle.fleet_model.specs.Nodes.{Tables}
 use Rattle.fleet_model.specs.Jobs.{JobSpec, contains}
 use Rattle.fleet_model.specs.Past.Live.{live_after}
@@ -16,3 +16,14 @@ WorkersAreLive s = (tables : Tables) (specs : ℕ → JobSpec) (n : ℕ)
 -- So it is in the state after each line of a script.
 abbrev pub LiveWorkers : Type 0
 LiveWorkers = (inputs : Inputs) (lines : List Line) (last : State) → HasRun inputs lines last → WorkersAreLive last
+
+-- The coordinators that are live by the history are those of the state, each with its epoch, and the last one
+-- that started comes first in both. This depends on no table and on no spec.
+abbrev pub CoordinatorsAreLive : State → Type 0
+CoordinatorsAreLive s = (tables : Tables) (specs : ℕ → JobSpec)
+    → (live_after tables specs s.store.history).coordinators ≡ map (λ c. (c.number, c.epoch)) s.parties.coordinators
+
+-- So it is in the state after each line of a script.
+abbrev pub LiveCoordinators : Type 0
+LiveCoordinators = (inputs : Inputs) (lines : List Line) (last : State) → HasRun inputs lines last
+    → CoordinatorsAreLive last

@@ -9,7 +9,7 @@ ghost use Rattle.line_laws.specs.Faults.{FaultsCut};
 ghost use Rattle.line_laws.specs.Lines.FinishLines.{FinishesEnd};
 ghost use Rattle.line_laws.specs.Lines.FinishedJobs.{FinishedJobsWait};
 ghost use Rattle.line_laws.specs.Goes.{LinesGo};
-ghost use Rattle.line_laws.specs.Live.{LiveWorkers};
+ghost use Rattle.line_laws.specs.Live.{LiveCoordinators, LiveWorkers};
 ghost use Rattle.line_laws.specs.Lines.Outputs.{OutputsAreWhole};
 ghost use Rattle.line_laws.specs.Lines.PollCalls.{PollsCall};
 ghost use Rattle.line_laws.specs.Lines.PollLines.{PollsCommit};
@@ -58,6 +58,13 @@ pub fn lines_run_courses()
 /// line does.
 pub fn lines_go()
     ensures { LinesGo }
+{}
+
+/// The history alone says which coordinators are live, and with which epochs. A coordinator is live
+/// from its start until it is killed, stopped or met by a fault, or until it gets an object with an
+/// epoch above its own, which fences it. Its own epoch is the one that its start put.
+pub fn live_coordinators()
+    ensures { LiveCoordinators }
 {}
 
 /// The history alone says which workers are live: a worker is live from its start until it is
