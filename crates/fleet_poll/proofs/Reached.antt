@@ -8,9 +8,10 @@ use Rattle.row_model.specs.Lists.{Pairs}
 use Rattle.fleet_model.specs.Jobs.{JobSpec, Jobs, changed_jobs, ids, is_stale, put_job}
 use Rattle.fleet_model.specs.Work.Polls.{add_by, add_drawn, clashes, free_stale}
 use Rattle.fleet_model.specs.Work.PollStates.{PollInput, PollState}
-use Rattle.fleet_model.specs.Work.Records.{new_job, to_failed, to_waiting}
+use Rattle.fleet_model.specs.Work.Records.{new_job, to_failed, to_scheduled, to_waiting}
 use Rattle.fleet_rows.specs.declared.errors.SlateDBError.{SlateDBError}
 use Rattle.fleet_rows.specs.declared.errors.SlateDBError.TheVariants.{InvalidCompaction, Memory}
+use Rattle.fleet_model.specs.Trees.{tables_now}
 use Rattle.fleet_tree.specs.Trees.{RunFlushes, trees_of}
 use Rattle.fleet_tree.specs.declared.manifest.VersionedManifest.{VersionedManifest}
 use Rattle.fleet_jobs.specs.Parts.JobParts.{JobParts}
@@ -21,8 +22,8 @@ use Rattle.fleet_history.specs.Changes.{new_specs}
 use Rattle.fleet_book.specs.Records.{record_with}
 use Rattle.fleet_book.specs.StateParts.{StateParts}
 use Rattle.fleet_book.specs.States.{is_taken, own_jobs}
-use Rattle.fleet_poll.specs.Polls.{HasSameObjects, changed_record, failed, waiting, poll_of, report_of}
-use Rattle.fleet_poll.proofs.Records.{failed_are, freed_are}
+use Rattle.fleet_poll.specs.Polls.{HasSameObjects, changed_record, failed, opened, waiting, poll_of, report_of}
+use Rattle.fleet_poll.proofs.Records.{failed_are, freed_are, opened_are}
 use Rattle.fleet_poll.specs.declared.poll.Poll.{Poll}
 
 pub on_ok : {A E P Q : Type 0} (r : Result A E) → (P → Q) → OnOk r P → OnOk r Q
@@ -177,3 +178,17 @@ pub refused_in : (flushes : RunFlushes) (poll : Poll) (state : StateParts) (refu
 refused_in flushes poll state refused id other rule same objects jobs more =
     ap {A = PollState} {B = PollState} (λ p. record p { refused = refused }) (failed_in flushes poll state id other same objects jobs)
     ∙ ap (λ xs. record (poll_of flushes poll) { jobs = changed_jobs to_failed (other ∷ []) (jobs_of (own_jobs poll.state)); refused = xs }) (more ∙ ap (λ i. poll.refused ++ (i, rule) ∷ []) (sym same))
+
+pub scheduled_in : (flushes : RunFlushes) (poll : Poll) (state : StateParts) (made : List ℕ) (id other : ℕ) → other ≡ id → HasSameObjects poll.state state
+    → own_jobs state ≡ map (changed_record (opened (trees_of flushes poll.state.manifest.manifest.core)) (id ∷ [])) (own_jobs poll.state) → made ≡ poll.opened ++ id ∷ []
+    → poll_of flushes (record poll { state = state; opened = made }) ≡ record (poll_of flushes poll) {
+      jobs = changed_jobs (to_scheduled (tables_now (trees_of flushes poll.state.manifest.manifest.core))) (other ∷ []) (jobs_of (own_jobs poll.state));
+      opened = poll.opened ++ other ∷ [];
+    }
+scheduled_in flushes poll state made id other same objects jobs more =
+    let trees = trees_of flushes poll.state.manifest.manifest.core in
+    let changed : ℕ → Jobs = λ i. changed_jobs (to_scheduled (tables_now trees)) (i ∷ []) (jobs_of (own_jobs poll.state)) in
+    ap (λ m. record (reached flushes poll m (jobs_of (own_jobs state)) (new_specs poll.added) poll.dropped) { opened = made }) objects.manifest
+    ∙ ap {A = Jobs} {B = PollState} (λ js. record (poll_of flushes poll) { jobs = js; opened = made }) (ap jobs_of jobs ∙ opened_are trees (id ∷ []) (own_jobs poll.state))
+    ∙ ap {A = List ℕ} {B = PollState} (λ ids. record (poll_of flushes poll) { jobs = changed id; opened = ids }) more
+    ∙ ap {A = ℕ} {B = PollState} (λ i. record (poll_of flushes poll) { jobs = changed i; opened = poll.opened ++ i ∷ [] }) (sym same)

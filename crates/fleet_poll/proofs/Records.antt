@@ -1,21 +1,25 @@
 -- Records of jobs that a step of a poll changes.
 use Rattle.std.proofs.Common.{◌≡◌, refl, sym, ◌∙◌, ap, subst, ℕ, ◌+◌, ◌<◌, arith, length, get_or, take, List, [], ◌∷◌, ◌++◌, map, Bool, true, false, ◌||◌, cond}
-use Rattle.std.specs.Prelude.{◌==◌, nat_lt, Option, Some, None, IfSome, IsSome}
+use Rattle.std.specs.Prelude.{◌==◌, is_some, nat_lt, Option, Some, None, IfSome, IsSome}
 use Rattle.std.specs.List.{AllByRecursion}
 use Rattle.std.proofs.lemmas.Bool.{eq-eqb, eqb-true, ltb-false, ltb-true}
 use Rattle.std.proofs.lemmas.Cmp.{nat_eq_equiv}
 use Rattle.std.proofs.lemmas.List.{take_more}
 use Rattle.fleet_model.specs.Jobs.{Job, changed_jobs, contains}
-use Rattle.fleet_model.specs.Work.Records.{to_failed, to_waiting}
+use Rattle.fleet_model.specs.Nodes.{Trees}
+use Rattle.fleet_model.specs.Trees.{tables_now}
+use Rattle.fleet_model.specs.Work.Records.{to_failed, to_scheduled, to_waiting}
 use Rattle.fleet_jobs.specs.Parts.JobParts.{JobParts}
 use Rattle.fleet_jobs.specs.Jobs.{job_of, jobs_of, with_status}
+use Rattle.fleet_jobs.specs.Specs.{spec_of}
+use Rattle.fleet_jobs.specs.declared.spec.CompactionSpec.{CompactionSpec}
 use Rattle.fleet_jobs.specs.declared.status.CompactionStatus.TheVariants as own
 use Rattle.fleet_book.specs.Records.{AreRising, put_record, record_with}
 use Rattle.fleet_book.specs.StateParts.{StateParts}
 use Rattle.fleet_book.specs.States.{own_jobs}
 use Rattle.fleet_book.specs.Versions.{with_jobs}
 use Rattle.fleet_gates.proofs.HeldNodes.{contains_more}
-use Rattle.fleet_poll.specs.Polls.{HasSameObjects, changed_record, failed, waiting}
+use Rattle.fleet_poll.specs.Polls.{HasSameObjects, changed_record, failed, opened, waiting}
 use Rattle.fleet_poll.proofs.Changed.{found_has_id}
 
 no_two : (b : Bool) → b ≡ true → b ≡ false → ⊥
@@ -168,3 +172,28 @@ failed_job id old new rising some set = by (record_with id (own_jobs old)) refl 
           ap own_jobs is ∙ put_changed failed (own_jobs old) job (failed job) rising found refl ∙ ap (λ i. map (changed_record failed (i ∷ [])) (own_jobs old)) same,
           record { manifest = ap (λ s. s.manifest) is; version = ap (λ s. s.compactions.id) is; epoch = ap (λ s. s.compactions.compactions.compactor_epoch) is },
         )
+
+pub none_if : {A : Type 0} (o : Option A) → is_some o ≡ false → o ≡ None
+none_if None e = refl
+none_if (Some x) e = absurd (cc e)
+
+-- ---- jobs that are opened
+
+pub opened_are : (trees : Trees) (these : List ℕ) (jobs : List JobParts) → jobs_of (map (changed_record (opened trees) these) jobs) ≡ changed_jobs (to_scheduled (tables_now trees)) these (jobs_of jobs)
+opened_are trees these jobs = changed_are (opened trees) (to_scheduled (tables_now trees)) these jobs (λ job. refl)
+
+pub opened_is : (trees : Trees) (job made set tabled last : JobParts) (spec : CompactionSpec) (tables : List ℕ) → made ≡ job → set ≡ with_status own.Scheduled made
+    → tables ≡ tables_now trees (spec_of spec) → spec ≡ job.spec → tabled ≡ record set { source_tables = tables } → last ≡ record tabled { ctx = None } → last ≡ opened trees job
+opened_is trees job made set tabled last spec tables is_made is_set is_tables is_spec is_tabled is_last =
+    is_last
+    ∙ ap {A = JobParts} {B = JobParts} (λ t. record t { ctx = None }) is_tabled
+    ∙ ap {A = JobParts} {B = JobParts} (λ s. record s { source_tables = tables; ctx = None }) (is_set ∙ ap (with_status own.Scheduled) is_made)
+    ∙ ap {A = List ℕ} {B = JobParts} (λ ids. record (with_status own.Scheduled job) { source_tables = ids; ctx = None }) (is_tables ∙ ap (λ s. tables_now trees (spec_of s)) is_spec)
+
+-- A job that is opened takes the place of its record.
+pub opened_job : (trees : Trees) (id : ℕ) (jobs : List JobParts) (job made : JobParts) → AreRising jobs → record_with id jobs ≡ Some job → made ≡ opened trees job
+    → (made.id ≡ id) × (put_record made jobs ≡ map (changed_record (opened trees) (id ∷ [])) jobs)
+opened_job trees id jobs job made rising found is =
+    let same : made.id ≡ id = ap (λ j. j.id) is ∙ found_has_id id jobs job found in
+    let there : record_with made.id jobs ≡ Some job = ap (λ i. record_with i jobs) same ∙ found in
+    (same, put_changed (opened trees) jobs job made rising there is ∙ ap (λ i. map (changed_record (opened trees) (i ∷ [])) jobs) same)

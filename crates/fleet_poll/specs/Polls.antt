@@ -3,10 +3,13 @@ use Rattle.std.specs.Prelude.{◌≡◌, ℕ, ◌==◌, false, List, map, None, 
 use Rattle.std.specs.List.{AllByRecursion}
 use Rattle.row_model.specs.Lists.{Pairs}
 use Rattle.fleet_model.specs.Jobs.{contains}
+use Rattle.fleet_model.specs.Nodes.{Trees}
 use Rattle.fleet_model.specs.Work.PollStates.{PollState}
+use Rattle.fleet_model.specs.Trees.{tables_now}
 use Rattle.fleet_tree.specs.Trees.{RunFlushes, trees_of}
 use Rattle.fleet_jobs.specs.Parts.JobParts.{JobParts}
 use Rattle.fleet_jobs.specs.Jobs.{jobs_of, with_status}
+use Rattle.fleet_jobs.specs.Specs.{spec_of}
 use Rattle.fleet_jobs.specs.declared.spec.CompactionSpec.{CompactionSpec}
 use Rattle.fleet_jobs.specs.declared.status.CompactionStatus.TheVariants as own
 use Rattle.fleet_history.specs.Changes.{new_specs, step_of}
@@ -42,6 +45,10 @@ waiting job = record (with_status own.Scheduled job) { worker = None }
 -- The record of a job that failed.
 abbrev pub failed : JobParts → JobParts
 failed job = with_status own.Failed job
+
+-- The record of a job that was opened on these trees.
+abbrev pub opened : Trees → JobParts → JobParts
+opened trees job = record (with_status own.Scheduled job) { source_tables = tables_now trees (spec_of job.spec); ctx = None }
 
 -- The record of a job after a change of the jobs with these ids.
 abbrev pub changed_record : (JobParts → JobParts) → List ℕ → JobParts → JobParts

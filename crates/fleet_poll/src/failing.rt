@@ -1,6 +1,6 @@
 //! Jobs that a gate refuses.
 
-ghost use Rattle.std.specs.Prelude.{◌≡◌, [], ◌∷◌, map, IsOkUnless, IsSome, OnErr, OnOk, Some};
+ghost use Rattle.std.specs.Prelude.{◌≡◌, [], ◌∷◌, is_some, map, IsOkUnless, OnErr, OnOk, Some};
 ghost use Rattle.fleet_model.specs.Jobs.{Job};
 ghost use Rattle.fleet_model.specs.Work.Polls.{commit_by, open_by};
 ghost use Rattle.fleet_model.specs.Work.PollStates.{PollInput};
@@ -12,14 +12,13 @@ ghost use Rattle.fleet_poll.specs.Polls.{HasSameObjects, changed_record, failed,
 
 use crate::Poll;
 use crate::freeing::know_rising;
-use fleet_book::{CompactionStatus, CompactorState};
+use fleet_book::{CompactionStatus, CompactorState, VersionedCompactions};
 use fleet_gates::Rule;
 use fleet_rows::{SlateDBError, Ulid};
 
 impl Poll {
     /// Fails a job that the gate for commits refused by this rule.
     pub fn lose(&mut self, job: Ulid, rule: Rule) -> Result<(), SlateDBError>
-        requires { IsSome (record_with job (own_jobs self.old.state)) }
         ensures poll { (flushes : RunFlushes) (input : PollInput) (lost : Job) → lost.id ≡ job
             → OnOk result (poll_of flushes self.new
             ≡ commit_by input lost (Some (number_of rule)) (poll_of flushes self.old)) }
@@ -36,7 +35,6 @@ impl Poll {
 
     /// Fails a job that the gate for submitted jobs refused by this rule.
     pub fn refuse(&mut self, job: Ulid, rule: Rule) -> Result<(), SlateDBError>
-        requires { IsSome (record_with job (own_jobs self.old.state)) }
         ensures poll { (flushes : RunFlushes) (input : PollInput) (refused : Job)
             → refused.id ≡ job
             → OnOk result (poll_of flushes self.new
@@ -53,13 +51,20 @@ impl Poll {
     }
 }
 
-// Makes the job Failed.
+// Makes the job Failed, if it is there.
 fn fail_job(state: &mut CompactorState, id: Ulid)
-    requires { IsSome (record_with id (own_jobs state.old)) }
     ensures jobs { own_jobs state.new
         ≡ map (changed_record failed (id ∷ [])) (own_jobs state.old) }
     ensures same { HasSameObjects state.old state.new }
 {
     know_rising(state.compactions());
-    state.update_status(&id, CompactionStatus::Failed);
+    if has_job(state.compactions(), id) {
+        state.update_status(&id, CompactionStatus::Failed);
+    }
+}
+
+fn has_job(records: &VersionedCompactions, id: Ulid) -> bool
+    ensures { result ≡ is_some (record_with id records.now.compactions.jobs) }
+{
+    records.compactions().get(&id).is_some()
 }

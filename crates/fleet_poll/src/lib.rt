@@ -5,6 +5,7 @@
 mod adding;
 mod failing;
 mod freeing;
+mod opening;
 mod poll;
 mod report;
 
