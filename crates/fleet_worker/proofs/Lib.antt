@@ -9,3 +9,4 @@ pub mod Beats
 pub mod Inserted
 pub mod Claims
 pub mod TryClaims
+pub mod Returns

@@ -3,3 +3,4 @@ pub mod Releases
 pub mod Beats
 pub mod Held
 pub mod Claims
+pub mod Messages

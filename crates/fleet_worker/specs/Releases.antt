@@ -21,7 +21,7 @@ use Rattle.fleet_store.specs.Exchanges.{records_put}
 use Rattle.fleet_rows.specs.declared.errors.SlateDBError.{SlateDBError}
 use Rattle.fleet_step.specs.Steps.{puts_and, stops}
 use Rattle.fleet_worker.specs.Workers.{AttemptParts, WorkerParts, attempt_of, live_of}
-use Rattle.fleet_worker.specs.declared.worker.ReleasePut.{ReleasePut}
+use Rattle.fleet_worker.specs.declared.release.ReleasePut.{ReleasePut}
 
 -- The live ones of these attempts.
 abbrev pub live_among : List JobParts → ℕ → List AttemptParts → List Attempt

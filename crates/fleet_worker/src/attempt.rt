@@ -1,11 +1,13 @@
 //! Attempts that run.
 
-ghost use Rattle.std.specs.Prelude.{◌≡◌, ◌++◌, [], ◌∷◌, filter, option_map, IfOk, IsOkUnless, OnOk, Some};
+ghost use Rattle.std.specs.Prelude.{◌≡◌, ◌++◌, [], ◌∷◌, filter, not, option_map, IfOk, IsOkUnless, OnOk, Some};
 ghost use Rattle.std.specs.Option.{option_copied};
+ghost use Rattle.fleet_model.specs.Jobs.{contains};
 ghost use Rattle.fleet_model.specs.Work.Parties.{is_leased_to, is_live, runs_attempt};
 ghost use Rattle.fleet_jobs.specs.Jobs.{job_of, jobs_of};
 ghost use Rattle.fleet_jobs.specs.Workers.{lease_of};
 ghost use Rattle.fleet_worker.specs.Claims.{parts_of};
+ghost use Rattle.fleet_worker.specs.Messages.{if_numbered};
 ghost use Rattle.fleet_worker.specs.Releases.{live_named};
 ghost use Rattle.fleet_worker.specs.Workers.{attempt_of, run_at};
 
@@ -162,4 +164,32 @@ pub(crate) fn run_at(attempts: &[RunAttempt], job: Ulid) -> Option<&RunAttempt>
     ensures { option_copied result ≡ run_at attempts.now job }
 {
     attempts.iter().find(|attempt| attempt.job() == job)
+}
+
+/// The attempt, if there is one and it has this number.
+pub(crate) fn if_numbered(number: u64, attempt: Option<&RunAttempt>) -> Option<&RunAttempt>
+    ensures { option_copied result ≡ if_numbered number (option_copied attempt.entry) }
+{
+    match attempt {
+        Some(attempt) if number == attempt.number() => Some(attempt),
+        _ => None,
+    }
+}
+
+/// Whether the attempt is at another job than this one.
+pub(crate) fn is_elsewhere(attempt: &RunAttempt, job: Ulid) -> bool
+    ensures { result ≡ not (contains (job ∷ []) attempt.now.job) }
+{
+    job != attempt.job()
+}
+
+/// The attempt, by its job and its number.
+pub(crate) fn one_named(alloc: Global, attempt: &RunAttempt) -> Result<AttemptList, SlateDBError>
+    ensures named { IfOk result
+        (λ named. named ≡ (attempt.now.job, attempt.now.number) ∷ []) }
+    ensures memory { IsOkUnless result SlateDBError.Memory }
+{
+    let mut named = AttemptList::new(alloc);
+    named.push((attempt.job(), attempt.number()))?;
+    Ok(named)
 }

@@ -9,7 +9,17 @@ use fleet_book::{Compactions, JobMap};
 use fleet_jobs::{Compaction, CompactionStatus};
 use fleet_rows::{JobList, SlateDBError, Ulid};
 use fleet_step::stops;
+use fleet_store::RecordChange;
 use std::alloc::Global;
+
+// A put of the records that gives jobs back.
+#[derive(Drop)]
+pub(crate) struct ReleasePut {
+    pub version: u64,
+    pub value: Compactions,
+    pub why: RecordChange,
+    pub jobs: JobList,
+}
 
 // Whether the job is among these attempts.
 fn is_among(attempts: &[(Ulid, u64)], job: Ulid) -> bool

@@ -1,25 +1,28 @@
 //! Workers.
 
-ghost use Rattle.std.specs.Prelude.{◌≡◌, ◌≢◌, ◌<◌, ◌^◌, [], IfOk, IsOkUnless, OnErr, false};
+ghost use Rattle.std.specs.Prelude.{◌≡◌, ◌≢◌, ◌<◌, ◌^◌, ◌∷◌, [], IfOk, IsOkUnless, OnErr, false};
 ghost use Rattle.std.specs.Bool.{OnFalse};
+ghost use Rattle.std.specs.Option.{option_copied};
 ghost use Rattle.fleet_model.specs.Store as model;
 ghost use Rattle.step_model.specs.Steps.BeatSteps.{beat_try, heartbeat, release_all};
 ghost use Rattle.step_model.specs.Steps.ClaimSteps.{claim, claim_try};
 ghost use Rattle.step_model.specs.Courses.CourseRuns.{IsLawfulCourse};
 ghost use Rattle.step_model.specs.Kept.Keeps.{Keeps};
+ghost use Rattle.step_model.specs.Steps.MessageSteps.{take_failed};
 ghost use Rattle.step_model.specs.Courses.StepEnds.{Reports};
 ghost use Rattle.fleet_claim.specs.Beginnings.{options_of};
 ghost use Rattle.fleet_jobs.specs.Jobs.{jobs_of};
 ghost use Rattle.fleet_store.specs.Records.{DescribeTables, jobs_or_none};
 ghost use Rattle.fleet_worker.specs.Beats.{IsBeatOf, IsBeatPut, IsReport, beat_ends, beat_ends_over, live_parts};
-ghost use Rattle.fleet_worker.specs.Claims.{AreNew, BeginsNothing, IsChoice, IsClaimPut, IsClaimStart, MayTakeAll, after_put, claim_ends, claim_ends_with};
+ghost use Rattle.fleet_worker.specs.Claims.{AreNew, BeginsNothing, IsChoice, IsClaimPut, IsClaimStart, MayTakeAll, after_put, claim_ends, claim_ends_with, without_parts};
 ghost use Rattle.fleet_worker.specs.Held.{all_held};
+ghost use Rattle.fleet_worker.specs.Messages.{IsReturnOf, attempt_with, gone_ends, one_return, runs_then};
 ghost use Rattle.fleet_worker.specs.Releases.{IsReleaseOf, is_over, one_release};
 ghost use Rattle.fleet_step.specs.Steps.{StepRan, TryRan, stops};
-ghost use Rattle.fleet_worker.specs.Workers.{AreNoted, IsReady, IsReadyAnywhere, live_of, ranges_at, started};
+ghost use Rattle.fleet_worker.specs.Workers.{AreNoted, IsReady, IsReadyAnywhere, attempt_of, live_of, ranges_at, started};
 
 use crate::RunAttempt;
-use crate::attempt::{live_attempts, run_at};
+use crate::attempt::{if_numbered, is_elsewhere, is_live, live_attempts, one_named, run_at};
 use crate::beat::{
     BeatPut, BeatReport, beaten_records, is_live_in, live_jobs, lost_jobs, no_report,
 };
@@ -28,7 +31,7 @@ use crate::claim::{
     run_jobs,
 };
 use crate::held::all_held;
-use crate::release::{is_over, jobs_of, released};
+use crate::release::{ReleasePut, is_over, jobs_of, released};
 use fleet_book::{Compactions, VersionedCompactions};
 use fleet_claim::{
     CompactionWorkerOptions, Starts, begin_all, claimed_jobs, claimed_records, next_attempts,
@@ -63,15 +66,6 @@ impl Model for Worker {
       attempts = w.attempts;
       stopped = w.stopped;
     } };
-}
-
-// A put of the records that gives jobs back.
-#[derive(Drop)]
-struct ReleasePut {
-    version: u64,
-    value: Compactions,
-    why: RecordChange,
-    jobs: JobList,
 }
 
 impl Worker {
@@ -560,6 +554,122 @@ impl Worker {
             Ok((report, attempts)) => {
                 self.attempts = attempts;
                 Ok(report)
+            }
+            Err(error) => Err(error),
+        }
+    }
+
+    // The attempt at the job with this number, if the worker runs it.
+    fn attempt_with(&self, job: Ulid, number: u64) -> Option<&RunAttempt>
+        ensures { option_copied result ≡ attempt_with self.now.attempts job number }
+    {
+        if_numbered(number, run_at(self.attempts.as_slice(), job))
+    }
+
+    // The put that gives the attempt back, or None if it is not live.
+    fn return_of(
+        &self,
+        attempt: &RunAttempt,
+        got: &Option<VersionedCompactions>,
+    ) -> Result<Option<ReleasePut>, SlateDBError>
+        ensures put { IfOk result (IsReturnOf self.now attempt.now got.now) }
+        ensures memory { IsOkUnless result SlateDBError.Memory }
+    {
+        let Some(got) = got else {
+            return Ok(None);
+        };
+        let records = got.compactions();
+        if !is_live(records, self.id, attempt) {
+            return Ok(None);
+        }
+        let these = one_named(self.alloc, attempt)?;
+        Ok(Some(ReleasePut {
+            version: got.id(),
+            value: released(self.alloc, records, self.id, these.as_slice())?,
+            jobs: JobList::new(self.alloc),
+            why: RecordChange::Release(self.id, these),
+        }))
+    }
+
+    // One try to give the attempt back.
+    fn try_return<S: Store>(&self, store: &mut S, attempt: &RunAttempt) -> Result<(), SlateDBError>
+        requires ready { IsReady (S.view store.old) self.now }
+        ensures { (again : _) → TryRan (gone_ends self.now attempt.now)
+            (one_return (live_of self.now) (attempt_of attempt.now) again) again
+            (S.view store.old) (S.view store.new) result }
+    {
+        let got = store.get_records()?;
+        let Some(put) = self.return_of(attempt, &got)? else {
+            return Ok(());
+        };
+        let made = store.put_records(put.version, put.value, put.why);
+        put_answer(made, ())
+    }
+
+    // The tries to give the attempt at the job with this number back.
+    fn returns<S: Store>(&self, store: &mut S, job: Ulid, number: u64) -> Result<(), SlateDBError>
+        requires ready { IsReady (S.view store.old) self.now }
+        ensures { StepRan (runs_then (without_parts (job ∷ []) self.now.attempts))
+            (take_failed (live_of self.now) job number)
+            (S.view store.old) (S.view store.new) result }
+    {
+        let Some(attempt) = self.attempt_with(job, number) else {
+            return Err(SlateDBError::NotOwner);
+        };
+        let mut seen = 0;
+        'tries: for tries in 0..MOST_REFUSED {
+            let tried = self.try_return(store, attempt);
+            let Some(version) = refused_at(&tried) else {
+                return tried;
+            };
+            seen = version;
+        }
+        Err(SlateDBError::Conflict { seen })
+    }
+
+    // Drops the attempt at the job.
+    fn drop_attempt(&mut self, job: Ulid)
+        ensures { self.new ≡ record self.old {
+          attempts = without_parts (job ∷ []) self.old.attempts;
+        } }
+    {
+        let mut attempts = self.attempts.take().into_vec();
+        attempts.retain(|attempt| is_elsewhere(attempt, job));
+        self.attempts = ListOf::from_vec(attempts);
+    }
+
+    /// Takes the message that the attempt at the job with this number failed: gives it back if it
+    /// is live, so that the job waits for a worker again, and drops it.
+    ///
+    /// `NotOwner` means that the worker does not run this attempt; nothing is called then.
+    /// `Conflict` means that 64 puts were refused in a row. After `StoreFault` the worker is
+    /// stopped, and the job may wait or not.
+    pub fn take_failed<S: Store>(
+        &mut self,
+        store: &mut S,
+        job: Ulid,
+        number: u64,
+    ) -> Result<(), SlateDBError>
+        requires running { self.old.stopped ≡ false }
+        requires ready { IsReady (S.view store.old) self.old }
+        ensures ran { StepRan (runs_then self.new.attempts)
+            (take_failed (live_of self.old) job number)
+            (S.view store.old) (S.view store.new) result }
+        ensures stopped { self.new.stopped ≡ stops result }
+        ensures same { self.new ≡ record self.old {
+          attempts = self.new.attempts;
+          stopped = self.new.stopped;
+        } }
+        ensures err { OnErr result (self.new.attempts ≡ self.old.attempts) }
+        ensures ready { OnFalse self.new.stopped
+            (IsReady (S.view store.new) self.new) }
+    {
+        let returned = self.returns(store, job, number);
+        self.stopped = stops(&returned);
+        match returned {
+            Ok(()) => {
+                self.drop_attempt(job);
+                Ok(())
             }
             Err(error) => Err(error),
         }
