@@ -1,3 +1,4 @@
 pub mod Changed
 pub mod Records
 pub mod Reached
+pub mod Drained

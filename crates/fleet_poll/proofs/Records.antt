@@ -142,7 +142,7 @@ changed_too change model these job same = by (contains these job.id)
     by true = same
     by false = refl
 
-changed_are : (change : JobParts → JobParts) (model : Job → Job) (these : List ℕ) (jobs : List JobParts) → ((job : JobParts) → job_of (change job) ≡ model (job_of job))
+pub changed_are : (change : JobParts → JobParts) (model : Job → Job) (these : List ℕ) (jobs : List JobParts) → ((job : JobParts) → job_of (change job) ≡ model (job_of job))
     → jobs_of (map (changed_record change these) jobs) ≡ changed_jobs model these (jobs_of jobs)
 changed_are change model these [] same = refl
 changed_are change model these (job ∷ jobs) same =

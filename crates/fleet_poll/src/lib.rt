@@ -3,6 +3,7 @@
 #![tactic(auto)]
 
 mod adding;
+mod draining;
 mod failing;
 mod freeing;
 mod opening;
