@@ -15,7 +15,7 @@ use Rattle.fleet_worker.proofs.Lists.{filter_map}
 
 -- ---- the model's attempts
 
-put_same : (a : AttemptParts) (xs : List AttemptParts) → map attempt_of (put_part a xs) ≡ put_attempt (attempt_of a) (map attempt_of xs)
+pub put_same : (a : AttemptParts) (xs : List AttemptParts) → map attempt_of (put_part a xs) ≡ put_attempt (attempt_of a) (map attempt_of xs)
 put_same a [] = refl
 put_same a (b ∷ xs) = by (nat_lt a.job b.job) (put_same a xs)
   where

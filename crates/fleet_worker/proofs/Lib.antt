@@ -10,3 +10,4 @@ pub mod Inserted
 pub mod Claims
 pub mod TryClaims
 pub mod Returns
+pub mod Progress

@@ -49,7 +49,7 @@ found_same (x ∷ xs) job = ap (λ b. cond b (Some (attempt_of x)) (attempt_at j
     by true rest = refl
     by false rest = rest
 
-run_same : (w : WorkerParts) (job number : ℕ) → attempt_run (live_of w) job number ≡ option_map attempt_of (attempt_with w.attempts job number)
+pub run_same : (w : WorkerParts) (job number : ℕ) → attempt_run (live_of w) job number ≡ option_map attempt_of (attempt_with w.attempts job number)
 run_same w job number = rw (found_same w.attempts job) (by (run_at w.attempts job))
   where
     numbered : (a : AttemptParts) (b : Bool) → cond b (Some (attempt_of a)) None ≡ option_map attempt_of (cond b (Some a) None)

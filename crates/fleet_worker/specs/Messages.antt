@@ -1,17 +1,26 @@
 -- How a worker takes messages about its attempts.
-use Rattle.std.specs.Prelude.{◌≡◌, ◌==◌, ℕ, if◌then◌else◌, List, [], ◌∷◌, map, Option, Some, None, option_map}
+use Rattle.std.specs.Prelude.{◌≡◌, ◌==◌, ℕ, if◌then◌else◌, List, [], ◌∷◌, map, IfSome, Option, Some, None, option_map}
+use Rattle.std.specs.List.{AllByRecursion}
+use Rattle.row_model.specs.Fold.{IsLawful}
 use Rattle.fleet_model.specs.Work.Parties.{Attempt, LiveWorker, without_attempts}
 use Rattle.fleet_model.specs.Store.{Store}
 use Rattle.step_model.specs.Steps.BeatSteps.{release_by, release_try}
 use Rattle.step_model.specs.Courses.Course.{Course, Ends}
+use Rattle.step_model.specs.Steps.MessageSteps.{attempt_run}
 use Rattle.step_model.specs.Courses.StepEnds.{StepEnd, Reports}
 use Rattle.step_model.specs.Courses.Tries.{Try}
+use Rattle.step_model.specs.Views.{StoreView}
+use Rattle.worker_laws.specs.Messages.{ProgressFits}
+use Rattle.fleet_jobs.specs.Parts.ContextParts.{ContextParts}
+use Rattle.fleet_jobs.specs.Contexts.{context_of}
 use Rattle.fleet_book.specs.VersionedRecords.{VersionedRecords}
 use Rattle.fleet_book.specs.Versions.{records_of}
 use Rattle.fleet_store.specs.Exchanges.{records_put}
+use Rattle.fleet_store.specs.Handles.{IsDescribed}
 use Rattle.fleet_store.specs.Records.{DescribeTables, jobs_or_none}
 use Rattle.fleet_step.specs.Steps.{puts_and}
-use Rattle.fleet_worker.specs.Workers.{AttemptParts, WorkerParts, attempt_of, live_of, run_at}
+use Rattle.fleet_worker.specs.Claims.{put_part, without_parts}
+use Rattle.fleet_worker.specs.Workers.{AttemptParts, IsReady, WorkerParts, attempt_of, live_of, run_at}
 use Rattle.fleet_worker.specs.declared.release.ReleasePut.{ReleasePut}
 
 -- The attempt, if there is one and it has this number.
@@ -50,3 +59,19 @@ pub record ReturnsOne (w : WorkerParts) (a : AttemptParts) (got : Option Version
 abbrev pub IsReturnOf : WorkerParts → AttemptParts → Option VersionedRecords → Option ReleasePut → Type 0
 IsReturnOf w a got None = (again : ℕ → Course (StepEnd (List Attempt))) → release_by (live_of w) (attempt_of a ∷ []) (option_map records_of got) (is_gone (live_of w) (attempt_of a)) again ≡ Ends (gone_ends w a tt)
 IsReturnOf w a got (Some put) = ReturnsOne w a got put
+
+-- ---- progress
+
+-- The attempts after the progress of this attempt: it has this context from now on. They stay if there is none.
+abbrev pub went_on : ContextParts → Option AttemptParts → List AttemptParts → List AttemptParts
+went_on ctx None attempts = attempts
+went_on ctx (Some a) attempts = put_part (record a { ctx = ctx }) (without_parts (a.job ∷ []) attempts)
+
+-- The tables that the context has noted are described as they were put.
+abbrev pub IsShownBy : Store → ContextParts → Type 0
+IsShownBy store ctx = AllByRecursion (λ part. AllByRecursion (IsDescribed store.tables) part.output_ssts) ctx.ranges
+
+-- A worker that is ready for a step over a store and takes progress that fits is ready after it.
+pub record StaysReady (w : WorkerParts) (job number : ℕ) (ctx : ContextParts) (next : WorkerParts) : Type 0 where
+  pub over : (view : StoreView) → IsLawful view.who.merge → IsReady view w → IfSome (attempt_run (live_of w) job number) (ProgressFits view.who.merge view.world (live_of w) (context_of ctx))
+      → IsShownBy view.world.store ctx → IsReady view next

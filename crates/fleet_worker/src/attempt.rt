@@ -66,6 +66,19 @@ impl RunAttempt {
         })
     }
 
+    /// A copy with this context.
+    pub(crate) fn with_ctx(&self, ctx: CompactionContext) -> Result<RunAttempt, SlateDBError>
+        ensures changed { IfOk result (λ changed. changed ≡ record self.now { ctx = ctx }) }
+        ensures memory { IsOkUnless result SlateDBError.Memory }
+    {
+        Ok(RunAttempt {
+            job: self.job,
+            number: self.number,
+            sources: self.sources.clone()?,
+            ctx,
+        })
+    }
+
     /// The id of the job.
     pub fn job(&self) -> Ulid
         ensures { result ≡ self.now.job }

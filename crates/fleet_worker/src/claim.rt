@@ -115,8 +115,11 @@ fn place_after(attempts: &[RunAttempt], job: Ulid) -> usize
         .count()
 }
 
-// Inserts the attempt by its job.
-fn put_attempt(attempts: &mut Vec<RunAttempt>, attempt: RunAttempt) -> Result<(), AllocError>
+/// Inserts the attempt by its job.
+pub(crate) fn put_attempt(
+    attempts: &mut Vec<RunAttempt>,
+    attempt: RunAttempt,
+) -> Result<(), AllocError>
     ensures { OnOk result (attempts.new.items ≡ put_part attempt attempts.old.items) }
 {
     let place = place_after(attempts, attempt.job());

@@ -8,15 +8,17 @@ ghost use Rattle.step_model.specs.Steps.BeatSteps.{beat_try, heartbeat, release_
 ghost use Rattle.step_model.specs.Steps.ClaimSteps.{claim, claim_try};
 ghost use Rattle.step_model.specs.Courses.CourseRuns.{IsLawfulCourse};
 ghost use Rattle.step_model.specs.Kept.Keeps.{Keeps};
-ghost use Rattle.step_model.specs.Steps.MessageSteps.{take_failed};
+ghost use Rattle.step_model.specs.Steps.MessageSteps.{take_failed, take_progress};
 ghost use Rattle.step_model.specs.Courses.StepEnds.{Reports};
+ghost use Rattle.step_model.specs.Views.{StoreView};
 ghost use Rattle.fleet_claim.specs.Beginnings.{options_of};
+ghost use Rattle.fleet_jobs.specs.Contexts.{context_of};
 ghost use Rattle.fleet_jobs.specs.Jobs.{jobs_of};
 ghost use Rattle.fleet_store.specs.Records.{DescribeTables, jobs_or_none};
 ghost use Rattle.fleet_worker.specs.Beats.{IsBeatOf, IsBeatPut, IsReport, beat_ends, beat_ends_over, live_parts};
 ghost use Rattle.fleet_worker.specs.Claims.{AreNew, BeginsNothing, IsChoice, IsClaimPut, IsClaimStart, MayTakeAll, after_put, claim_ends, claim_ends_with, without_parts};
 ghost use Rattle.fleet_worker.specs.Held.{all_held};
-ghost use Rattle.fleet_worker.specs.Messages.{IsReturnOf, attempt_with, gone_ends, one_return, runs_then};
+ghost use Rattle.fleet_worker.specs.Messages.{IsReturnOf, StaysReady, attempt_with, gone_ends, one_return, runs_then, went_on};
 ghost use Rattle.fleet_worker.specs.Releases.{IsReleaseOf, is_over, one_release};
 ghost use Rattle.fleet_step.specs.Steps.{StepRan, TryRan, stops};
 ghost use Rattle.fleet_worker.specs.Workers.{AreNoted, IsReady, IsReadyAnywhere, attempt_of, live_of, ranges_at, started};
@@ -28,7 +30,7 @@ use crate::beat::{
 };
 use crate::claim::{
     ClaimPut, ClaimReport, ClaimStart, attempts_after, begun_jobs, note_each, other_attempts,
-    run_jobs,
+    put_attempt, run_jobs,
 };
 use crate::held::all_held;
 use crate::release::{ReleasePut, is_over, jobs_of, released};
@@ -37,7 +39,7 @@ use fleet_claim::{
     CompactionWorkerOptions, Starts, begin_all, claimed_jobs, claimed_records, next_attempts,
     stopped_jobs,
 };
-use fleet_jobs::{Compaction, Release};
+use fleet_jobs::{Compaction, CompactionContext, Release};
 use fleet_rows::{IdList, JobList, ListOf, SlateDBError, Ulid};
 use fleet_step::{MOST_REFUSED, put_answer, refused_at, stops};
 use fleet_store::{RecordChange, Store};
@@ -673,5 +675,45 @@ impl Worker {
             }
             Err(error) => Err(error),
         }
+    }
+
+    // The attempts after the progress of the attempt at the job with this number.
+    fn went_on(
+        &self,
+        job: Ulid,
+        number: u64,
+        ctx: CompactionContext,
+    ) -> Result<ListOf<RunAttempt>, SlateDBError>
+        ensures next { IfOk result (λ next. next ≡ went_on ctx
+            (attempt_with self.now.attempts job number) self.now.attempts) }
+        ensures memory { IsOkUnless result SlateDBError.Memory }
+    {
+        let attempts = self.attempts.as_slice();
+        let Some(attempt) = self.attempt_with(job, number) else {
+            return Ok(ListOf::from_vec(other_attempts(self.alloc, attempts, &[])?));
+        };
+        let mut next = other_attempts(self.alloc, attempts, &[attempt.job()])?;
+        put_attempt(&mut next, attempt.with_ctx(ctx)?)?;
+        Ok(ListOf::from_vec(next))
+    }
+
+    /// Takes the message that the attempt at the job with this number went on: it has this context
+    /// from now on. The message is dropped if the worker does not run this attempt. Nothing is
+    /// called.
+    pub fn take_progress(
+        &mut self,
+        job: Ulid,
+        number: u64,
+        ctx: CompactionContext,
+    ) -> Result<(), SlateDBError>
+        ensures ran { (view : StoreView) → StepRan (runs_then self.new.attempts)
+            (take_progress (live_of self.old) job number (context_of ctx)) view view result }
+        ensures same { self.new ≡ record self.old { attempts = self.new.attempts } }
+        ensures err { OnErr result (self.new ≡ self.old) }
+        ensures memory { IsOkUnless result SlateDBError.Memory }
+        ensures ready { StaysReady self.old job number ctx self.new }
+    {
+        self.attempts = self.went_on(job, number, ctx)?;
+        Ok(())
     }
 }
