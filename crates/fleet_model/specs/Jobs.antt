@@ -1,6 +1,7 @@
 -- A compaction job has a spec. Its record gives its status, the worker that has it and the tables that it
 -- wrote.
 use Rattle.std.specs.Prelude.{ℕ, ◌*◌, ◌+◌, ◌%◌, ◌^◌, Bool, true, false, ◌||◌, ◌==◌, nat_lt, if◌then◌else◌, List, [], ◌∷◌, map, find, Option, Some, None, ◌-◌, ◌&&◌, bytes_eq}
+use Rattle.row_model.specs.Lists.{insert_before}
 use Rattle.fleet_model.specs.Nodes.{NodeName, Run}
 use Rattle.row_model.specs.Settings.{Settings}
 use Rattle.row_model.specs.Ranges.{Range}
@@ -141,8 +142,7 @@ contains (x ∷ xs) n = if x == n then true else contains xs n
 
 -- Inserts an id in front of the first greater id.
 abbrev pub put_id : ℕ → List ℕ → List ℕ
-put_id id [] = id ∷ []
-put_id id (other ∷ others) = if nat_lt id other then id ∷ other ∷ others else other ∷ put_id id others
+put_id id ids = insert_before nat_lt id ids
 
 -- The ids in rising order.
 abbrev pub in_id_order : List ℕ → List ℕ
@@ -155,8 +155,7 @@ changed_jobs change these jobs = map (λ job. if contains these job.id then chan
 
 -- Inserts a job in front of the first job with a greater id.
 abbrev pub put_job : Job → Jobs → Jobs
-put_job new [] = new ∷ []
-put_job new (job ∷ jobs) = if nat_lt new.id job.id then new ∷ job ∷ jobs else job ∷ put_job new jobs
+put_job new jobs = insert_before {A = Job} (λ a b. nat_lt a.id b.id) new jobs
 
 -- True if more than the timeout, in milliseconds, has passed since the lease's last heartbeat, or if there
 -- is no lease.

@@ -1,6 +1,7 @@
 -- Flushes and the steps of commits change the trees and the horizon.
 use Rattle.std.specs.Prelude.{ℕ, Bool, false, not, nat_lt, max, if◌then◌else◌, List, [], ◌∷◌, map, filter, filter_map, flat_map, Option, Some, None, bytes_eq, true, ◌&&◌}
 use Rattle.std.specs.Ordering.{is_lt}
+use Rattle.row_model.specs.Lists.{insert_before, insert_after}
 use Rattle.row_model.specs.Rows.{Row, key_cmp}
 use Rattle.fleet_model.specs.Nodes.{Tables, table_rows, NodeName, L0, Run, names_contain, Node, Tree, node_named, Segment, Trees, tree_at}
 use Rattle.fleet_model.specs.Jobs.{JobSpec}
@@ -21,8 +22,7 @@ is_run_below id (Run other) = nat_lt other id
 
 -- Inserts a run in front of the first run with a lower id. The runs of a tree are by falling id.
 abbrev pub put_run : ℕ → Node → Tree → Tree
-put_run id run [] = run ∷ []
-put_run id run (node ∷ tree) = if is_run_below id node.name then run ∷ node ∷ tree else node ∷ put_run id run tree
+put_run id run tree = insert_before {A = Node} (λ run node. is_run_below id node.name) run tree
 
 -- Replaces the sources of a tree by one run with these tables. The run has all flushes of the sources.
 abbrev pub with_run_for : List NodeName → ℕ → List ℕ → Tree → Tree
@@ -36,13 +36,14 @@ abbrev pub first_key : List Row → List ℕ
 first_key [] = []
 first_key (r ∷ rows) = r.key
 
+-- True if the first key of the one table is below that of the other.
+abbrev pub is_first_below : Tables → (piece other : ℕ) → Bool
+is_first_below tables piece other =
+    is_lt (key_cmp (first_key (table_rows tables piece)) (first_key (table_rows tables other)))
+
 -- Inserts a table in front of the first table whose first key is not below its own.
 abbrev pub put_by_first_key : Tables → ℕ → List ℕ → List ℕ
-put_by_first_key tables piece [] = piece ∷ []
-put_by_first_key tables piece (q ∷ pieces) =
-    if is_lt (key_cmp (first_key (table_rows tables q)) (first_key (table_rows tables piece)))
-    then q ∷ put_by_first_key tables piece pieces
-    else piece ∷ q ∷ pieces
+put_by_first_key tables piece pieces = insert_after (is_first_below tables) piece pieces
 
 -- The tables, sorted by rising first key.
 abbrev pub by_first_key : Tables → List ℕ → List ℕ

@@ -5,6 +5,7 @@ use Rattle.std.specs.declared.cmp.Ordering.{Ordering}
 use Rattle.std.specs.Ordering.{nat_cmp, ordering_then, is_lt}
 use Rattle.std.specs.Cmp.Lexicographic.{slice_cmp}
 use Rattle.std.specs.List.Sorted.{IsStrictlySortedBy}
+use Rattle.row_model.specs.Lists.{insert_before}
 
 -- The content of a row: a value, an operand that is merged onto older rows, or a tombstone that says that
 -- the key is deleted.
@@ -51,8 +52,7 @@ rows_of_key key (r ∷ rows) = if bytes_eq key r.key then r ∷ rows_of_key key 
 
 -- Inserts a row into ordered rows, in front of the first row that is after it.
 abbrev pub insert_row : Row → List Row → List Row
-insert_row r [] = r ∷ []
-insert_row r (q ∷ rows) = if is_lt (row_cmp r q) then r ∷ q ∷ rows else q ∷ insert_row r rows
+insert_row r rows = insert_before {A = Row} (λ a b. is_lt (row_cmp a b)) r rows
 
 -- Sorts rows: each row is inserted into the sorted later rows.
 abbrev pub sorted_rows : List Row → List Row

@@ -1,6 +1,7 @@
 -- The size-tiered scheduler. It joins flushes of a tree into a fresh run, and runs of similar sizes into the
 -- oldest of them.
-use Rattle.std.specs.Prelude.{ℕ, ◌-◌, Bool, ◌&&◌, ◌||◌, ◌==◌, true, nat_lt, if◌then◌else◌, List, [], ◌∷◌, count_by, filter, flat_map, length, map, Option, Some, None, is_some, bytes_eq}
+use Rattle.std.specs.Prelude.{ℕ, ◌-◌, Bool, ◌&&◌, ◌||◌, ◌==◌, true, nat_lt, List, [], ◌∷◌, count_by, filter, flat_map, length, map, Option, Some, None, is_some, bytes_eq}
+use Rattle.row_model.specs.Lists.{insert_after}
 use Rattle.fleet_model.specs.Nodes.{NodeName, Tree, names, segment_at, tree_at}
 use Rattle.fleet_model.specs.Jobs.{Jobs, JobSpec, is_drain, nodes_of}
 use Rattle.fleet_model.specs.Sources.{older_nodes, run_ids}
@@ -21,10 +22,8 @@ unplanned_tree jobs tree = record { tree = tree; used = nodes_used jobs tree.seg
 
 -- Inserts a tree in front of the first tree with at most as many flushes.
 abbrev pub put_by_flushes : Planned → List Planned → List Planned
-put_by_flushes t [] = t ∷ []
-put_by_flushes t (other ∷ others) =
-    if nat_lt (length t.tree.flushes) (length other.tree.flushes) then other ∷ put_by_flushes t others
-    else t ∷ other ∷ others
+put_by_flushes t others =
+    insert_after {A = Planned} (λ a b. nat_lt (length b.tree.flushes) (length a.tree.flushes)) t others
 
 -- The trees by falling number of flushes. Trees with one number keep their order.
 abbrev pub by_flushes : List Planned → List Planned

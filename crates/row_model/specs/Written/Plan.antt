@@ -1,6 +1,7 @@
 -- A plan cuts all keys into ranges, so that a compaction can make them side by side.
 use Rattle.std.specs.Prelude.{ℕ, ◌+◌, ◌-◌, ◌/◌, ◌%◌, ◌&&◌, ◌||◌, nat_lt, nat_le, ◌==◌, max, if◌then◌else◌, List, [], ◌∷◌, filter, flat_map, length, sum_by}
 use Rattle.std.specs.Ordering.{is_lt}
+use Rattle.row_model.specs.Lists.{insert_after}
 use Rattle.row_model.specs.Rows.{Row, key_cmp}
 use Rattle.row_model.specs.Written.Sizes.{Block, blocks, table_size, saturated_sum}
 use Rattle.row_model.specs.Ranges.{Range, Unbounded, ranges_from, is_in_range, all_keys}
@@ -34,8 +35,7 @@ sample_anchors bs end most range =
 
 -- Puts an anchor into a list in order of key, before the anchors with an equal or a greater key.
 abbrev pub put_anchor : Anchor → List Anchor → List Anchor
-put_anchor a [] = a ∷ []
-put_anchor a (b ∷ anchors) = if is_lt (key_cmp b.key a.key) then b ∷ put_anchor a anchors else a ∷ b ∷ anchors
+put_anchor a anchors = insert_after {A = Anchor} (λ a b. is_lt (key_cmp a.key b.key)) a anchors
 
 -- Sorts anchors by key. Anchors with equal keys keep their order.
 abbrev pub anchors_by_key : List Anchor → List Anchor

@@ -1,5 +1,6 @@
 -- The line that deletes the tables that nothing can need.
-use Rattle.std.specs.Prelude.{ℕ, nat_lt, if◌then◌else◌, List, [], ◌∷◌, codes}
+use Rattle.std.specs.Prelude.{ℕ, nat_lt, List, [], ◌∷◌, codes}
+use Rattle.row_model.specs.Lists.{insert_before}
 use Rattle.fleet_model.specs.Jobs.{number_of}
 use Rattle.fleet_model.specs.History.{Sweeper}
 use Rattle.fleet_model.specs.Sweeps.{pinned_tables}
@@ -11,9 +12,7 @@ use Rattle.script_model.specs.States.{State}
 
 -- The tables with one more, put in by its number.
 abbrev pub put_by_number : ℕ → List ℕ → List ℕ
-put_by_number table [] = table ∷ []
-put_by_number table (first ∷ tables) =
-    if nat_lt (number_of table) (number_of first) then table ∷ first ∷ tables else first ∷ put_by_number table tables
+put_by_number table tables = insert_before (λ a b. nat_lt (number_of a) (number_of b)) table tables
 
 -- The tables by rising number: the flushes' by name, and then those that were drawn.
 abbrev pub by_number : List ℕ → List ℕ
