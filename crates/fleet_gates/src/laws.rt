@@ -17,8 +17,8 @@ pub fn opened_jobs_hold_their_nodes()
     ensures { OpenedJobsHoldTheirNodes }
 {}
 
-/// After the commit of a job failed by rule 0, the jobs hold the nodes that they held, and the nodes
-/// of this job.
+/// After the commit of a job failed by rule 0, the jobs hold the nodes that they held, and the
+/// nodes of this job.
 pub fn lost_jobs_hold_their_nodes()
     ensures { LostJobsHoldTheirNodes }
 {}

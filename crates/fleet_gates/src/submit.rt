@@ -183,7 +183,8 @@ fn drops_older(alloc: Global, spec: &CompactionSpec, nodes: &[SourceId]) -> Resu
 fn target_rule(core: &ManifestCore, held: &NodeSet, job: &Compaction) -> Option<Rule>
     ensures { (flushes : RunFlushes) (jobs : Jobs) (lost : List ℕ)
         → Decides held.now jobs lost (job_of job.now) → numbered result
-        ≡ first_failing (drop 6 (rules_for (trees_of flushes core.now) jobs lost (job_of job.now))) }
+        ≡ first_failing
+        (drop 6 (rules_for (trees_of flushes core.now) jobs lost (job_of job.now))) }
 {
     let spec = job.spec();
     if !destination_fits(core, spec.sources(), spec.destination()) {

@@ -20,7 +20,8 @@ impl Poll {
     /// now. `submit_gate` tells whether it may be opened.
     pub fn schedule(&mut self, alloc: Global, job: Ulid) -> Result<(), SlateDBError>
         ensures poll { (flushes : RunFlushes) (made : Job) → made.id ≡ job
-            → OnOk result (poll_of flushes self.new ≡ schedule_job made (poll_of flushes self.old)) }
+            → OnOk result
+            (poll_of flushes self.new ≡ schedule_job made (poll_of flushes self.old)) }
         ensures jobs { (flushes : RunFlushes) → OnOk result (own_jobs self.new.state
             ≡ map (changed_record
             (opened (trees_of flushes self.old.state.manifest.manifest.core)) (job ∷ []))
@@ -36,7 +37,8 @@ impl Poll {
 // Opens the job, if it is there.
 fn open_job(alloc: Global, state: &mut CompactorState, id: Ulid) -> Result<(), SlateDBError>
     ensures jobs { (flushes : RunFlushes) → OnOk result (own_jobs state.new
-        ≡ map (changed_record (opened (trees_of flushes state.old.manifest.manifest.core)) (id ∷ []))
+        ≡ map
+        (changed_record (opened (trees_of flushes state.old.manifest.manifest.core)) (id ∷ []))
         (own_jobs state.old)) }
     ensures same { OnOk result (HasSameObjects state.old state.new) }
     ensures memory { IsOkUnless result SlateDBError.Memory }
