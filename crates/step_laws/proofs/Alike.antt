@@ -79,6 +79,7 @@ get_same tables more one other worker (entry ∷ history) o p same =
     let further = get_same tables more one other worker history (after_entry tables one entry o) (after_entry more other entry p) (λ front back e. same (entry ∷ front) back (ap (λ es. entry ∷ es) e)) in
     λ i. cond (is_worker worker entry.party) (objects_found entry.event entry.answer (start i)) (further i)
 
+-- If two replays of a history are the same at each place, the worker of a claim got the same objects by both.
 pub claim_same : (tables more : Tables) (one other : ℕ → JobSpec) (job attempt : ℕ) (history : List Entry) (o p : Objects) → SameReplays tables one more other history o p
     → objects_got tables one job attempt history o ≡ objects_got more other job attempt history p
 claim_same tables more one other job attempt [] o p same = refl

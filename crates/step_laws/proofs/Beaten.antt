@@ -28,6 +28,7 @@ named_attempt job (a ∷ attempts) h = by (a.0 == job) (named_attempt job attemp
     by true rest h = (a.1, refl)
     by false rest h = rest h
 
+-- The number that a list of attempts gives for a job is that of an attempt at the job in the list.
 pub attempt_named : (job n : ℕ) (attempts : List (ℕ × ℕ)) → attempt_number_at job attempts ≡ Some n → IsIn (job, n) attempts
 attempt_named job n [] e = absurd (cc e)
 attempt_named job n (a ∷ attempts) e = by (a.0 == job) refl (attempt_named job n attempts) e
@@ -50,6 +51,7 @@ pub record Beats (job n : ℕ) (history : List Entry) : Type 0 where
   pub took : IsTrue (stood entry.answer)
   pub named : IsIn (job, n) (attempts_in entry.event)
 
+-- A heartbeat that names the job and took effect gives the number of an attempt at the job.
 beat_here : (job : ℕ) (took : Bool) (event : Event) → (beats job event && took) ≡ true → (n : ℕ) × ((if took then beaten_in job event else None) ≡ Some n)
 beat_here job true (PutRecords (Beat worker attempts)) e = named_attempt job attempts (front _ e)
   where
@@ -68,6 +70,7 @@ beat_named job n true (PutRecords (Beat worker attempts)) e = (refl, attempt_nam
 beat_named job n true event e = absurd (cc e)
 beat_named job n false event e = absurd (cc e)
 
+-- A job that was beaten has a first beaten attempt, which an entry of the history that took effect names.
 pub first_beat : (job : ℕ) (history : List Entry) → IsTrue (was_beaten history job) → (n : ℕ) × Beats job n history
 first_beat job [] h = absurd (cc h)
 first_beat job (entry ∷ history) h = by (if stood entry.answer then beaten_in job entry.event else None) refl (beats job entry.event && stood entry.answer) refl (first_beat job history) h

@@ -43,6 +43,7 @@ pub record NamedFor (attempts : List (ℕ × ℕ)) (P : ℕ × ℕ → Job → T
   pub same : attempt.0 ≡ job.id
   pub so : P attempt job
 
+-- A stored job that a list of attempts names has an attempt in the list, with the property that all of these have.
 named_for : (merge : Operator) (world : World) (specs : ℕ → JobSpec) (attempts : List (ℕ × ℕ)) (P : ℕ × ℕ → Job → Type 0) → Body merge world specs → AllByRecursion (λ a. IsStoredAs world a.0 (P a)) attempts
     → (job : Job) → IsIn job (stored_jobs world.store) → IsTrue (contains (firsts attempts) job.id) → NamedFor attempts P job
 named_for merge world specs attempts P b each job there named = find_in attempts each (contains_in (firsts attempts) job.id named)
@@ -69,6 +70,7 @@ pairs_either R (x ∷ xs) a b h (inr one) (inr other) differs = pairs_either R x
 
 -- ---- the origin
 
+-- The first beaten attempt in a history with one more entry is that of the history before, or else the entry's.
 pub beaten_push : (job : ℕ) (history : List Entry) (entry : Entry) → first_beaten job (history ++ entry ∷ []) ≡ option_or (first_beaten job history) (if stood entry.answer then beaten_in job entry.event else None)
 beaten_push job [] entry = by (if stood entry.answer then beaten_in job entry.event else None)
   where
@@ -137,6 +139,7 @@ beaten_tables merge world party u worker entry job t h there = by (in_append t (
     by (inl new) = own new (all_at _ (context_tables (Some h.context)) t h.publishes.own (subst (λ o. IsIn t (context_tables o)) h.published new))
     by (inr old) = inl (in_contains (job_tables job) t (in_back t (context_tables job.context) (concat job.outputs) old))
 
+-- What is kept of a job is kept of it with the context that a lawful heartbeat publishes for it.
 beaten_kept : (merge : Operator) (world : World) (specs : ℕ → JobSpec) (party : Party) (u : Unrecorded) (worker : ℕ) (records : Records) (entry : Entry) (job : Job) → Body merge world specs → IsBeaten merge world party u worker entry job
     → JobKept merge world specs job → JobKept merge (with_records world records entry) specs (beaten_by worker u job)
 beaten_kept merge world specs party u worker records entry job b h kept = record {
@@ -209,6 +212,7 @@ kept_epoch worker attempts (Some records) = refl
 abbrev Live : Operator → Party → World → Unrecorded → ℕ → ℕ × ℕ → Job → Type 0
 Live merge party world u worker a job = IsLiveAt worker a.1 job × OfSome (Publishes merge party world job) (u.published a.0)
 
+-- A stored job that a lawful heartbeat names is live at the attempt named for it, and gets a context published.
 is_beaten : (merge : Operator) (world : World) (specs : ℕ → JobSpec) (party : Party) (u : Unrecorded) (worker : ℕ) (attempts : List (ℕ × ℕ)) (line : ℕ) (answer : Answer) → stood answer ≡ true → Body merge world specs
     → AllByRecursion (λ a. IsStoredAs world a.0 (Live merge party world u worker a)) attempts → (job : Job) → IsIn job (stored_jobs world.store) → IsTrue (contains (firsts attempts) job.id)
     → IsBeaten merge world party u worker (record { line = line; party = party; event = PutRecords (Beat worker attempts); answer = answer }) job
@@ -256,6 +260,7 @@ apart_published u attempts apart one other first second differs t in_one in_othe
     by (inl h) = apart_at _ _ t h in_one in_other
     by (inr h) = apart_at _ _ t h in_other in_one
 
+-- A lawful heartbeat that takes effect keeps the invariant.
 pub beats_keep : (merge : Operator) (worker : ℕ) (attempts : List (ℕ × ℕ)) → StandingPutKeeps merge (Beat worker attempts)
 beats_keep merge worker attempts line party answer world epoch jobs took k names fits =
     let entry : Entry = record { line = line; party = party; event = PutRecords (Beat worker attempts); answer = answer } in

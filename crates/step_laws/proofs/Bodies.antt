@@ -83,6 +83,7 @@ pub record Whole (merge : Operator) (world : World) (specs : ℕ → JobSpec) : 
   pub draws : DrawsKept world.store.jobs_drawn world.store.tables_drawn world.store.history
   pub puts : PutsKept world.store.history world.store.tables
 
+-- If the invariant and the facts hold of a world, so does `Whole`, by the specs of the replay.
 pub whole_of : (merge : Operator) (world : World) (k : Keeps merge world) → Whole merge world k.stored.replay.specs
 whole_of merge world k =
     let s = k.stored in
@@ -135,6 +136,7 @@ whole_of merge world k =
 each : {merge : Operator} {world : World} {specs : ℕ → JobSpec} (P : Job → Type 0) (b : Body merge world specs) → ((job : Job) → JobKept merge world specs job → P job) → AllByRecursion P (stored_jobs world.store)
 each {merge} {world} {specs} P b f = all_to (JobKept merge world specs) P (stored_jobs world.store) (λ job there kept. f job kept) b.jobs
 
+-- If `Body` holds of a world, its store meets the invariant.
 stored : (merge : Operator) (world : World) (specs : ℕ → JobSpec) → Body merge world specs → StoreInvariant merge world.store
 stored merge world specs b = record {
   sound = b.sound;
@@ -148,6 +150,7 @@ stored merge world specs b = record {
   reads = b.reads;
 }
 
+-- If `Whole` holds of a world, so do the invariant and the facts.
 pub keeps_of : (merge : Operator) (world : World) (specs : ℕ → JobSpec) → Whole merge world specs → Keeps merge world
 unfolding stored
 keeps_of merge world specs w =

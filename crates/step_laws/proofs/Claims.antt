@@ -41,6 +41,7 @@ claims_up P false event h = tt
 claimed_up_to : (merge : Operator) (world : World) (specs : ℕ → JobSpec) → Body merge world specs → AllByRecursion (IsUpTo world.store.history (stored_jobs world.store)) (claimed_attempts world.store.history)
 claimed_up_to merge world specs b = all_flat _ (λ (e : Entry). attempts_claimed_in (stood e.answer) e.event) world.store.history (all_to _ _ world.store.history (λ e there up. claims_up _ (stood e.answer) e.event up) b.up_to)
 
+-- The next attempts of different jobs that wait were never claimed, so a claim of them claims no attempt twice.
 new_claims : (merge : Operator) (world : World) (specs : ℕ → JobSpec) (attempts : List (ℕ × ℕ)) → Body merge world specs → Pairs (λ a b. a.0 ≢ b.0) attempts
     → AllByRecursion (λ a. IsStoredAs world a.0 (λ job. IsTrue (is_waiting job) × (a.1 ≡ job.attempt + 1))) attempts → Pairs (λ a b. a ≢ b) (claimed_attempts world.store.history ++ attempts)
 new_claims merge world specs attempts b once each = pairs_append _ (claimed_attempts world.store.history) attempts b.once (apart attempts once) (λ x y one other same. cross x y one other same)
@@ -95,6 +96,7 @@ next_claimed merge world specs records entry job b quiet there kept c is claimed
 all_waiting : (world : World) (attempts : List (ℕ × ℕ)) → AllByRecursion (λ a. IsStoredAs world a.0 (λ job. IsTrue (is_waiting job) × (a.1 ≡ job.attempt + 1))) attempts → AllByRecursion (λ a. IsStoredAs world a.0 (λ job. IsTrue (is_open job.status))) attempts
 all_waiting world attempts each = all_to _ _ attempts (λ a there waits. stored_to world (λ job. IsTrue (is_waiting job) × (a.1 ≡ job.attempt + 1)) (λ job. IsTrue (is_open job.status)) a.0 (λ job one. waiting_open job one.0) waits) each
 
+-- A lawful claim that takes effect keeps the invariant.
 pub claims_keep : (merge : Operator) (worker : ℕ) (attempts : List (ℕ × ℕ)) → StandingPutKeeps merge (Claim worker attempts)
 claims_keep merge worker attempts line party answer world epoch jobs took k names fits =
     let entry : Entry = record { line = line; party = party; event = PutRecords (Claim worker attempts); answer = answer } in

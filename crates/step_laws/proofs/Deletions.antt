@@ -25,6 +25,7 @@ in_flat f [] x y there one = absurd there
 in_flat f (z ∷ xs) x y (inl same) one = in_front y (f z) (flat_map f xs) (rw same one)
 in_flat f (z ∷ xs) x y (inr there) one = in_back y (f z) (flat_map f xs) (in_flat f xs x y there one)
 
+-- A filtered list has each element of the list that passes the test.
 pub in_filter : {A : Type 0} (p : A → Bool) (xs : List A) (x : A) → IsIn x xs → p x ≡ true → IsIn x (filter p xs)
 in_filter p [] x there e = absurd there
 in_filter p (y ∷ xs) x (inl same) e = by (p y) (ap p same ∙ e)
@@ -47,6 +48,7 @@ not_named world table id unnamed there same = refused (contains (named_tables wo
     refused true e f = absurd (cc e)
     refused false e f = absurd (cc f)
 
+-- A lawful deletion leaves all tables held that the stored nodes and the active jobs name.
 spared : (merge : Operator) (world : World) (specs : ℕ → JobSpec) (party : Party) (table : ℕ) → DeletionFits party world.store table → Body merge world specs → Spares world (world.store.deleted ++ table ∷ [])
 spared merge world specs party table fits b = record {
   put = all_true_from (is_among world.store.tables) _ (all_push _ world.store.deleted table (all_true_front (is_among world.store.tables) world.store.deleted b.sound.deleted) (held_put world.store table fits.held));
@@ -66,6 +68,7 @@ spared merge world specs party table fits b = record {
     still ids named held = all_true_from (is_held (record world.store { deleted = world.store.deleted ++ table ∷ [] })) ids
         (all_to _ _ ids (λ id there one. held_but world.store table id (not_named world table id fits.unnamed (named id there)) one) (all_true_front (is_held world.store) ids held))
 
+-- A lawful deletion of a table that takes effect keeps the invariant.
 deleted_by : (merge : Operator) (table line : ℕ) (party : Party) (answer : Answer) (world : World) → stood answer ≡ true → Keeps merge world → DeletionFits party world.store table
     → Keeps merge (entered world (world.store.deleted ++ table ∷ []) world.store.jobs_drawn world.store.tables_drawn (record { line = line; party = party; event = DeleteTable table; answer = answer }))
 deleted_by merge table line party answer world took k fits =

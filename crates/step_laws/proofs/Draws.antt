@@ -19,6 +19,7 @@ use Rattle.step_laws.proofs.Quiet.{world_entered, puts_mute}
 number : (moment n : ℕ) → n < 2 ^ 80 → number_of (id_of moment n) ≡ n
 number moment n small = mod-mul-add (moment % 2 ^ 48) (2 ^ 80) n small
 
+-- The facts on draws hold after the draw of the next id for a job, if the history has room for it.
 job_draws : (jobs_drawn tables_drawn : ℕ) (history : List Entry) (entry : Entry) (moment : ℕ) → entry.event ≡ DrawJob (id_of moment (jobs_drawn + 1)) → length history + 1 < drawn_base
     → DrawsKept jobs_drawn tables_drawn history → DrawsKept (jobs_drawn + 1) tables_drawn (history ++ entry ∷ [])
 job_draws jobs_drawn tables_drawn history entry moment is short h =
@@ -36,6 +37,7 @@ job_draws jobs_drawn tables_drawn history entry moment is short h =
       few = omega (arith, few, longer);
     }
 
+-- The facts on draws hold after the draw of the next id for a table, if the history has room for it.
 table_draws : (jobs_drawn tables_drawn : ℕ) (history : List Entry) (entry : Entry) (moment : ℕ) → entry.event ≡ DrawTable (table_id_of moment (tables_drawn + 1)) → length history + 1 < drawn_base
     → DrawsKept jobs_drawn tables_drawn history → DrawsKept jobs_drawn (tables_drawn + 1) (history ++ entry ∷ [])
 table_draws jobs_drawn tables_drawn history entry moment is short h =
@@ -53,6 +55,7 @@ table_draws jobs_drawn tables_drawn history entry moment is short h =
       few = omega (arith, few, longer);
     }
 
+-- A lawful draw of an id for a job keeps the invariant.
 jobs : (merge : Operator) (moment : ℕ) → CallKeeps merge (DrawsJob moment)
 jobs merge moment line party None world k lawful may =
     let entry : Entry = record { line = line; party = party; event = DrawJob (next_job_id moment world.store); answer = Done 0 } in
@@ -66,6 +69,7 @@ jobs merge moment line party None world k lawful may =
     }))
 jobs merge moment line party (Some stands) world k lawful may = absurd (cc may)
 
+-- A lawful draw of an id for a table keeps the invariant.
 tables : (merge : Operator) (moment : ℕ) → CallKeeps merge (DrawsTable moment)
 tables merge moment line party None world k lawful may =
     let entry : Entry = record { line = line; party = party; event = DrawTable (next_table_id moment world.store); answer = Done 0 } in

@@ -204,6 +204,7 @@ pub data Cut {A : Type 0} (front back old : List A) (last : A) : Type 0 where
   Whole : front ≡ old ++ last ∷ [] → Cut front back old last
   Before : (rest : List A) → front ++ rest ≡ old → Cut front back old last
 
+-- A front of a list that grew by one element is the whole list, or a front of the list before.
 pub cut_where : {A : Type 0} (front back old : List A) (last : A) → front ++ back ≡ old ++ last ∷ [] → Cut front back old last
 cut_where [] back old last e = Before old refl
 cut_where (x ∷ front) back [] last e = by front (cc e) (cc e)

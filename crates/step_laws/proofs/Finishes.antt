@@ -63,6 +63,7 @@ own_tables party world outputs job t own there = by (all_at _ (concat outputs) t
     by (inl old) = inl old
     by (inr new) = inr (new, there)
 
+-- What is kept of a job is kept of it as a Compacted job, if a live attempt finishes it with whole outputs.
 finished_kept : (merge : Operator) (world : World) (specs : ℕ → JobSpec) (party : Party) (u : Unrecorded) (worker attempt : ℕ) (outputs : List (List ℕ)) (records : Records) (entry : Entry) (job : Job) → Body merge world specs
     → IsQuietFor (stood entry.answer) entry.event job.id → FinishIsWhole merge party world u worker attempt outputs job → JobKept merge world specs job → JobKept merge (with_records world records entry) specs (finished_by worker u outputs job)
 finished_kept merge world specs party u worker attempt outputs records entry job b quiet finish kept = record {
@@ -120,6 +121,7 @@ each_finish merge world specs party u worker id attempt outputs b found job ther
     the_job : Some found.job ≡ Some job → found.job ≡ job
     the_job e = cc e
 
+-- A lawful finish that takes effect keeps the invariant.
 pub finishes_keep : (merge : Operator) (worker id attempt : ℕ) (outputs : List (List ℕ)) → StandingPutKeeps merge (Finish worker id attempt outputs)
 finishes_keep merge worker id attempt outputs line party answer world epoch jobs took k names fits =
     let entry : Entry = record { line = line; party = party; event = PutRecords (Finish worker id attempt outputs); answer = answer } in

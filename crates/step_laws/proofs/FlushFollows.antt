@@ -35,6 +35,7 @@ destination_on trees others tree other sources (Some id) all runs h = rw (runs, 
 no_sources : (trees : Trees) (job : Job) → job.spec.sources ≡ [] → IsTrue (is_nonempty job.spec.sources) → ⊥
 no_sources trees job none some = absurd (cc (rw none at some))
 
+-- Sources that stand in their tree still stand there after a flush whose name is none of theirs.
 pub stand_on : (prefix : List ℕ) (name : ℕ) (rows : List Row) (trees : Trees) (job : Job) → Rising trees → Differ name job.spec.sources → SourcesStand trees job → SourcesStand (flushed_trees prefix name rows trees) job
 stand_on prefix name rows trees job rise differ h = by job.spec.sources refl differ
   where
@@ -107,6 +108,7 @@ before_all name [] = tt
 before_all name (L0 n ∷ ns) = (tt, before_all name ns)
 before_all name (Run n ∷ ns) = (tt, before_all name ns)
 
+-- A tree in order is so with a new flush in front, if the flush's rows are ordered and above the tree's last sequence.
 pub tree_on : (tables : Tables) (name : ℕ) (s : Segment) → AllByRecursion (λ r. IsAbove s.last_seq r.seq) (table_rows tables name) → IsStrictlyOrdered (table_rows tables name) → IsTree tables s → IsTree tables (flushed_on name (table_rows tables name) s)
 tree_on tables name s newer ordered h = record {
   names_in_order = (before_all name (names s.tree), h.names_in_order);
@@ -122,6 +124,7 @@ tree_on tables name s newer ordered h = record {
   ordered = (rw (append-nil (table_rows tables name)) ordered, h.ordered);
 }
 
+-- Among trees by rising prefix, the segment found at a prefix is the one that has the prefix.
 pub found_segment : (prefix : List ℕ) (trees : Trees) (s : Segment) → Rising trees → IsIn s trees → prefix ≡ s.prefix → segment_at prefix trees ≡ Some s
 found_segment prefix [] s rise there same = absurd there
 found_segment prefix (t ∷ trees) s rise (inl first) same = ap (λ b. cond b (Some t) (segment_at prefix trees)) ((bytes_eq-Decides prefix t.prefix).1 (same ∙ ap (λ (u : Segment). u.prefix) (sym first))) ∙ ap Some first

@@ -51,6 +51,7 @@ above p q differs not_below = by (key_cmp p q) refl (nat_list_cmp_total.antisymm
 
 -- ---- each tree, and every two
 
+-- After a flush all segments have a property, if those that it leaves, the one that it changes and a new one have it.
 flush_on_each : (P Q : Segment → Type 0) (prefix : List ℕ) (name : ℕ) (rows : List Row) (trees : Trees) → ((s : Segment) → IsIn s trees → P s → Q s) → ((s : Segment) → IsIn s trees → prefix ≡ s.prefix → P s → Q (flushed_on name rows s))
     → Q (flushed_on name rows (empty_segment prefix)) → AllByRecursion P trees → AllByRecursion Q (flushed_trees prefix name rows trees)
 flush_on_each P Q prefix name rows [] keep grow new h = (new, tt)
@@ -138,6 +139,7 @@ none_above p (s ∷ trees) h = by (bytes_eq p s.prefix) refl (none_above p trees
         clash a b = absurd (cc (a, b))
     by false e rest = rest
 
+-- After a flush the tree of its prefix has the new node in front, and each other tree is as it was.
 pub tree_flushed : (p prefix : List ℕ) (name : ℕ) (rows : List Row) (trees : Trees) → Rising trees → tree_at p (flushed_trees prefix name rows trees) ≡ cond (bytes_eq p prefix) (new_node name ∷ tree_at p trees) (tree_at p trees)
 tree_flushed p prefix name rows [] h = by (bytes_eq p prefix)
   where

@@ -69,6 +69,7 @@ not_of false e = refl
 shared_first : (a b : Segment) (name : ℕ) (rows : List Row) → names_contain (names b.tree) (L0 name) ≡ false → NoneShared a b → NoneShared (flushed_on name rows a) b
 shared_first a b name rows none h = rw (not_of (names_contain (names b.tree) (L0 name)) none) h
 
+-- A tree shares no node with one that got a new flush, if it shared none before and lacks the name of the flush.
 shared_second : (a b : Segment) (name : ℕ) (rows : List Row) → names_contain (names a.tree) (L0 name) ≡ false → NoneShared a b → NoneShared a (flushed_on name rows b)
 shared_second a b name rows none h = each (names a.tree) none h
   where
@@ -141,6 +142,8 @@ flush_manifest world name segment floor tick tracker = record world.store.manife
   tracker = tracker;
 }
 
+-- A flush leaves a kept job's sources in their tree, its settings fit and its join standing, and brings none of its
+-- unused tables to a tree.
 job_follows : (merge : Operator) (world : World) (specs : ℕ → JobSpec) (name : ℕ) (segment : List ℕ) (floor : ℕ) (tick : ℤ) (tracker : List Tracked) (job : Job) → FlushCase merge world specs name segment floor tick
     → JobKept merge world specs job → JobFollows world (flush_manifest world name segment floor tick tracker) job
 job_follows merge world specs name segment floor tick tracker job c kept =
@@ -203,6 +206,7 @@ not_held merge world specs name segment floor tick s c there held =
     (all_at (λ (m : Manifest). AllByRecursion (IsKnownPiece world.store.history) (flat_map tree_tables m.trees)) world.past world.store.manifest c.body.nodes.pieces (stored_in_past world.store.manifest world.past c.body.past))
     (in_flat tree_tables world.store.manifest.trees s name there held)) refl
 
+-- The manifest of a flush follows the stored one: its trees are in order, with held tables, and keep reads.
 flush_follows : (merge : Operator) (world : World) (specs : ℕ → JobSpec) (name : ℕ) (segment : List ℕ) (floor : ℕ) (tick : ℤ) (tracker : List Tracked) (line : ℕ) (party : Party) (answer : Answer) → stood answer ≡ true → FlushCase merge world specs name segment floor tick
     → Follows merge world specs (flush_manifest world name segment floor tick tracker) (record { line = line; party = party; event = PutManifest (Flush name segment floor tick); answer = answer })
 flush_follows merge world specs name segment floor tick tracker line party answer took c =
@@ -262,6 +266,8 @@ flush_follows merge world specs name segment floor tick tracker line party answe
 
 -- ---- the law
 
+-- The flush of a held table that was never flushed keeps the invariant, if its sequences are the greatest of its tree
+-- and neither the floor nor the tick falls.
 flush_by : (merge : Operator) (name : ℕ) (segment : List ℕ) (floor : ℕ) (tick : ℤ) (tracker : List Tracked) (line : ℕ) (party : Party) (answer : Answer) (world : World) → stood answer ≡ true → (k : Keeps merge world) → FlushCase merge world k.stored.replay.specs name segment floor tick
     → Keeps merge (with_manifest world (flush_manifest world name segment floor tick tracker) (record { line = line; party = party; event = PutManifest (Flush name segment floor tick); answer = answer }))
 flush_by merge name segment floor tick tracker line party answer world took k c =
@@ -276,6 +282,7 @@ flush_by merge name segment floor tick tracker line party answer world took k c 
       puts = puts_kept world.store.history entry world.store.tables (table_none (stood answer) entry.event refl) (rw took (c.put, tt)) w.puts;
     })
 
+-- A lawful flush that takes effect keeps the invariant.
 pub flushes_keep : (merge : Operator) (name : ℕ) (segment : List ℕ) (floor : ℕ) (tick : ℤ) → StandingPutKeeps merge (Flush name segment floor tick)
 flushes_keep merge name segment floor tick line party answer world value took k fits =
     let w = whole_of merge world k in

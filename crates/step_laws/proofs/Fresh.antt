@@ -19,6 +19,7 @@ manifests : (front back : List Entry) → front ++ back ≡ []
 manifests [] back none = refl
 manifests (x ∷ front) back none = absurd (cc none)
 
+-- A fresh store meets the invariant.
 stored : (merge : Operator) → StoreInvariant merge fresh_store
 stored merge = record {
   sound = (fresh_stored merge).sound;
@@ -32,6 +33,7 @@ stored merge = record {
   reads = (fresh_stored merge).reads;
 }
 
+-- A fresh store with its past meets the invariant and the facts.
 pub fresh_keeps : (merge : Operator) → Keeps merge fresh_world
 unfolding stored
 fresh_keeps merge = record {

@@ -82,6 +82,7 @@ joined_stays history entry id fails = any_push_no (λ (e : Entry). joins id e.ev
 pub beaten_stays_so : (history : List Entry) (entry : Entry) (id : ℕ) → (beats id entry.event && stood entry.answer) ≡ false → was_beaten (history ++ entry ∷ []) id ≡ was_beaten history id
 beaten_stays_so history entry id fails = any_push_no (λ (e : Entry). beats id e.event && stood e.answer) history entry fails
 
+-- An entry that says nothing of a job leaves what the facts say of the job.
 pub facts_quiet : (history : List Entry) (entry : Entry) (past : List Manifest) (trees : Trees) (job : Job) → IsQuietFor (stood entry.answer) entry.event job.id → JobFacts history past trees job → JobFacts (history ++ entry ∷ []) past trees job
 facts_quiet history entry past trees job quiet h =
     let joined = joined_stays history entry job.id (quiet.joins) in

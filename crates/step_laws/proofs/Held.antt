@@ -11,6 +11,7 @@ use Rattle.step_laws.proofs.Elements.{IsIn, all_to, all_true_front, all_true_fro
 
 -- ---- a table is held if it was put and not deleted
 
+-- A table is found among those that are not deleted exactly if it was put and is not deleted.
 pub held_by : (deleted : List ℕ) (tables : Tables) (id : ℕ) → is_among (filter (λ table. not (contains deleted table.0)) tables) id ≡ (is_among tables id && not (contains deleted id))
 held_by deleted [] id = refl
 held_by deleted (table ∷ tables) id = by (contains deleted table.0) refl (table.0 == id) refl (held_by deleted tables id)
@@ -83,6 +84,7 @@ flat_rows_stay tables new (id ∷ ids) put =
 
 -- ---- one more is deleted
 
+-- A held table stays held as another table is deleted.
 pub held_but : (store : Store) (gone id : ℕ) → (gone ≡ id → ⊥) → IsTrue (is_held store id) → IsTrue (is_held (record store { deleted = store.deleted ++ gone ∷ [] }) id)
 held_but store gone id other h = rw (is_held_so (record store { deleted = store.deleted ++ gone ∷ [] }) id) (and_true _ _ (held_put store id h) (rw none refl))
   where
@@ -102,6 +104,7 @@ held_but store gone id other h = rw (is_held_so (record store { deleted = store.
         by true e = absurd (where_from (in_append id store.deleted (gone ∷ []) (contains_in _ id e)))
         by false e = refl
 
+-- A table that is held after a deletion was held before it.
 pub held_still : (store : Store) (gone id : ℕ) → IsTrue (is_held (record store { deleted = store.deleted ++ gone ∷ [] }) id) → IsTrue (is_held store id)
 held_still store gone id h = rw (is_held_so store id) (and_true _ _ (held_put (record store { deleted = store.deleted ++ gone ∷ [] }) id h) (none (contains store.deleted id) refl))
   where

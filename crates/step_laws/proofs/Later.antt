@@ -17,6 +17,7 @@ use Rattle.step_laws.specs.Later.{CallsLeadLater, TableStays}
 pub later_itself : (store : Store) → IsLater store store
 later_itself store = record { manifest_rises = omega arith; manifest_stays = λ e. refl; records_rise = omega arith; records_stay = λ e. refl; more = []; tables_added = sym (append-nil store.tables) }
 
+-- A store that is later than a later store is later than the first one.
 pub later_then : (a b c : Store) → IsLater a b → IsLater b c → IsLater a c
 later_then a b c one two = record {
   manifest_rises = omega (arith, one.manifest_rises, two.manifest_rises);
@@ -42,6 +43,7 @@ with_history new old later = record {
 
 -- ---- one call
 
+-- A put of a manifest leads to a later store, whether it takes effect or not.
 put_manifest_later : (version : ℕ) (value : model_store.Manifest) (store : Store)
     → IsLater store (if version == store.manifest.version then record store { manifest = record value { version = version + 1 } } else store)
 put_manifest_later version value store = by (version == store.manifest.version) refl
@@ -59,6 +61,7 @@ put_manifest_later version value store = by (version == store.manifest.version) 
         }
     by false e = later_itself store
 
+-- A put of records with the next version leads to a later store, whether it takes effect or not.
 put_records_later : (version : ℕ) (value : Records) (store : Store) → value.version ≡ version + 1
     → IsLater store (if version == records_version store.records then record store { records = Some value } else store)
 put_records_later version value store next = by (version == records_version store.records) refl

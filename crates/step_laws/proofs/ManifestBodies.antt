@@ -113,6 +113,7 @@ matches_stay past manifest o h = by (manifest_with o.manifest.version past) refl
     by None e h = absurd (cc h)
     by (Some m) e h = ap (option_map plain_manifest) (found_front (λ (other : Manifest). o.manifest.version == other.version) past (manifest ∷ []) m e) ∙ h
 
+-- Specs stay faithful after a put of the manifest that is no commit, if the manifest follows the stored one.
 pub faithful_with_manifest : (merge : Operator) (world : World) (specs : ℕ → JobSpec) (manifest : Manifest) (entry : Entry) → Body merge world specs → IsManifestEntry entry → Follows merge world specs manifest entry
     → Faithful (with_manifest world manifest entry) specs
 faithful_with_manifest merge world specs manifest entry b is f = record {
@@ -129,6 +130,7 @@ faithful_with_manifest merge world specs manifest entry b is f = record {
         (ap (option_map plain_manifest) (past_grows world.store.manifest manifest world.past f.next b.past).last)
     by front (Before rest part) = matches_stay world.past manifest (replayed_objects world.store.tables specs front (plain_objects fresh_store)) (b.faithful.manifests front rest part)
 
+-- Specs that are faithful after a put of the next manifest were faithful before it.
 pub faithful_before_manifest : (merge : Operator) (world : World) (specs others : ℕ → JobSpec) (manifest : Manifest) (entry : Entry) → Body merge world specs → manifest.version ≡ world.store.manifest.version + 1
     → Faithful (with_manifest world manifest entry) others → Faithful world others
 faithful_before_manifest merge world specs others manifest entry b next f = record {
@@ -161,6 +163,7 @@ pub or_right : (a b : Bool) → IsTrue b → IsTrue (a || b)
 or_right true b h = refl
 or_right false b h = h
 
+-- What the invariant says of a job holds under a new manifest, if its sources stand there and its settings fit.
 fits_with_manifest : (merge : Operator) (world : World) (specs : ℕ → JobSpec) (manifest : Manifest) (history : List Entry) (job : Job) → JobFollows world manifest job
     → JobFits merge (record world.store { history = history }) specs job → JobFits merge (record world.store { manifest = manifest; history = history }) specs job
 fits_with_manifest merge world specs manifest history job follows h = record {
@@ -203,6 +206,7 @@ fits_with_manifest merge world specs manifest history job follows h = record {
         by (inr stand) (inl was) = inl was
         by (inr stand) (inr fit) = inr (follows.fit f.settings (or_right _ _ compacted) stand fit)
 
+-- What the facts say of a job holds under a new manifest that holds none of its unused tables and leaves its join.
 facts_with_manifest : (world : World) (manifest : Manifest) (history : List Entry) (job : Job) → JobFollows world manifest job → JobFacts history world.past world.store.manifest.trees job → JobFacts history (world.past ++ manifest ∷ []) manifest.trees job
 facts_with_manifest world manifest history job follows h = record {
   named = h.named;
@@ -221,6 +225,7 @@ facts_with_manifest world manifest history job follows h = record {
 
 -- ---- the whole
 
+-- `Body` holds after a put of the manifest that is no commit, if the manifest follows the stored one, for all jobs too.
 pub body_with_manifest : (merge : Operator) (world : World) (specs : ℕ → JobSpec) (manifest : Manifest) (entry : Entry) → IsManifestEntry entry → Follows merge world specs manifest entry
     → ((job : Job) → IsIn job (stored_jobs world.store) → JobKept merge world specs job → JobFollows world manifest job) → Body merge world specs → Body merge (with_manifest world manifest entry) specs
 body_with_manifest merge world specs manifest entry is f each b = record {

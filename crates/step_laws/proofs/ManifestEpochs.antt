@@ -82,6 +82,7 @@ epochs_push old epoch history entry is took above h =
       rise = rw puts (pairs_push _ (put_epochs history) epoch h.rise (all_to _ _ (put_epochs history) (λ put there low. omega (arith, low, above)) h.up_to));
     }
 
+-- A put of a greater epoch into the manifest that takes effect keeps the invariant.
 epoch_by : (merge : Operator) (epoch line : ℕ) (party : Party) (answer : Answer) (world : World) → stood answer ≡ true → Keeps merge world → world.store.manifest.epoch < epoch
     → Keeps merge (with_manifest world (record world.store.manifest { version = world.store.manifest.version + 1; epoch = epoch }) (record { line = line; party = party; event = PutManifest (ManifestEpoch epoch); answer = answer }))
 epoch_by merge epoch line party answer world took k above =

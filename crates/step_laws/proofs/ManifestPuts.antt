@@ -24,6 +24,7 @@ world_put : (world : World) (line : ℕ) (party : Party) (change : ManifestChang
 world_put world line party change answer version value same =
     rw same (world_with_manifest world (record value { version = world.store.manifest.version + 1 }) (record { line = line; party = party; event = PutManifest change; answer = answer }) refl)
 
+-- All lawful puts of a change of the manifest keep the invariant, if those that take effect do.
 pub manifest_put_keeps : (merge : Operator) (change : ManifestChange) → StandingPutKeeps merge change → ManifestPutKeeps merge change
 manifest_put_keeps merge change stands version value line party None world k lawful may = by (version == world.store.manifest.version) refl
   where

@@ -165,6 +165,7 @@ past_kept = record {
   );
 }
 
+-- The facts hold of the store in the midst of two jobs.
 facts : StoreFacts midway_world
 facts = record {
   draws = draws;

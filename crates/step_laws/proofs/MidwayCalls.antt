@@ -67,6 +67,7 @@ retaken_world = scene 24 4 4 2 2 claimed_manifest 8 retaken_jobs
 
 -- ---- the first calls
 
+-- Lawful calls lead from a fresh store to one with two flushes and two ids that were drawn for jobs.
 first : (merge : Operator) → RivalsFrom (sweeper merge) first_calls fresh_world drawn_world
 first merge = (
   record { other = λ same. absurd (cc same); lawful = λ same. record { number = 1; by = refl; above = lit≤ tt; makes = refl }; strike = tt; deletes_none = refl },
@@ -160,6 +161,7 @@ opening merge = (
 
 -- ---- worker 1 takes job 1 and puts a table
 
+-- Lawful calls lead from the store with both jobs open to that where worker 1 has taken job 1 and put a table.
 claim : (merge : Operator) → RivalsFrom (sweeper merge) claim_calls opened_world claimed_world
 claim merge = (
   record {
@@ -200,6 +202,7 @@ fits merge specs given = record {
   tables = ((row (0x62 ∷ 0x32 ∷ []) 2 ∷ [], refl), tt);
 }
 
+-- A lawful heartbeat of worker 1 leads to the store where its table is published for job 1.
 beat : (merge : Operator) → RivalsFrom (sweeper merge) beat_calls claimed_world beaten_world
 beat merge = (
   record {
@@ -226,6 +229,7 @@ beat merge = (
 
 -- ---- worker 2 takes both jobs
 
+-- Lawful calls lead from the store with the published table to that where worker 2 has both jobs and put a table.
 takeover : (merge : Operator) → RivalsFrom (sweeper merge) takeover_calls beaten_world retaken_world
 takeover merge = (
   record {
@@ -305,6 +309,7 @@ outputs merge specs given = record {
   rows = λ held. refl;
 }
 
+-- Lawful calls lead from the store where worker 2 has both jobs to that where job 2 is finished and its run joined.
 last : (merge : Operator) → RivalsFrom (sweeper merge) last_calls retaken_world midway_world
 last merge = (
   record {

@@ -29,6 +29,7 @@ differ a b e same = let yes = (Decides-eqb a b).1 same in absurd (cc (e, yes))
 older : AllByRecursion (λ r. r.seq < 5) (row (0x61 ∷ []) 4 ∷ row (0x61 ∷ []) 4 ∷ row (0x61 ∷ []) 3 ∷ [])
 older = (lit≤ tt, (lit≤ tt, (lit≤ tt, tt)))
 
+-- In the store in the midst of two jobs each tree is in order, no two share a node, and the epochs fit.
 trees : AreTrees midway_world.store
 unfolding IsStrictlySortedBy
 trees = record {
@@ -65,6 +66,7 @@ in_bounds byte other seq = record { key = lit≤ tt; content = lit≤ tt }
 short_in_bounds : (byte seq : ℕ) → IsInBounds (row (byte ∷ []) seq)
 short_in_bounds byte seq = record { key = lit≤ tt; content = lit≤ tt }
 
+-- The store in the midst of two jobs is sound: its tables are ordered, and its prefixes and the ids of its jobs rise.
 pub sound : IsSound midway_world.store
 unfolding IsStrictlySortedBy
 sound = record {
@@ -175,6 +177,7 @@ run_reads merge key s now above below low later last = by (bytes_eq key (0x61 �
         ∙ ap (λ found. fold_bytes merge key (base now (seen_at s (above ++ newer ∷ below))) found) two
     by false = refl
 
+-- The store in the midst of two jobs meets the invariant under any operator.
 stored : (merge : Operator) → StoreInvariant merge midway_world.store
 unfolding replay
 stored merge = record {

@@ -37,6 +37,7 @@ entered world deleted jobs_drawn tables_drawn entry = record {
 abbrev pub Matches : List Manifest → Objects → Type 0
 Matches past o = option_map plain_manifest (manifest_with o.manifest.version past) ≡ Some o.manifest
 
+-- Specs stay faithful after a mute entry with which they agree.
 pub faithful_mute : (world : World) (specs : ℕ → JobSpec) (deleted : List ℕ) (jobs_drawn tables_drawn : ℕ) (entry : Entry) → IsMute (stood entry.answer) entry.event → AgreesWith specs entry.event
     → Faithful world specs → Faithful (entered world deleted jobs_drawn tables_drawn entry) specs
 faithful_mute world specs deleted jobs_drawn tables_drawn entry mute agrees f = record {
@@ -83,6 +84,7 @@ claimed_quiet store specs deleted jobs_drawn tables_drawn entry job attempt cont
   ranges = ranges_stay store.history entry job attempt _ (quiet.beaten) h.ranges;
 }
 
+-- What the invariant says of a stored job holds after an entry that says nothing of it, if deletions spare its tables.
 pub fits_quiet : (merge : Operator) (world : World) (specs : ℕ → JobSpec) (deleted : List ℕ) (jobs_drawn tables_drawn : ℕ) (entry : Entry) (job : Job) → IsQuietFor (stood entry.answer) entry.event job.id → Spares world deleted → IsIn job (stored_jobs world.store)
     → JobFits merge world.store specs job → JobFits merge (entered world deleted jobs_drawn tables_drawn entry).store specs job
 fits_quiet merge world specs deleted jobs_drawn tables_drawn entry job quiet spares there h = record {
@@ -130,6 +132,7 @@ epochs_mute epoch history entry none h =
     let same = flat_push_none (λ (e : Entry). epoch_in (stood e.answer) e.event) history entry none in
     record { up_to = rw same h.up_to; rise = rw same h.rise }
 
+-- `Body` holds after a mute entry that fits the world and the specs, if deletions spare what nodes and jobs name.
 pub body_mute : (merge : Operator) (world : World) (specs : ℕ → JobSpec) (deleted : List ℕ) (jobs_drawn tables_drawn : ℕ) (entry : Entry) → IsMute (stood entry.answer) entry.event → AgreesWith specs entry.event → Spares world deleted → IsFit world entry
     → Body merge world specs → Body merge (entered world deleted jobs_drawn tables_drawn entry) specs
 body_mute merge world specs deleted jobs_drawn tables_drawn entry mute agrees spares fit b = record {

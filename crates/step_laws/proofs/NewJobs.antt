@@ -31,6 +31,7 @@ use Rattle.step_laws.proofs.FlushNodes.{refused}
 
 -- ---- jobs that are put in
 
+-- A job of a list into which a new job was put is the new one or was there before.
 pub in_put : (new : Job) (jobs : Jobs) (job : Job) → IsIn job (put_job new jobs) → (new ≡ job) ⊎ IsIn job jobs
 in_put new [] job (inl same) = inl same
 in_put new [] job (inr never) = absurd never
@@ -48,6 +49,7 @@ in_put new (first ∷ jobs) job there = by (nat_lt new.id first.id) (in_put new 
     by true rest there = there
     by false rest there = front there rest
 
+-- Every two jobs are related after a new one is put in, if they were before and the new one is with each, both ways.
 pub pairs_put : (R : Job → Job → Type 0) (new : Job) (jobs : Jobs) → ((job : Job) → IsIn job jobs → R new job × R job new) → Pairs R jobs → Pairs R (put_job new jobs)
 pairs_put R new [] h pairs = (tt, tt)
 pairs_put R new (first ∷ jobs) h pairs = by (nat_lt new.id first.id) (pairs_put R new jobs (λ job there. h job (inr there)) pairs.1)
@@ -91,6 +93,7 @@ rise_put new (first ∷ jobs) other rise = by (nat_lt new.id first.id) refl (ris
 
 -- ---- all new jobs
 
+-- A job of a list into which all named jobs were put is a new one of them or was there before.
 pub in_new : (named : List (ℕ × JobSpec)) (jobs : Jobs) (job : Job) → IsIn job (with_new named jobs) → ((p : ℕ × JobSpec) × (IsIn p named × (new_job p ≡ job))) ⊎ IsIn job jobs
 in_new [] jobs job there = inr there
 in_new (p ∷ named) jobs job there = by (in_new named (put_job (new_job p) jobs) job there)
@@ -141,6 +144,7 @@ join_listed id (Join other ∷ steps) h = by (id == other) refl (join_listed id 
 join_listed id (Move other ∷ steps) h = join_listed id steps h
 join_listed id (Drain other ∷ steps) h = join_listed id steps h
 
+-- No join took effect for a job that no put has named.
 not_joined : (merge : Operator) (world : World) (specs : ℕ → JobSpec) → Body merge world specs → (id : ℕ) → was_named world.store.history id ≡ false → IsTrue (was_joined world.store.history id) → ⊥
 not_joined merge world specs b id unnamed joined = at (any_element (λ (e : Entry). joins id e.event && stood e.answer) world.store.history joined)
   where

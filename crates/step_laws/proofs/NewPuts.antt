@@ -60,6 +60,7 @@ pub record MakesNew (world : World) (u : Unrecorded) (change : RecordChange) (af
 abbrev pub new_specs : RecordChange → (ℕ → JobSpec) → ℕ → JobSpec
 new_specs change specs = with_specs (named_specs (PutRecords change)) specs
 
+-- A put that names new jobs and takes effect keeps the invariant, if each job that it makes is kept.
 keeps_new : (merge : Operator) (world : World) (u : Unrecorded) (change : RecordChange) (after : Jobs) (line : ℕ) (party : Party) (answer : Answer) → stood answer ≡ true → (k : Keeps merge world) → NamesFit party world (named_specs (PutRecords change))
     → MakesNew world u change after → NewPut merge world (new_specs change k.stored.replay.specs) after (record { line = line; party = party; event = PutRecords change; answer = answer })
     → Keeps merge (with_records world (new_records world after) (record { line = line; party = party; event = PutRecords change; answer = answer }))
@@ -117,6 +118,7 @@ kept_epoch : (named : List (ℕ × JobSpec)) (records : Option Records) → epoc
 kept_epoch named None = refl
 kept_epoch named (Some records) = refl
 
+-- A lawful submission that takes effect keeps the invariant.
 pub submits_keep : (merge : Operator) (named : List (ℕ × JobSpec)) → StandingPutKeeps merge (Submit named)
 submits_keep merge named line party answer world epoch jobs took k names fits =
     let specs = new_specs (Submit named) k.stored.replay.specs in

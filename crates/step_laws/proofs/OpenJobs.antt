@@ -63,6 +63,8 @@ no_lease Failed lease h leased waits = absurd (cc h)
 abbrev pub with_state : Status → Option Lease → ℕ → Job → Job
 with_state status lease attempt job = record job { status = status; lease = lease; attempt = attempt }
 
+-- What is kept of a Scheduled or Running job is kept with another such status, another lease and another attempt,
+-- if the published context is one of the new attempt too.
 pub kept_open : (merge : Operator) (world : World) (specs : ℕ → JobSpec) (status : Status) (lease : Option Lease) (attempt : ℕ) (job : Job) → IsTrue (is_open job.status) → IsTrue (is_open status) → IsLeased status lease
     → ((c : Context) → job.context ≡ Some c → IsClaimed world.store specs job.id job.attempt c → IsClaimed world.store specs job.id attempt c)
     → JobKept merge world specs job → JobKept merge world specs (with_state status lease attempt job)

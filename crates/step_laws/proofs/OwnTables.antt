@@ -71,6 +71,7 @@ unnamed party world id t other own there active differs named =
     unequal true e = absurd (differs ((Decides-eqb id other.id).0 e))
     unequal false e = refl
 
+-- Active jobs still name no table in common after a change that gives jobs only tables of the party's own.
 pub names_stay_apart : (merge : Operator) (world : World) (specs : ℕ → JobSpec) (party : Party) (new : ℕ → List ℕ) (f : Job → Job) (these : List ℕ) → Body merge world specs → NamesOwn party world new f these → Pairs NameApart (changed_jobs f these (stored_jobs world.store))
 names_stay_apart merge world specs party new f these b h =
     pairs_map (λ (x y : Job). NameApart x y × (x.id < y.id)) NameApart (on_these f these) (stored_jobs world.store) (λ x y one other old first second. apart_from _ _ (λ t in_x in_y.

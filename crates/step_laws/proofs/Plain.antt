@@ -37,6 +37,7 @@ finished_trimmed (job ∷ jobs) = by (is_finished job.status) refl (finished_lat
     by true e false f rest = ap (λ b. b || finished_later (trimmed_jobs jobs)) e
     by false e later f rest = ap (λ b. b || finished_later (trimmed_jobs jobs)) e ∙ rest ∙ f
 
+-- Trimmed jobs stay as they are if they are trimmed again.
 pub trimmed_once : (jobs : Jobs) → trimmed_jobs (trimmed_jobs jobs) ≡ trimmed_jobs jobs
 trimmed_once [] = refl
 trimmed_once (job ∷ jobs) = by (is_active job) refl (finished_later jobs) refl (trimmed_once jobs)
@@ -100,6 +101,7 @@ abbrev pub SameTables : Unrecorded → (JobSpec → List ℕ) → RecordChange �
 SameTables u tables_of (Polled change) jobs = (job : Job) → IsIn job (opened_among change jobs) → IsTrue (contains change.scheduled job.id) → u.tables_of job.spec ≡ tables_of job.spec
 SameTables u tables_of change jobs = Unit
 
+-- A change makes of plain jobs the plain form of what it makes of the jobs, if a poll opens them with the same tables.
 plain_after : (u : Unrecorded) (tables_of : JobSpec → List ℕ) (change : RecordChange) (jobs : Jobs) → SameTables u tables_of change jobs → map plain_job (after_change u change jobs) ≡ after_change (unrecorded_by tables_of) change (map plain_job jobs)
 plain_after u tables_of (RecordsEpoch epoch) jobs same = refl
 plain_after u tables_of (Submit specs) jobs same = plain_with_new specs jobs

@@ -134,6 +134,7 @@ second false b h = absurd (cc h)
 abbrev pub with_end : Status → Option Context → List ℕ → Job → Job
 with_end status context tables job = record job { status = status; source_tables = tables; context = context }
 
+-- What is kept of a job is kept of it with a finished status, no context and any source tables.
 pub kept_over : (merge : Operator) (world : World) (specs : ℕ → JobSpec) (status : Status) (context : Option Context) (tables : List ℕ) (job : Job) → IsTrue (is_finished status) → context ≡ None → JobKept merge world specs job → JobKept merge world specs (with_end status context tables job)
 kept_over merge world specs status context tables job over none kept = record {
   fits = record {
@@ -172,6 +173,7 @@ turned (L0 a) (Run b) e = absurd (cc e)
 turned (Run a) (L0 b) e = absurd (cc e)
 turned (Run a) (Run b) e = (Decides-eqb b a).1 (sym ((Decides-eqb a b).0 e))
 
+-- Sources with which a list of names begins are all in the list.
 begins : (sources ys rest : List NodeName) → after_front sources ys ≡ Some rest → AllByRecursion (λ x. IsTrue (names_contain ys x)) sources
 begins [] ys rest e = tt
 begins (x ∷ xs) [] rest e = absurd (cc e)
@@ -192,6 +194,7 @@ begins (x ∷ xs) (y ∷ ys) rest e = by (name_eq x y) refl (begins xs ys rest) 
     by true same more e = (front (name_eq y x) (turned x y same), all_to _ _ xs (λ z there h. later z h) (more e))
     by false same more e = absurd (cc e)
 
+-- Sources that lie one after the other in a list of names are all in the list.
 pub stretch_named : (sources ys rest : List NodeName) → older_nodes sources ys ≡ Some rest → AllByRecursion (λ x. IsTrue (names_contain ys x)) sources
 stretch_named sources [] rest e = begins sources [] rest e
 stretch_named sources (y ∷ ys) rest e = by (after_front sources (y ∷ ys)) refl (stretch_named sources ys rest) e
@@ -236,6 +239,7 @@ tree_has P prefix trees empty all = by (segment_at prefix trees) refl
     by None e = empty
     by (Some s) e = all_found_at (λ (t : Segment). P t.tree) _ trees s all e
 
+-- What is kept of a Submitted job is kept once a poll opens it with its sources' tables, if the sources stand.
 pub kept_scheduled : (merge : Operator) (world : World) (specs : ℕ → JobSpec) (tables_of : JobSpec → List ℕ) (job : Job) → IsTrue (has_status Submitted job) → tables_of job.spec ≡ tables_now world.store.manifest.trees job.spec
     → AllByRecursion (λ s. AllByRecursion (λ node. WerePut world.store node.pieces) s.tree) world.store.manifest.trees → AllByRecursion (λ s. AllByRecursion (λ node. IsFlush world.store.history node node.name) s.tree) world.store.manifest.trees
     → SourcesStand world.store.manifest.trees (to_scheduled tables_of job) → JobKept merge world specs job → JobKept merge world specs (to_scheduled tables_of job)

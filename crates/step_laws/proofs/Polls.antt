@@ -88,6 +88,7 @@ never_contains these id h = by (contains these id) refl
     by true e = absurd (h e)
     by false e = refl
 
+-- A job to which a poll does only what it may do waits again, is opened, is ended, or stays.
 pub outcome : (u : Unrecorded) (trees_tables : List ℕ) (change : PollChange) (job : Job) → MayDo u trees_tables change job → Outcome u trees_tables change job
 outcome u trees_tables change job may = by (contains change.freed job.id) refl (contains change.scheduled job.id) refl (contains change.completed job.id) refl (contains change.failed job.id) refl
   where
@@ -284,6 +285,7 @@ out : (merge : Operator) (world : World) (specs : ℕ → JobSpec) (line : ℕ) 
 out merge world specs line party answer u change jobs p job there =
     outcome u (tables_now world.store.manifest.trees job.spec) change job (may_do merge world specs party u change jobs (afterwards world line party answer u change) p.body p.fits p.rise job there (kept_before merge world specs line party answer u change jobs p job there))
 
+-- Each stored job and each job that a lawful poll adds is kept as the poll leaves it.
 kept_after : (merge : Operator) (world : World) (specs : ℕ → JobSpec) (line : ℕ) (party : Party) (answer : Answer) (u : Unrecorded) (change : PollChange) (jobs : Jobs) → PollCase merge world specs line party answer u change jobs
     → (job : Job) → IsIn job (with_new change.added (stored_jobs world.store)) → JobKept merge (afterwards world line party answer u change) specs (poll_on u change job)
 kept_after merge world specs line party answer u change jobs p job there =
@@ -305,6 +307,7 @@ kept_after merge world specs line party answer u change jobs p job there =
         both true h = refl
         both false h = absurd (cc h)
 
+-- A lawful poll opens each job with the tables that its sources have in the stored trees.
 tables_same : (merge : Operator) (world : World) (specs : ℕ → JobSpec) (line : ℕ) (party : Party) (answer : Answer) (u : Unrecorded) (change : PollChange) (jobs : Jobs) → PollCase merge world specs line party answer u change jobs
     → (job : Job) → IsIn job (opened_among change (stored_jobs world.store)) → IsTrue (contains change.scheduled job.id) → u.tables_of job.spec ≡ tables_now world.store.manifest.trees job.spec
 tables_same merge world specs line party answer u change jobs p job there named =
@@ -338,6 +341,7 @@ apart_after merge world specs line party answer u change jobs p x y one other ol
 mapped : {A B : Type 0} (P : B → Type 0) (f : A → B) (xs : List A) → ((x : A) → IsIn x xs → P (f x)) → (y : B) → IsIn y (map f xs) → P y
 mapped P f xs h y there = let found = from_map f xs y there in subst P found.1.1 (h found.0 found.1.0)
 
+-- A lawful poll's put of the records that takes effect keeps the invariant.
 pub polls_keep : (merge : Operator) (change : PollChange) → StandingPutKeeps merge (Polled change)
 polls_keep merge change line party answer world epoch jobs took k names fits =
     let u = fits.unrecorded in

@@ -41,6 +41,7 @@ job_puts_keep merge = record {
 pub all_flushes_keep : (merge : Operator) → FlushesKeep merge
 all_flushes_keep merge name segment floor tick = manifest_put_keeps merge (Flush name segment floor tick) (flushes_keep merge name segment floor tick)
 
+-- Every lawful call that is no commit keeps the invariant.
 pub other_calls_keep : (merge : Operator) → OtherCallsKeep merge
 other_calls_keep merge (Plain event) other = (looks_keep merge).plain event
 other_calls_keep merge (DrawsJob moment) other = (draws_keep merge).jobs moment

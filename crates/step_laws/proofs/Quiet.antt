@@ -41,6 +41,7 @@ world_entered world deleted jobs_drawn tables_drawn entry =
 
 -- ---- facts on draws and puts
 
+-- An entry that draws no id leaves the facts on draws.
 pub draws_mute : (jobs_drawn tables_drawn : ℕ) (history : List Entry) (entry : Entry) → job_drawn_in entry.event ≡ [] → table_drawn_in entry.event ≡ [] → DrawsKept jobs_drawn tables_drawn history → DrawsKept jobs_drawn tables_drawn (history ++ entry ∷ [])
 draws_mute jobs_drawn tables_drawn history entry none no_table h =
     let jobs = flat_push_none (λ (e : Entry). job_drawn_in e.event) history entry none in
@@ -81,6 +82,8 @@ table_none true event h = refl
 
 -- ---- a mute entry
 
+-- A mute entry that names no job, draws no id and puts no table keeps the invariant, if the attempts that it plans are
+-- no later than the stored ones.
 pub keeps_mute : (merge : Operator) (world : World) (entry : Entry) → IsMute (stood entry.answer) entry.event → named_specs entry.event ≡ [] → job_drawn_in entry.event ≡ [] → table_drawn_in entry.event ≡ []
     → table_put_in (stood entry.answer) entry.event ≡ [] → AllByRecursion (IsUpTo world.store.history (stored_jobs world.store)) (planned_attempts entry.event)
     → Keeps merge world → Keeps merge (world_after world (record world.store { history = world.store.history ++ entry ∷ [] }))
@@ -97,6 +100,7 @@ keeps_mute merge world entry mute unnamed no_job no_table no_put planned k =
 
 -- ---- gets and notes
 
+-- A claimed attempt is at a job that a put named, and is no later than the stored attempt of the job.
 pub claimed_up_to : (merge : Operator) (world : World) (specs : ℕ → JobSpec) → Body merge world specs → (worker job attempt : ℕ) → IsTrue (was_claimed world.store.history worker job attempt) → IsUpTo world.store.history (stored_jobs world.store) (job, attempt)
 claimed_up_to merge world specs b worker job attempt h = at (any_element (λ (e : Entry). is_claim_of worker job attempt e.event && stood e.answer) world.store.history h)
   where
@@ -127,6 +131,7 @@ claimed_up_to merge world specs b worker job attempt h = at (any_element (λ (e 
     at : Passes (λ (e : Entry). is_claim_of worker job attempt e.event && stood e.answer) world.store.history → IsUpTo world.store.history (stored_jobs world.store) (job, attempt)
     at found = claim found.element.event (stood found.element.answer) found.passes (all_at _ world.store.history found.element b.up_to found.there)
 
+-- The entry of a get or of a lawful note keeps the invariant, whatever its answer is.
 plain_entry : (merge : Operator) (event : Event) (line : ℕ) (party : Party) (answer : Answer) (world : World) → Keeps merge world → PlainFits party world.store event
     → Keeps merge (world_after world (with_entry line party event answer world.store))
 plain_entry merge GetManifest line party answer world k fits = keeps_mute merge world (record { line = line; party = party; event = GetManifest; answer = answer }) (mute_event (stood answer) GetManifest refl) refl refl refl (table_none (stood answer) GetManifest refl) tt k

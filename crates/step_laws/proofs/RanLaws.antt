@@ -57,6 +57,7 @@ ran_alone who (Calls x next) old new waits left end alone (met, (rivals, inr (ro
 pub ran_laws : {A : Type 0} → RanLaws A
 ran_laws = record { are_runs = ran_runs; alone = ran_alone }
 
+-- For each kind of step, a run with the fault that waits is a run, and gives a lone caller what the course gives alone.
 pub steps_ran : StepsRan
 steps_ran = record {
   starts = ran_laws;

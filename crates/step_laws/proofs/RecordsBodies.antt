@@ -46,6 +46,7 @@ version_plain : (version : ℕ) (records : Option Records) → version ≡ recor
 version_plain version None same = ap (λ v. v + 1) same
 version_plain version (Some records) same = ap (λ v. v + 1) same
 
+-- The epoch after a change is the same for the records and for their plain form.
 epoch_plain : (change : RecordChange) (records : Option Records) → epoch_after change records ≡ epoch_after change (option_map plain_records records)
 epoch_plain (RecordsEpoch epoch) records = refl
 epoch_plain (Submit specs) None = refl
@@ -95,6 +96,7 @@ pub record RecordsFollow (merge : Operator) (world : World) (specs : ℕ → Job
 
 -- ---- faithful specs
 
+-- Specs stay faithful after a put of records that follow the stored ones.
 faithful_with_records : (merge : Operator) (world : World) (specs : ℕ → JobSpec) (records : Records) (entry : Entry) → Body merge world specs → RecordsFollow merge world specs records entry → Faithful (with_records world records entry) specs
 faithful_with_records merge world specs records entry b f = record {
   agrees = all_push _ world.store.history entry b.faithful.agrees f.agrees;
@@ -136,6 +138,7 @@ fits_with_records merge store specs records job h = record {
 
 -- ---- the whole
 
+-- `Body` holds after a put of records that takes effect, if the records follow the stored ones.
 pub body_with_records : (merge : Operator) (world : World) (specs : ℕ → JobSpec) (records : Records) (line : ℕ) (party : Party) (change : RecordChange) (answer : Answer) → stood answer ≡ true
     → RecordsFollow merge world specs records (record { line = line; party = party; event = PutRecords change; answer = answer }) → Body merge world specs
     → Body merge (with_records world records (record { line = line; party = party; event = PutRecords change; answer = answer })) specs

@@ -47,6 +47,7 @@ quiet_epoch : (took : Bool) (epoch job : ℕ) → IsQuietFor took (PutRecords (R
 quiet_epoch true epoch job = record { beats = refl; beaten = refl; joins = refl }
 quiet_epoch false epoch job = record { beats = refl; beaten = refl; joins = refl }
 
+-- A lawful put of an epoch into the records that takes effect keeps the invariant.
 pub records_epochs_keep : (merge : Operator) (epoch : ℕ) → StandingPutKeeps merge (RecordsEpoch epoch)
 records_epochs_keep merge put line party answer world epoch jobs took k names fits =
     let entry : Entry = record { line = line; party = party; event = PutRecords (RecordsEpoch put); answer = answer } in

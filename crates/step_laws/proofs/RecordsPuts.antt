@@ -28,6 +28,7 @@ world_put world line party change answer version epoch jobs same =
 differs : (n m : ℕ) → (n == m) ≡ false → n ≡ m → ⊥
 differs n m e same = absurd (cc (e, (Decides-eqb n m).1 same))
 
+-- All lawful puts of a change of the records keep the invariant, if those that take effect do.
 pub records_put_keeps : (merge : Operator) (change : RecordChange) → StandingPutKeeps merge change → RecordsPutKeeps merge change
 records_put_keeps merge change stands version epoch jobs line party None world k lawful may = by (version == records_version world.store.records) refl
   where

@@ -35,6 +35,7 @@ kept_epoch worker attempts (Some records) = refl
 all_live : (world : World) (worker : ℕ) (attempts : List (ℕ × ℕ)) → AllByRecursion (λ a. IsStoredAs world a.0 (IsLiveAt worker a.1)) attempts → AllByRecursion (λ a. IsStoredAs world a.0 (λ job. IsTrue (is_open job.status))) attempts
 all_live world worker attempts each = all_to _ _ attempts (λ a there live. stored_to world (IsLiveAt worker a.1) (λ job. IsTrue (is_open job.status)) a.0 (λ job one. live_open worker a.1 job one) live) each
 
+-- A lawful release of attempts that takes effect keeps the invariant.
 pub releases_keep : (merge : Operator) (worker : ℕ) (attempts : List (ℕ × ℕ)) → StandingPutKeeps merge (Release worker attempts)
 releases_keep merge worker attempts line party answer world epoch jobs took k names fits =
     let entry : Entry = record { line = line; party = party; event = PutRecords (Release worker attempts); answer = answer } in

@@ -21,6 +21,7 @@ use Rattle.step_laws.proofs.Alike.{SameReplays, replays_alike, settings_same}
 use Rattle.step_laws.proofs.Bodies.{JobFits, JobKept, Body}
 use Rattle.step_laws.proofs.MuteBodies.{if_some_to}
 
+-- What the invariant says of a job by some specs it says by others with the same replays and the same spec of the job.
 fits_by : (merge : Operator) (store : Store) (one other : ℕ → JobSpec) (job : Job) → SameReplays store.tables one store.tables other store.history (plain_objects fresh_store) (plain_objects fresh_store) → one job.id ≡ other job.id
     → JobFits merge store one job → JobFits merge store other job
 fits_by merge store one other job same spec h = record {
@@ -49,6 +50,7 @@ fits_by merge store one other job same spec h = record {
       rows = fits.rows;
     }
 
+-- If `Body` holds by some specs, it holds by all faithful ones.
 pub body_by : (merge : Operator) (world : World) (one other : ℕ → JobSpec) → Body merge world one → Faithful world other → Body merge world other
 body_by merge world one other b f =
     let same = replays_alike world one other b.faithful f in
@@ -96,6 +98,7 @@ named_agree named specs once = all_from _ named (λ p there. ap (spec_or (specs 
 
 -- ---- draws that parties made
 
+-- An id that a party drew for a job is among the ids drawn for jobs.
 drawn_by : (party : Party) (history : List Entry) (id : ℕ) → IsTrue (drew_job party history id) → IsIn id (drawn_jobs history)
 drawn_by party history id h = at history (any_element (λ (e : Entry). party_eq party e.party && is_draw_of id e.event) history h)
   where

@@ -44,6 +44,7 @@ runs_keep who (Calls x next) keep old new end kept lawful (met, (rivals, inr (ro
 keep_all : {A : Type 0} → CoursesKeep A
 keep_all who course keep old new end kept lawful run = runs_keep who course keep old new end kept lawful run
 
+-- If every lawful call keeps the invariant, so do calls of others and the runs of lawful courses.
 pub lawful_runs_keep : LawfulRunsKeep
 lawful_runs_keep = record {
   rivals = λ who old new keep kept rivals. rivals_keep who old new keep kept rivals;

@@ -90,6 +90,7 @@ pub record NodePut (tables : Tables) (node : Node) : Type 0 where
   pub pieces : IsTrue (list_all (is_among tables) node.pieces)
   pub flushes : IsTrue (list_all (is_among tables) node.flushes)
 
+-- A segment whose tables and flushes were put stays in order as another table is put.
 pub tree_stays : (tables : Tables) (new : ℕ × List Row) (s : Segment) → AllByRecursion (NodePut tables) s.tree → IsTree tables s → IsTree (tables ++ new ∷ []) s
 tree_stays tables new s put h = record {
   names_in_order = h.names_in_order;
@@ -138,6 +139,7 @@ all_parts_put tables xs ys put =
     let all = all_true_front (is_among tables) (xs ++ ys) put in
     (all_true_from (is_among tables) xs (all_front _ xs ys all), all_true_from (is_among tables) ys (all_back _ xs ys all))
 
+-- What the invariant says of a job holds after another table is put.
 fits_with_table : (merge : Operator) (world : World) (new : ℕ × List Row) (specs : ℕ → JobSpec) (job : Job) → PutsKept world.store.history world.store.tables → JobFits merge world.store specs job → JobFits merge (with_table world new).store specs job
 fits_with_table merge world new specs job puts h = record {
   sources = h.sources;
@@ -206,6 +208,7 @@ put_nodes merge world specs b = all_from _ world.store.manifest.trees (λ s ther
   flushes = all_at _ s.tree node (all_at _ world.store.manifest.trees s b.flushes there) one;
 }))
 
+-- `Body` holds after a table is put under an id that no table has.
 pub body_with_table : (merge : Operator) (world : World) (specs : ℕ → JobSpec) (new : ℕ × List Row) → IsTable new.1 → is_among world.store.tables new.0 ≡ false → PutsKept world.store.history world.store.tables
     → Body merge world specs → Body merge (with_table world new) specs
 body_with_table merge world specs new table unused puts b = record {

@@ -76,6 +76,7 @@ known_id party history entry id rows is (inr flush) =
 
 -- ---- facts on puts
 
+-- The facts on puts hold after the put of a table under an id that the party may name and that no table has.
 puts_with : (party : Party) (history : List Entry) (tables : Tables) (entry : Entry) (table : ℕ) (rows : List Row) → entry.event ≡ PutTable table (length rows) → stood entry.answer ≡ true → IsMute (stood entry.answer) entry.event
     → MayName party history table → is_among tables table ≡ false → PutsKept history tables → PutsKept (history ++ entry ∷ []) (tables ++ (table, rows) ∷ [])
 puts_with party history tables entry table rows is took mute named unused h =
@@ -98,6 +99,7 @@ puts_with party history tables entry table rows is took mute named unused h =
 
 -- ---- the law
 
+-- A lawful put of a table that takes effect keeps the invariant.
 put_by : (merge : Operator) (table : ℕ) (rows : List Row) (line : ℕ) (party : Party) (answer : Answer) (world : World) → stood answer ≡ true → Keeps merge world → TableFits party world.store table rows
     → Keeps merge (entered (with_table world (table, rows)) world.store.deleted world.store.jobs_drawn world.store.tables_drawn (record { line = line; party = party; event = PutTable table (length rows); answer = answer }))
 put_by merge table rows line party answer world took k fits =

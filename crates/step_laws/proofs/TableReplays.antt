@@ -139,6 +139,7 @@ pub all_with_new : (P : Job → Type 0) (named : List (ℕ × JobSpec)) (jobs : 
 all_with_new P [] jobs new h = h
 all_with_new P (p ∷ named) jobs new h = all_with_new P named (put_job (new_job p) jobs) new.1 (put_job_all P (new_job p) jobs new.0 h)
 
+-- All outputs of jobs have a property after a change, if they had it before and the tables that it brings have it.
 outputs_after : (P : ℕ → Type 0) (u : Unrecorded) (change : RecordChange) (jobs : Jobs) → AllByRecursion P (tables_brought_in true (PutRecords change)) → OutputsAll P jobs → OutputsAll P (after_change u change jobs)
 outputs_after P u (RecordsEpoch epoch) jobs new h = h
 outputs_after P u (Submit specs) jobs new h = all_with_new (HasOutputs P) specs jobs (all_from _ specs (λ p there. tt)) h
@@ -228,6 +229,7 @@ steps_same tables new jobs put (step ∷ steps) trees h =
     ap (stepped_all (tables ++ new ∷ []) jobs steps) (step_same tables new step (jobs (job_of step)).0 (jobs (job_of step)).1 trees h)
     ∙ steps_same tables new jobs put steps _ (step_all (IsPut tables) tables step (jobs (job_of step)).0 (jobs (job_of step)).1 trees (put (job_of step)) h)
 
+-- One more table does not alter what an event makes of objects, if all tables that these name and it brings were put.
 event_same : (tables : Tables) (new : ℕ × List Row) (specs : ℕ → JobSpec) (took : Bool) (event : Event) (o : Objects) → AllByRecursion (IsPut tables) (tables_brought_in took event) → ObjectsAll (IsPut tables) o
     → cond took (after_event (tables ++ new ∷ []) specs event o) o ≡ cond took (after_event tables specs event o) o
 event_same tables new specs false event o put h = refl

@@ -30,6 +30,7 @@ use Rattle.step_laws.proofs.Quiet.{world_entered, draws_mute, puts_mute, keeps_m
 pub named_drawn : (party : Party) (world : World) (named : List (ℕ × JobSpec)) → NamesFit party world named → AllByRecursion (λ p. IsTrue (contains (drawn_jobs world.store.history) p.0)) named
 named_drawn party world named fits = all_to _ _ named (λ p there drew. drew_drawn party world.store.history p.0 drew) fits.drawn
 
+-- A put of the records that does not take effect keeps the invariant, if its jobs are fit to be named.
 vain_records : (merge : Operator) (world : World) (line : ℕ) (party : Party) (change : RecordChange) (answer : Answer) → stood answer ≡ false → NamesFit party world (named_specs (PutRecords change)) → Keeps merge world
     → Keeps merge (world_after world (with_entry line party (PutRecords change) answer world.store))
 vain_records merge world line party change answer not_stood fits k =
@@ -53,6 +54,7 @@ vain_manifest merge world line party change answer not_stood k =
 
 -- ---- lost
 
+-- A lawful call that a fault strikes and that is lost keeps the invariant.
 lost : (merge : Operator) (x : Exchange) (line : ℕ) (party : Party) (world : World) → Keeps merge world → Lawful merge party world x → MayStrike x world (Some false) → Keeps merge (after_call line party x (Some false) world)
 lost merge (Plain event) line party world k lawful may = (looks_keep merge).plain event line party (Some false) world k lawful may
 lost merge (DrawsJob moment) line party world k lawful may = absurd (cc may)
@@ -75,6 +77,7 @@ other_version n m other = by (n == m) refl
     by true e = absurd (other ((Decides-eqb n m).0 e))
     by false e = refl
 
+-- A put of the manifest for a version that is not stored keeps the invariant.
 refused : (merge : Operator) (line : ℕ) (party : Party) (strike : Strike) (world : World) (version : ℕ) (change : ManifestChange) (value : Manifest) → Keeps merge world → (version ≡ world.store.manifest.version → ⊥)
     → Keeps merge (after_call line party (PutsManifest version change value) strike world)
 refused merge line party None world version change value k other = by (version == world.store.manifest.version) (other_version version world.store.manifest.version other)
@@ -90,6 +93,7 @@ refused merge line party (Some true) world version change value k other = by (ve
     by false e = vain_manifest merge world line party change Lost refl k
 refused merge line party (Some false) world version change value k other = vain_manifest merge world line party change Lost refl k
 
+-- A lawful put of the records for a version that is not stored keeps the invariant.
 records_refused : (merge : Operator) (line : ℕ) (party : Party) (strike : Strike) (world : World) (version : ℕ) (change : RecordChange) (epoch : ℕ) (jobs : Jobs) → Keeps merge world
     → Lawful merge party world (PutsRecords version change epoch jobs) → (version ≡ records_version world.store.records → ⊥) → Keeps merge (after_call line party (PutsRecords version change epoch jobs) strike world)
 records_refused merge line party None world version change epoch jobs k lawful other = by (version == records_version world.store.records) (other_version version (records_version world.store.records) other)

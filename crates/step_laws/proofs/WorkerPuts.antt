@@ -133,6 +133,7 @@ pub record IsMade (world : World) (u : Unrecorded) (f : Job → Job) (these : Li
   pub tables : SameTables u (tables_now world.store.manifest.trees) change (stored_jobs world.store)
   pub epoch : epoch_after change world.store.records ≡ records_epoch world.store.records
 
+-- A worker's change of the records that takes effect keeps the invariant, if each changed job is kept.
 keeps_worker : (merge : Operator) (world : World) (u : Unrecorded) (f : Job → Job) (these : List ℕ) (change : RecordChange) (line : ℕ) (party : Party) (answer : Answer) → stood answer ≡ true → (k : Keeps merge world) → IsMade world u f these change
     → WorkerPut merge world k.stored.replay.specs f these change (record { line = line; party = party; event = PutRecords change; answer = answer })
     → Keeps merge (with_records world (worker_records world f these) (record { line = line; party = party; event = PutRecords change; answer = answer }))

@@ -27,6 +27,7 @@ get_stays tables specs worker (entry ∷ history) later o p e = by (is_worker wo
 abbrev and_later : List Entry → ClaimCut → ClaimCut
 and_later later cut = record cut { since = cut.since ++ later }
 
+-- A longer history is cut at the claim of an attempt where the shorter one was, with the new entries after the cut.
 cut_stays : (job attempt : ℕ) (history later : List Entry) (cut : ClaimCut) → cut_at_claim job attempt history ≡ Some cut → cut_at_claim job attempt (history ++ later) ≡ Some (and_later later cut)
 cut_stays job attempt [] later cut e = absurd (cc e)
 cut_stays job attempt (entry ∷ history) later cut e = by (claimed_in job attempt entry) (λ found is. cut_stays job attempt history later found is) e
