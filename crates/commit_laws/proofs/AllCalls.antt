@@ -10,6 +10,7 @@ use Rattle.step_laws.proofs.Runs.{rivals_keep, runs_keep}
 use Rattle.commit_laws.specs.RunLaws.{LawfulCoursesKeep, CoursesKeep}
 use Rattle.commit_laws.proofs.Commits.{commits_keep}
 
+-- Under a lawful operator every lawful call keeps the invariant.
 call_keeps : (merge : Operator) → IsLawful merge → (x : Exchange) → CallKeeps merge x
 call_keeps merge lawful (Plain event) = other_calls_keep merge (Plain event) refl
 call_keeps merge lawful (DrawsJob moment) = other_calls_keep merge (DrawsJob moment) refl
@@ -28,6 +29,7 @@ calls_keep merge lawful x = call_keeps merge lawful x
 all_keep : {A : Type 0} → LawfulCoursesKeep A
 all_keep who course lawful old new end kept is_lawful run = runs_keep who course (calls_keep who.merge lawful) old new end kept is_lawful run
 
+-- Under a lawful operator calls of others and the runs of lawful courses keep the invariant.
 pub courses_keep : CoursesKeep
 courses_keep = record {
   rivals = λ who old new lawful kept rivals. rivals_keep who old new (calls_keep who.merge lawful) kept rivals;

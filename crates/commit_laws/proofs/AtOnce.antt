@@ -150,6 +150,7 @@ moved_old : {merge : Operator} {world : World} {specs : ℕ → JobSpec} {trees 
 moved_old n t there = all_at (λ u. IsIn u (tree_tables n.a.s)) (moved n) t
     (moved_all n (λ u. IsIn u (tree_tables n.a.s)) (all_from _ n.a.s.tree (λ node one. all_from _ node.pieces (λ u held. in_flat (λ (x : Node). x.pieces) n.a.s.tree node u one held)))) there
 
+-- A move that fits makes a run of held and known tables that are in no other tree, and its rows fit in its place.
 pub move_tables : {merge : Operator} {world : World} {specs : ℕ → JobSpec} {trees : Trees} {horizon : ℕ} {joined : List ℕ} {spec : JobSpec} {id run : ℕ} (n : NewMove merge world specs trees horizon joined spec id run)
     → PiecesMay merge (with_horizon world.store horizon) world.store.history trees spec run (moved n) (move_change world spec id []) (run_of_move n [])
 move_tables {merge} {world} {specs} {trees} {horizon} {joined} {spec} {id} {run} n = record {
@@ -187,6 +188,7 @@ moved_some {merge} {world} {specs} {trees} {horizon} {joined} {spec} n e =
     at [] some e = absurd (cc some)
     at (t ∷ ts) some e = put_some world.store.tables t (by_first_key world.store.tables ts) e
 
+-- A move that fits and whose run has its place keeps what is kept in the midst of a commit.
 new_move_keeps : {merge : Operator} {world : World} {specs : ℕ → JobSpec} {trees : Trees} {horizon : ℕ} {joined : List ℕ} {spec : JobSpec} {id run : ℕ} → NewMove merge world specs trees horizon joined spec id run
     → Midway merge world (stepped_in world.store.tables (Move id) spec [] trees) horizon joined
 new_move_keeps {merge} {world} {specs} {trees} {horizon} {joined} {spec} {id} {run} n = record {
@@ -245,6 +247,7 @@ move_keeps merge world specs trees horizon joined spec id outputs b fits m = new
 
 -- ---- drains
 
+-- A drain that fits keeps what is kept in the midst of a commit.
 pub drain_keeps : (merge : Operator) (world : World) (specs : ℕ → JobSpec) (trees : Trees) (horizon : ℕ) (joined : List ℕ) (spec : JobSpec) (id : ℕ) (outputs : List ℕ) → Body merge world specs → DrainFits world trees joined spec id → Midway merge world trees horizon joined
     → Midway merge world (stepped_in world.store.tables (Drain id) spec outputs trees) horizon joined
 drain_keeps merge world specs trees horizon joined spec id outputs b fits m = by (segment_at spec.segment trees) refl (gated trees (holding world.store.history joined (stored_jobs world.store)) spec id fits.at_once.gate).segment

@@ -53,6 +53,7 @@ pub record CommitCase (merge : Operator) (world : World) (specs own : ℕ → Jo
 
 -- ---- which joins stood
 
+-- Some element of a list with one added at its end passes a test exactly if one of the list or the added one does.
 any_push : {A : Type 0} (p : A → Bool) (xs : List A) (x : A) → list_any p (xs ++ x ∷ []) ≡ (list_any p xs || p x)
 any_push p [] x = by (p x)
   where
@@ -65,6 +66,7 @@ any_push p (y ∷ xs) x = ap (λ b. p y || b) (any_push p xs x) ∙ by (p y) (li
     by true b c = refl
     by false b c = refl
 
+-- A job is done after the steps of a commit that takes effect exactly if it is joined in the history with the commit.
 pub done_same : (world : World) (line : ℕ) (party : Party) (steps : List Step) (answer : Answer) (job : Job) → stood answer ≡ true
     → is_done world.store.history (joined_by steps []) job ≡ was_joined (world.store.history ++ entry_of line party steps answer ∷ []) job.id
 done_same world line party steps answer job took =
@@ -107,6 +109,7 @@ done_late merge world specs own party steps c job there kept done = by (or_split
 
 -- ---- one job
 
+-- What is kept of a stored job is kept after a commit that takes effect.
 pub job_kept : (merge : Operator) (world : World) (specs own : ℕ → JobSpec) (line : ℕ) (party : Party) (steps : List Step) (answer : Answer) → stood answer ≡ true → (c : CommitCase merge world specs own party steps) (job : Job) → IsIn job (stored_jobs world.store)
     → JobKept merge world specs job → JobKept merge (with_manifest world (manifest_of world own steps) (entry_of line party steps answer)) specs job
 job_kept merge world specs own line party steps answer took c job there kept = record {

@@ -46,6 +46,7 @@ use Rattle.commit_laws.proofs.CommitJobs.{entry_of, trees_of, horizon_of, manife
 refused : (xs : List ℕ) (t : ℕ) → contains xs t ≡ false → IsIn t xs → ⊥
 refused xs t e there = never_both (contains xs t) (in_contains xs t there) e
 
+-- The stored trees have what is kept in the midst of a commit, before its first step.
 pub start : (merge : Operator) (world : World) (specs : ℕ → JobSpec) → Body merge world specs → Midway merge world world.store.manifest.trees world.store.manifest.horizon []
 start merge world specs b = record {
   kept = record {
@@ -88,6 +89,7 @@ objects_after merge world specs own line party steps answer took c =
     both : (a b : JobSpec) → (xs ys : List ℕ) → a ≡ b → xs ≡ ys → ◌≡◌ {A = JobSpec × List ℕ} (a, xs) (b, ys)
     both a b xs ys e f = λ i. (e i, f i)
 
+-- Specs by which a commit is replayed stay faithful after it takes effect.
 pub faithful_after : (merge : Operator) (world : World) (specs own : ℕ → JobSpec) (line : ℕ) (party : Party) (steps : List Step) (answer : Answer) → stood answer ≡ true → CommitCase merge world specs own party steps
     → Faithful (with_manifest world (manifest_of world own steps) (entry_of line party steps answer)) specs
 faithful_after merge world specs own line party steps answer took c = record {
@@ -140,6 +142,7 @@ never_less : (t : ℤ) → int_le t t ≡ true
 never_less (pos n) = le-leb n n (omega arith)
 never_less (negsuc n) = le-leb n n (omega arith)
 
+-- `Body` holds after a commit that takes effect.
 commit_body : (merge : Operator) (world : World) (specs own : ℕ → JobSpec) (line : ℕ) (party : Party) (steps : List Step) (answer : Answer) → stood answer ≡ true → CommitCase merge world specs own party steps
     → Body merge (with_manifest world (manifest_of world own steps) (entry_of line party steps answer)) specs
 commit_body merge world specs own line party steps answer took c =
@@ -207,6 +210,7 @@ case_of merge world own party steps lawful k known fits =
       midway = steps_keep merge world party specs own world.store.manifest.trees world.store.manifest.horizon [] steps lawful b known fits (start merge world specs b);
     }
 
+-- A commit that takes effect keeps the invariant under a lawful operator, if its steps fit by specs that are known.
 commit_by : (merge : Operator) (world : World) (own : ℕ → JobSpec) (line : ℕ) (party : Party) (steps : List Step) (answer : Answer) → IsLawful merge → stood answer ≡ true → (k : Keeps merge world) → AllByRecursion (λ step. IsKnownTo party world own (job_of step)) steps
     → StepsFit world own world.store.manifest.trees [] steps → Keeps merge (with_manifest world (manifest_of world own steps) (entry_of line party steps answer))
 commit_by merge world own line party steps answer lawful took k known fits =

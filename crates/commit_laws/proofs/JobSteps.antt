@@ -64,6 +64,7 @@ pub data Where (trees others : Trees) (p : List ℕ) (change : Tree → Tree) (s
   Here : tree_at p trees ≡ s.tree → tree_at p others ≡ change s.tree → Where trees others p change s
   Elsewhere : tree_at p others ≡ tree_at p trees → Where trees others p change s
 
+-- After a change of one segment, the tree at a prefix is the changed one or is as it was.
 pub where_on : (p prefix : List ℕ) (sources : List NodeName) (change : Tree → Tree) (trees : Trees) (s : Segment) → Rising trees → IsIn s trees → prefix ≡ s.prefix → Where trees (map (on_segment prefix sources change) trees) p change s
 where_on p prefix sources change trees s rise there same = by (bytes_eq prefix p) refl
   where
@@ -138,6 +139,7 @@ runs_of_new {trees} {spec} {id} {pieces} {change} c r there =
         run_same e = cc e
     by node name (inr one) = inl (in_runs (names c.s.tree) r (subst (λ n. IsIn n (names c.s.tree)) name (node_in_names c.s.tree node (subst (IsIn node) (sym c.whole) one))))
 
+-- Each id of a run in the trees after a step is that of the step's run or was there before.
 pub new_run_ids : {trees : Trees} {spec : JobSpec} {id : ℕ} {pieces : List ℕ} {change : Tree → Tree} (c : RunAt trees spec id pieces change) (r : ℕ) → Rising trees → IsIn r (all_run_ids (map (on_segment spec.segment spec.sources change) trees))
     → IsIn r (all_run_ids trees) ⊎ (r ≡ id)
 new_run_ids {trees} {spec} {id} {pieces} {change} c r rise there = by (in_trees_on (λ (s : Segment). run_ids (names s.tree)) r trees spec.segment spec.sources change c.s rise c.there c.same there)
@@ -150,6 +152,7 @@ new_run_ids {trees} {spec} {id} {pieces} {change} c r rise there = by (in_trees_
     by (inl one) = inl one
     by (inr new) = from_old (runs_of_new c r new)
 
+-- The destination of a job whose sources stood fits after a step puts a run, if the job touches no node of the step.
 destination_beside : {trees : Trees} {spec : JobSpec} {id : ℕ} {pieces : List ℕ} {change : Tree → Tree} (c : RunAt trees spec id pieces change) (job : Job) → Rising trees → IsAway spec job → SourcesStand trees job
     → Where trees (map (on_segment spec.segment spec.sources change) trees) job.spec.segment change c.s
     → DestinationFits (map (on_segment spec.segment spec.sources change) trees) (tree_at job.spec.segment (map (on_segment spec.segment spec.sources change) trees)) job.spec.sources job.spec.destination
@@ -193,6 +196,7 @@ destination_beside {trees} {spec} {id} {pieces} {change} c job rise away h place
         by (Here here after) = subst (λ tree. IsIn r (run_ids (names tree))) (sym here) (old here (runs_of_new c r (subst (λ tree. IsIn r (run_ids (names tree))) after there)))
         by (Elsewhere e) = subst (λ tree. IsIn r (run_ids (names tree))) e there
 
+-- The sources of a job still stand after a step puts a run, if the job touches no node of the step.
 pub stand_on_run : {trees : Trees} {spec : JobSpec} {id : ℕ} {pieces : List ℕ} {change : Tree → Tree} (c : RunAt trees spec id pieces change) (job : Job) → Rising trees → IsAway spec job → SourcesStand trees job
     → SourcesStand (map (on_segment spec.segment spec.sources change) trees) job
 stand_on_run {trees} {spec} {id} {pieces} {change} c job rise away h = by (where_on job.spec.segment spec.segment spec.sources change trees c.s rise c.there c.same)
@@ -238,6 +242,7 @@ runs_left out tree r there =
     let found = node_of (without_nodes out tree) (Run r) (run_in (names (without_nodes out tree)) r there) in
     in_runs (names tree) r (subst (λ n. IsIn n (names tree)) found.same (node_in_names tree found.node (in_filtered (λ (node : Node). not (names_contain out node.name)) tree found.node found.there)))
 
+-- The destination of a job whose sources stood still fits after a step takes nodes out of a tree.
 destination_out : {trees : Trees} {spec : JobSpec} (c : OutAt trees spec) (job : Job) → Rising trees → SourcesStand trees job → Where trees (map (on_segment spec.segment spec.sources (without_nodes spec.sources)) trees) job.spec.segment (without_nodes spec.sources) c.s
     → DestinationFits (map (on_segment spec.segment spec.sources (without_nodes spec.sources)) trees) (tree_at job.spec.segment (map (on_segment spec.segment spec.sources (without_nodes spec.sources)) trees)) job.spec.sources job.spec.destination
 destination_out {trees} {spec} c job rise h place =
@@ -260,6 +265,7 @@ destination_out {trees} {spec} c job rise h place =
         by (Here here after) = subst (λ tree. IsIn r (run_ids (names tree))) (sym here) (runs_left spec.sources c.s.tree r (subst (λ tree. IsIn r (run_ids (names tree))) after there))
         by (Elsewhere e) = subst (λ tree. IsIn r (run_ids (names tree))) e there
 
+-- The sources of a job still stand after a step takes nodes out of a tree, if the job touches no node of the step.
 pub stand_on_out : {trees : Trees} {spec : JobSpec} (c : OutAt trees spec) (job : Job) → Rising trees → IsAway spec job → SourcesStand trees job → SourcesStand (map (on_segment spec.segment spec.sources (without_nodes spec.sources)) trees) job
 stand_on_out {trees} {spec} c job rise away h = by (where_on job.spec.segment spec.segment spec.sources (without_nodes spec.sources) trees c.s rise c.there c.same)
   where

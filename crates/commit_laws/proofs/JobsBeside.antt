@@ -41,6 +41,7 @@ table_of_new {trees} {spec} {id} {pieces} {change} c t there =
     by node held (inl run) = inr (subst (λ (n : Node). IsIn t n.pieces) (sym run) held)
     by node held (inr one) = inl (in_flat (λ (n : Node). n.pieces) c.s.tree node t (subst (IsIn node) (sym c.whole) one) held)
 
+-- Each table in the trees after a step puts a run is one of the run's or was there before.
 pub table_on_run : {trees : Trees} {spec : JobSpec} {id : ℕ} {pieces : List ℕ} {change : Tree → Tree} (c : RunAt trees spec id pieces change) (t : ℕ) → Rising trees → IsIn t (flat_map tree_tables (map (on_segment spec.segment spec.sources change) trees))
     → IsIn t (flat_map tree_tables trees) ⊎ IsIn t pieces
 table_on_run {trees} {spec} {id} {pieces} {change} c t rise there = by (in_trees_on tree_tables t trees spec.segment spec.sources change c.s rise c.there c.same there)
@@ -53,6 +54,7 @@ table_on_run {trees} {spec} {id} {pieces} {change} c t rise there = by (in_trees
     by (inl one) = inl one
     by (inr one) = from_new (table_of_new c t one)
 
+-- What is kept of a job in the midst of a commit is kept after a step puts a run beside the job.
 pub holds_on_run : (world : World) (trees : Trees) (joined : List ℕ) (job : Job) (spec : JobSpec) (id : ℕ) (pieces : List ℕ) (change : Tree → Tree) (c : RunAt trees spec id pieces change) → Rising trees → BesideRun world trees joined job spec id pieces change c
     → JobHolds world trees joined job → JobHolds world (map (on_segment spec.segment spec.sources change) trees) joined job
 holds_on_run world trees joined job spec id pieces change c rise b h = record {

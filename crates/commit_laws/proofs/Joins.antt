@@ -136,6 +136,7 @@ not_was b e (inr h) = h
 pub undone_of : (world : World) (joined : List ℕ) (job : Job) → contains joined job.id ≡ false → was_joined world.store.history job.id ≡ false → is_done world.store.history joined job ≡ false
 undone_of world joined job e f = ap (λ b. b || was_joined world.store.history job.id) e ∙ f
 
+-- The outputs of a new join are all rows that the job's settings make of its sources, with a cut up to the new horizon.
 join_makes : {merge : Operator} {world : World} {specs : ℕ → JobSpec} {trees : Trees} {horizon : ℕ} {joined : List ℕ} {job : Job} {id : ℕ} (n : NewJoin merge world specs trees horizon joined job id) (f : OutputsFit merge world.store specs job)
     → JoinMakes merge (with_horizon world.store (high world job horizon)) (before_these true n.a.older) (n.a.t ∷ n.a.ts) (concat job.outputs) f.settings
 join_makes {merge} {world} {specs} {trees} {horizon} {joined} {job} {id} n f = record {
@@ -167,6 +168,7 @@ outputs_unused {merge} {world} {specs} {trees} {horizon} {joined} {job} {id} n t
     both true false h e = refl
     both false b h e = absurd (cc h)
 
+-- A new join makes a run of held and known tables that are in no other tree, and its rows fit in its place.
 join_pieces : {merge : Operator} {world : World} {specs : ℕ → JobSpec} {trees : Trees} {horizon : ℕ} {joined : List ℕ} {job : Job} {id : ℕ} (n : NewJoin merge world specs trees horizon joined job id) → IsLawful merge
     → PiecesMay merge (with_horizon world.store (high world job horizon)) world.store.history trees job.spec id (concat job.outputs) (join_change world job) (run_of_join n)
 join_pieces {merge} {world} {specs} {trees} {horizon} {joined} {job} {id} n lawful =
@@ -204,6 +206,7 @@ were_pieces {merge} {world} {specs} {trees} {horizon} {joined} {job} {id} n t th
     (in_contains (flat_map tree_tables world.store.manifest.trees) u (in_flat tree_tables world.store.manifest.trees s u one (in_flat (λ (x : Node). x.pieces) s.tree node u other held)))))))))
     (subst (IsIn t) (sym n.stood.source_tables) there)
 
+-- A new join replaces tables that nodes held by outputs that no node ever held.
 own_join : {merge : Operator} {world : World} {specs : ℕ → JobSpec} {trees : Trees} {horizon : ℕ} {joined : List ℕ} {job : Job} {id : ℕ} (n : NewJoin merge world specs trees horizon joined job id)
     → OwnJoin world.store.tables world.store.history world.past trees job id (join_change world job)
 own_join {merge} {world} {specs} {trees} {horizon} {joined} {job} {id} n = record {
@@ -237,6 +240,7 @@ own_join {merge} {world} {specs} {trees} {horizon} {joined} {job} {id} n = recor
 
 -- ---- the other jobs
 
+-- Each other stored job is beside a new join: it touches no node and names no table of the join unless it was joined.
 beside_join : {merge : Operator} {world : World} {specs : ℕ → JobSpec} {trees : Trees} {horizon : ℕ} {joined : List ℕ} {job : Job} {id : ℕ} (n : NewJoin merge world specs trees horizon joined job id) (other : Job) → IsIn other (stored_jobs world.store) → (job.id ≡ other.id → ⊥)
     → BesideRun world trees joined other job.spec id (concat job.outputs) (join_change world job) (run_of_join n)
 beside_join {merge} {world} {specs} {trees} {horizon} {joined} {job} {id} n other there differs = record {
@@ -259,6 +263,7 @@ beside_join {merge} {world} {specs} {trees} {horizon} {joined} {job} {id} n othe
 
 -- ---- the join
 
+-- A new join keeps what is kept in the midst of a commit under a lawful operator, at the horizon after the join.
 new_join_keeps : {merge : Operator} {world : World} {specs : ℕ → JobSpec} {trees : Trees} {horizon : ℕ} {joined : List ℕ} {job : Job} {id : ℕ} → NewJoin merge world specs trees horizon joined job id → IsLawful merge
     → Midway merge world (stepped_in world.store.tables (Join job.id) job.spec (concat job.outputs) trees) (high world job horizon) (job.id ∷ joined)
 new_join_keeps {merge} {world} {specs} {trees} {horizon} {joined} {job} {id} n lawful = record {
@@ -284,6 +289,7 @@ new_join_keeps {merge} {world} {specs} {trees} {horizon} {joined} {job} {id} n l
 
 -- ---- a join that a commit may take
 
+-- A Compacted job that was never joined has a place for its run, if its sources stand and its destination fits.
 pub new_join : {merge : Operator} {world : World} {specs : ℕ → JobSpec} {trees : Trees} {horizon : ℕ} {joined : List ℕ} (job : Job) (id : ℕ) → Body merge world specs → Midway merge world trees horizon joined → IsIn job (stored_jobs world.store)
     → IsTrue (has_status Compacted job) → contains joined job.id ≡ false → was_joined world.store.history job.id ≡ false → SourcesStand world.store.manifest.trees job → SourcesStand trees job → job.spec.destination ≡ Some id
     → DestinationFits trees (tree_at job.spec.segment trees) job.spec.sources (Some id) → NewJoin merge world specs trees horizon joined job id
@@ -336,6 +342,7 @@ again_keeps {merge} {world} {specs} {trees} {horizon} {joined} job b m there com
         subst (λ (x : Job). JobHolds world trees (job.id ∷ joined) x) same (holds_joined world trees joined job ((all_at (JobHolds world trees joined) (stored_jobs world.store) job m.jobs there).again compacted done))
     by other one h false e = holds_with world trees joined job.id other (λ same. never_both (job.id == other.id) ((Decides-eqb job.id other.id).1 same) e) h
 
+-- A join that fits, be it a first or a second one, keeps what is kept in the midst of a commit under a lawful operator.
 pub join_keeps : (merge : Operator) (world : World) (specs : ℕ → JobSpec) (trees : Trees) (horizon : ℕ) (joined : List ℕ) (id : ℕ) → IsLawful merge → Body merge world specs → (fits : JoinFits world trees joined id) → Midway merge world trees horizon joined
     → Midway merge world (stepped_in world.store.tables (Join id) fits.job.spec (concat fits.job.outputs) trees) (horizon_after world.store.manifest.floor (Join id) fits.job.kept_cut horizon) (id ∷ joined)
 join_keeps merge world specs trees horizon joined id lawful b fits m =

@@ -42,6 +42,7 @@ found_node name (node ∷ tree) x e = by (name_eq name node.name) refl (found_no
 abbrev pub IsOld : Tree → Job → Node → Type 0
 IsOld tree job x = IsIn x tree ⊎ ((x.pieces ≢ []) ⊎ (IsIn x.name job.spec.sources → ⊥))
 
+-- A source run that is gone or not empty is so after a step that brings no empty node under the name of a source.
 node_stays : (old new : Tree) (job : Job) (run : ℕ) → Named old → IsIn (Run run) job.spec.sources → ((x : Node) → IsIn x new → IsOld old job x) → IfSome (node_named (Run run) old) (λ node. node.pieces ≢ []) → IfSome (node_named (Run run) new) (λ node. node.pieces ≢ [])
 node_stays old new job run named there comes some = by (node_named (Run run) new) refl
   where
@@ -54,6 +55,7 @@ node_stays old new job run named there comes some = by (node_named (Run run) new
     by None e = tt
     by (Some x) e = let found = found_node (Run run) new x e in at x found.1 (comes x found.0)
 
+-- A join still stands after a step that brings back no table of the past and no empty node of the job's sources.
 pub stands_on : (past : List Manifest) (trees : Trees) (job : Job) (prefix : List ℕ) (sources : List NodeName) (change : Tree → Tree) (s : Segment) → Rising trees → IsIn s trees → prefix ≡ s.prefix → Named s.tree
     → ((t : ℕ) → IsTrue (was_piece past t) → IsIn t (flat_map tree_tables (map (on_segment prefix sources change) trees)) → IsIn t (flat_map tree_tables trees))
     → ((x : Node) → IsIn x (change s.tree) → IsOld s.tree job x)
@@ -177,6 +179,7 @@ source_node_gone tables history past trees job id change o node run source is di
         let found = found_node (Run run) tree x f in
         absurd (no_node x found.1 (in_append x o.c.newer (run_for id (concat job.outputs) (o.c.t ∷ o.c.ts) ∷ o.c.older) (subst (IsIn x) e found.0)))
 
+-- The join of a job stands after the step that joins it: a second one would change no tree.
 pub join_stands : (tables : Tables) (history : List Entry) (past : List Manifest) (trees : Trees) (job : Job) (id : ℕ) (change : Tree → Tree) → OwnJoin tables history past trees job id change
     → JoinStands past (map (on_segment job.spec.segment job.spec.sources change) trees) job
 join_stands tables history past trees job id change o = by job.source_tables refl

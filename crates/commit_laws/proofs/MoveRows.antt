@@ -45,6 +45,7 @@ is_after r q apart e = ap is_lt (row_total.antisymm q r ∙ by (row_cmp r q) ref
 lt_trans : (a b c : Row) → is_lt (row_cmp a b) ≡ true → is_lt (row_cmp b c) ≡ true → is_lt (row_cmp a c) ≡ true
 lt_trans a b c e f = ap is_lt (row_total.trans a b c (lt_is (row_cmp a b) e) (lt_is (row_cmp b c) f))
 
+-- Two rows at different places may be inserted in either order.
 pub insert_swap : (r q : Row) (rows : List Row) → row_cmp r q ≢ Equal → insert_row r (insert_row q rows) ≡ insert_row q (insert_row r rows)
 insert_swap r q [] apart = by (is_lt (row_cmp r q)) refl
   where
@@ -196,6 +197,7 @@ apart_ordered tables (a ∷ b ∷ pieces) h apart =
 
 -- ---- moves
 
+-- A run of the tables of some nodes fits in the nodes' place, if these tables lie apart and stand by their first keys.
 pub move_fits : (merge : Operator) (store : Store) (oldest : Bool) (id : ℕ) (taken : Tree) → Pairs (IsNewer store.tables) taken → AllByRecursion (λ (node : Node). IsStrictlyOrdered (node_rows store.tables node)) taken
     → AreTables store.tables (flat_map (λ (node : Node). node.pieces) taken) → IsTrue (are_apart store.tables (by_first_key store.tables (flat_map (λ (node : Node). node.pieces) taken)))
     → RunFits merge store oldest taken (run_for id (by_first_key store.tables (flat_map (λ (node : Node). node.pieces) taken)) taken)

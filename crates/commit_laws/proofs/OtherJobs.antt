@@ -84,6 +84,7 @@ flushes_meet x xs newer t ts older order mine others runs none h =
 
 -- ---- the destination of the other job
 
+-- A destination still fits in changed trees that did not gain it, if its tree gained no run or a source is a run.
 pub destination_stays : (trees others : Trees) (tree other : Tree) (sources : List NodeName) (destination : Option ℕ)
     → (run_ids sources ≡ [] → (r : ℕ) → IsIn r (run_ids (names other)) → IsIn r (run_ids (names tree)))
     → ((r : ℕ) → destination ≡ Some r → IsIn r (all_run_ids others) → IsIn r (all_run_ids trees))
@@ -102,6 +103,7 @@ destination_stays trees others tree other sources (Some id) runs all h =
 
 -- ---- the other job beside a run
 
+-- The sources of a job still stand where a run replaces other nodes of their tree, if its destination fits there.
 pub stand_beside_run : (trees others : Trees) (job : Job) (newer : Tree) (t : Node) (ts older : Tree) (run : Node) (id : ℕ) → tree_at job.spec.segment trees ≡ newer ++ ((t ∷ ts) ++ older) → tree_at job.spec.segment others ≡ newer ++ run ∷ older → run.name ≡ Run id
     → NoneIn job.spec.sources (names (t ∷ ts)) → NotIn job.spec.sources (Run id) → DestinationFits others (tree_at job.spec.segment others) job.spec.sources job.spec.destination
     → SourcesStand trees job → SourcesStand others job
@@ -130,6 +132,7 @@ oldest_beside (x ∷ xs) newer t ts older run id name none other some h = oldest
 
 -- ---- the other job beside nodes that are taken out
 
+-- Of nodes that are all runs, those that are left when some are taken out begin with a run or are none.
 runs_left : (out : List NodeName) (older : Tree) → AllByRecursion (λ (o : Node). is_l0 o.name ≡ false) older → IsTrue (begins_with_run (names (without_nodes out older)))
 runs_left out [] h = refl
 runs_left out (o ∷ older) h = by (not (names_contain out o.name)) (runs_left out older h.1)
@@ -142,6 +145,7 @@ runs_left out (o ∷ older) h = by (not (names_contain out o.name)) (runs_left o
     by true rest = first o.name (names (without_nodes out older)) h.0
     by false rest = rest
 
+-- A whole stretch of a tree is still one when other nodes are taken out of the tree.
 pub stretch_beside_out : (out : List NodeName) (x : NodeName) (xs : List NodeName) (tree : Tree) → Named tree → InOrder tree → AllByRecursion (λ y. names_contain out y ≡ false) (x ∷ xs) → IsTrue (is_whole_stretch tree (x ∷ xs)) → IsTrue (is_whole_stretch (without_nodes out tree) (x ∷ xs))
 stretch_beside_out out x xs tree named order none h = by (older_nodes (x ∷ xs) (names tree)) refl h
   where
@@ -158,6 +162,7 @@ stretch_beside_out out x xs tree named order none h = by (older_nodes (x ∷ xs)
     by None e k = absurd (cc k)
     by (Some rest) e k = at (stretch_of (x ∷ xs) tree rest e)
 
+-- The sources of a job still stand when other nodes are taken out of their tree, if its destination fits there.
 pub stand_beside_out : (trees others : Trees) (job : Job) (out : List NodeName) → tree_at job.spec.segment others ≡ without_nodes out (tree_at job.spec.segment trees) → Named (tree_at job.spec.segment trees) → InOrder (tree_at job.spec.segment trees)
     → AllByRecursion (λ y. names_contain out y ≡ false) job.spec.sources → DestinationFits others (tree_at job.spec.segment others) job.spec.sources job.spec.destination → SourcesStand trees job → SourcesStand others job
 stand_beside_out trees others job out after named order none destination h = record {

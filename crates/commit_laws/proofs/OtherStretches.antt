@@ -48,6 +48,7 @@ older_around x xs (y ∷ p) z zs o h =
 
 -- ---- a run in place of others
 
+-- Names that reach the oldest flush around other names do so around a run in place of these.
 reaches_around : (x : NodeName) (xs p : List NodeName) (z : NodeName) (zs o : List NodeName) (id : ℕ) → IsTrue (reaches_oldest (x ∷ xs) (Around (x ∷ xs) p (z ∷ zs) o)) → IsTrue (reaches_oldest (x ∷ xs) (Around (x ∷ xs) p (Run id ∷ []) o))
 reaches_around x xs p z zs o id h = by (older_nodes (x ∷ xs) p) h
   where
@@ -160,6 +161,7 @@ stretch_left out xs tree s h =
     let kept : filter p s.taken ≡ s.taken = filter_all p s.taken (none_out out s.taken (subst (AllByRecursion (λ x. names_contain out x ≡ false)) (sym s.named) h)) in
     ap (filter p) s.whole ∙ filter_append p s.newer (s.taken ++ s.older) ∙ ap (λ nodes. filter p s.newer ++ nodes) (filter_append p s.taken s.older ∙ ap (λ nodes. nodes ++ filter p s.older) kept)
 
+-- When other nodes are taken out, the nodes older than a stretch are those that were older and are left.
 pub older_left : (out : List NodeName) (x : NodeName) (xs : List NodeName) (tree : Tree) (s : Stretch (x ∷ xs) tree) → Named tree → AllByRecursion (λ y. names_contain out y ≡ false) (x ∷ xs)
     → older_nodes (x ∷ xs) (names (without_nodes out tree)) ≡ Some (names (without_nodes out s.older))
 older_left out x xs tree s named h = by s.taken refl s.named

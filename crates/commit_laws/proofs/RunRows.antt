@@ -112,6 +112,7 @@ has_place P r [] there h = absurd there
 has_place P r (q ∷ rows) (inl same) h = subst P (ap (λ (p : List ℕ × ℕ). p.1) same) h.0
 has_place P r (q ∷ rows) (inr there) h = has_place P r rows there h.1
 
+-- Under a lawful operator a run of all rows that a job's settings make of some nodes fits in their place.
 pub join_fits : (merge : Operator) (store : Store) (oldest : Bool) (id : ℕ) (taken : Tree) (outputs : List ℕ) (settings : Settings) → IsLawful merge → Pairs (IsNewer store.tables) taken → AllByRecursion (λ (node : Node). IsStrictlyOrdered (node_rows store.tables node)) taken
     → JoinMakes merge store oldest taken outputs settings → RunFits merge store oldest taken (run_for id outputs taken)
 join_fits merge store oldest id taken outputs settings lawful newest nodes_ordered makes = record {

@@ -77,6 +77,7 @@ pieces_of_stretch sources tree s named = ap (flat_map (λ (node : Node). node.pi
 abbrev pub Covered : Tables → Tree → Node → Type 1
 Covered tables taken run = (P : ℕ → Type 0) → AllByRecursion (λ (node : Node). AllByRecursion (λ (r : Row). P r.seq) (node_and_flushed_rows tables node)) taken → AllByRecursion (λ (r : Row). P r.seq) (node_and_flushed_rows tables run)
 
+-- A run in place of a stretch leaves the tree in order, if it is ordered, fits there and has the stretch's sequences.
 pub tree_with_run : (tables : Tables) (s : Segment) (mark : Option ℕ) (newer taken older : Tree) (run : Node) (id : ℕ) → s.tree ≡ newer ++ (taken ++ older) → run.name ≡ Run id → Between id newer older → Covered tables taken run → IsStrictlyOrdered (node_rows tables run)
     → IsTree tables s → IsTree tables (record s { tree = newer ++ run ∷ older; watermark = mark })
 tree_with_run tables s mark newer taken older run id whole name between covered ordered h = record {

@@ -60,6 +60,7 @@ passed trees job e =
 
 -- ---- sources without tables
 
+-- If sources have no tables in a tree, each of them that is a node of the tree has none.
 no_pieces : (sources : List NodeName) (tree : Tree) (x : NodeName) (node : Node) → source_pieces sources tree ≡ [] → IsIn x sources → node_named x tree ≡ Some node → node.pieces ≡ []
 no_pieces [] tree x node e there found = absurd there
 no_pieces (y ∷ sources) tree x node e there found = by (node_named y tree) refl (no_pieces sources tree x node) e there
@@ -93,6 +94,7 @@ split_at [] node there = absurd there
 split_at (x ∷ tree) node (inl same) = record { newer = []; older = tree; whole = ap (λ n. n ∷ tree) same }
 split_at (x ∷ tree) node (inr there) = let s = split_at tree node there in record { newer = x ∷ s.newer; older = s.older; whole = ap (λ nodes. x ∷ nodes) s.whole }
 
+-- A tree stays as it is when a join makes an empty run of it out of the same run.
 same_tree : (tree : Tree) (node : Node) (run : ℕ) → Named tree → InOrder tree → IsIn node tree → node.name ≡ Run run → node.pieces ≡ [] → with_run_for (Run run ∷ []) run [] tree ≡ tree
 same_tree tree node run named order there name none = at (split_at tree node there)
   where
@@ -116,6 +118,7 @@ same_tree tree node run named order there name none = at (split_at tree node the
         itself : run_for run [] (node ∷ []) ≡ node
         itself = λ i. record { name = sym name i; flushes = append-nil node.flushes i; pieces = sym none i }
 
+-- A step whose only source is a run leaves the watermark as it is.
 same_mark : (run : ℕ) (tree : Tree) (mark : Option ℕ) → watermark_after (Run run ∷ []) tree mark ≡ mark
 same_mark run [] mark = refl
 same_mark run (node ∷ tree) mark = by node.name (same_mark run tree mark)
@@ -134,6 +137,7 @@ map_same f (s ∷ trees) h = let first = h.0 in let rest = map_same f trees h.1 
 
 -- ---- the law
 
+-- A second join of a job changes no tree, if the first one stands and the job passes the gate.
 pub rest_at : (merge : Operator) (world : World) (trees : Trees) (horizon : ℕ) (joined : List ℕ) (job : Job) → AllByRecursion (λ s. Named s.tree × InOrder s.tree) trees → Rising trees → Passed trees job → JoinStands world.past trees job
     → stepped_in world.store.tables (Join job.id) job.spec (concat job.outputs) trees ≡ trees
 rest_at merge world trees horizon joined job fits rise p (Gone t there gone) =
@@ -181,6 +185,7 @@ rest_at merge world trees horizon joined job fits rise p (Itself run sources to 
         λ i. record s { tree = tree i; watermark = mark i }
     by s there false e = refl
 
+-- Under a lawful operator a second join of a stored job that passes the gate changes no tree.
 pub second_joins_rest : (merge : Operator) → IsLawful merge → SecondJoinsRest merge
 second_joins_rest merge lawful world party specs first job k known fits stored compacted was gate =
     let w = whole_of merge world k in

@@ -59,6 +59,7 @@ abbrev Gone : List Entry → List NodeName → NodeName → Type 0
 Gone history ns (L0 name) = IsTrue (was_flushed history name) × (names_contain ns (L0 name) ≡ false)
 Gone history ns (Run id) = ⊤
 
+-- The watermark after a step is passed, if it was so before and each flush among the sources took effect and is gone.
 passed_by : (history : List Entry) (sources ns : List NodeName) (tree : Tree) (mark : Option ℕ) → AllByRecursion (λ (node : Node). names_contain sources node.name ≡ true → Gone history ns node.name) tree → IsPassed history ns mark
     → IsPassed history ns (watermark_after sources tree mark)
 passed_by history sources ns [] mark gone h = h
@@ -88,6 +89,7 @@ filter_passes p (x ∷ xs) y there = by (p x) refl (filter_passes p xs y) there
 no_flush : (new : Tree) (n : ℕ) → ((node : Node) → IsIn node new → node.name ≡ L0 n → ⊥) → names_contain (names new) (L0 n) ≡ false
 no_flush new n h = names_no (names new) (L0 n) (λ there. let found = node_of new (L0 n) there in h found.node found.there found.same)
 
+-- The watermark after a step is passed, if the step brings no flush and takes its sources out.
 pub passed_after : (history : List Entry) (sources : List NodeName) (tree new : Tree) (mark : Option ℕ) → Left sources tree new → AllByRecursion (λ (node : Node). IsFlush history node node.name) tree → IsPassed history (names tree) mark
     → IsPassed history (names new) (watermark_after sources tree mark)
 passed_after history sources tree new mark left flushed h = passed_by history sources (names new) tree mark (all_to _ _ tree (λ node there flush among. gone node.name node flush refl among) flushed) (old mark h)
@@ -139,6 +141,7 @@ one_part merge store run (o ∷ older) h k = (h, k)
 abbrev pub with_run : Segment → List NodeName → Tree → ℕ → List ℕ → Tree → Tree → Segment
 with_run s sources newer id pieces taken older = record s { tree = newer ++ run_for id pieces taken ∷ older; watermark = watermark_after sources s.tree s.watermark }
 
+-- What is kept of a segment is kept with a run in place of a stretch, if the run's tables are held and its rows fit.
 pub segment_with_run : (merge : Operator) (store : Store) (history : List Entry) (s : Segment) (sources : List NodeName) (newer : Tree) (t : Node) (ts older : Tree) (id : ℕ) (pieces : List ℕ) → s.tree ≡ newer ++ ((t ∷ ts) ++ older) → Between id newer older
     → without_nodes sources s.tree ≡ newer ++ older → AreHeld store pieces → AllByRecursion (IsKnownPiece history) pieces → RunFits merge store (before_these true older) (t ∷ ts) (run_for id pieces (t ∷ ts))
     → SegmentFits merge store history s → SegmentFits merge store history (with_run s sources newer id pieces (t ∷ ts) older)
@@ -189,6 +192,7 @@ all_filter P p xs h = all_from P (filter p xs) (λ x there. all_at P xs x h (in_
 abbrev pub with_less : Segment → List NodeName → Segment
 with_less s sources = record s { tree = without_nodes sources s.tree; watermark = watermark_after sources s.tree s.watermark }
 
+-- What is kept of a segment is kept when nodes are taken out of its tree.
 pub segment_with_less : (merge : Operator) (store : Store) (history : List Entry) (s : Segment) (sources : List NodeName) → SegmentFits merge store history s → SegmentFits merge store history (with_less s sources)
 segment_with_less merge store history s sources h =
     let keep : Node → Bool = λ node. not (names_contain sources node.name) in

@@ -19,6 +19,7 @@ use Rattle.commit_laws.proofs.CommitJobs.{trees_of, manifest_of, CommitCase, don
 use Rattle.commit_laws.proofs.Commits.{case_of}
 use Rattle.step_laws.proofs.ManifestBodies.{or_left}
 
+-- A commit that takes effect spares each stored job that is Scheduled or Running.
 spared : (merge : Operator) (world : World) (specs own : ℕ → JobSpec) (party : Party) (steps : List Step) (c : CommitCase merge world specs own party steps) (job : Job) → IsIn job (stored_jobs world.store) → IsTrue (has_status Scheduled job || has_status Running job)
     → IsSpared world (manifest_of world own steps) job
 spared merge world specs own party steps c job there waits = record {

@@ -43,6 +43,7 @@ tree_elsewhere p prefix sources change trees differs = ap tree_or_empty (segment
     by None e = refl
     by (Some x) e = ap (λ b. (cond b (changed_segment sources change x) x).tree) (ap (bytes_eq prefix) (sym (found_there p trees x e).1) ∙ differs)
 
+-- A step that puts a run replaces its sources by the run where they stood, and leaves all other trees.
 pub replaced_by : (trees : Trees) (spec : JobSpec) (id : ℕ) (pieces : List ℕ) (change : Tree → Tree) → RunAt trees spec id pieces change → Rising trees → RunReplaces trees (map (on_segment spec.segment spec.sources change) trees) spec pieces
 replaced_by trees spec id pieces change c rise = record {
   id = id;
@@ -56,6 +57,7 @@ replaced_by trees spec id pieces change c rise = record {
   elsewhere = λ p other. tree_elsewhere p spec.segment spec.sources change trees (other_or (bytes_eq spec.segment p) (λ same. other (sym ((bytes_eq-Decides spec.segment p).0 same))));
 }
 
+-- A new join replaces the sources by one run of all rows that the settings of the job's claim make of them.
 join_replaces : {merge : Operator} {world : World} {specs : ℕ → JobSpec} {trees : Trees} {horizon : ℕ} {joined : List ℕ} {job : Job} {id : ℕ} → NewJoin merge world specs trees horizon joined job id → JoinReplaces merge world trees job
 unfolding replaced_by
 join_replaces {merge} {world} {specs} {trees} {horizon} {joined} {job} {id} n =
@@ -69,6 +71,7 @@ join_replaces {merge} {world} {specs} {trees} {horizon} {joined} {job} {id} n =
       rows = subst (λ ts. job_rows merge f.settings (source_rows world.store.tables ts) ≡ record { rows = noted_rows world.store.tables (concat job.outputs); whole = true }) (sym (sources_same n)) (f.rows (sources_held n));
     }
 
+-- Under a lawful operator a join of a commit replaces the sources by the job's run, unless it is a second one.
 pub joins_replace : (merge : Operator) → IsLawful merge → JoinsReplace merge
 joins_replace merge lawful world party specs first id k known fits join new = by join.job.spec.destination refl stands.destination
   where
@@ -99,6 +102,7 @@ joins_replace merge lawful world party specs first id k known fits join new = by
 
 -- ---- moves
 
+-- A move replaces the sources by a run of their own tables, which have the sources' rows in order.
 move_replaces : {merge : Operator} {world : World} {specs : ℕ → JobSpec} {trees : Trees} {horizon : ℕ} {joined : List ℕ} {spec : JobSpec} {id run : ℕ} (n : NewMove merge world specs trees horizon joined spec id run) (outputs : List ℕ) → MoveReplaces world trees spec id outputs
 move_replaces {merge} {world} {specs} {trees} {horizon} {joined} {spec} {id} {run} n outputs = record {
   run = subst (λ pieces. RunReplaces trees (stepped_in world.store.tables (Move id) spec outputs trees) spec pieces) (ap (by_first_key world.store.tables) same) (replaced_by trees spec run (moved n) (move_change world spec id outputs) (run_of_move n outputs) n.midway.kept.rise);

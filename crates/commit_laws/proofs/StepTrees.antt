@@ -120,6 +120,7 @@ each_on P Q trees prefix sources change s rise there same new keep h = go trees 
     go [] sub h = tt
     go (x ∷ xs) sub h = (by x (sub x (inl refl)) h.0 (bytes_eq prefix x.prefix) refl, go xs (λ y one. sub y (inr one)) h.1)
 
+-- If a relation goes over to a changed segment on either side, every two segments still have it after the change.
 pub pairs_on : (R : Segment → Segment → Type 0) (trees : Trees) (prefix : List ℕ) (sources : List NodeName) (change : Tree → Tree) (s : Segment) → Rising trees → IsIn s trees → prefix ≡ s.prefix
     → ((y : Segment) → IsIn y trees → R s y → R (changed_segment sources change s) y) → ((y : Segment) → IsIn y trees → R y s → R y (changed_segment sources change s))
     → Pairs R trees → Pairs R (map (on_segment prefix sources change) trees)
@@ -140,6 +141,7 @@ pairs_on R trees prefix sources change s rise there same first second h =
         subst (λ (z : Segment). R x (changed_segment sources change z)) is (second x one (subst (λ (z : Segment). R x z) (sym is) r.1))
     by x y one other r false e false f = r.1
 
+-- What is kept of all trees is kept after a change of one segment that keeps it and takes no node or table of another.
 pub trees_on : (merge : Operator) (store : Store) (history : List Entry) (trees : Trees) (prefix : List ℕ) (sources : List NodeName) (change : Tree → Tree) (s : Segment) → Changes merge store history trees prefix sources change s
     → TreesKept merge store history trees → TreesKept merge store history (map (on_segment prefix sources change) trees)
 trees_on merge store history trees prefix sources change s c h = record {

@@ -54,6 +54,7 @@ found_there p (x ∷ trees) s e = by (bytes_eq p x.prefix) refl (found_there p t
     by true f rest e = (inl (same_some e), (bytes_eq-Decides p x.prefix).0 f ∙ ap (λ (y : Segment). y.prefix) (same_some e))
     by false f rest e = let more = rest e in (inr more.0, more.1)
 
+-- Sources that are a whole stretch of their tree split this tree into newer nodes, the sources, and older nodes.
 pub stretch_at : (trees : Trees) (spec : JobSpec) → IsTrue (is_nonempty spec.sources) → IsTrue (is_whole_stretch (tree_at spec.segment trees) spec.sources) → StretchAt trees spec
 stretch_at trees spec some h = by (segment_at spec.segment trees) refl h
   where
@@ -147,6 +148,7 @@ pub record PiecesMay (merge : Operator) (store : Store) (history : List Entry) (
   pub fits : RunFits merge store (before_these true c.older) (c.t ∷ c.ts) (run_for id pieces (c.t ∷ c.ts))
   pub new_tables : (t : ℕ) → IsIn t pieces → IsIn t (tree_tables c.s) ⊎ ((y : Segment) → IsIn y trees → IsIn t (tree_tables y) → ⊥)
 
+-- A run with held tables and fitting rows keeps what is kept of its segment, and takes no node or table of another one.
 pub run_changes : (merge : Operator) (store : Store) (history : List Entry) (trees : Trees) (spec : JobSpec) (id : ℕ) (pieces : List ℕ) (change : Tree → Tree) (c : RunAt trees spec id pieces change) → PiecesMay merge store history trees spec id pieces change c
     → TreesKept merge store history trees → Changes merge store history trees spec.segment spec.sources change c.s
 run_changes merge store history trees spec id pieces change c p k = record {

@@ -96,6 +96,7 @@ pairs_append R (x ∷ xs) ys h k across = (all_append (R x) xs ys h.0 across.0, 
 pub pairs_of : {A : Type 0} (R : A → A → Type 0) (xs : List A) (ys : List A) (x y : A) → Pairs R (xs ++ ys) → IsIn x xs → IsIn y ys → R x y
 pairs_of R xs ys x y h one other = all_at (R x) ys y (all_at (λ z. AllByRecursion (R z) ys) xs x (pairs_across R xs ys h) one) other
 
+-- Every two elements of a filtered list are related, if every two of the list are.
 pub pairs_filter : {A : Type 0} (R : A → A → Type 0) (p : A → Bool) (xs : List A) → Pairs R xs → Pairs R (filter p xs)
 pairs_filter R p [] h = tt
 pairs_filter {A} R p (x ∷ xs) h = by (p x) (pairs_filter R p xs h.1)
@@ -152,6 +153,7 @@ pub record Front (sources : List NodeName) (tree : Tree) (rest : List NodeName) 
 some_same : {A : Type 0} (x y : A) → Some x ≡ Some y → x ≡ y
 some_same x y e = cc e
 
+-- A tree whose names begin with the sources has their nodes first and then the nodes of the remaining names.
 pub front_of : (sources : List NodeName) (tree : Tree) (rest : List NodeName) → after_front sources (names tree) ≡ Some rest → Front sources tree rest
 front_of [] tree rest e = record { taken = []; older = tree; whole = refl; named = refl; left = some_same (names tree) rest e }
 front_of (x ∷ xs) [] rest e = absurd (cc e)
@@ -170,6 +172,7 @@ front_of (x ∷ xs) (node ∷ tree) rest e = by (name_eq x node.name) refl (fron
     by true same more e = with_first (name_same x node.name same) (more e)
     by false same more e = absurd (cc e)
 
+-- Sources that lie one after the other in the names of a tree are a stretch of the tree.
 pub stretch_of : (sources : List NodeName) (tree : Tree) (rest : List NodeName) → older_nodes sources (names tree) ≡ Some rest → Stretch sources tree
 stretch_of sources [] rest e =
     let f = front_of sources [] rest e in

@@ -160,6 +160,7 @@ with_node : (merge : Operator) (store : Store) (oldest : Bool) (node : Node) (tr
 with_node merge store oldest node [] h k = node_as merge store oldest node h
 with_node merge store oldest node (other ∷ tree) h k = (h, k)
 
+-- If each node of a part of a tree keeps reads, so does each of those that are left when some are taken out.
 pub fewer_reads : (merge : Operator) (store : Store) (oldest : Bool) (keep : Node → Bool) (tree : Tree) → PartKeepsReads merge store oldest tree → PartKeepsReads merge store oldest (filter keep tree)
 fewer_reads merge store oldest keep [] h = tt
 fewer_reads merge store oldest keep (node ∷ []) h = by (keep node)
