@@ -27,6 +27,7 @@ use Rattle.step_laws.proofs.Beats.{beaten_push}
 abbrev pub HasNone : Job → Type 0
 HasNone job = IsTrue (has_status Submitted job) → job.attempt ≡ 0
 
+-- If all Submitted jobs are at attempt 0, they are so after each change of the records.
 none_after : (u : Unrecorded) (change : RecordChange) (jobs : Jobs) → AllByRecursion HasNone jobs → AllByRecursion HasNone (after_change u change jobs)
 none_after u (RecordsEpoch epoch) jobs h = h
 none_after u (Submit specs) jobs h = all_with_new HasNone specs jobs (all_from _ specs (λ p there is. refl)) h

@@ -41,6 +41,7 @@ use Rattle.step_laws.proofs.KnownJobs.{outputs_are, known_spec}
 abbrev FlushesDiffer : NodeName → NodeName → Type 0
 FlushesDiffer a b = IsTrue (is_l0 a) → a ≡ b → ⊥
 
+-- Of two nodes that both hold the same one table, neither is newer than the other.
 not_newer : (tables : Tables) (name : ℕ) (x y : Node) → IsTable (table_rows tables name) → x.pieces ≡ name ∷ [] → y.pieces ≡ name ∷ [] → IsNewer tables x y → ⊥
 not_newer tables name x y table one other newer = by (table_rows tables name) refl table
   where
@@ -53,6 +54,7 @@ not_newer tables name x y table one other newer = by (table_rows tables name) re
         let low = all_at (λ (q : Row). q.seq < r.seq) (node_and_flushed_rows tables y) r (all_at (λ (q : Row). AllByRecursion (λ (p : Row). p.seq < q.seq) (node_and_flushed_rows tables y)) (node_and_flushed_rows tables x) r newer (row_in r rest x e one)) (row_in r rest y e other) in
         absurd (omega (arith, low))
 
+-- No two flushes of a stored tree have the same name.
 flushes_differ : (merge : Operator) (world : World) (specs : ℕ → JobSpec) → Body merge world specs → (s : Segment) → IsIn s world.store.manifest.trees → Pairs FlushesDiffer (names s.tree)
 flushes_differ merge world specs b s there = pairs_map (IsNewer world.store.tables) FlushesDiffer (λ (node : Node). node.name) s.tree
     (λ x y one other newer is same. by x.name x y newer is (flush x one) (subst (λ name. IsFlush world.store.history y name) (sym same) (flush y other)) one) (all_at (IsTree world.store.tables) world.store.manifest.trees s b.trees.each there).newest_first
@@ -75,6 +77,7 @@ pub record Ends (world : World) (p : List ℕ) (sources : List NodeName) : Type 
   pub tail : Tail sources (names (tree_at p world.store.manifest.trees))
   pub order : Pairs StandsBefore sources
 
+-- Sources that are the oldest nodes of a stored tree end the names of this tree, and stand in order.
 tail_now : (merge : Operator) (world : World) (specs : ℕ → JobSpec) (p : List ℕ) (sources : List NodeName) → Body merge world specs → AreOldest (tree_at p world.store.manifest.trees) sources → Ends world p sources
 tail_now merge world specs p sources b oldest =
     let f = older_split sources (names (tree_at p world.store.manifest.trees)) [] oldest in
@@ -97,6 +100,7 @@ tail_now merge world specs p sources b oldest =
 
 -- ---- the tree of a segment after a step
 
+-- A change of one segment leaves at each prefix the segment that was there, changed if it is that one.
 segment_on : (p prefix : List ℕ) (sources : List NodeName) (change : Tree → Tree) (trees : Trees) → segment_at p (map (on_segment prefix sources change) trees) ≡ option_map (on_segment prefix sources change) (segment_at p trees)
 segment_on p prefix sources change [] = refl
 segment_on p prefix sources change (s ∷ trees) =
@@ -117,6 +121,7 @@ record SegmentFound (p : List ℕ) (trees : Trees) (s : Segment) : Type 0 where
   pub there : IsIn s trees
   pub prefix : p ≡ s.prefix
 
+-- A segment that is found at a prefix is among the trees and has this prefix.
 segment_found : (p : List ℕ) (trees : Trees) (s : Segment) → segment_at p trees ≡ Some s → SegmentFound p trees s
 segment_found p [] s e = absurd (cc e)
 segment_found p (t ∷ trees) s e = by (bytes_eq p t.prefix) refl (segment_found p trees s) e
@@ -247,6 +252,7 @@ joined_above merge world specs job other c there compacted stand same = by other
         (subst (λ p. Tail job.spec.sources (names (tree_at p world.store.manifest.trees))) (sym same) c.ends.tail) c.ends.order stand.some stand.stretch (joined_apart merge world specs job other c there compacted) fits.0
         (λ run one. in_runs (names (tree_at other.spec.segment world.store.manifest.trees)) run one)
 
+-- If the sources of a Running job end their tree, they still do after a join of a commit that fits.
 join_tail : (merge : Operator) (world : World) (specs : ℕ → JobSpec) (job : Job) (trees : Trees) (joined : List ℕ) (id : ℕ) (spec : JobSpec) (outputs : List ℕ) (fits : JoinFits world trees joined id) → Case merge world specs job → spec ≡ fits.job.spec → outputs ≡ concat fits.job.outputs
     → InTrees job trees → InTrees job (stepped_in world.store.tables (Join id) spec outputs trees)
 join_tail merge world specs job trees joined id spec outputs fits c is made t = by (was_joined world.store.history id) refl
@@ -291,6 +297,7 @@ first_and : (a b : Bool) → IsTrue (a && b) → IsTrue a
 first_and true b h = refl
 first_and false b h = absurd (cc h)
 
+-- If no rule of the nine fails, the rules 1, 5, 7 and 8 hold.
 rules_hold : (b1 b2 b3 b4 b5 b6 b7 b8 b9 : Bool) → first_failing ((1, b1) ∷ (2, b2) ∷ (3, b3) ∷ (4, b4) ∷ (5, b5) ∷ (6, b6) ∷ (7, b7) ∷ (8, b8) ∷ (0, b9) ∷ []) ≡ None → IsTrue b1 × IsTrue b5 × IsTrue b7 × IsTrue b8
 rules_hold b1 b2 b3 b4 b5 b6 b7 b8 b9 e =
     let r1 = passes b1 _ 1 e in
@@ -363,6 +370,7 @@ at_once_apart merge world specs job trees joined id spec c fits lacks =
     free = all_at (λ (j : Job). IsTrue ((id == j.id) || not (reserves_nodes j || contains [] j.id) || is_apart (nodes_of spec) (nodes_of j.spec))) (holding world.store.history joined (stored_jobs world.store)) job
         (all_true_front (λ (j : Job). (id == j.id) || not (reserves_nodes j || contains [] j.id) || is_apart (nodes_of spec) (nodes_of j.spec)) (holding world.store.history joined (stored_jobs world.store)) (gated world trees joined spec id fits).free) among
 
+-- If the sources of a Running job end a tree, the destination of a job done at once in this tree stands before them.
 move_above : (merge : Operator) (world : World) (specs : ℕ → JobSpec) (job : Job) (trees : Trees) (joined : List ℕ) (id : ℕ) (spec : JobSpec) → Case merge world specs job → AtOnceFits world trees joined spec id → contains joined job.id ≡ false → spec.segment ≡ job.spec.segment → InTrees job trees
     → IsAboveTail job.spec.sources spec.destination
 move_above merge world specs job trees joined id spec c fits lacks same t = by spec.destination g.stretch g.destination
@@ -391,6 +399,7 @@ drain_tail merge world specs job trees joined id spec outputs c fits lacks t = t
 
 -- ---- all steps
 
+-- If the sources of a Running job end their tree, they still do after all steps of a commit that fit.
 steps_tail : (merge : Operator) (world : World) (specs others : ℕ → JobSpec) (party : Party) (job : Job) → Case merge world specs job → (trees : Trees) (joined : List ℕ) (steps : List Step) → AllByRecursion (λ step. IsKnownTo party world others (job_of step)) steps → StepsFit world others trees joined steps
     → contains joined job.id ≡ false → InTrees job trees → InTrees job (stepped_all world.store.tables (λ id. (others id, outputs_in world.store.records id)) steps trees)
 steps_tail merge world specs others party job c trees joined [] known fits lacks t = t

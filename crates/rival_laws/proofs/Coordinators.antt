@@ -62,6 +62,7 @@ put_grows party history entry n h = any_front (λ (e : Entry). party_eq party e.
 
 -- ---- an entry alone
 
+-- What a coordinator holds stays so after an entry that leaves the manifest and the records.
 knows_noted : (world : World) (c : LiveCoordinator) (local : Option Local) (tables : Tables) (deleted : List ℕ) (jobs_drawn tables_drawn : ℕ) (past : List Manifest) (entry : Entry) → CoordinatorHolds world c local
     → CoordinatorHolds (record { store = record world.store { tables = tables; deleted = deleted; jobs_drawn = jobs_drawn; tables_drawn = tables_drawn; history = world.store.history ++ entry ∷ [] }; past = past }) c local
 knows_noted world c local tables deleted jobs_drawn tables_drawn past entry h = record {
@@ -88,6 +89,7 @@ abbrev TreesFollow : World → LiveCoordinator → Manifest → Type 0
 TreesFollow world c manifest = manifest.epoch ≤ c.epoch → records_epoch world.store.records ≤ c.epoch → (local : Local) → LocalIsKnown world local → merged_trees local.manifest.trees world.store.manifest.trees ≡ world.store.manifest.trees
     → (merged_trees local.manifest.trees manifest.trees ≡ manifest.trees) × AllByRecursion (λ s. IsTrue (is_some (segment_at s.prefix manifest.trees))) local.manifest.trees
 
+-- What a coordinator holds stays so under a manifest of no lower epoch, if its local trees merge as they did.
 knows_manifest : (world : World) (c : LiveCoordinator) (local : Option Local) (manifest : Manifest) (entry : Entry) → world.store.manifest.epoch ≤ manifest.epoch → TreesFollow world c manifest → CoordinatorHolds world c local
     → CoordinatorHolds (with_manifest world manifest entry) c local
 knows_manifest world c local manifest entry rises follow h = record {
@@ -111,6 +113,7 @@ manifest_epoch world party (ManifestEpoch epoch) value fits = let above = fits.a
 manifest_epoch world party (Flush name segment floor tick) value fits = let same : value.epoch ≡ world.store.manifest.epoch = ap (λ (m : Manifest). m.epoch) fits.makes in omega (arith, same)
 manifest_epoch world party (Commit steps) value fits = let same : value.epoch ≡ world.store.manifest.epoch = ap (λ (m : Manifest). m.epoch) fits.makes in omega (arith, same)
 
+-- While no epoch is above a coordinator's, another's lawful put of the manifest leaves how its trees merge.
 trees_follow : (merge : Operator) (world : World) (specs : ℕ → JobSpec) (party : Party) (c : LiveCoordinator) (change : ManifestChange) (value : Manifest) → Body merge world specs → party ≢ Coordinator c.number
     → IsTrue (did_put_epoch (Coordinator c.number) world.store.history c.epoch) → ManifestFits party world change value → TreesFollow world c value
 trees_follow merge world specs party c (ManifestEpoch epoch) value b other put fits low records local known e =
@@ -139,6 +142,7 @@ trees_follow merge world specs party c (Commit (step ∷ steps)) value b other p
 abbrev JobsFollow : World → LiveCoordinator → ℕ → Jobs → Type 0
 JobsFollow world c epoch jobs = epoch ≤ c.epoch → (local : Local) → LocalIsKnown world local → JobsMerge local.records.jobs (stored_jobs world.store) → JobsMerge local.records.jobs jobs
 
+-- What a coordinator holds stays so with records of no lower epoch, if its local jobs merge as they did.
 knows_records : (world : World) (c : LiveCoordinator) (local : Option Local) (records : Records) (entry : Entry) → records_epoch world.store.records ≤ records.epoch → JobsFollow world c records.epoch records.jobs → CoordinatorHolds world c local
     → CoordinatorHolds (with_records world records entry) c local
 knows_records world c local records entry rises follow h = record {
@@ -157,6 +161,7 @@ knows_records world c local records entry rises follow h = record {
     known None k = tt
     known (Some l) k = record { segments = k.segments; jobs = all_to _ _ l.records.jobs (λ job there named. named_grows world.store.history entry job.id named) k.jobs }
 
+-- A lawful put of the records does not lower their epoch.
 pub after_epoch : (merge : Operator) (world : World) (party : Party) (change : RecordChange) (epoch : ℕ) (jobs : Jobs) → RecordsFit merge party world change epoch jobs → records_epoch world.store.records ≤ epoch
 after_epoch merge world party change epoch jobs fits = by change world.store.records (above change fits.unrecorded jobs fits.fits) fits.makes_epoch
   where
@@ -213,6 +218,7 @@ not_named world local named known new job p there one same =
     refused true e h = absurd (cc e)
     refused false e h = absurd (cc h)
 
+-- While no epoch is above a coordinator's, another's lawful put of the records leaves how its jobs merge.
 jobs_follow : (merge : Operator) (world : World) (specs : ℕ → JobSpec) (party : Party) (c : LiveCoordinator) (change : RecordChange) (epoch : ℕ) (jobs : Jobs) → Body merge world specs → party ≢ Coordinator c.number
     → IsTrue (did_put_epoch (Coordinator c.number) world.store.history c.epoch) → c.epoch ≤ records_epoch world.store.records → RecordsFit merge party world change epoch jobs → JobsFollow world c epoch jobs
 jobs_follow merge world specs party c (RecordsEpoch put) epoch jobs b other own recorded fits low local known m =
@@ -239,6 +245,7 @@ jobs_follow merge world specs party c (Polled change) epoch jobs b other own rec
 
 -- ---- the law
 
+-- What a coordinator holds stays so after a lawful call of another party, whichever outcome the call has.
 knows_after : (merge : Operator) (world new : World) (party : Party) (c : LiveCoordinator) (local : Option Local) (x : Exchange) → Keeps merge world → party ≢ Coordinator c.number → CoordinatorHolds world c local → Outcome merge party world x new → CoordinatorHolds new c local
 knows_after merge world new party c local x k other h (Notes jobs_drawn tables_drawn entry mute is) =
     subst (λ n. CoordinatorHolds n c local) (sym is) (knows_noted world c local world.store.tables world.store.deleted jobs_drawn tables_drawn world.past entry h)

@@ -115,6 +115,7 @@ free_with_manifest party world manifest entry table none h = record {
 abbrev idle : ℕ → LiveWorker
 idle n = record { number = n; release = One; attempts = [] }
 
+-- A free table of a worker stays free after a put of records whose active jobs name no table of the worker's own.
 free_with_records : (world : World) (n : ℕ) (records : Records) (entry : Entry) (table : ℕ) → AllByRecursion (JobSpares world (idle n)) records.jobs → IsFree (Worker n) world table → IsFree (Worker n) (with_records world records entry) table
 free_with_records world n records entry table spare h = record {
   drawn = drawn_table_grows world.store.history entry table h.drawn;
@@ -133,6 +134,7 @@ free_with_records world n records entry table spare h = record {
 
 -- ---- the law
 
+-- A free table of a worker stays free after a lawful call of another party, whichever outcome the call has.
 free_after : (merge : Operator) (world new : World) (party : Party) (n table : ℕ) (x : Exchange) → Keeps merge world → party ≢ Worker n → IsFree (Worker n) world table → Outcome merge party world x new → IsFree (Worker n) new table
 free_after merge world new party n table x k other h (Notes jobs_drawn tables_drawn entry mute is) =
     subst (λ (t : World). IsFree (Worker n) t table) (sym is) (free_entered (Worker n) world world.store.deleted jobs_drawn tables_drawn entry table h)

@@ -46,6 +46,7 @@ brings_none _ = true
 one_named : (world : World) (specs : ℕ → JobSpec) (merge : Operator) (P : Job → Type 0) (id n : ℕ) → Body merge world specs → IsStoredAs world id P → (job : Job) → IsIn job (stored_jobs world.store) → IsTrue (contains (id ∷ []) job.id) → P job
 one_named world specs merge P id n b stored job there named = each_named world specs merge P ((id, n) ∷ []) b (stored, tt) job there named
 
+-- A lawful change of the records that brings no job leaves no job active, if none was.
 change_idle : (merge : Operator) (party : Party) (world : World) (u : Unrecorded) (jobs : Jobs) (change : RecordChange) → Keeps merge world → brings_none change ≡ true → ChangeFits merge party world u jobs change → NoneActive world
     → AllByRecursion (λ job. is_active job ≡ false) (jobs_after u change (stored_jobs world.store))
 change_idle merge party world u jobs (RecordsEpoch epoch) k quiet fits none = all_trimmed _ (stored_jobs world.store) none
@@ -79,6 +80,7 @@ same_bring version (Polled change) epoch jobs = refl
 abbrev IdleStore : Store → Type 0
 IdleStore store = AllByRecursion (λ job. is_active job ≡ false) (stored_jobs store)
 
+-- A lawful exchange that brings no job leaves no job active in the store, if none was.
 performed_idle : (merge : Operator) (party : Party) (world : World) (x : Exchange) → Keeps merge world → brings_no_job x ≡ true → Lawful merge party world x → NoneActive world → IdleStore (after_exchange x world.store)
 performed_idle merge party world (Plain event) k quiet lawful none = none
 performed_idle merge party world (DrawsJob moment) k quiet lawful none = none

@@ -28,6 +28,7 @@ shorter (job ∷ jobs) = by (is_active job) (finished_later jobs) (shorter jobs)
     by false true low = omega (arith, low)
     by false false low = omega (arith, low)
 
+-- If a put would drop none of the jobs, each finished job is the last one that is finished.
 pub trimmed_is : (jobs : Jobs) → trimmed_jobs jobs ≡ jobs → IsTrimmed jobs
 trimmed_is [] e = tt
 trimmed_is (job ∷ jobs) e = by (is_active job) refl (finished_later jobs) refl (trimmed_is jobs) e
@@ -74,6 +75,7 @@ later_changed f these (job ∷ jobs) h = first (contains these job.id) refl (lat
         ap (λ c. c || finished_later (changed_jobs f these jobs)) (active_not_finished (f job).status both.1 ∙ sym (active_not_finished job.status both.0)) ∙ ap (λ c. is_finished job.status || c) rest
     first false e rest = ap (λ c. is_finished job.status || c) rest
 
+-- If a put would drop none of the jobs, it drops none after a change of active jobs that stay active.
 changed_trimmed : (f : Job → Job) (these : List ℕ) (jobs : Jobs) → StayActive f these jobs → IsTrimmed jobs → IsTrimmed (changed_jobs f these jobs)
 changed_trimmed f these [] active h = tt
 changed_trimmed f these (job ∷ jobs) active h = (first (contains these job.id) refl h.0, changed_trimmed f these jobs active.1 h.1)
@@ -90,6 +92,7 @@ changed_trimmed f these (job ∷ jobs) active h = (first (contains these job.id)
 pub changed_stay : (f : Job → Job) (these : List ℕ) (jobs : Jobs) → StayActive f these jobs → trimmed_jobs jobs ≡ jobs → trimmed_jobs (changed_jobs f these jobs) ≡ changed_jobs f these jobs
 changed_stay f these jobs active e = is_trimmed (changed_jobs f these jobs) (changed_trimmed f these jobs active (trimmed_is jobs e))
 
+-- After a change that keeps ids, the job found at an id is the one before, changed if the change names it.
 pub with_changed : (f : Job → Job) (these : List ℕ) (id : ℕ) (jobs : Jobs) → ((job : Job) → (f job).id ≡ job.id) → job_with id (changed_jobs f these jobs) ≡ option_map (on_these f these) (job_with id jobs)
 with_changed f these id [] same = refl
 with_changed f these id (job ∷ jobs) same = by (id == job.id) (ap (λ n. id == n) (first (contains these job.id))) (with_changed f these id jobs same)
@@ -110,6 +113,7 @@ pub record IsTaken (status : Status) : Type 0 where
   pub waiting : adopts Scheduled status ≡ true
   pub running : adopts Running status ≡ true
 
+-- A local job that a Scheduled or Running stored job replaces is itself Scheduled or Running.
 adopts_open : (s t : Status) → IsTrue (is_open t) → adopts s t ≡ true → IsTrue (is_open s)
 adopts_open Scheduled t opened e = refl
 adopts_open Running t opened e = refl
@@ -196,6 +200,7 @@ pub and_first : (a b : Bool) → (a && b) ≡ true → a ≡ true
 and_first true b e = refl
 and_first false b e = absurd (cc e)
 
+-- If a finished job with a greater id is among the jobs, one still is after a worker's change of unfinished jobs.
 outlived_changed : (f : Job → Job) (these : List ℕ) (jobs : Jobs) (job : Job) → TakesOver f these jobs → IsOutlived jobs job → IsOutlived (changed_jobs f these jobs) job
 outlived_changed f these jobs job t h =
     let found = any_element (λ (other : Job). is_finished other.status && nat_lt job.id other.id) jobs h in
@@ -213,6 +218,7 @@ outlived_changed f these jobs job t h =
         by true e = absurd (cc (over, active_not_finished x.status (open_active x.status (t.opened x one e))))
         by false e = refl
 
+-- A worker's change of Scheduled and Running jobs leaves how local jobs merge with the stored ones.
 pub merge_changed : (local jobs : Jobs) (f : Job → Job) (these : List ℕ) → TakesOver f these jobs → trimmed_jobs jobs ≡ jobs → JobsMerge local jobs → JobsMerge local (trimmed_jobs (changed_jobs f these jobs))
 merge_changed local jobs f these t trims h = subst (JobsMerge local) (sym (changed_stay f these jobs (stay_active f these jobs t) trims)) (record {
   stored_stay = all_on_these _ f these jobs (λ job there. by_these (λ (n : Job). taken_job (job_with n.id local) n ≡ Some n) f these job
@@ -235,6 +241,7 @@ later_put new (job ∷ jobs) is = by (nat_lt new.id job.id) (later_put new jobs 
     by true rest = ap (λ c. c || finished_later (job ∷ jobs)) is
     by false rest = ap (λ c. is_finished job.status || c) rest
 
+-- If a put would drop none of the jobs, it drops none with a new active job among them.
 put_trimmed : (new : Job) (jobs : Jobs) → is_finished new.status ≡ false → IsTrue (is_active new) → IsTrimmed jobs → IsTrimmed (put_job new jobs)
 put_trimmed new [] is active h = (inl active, tt)
 put_trimmed new (job ∷ jobs) is active h = by (nat_lt new.id job.id) (put_trimmed new jobs is active h.1)
@@ -251,6 +258,7 @@ pub new_trimmed : (named : List (ℕ × JobSpec)) (jobs : Jobs) → IsTrimmed jo
 new_trimmed [] jobs h = h
 new_trimmed (p ∷ named) jobs h = new_trimmed named (put_job (new_job p) jobs) (put_trimmed (new_job p) jobs refl refl h)
 
+-- A job of a list is still there when a new job is put in.
 old_in_put : (new : Job) (jobs : Jobs) (job : Job) → IsIn job jobs → IsIn job (put_job new jobs)
 old_in_put new [] job there = absurd there
 old_in_put new (first ∷ jobs) job (inl same) = by (nat_lt new.id first.id)
@@ -278,6 +286,7 @@ none_with id (first ∷ jobs) job e there same = by (id == first.id) refl (none_
     by false f rest (inl is) e = absurd (cc (f, (Decides-eqb id first.id).1 (sym same ∙ ap (λ (j : Job). j.id) (sym is))))
     by false f rest (inr one) e = rest e one same
 
+-- New jobs under ids that no local job has leave how local jobs merge with the stored ones.
 pub merge_new : (local jobs : Jobs) (named : List (ℕ × JobSpec)) → ((job : Job) (p : ℕ × JobSpec) → IsIn job local → IsIn p named → job.id ≡ p.0 → ⊥) → trimmed_jobs jobs ≡ jobs → JobsMerge local jobs → JobsMerge local (trimmed_jobs (with_new named jobs))
 merge_new local jobs named differ trims h = subst (JobsMerge local) (sym (is_trimmed (with_new named jobs) (new_trimmed named jobs (trimmed_is jobs trims)))) (record {
   stored_stay = all_from _ (with_new named jobs) (λ job there. stored job (in_new named jobs job there));

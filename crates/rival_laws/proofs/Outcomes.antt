@@ -94,6 +94,7 @@ recordings merge party world line version change epoch jobs seen done conflict l
 
 -- ---- all calls
 
+-- A lawful call, struck or not, has one of five outcomes: a mute entry, a deletion, a table, a manifest, or records.
 pub outcome : (merge : Operator) (x : Exchange) (line : ℕ) (party : Party) (strike : Strike) (world : World) → Lawful merge party world x → MayStrike x world strike → Outcome merge party world x (after_call line party x strike world)
 outcome merge (Plain event) line party None world lawful may = plain merge party world event line (answer_of (Plain event) world.store) lawful
 outcome merge (Plain event) line party (Some true) world lawful may = plain merge party world event line (stands_or_lost (answer_of (Plain event) world.store)) lawful

@@ -52,6 +52,7 @@ one_rival other who x strike met shared same differs no_sweeper lawful may = rec
   none = λ alone. absurd (cc (alone, shared));
 }
 
+-- Calls of others to one caller are so to another caller under the same operator whose party makes none of them.
 same_from : (other who : Caller) (calls : List RivalCall) (old new : World) → other.merge ≡ who.merge → AllByRecursion (λ call. call.party ≢ other.party) calls → RivalsFrom who calls old new → RivalsFrom other calls old new
 same_from other who [] old new same none lead = lead
 same_from other who (call ∷ calls) old new same none lead = (
@@ -77,6 +78,7 @@ stopped other who x met new MeetsFault shared same differs no_sweeper lawful sto
     subst (Rivals other met) (sym stops.1.1) (one_rival other who x (Some stops.1.0) met shared same differs no_sweeper (lawful (struck_has_room x met stops.0)) stops.0)
 stopped other who x met new LacksMemory shared same differs no_sweeper lawful stops = subst (Rivals other met) stops (rivals_none other met)
 
+-- A run of a lawful course by a party that is no sweeper is calls of others to a party that does not disturb it.
 are_rivals : {A : Type 0} (other who : Caller) (course : Course A) (old new : World) (end : End A) → other.alone ≡ false → other.merge ≡ who.merge → who.party ≢ other.party → who.party ≢ Sweeper → IsLawfulCourse who old course
     → RunsBeside other.party who course old new end → Rivals other old new
 are_rivals other who (Ends answer) old new end shared same differs no_sweeper lawful run = subst (Rivals other old) run.0 (rivals_none other old)
@@ -108,6 +110,7 @@ runs_alone {A} party who (Calls x next) old new end alone (met, (rivals, inr (ro
 abbrev shares : Caller → Party → Caller
 shares who party = record { merge = who.merge; line = who.line; party = party; alone = false }
 
+-- The run of another party is calls of others to a party that does not disturb it, and keeps what that party holds.
 others_run : (A : Type 0) → OthersRun A
 others_run A = record {
   rivals = λ other who course old new end shared same b. are_rivals {A = A} other who course old new end shared same b.other b.no_sweeper b.lawful b.run;
@@ -121,6 +124,7 @@ others_run A = record {
   alone = λ party who course old new end alone run. runs_alone {A = A} party who course old new end alone run;
 }
 
+-- For each kind of step, the run of another party is calls of others to a party that does not disturb it.
 pub others_run_steps : OthersRunSteps
 others_run_steps = record {
   numbers = others_run _;

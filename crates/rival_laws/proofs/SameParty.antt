@@ -45,6 +45,7 @@ pub record Did (is : Event → Bool) (party : Party) (history : List Entry) : Ty
   pub kind : is entry.event ≡ true
   pub took : stood entry.answer ≡ true
 
+-- If a party did something of a kind with effect, an entry of the history is of this party and kind and took effect.
 pub did_entry : (is : Event → Bool) (party : Party) (history : List Entry) → IsTrue (did_event is party history) → Did is party history
 did_entry is party history h = at (any_element (λ (e : Entry). party_eq party e.party && is e.event && stood e.answer) history h)
   where

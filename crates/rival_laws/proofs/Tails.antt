@@ -50,6 +50,7 @@ apart_names xs ys h x there other = never (names_contain ys x) (all_at (λ y. Is
 
 -- ---- splits
 
+-- Names that begin with a stretch are the stretch and then the rest.
 after_split : (xs ns rest : List NodeName) → after_front xs ns ≡ Some rest → ns ≡ xs ++ rest
 after_split [] ns rest e = the e
   where
@@ -114,6 +115,7 @@ pub record Ahead (xs rest front sources : List NodeName) : Type 0 where
   pub between_front : (x : NodeName) → IsIn x between → IsIn x front
   pub rest_is : rest ≡ between ++ sources
 
+-- A stretch that begins a list stands in front of the list's tail, if the two have no name in common.
 ahead_here : (xs rest front sources : List NodeName) → xs ++ rest ≡ front ++ sources → ((x : NodeName) → IsIn x xs → IsIn x sources → ⊥) → Ahead xs rest front sources
 ahead_here [] rest front sources e apart = record { between = front; in_front = λ x there. absurd there; between_front = λ x there. there; rest_is = e }
 ahead_here (x ∷ xs) rest [] sources e apart = absurd (apart x (inl refl) (subst (λ zs. IsIn x zs) e (inl refl)))
@@ -185,6 +187,7 @@ or_not : (a b : Bool) → IsTrue (not a || b) → IsTrue a → IsTrue b
 or_not true b h k = h
 or_not false b h k = absurd (cc k)
 
+-- The destination that fits a whole stretch stands before a tail of the tree, if the two have no name in common.
 pub run_above : (sources ns : List NodeName) (x : NodeName) (xs : List NodeName) (id : ℕ) (runs : List ℕ) → Tail sources ns → Pairs StandsBefore sources → IsTrue (reaches_oldest (x ∷ xs) (older_nodes (x ∷ xs) ns)) → ((y : NodeName) → IsIn y (x ∷ xs) → IsIn y sources → ⊥)
     → IsTrue (is_lowest_or_above id (run_ids (x ∷ xs)) runs) → ((run : ℕ) → IsIn (Run run) ns → IsIn run runs) → AllByRecursion (StandsBefore (Run id)) sources
 run_above sources ns x xs id runs t order reaches apart fits has = by (older_nodes (x ∷ xs) ns) refl reaches
@@ -212,6 +215,7 @@ pub record Kept (sources ns front : List NodeName) (P : NodeName → Type 0) : T
   pub split : ns ≡ now ++ sources
   pub from : (x : NodeName) → IsIn x now → P x ⊎ IsIn x front
 
+-- The names of a tree stay as they are when none of them is taken out.
 all_stay : (out : List NodeName) (tree : Tree) (sources : List NodeName) → names tree ≡ sources → ((x : NodeName) → IsIn x sources → names_contain out x ≡ false) → names (without_nodes out tree) ≡ sources
 all_stay out [] sources e h = e
 all_stay out (node ∷ tree) [] e h = absurd (cc e)
@@ -224,6 +228,7 @@ all_stay out (node ∷ tree) (s ∷ sources) e h = by (names_contain out node.na
     by true f rest = absurd (cc f)
     by false f rest = let one = first e in λ i. one i ∷ rest i
 
+-- A tail still ends a tree when other nodes are taken out, and no name is new in front of it.
 pub without_tail : (out : List NodeName) (tree : Tree) (front sources : List NodeName) → names tree ≡ front ++ sources → ((x : NodeName) → IsIn x sources → names_contain out x ≡ false) → Kept sources (names (without_nodes out tree)) front (λ x. ⊥)
 without_tail out tree [] sources e h = record { now = []; split = all_stay out tree sources e h; from = λ x there. absurd there }
 without_tail out [] (f ∷ front) sources e h = absurd (cc e)
@@ -247,6 +252,7 @@ without_tail out (node ∷ tree) (f ∷ front) sources e h = by (names_contain o
     by true k = record { now = k.now; split = k.split; from = λ x there. later x (k.from x there) }
     by false k = begun k
 
+-- A tail still ends a tree when a run that stands before it is put in, and only the run is new in front of it.
 pub put_tail : (id : ℕ) (run : Node) (tree : Tree) (front sources : List NodeName) → run.name ≡ Run id → names tree ≡ front ++ sources → IsTrue (is_nonempty sources) → AllByRecursion (StandsBefore (Run id)) sources → Kept sources (names (put_run id run tree)) front (λ x. Run id ≡ x)
 put_tail id run [] [] sources is e some above = absurd (empty sources e some)
   where

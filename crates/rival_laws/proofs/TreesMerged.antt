@@ -86,6 +86,7 @@ segment_stays p prefix name rows (s ∷ trees) h = by (bytes_eq prefix s.prefix)
 
 -- ---- the merge after a flush
 
+-- A watermark that is passed is not the name of a flush that never took effect.
 not_watermark : (history : List Entry) (name : ℕ) (ns : List NodeName) (mark : Option ℕ) → was_flushed history name ≡ false → IsPassed history ns mark → is_watermark mark (L0 name) ≡ false
 not_watermark history name ns None new passed = refl
 not_watermark history name ns (Some flush) new passed = by (flush == name) refl
@@ -106,6 +107,7 @@ grown history name rows (Some l) s new passed e =
     let other : is_watermark l.watermark (L0 name) ≡ false = ap (λ m. is_watermark m (L0 name)) mark ∙ not_watermark history name (names s.tree) s.watermark new passed in
     rw other (λ i. record (flushed_on name rows s) { tree = record { name = L0 name; flushes = name ∷ []; pieces = name ∷ [] } ∷ tree i; watermark = mark i })
 
+-- A flush of a new name leaves how local trees merge, if their segments are stored and all watermarks are passed.
 pub merge_flushed : (history : List Entry) (local : Trees) (prefix : List ℕ) (name : ℕ) (rows : List Row) (trees : Trees) → Rising trees → was_flushed history name ≡ false → AllByRecursion (λ s. IsPassed history (names s.tree) s.watermark) trees
     → AllByRecursion (λ s. IsTrue (is_some (segment_at s.prefix trees))) local → merged_trees local trees ≡ trees → merged_trees local (flushed_trees prefix name rows trees) ≡ flushed_trees prefix name rows trees
 merge_flushed history local prefix name rows trees rise new passed known e =

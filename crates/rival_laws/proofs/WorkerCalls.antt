@@ -48,6 +48,7 @@ origin_quiet history entry a quiet = sym (ap (if_earlier a.number) (beaten_stays
 
 -- ---- an entry alone
 
+-- A mute entry leaves all that a worker's fit reads, if the tables of the worker's attempts stay held.
 pub follows_entry : (world : World) (w : LiveWorker) (deleted : List ℕ) (jobs_drawn tables_drawn : ℕ) (entry : Entry) → IsMute (stood entry.answer) entry.event
     → ((a : Attempt) → IsIn a w.attempts → AreHeld world.store (attempt_tables a) → AreHeld (record world.store { deleted = deleted }) (attempt_tables a)) → Follows world (entered world deleted jobs_drawn tables_drawn entry) w
 follows_entry world w deleted jobs_drawn tables_drawn entry mute held = record {
@@ -70,6 +71,7 @@ follows_entry world w deleted jobs_drawn tables_drawn entry mute held = record {
 
 -- ---- a table
 
+-- A new table leaves all that a worker's fit reads.
 pub follows_table : (world : World) (w : LiveWorker) (new : ℕ × List Row) → PutsKept world.store.history world.store.tables → Follows world (with_table world new) w
 follows_table world w new puts = record {
   grows = λ job number h. h;
@@ -96,6 +98,7 @@ pub record ManifestSpares (world : World) (manifest : Manifest) (worker : ℕ) :
   pub settings : (job : Job) → IsIn job (stored_jobs world.store) → IsTrue (has_status Running job) → (s : Settings) → SettingsFit world.store.manifest job.spec s → SettingsFit manifest job.spec s
   pub tables : (job : Job) → IsIn job (stored_jobs world.store) → IsTrue (has_status Running job) → (t : ℕ) → IsOwnTable (Worker worker) world job.id t → contains (flat_map tree_tables manifest.trees) t ≡ false
 
+-- The next manifest leaves all that a worker's fit reads, if it spares the settings and the tables of Running jobs.
 pub follows_manifest : (merge : Operator) (world : World) (specs : ℕ → JobSpec) (w : LiveWorker) (manifest : Manifest) (entry : Entry) → Body merge world specs → manifest.version ≡ world.store.manifest.version + 1
     → ((job : ℕ) → (if stood entry.answer then beaten_in job entry.event else None) ≡ None) → ManifestSpares world manifest w.number → Follows world (with_manifest world manifest entry) w
 follows_manifest merge world specs w manifest entry b next quiet spares = record {

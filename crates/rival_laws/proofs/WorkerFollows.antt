@@ -81,6 +81,7 @@ tables_stay merge old new sources context stay put noted fits = all_to _ _ conte
 
 -- ---- lists of live attempts
 
+-- An element of a filtered list is in the whole list and passes the test.
 pub from_filter : {A : Type 0} (p : A → Bool) (xs : List A) (x : A) → IsIn x (filter p xs) → IsIn x xs × (p x ≡ true)
 from_filter p [] x there = absurd there
 from_filter {A} p (y ∷ xs) x there = by (p y) refl (from_filter p xs x) there
@@ -138,6 +139,7 @@ runs_running w a job runs = first_of_three (has_status Running job) (is_leased_t
 pub runs_number : (w : LiveWorker) (a : Attempt) (job : Job) → IsTrue (runs_attempt w.number a.number (Some job)) → a.number ≡ job.attempt
 runs_number w a job runs = (Decides-eqb a.number job.attempt).0 (last_of_three (has_status Running job) (is_leased_to w.number job.lease) (a.number == job.attempt) runs)
 
+-- What a worker holds stays so after a call that leaves all that the worker's fit reads.
 pub holds_after : (merge : Operator) (old new : World) (w : LiveWorker) (some : ℕ → JobSpec) → Faithful old some → Follows old new w → WorkerHolds merge old w → WorkerHolds merge new w
 holds_after merge old new w some was_faithful f h = record {
   fits = λ specs faithful. record {

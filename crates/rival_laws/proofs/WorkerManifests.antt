@@ -51,6 +51,7 @@ differ_on merge world specs name job b once stand = all_to _ _ job.spec.sources 
     (tree_has (λ tree. AllByRecursion (λ node. IsFlush world.store.history node node.name) tree) job.spec.segment world.store.manifest.trees tt b.nodes.flushes) named))
     (stretch_in (tree_at job.spec.segment world.store.manifest.trees) job.spec.sources stand.stretch)
 
+-- A lawful flush spares the settings and the tables of a worker's Running jobs.
 flush_spares : (merge : Operator) (world : World) (specs : ℕ → JobSpec) (party : Party) (n name : ℕ) (segment : List ℕ) (floor : ℕ) (tick : ℤ) (value : Manifest) → Body merge world specs → DrawsKept world.store.jobs_drawn world.store.tables_drawn world.store.history
     → FlushFits party world name segment floor tick value → ManifestSpares world (put_manifest world value) n
 flush_spares merge world specs party n name segment floor tick value b draws fits = subst (λ (m : Manifest). ManifestSpares world (put_manifest world m) n) (sym fits.makes) (record {
@@ -114,6 +115,7 @@ compacted_active Failed h = absurd (cc h)
 abbrev pub AreSpared : World → ℕ → Type 0
 AreSpared world t = (job : Job) → IsIn job (stored_jobs world.store) → IsTrue (has_status Compacted job) → IsIn t (concat job.outputs) → ⊥
 
+-- A table that no Compacted job has among its outputs comes to no tree by steps of a commit that fit.
 pub commit_tables : (world : World) (others : ℕ → JobSpec) (t : ℕ) → AreSpared world t → (trees : Trees) (joined : List ℕ) (steps : List Step) → StepsFit world others trees joined steps → TreesAll (IsNot t) trees
     → TreesAll (IsNot t) (stepped_all world.store.tables (λ id. (others id, outputs_in world.store.records id)) steps trees)
 commit_tables world others t spared trees joined [] fits h = h
@@ -140,6 +142,7 @@ running_spared merge world specs n job t b there runs own other among finished o
     same : Some job ≡ Some other → job ≡ other
     same e = cc e
 
+-- A lawful commit spares the settings and the tables of a worker's Running jobs.
 commit_spares : (merge : Operator) (world : World) (party : Party) (n : ℕ) (steps : List Step) (value : Manifest) → Keeps merge world → CommitFits party world steps value → ManifestSpares world (put_manifest world value) n
 commit_spares merge world party n steps value k fits = subst (λ (m : Manifest). ManifestSpares world (put_manifest world m) n) (sym fits.makes) (record {
   settings = λ job there runs s fit. record {

@@ -64,6 +64,7 @@ from_flat {A} f (x ∷ xs) y there = by (in_append y (f x) (flat_map f xs) there
     by (inl one) rest = (x, (inl refl, one))
     by (inr one) rest = later (rest one)
 
+-- Records that spare what a worker holds leave all that the worker's fit reads.
 pub follows_records : (merge : Operator) (world : World) (specs : ℕ → JobSpec) (w : LiveWorker) (records : Records) (entry : Entry) → Body merge world specs → RecordsSpare world w records entry → Follows world (with_records world records entry) w
 follows_records merge world specs w records entry b spare = record {
   grows = λ job number h. claim_grows world.store.history entry w.number job number h;
@@ -168,6 +169,7 @@ pub record WorkerSpares (world : World) (party : Party) (w : LiveWorker) (f : Jo
   pub active : IsTrue (is_active job)
   pub tables : (t : ℕ) → IsIn t (job_tables (f job)) → IsTrue (contains (job_tables job) t) ⊎ IsOwnTable party world job.id t
 
+-- A stored job that another party changes spares what a worker holds, if it gets only tables of that party's own.
 changed_spares : (merge : Operator) (world : World) (specs : ℕ → JobSpec) (party : Party) (w : LiveWorker) (f : Job → Job) (job : Job) → Case merge world specs party w → IsIn job (stored_jobs world.store) → WorkerSpares world party w f job → JobSpares world w (f job)
 changed_spares merge world specs party w f job c there s = record {
   running = λ runs leased. absurd (s.gone runs leased);
@@ -243,6 +245,7 @@ beat_spares merge world specs party w u worker attempts c fits = worker_spares m
     by job t publishes (inl one) = own job t (u.published job.id) publishes one
     by job t publishes (inr one) = inl (in_contains (job_tables job) t (in_back t (context_tables job.context) (concat job.outputs) one))
 
+-- After a lawful finish of another party each job spares what a worker holds.
 finish_spares : (merge : Operator) (world : World) (specs : ℕ → JobSpec) (party : Party) (w : LiveWorker) (u : Unrecorded) (worker id attempt : ℕ) (outputs : List (List ℕ)) → Case merge world specs party w → FinishFits merge party world u worker id attempt outputs
     → AllByRecursion (JobSpares world w) (jobs_after u (Finish worker id attempt outputs) (stored_jobs world.store))
 finish_spares merge world specs party w u worker id attempt outputs c fits = worker_spares merge world specs party w (finished_by worker u outputs) (id ∷ []) c (λ job there named.
@@ -326,6 +329,7 @@ freed_active merge world specs party u change jobs job b fits there named = by (
         let same = some_same found.job job (sym found.stored ∙ found_job (stored_jobs world.store) job b.sound.job_ids old) in
         running_active job.status (subst (λ (j : Job). IsTrue (has_status Running j)) same found.so)
 
+-- A job that a lawful poll opens was active before the poll.
 opened_active : (merge : Operator) (world : World) (specs : ℕ → JobSpec) (party : Party) (u : Unrecorded) (change : PollChange) (jobs : Jobs) (job : Job) → Body merge world specs → PollFits party world u change jobs → IsIn job (based world change) → IsTrue (contains change.scheduled job.id) → IsTrue (is_active job)
 opened_active merge world specs party u change jobs job b fits there named = by (in_new change.added (stored_jobs world.store) job there)
   where
@@ -361,6 +365,7 @@ opened_unclaimed merge world specs party w u change jobs a c fits one h named = 
 abbrev FromBase : World → LiveWorker → PollChange → Job → Type 0
 FromBase world w change new = (old : Job) × (IsIn old (based world change) × PollFrom world w old new)
 
+-- After a lawful poll each job spares what a worker holds.
 poll_spares : (merge : Operator) (world : World) (specs : ℕ → JobSpec) (party : Party) (w : LiveWorker) (u : Unrecorded) (change : PollChange) (jobs : Jobs) → Case merge world specs party w → PollFits party world u change jobs
     → AllByRecursion (JobSpares world w) (jobs_after u (Polled change) (stored_jobs world.store))
 poll_spares merge world specs party w u change jobs c fits =
