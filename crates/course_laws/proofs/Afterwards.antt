@@ -56,6 +56,7 @@ runs_come {A} who (Calls x next) old new end (met, (rivals, inr (room, run))) =
 each : (A : Type 0) → RunsComeAfter A
 each A who course old new end run = runs_come {A = A} who course old new end run
 
+-- Single calls, calls of others and runs of each kind of step lead to worlds that come after.
 pub worlds_come_after : WorldsComeAfter
 worlds_come_after = record {
   itself = comes_itself;

@@ -70,6 +70,7 @@ held_back store xs ys h = all_true_from (is_held store) ys (all_back _ xs ys (al
 abbrev IsReady : Caller → LiveWorker → World → Attempt → Option Job → Type 0
 IsReady who w world a stored = OfSome (λ job. IsLiveAt w.number a.number job × Publishes who.merge who.party world job a.context) stored
 
+-- A worker may publish the context of a live attempt that fits its stored job and notes held tables that it may name.
 ready : (who : Caller) (w : LiveWorker) (world : World) (a : Attempt) (stored : Option Job) → who.party ≡ Worker w.number → Keeps who.merge world → runs_attempt w.number a.number stored ≡ true
     → ((specs : ℕ → JobSpec) → Faithful world specs → IfSome stored (λ job. AttemptFits who.merge world.store specs job a)) → IfSome stored (λ job. AllByRecursion (MayUse (Worker w.number) world job) (noted_tables a))
     → AreHeld world.store (attempt_tables a) → IsReady who w world a stored
@@ -90,6 +91,7 @@ record AreReady (who : Caller) (w : LiveWorker) (world : World) (live : List Att
   rise : Pairs (λ a b. a.job < b.job) live
   apart : Pairs (λ a b. AreApart (noted_tables a) (noted_tables b)) live
 
+-- A worker that fits may publish the contexts of all its live attempts, and no two of these note the same table.
 are_ready : (who : Caller) (w : LiveWorker) (world : World) → who.party ≡ Worker w.number → Fit who w world → AreReady who w world (live_attempts (stored_jobs world.store) w)
 are_ready who w world by fit =
     let live = live_attempts (stored_jobs world.store) w in
@@ -107,6 +109,7 @@ are_ready who w world by fit =
 abbrev pub beat_unrecorded : ℕ → List Attempt → Unrecorded
 beat_unrecorded moment live = record { moment = moment; published = published_by live; kept_cut = None; tables_of = λ spec. [] }
 
+-- A heartbeat of live attempts is a lawful change of the records, if the worker may publish all their contexts.
 beat_fits : (who : Caller) (w : LiveWorker) (world : World) (moment : ℕ) (live : List Attempt) → who.party ≡ Worker w.number → AreReady who w world live
     → BeatFits who.merge who.party world (beat_unrecorded moment live) w.number (named_attempts live)
 beat_fits who w world moment live by r = record {
@@ -144,6 +147,7 @@ after : (who : Caller) (w : LiveWorker) (report : Beaten) (again : ℕ → Cours
 after who w report again tries world version true fit = tt
 after who w report again tries world version false fit = tries version world (fit refl)
 
+-- Once a heartbeat has got the records, its put for the live attempts is a lawful course, if another try is.
 those : (who : Caller) (w : LiveWorker) (moment : ℕ) (again : ℕ → Course (StepEnd Beaten)) → CallsKeep who.merge → RivalsKeepWorker who w → who.party ≡ Worker w.number → Tries who w again
     → (met : World) (got : Records) (live : List Attempt) → Fit who w met → met.store.records ≡ Some got → live_attempts got.jobs w ≡ live
     → IsLawfulCourse who (after_call who.line who.party (Plain GetRecords) None met) (beat_of moment w got live again)

@@ -141,6 +141,7 @@ after who options moment w these stopped again world version true by tries kept 
 )
 after who options moment w these stopped again world version false by tries kept claimed = tries version world kept
 
+-- Once a claim has got the records, its put and what comes next are a lawful course, if another try is.
 those : (who : Caller) (options : WorkerOptions) (moment : ℕ) (w : LiveWorker) (stopped : List ℕ) (again : ℕ → Course (StepEnd Claimed)) → CallsKeep who.merge → who.party ≡ Worker w.number → Tries who again
     → (met : World) (got : Records) (these : Jobs) → Keeps who.merge met → met.store.records ≡ Some got → Chosen got.jobs these
     → IsLawfulCourse who (after_call who.line who.party (Plain GetRecords) None met) (claim_of options moment w got these stopped again)

@@ -40,6 +40,7 @@ then_lacks {A} {B} who (Calls x next) second old new (met, (rivals, inr (room, r
 
 -- ---- runs are made so
 
+-- A run of two courses, one after the other, is a run of each, or it ends in the first one by a fault or out of memory.
 pub then_splits : {A B : Type 0} (who : Caller) (first : Course A) (second : A → Course B) (old new : World) (end : End B) → Runs who (then_course first second) old new end → RanThen who first second old new end
 then_splits who (Ends answer) second old new end run = GoesOn (record { answer = answer; mid = old; begins = (refl, refl); goes = run })
 then_splits who (Calls x next) second old new (Gives answer) (met, (rivals, inl stops)) = absurd stops
@@ -96,6 +97,7 @@ then_ran_lacks who (Calls x next) second old new waits left (met, (rivals, inl s
 then_ran_lacks {A} {B} who (Calls x next) second old new waits left (met, (rivals, inr (room, (later, (spares, run))))) =
     (met, (rivals, inr (room, (later, (spares, then_ran_lacks {A = A} {B = B} who (next met.store) second _ new later left run)))))
 
+-- Two courses, one after the other, have the runs that the two have, and are lawful if both are.
 composes : (A B : Type 0) → Composes A B
 composes A B = record {
   runs = λ who first second old new end r. then_runs {A = A} {B = B} who first second old new end r;

@@ -172,6 +172,7 @@ cut_kept : (release : Release) (c : Context) → c.has_cut ≡ knows_cut release
 cut_kept One c has fits = fits has
 cut_kept Two c has fits = refl
 
+-- The outputs of a finish have all rows that the attempt's settings make of the job's sources.
 rows_at : (who : Caller) (w : LiveWorker) (start now : World) (a : Attempt) (made : List (List (ℕ × List Row))) (job : Job) (specs : ℕ → JobSpec) → Begins who w start a → AreLeft (left_of who start a) a.context.ranges made
     → State who w start a (all_of made) now → AttemptFits who.merge now.store specs job a
     → job_rows who.merge a.context.settings (source_rows now.store.tables job.source_tables) ≡ record { rows = noted_rows now.store.tables (concat (all_outputs a.context.ranges (map ids_of made))); whole = true }
@@ -190,6 +191,7 @@ rows_at who w start now a made job specs b e s one =
     (subst (AllByRecursion (λ range. (range_rows who.merge start.store.tables a.context.settings a.sources range).whole ≡ true)) cut whole)
     ∙ ap (λ rows. record { rows = rows; whole = true }) (ap (flat_map (range_made who start a)) (sym cut) ∙ sym rows)
 
+-- A live attempt that fits its job may finish it with the tables that it noted and those made of the rows left.
 finishes_at : (who : Caller) (w : LiveWorker) (start now : World) (moment : ℕ) (a : Attempt) (made : List (List (ℕ × List Row))) → Begins who w start a → AreLeft (left_of who start a) a.context.ranges made
     → State who w start a (all_of made) now → (stored : Option Job) → runs_attempt w.number a.number stored ≡ true
     → ((specs : ℕ → JobSpec) → Faithful now specs → IfSome stored (λ job. AttemptFits who.merge now.store specs job a)) → IfSome stored (λ job. AllByRecursion (MayUse (Worker w.number) now job) (noted_tables a))
@@ -218,6 +220,7 @@ finishes_at who w start now moment a made b e s (Some job) live fits own = recor
           rows = λ held. rows_at who w start now a made job specs b e s one;
         }
 
+-- A finish's put of the records is lawful, if its attempt was live at the get and all rows left are in tables.
 put_fits : (who : Caller) (w : LiveWorker) (start old new : World) (moment : ℕ) (a : Attempt) (made : List (List (ℕ × List Row))) (got : Records) → Begins who w start a
     → AreLeft (left_of who start a) a.context.ranges made → old.store.records ≡ Some got → Later old new → State who w start a (all_of made) new → is_live got.jobs w.number a ≡ true
     → let change = Finish w.number a.job a.number (all_outputs a.context.ranges (map ids_of made)) in
@@ -248,6 +251,7 @@ after : (who : Caller) (w : LiveWorker) (start : World) (a : Attempt) (pairs : L
 after who w start a pairs report again tries world version true s = tt
 after who w start a pairs report again tries world version false s = tries version world (s refl)
 
+-- Once a finish has got the records, what comes next is a lawful course, if another try is.
 ended : (who : Caller) (w : LiveWorker) (start : World) (moment : ℕ) (a : Attempt) (made : List (List (ℕ × List Row))) (again : ℕ → Course (StepEnd FinishedJob)) → Relies who w → Begins who w start a
     → AreLeft (left_of who start a) a.context.ranges made → Tries who w start a (all_of made) again → (met : World) (got : Records) → State who w start a (all_of made) met → met.store.records ≡ Some got
     → (live : Bool) → is_live got.jobs w.number a ≡ live
@@ -302,6 +306,7 @@ begins who w start a by there kept holds whole = record {
   whole = whole;
 }
 
+-- If merged bytes are few, a finish is a lawful course once it has got its sources, whether a fold was refused or not.
 made_lawful : (who : Caller) (start new : World) (ask : FinishAsk) (refusal : Option (List ℕ)) → Relies who ask.worker → IsShort who.merge → who.party ≡ Worker ask.worker.number → IsIn ask.attempt ask.worker.attempts
     → Keeps who.merge start → WorkerHolds who.merge start ask.worker → WholeUnless who.merge start.store.tables ask.attempt refusal → State who ask.worker start ask.attempt [] new
     → IsLawfulCourse who new (unless_refused ask.worker ask.attempt refusal (puts_and_ends ask (tables_left who.merge start.store.tables ask)))
@@ -317,6 +322,7 @@ made_lawful who start new ask None r short by there kept holds whole s =
     (left_good who.merge start.store.tables a.context.settings a.sources range short kept.stored.sound.tables b.ordered)))) s
     (λ later made e all. end_lawful who w start ask.moment a made r b (cut_left size (left_of who start a) a.context.ranges made e) later all)
 
+-- A finish of a worker that fits is a lawful course under a lawful operator, if every lawful call keeps the invariant.
 pub finishes_are_lawful : FinishesAreLawful
 unfolding finish
 finishes_are_lawful who world ask keep operator by kept holds runs whole =

@@ -102,6 +102,7 @@ is_above_all last rows h = all_to _ _ rows (λ r there one. at last r one) (all_
 abbrev IsUnused : FlushAsk → World → Type 0
 IsUnused ask world = last_name world.store.history < ask.name
 
+-- No table has the name of a flush that is above all names that flushes have used.
 not_among : (merge : Operator) (ask : FlushAsk) (world : World) → Keeps merge world → ask.name < drawn_base → IsUnused ask world → is_among world.store.tables ask.name ≡ false
 not_among merge ask world kept low unused = by (is_among world.store.tables ask.name) refl
   where
@@ -116,6 +117,7 @@ not_among merge ask world kept low unused = by (is_among world.store.tables ask.
     by true e = absurd (at (any_element (λ (table : ℕ × List Row). table.0 == ask.name) world.store.tables e))
     by false e = refl
 
+-- A name under which no table was put was never flushed.
 pub not_flushed : (merge : Operator) (name : ℕ) (world : World) → Keeps merge world → is_among world.store.tables name ≡ false → was_flushed world.store.history name ≡ false
 not_flushed merge name world kept new = by (was_flushed world.store.history name) refl
   where
@@ -222,6 +224,7 @@ is_put_after merge line party last ask world kept sound unused =
 
 -- ---- the put of the manifest
 
+-- A flush's put of the manifest is lawful, if its table is put, it has no fault, and the version that it got is stored.
 flush_fits : (party : Party) (moment retention : ℕ) (ask : FlushAsk) (m p : World) → party ≡ Writer → ask.name < drawn_base → Later m p → IsPut ask p → fault_after_get m.store.manifest ask ≡ None
     → m.store.manifest.version ≡ p.store.manifest.version → FlushFits party p ask.name ask.segment ask.floor ask.tick (with_flush moment retention ask m.store.manifest)
 flush_fits party moment retention ask m p by low later put none version =
@@ -260,6 +263,7 @@ Tries who ask again = (version : ℕ) (world : World) → Keeps who.merge world 
 abbrev put_of : ℕ → ℕ → FlushAsk → Manifest → Exchange
 put_of moment retention ask manifest = PutsManifest manifest.version (Flush ask.name ask.segment ask.floor ask.tick) (with_flush moment retention ask manifest)
 
+-- Once a flush has put the manifest, it ends or makes another try, and is a lawful course if this try is.
 ends : (who : Caller) (moment retention : ℕ) (ask : FlushAsk) (again : ℕ → Course (StepEnd ⊤)) (m p : World) → Tries who ask again → IsPut ask p
     → Keeps who.merge (after_call who.line who.party (put_of moment retention ask m.store.manifest) None p) → (b : Bool) → (m.store.manifest.version == p.store.manifest.version) ≡ b
     → IsLawfulCourse who (after_call who.line who.party (put_of moment retention ask m.store.manifest) None p) (cond b (Ends (Reports tt)) (again p.store.manifest.version))
@@ -287,6 +291,7 @@ abbrev State : Bool → FlushAsk → World → Type 0
 State true ask world = IsPut ask world
 State false ask world = IsUnused ask world
 
+-- Once a flush has got the manifest, its puts are a lawful course, if another try is.
 over : (who : Caller) (moment retention last : ℕ) (ask : FlushAsk) (again : ℕ → Course (StepEnd ⊤)) → CallsKeep who.merge → who.party ≡ Writer → IsSoundFlush last ask → Tries who ask again → (is_put : Bool)
     → (m : World) → Keeps who.merge m → State is_put ask m → (fault : Option FlushFault) → fault_after_get m.store.manifest ask ≡ fault
     → IsLawfulCourse who (after_call who.line who.party (Plain GetManifest) None m) (unless_bad fault (puts_unless_put is_put ask (

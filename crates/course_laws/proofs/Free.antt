@@ -75,6 +75,7 @@ rivals_unput who id old new keep kept rivals h =
       unused = unused_on who.merge call.line call.party call.exchange call.strike world id (keep call.exchange call.line call.party call.strike world there rival.lawful rival.strike) last.new one.unused;
     }) old new kept rivals h
 
+-- Once a party has drawn an id for a table, that is its last call, no table has the id, and no node ever held it.
 pub drawn_unput : (who : Caller) (world : World) (moment : ℕ) → CallsKeep who.merge → Keeps who.merge world → DrawFits world.store → IsUnput who.party (after_call who.line who.party (DrawsTable moment) None world) (next_table_id moment world.store)
 drawn_unput who world moment keep kept short =
     let last = drawn_last who world moment kept short in

@@ -22,6 +22,7 @@ pub record HasRows (id : ℕ) (rows : List Row) (store : Store) : Type 0 where
   pub held : IsTrue (is_held store id)
   pub same : table_rows store.tables id ≡ rows
 
+-- An exchange that deletes no table leaves a held table held, with its rows.
 performed_rows : (x : Exchange) (store : Store) (id : ℕ) (rows : List Row) → is_deletion x ≡ false → HasRows id rows store → HasRows id rows (after_exchange x store)
 performed_rows (Plain event) store id rows none h = h
 performed_rows (DrawsJob moment) store id rows none h = record { held = h.held; same = h.same }

@@ -37,6 +37,7 @@ abbrev IsFew : Outcome → Type 0
 IsFew (Merged bytes) = length bytes < 2 ^ 32
 IsFew (Refused message) = ⊤
 
+-- Each merge of one more operand is refused or gives fewer than 2^32 bytes, if the operator always gives so few.
 few_one : (merge : Operator) → IsShort merge → (key : List ℕ) (e : Option Outcome) (x : Outcome) → IsFew (merge_one merge key e x)
 few_one merge short key (Some (Refused message)) x = tt
 few_one merge short key None (Refused message) = tt
@@ -84,6 +85,7 @@ content_few NoBase (Some (Merged bytes)) few = few
 content_few base (Some (Refused message)) few = tt
 content_few base None few = tt
 
+-- The row that a group of rows in bounds is folded into is in bounds, if merged bytes are few enough.
 chunk_in_bounds : (merge : Operator) → IsShort merge → (cut : ℕ) (g : Chunk Row) → AreInBounds (elements g) → IfSome (folded_chunk merge cut g) IsInBounds
 chunk_in_bounds merge short cut g h = by (opens_group cut g.0)
   where
@@ -97,6 +99,7 @@ chunk_in_bounds merge short cut g h = by (opens_group cut g.0)
         (few_fold merge short g.0.key (option_map Merged (base_bytes (group_base (elements g)))) (map Merged (group_operands (elements g))) (bytes_few (group_base (elements g)) (base_few (elements g) h))))
     by false = h.0
 
+-- If rows are in bounds, so are the rows of each group that they are divided into.
 chunks_in_bounds : (joins : Row → Row → Bool) (rows : List Row) → AreInBounds rows → AllByRecursion (λ g. AreInBounds (elements g)) (chunk_by joins rows)
 chunks_in_bounds joins [] h = tt
 chunks_in_bounds joins (r ∷ rows) h = put (chunk_by joins rows) (chunks_in_bounds joins rows h.1)
@@ -109,6 +112,7 @@ chunks_in_bounds joins (r ∷ rows) h = put (chunk_by joins rows) (chunks_in_bou
         by true = ((h.0, all.0), all.1)
         by false = ((h.0, tt), all)
 
+-- The rows that rows in bounds are folded into are in bounds, if merged bytes are few enough.
 folded_in_bounds : (merge : Operator) → IsShort merge → (cut : ℕ) (rows : List Row) → AreInBounds rows → IfSome (folded_rows merge cut rows) AreInBounds
 folded_in_bounds merge short cut rows h = each (operand_groups cut rows) (chunks_in_bounds (takes_next cut) rows h)
   where
@@ -141,6 +145,7 @@ walk_in_bounds cut tick (r ∷ rows) h = by (is_operand r) (is_expired r tick) (
     by false expired true rest = (tombstone_in_bounds tick r h.0, tt)
     by false expired false rest = (tombstone_in_bounds tick r h.0, rest)
 
+-- If rows are in bounds, so are those that are left without old tombstones.
 without_in_bounds : (rows : List Row) → AreInBounds rows → AreInBounds (without_old_tombstones rows)
 without_in_bounds [] h = tt
 without_in_bounds (r ∷ rows) h = before (without_old_tombstones rows) (without_in_bounds rows h.1)
@@ -162,6 +167,7 @@ kept_in_bounds s rows h = by s.last_run
 
 -- ---- a job
 
+-- The rows that a job makes of rows in bounds are in bounds, if merged bytes are few enough.
 job_in_bounds : (merge : Operator) → IsShort merge → (s : Settings) (rows : List Row) → AreInBounds rows → AreInBounds (job_rows merge s rows).rows
 job_in_bounds merge short s rows h = each (chunk_by same_key rows) (chunks_in_bounds same_key rows h)
   where

@@ -45,6 +45,7 @@ records_then a b c first second =
 
 -- ---- one call
 
+-- An exchange leaves the manifest as it is or puts one of a later version.
 performed_manifest : (x : Exchange) (store : Store) → ManifestLater store.manifest (after_exchange x store).manifest
 performed_manifest (Plain event) store = manifest_itself store.manifest
 performed_manifest (DrawsJob moment) store = manifest_itself store.manifest
@@ -63,6 +64,7 @@ performed_manifest (PutsRecords version change epoch jobs) store = by (version =
 performed_manifest ListsTables store = manifest_itself store.manifest
 performed_manifest (DeletesTable table) store = manifest_itself store.manifest
 
+-- An exchange leaves the records as they are or puts some of a later version.
 performed_records : (x : Exchange) (store : Store) → RecordsLater store.records (after_exchange x store).records
 performed_records (Plain event) store = records_itself store.records
 performed_records (DrawsJob moment) store = records_itself store.records
@@ -81,6 +83,7 @@ performed_records (PutsRecords version change epoch jobs) store = by (version ==
 performed_records ListsTables store = records_itself store.records
 performed_records (DeletesTable table) store = records_itself store.records
 
+-- An exchange leaves the history as it is, since the entry of a call is added by itself.
 performed_history : (x : Exchange) (store : Store) → (after_exchange x store).history ≡ store.history
 performed_history (Plain event) store = refl
 performed_history (DrawsJob moment) store = refl

@@ -103,6 +103,7 @@ state_table who w start a pairs table world r s =
     subst (State who w start a pairs) (sym same)
     (state_entered who w start a pairs world entry (mute_event (stood entry.answer) (GetTable table) refl).quiet (subst (Keeps who.merge) same (keeps_after who (Plain (GetTable table)) world r.keep s.kept tt)) s)
 
+-- After a finish's put of the records is refused, what the finish has made still stands.
 pub state_refused : (who : Caller) (w : LiveWorker) (start : World) (a : Attempt) (pairs : List (ℕ × List Row)) (world : World) (version : ℕ) (change : RecordChange) (epoch : ℕ) (jobs : Jobs) → (version == records_version world.store.records) ≡ false
     → Keeps who.merge (after_call who.line who.party (PutsRecords version change epoch jobs) None world) → State who w start a pairs world → State who w start a pairs (after_call who.line who.party (PutsRecords version change epoch jobs) None world)
 state_refused who w start a pairs world version change epoch jobs other kept s = by (version == records_version world.store.records) other kept
@@ -126,6 +127,7 @@ ids_of made = map (λ p. p.0) made
 abbrev pub tables_of : List (ℕ × List Row) → List (List Row)
 tables_of made = map (λ p. p.1) made
 
+-- A course that draws an id and puts a table is lawful, if what comes next is so where the table is held and free.
 one_made : {A : Type 0} (who : Caller) (w : LiveWorker) (start : World) (a : Attempt) (moment : ℕ) (rows : List Row) (pairs : List (ℕ × List Row)) (next : ℕ → Course A) (world : World) → Relies who w → IsTable rows → State who w start a pairs world
     → ((new : World) (table : ℕ) → State who w start a (pairs ++ (table, rows) ∷ []) new → IsLawfulCourse who new (next table)) → IsLawfulCourse who world (puts_table moment rows next)
 one_made who w start a moment rows pairs next world r sound s goes = λ d before room.

@@ -50,6 +50,7 @@ pub or_right : (a b : Bool) → b ≡ true → (a || b) ≡ true
 or_right true b e = refl
 or_right false b e = e
 
+-- An id that a party drew for a table is among the ids drawn for tables.
 drew_in : (party : Party) (id : ℕ) (history : List Entry) → drew_table party history id ≡ true → IsIn id (drawn_tables history)
 drew_in party id history h = at history (any_element (λ (e : Entry). party_eq party e.party && draws_table id e.event) history h)
   where
@@ -140,6 +141,7 @@ abbrev PutsOther : Exchange → ℕ → Type 0
 PutsOther (PutsTable table rows) id = table ≢ id
 PutsOther x id = ⊤
 
+-- No table has an id after an exchange that puts none under it, if none had it before.
 among_on : (x : Exchange) (store : Store) (id : ℕ) → PutsOther x id → is_among store.tables id ≡ false → is_among (after_exchange x store).tables id ≡ false
 among_on (Plain event) store id other new = new
 among_on (DrawsJob moment) store id other new = new
@@ -203,6 +205,7 @@ rivals_last_drawn who id old new keep kept rivals h = rivals_hold who (λ world.
 
 -- ---- a draw
 
+-- All names that flushes have used are below the ids that are drawn for tables.
 last_name_small : (history : List Entry) → last_name history < drawn_base
 last_name_small [] = omega arith
 last_name_small (entry ∷ history) = let first = small entry.event in let rest = last_name_small history in omega (arith, first, rest)

@@ -24,6 +24,7 @@ use Rattle.course_laws.proofs.Later.{Later, later_itself, rivals_later, later_me
 use Rattle.course_laws.proofs.Puts.{party_itself, did_later, got_records}
 use Rattle.step_laws.proofs.MidwayCalls.{unnamed}
 
+-- A coordinator may raise the manifest's epoch above those that it got, if the version that it got is stored.
 epoch_fits : (party : Party) (number : ℕ) (old new : World) (records : Option Records) → party ≡ Coordinator number → Later old new → old.store.manifest.version ≡ new.store.manifest.version
     → ManifestEpochFits party new (epoch_above old.store.manifest records) (record old.store.manifest { epoch = epoch_above old.store.manifest records })
 epoch_fits party number old new records by later version =
@@ -36,6 +37,7 @@ epoch_fits party number old new records by later version =
       makes = ap (λ (m : Manifest). record m { epoch = epoch_above old.store.manifest records }) (sym same);
     }
 
+-- A put of an epoch into the records is lawful, if its party put the epoch into the manifest and got a lower one.
 records_fit : (who : Caller) (old new : World) (records : Option Records) (epoch : ℕ) → old.store.records ≡ records → Later old new → records_epoch records + 1 ≤ epoch → IsTrue (did_put_epoch who.party new.store.history epoch)
     → Lawful who.merge who.party new (PutsRecords (records_version records) (RecordsEpoch epoch) epoch (trimmed_jobs (jobs_in records)))
 records_fit who old new records epoch is later low put = (unnamed who.party new, fits)
@@ -77,6 +79,7 @@ over : (who : Caller) (again : ℕ → Course (StepEnd ℕ)) → Tries who again
 over who again tries met version epoch true = holds_lawful who met epoch
 over who again tries met version epoch false = tries version met
 
+-- Once a start has put the manifest, whether with effect or not, it is a lawful course, if another try is.
 after_manifest : (who : Caller) (again : ℕ → Course (StepEnd ℕ)) → Tries who again → (m r p : World) → Later r p → (b : Bool) → (m.store.manifest.version == p.store.manifest.version) ≡ b
     → let epoch = epoch_above m.store.manifest r.store.records in
     IsLawfulCourse who (after_call who.line who.party (PutsManifest m.store.manifest.version (ManifestEpoch epoch) (record m.store.manifest { epoch = epoch })) None p)
@@ -91,6 +94,7 @@ after_manifest who again tries m r p got true e = λ q rivals room.
     )
 after_manifest who again tries m r p got false e = tries p.store.manifest.version _
 
+-- A coordinator's start with any number of tries left is a lawful course over any store.
 pub starts : (who : Caller) (number : ℕ) → who.party ≡ Coordinator number → (left seen : ℕ) (world : World) → IsLawfulCourse who world (tries start_try left seen)
 starts who number by zero seen world = tt
 starts who number by (suc left) seen world = λ m before room. (

@@ -91,6 +91,7 @@ fits_on who world gone table by other fits =
       not_pending = pending_on world.store.history _ table by fits.not_pending;
     }
 
+-- Deletions of different tables are a lawful course of a sweeper that is alone, if each is lawful now and the rest is.
 deletes_lawful : {A : Type 0} (who : Caller) (next : Course A) (tables : List ℕ) (world : World) → who.alone ≡ true → who.party ≡ Sweeper → AllByRecursion (DeletionFits who.party world.store) tables → Pairs (λ a b. a ≢ b) tables
     → ((new : World) → IsLawfulCourse who new next) → IsLawfulCourse who world (deletes_each tables next)
 deletes_lawful who next [] world alone by fits differ rest = rest world
@@ -129,6 +130,7 @@ after_records pins manifest met = Calls ListsTables (after_list pins manifest me
 abbrev after_manifest : List ℕ → Store → Course (List ℕ)
 after_manifest pins met = Calls (Plain GetRecords) (after_records pins met.manifest)
 
+-- A sweep that is alone is a lawful course, if the invariant is met and no flush is about to bring a table to a tree.
 pub sweeps_are_lawful : SweepsAreLawful
 unfolding sweep
 sweeps_are_lawful who world pins alone by kept none =
