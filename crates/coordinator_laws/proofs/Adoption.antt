@@ -76,6 +76,7 @@ same_by_ids xs ys rise up same = same_lists xs ys rise up
 cond_cond : (A : Type 0) (b : Bool) (x y : A) → b ≡ true → cond b x y ≡ x
 cond_cond A b x y e = ap (λ c. cond c x y) e
 
+-- If a job is put among jobs without its id, its id finds it, and each other id finds what it found before.
 find_put : (new : Job) (id : ℕ) (jobs : Jobs) → job_with new.id jobs ≡ None → job_with id (put_job new jobs) ≡ cond (id == new.id) (Some new) (job_with id jobs)
 find_put new id [] none = refl
 find_put new id (job ∷ jobs) none = by (nat_lt new.id job.id) (find_put new id jobs (rest none (new.id == job.id) refl))
@@ -104,6 +105,7 @@ find_put new id (job ∷ jobs) none = by (nat_lt new.id job.id) (find_put new id
     by true e = refl
     by false e = ap (λ o. cond (id == job.id) (Some job) o) e ∙ swap (id == new.id) (id == job.id) refl refl
 
+-- If a job replaces the one with its id, its id finds it, and each other id finds what it found before.
 find_replaced : (new : Job) (id : ℕ) (jobs : Jobs) (local : Job) → job_with new.id jobs ≡ Some local → job_with id (with_replaced new jobs) ≡ cond (id == new.id) (Some new) (job_with id jobs)
 find_replaced new id [] local e = absurd (none_some Job local e)
 find_replaced new id (job ∷ jobs) local e = by (λ f. find_replaced new id jobs local f) (new.id == job.id) refl
@@ -158,6 +160,7 @@ abbrev pub combined : Option Job → Option Job → Option Job
 combined local None = local
 combined local (Some remote) = taken_job local remote
 
+-- After a merge of stored jobs into local ones, each id finds what the merge of the two jobs with that id gives.
 pub find_merged : (id : ℕ) (local jobs : Jobs) → Pairs (λ a b. a.id < b.id) jobs → job_with id (merged_jobs local jobs) ≡ combined (job_with id local) (job_with id jobs)
 find_merged id local [] rise = refl
 find_merged id local (remote ∷ jobs) rise =
@@ -184,6 +187,7 @@ rise_replaced new jobs rise = pairs_map (λ (a b : Job). a.id < b.id) (λ (a b :
         by true e = (Decides-eqb new.id x.id).0 e
         by false e = refl
 
+-- Local jobs with rising ids still have rising ids after stored jobs are merged into them.
 rise_merged : (local jobs : Jobs) → Pairs (λ a b. a.id < b.id) local → Pairs (λ a b. a.id < b.id) (merged_jobs local jobs)
 rise_merged local [] rise = rise
 rise_merged local (remote ∷ jobs) rise = rise_merged (take_in remote (job_with remote.id local) local) jobs (by (job_with remote.id local) refl)
@@ -256,6 +260,7 @@ adopts_running Compacted h = absurd (cc h)
 adopts_running Completed h = absurd (cc h)
 adopts_running Failed h = absurd (cc h)
 
+-- In a merge, a stored job that is open or Compacted replaces a local job that is open.
 adopts_open : (s t : Status) → IsTrue (is_open s) → IsTrue (is_open t || status_eq Compacted t) → adopts s t ≡ true
 adopts_open Scheduled Scheduled h k = refl
 adopts_open Scheduled Running h k = refl
@@ -284,6 +289,8 @@ taken_ended true opened completed failed tables old new fit moves ends stays = a
 taken_ended false opened completed failed tables old new fit moves ends stays =
     picks (adopts (done_to false opened completed failed tables old).status new.status) false new (done_to false opened completed failed tables old) stays ∙ ap (λ (j : Job). Some (done_to false opened completed failed tables j)) (sym (ends_stays old new ends moves))
 
+-- If others moved a job since a poll got it, merging it into what the poll made of it gives what the poll's marks make
+-- of the moved job, without the mark that it is freed.
 pub taken_did : (freed opened completed failed : Bool) (tables : List ℕ) (old new : Job) → MarksFit freed opened completed failed old → JobMoves old new
     → taken_job (Some (done_to freed opened completed failed tables old)) new ≡ Some (done_to false opened completed failed tables new)
 taken_did freed opened completed true tables old new fit moves = taken_ended freed opened completed true tables old new fit moves (fit.fails refl) (adopts_failed new.status)
@@ -333,6 +340,7 @@ base_of got newer p a P ids b there h named =
 freed_base : (got newer : Jobs) (p : PollState) (a : Adopts got newer p) → AllByRecursion (Among IsRunning (with_new p.added got)) p.freed
 freed_base got newer p a = all_to _ _ p.freed (λ id there found. (found.0, (in_new_old p.added got found.0 found.1.0, found.1.1))) a.reached.freed
 
+-- Each job that a poll got or added has a status that allows the marks which the poll gave it.
 pub marks_fit : (got newer : Jobs) (p : PollState) (a : Adopts got newer p) (b : Job) → IsIn b (with_new p.added got) → MarksFit (contains p.freed b.id) (contains p.opened b.id) (is_completed p b.id) (is_failed p b.id) b
 marks_fit got newer p a b there = record {
   runs = λ named. base_of got newer p a IsRunning p.freed b there (freed_base got newer p a) named;
@@ -356,6 +364,7 @@ marks_fit got newer p a b there = record {
 abbrev pub kept_marks : PollState → (ℕ → List ℕ) → Marks
 kept_marks p tables = record { freed = λ n. false; opened = contains p.opened; completed = is_completed p; failed = is_failed p; tables = tables }
 
+-- A poll gave no mark, but perhaps that it is freed, to an id that no job has which it got or added.
 no_mark : (got newer : Jobs) (p : PollState) (a : Adopts got newer p) (id : ℕ) → ((job : Job) → IsIn job (with_new p.added got) → job.id ≡ id → ⊥) → UnmarkedAt (kept_marks p a.reached.tables) id
 no_mark got newer p a id none = record {
   freed = refl;
@@ -376,6 +385,7 @@ no_mark got newer p a id none = record {
 new_not_running : (q : ℕ × JobSpec) (job : Job) → new_job q ≡ job → IsRunning job → ⊥
 new_not_running q job is runs = absurd (cc (subst IsRunning (sym is) runs))
 
+-- A poll's jobs merged with newer ones are what its marks, but for freed ones, make of those and of the added ones.
 pub adopted_jobs : (got newer : Jobs) (p : PollState) (a : Adopts got newer p) → merged_jobs p.jobs newer ≡ map (did (kept_marks p a.reached.tables)) (with_new p.added newer)
 adopted_jobs got newer p a = same_by_ids (merged_jobs p.jobs newer) (map (did new_marks) (with_new p.added newer)) (rise_merged p.jobs newer (jobs_rise got p a.reached)) rise_new_jobs (λ id. find_merged id p.jobs newer a.rise ∙ found id (job_with id (with_new p.added got)) refl (job_with id newer) refl)
   where
@@ -486,6 +496,7 @@ record Before (p : PollState) (new : Job) : Type 0 where
   spec : job.spec ≡ new.spec
   holds : IsTrue (reserves_nodes job)
 
+-- After a merge of newer jobs into a poll, its jobs are what its marks make of those and of the jobs that it added.
 pub merged_reached : (got newer : Jobs) (p : PollState) (a : Adopts got newer p) → JobsReached newer (merged_into p newer)
 merged_reached got newer p a = record {
   tables = a.reached.tables;

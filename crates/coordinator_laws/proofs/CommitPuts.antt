@@ -24,6 +24,7 @@ record IsReadyWith (who : Caller) (e : ℕ) (m r : World) (drawn : List (ℕ × 
   ready : Ready who e m r world
   fresh : AreFresh who.party world drawn
 
+-- After a poll's draws, what is so since both gets still holds, and the drawn ids are new.
 drew_ready : (who : Caller) (e moment : ℕ) (m r : World) (before drawn : List (ℕ × JobSpec)) (old new : World) → CallsKeep who.merge
     → Ready who e m r old → AreFresh who.party old before → Drew who moment drawn old new → IsReadyWith who e m r (before ++ drawn) new
 drew_ready who e moment m r before [] old new keep s fresh rivals = record {
@@ -49,6 +50,7 @@ made_by who ask drawn m r at got f = record {
   known = f.known;
 }
 
+-- What a poll reached is what its steps make over each store that still has the manifest that it got.
 pub polls_put_their_steps : PollsPutTheirSteps
 polls_put_their_steps who number ask local drawn old shown found at lawful by h version =
     let keep = calls_keep who.merge lawful in

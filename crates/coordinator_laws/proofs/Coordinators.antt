@@ -132,6 +132,7 @@ after_manifest who number epoch left m r p new keep by kept again lawful false o
     let e = epoch_above m.store.manifest r.store.records in
     again p.store.manifest.version _ (keeps_after who (PutsManifest m.store.manifest.version (ManifestEpoch e) (record m.store.manifest { epoch = e })) p keep kept lawful) run
 
+-- A start that reports has put the epoch that it reports, which is above 0, and the records have it or a later one.
 start_runs : (who : Caller) (number epoch : ℕ) (new : World) → CallsKeep who.merge → who.party ≡ Coordinator number → (left seen : ℕ) (old : World) → Keeps who.merge old → Runs who (tries start_try left seen) old new (Gives (Reports epoch)) → HasEpoch who.party epoch new × (0 < epoch)
 start_runs who number epoch new keep by zero seen old kept run = absurd (never run.1)
   where

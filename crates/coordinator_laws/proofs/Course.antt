@@ -269,6 +269,7 @@ puts_changed who e m r t got ask drawn keep lawful g s fresh equal = subst (Puts
         at (step ∷ steps) h (inl same) = subst (IsNamed (own_specs got.jobs drawn) p.added) same (h.0 (ap (λ n. job_with n (stored_jobs t.store)) same ∙ none))
         at (step ∷ steps) h (inr one) = at steps h.1 one
 
+-- The puts of a poll after its draws are a lawful course, if another try of it is one.
 trees_lawful : (who : Caller) (e : ℕ) (m r d : World) (got : Records) (ask : PollAsk) (drawn : List (ℕ × JobSpec)) (left seen : ℕ) (again : ℕ → Course (StepEnd PollState)) → CallsKeep who.merge → IsLawful who.merge → 0 < e → Got who e m r got → Tries who e again
     → Ready who e m r d → AreFresh who.party d drawn
     → let input = input_of ask r.store.tables m.store.manifest got in
@@ -303,6 +304,7 @@ trees_lawful who e m r d got ask drawn left seen again keep lawful counted g tri
 
 -- ---- the draws
 
+-- Draws of jobs are a lawful course, if what comes after them is one with any new ids.
 draws_lawful : {A B : Type 0} (who : Caller) (e moment : ℕ) (m r : World) (xs : List B) (before : List (ℕ × B)) (next : List (ℕ × B) → Course A) (world : World) → CallsKeep who.merge → Ready who e m r world → AreFresh who.party world before
     → ((new : World) (drawn : List (ℕ × B)) → Ready who e m r new → AreFresh who.party new (before ++ drawn) → IsLawfulCourse who new (next drawn)) → IsLawfulCourse who world (draws_jobs moment xs next)
 draws_lawful who e moment m r [] before next world keep s fresh goes = goes world [] s (subst (AreFresh who.party world) (sym (append-nil before)) fresh)
@@ -375,6 +377,7 @@ records_lawful who ask m r left seen again keep lawful counted kept epoch tries 
         let low = ltb-false ask.epoch got.epoch e in
         over_lawful who ask m r got left seen again keep lawful counted (got_both who ask.epoch m r got kept epoch s is low) tries (after_call who.line who.party (Plain GetRecords) None r) (ready_both who ask.epoch m r keep s trees)
 
+-- What a poll does after its get of the manifest is a lawful course, if another try of it is one.
 manifest_lawful : (who : Caller) (ask : PollAsk) (m : World) (left seen : ℕ) (again : ℕ → Course (StepEnd PollState)) → CallsKeep who.merge → IsLawful who.merge → 0 < ask.epoch → Keeps who.merge m → HasEpoch who.party ask.epoch m → Tries who ask.epoch again
     → IsLawfulCourse who (after_call who.line who.party (Plain GetManifest) None m) (unless_fenced ask.epoch m.store.manifest.epoch (Calls (Plain GetRecords) (λ met.
     let got = records_or_none met.records in unless_fenced ask.epoch got.epoch (polls_over ask met.tables m.store.manifest got left seen again))))

@@ -38,6 +38,7 @@ use Rattle.rival_laws.proofs.FreeTables.{refused}
 
 -- ---- calls that leave both objects
 
+-- A coordinator that fits still fits after each call that leaves the manifest and the records, whoever makes it.
 pub looks_keep_fit : LooksKeepFit
 looks_keep_fit line party x strike world c local manifest records h = record {
   counted = h.counted;
@@ -154,6 +155,8 @@ jobs_hold who e local world call k rival h =
 
 -- ---- the two gets
 
+-- Merging the objects that a coordinator got into its local state gives what it got, but for finished local jobs, as
+-- long as neither object has a later epoch.
 pub got_objects_merge : GotObjectsMerge
 got_objects_merge who old m r number epoch local keep by kept holds before manifest between records =
     let c : LiveCoordinator = record { number = number; epoch = epoch } in

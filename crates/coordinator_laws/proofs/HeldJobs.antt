@@ -72,6 +72,7 @@ in_tail jobs first x there = by (is_active first) (finished_later jobs)
     by false true = there
     by false false = inr there
 
+-- Of jobs with rising ids, a put keeps each one, or that job is finished and a later finished one is kept.
 pub kept_or_outlived : (jobs : Jobs) (job : Job) → Pairs (λ a b. a.id < b.id) jobs → IsIn job jobs → Kept jobs job
 kept_or_outlived [] job rise there = absurd there
 kept_or_outlived (first ∷ jobs) job rise (inr there) = by (kept_or_outlived jobs job rise.1 there)
@@ -117,6 +118,7 @@ itself job = by (adopts job.status job.status)
 abbrev pub AreOver : Option Local → Jobs → Type 0
 AreOver before jobs = (job : Job) → job_with job.id jobs ≡ None → job_held before job.id ≡ Some job → IsTrue (is_finished job.status) × IsOutlived jobs job
 
+-- The jobs that a put of the records leaves merge into any jobs that the coordinator may hold after it.
 pub merge_put : (before : Option Local) (jobs held : Jobs) → Pairs (λ a b. a.id < b.id) jobs → AllByRecursion (λ job. job_with job.id held ≡ Some job) (trimmed_jobs jobs)
     → AllByRecursion (λ job. option_or (job_with job.id jobs) (job_held before job.id) ≡ Some job) held → AreOver before jobs → JobsMerge held (trimmed_jobs jobs)
 merge_put before jobs held rise kept only old = record {
@@ -160,6 +162,7 @@ new_if_over Compacted h = absurd (cc h)
 taken_over : (job : Job) → is_taken_new job.status ≡ true → taken_job None job ≡ Some job
 taken_over job e = ap (λ b. cond b (Some job) None) e
 
+-- If a poll put no records, the stored jobs merge into any jobs that the coordinator may hold after it.
 pub merge_still : (before : Option Local) (got stored held : Jobs) → Pairs (λ a b. a.id < b.id) got → Moves got stored → AllByRecursion (λ job. job_with job.id held ≡ Some job) (trimmed_jobs got)
     → AllByRecursion (λ job. option_or (job_with job.id got) (job_held before job.id) ≡ Some job) held → JobsMergeIfThere before stored → JobsMerge held stored
 merge_still before got stored held rise moves kept only old = record {

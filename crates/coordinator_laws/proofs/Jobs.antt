@@ -80,6 +80,7 @@ pub data Changes (f : Job → Job) (id : ℕ) (jobs : Jobs) (x : Job) : Type 0 w
   IsChanged : (old : Job) → IsIn old jobs → id ≡ old.id → f old ≡ x → Changes f id jobs x
   IsSame : IsIn x jobs → (id ≡ x.id → ⊥) → Changes f id jobs x
 
+-- After a change of the job with an id, each job is that one changed, or a job with another id that was there before.
 pub changes : (f : Job → Job) (id : ℕ) (jobs : Jobs) (x : Job) → IsIn x (changed_jobs f (id ∷ []) jobs) → Changes f id jobs x
 changes f id [] x there = absurd there
 changes f id (job ∷ jobs) x there = by (id == job.id) refl there (λ one. later (changes f id jobs x one))
@@ -216,6 +217,7 @@ all_firsts_push P xs id rule h one = subst (AllByRecursion P) (sym (firsts_push 
 
 -- ---- the steps
 
+-- The jobs of a poll are still marks of those that it got and added after it commits a Compacted one.
 pub reached_done : (got : Jobs) (p new : PollState) (job : Job) → (r : JobsReached got p) → IsIn job p.jobs → IsCompacted job
     → new ≡ record p { trees = new.trees; horizon = new.horizon; jobs = changed_jobs to_completed (job.id ∷ []) p.jobs; steps = new.steps; done = p.done ++ job.id ∷ [] } → JobsReached got new
 reached_done got p new job r there status is = subst (JobsReached got) (sym is) (record {
@@ -233,6 +235,7 @@ reached_done got p new job r there status is = subst (JobsReached got) (sym is) 
   apart = held_ended to_completed job.id p.jobs (λ j. refl) (λ j. refl) (λ j holds. cc holds) r.apart;
 })
 
+-- The jobs of a poll are still marks of those that it got and added after it moves a Submitted one.
 pub reached_moved : (got : Jobs) (p new : PollState) (job : Job) → (r : JobsReached got p) → IsIn job p.jobs → IsSubmitted job
     → new ≡ record p { trees = new.trees; jobs = changed_jobs to_completed (job.id ∷ []) p.jobs; steps = new.steps; moved = p.moved ++ job.id ∷ [] } → JobsReached got new
 reached_moved got p new job r there status is = subst (JobsReached got) (sym is) (record {
@@ -250,6 +253,7 @@ reached_moved got p new job r there status is = subst (JobsReached got) (sym is)
   apart = held_ended to_completed job.id p.jobs (λ j. refl) (λ j. refl) (λ j holds. cc holds) r.apart;
 })
 
+-- The jobs of a poll are still marks of those that it got and added after it drains a Submitted one.
 pub reached_drained : (got : Jobs) (p new : PollState) (job : Job) → (r : JobsReached got p) → IsIn job p.jobs → IsSubmitted job
     → new ≡ record p { trees = new.trees; jobs = changed_jobs to_completed (job.id ∷ []) p.jobs; steps = new.steps; drained = p.drained ++ job.id ∷ [] } → JobsReached got new
 reached_drained got p new job r there status is = subst (JobsReached got) (sym is) (record {
@@ -267,6 +271,7 @@ reached_drained got p new job r there status is = subst (JobsReached got) (sym i
   apart = held_ended to_completed job.id p.jobs (λ j. refl) (λ j. refl) (λ j holds. cc holds) r.apart;
 })
 
+-- The jobs of a poll are still marks of those that it got and added after the commit of a Compacted one fails.
 pub reached_lost : (got : Jobs) (p : PollState) (job : Job) (rule : ℕ) → (r : JobsReached got p) → IsIn job p.jobs → IsCompacted job → JobsReached got (record p { jobs = changed_jobs to_failed (job.id ∷ []) p.jobs; lost = p.lost ++ (job.id, rule) ∷ [] })
 reached_lost got p job rule r there status = record {
   tables = r.tables;
@@ -283,6 +288,7 @@ reached_lost got p job rule r there status = record {
   apart = held_ended to_failed job.id p.jobs (λ j. refl) (λ j. refl) (λ j holds. cc holds) r.apart;
 }
 
+-- The jobs of a poll are still marks of those that it got and added after it refuses a Submitted one.
 pub reached_refused : (got : Jobs) (p : PollState) (job : Job) (rule : ℕ) → (r : JobsReached got p) → IsIn job p.jobs → IsSubmitted job → JobsReached got (record p { jobs = changed_jobs to_failed (job.id ∷ []) p.jobs; refused = p.refused ++ (job.id, rule) ∷ [] })
 reached_refused got p job rule r there status = record {
   tables = r.tables;
@@ -303,6 +309,7 @@ reached_refused got p job rule r there status = record {
 abbrev pub IsAwayFrom : Job → Jobs → Type 0
 IsAwayFrom job jobs = (other : Job) → IsIn other jobs → (job.id ≡ other.id → ⊥) → IsTrue (reserves_nodes other) → IsTrue (is_apart (nodes_of job.spec) (nodes_of other.spec))
 
+-- The jobs of a poll are still marks of those that it got and added after it opens one whose nodes no other holds.
 pub reached_opened : (got : Jobs) (p : PollState) (job : Job) (tables_of : JobSpec → List ℕ) → (r : JobsReached got p) → IsIn job p.jobs → IsSubmitted job → IsAwayFrom job p.jobs
     → JobsReached got (record p { jobs = changed_jobs (to_scheduled tables_of) (job.id ∷ []) p.jobs; opened = p.opened ++ job.id ∷ [] })
 reached_opened got p job tables_of r there submitted away = record {
@@ -363,6 +370,7 @@ none_of_three a b c e f g = rw (e, f, g) refl
 none_of_two : (a b : Bool) → a ≡ false → b ≡ false → (a || b) ≡ false
 none_of_two a b e f = rw (e, f) refl
 
+-- The jobs of a poll are still marks of those that it got and added after it adds one with an id of its own.
 pub reached_added : (got : Jobs) (p : PollState) (q : ℕ × JobSpec) → (r : JobsReached got p) → ((job : Job) → IsIn job (with_new p.added got) → q.0 ≡ job.id → ⊥)
     → JobsReached got (record p { jobs = put_job (new_job q) p.jobs; added = p.added ++ q ∷ [] })
 reached_added got p q r new = record {

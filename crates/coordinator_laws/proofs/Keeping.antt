@@ -30,6 +30,7 @@ use Rattle.coordinator_laws.proofs.HeldJobs.{itself}
 
 -- ---- an entry alone
 
+-- A coordinator that fits still fits after an entry alone, which leaves both objects.
 holds_entered : (world : World) (c : LiveCoordinator) (local : Option Local) (jobs_drawn tables_drawn : ℕ) (entry : Entry) → CoordinatorHolds world c local → CoordinatorHolds (entered world world.store.deleted jobs_drawn tables_drawn entry) c local
 holds_entered world c local jobs_drawn tables_drawn entry h = record {
   counted = h.counted;

@@ -16,6 +16,7 @@ done_to freed opened completed failed tables job =
     cond failed (to_failed (cond completed (to_completed (cond opened (to_scheduled (λ spec. tables) (cond freed (to_waiting job) job)) (cond freed (to_waiting job) job))) (cond opened (to_scheduled (λ spec. tables) (cond freed (to_waiting job) job)) (cond freed (to_waiting job) job))))
     (cond completed (to_completed (cond opened (to_scheduled (λ spec. tables) (cond freed (to_waiting job) job)) (cond freed (to_waiting job) job))) (cond opened (to_scheduled (λ spec. tables) (cond freed (to_waiting job) job)) (cond freed (to_waiting job) job)))
 
+-- Whatever a poll did to a job, the job keeps its id.
 pub done_id : (freed opened completed failed : Bool) (tables : List ℕ) (job : Job) → (done_to freed opened completed failed tables job).id ≡ job.id
 done_id true true true true tables job = refl
 done_id true true true false tables job = refl
@@ -34,6 +35,7 @@ done_id false false true false tables job = refl
 done_id false false false true tables job = refl
 done_id false false false false tables job = refl
 
+-- Whatever a poll did to a job, the job keeps its spec.
 pub done_spec : (freed opened completed failed : Bool) (tables : List ℕ) (job : Job) → (done_to freed opened completed failed tables job).spec ≡ job.spec
 done_spec true true true true tables job = refl
 done_spec true true true false tables job = refl
@@ -162,6 +164,7 @@ is_failed p n = contains (firsts p.lost) n || contains (firsts p.refused) n
 abbrev pub marks_of : PollState → (ℕ → List ℕ) → Marks
 marks_of p tables = record { freed = contains p.freed; opened = contains p.opened; completed = is_completed p; failed = is_failed p; tables = tables }
 
+-- A list with a number added at its end has those that it had, and that number.
 pub contains_push : (xs : List ℕ) (x n : ℕ) → contains (xs ++ x ∷ []) n ≡ (contains xs n || (x == n))
 contains_push [] x n = by (x == n)
   where

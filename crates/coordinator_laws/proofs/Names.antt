@@ -90,6 +90,7 @@ unnamed_stays : (history : List Entry) (entry : Entry) (id : ℕ) → (IsIn id (
 unnamed_stays history entry id other h =
     any_push_no (λ (e : Entry). contains (firsts (named_specs e.event)) id && stood e.answer) history entry (rw (contains_no (firsts (named_specs entry.event)) id other) refl) ∙ h
 
+-- A party may still name its jobs after an entry that mentions none, if tables stay and no further replay is faithful.
 pub named_on : (party : Party) (world new : World) (named : List (ℕ × JobSpec)) (entry : Entry) → new.store.tables ≡ world.store.tables → new.store.history ≡ world.store.history ++ entry ∷ [] → ((specs : ℕ → JobSpec) → Faithful new specs → Faithful world specs)
     → ((p : ℕ × JobSpec) → IsIn p named → contains (mentioned_in entry) p.0 ≡ false) → MayName party world named → MayName party new named
 named_on party world new named entry tables grown before none h = record {
@@ -153,6 +154,7 @@ named_table party world table named puts h = record {
 
 -- ---- calls of others
 
+-- A party may still name its jobs after a lawful call of any party that mentions none of them.
 named_outcome : (merge : Operator) (party : Party) (world new : World) (caller : Party) (x : Exchange) (named : List (ℕ × JobSpec)) (entry : Entry) → Keeps merge world → new.store.history ≡ world.store.history ++ entry ∷ []
     → ((p : ℕ × JobSpec) → IsIn p named → contains (mentioned_in entry) p.0 ≡ false) → Outcome merge caller world x new → MayName party world named → MayName party new named
 named_outcome merge party world new caller x named entry k grown none (Notes jobs_drawn tables_drawn other mute is) h =

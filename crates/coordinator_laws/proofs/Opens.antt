@@ -59,6 +59,7 @@ in_firsts lost id there = from_map_pairs lost there
     from_map_pairs (l ∷ ls) (inl same) = (l, (inl refl, same))
     from_map_pairs (l ∷ ls) (inr there) = let found = from_map_pairs ls there in (found.0, (inr found.1.0, found.1.1))
 
+-- A stored job that holds nodes and was never joined holds them in the poll, or failed there by the scheduler's rule.
 held_by : {merge : Operator} {party : Party} {h : World} {input : PollInput} {got : Jobs} {drawn : List (ℕ × JobSpec)} {start : Trees} {own : ℕ → JobSpec} {horizon : ℕ} {p : PollState}
     → Case merge party h input got drawn start → TreesReached party h input drawn own start horizon p → JobsReached got p → (s : Job) → IsIn s (stored_jobs h.store) → IsTrue (reserves_nodes s)
     → contains (joined_by p.steps []) s.id ≡ false → was_joined h.store.history s.id ≡ false → HeldBy p s
@@ -133,6 +134,7 @@ held_by {merge} {party} {h} {input} {got} {drawn} {start} {own} {horizon} {p} c 
 
 -- ---- jobs that are done at once
 
+-- A commit may do a Submitted job of a poll at once, if the job passes the gate.
 pub at_once_fits : {merge : Operator} {party : Party} {h : World} {input : PollInput} {got : Jobs} {drawn : List (ℕ × JobSpec)} {start : Trees} {own : ℕ → JobSpec} {horizon : ℕ} {p : PollState}
     → Case merge party h input got drawn start → TreesReached party h input drawn own start horizon p → JobsReached got p → (job : Job) → IsIn job p.jobs → IsSubmitted job
     → submit_gate p.trees p.jobs (lost_to_scheduler p.lost) (accepts input p) job ≡ None → AtOnceFits h p.trees (joined_by p.steps []) job.spec job.id
@@ -234,6 +236,7 @@ move_same a b id spec (s ∷ trees) h =
 
 -- ---- each way
 
+-- The steps of a poll still fit and make its trees after it refuses a Submitted job.
 pub trees_refused : {merge : Operator} {party : Party} {h : World} {input : PollInput} {got : Jobs} {drawn : List (ℕ × JobSpec)} {start : Trees} {own : ℕ → JobSpec} {horizon : ℕ} {p : PollState}
     → Case merge party h input got drawn start → TreesReached party h input drawn own start horizon p → JobsReached got p → (job : Job) (rule : ℕ) → IsIn job p.jobs → IsSubmitted job
     → TreesReached party h input drawn own start horizon (open_by input job (Some rule) p)
@@ -251,6 +254,7 @@ trees_refused {merge} {party} {h} {input} {got} {drawn} {start} {own} {horizon} 
   covered = t.covered;
 }
 
+-- The steps of a poll still fit and make its trees after it opens a Submitted job that passes the gate and is no drain.
 pub trees_scheduled : {merge : Operator} {party : Party} {h : World} {input : PollInput} {got : Jobs} {drawn : List (ℕ × JobSpec)} {start : Trees} {own : ℕ → JobSpec} {horizon : ℕ} {p : PollState}
     → Case merge party h input got drawn start → TreesReached party h input drawn own start horizon p → JobsReached got p → (job : Job) → IsIn job p.jobs → IsSubmitted job → is_drain job.spec ≡ false
     → submit_gate p.trees p.jobs (lost_to_scheduler p.lost) (accepts input p) job ≡ None → TreesReached party h input drawn own start horizon (schedule_job job p)
@@ -269,6 +273,7 @@ trees_scheduled {merge} {party} {h} {input} {got} {drawn} {start} {own} {horizon
   covered = t.covered;
 }
 
+-- The steps of a poll still fit and make its trees after it drains a Submitted job that passes the gate.
 pub trees_drained : {merge : Operator} {party : Party} {h : World} {input : PollInput} {got : Jobs} {drawn : List (ℕ × JobSpec)} {start : Trees} {own : ℕ → JobSpec} {horizon : ℕ} {p : PollState}
     → Case merge party h input got drawn start → TreesReached party h input drawn own start horizon p → JobsReached got p → (job : Job) → IsIn job p.jobs → IsSubmitted job → is_drain job.spec ≡ true
     → submit_gate p.trees p.jobs (lost_to_scheduler p.lost) (accepts input p) job ≡ None → TreesReached party h input drawn own start horizon (drain_job input job p)
@@ -315,6 +320,7 @@ trees_drained {merge} {party} {h} {input} {got} {drawn} {start} {own} {horizon} 
               order = in_order h.store.tables s fit.tree;
             }
 
+-- The steps of a poll still fit and make its trees after it moves a Submitted job that passes the gate and may move.
 pub trees_moved : {merge : Operator} {party : Party} {h : World} {input : PollInput} {got : Jobs} {drawn : List (ℕ × JobSpec)} {start : Trees} {own : ℕ → JobSpec} {horizon : ℕ} {p : PollState}
     → Case merge party h input got drawn start → TreesReached party h input drawn own start horizon p → JobsReached got p → (job : Job) → IsIn job p.jobs → IsSubmitted job → is_drain job.spec ≡ false → can_move input p.trees job.spec ≡ true
     → submit_gate p.trees p.jobs (lost_to_scheduler p.lost) (accepts input p) job ≡ None → TreesReached party h input drawn own start horizon (move_job input job p)

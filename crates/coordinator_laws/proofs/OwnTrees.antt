@@ -43,6 +43,7 @@ flushes_then_runs mark (node ∷ tree) order h =
     by (L0 flush) before rest = ap (λ (ns : Tree). node ∷ ns) rest
     by (Run id) before rest = ap (λ (ns : Tree). node ∷ ns) (runs_alone id tree before)
 
+-- A watermark that a tree has passed is none of its nodes.
 unmarked : (history : List Entry) (mark : Option ℕ) (tree : Tree) → IsPassed history (names tree) mark → Unmarked mark tree
 unmarked history None tree passed = all_from _ tree (λ node there. refl)
 unmarked history (Some flush) tree passed = each tree passed.1

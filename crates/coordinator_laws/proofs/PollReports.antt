@@ -105,6 +105,7 @@ record Drew {A B : Type 0} (who : Caller) (pairs : List (ℕ × B)) (xs : List B
   pub fresh : AreFresh who.party mid (pairs ++ drawn)
   pub going : Going who (next drawn) mid last answer
 
+-- A run that draws a new id for each element goes on with them, in the order of the elements.
 draws_done : {A B : Type 0} (who : Caller) (moment : ℕ) (pairs : List (ℕ × B)) (xs : List B) (next : List (ℕ × B) → Course A) (world last : World) (answer : A) → CallsKeep who.merge → AreFresh who.party world pairs → Going who (draws_jobs moment xs next) world last answer
     → Drew who pairs xs next world last answer
 draws_done who moment pairs [] next world last answer keep fresh going =
@@ -166,6 +167,7 @@ put_last who p base met after lawful equal =
       made = fits.makes_jobs ∙ ap (λ (r : Option Records). jobs_after fits.unrecorded (Polled (change_of p)) (jobs_in r)) stored;
     }
 
+-- From its puts of the records on, a poll that reports has merged newer jobs, and put its jobs last if it changed one.
 rest_of : (who : Caller) (epoch : ℕ) (reported : PollState) (last : World) → CallsKeep who.merge → (left seen : ℕ) (p : PollState) (base world : World) → ComesAfter base world
     → Going who (puts_polled epoch p (records_or_none base.store.records) left seen) world last (Reports reported) → Rest who p reported last
 rest_of who epoch reported last keep zero seen p base world after going = absurd (cc (going.run.1))
@@ -259,6 +261,7 @@ drew_later : (party : Party) (old new : World) (id : ℕ) → ComesAfter old new
 drew_later party old new id after h =
     subst (λ (history : List Entry). IsTrue (drew_job party history id)) (sym after.history) (any_front (λ (e : Entry). party_eq party e.party && is_draw_of id e.event) old.store.history after.entries h)
 
+-- A merge of newer jobs leaves what a poll reached, but for its jobs and the freed ones.
 merged_kept : (p : PollState) (newer : List Jobs) → IsKept p (merged_with p newer)
 merged_kept p [] = record { trees = refl; horizon = refl; steps = refl; done = refl; lost = refl; added = refl; dropped = refl; opened = refl; moved = refl; drained = refl; refused = refl }
 merged_kept p (jobs ∷ newer) = on (merged_kept (merged_into p jobs) newer)
@@ -310,6 +313,7 @@ did w f ends commits rest =
       puts = rest.puts;
     }
 
+-- From its put of the trees on, a poll that reports did what it says, if it does so after another try.
 trees_put : (w : Walk) (f : Found w) (left seen : ℕ) (again : ℕ → Course (StepEnd PollState)) → Retries w again
     → Going w.who (puts_trees w.ask.epoch (reached w f) f.shown.store.manifest (records_or_none f.found.store.records) left seen again) f.mid w.last (Reports w.reported) → Goal w
 trees_put w f left seen again retries going = by (is_unchanged f.shown.store.manifest p) refl going
@@ -355,6 +359,7 @@ trees_put w f left seen again retries going = by (is_unchanged f.shown.store.man
     by true same going = did w f (runs_come w.who _ f.mid w.last _ going.run) (λ changed. absurd (cc (same, changed))) (rest_of w.who w.ask.epoch w.reported w.last w.keep left seen p f.found f.mid f.later going)
     by false same going = put (goes w.who x next f.mid w.last (Reports w.reported) w.keep going)
 
+-- A try of a poll that reports did what it says, if it does so after another try.
 one_try : (w : Walk) (left seen : ℕ) (again : ℕ → Course (StepEnd PollState)) (world : World) → Retries w again → ComesAfter w.start world → Going w.who (poll_try w.ask left seen again) world w.last (Reports w.reported) → Goal w
 one_try w left seen again world retries comes going = shown (goes w.who (Plain GetManifest) (λ s. after_manifest s.manifest) world w.last (Reports w.reported) w.keep going)
   where

@@ -100,6 +100,7 @@ never_fenced w stored world run = never run.1
 abbrev Further : Walk → ℕ → Type 0
 Further w left = (base : World) (got : Records) (p : PollState) (seen : ℕ) (world : World) → Puts w.who w.ask.epoch base got p world → Keeping (coordinator w) w.before p.trees world → RunsTo w (puts_polled w.ask.epoch p got left seen) world → Goal w
 
+-- From its get of newer records on, a poll that reports leaves what its coordinator may hold, if its further puts do.
 newer_runs : (w : Walk) (left seen : ℕ) (base : World) (got : Records) (p : PollState) (met : World) → Further w left → Puts w.who w.ask.epoch base got p met → Keeping (coordinator w) w.before p.trees met → (records : Option Records) → met.store.records ≡ records
     → RunsTo w (unless_fenced w.ask.epoch (records_or_none records).epoch (puts_polled w.ask.epoch (merged_into p (records_or_none records).jobs) (records_or_none records) left seen)) (after_call w.who.line w.who.party (Plain GetRecords) None met) → Goal w
 newer_runs w left seen base got p met further s k None is run =
@@ -114,6 +115,7 @@ newer_runs w left seen base got p met further s k (Some newer) is run = by (nat_
     by false f run = further _ newer (merged_into p newer.jobs) seen _ (puts_merged w.who w.ask.epoch base got newer p met w.keep s is (ltb-false w.ask.epoch newer.epoch f))
         (keeping_noted w.who met _ (coordinator w) w.before p.trees (got_noted w.who GetRecords met (inr refl) w.keep s.kept) k) run
 
+-- From its put of the records on, a poll that reports leaves what its coordinator may hold, if its further puts do.
 put_runs : (w : Walk) (left : ℕ) (base : World) (got : Records) (p : PollState) (met : World) → Further w left → Puts w.who w.ask.epoch base got p met → Keeping (coordinator w) w.before p.trees met → (b : Bool) → (got.version == records_version met.store.records) ≡ b
     → RunsTo w (cond b (Ends (Reports p)) (cond (left == 0) (Ends (GivesUp (records_version met.store.records))) (gets_records (λ newer. let got = records_or_none newer in
     unless_fenced w.ask.epoch got.epoch (puts_polled w.ask.epoch (merged_into p got.jobs) got left (records_version met.store.records)))))) (after_call w.who.line w.who.party (PutsRecords got.version (Polled (change_of p)) got.epoch (trimmed_jobs p.jobs)) None met) → Goal w
@@ -178,6 +180,7 @@ keeping_put w m r t got drawn g s fresh k equal =
     subst (Keeping (coordinator w) w.before p.trees) (sym is)
     (keeping_committed w.who.merge t (coordinator w) w.before (record value { version = t.store.manifest.version + 1 }) entry (subst (Keeps w.who.merge) is puts.kept) w.counted (subst (HasEpoch (Coordinator w.number) w.ask.epoch) is (owned w _ puts.own)) (omega (arith, same)) k.older)
 
+-- From its put of the trees on, a poll that reports leaves what its coordinator may hold, if another try does.
 trees_run : (w : Walk) (m r d : World) (got : Records) (drawn : List (ℕ × JobSpec)) (left seen : ℕ) (again : ℕ → Course (StepEnd PollState)) → Got w.who w.ask.epoch m r got → Tries w again → Ready w.who w.ask.epoch m r d → AreFresh w.who.party d drawn
     → Keeping (coordinator w) w.before m.store.manifest.trees d
     → let input = input_of w.ask r.store.tables m.store.manifest got in
@@ -214,6 +217,7 @@ trees_run w m r d got drawn left seen again g tries s fresh k run = by (is_uncha
 
 -- ---- the draws
 
+-- From its draws on, a poll that reports leaves what its coordinator may hold, if what follows them does.
 draws_run : {B : Type 0} (w : Walk) (moment : ℕ) (m r : World) (xs : List B) (drawn : List (ℕ × B)) (next : List (ℕ × B) → Course (StepEnd PollState)) (world : World) → Ready w.who w.ask.epoch m r world → AreFresh w.who.party world drawn → Keeping (coordinator w) w.before m.store.manifest.trees world
     → ((met : World) (more : List (ℕ × B)) → Ready w.who w.ask.epoch m r met → AreFresh w.who.party met (drawn ++ more) → Keeping (coordinator w) w.before m.store.manifest.trees met → RunsTo w (next more) met → Goal w) → RunsTo w (draws_jobs moment xs next) world → Goal w
 draws_run w moment m r [] drawn next world s fresh k goes run = goes world [] s (subst (AreFresh w.who.party world) (sym (append-nil drawn)) fresh) k run
@@ -231,6 +235,7 @@ draws_run w moment m r (x ∷ xs) drawn next world s fresh k goes (met, (rivals,
 
 -- ---- the two gets
 
+-- From its get of the records on, a poll that reports leaves what its coordinator may hold, if another try does.
 records_run : (w : Walk) (m r : World) (left seen : ℕ) (again : ℕ → Course (StepEnd PollState)) → Keeps w.who.merge m → m.store.manifest.epoch ≡ w.ask.epoch → Tries w again → Since w.who w.ask.epoch m r
     → AreKept w.who.merge m.store.manifest.trees m.store.manifest.horizon r → Keeping (coordinator w) w.before m.store.manifest.trees r → (records : Option Records) → r.store.records ≡ records
     → RunsTo w (unless_fenced w.ask.epoch (records_or_none records).epoch (polls_over w.ask r.store.tables m.store.manifest (records_or_none records) left seen again)) (after_call w.who.line w.who.party (Plain GetRecords) None r) → Goal w
@@ -256,6 +261,7 @@ records_run w m r left seen again kept epoch tries s trees k (Some got) is run =
         (keeping_noted w.who r after_gets (coordinator w) w.before m.store.manifest.trees (got_noted w.who GetRecords r (inr refl) w.keep s.kept) k)
         (λ met drawn ready fresh kept run. trees_run w m r met got drawn left seen again g tries ready fresh kept run) run
 
+-- From its get of the manifest on, a poll that reports leaves what its coordinator may hold, if another try does.
 manifest_run : (w : Walk) (m : World) (left seen : ℕ) (again : ℕ → Course (StepEnd PollState)) → Keeps w.who.merge m → Owns w m → Older (coordinator w) w.before m → Tries w again
     → RunsTo w (unless_fenced w.ask.epoch m.store.manifest.epoch (Calls (Plain GetRecords) (λ met.
     let got = records_or_none met.records in unless_fenced w.ask.epoch got.epoch (polls_over w.ask met.tables m.store.manifest got left seen again)))) (after_call w.who.line w.who.party (Plain GetManifest) None m) → Goal w
@@ -300,6 +306,7 @@ poll_after who old new number ask before p lawful by kept holds run =
 
 -- ---- the laws
 
+-- After its poll that reports, a coordinator fits also if it lacks jobs that a put drops, or has older finished ones.
 pub finished_jobs_may_differ : FinishedJobsMayDiffer
 finished_jobs_may_differ who old new number ask before p held lawful by kept holds run is_after =
     let fits = polls_fit who old new number ask before (Gives (Reports p)) lawful by kept holds run in
@@ -320,6 +327,7 @@ reached_after before p held trees jobs rise = record {
   only = all_from _ held.records.jobs (λ job there. ap (λ o. option_or o (job_held before job.id)) (found_job p.jobs job rise (subst (IsIn job) jobs there)));
 }
 
+-- After its poll that reports, a coordinator fits with the trees and the jobs that the poll reached.
 pub polls_fit_locally : PollsFitLocally
 polls_fit_locally who old new number ask before p held lawful by kept holds run trees jobs =
     let fits = polls_fit who old new number ask before (Gives (Reports p)) lawful by kept holds run in

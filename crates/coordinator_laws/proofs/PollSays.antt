@@ -61,6 +61,7 @@ record Opened (f : List (ℕ × Fate)) (p q : PollState) : Type 0 where
   pub drains : q.drained ≡ p.drained ++ flat_map drained_in f
   pub refuses : q.refused ≡ p.refused ++ flat_map refused_in f
 
+-- A poll opens, moves, drains and refuses exactly the jobs with such a fate, in their order, and adds none by that.
 opens_do : (input : PollInput) (jobs : Jobs) (p : PollState) → Opened (fates input jobs p) p (each (open_job input) jobs p)
 opens_do input [] p = record { adds = refl; drops = refl; opens = sym (append-nil p.opened); moves = sym (append-nil p.moved); drains = sym (append-nil p.drained); refuses = sym (append-nil p.refused) }
 opens_do input (job ∷ jobs) p = by (submit_gate p.trees p.jobs (lost_to_scheduler p.lost) (accepts input p) job) (opens_do input jobs (open_job input job p))
@@ -161,6 +162,7 @@ add_leaves place (d ∷ drawn) p =
     by true = record { freed = refl; done = refl; lost = refl; more = []; steps = sym (append-nil p.steps); at_once = tt }
     by false = record { freed = refl; done = refl; lost = refl; more = []; steps = sym (append-nil p.steps); at_once = tt }
 
+-- A poll that opens, moves, drains or refuses a job frees none, commits none, and adds no join to its steps.
 open_leaves : (input : PollInput) (job : Job) (p : PollState) → Leaves p (open_job input job p)
 open_leaves input job p = by (submit_gate p.trees p.jobs (lost_to_scheduler p.lost) (accepts input p) job)
   where
@@ -188,6 +190,7 @@ freed_rise these jobs rise = pairs_map (λ (a b : Job). a.id < b.id) (λ (a b : 
     same job true = refl
     same job false = refl
 
+-- A poll commits exactly the finished jobs that pass the gate, fails the other ones, and joins before its other steps.
 says_by : (epoch : ℕ) (options : PollOptions) (scheduler : Scheduler) (moment : ℕ) (commits_only : Bool) (input : PollInput) (drawn : List (ℕ × JobSpec)) → Pairs (λ (a b : Job). a.id < b.id) input.records.jobs
     → let ask : PollAsk = record { epoch = epoch; options = options; scheduler = scheduler; moment = moment; commits_only = commits_only } in PollSays commits_only input drawn (last_steps ask input drawn (first_steps ask input))
 unfolding committed_poll

@@ -81,6 +81,7 @@ moves_then a b c (Goes was is id spec tables) (Goes between then same as_spec as
 pub moves_itself : (jobs : Jobs) → Moves jobs jobs
 moves_itself jobs = record { there = λ job there. record { job = job; there = there; moves = Stays refl }; from = λ job there. inl (record { job = job; there = there; moves = Stays refl }) }
 
+-- If jobs move to other ones, and those to further ones, then the first ones move to the last ones.
 pub moves_on : (a b c : Jobs) → Moves a b → Moves b c → Moves a c
 moves_on a b c first second = record {
   there = λ job there. let one = first.there job there in let two = second.there one.job one.there in record { job = two.job; there = two.there; moves = moves_then job one.job two.job one.moves two.moves };
@@ -116,6 +117,7 @@ pub record Quiet (old new : World) : Type 0 where
 pub quiet_itself : (world : World) → Quiet world world
 quiet_itself world = record { jobs = moves_itself (stored_jobs world.store); stand = λ job h. h; older = λ job h. refl; joined = λ id. refl; among = λ id h. h; rows = λ id h. refl; more = []; past = sym (append-nil world.past) }
 
+-- If calls are quiet up to one world, and from there up to another, they are quiet all the way.
 pub quiet_then : (a b c : World) → Quiet a b → Quiet b c → Quiet a c
 quiet_then a b c first second = record {
   jobs = moves_on (stored_jobs a.store) (stored_jobs b.store) (stored_jobs c.store) first.jobs second.jobs;
@@ -130,6 +132,7 @@ quiet_then a b c first second = record {
 
 -- ---- an entry, a table
 
+-- An entry that changes no object is quiet: it leaves jobs, the sources of jobs, joins and tables.
 pub quiet_noted : (world : World) (deleted : List ℕ) (jobs_drawn tables_drawn : ℕ) (entry : Entry) → IsMute (stood entry.answer) entry.event → Quiet world (entered world deleted jobs_drawn tables_drawn entry)
 quiet_noted world deleted jobs_drawn tables_drawn entry mute = record {
   jobs = moves_itself (stored_jobs world.store);
@@ -148,6 +151,7 @@ no_join : (world : World) (change : ManifestChange) (answer : Answer) (line : �
     → was_joined (world.store.history ++ record { line = line; party = party; event = PutManifest change; answer = answer } ∷ []) id ≡ was_joined world.store.history id
 no_join world change answer line party id none = joined_stays world.store.history (record { line = line; party = party; event = PutManifest change; answer = answer }) id (rw none refl)
 
+-- A put of the manifest is quiet, if it joins nothing and leaves the sources of jobs and the nodes older than those.
 with_trees : (world new : World) (manifest : Manifest) → new.store.tables ≡ world.store.tables → new.store.records ≡ world.store.records → new.store.manifest ≡ manifest → new.past ≡ world.past ++ manifest ∷ []
     → ((id : ℕ) → was_joined new.store.history id ≡ was_joined world.store.history id)
     → ((job : Job) → SourcesStand world.store.manifest.trees job → SourcesStand manifest.trees job × (older_nodes job.spec.sources (names (tree_at job.spec.segment manifest.trees)) ≡ older_nodes job.spec.sources (names (tree_at job.spec.segment world.store.manifest.trees))))
@@ -284,6 +288,7 @@ pub record HasEpoch (party : Party) (e : ℕ) (world : World) : Type 0 where
   pub put : IsTrue (did_put_epoch party world.store.history e)
   pub recorded : e ≤ records_epoch world.store.records
 
+-- A lawful call of another party that deletes nothing is quiet, as long as no later epoch is in the records.
 pub quiet_outcome : (merge : Operator) (world new : World) (mine party : Party) (e : ℕ) (x : Exchange) → Keeps merge world → party ≢ mine → HasEpoch mine e world → is_deletion x ≡ false → records_epoch new.store.records ≤ e → Outcome merge party world x new → Quiet world new
 quiet_outcome merge world new mine party e x k other own spares low (Notes jobs_drawn tables_drawn entry mute is) = subst (Quiet world) (sym is) (quiet_noted world world.store.deleted jobs_drawn tables_drawn entry mute)
 quiet_outcome merge world new mine party e x k other own spares low (Deletes table entry same mute fits is) = absurd (never (subst (λ y. is_deletion y ≡ false) same spares))
@@ -356,6 +361,7 @@ pub record After (who : Caller) (e : ℕ) (old new : World) : Type 0 where
   pub rises : records_epoch old.store.records ≤ records_epoch new.store.records
   pub quiet : records_epoch new.store.records ≤ e → Quiet old new
 
+-- Calls of others keep the invariant and the coordinator's epoch, and are quiet while no later epoch is in the records.
 rivals_from : (who : Caller) (e : ℕ) (calls : List RivalCall) (old new : World) → CallsKeep who.merge → Keeps who.merge old → HasEpoch who.party e old → RivalsFrom who calls old new → After who e old new
 rivals_from who e [] old new keep k own same = subst (After who e old) same (record { kept = k; own = own; rises = omega arith; quiet = λ low. quiet_itself old })
 rivals_from who e (call ∷ calls) old new keep k own lead =

@@ -168,6 +168,7 @@ specs_on own f these jobs ids specs h = all_on_these (λ (job : Job). own job.id
 pub none_opened : (P : ℕ → Type 0) (ids : List ℕ) → ids ≡ [] → AllByRecursion P ids
 none_opened P ids e = subst (AllByRecursion P) (sym e) tt
 
+-- A commit may join a Compacted job of a poll in the trees that it reached, if the job passes the gate.
 join_fits : {merge : Operator} {party : Party} {h : World} {input : PollInput} {got : Jobs} {drawn : List (ℕ × JobSpec)} {start : Trees} {own : ℕ → JobSpec} {horizon : ℕ} {p : PollState}
     → Case merge party h input got drawn start → (t : TreesReached party h input drawn own start horizon p) → (r : JobsReached got p) → (job : Job) → IsIn job p.jobs → IsCompacted job → commit_gate p.trees (accepts input p) job ≡ None
     → JoinFits h p.trees (joined_by p.steps []) job.id
@@ -207,6 +208,7 @@ joined_more id n xs done e = first (id == n) (contains xs n) ∙ ap (λ b. b || 
     first false true = refl
     first false false = refl
 
+-- The steps of a poll that opened no job yet still fit and make its trees after it commits a job that passes the gate.
 pub trees_done : {merge : Operator} {party : Party} {h : World} {input : PollInput} {got : Jobs} {drawn : List (ℕ × JobSpec)} {start : Trees} {own : ℕ → JobSpec} {horizon : ℕ} {p : PollState}
     → Case merge party h input got drawn start → (t : TreesReached party h input drawn own start horizon p) → (r : JobsReached got p) → (job : Job) → IsIn job p.jobs → IsCompacted job → p.opened ≡ [] → commit_gate p.trees (accepts input p) job ≡ None
     → TreesReached party h input drawn own start horizon (commit_by input job None p)

@@ -28,6 +28,7 @@ use Rattle.course_laws.proofs.Sweeps.{all_ordered}
 
 -- ---- ids in order
 
+-- Ids with one more put in order have those that they had, and that one.
 contains_put : (id : ℕ) (xs : List ℕ) (n : ℕ) → contains (put_id id xs) n ≡ (contains xs n || (id == n))
 contains_put id [] n = by (id == n)
   where
@@ -136,6 +137,7 @@ pub record AtPut (party : Party) (u : World) (got : Records) (p : PollState) : T
 abbrev pub put_at : World → Unrecorded
 put_at u = record { moment = 0; published = no_contexts; kept_cut = None; tables_of = tables_now u.store.manifest.trees }
 
+-- The jobs of a poll are what the change that it puts makes of the jobs that it got.
 jobs_made : (party : Party) (u : World) (got : Records) (p : PollState) → AtPut party u got p → p.jobs ≡ after_poll (put_at u) (change_of p) got.jobs
 jobs_made party u got p a = a.reached.are ∙ each (with_new p.added got.jobs) (λ job there. there) ∙ sym (poll_map (put_at u) (change_of p) (with_new p.added got.jobs))
   where
@@ -187,6 +189,7 @@ jobs_made party u got p a = a.reached.are ∙ each (with_new p.added got.jobs) (
 of_among : (P : Job → Type 0) (jobs : Jobs) (id : ℕ) → Pairs (λ a b. a.id < b.id) jobs → Among P jobs id → OfSome P (job_with id jobs)
 of_among P jobs id rise found = subst (OfSome P) (sym (ap (λ n. job_with n jobs) (sym found.1.1.0) ∙ found_job jobs found.0 rise found.1.0)) found.1.1.1
 
+-- The put of the records that ends a poll fits, if they still are those that it got and opened jobs' sources stand.
 pub put_fits : (merge : Operator) (party : Party) (u : World) (got : Records) (p : PollState) → Pairs (λ a b. a.id < b.id) got.jobs → AtPut party u got p → RecordsFit merge party u (Polled (change_of p)) got.epoch (trimmed_jobs p.jobs)
 put_fits merge party u got p rise a = record {
   there = subst (λ o. IsTrue (is_some o)) (sym a.stored) refl;

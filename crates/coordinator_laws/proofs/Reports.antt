@@ -116,6 +116,7 @@ added_named history line party p version q there =
     any_push_yes (λ (e : Entry). contains (firsts (named_specs e.event)) q.0 && stood e.answer) history (record { line = line; party = party; event = PutRecords (Polled (change_of p)); answer = Done version })
     (rw (in_contains (firsts p.added) q.0 (in_map (λ (x : ℕ × JobSpec). x.0) p.added q there)) refl)
 
+-- After a put that stood, each local state after the poll merges into the store, unless a later epoch is stored.
 pub after_put : (who : Caller) (c : LiveCoordinator) (before : Option Local) (base : World) (got : Records) (p : PollState) (world : World) → Puts who c.epoch base got p world → Keeping c before p.trees world → (got.version == records_version world.store.records) ≡ true
     → After c before p (after_call who.line who.party (PutsRecords got.version (Polled (change_of p)) got.epoch (trimmed_jobs p.jobs)) None world)
 after_put who c before base got p world s k equal = subst (After c before p) (sym (put_stood who.line who.party world got.version (Polled (change_of p)) got.epoch (trimmed_jobs p.jobs) equal)) (record {
@@ -237,6 +238,7 @@ none_firsts : {A : Type 0} (xs : List (ℕ × A)) → firsts xs ≡ [] → xs �
 none_firsts [] e = refl
 none_firsts (x ∷ xs) e = absurd (cc e)
 
+-- A poll whose change is nothing freed, ended, added and opened no job.
 names_none : (p : PollState) → is_nothing (change_of p) ≡ true → NamesNone p
 names_none p e = five (is_nonempty p.freed) (is_nonempty (in_id_order (p.done ++ p.moved ++ p.drained))) (is_nonempty (in_id_order (firsts p.lost ++ firsts p.refused))) (is_nonempty (firsts p.added)) (is_nonempty p.opened) refl refl refl refl refl e
   where
@@ -281,6 +283,7 @@ none_changed got p n r = r.are ∙ ap (λ named. map (did (marks_of p r.tables))
         let rest = all jobs in
         λ i. first i ∷ rest i
 
+-- If a poll changed no job, each local state after it merges into the store, unless a later epoch is stored.
 pub after_none : (who : Caller) (c : LiveCoordinator) (before : Option Local) (base : World) (got : Records) (p : PollState) (world : World) → Puts who c.epoch base got p world → Keeping c before p.trees world → is_nothing (change_of p) ≡ true
     → After c before p world
 after_none who c before base got p world s k none = record {

@@ -138,6 +138,7 @@ taken_step tables (Join job) spec outputs tree makes = taken_run spec outputs tr
 taken_step tables (Move job) spec outputs tree makes = taken_run spec (by_first_key tables (source_pieces spec.sources tree)) tree makes
 taken_step tables (Drain job) spec outputs tree makes = refl
 
+-- A step gives no tree more flushes, and leaves fewer ones in a tree whose watermark it moves.
 step_drops : (tables : Tables) (step : Step) (spec : JobSpec) (outputs : List ℕ) (trees : Trees) → Makes step spec → AllDrop trees (stepped_in tables step spec outputs trees)
 step_drops tables step spec outputs [] makes = tt
 step_drops tables step spec outputs (s ∷ trees) makes = (by (bytes_eq spec.segment s.prefix), step_drops tables step spec outputs trees makes)
@@ -162,6 +163,7 @@ not_drain trees tree sources spec fits = by spec.destination fits
     by None h = absurd h
     by (Some id) h = refl
 
+-- A step that fits gives no tree more flushes, and leaves fewer ones in a tree whose watermark it moves.
 one_drops : (merge : Operator) (world : World) (party : Party) (own : ℕ → JobSpec) (trees : Trees) (joined : List ℕ) (step : Step) → Keeps merge world → IsKnownTo party world own (job_of step) → StepFits world trees joined (own (job_of step)) step
     → AllDrop trees (stepped_in world.store.tables step (own (job_of step)) (outputs_in world.store.records (job_of step)) trees)
 one_drops merge world party own trees joined (Drain id) k known fits = step_drops world.store.tables (Drain id) (own id) (outputs_in world.store.records id) trees tt

@@ -88,6 +88,7 @@ since_noted who e base world new s n = record {
 pub kept_noted : (who : Caller) (trees : Trees) (horizon : ℕ) (world new : World) → Noted who world new → AreKept who.merge trees horizon world → AreKept who.merge trees horizon new
 kept_noted who trees horizon world new n k = kept_outcome who.merge trees horizon world new who.party (Plain GetManifest) refl (Notes n.jobs_drawn n.tables_drawn n.entry n.mute n.is) k
 
+-- A get of the manifest or the records leaves its entry, and changes nothing else.
 pub got_noted : (who : Caller) (event : Event) (world : World) → (event ≡ GetManifest) ⊎ (event ≡ GetRecords) → CallsKeep who.merge → Keeps who.merge world → Noted who world (after_call who.line who.party (Plain event) None world)
 got_noted who event world (inl same) keep kept = subst (λ ev. Noted who world (after_call who.line who.party (Plain ev) None world)) (sym same) (record {
   jobs_drawn = world.store.jobs_drawn;
@@ -148,6 +149,7 @@ ready_noted who e m r world new s n = record { first = since_noted who e m world
 named_later : (old new : World) (id : ℕ) → Later old new → IsTrue (was_named old.store.history id) → IsTrue (was_named new.store.history id)
 named_later old new id later h = done_later (λ event. contains (firsts (named_specs event)) id) old new later h
 
+-- What a poll got and drew is a case to judge its steps by, as long as no later epoch is in the records.
 pub case_at : (who : Caller) (e : ℕ) (m r h : World) (got : Records) (ask : PollAsk) (drawn : List (ℕ × JobSpec)) → IsLawful who.merge → Got who e m r got → Ready who e m r h → AreFresh who.party h drawn → records_epoch h.store.records ≤ e
     → Case who.merge who.party h (input_of ask r.store.tables m.store.manifest got) got.jobs drawn m.store.manifest.trees
 case_at who e m r h got ask drawn lawful g s fresh low = record {

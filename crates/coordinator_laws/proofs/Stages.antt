@@ -50,6 +50,7 @@ left_after P p new f job jobs is low h = all_to _ _ jobs (λ other there left.
 
 -- ---- commits
 
+-- What a poll reached stays so after it commits a Compacted job or fails it.
 commit_one : {merge : Operator} {party : Party} {h : World} {input : PollInput} {got : Jobs} {drawn : List (ℕ × JobSpec)} {start : Trees} {own : ℕ → JobSpec} {horizon : ℕ} {p : PollState}
     → Case merge party h input got drawn start → Reached party h input got drawn own start horizon p → (job : Job) → IsIn job p.jobs → IsCompacted job → p.opened ≡ [] → (rule : Option ℕ) → commit_gate p.trees (accepts input p) job ≡ rule
     → Reached party h input got drawn own start horizon (commit_by input job rule p)
@@ -62,6 +63,7 @@ commit_one {got = got} {p = p} c s job there compacted none (Some rule) gate = r
   jobs = reached_lost got p job rule s.jobs there compacted;
 }
 
+-- What a poll reached stays so after it commits or fails all these Compacted jobs, and no job is opened by that.
 commits : {merge : Operator} {party : Party} {h : World} {input : PollInput} {got : Jobs} {drawn : List (ℕ × JobSpec)} {start : Trees} {own : ℕ → JobSpec} {horizon : ℕ}
     → Case merge party h input got drawn start → (jobs : Jobs) (p : PollState) → Reached party h input got drawn own start horizon p → p.opened ≡ [] → Pairs (λ a b. a.id < b.id) jobs → AreLeft IsCompacted p jobs
     → Reached party h input got drawn own start horizon (each (commit_job input) jobs p) × ((each (commit_job input) jobs p).opened ≡ [])
@@ -85,6 +87,7 @@ map_did_none : (m : Marks) (jobs : Jobs) → ((job : Job) → did m job ≡ job)
 map_did_none m [] e = refl
 map_did_none m (job ∷ jobs) e = let first = e job in let rest = map_did_none m jobs e in λ i. first i ∷ rest i
 
+-- As it begins, a poll has reached the trees and the jobs that it got.
 pub reached_begun : {merge : Operator} {party : Party} {h : World} {input : PollInput} {got : Jobs} {drawn : List (ℕ × JobSpec)} {own : ℕ → JobSpec}
     → Case merge party h input got drawn input.manifest.trees → AllByRecursion (λ (job : Job). own job.id ≡ job.spec) got
     → Reached party h input got drawn own input.manifest.trees input.manifest.horizon (poll_begun input.manifest.trees input.manifest.horizon got)
@@ -108,6 +111,7 @@ reached_begun {input = input} {got = got} c specs = record {
 stale_runs : (timeout moment : ℕ) (job : Job) → is_stale timeout moment job ≡ true → IsRunning job
 stale_runs timeout moment job e = (both (has_status Running job) (is_overdue timeout moment job.lease) e).0
 
+-- After it frees stale jobs, a poll has reached the trees that it got, and the jobs with those freed.
 pub reached_freed : {merge : Operator} {party : Party} {h : World} {input : PollInput} {got : Jobs} {drawn : List (ℕ × JobSpec)} {own : ℕ → JobSpec}
     → Case merge party h input got drawn input.manifest.trees → AllByRecursion (λ (job : Job). own job.id ≡ job.spec) got
     → Reached party h input got drawn own input.manifest.trees input.manifest.horizon (free_stale input (poll_begun input.manifest.trees input.manifest.horizon got))
@@ -153,6 +157,7 @@ reached_freed {input = input} {got = got} {own = own} c specs = record {
 
 -- ---- proposals
 
+-- What a poll reached stays so after it adds a job with an id that it drew and has not used yet.
 add_one : {merge : Operator} {party : Party} {h : World} {input : PollInput} {got : Jobs} {drawn : List (ℕ × JobSpec)} {start : Trees} {own : ℕ → JobSpec} {horizon : ℕ} {p : PollState}
     → Case merge party h input got drawn start → AllByRecursion (λ q. own q.0 ≡ q.1) drawn → Reached party h input got drawn own start horizon p → p.opened ≡ [] → (q : ℕ × JobSpec) → IsIn q drawn → ((a : ℕ × JobSpec) → IsIn a p.added → q.0 ≡ a.0 → ⊥)
     → Reached party h input got drawn own start horizon (record p { jobs = put_job (new_job q) p.jobs; added = p.added ++ q ∷ [] })
@@ -194,6 +199,7 @@ in_pushed {A} (z ∷ xs) x y (inr there) = by (in_pushed xs x y there)
     by (inl one) = inl (inr one)
     by (inr same) = inr same
 
+-- What a poll reached stays so after it adds or drops all these proposals, and no job is opened by that.
 pub adds : {merge : Operator} {party : Party} {h : World} {input : PollInput} {got : Jobs} {drawn : List (ℕ × JobSpec)} {start : Trees} {own : ℕ → JobSpec} {horizon : ℕ}
     → Case merge party h input got drawn start → AllByRecursion (λ q. own q.0 ≡ q.1) drawn → (place : ℕ) (rest : List (ℕ × JobSpec)) (p : PollState) → Reached party h input got drawn own start horizon p → p.opened ≡ []
     → AllByRecursion (λ q. IsIn q drawn) rest → Pairs (λ p q. p.0 ≢ q.0) rest → ((q a : ℕ × JobSpec) → IsIn q rest → IsIn a p.added → q.0 ≡ a.0 → ⊥)
@@ -231,6 +237,7 @@ adds {merge} {party} {h} {input} {got} {drawn} {start} {own} {horizon} c specs p
 
 -- ---- submitted jobs
 
+-- What a poll reached stays so after it drains, moves or opens a Submitted job that passes the gate.
 open_one : {merge : Operator} {party : Party} {h : World} {input : PollInput} {got : Jobs} {drawn : List (ℕ × JobSpec)} {start : Trees} {own : ℕ → JobSpec} {horizon : ℕ} {p : PollState}
     → Case merge party h input got drawn start → Reached party h input got drawn own start horizon p → (job : Job) → IsIn job p.jobs → IsSubmitted job → (drains moves : Bool) → is_drain job.spec ≡ drains → can_move input p.trees job.spec ≡ moves
     → submit_gate p.trees p.jobs (lost_to_scheduler p.lost) (accepts input p) job ≡ None
@@ -251,6 +258,7 @@ open_one {input = input} {got = got} {p = p} c s job there submitted false false
     reached_jobs : JobsReached got (schedule_job job p)
     reached_jobs = reached_opened got p job (tables_now p.trees) s.jobs there submitted (away_of p.trees p input job gate)
 
+-- What a poll reached stays so after it opens, moves, drains or refuses all these Submitted jobs.
 opens_all : {merge : Operator} {party : Party} {h : World} {input : PollInput} {got : Jobs} {drawn : List (ℕ × JobSpec)} {start : Trees} {own : ℕ → JobSpec} {horizon : ℕ}
     → Case merge party h input got drawn start → (jobs : Jobs) (p : PollState) → Reached party h input got drawn own start horizon p → Pairs (λ a b. a.id < b.id) jobs → AreLeft IsSubmitted p jobs
     → Reached party h input got drawn own start horizon (each (open_job input) jobs p)
@@ -287,6 +295,7 @@ none_added input (job ∷ jobs) p e = none_added input jobs (commit_job input jo
     at None = e
     at (Some rule) = e
 
+-- What a poll has after its first steps is reached, and it has opened and added no job by then.
 pub first_reached : {merge : Operator} {party : Party} {h : World} {input : PollInput} {drawn : List (ℕ × JobSpec)} {own : ℕ → JobSpec} (ask : PollAsk)
     → Case merge party h input input.records.jobs drawn input.manifest.trees → AllByRecursion (λ (job : Job). own job.id ≡ job.spec) input.records.jobs
     → Reached party h input input.records.jobs drawn own input.manifest.trees input.manifest.horizon (first_steps ask input) × (((first_steps ask input).opened ≡ []) × ((first_steps ask input).added ≡ []))
@@ -302,6 +311,7 @@ first_reached {merge} {party} {h} {input} {drawn} {own} ask c specs = by ask.com
         let freed = free_stale input (poll_begun input.manifest.trees input.manifest.horizon input.records.jobs) in
         (begins.0, (begins.1, none_added input (filter (has_status Compacted) freed.jobs) freed refl))
 
+-- What a poll has after its last steps is reached, from what it got and with the ids that it drew.
 pub last_reached : {merge : Operator} {party : Party} {h : World} {input : PollInput} {drawn : List (ℕ × JobSpec)} {own : ℕ → JobSpec} (ask : PollAsk)
     → Case merge party h input input.records.jobs drawn input.manifest.trees → AllByRecursion (λ (job : Job). own job.id ≡ job.spec) input.records.jobs → AllByRecursion (λ q. own q.0 ≡ q.1) drawn
     → Reached party h input input.records.jobs drawn own input.manifest.trees input.manifest.horizon (last_steps ask input drawn (first_steps ask input))
@@ -324,6 +334,7 @@ pub record AddsDrawn (drawn : List (ℕ × JobSpec)) (p : PollState) : Type 0 wh
 same_added : (drawn : List (ℕ × JobSpec)) (p new : PollState) → new.added ≡ p.added → AddsDrawn drawn p → AddsDrawn drawn new
 same_added drawn p new e h = record { those = subst (AllByRecursion (λ q. IsIn q drawn)) (sym e) h.those; once = subst (Pairs (λ p q. p.0 ≢ q.0)) (sym e) h.once }
 
+-- Each job that a poll adds has an id that it drew for it, and each is added once.
 adds_drawn : (drawn : List (ℕ × JobSpec)) (place : ℕ) (rest : List (ℕ × JobSpec)) (p : PollState) → AddsDrawn drawn p → AllByRecursion (λ q. IsIn q drawn) rest → Pairs (λ p q. p.0 ≢ q.0) rest
     → ((q a : ℕ × JobSpec) → IsIn q rest → IsIn a p.added → q.0 ≡ a.0 → ⊥) → AddsDrawn drawn (add_drawn place rest p)
 adds_drawn drawn place [] p h those once new = h
@@ -340,6 +351,7 @@ adds_drawn drawn place (q ∷ rest) p h those once new = by (list_any (clashes q
         at x a there (inl one) same = new x a (inr there) one same
         at x a there (inr is) same = all_at (λ (y : ℕ × JobSpec). q.0 ≢ y.0) rest x once.0 there (ap (λ (y : ℕ × JobSpec). y.0) is ∙ sym same)
 
+-- A poll that opens jobs adds none by that.
 pub opened_added : (input : PollInput) (jobs : Jobs) (p : PollState) → (each (open_job input) jobs p).added ≡ p.added
 opened_added input [] p = refl
 opened_added input (job ∷ jobs) p = opened_added input jobs (open_job input job p) ∙ by (submit_gate p.trees p.jobs (lost_to_scheduler p.lost) (accepts input p) job)
@@ -364,6 +376,7 @@ none_first ask input = by ask.commits_only
     by true = none_added input (filter (has_status Compacted) input.records.jobs) (poll_begun input.manifest.trees input.manifest.horizon input.records.jobs) refl
     by false = none_added input (filter (has_status Compacted) freed.jobs) freed refl
 
+-- After all steps of a poll, each job that it added has an id that it drew for it, and each was added once.
 pub all_adds : (ask : PollAsk) (input : PollInput) (drawn : List (ℕ × JobSpec)) → Pairs (λ p q. p.0 ≢ q.0) drawn → AddsDrawn drawn (last_steps ask input drawn (first_steps ask input))
 all_adds ask input drawn once = by ask.commits_only
   where

@@ -56,6 +56,7 @@ entry_on merge store history entry s f = record {
 trees_to : (merge : Operator) (old new : Store) (before after : List Entry) (trees : Trees) → ((s : Segment) → SegmentFits merge old before s → SegmentFits merge new after s) → TreesKept merge old before trees → TreesKept merge new after trees
 trees_to merge old new before after trees f k = record { root = k.root; rise = k.rise; each = all_to _ _ trees (λ s there fits. f s fits) k.each; apart = k.apart; tables = k.tables }
 
+-- A segment that fits still fits with one more table in the store.
 table_on : (merge : Operator) (store : Store) (history : List Entry) (new : ℕ × List Row) (s : Segment) → SegmentFits merge store history s → SegmentFits merge (record store { tables = store.tables ++ new ∷ [] }) history s
 table_on merge store history new s f = record {
   tree = tree_stays store.tables new s put f.tree;
@@ -70,6 +71,7 @@ table_on merge store history new s f = record {
     put : AllByRecursion (NodePut store.tables) s.tree
     put = all_from _ s.tree (λ node there. record { pieces = are_put store node.pieces (all_at _ s.tree node f.pieces there); flushes = all_at _ s.tree node f.flushes there })
 
+-- A segment that fits still fits after a lawful change of the manifest, under the same horizon.
 manifest_on : (merge : Operator) (world : World) (party : Party) (change : ManifestChange) (value : Manifest) (horizon : ℕ) (history : List Entry) (s : Segment) → ManifestFits party world change value → SegmentFits merge (with_horizon world.store horizon) history s
     → SegmentFits merge (with_horizon (record world.store { manifest = put_manifest world value }) horizon) history s
 manifest_on merge world party (ManifestEpoch epoch) value horizon history s fits f =
@@ -93,6 +95,7 @@ manifest_on merge world party (Commit steps) value horizon history s fits f =
 abbrev pub AreKept : Operator → Trees → ℕ → World → Type 0
 AreKept merge trees horizon world = TreesKept merge (with_horizon world.store horizon) world.store.history trees
 
+-- Trees that are kept stay so after a lawful call of any party that deletes nothing.
 pub kept_outcome : (merge : Operator) (trees : Trees) (horizon : ℕ) (world new : World) (party : Party) (x : Exchange) → is_deletion x ≡ false → Outcome merge party world x new → AreKept merge trees horizon world → AreKept merge trees horizon new
 kept_outcome merge trees horizon world new party x spares (Notes jobs_drawn tables_drawn entry mute is) k =
     subst (AreKept merge trees horizon) (sym is) (trees_to merge (with_horizon world.store horizon) _ world.store.history _ trees (λ s f.
@@ -133,6 +136,7 @@ joins_past past more trees job (Itself run sources destination none empty) = Its
 same_stands : (trees : Trees) (old new : Job) → new.spec ≡ old.spec → new.source_tables ≡ old.source_tables → SourcesStand trees old → SourcesStand trees new
 same_stands trees old new spec tables h = record { some = rw spec h.some; stretch = rw spec h.stretch; source_tables = rw (spec, tables) h.source_tables; destination = rw spec h.destination }
 
+-- The trees that a coordinator got are kept as in the midst of a commit, if calls since were quiet.
 pub midway_from : (merge : Operator) (m u : World) → Keeps merge m → Quiet m u → AreKept merge m.store.manifest.trees m.store.manifest.horizon u → Midway merge u m.store.manifest.trees m.store.manifest.horizon []
 midway_from merge m u k q kept = record { kept = kept; jobs = all_from _ (stored_jobs u.store) (λ s there. holds s (q.jobs.from s there)) }
   where

@@ -62,6 +62,7 @@ stands_on old new p q h = all_to _ _ p.opened (λ id there found. (found.0, (fou
 good_on : (old new : World) (got : Records) (p : PollState) → Quiet old new → Good old got p → Good new got p
 good_on old new got p q g = record { reached = g.reached; moves = moves_on got.jobs (stored_jobs old.store) (stored_jobs new.store) g.moves q.jobs; opened = stands_on old new p q g.opened }
 
+-- A poll that is about to put the records still is so after calls of others.
 pub puts_met : (who : Caller) (e : ℕ) (base : World) (got : Records) (p : PollState) (old new : World) → CallsKeep who.merge → Puts who e base got p old → Rivals who old new → Puts who e base got p new
 puts_met who e base got p old new keep s rivals =
     let a = rivals_after who e old new keep s.kept s.own rivals in
@@ -109,6 +110,7 @@ good_entered world entry got p g = record { reached = g.reached; moves = g.moves
 pub epoch_entered : (party : Party) (e : ℕ) (world : World) (entry : Entry) → HasEpoch party e world → HasEpoch party e (entered world world.store.deleted world.store.jobs_drawn world.store.tables_drawn entry)
 epoch_entered party e world entry own = record { put = put_grows party world.store.history entry e own.put; recorded = own.recorded }
 
+-- A poll that is about to put the records still is so after a put that is refused.
 pub puts_refused : (who : Caller) (e : ℕ) (base : World) (got : Records) (p : PollState) (world : World) → CallsKeep who.merge → Puts who e base got p world → (got.version == records_version world.store.records) ≡ false
     → Puts who e base got p (after_call who.line who.party (PutsRecords got.version (Polled (change_of p)) got.epoch (trimmed_jobs p.jobs)) None world)
 puts_refused who e base got p world keep s other =
@@ -173,6 +175,7 @@ puts_merged who e base got newer p world keep s is low =
 abbrev Further : Caller → ℕ → ℕ → Type 0
 Further who e left = (base : World) (got : Records) (p : PollState) (seen : ℕ) (world : World) → Puts who e base got p world → IsLawfulCourse who world (puts_polled e p got left seen)
 
+-- After a get of newer records, the rest of a poll is a lawful course, if its further puts are.
 over_newer : (who : Caller) (e left seen : ℕ) (base : World) (got : Records) (p : PollState) (met : World) → CallsKeep who.merge → 0 < e → Further who e left → Puts who e base got p met → (records : Option Records) → met.store.records ≡ records
     → IsLawfulCourse who (after_call who.line who.party (Plain GetRecords) None met) (unless_fenced e (records_or_none records).epoch (puts_polled e (merged_into p (records_or_none records).jobs) (records_or_none records) left seen))
 over_newer who e left seen base got p met keep counted further s None is =
@@ -185,6 +188,7 @@ over_newer who e left seen base got p met keep counted further s (Some newer) is
     by true f = tt
     by false f = further _ newer (merged_into p newer.jobs) seen _ (puts_merged who e base got newer p met keep s is (ltb-false e newer.epoch f))
 
+-- After a put of the records, refused or not, the rest of a poll is a lawful course, if its further puts are.
 after_put : (who : Caller) (e left : ℕ) (base : World) (got : Records) (p : PollState) (met : World) → CallsKeep who.merge → 0 < e → Further who e left → Puts who e base got p met → (b : Bool) → (got.version == records_version met.store.records) ≡ b
     → IsLawfulCourse who (after_call who.line who.party (PutsRecords got.version (Polled (change_of p)) got.epoch (trimmed_jobs p.jobs)) None met)
     (cond b (Ends (Reports p)) (cond (left == 0) (Ends (GivesUp (records_version met.store.records))) (gets_records (λ newer. let got = records_or_none newer in
