@@ -22,6 +22,7 @@ use Rattle.course_laws.proofs.Calls.{pairs_filter}
 
 -- ---- fewer attempts
 
+-- Elements that pass a test are still pairwise related after some elements are left out of the list.
 pairs_fewer : {A : Type 0} (R : A → A → Type 0) (p keep : A → Bool) (xs : List A) → Pairs R (filter p xs) → Pairs R (filter p (filter keep xs))
 pairs_fewer R p keep [] h = tt
 pairs_fewer {A} R p keep (x ∷ xs) h = by (p x) refl (keep x) (λ rest. pairs_fewer R p keep xs rest) h
@@ -68,6 +69,7 @@ all_put P a (b ∷ xs) one all = by (nat_lt a.job b.job) (all_put P a xs one all
     by true rest = (one, all)
     by false rest = (all.0, rest)
 
+-- Attempts by rising job stay so with one more attempt, which is at a job of its own.
 rise_put : (a : Attempt) (xs : List Attempt) → AllByRecursion (λ b. b.job ≡ a.job → ⊥) xs → Pairs (λ a b. a.job < b.job) xs → Pairs (λ a b. a.job < b.job) (put_attempt a xs)
 rise_put a [] new rise = (tt, tt)
 rise_put a (b ∷ xs) new rise = by (nat_lt a.job b.job) refl (rise_put a xs new.1 rise.1)
@@ -88,6 +90,7 @@ all_put_live P p a xs one all = all_from P (filter p (put_attempt a xs)) (λ x t
     let found = from_filter p (put_attempt a xs) x there in
     (all_at (λ y. p y ≡ true → P y) (put_attempt a xs) x (all_put (λ y. p y ≡ true → P y) a xs one (all_from _ xs (λ y other e. all_at P (filter p xs) y all (in_filter p xs y other e)))) found.0) found.1)
 
+-- With one more, attempts that pass a test stay pairwise related, if it is related to each both ways or fails the test.
 pairs_put : (R : Attempt → Attempt → Type 0) (p : Attempt → Bool) (a : Attempt) (xs : List Attempt) → (p a ≡ true → (b : Attempt) → IsIn b (filter p xs) → R a b × R b a) → Pairs R (filter p xs) → Pairs R (filter p (put_attempt a xs))
 pairs_put R p a [] both h = by (p a)
   where

@@ -52,6 +52,7 @@ get_after tables specs worker [] get o others own = ap (λ b. cond b (objects_fo
 get_after tables specs worker (entry ∷ since) get o others own =
     ap (λ b. cond b (objects_found entry.event entry.answer o) (objects_at_get tables specs worker (since ++ get ∷ []) (after_entry tables specs entry o))) others.0 ∙ get_after tables specs worker since get (after_entry tables specs entry o) others.1 own
 
+-- The objects of an attempt are those that its worker's first call after the claim finds.
 claim_then : (tables : Tables) (specs : ℕ → JobSpec) (worker job attempt : ℕ) (front : List Entry) (claim : Entry) (since : List Entry) (get : Entry) (o : Objects) → AllByRecursion (λ entry. claimed_in job attempt entry ≡ None) front
     → claimed_in job attempt claim ≡ Some worker → AllByRecursion (λ (entry : Entry). is_worker worker entry.party ≡ false) since → is_worker worker get.party ≡ true
     → objects_got tables specs job attempt (front ++ claim ∷ (since ++ get ∷ [])) o ≡ objects_found get.event get.answer (replayed_objects tables specs (front ++ claim ∷ since) o)
@@ -204,6 +205,7 @@ and_right : (a b : Bool) → (a && b) ≡ true → b ≡ true
 and_right true b e = e
 and_right false b e = absurd (cc e)
 
+-- An event that took effect and is the worker's claim of an attempt claims that attempt.
 claim_says : (worker job attempt : ℕ) (took : Bool) (event : Event) → (is_claim_of worker job attempt event && took) ≡ true → IsIn (job, attempt) (entries.attempts_claimed_in took event)
 claim_says worker job attempt true (PutRecords (Claim other attempts)) e = listed attempts (and_right (worker == other) (is_in job attempt attempts) (and_first _ true e))
   where

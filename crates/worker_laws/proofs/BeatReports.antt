@@ -38,6 +38,7 @@ beat_did w start found jobs report after stored is = record {
 abbrev BeatsOn : Caller → LiveWorker → World → World → Beaten → (ℕ → Course (StepEnd Beaten)) → Type 0
 BeatsOn who w start last report again = (seen : ℕ) (world : World) → ComesAfter start world → Going who (again seen) world last (Reports report) → BeatDid w start report
 
+-- From its get of the records on, a heartbeat that reports did what it says, if it does so after another try.
 beat_these : (who : Caller) (moment : ℕ) (w : LiveWorker) (start last : World) (report : Beaten) (again : ℕ → Course (StepEnd Beaten)) → CallsKeep who.merge → BeatsOn who w start last report again → (found world : World) (got : Records) (live : List Attempt)
     → ComesAfter start found → ComesAfter start world → stored_jobs found.store ≡ got.jobs → Going who (beat_of moment w got live again) world last (Reports report) → BeatDid w start report
 beat_these who moment w start last report again keep on found world got [] after comes stored going = beat_did w start found got.jobs report after stored (cc (going.run.1))
@@ -77,6 +78,7 @@ none_live : (test : Attempt → Bool) (attempts : List Attempt) → is_nonempty 
 none_live test [] e = refl
 none_live test (a ∷ attempts) e = absurd (cc e)
 
+-- A heartbeat that reports named the attempts that were live by records that it found, and stopped the others.
 heartbeat_did : (who : Caller) (moment : ℕ) (w : LiveWorker) (start last : World) (report : Beaten) → CallsKeep who.merge → Going who (heartbeat moment w) start last (Reports report) → BeatDid w start report
 unfolding heartbeat
 heartbeat_did who moment w start last report keep going = by (is_nonempty w.attempts) refl going
@@ -101,6 +103,7 @@ ends_with released = Ends (Reports released)
 abbrev ReleasesOn : Caller → LiveWorker → World → World → List ℕ → (ℕ → Course (StepEnd (List ℕ))) → Type 0
 ReleasesOn who w start last released again = (seen : ℕ) (world : World) → ComesAfter start world → Going who (again seen) world last (Reports released) → ReleaseDid w start released
 
+-- From its get of the records on, a release that reports gave back the live attempts, if another try does so.
 release_these : (who : Caller) (w : LiveWorker) (start last : World) (released : List ℕ) (again : ℕ → Course (StepEnd (List ℕ))) → CallsKeep who.merge → ReleasesOn who w start last released again → (found world : World) (got : Records) (live : List Attempt)
     → live_attempts (stored_jobs found.store) w ≡ live → ComesAfter start found → ComesAfter start world → Going who (release_live w got live ends_with again) world last (Reports released) → ReleaseDid w start released
 release_these who w start last released again keep on found world got [] these after comes going =

@@ -58,6 +58,7 @@ named_from id [] there = absurd there
 named_from id (a ∷ live) (inl same) = record { attempt = a; there = inl refl; same = same }
 named_from id (a ∷ live) (inr there) = let found = named_from id live there in record { attempt = found.attempt; there = inr found.there; same = found.same }
 
+-- A heartbeat leaves the job of each live attempt Running with the worker, and with the attempt's context.
 is_beaten : (moment : ℕ) (w : LiveWorker) (jobs : Jobs) → Pairs (λ a b. a.id < b.id) jobs → trimmed_jobs jobs ≡ jobs → Pairs (λ a b. a.job < b.job) w.attempts → (a : Attempt) → IsIn a (live_attempts jobs w)
     → HasBeaten w.number a (beaten_jobs moment w (live_attempts jobs w) jobs)
 is_beaten moment w jobs rise short jobs_rise a there =
@@ -152,6 +153,7 @@ none_live world w = all_from _ (live_attempts [] w) (λ a there. absurd (never (
     never : false ≡ true → ⊥
     never e = absurd (cc e)
 
+-- From its get of the records on, a heartbeat leaves a worker that fits and a right report, if another try does.
 those : (who : Caller) (w : LiveWorker) (moment : ℕ) (again : ℕ → Course (StepEnd Beaten)) → Relies who w → Tries who w again → (met : World) (got : Records) (live : List Attempt) → met.store.records ≡ Some got → live_attempts got.jobs w ≡ live
     → (new : World) (end : End (StepEnd Beaten)) → After who w (beat_of moment w got live again) (after_call who.line who.party (Plain GetRecords) None met) new end
 those who w moment again r tries met got [] is these new end fit lawful run =

@@ -50,6 +50,7 @@ pub record Waits (world : World) (w : LiveWorker) (a : Attempt) (taken : Job) : 
 sources_put : (world : World) (a : Attempt) → AreHeld world.store (attempt_tables a) → AllByRecursion (λ id. IsTrue (is_among world.store.tables id)) a.sources
 sources_put world a held = all_front _ a.sources (context_tables (Some a.context)) (all_true_front (is_among world.store.tables) (attempt_tables a) (are_put world.store (attempt_tables a) held))
 
+-- An attempt whose plan is not noted yet stays as its claim left it, after calls that leave what its worker reads.
 pub waits_follow : (old now : World) (w : LiveWorker) (a : Attempt) (taken : Job) → Follows old now (single w a) → Waits old w a taken → Waits now w a taken
 waits_follow old now w a taken f h = record {
   held = record {
@@ -119,6 +120,7 @@ pub record Alone (merge : Operator) (world : World) (w : LiveWorker) (a : Attemp
   pub live : (specs : ℕ → JobSpec) → Faithful world specs → (job : Job) → job_with a.job (stored_jobs world.store) ≡ Some job → IsTrue (runs_attempt w.number a.number (Some job)) → AttemptFits merge world.store specs job a
   pub own : is_live (stored_jobs world.store) w.number a ≡ true → NotesOwn world w.number a
 
+-- A worker that runs one attempt alone fits, if the attempt fits and notes only tables of the worker's own.
 pub holds_alone : (merge : Operator) (world : World) (w : LiveWorker) (a : Attempt) → Alone merge world w a → WorkerHolds merge world (single w a)
 holds_alone merge world w a h = record {
   fits = λ specs faithful. record { cuts = (h.cut, tt); each = (h.stands specs faithful, tt); live = if_live (LiveFits merge world.store specs) (λ lives. live specs faithful lives) };

@@ -71,6 +71,7 @@ record AreChosen (w : LiveWorker) (jobs these : Jobs) : Type 0 where
   each : AllByRecursion (IsChosen w jobs) these
   rise : Pairs (λ a b. a.id < b.id) these
 
+-- A stored job that passes the test of a claim waits, the worker does not run it, and the worker may take it.
 is_chosen : (w : LiveWorker) (jobs : Jobs) (job : Job) → IsIn job jobs → (is_waiting job && not (contains (attempt_jobs w.attempts) job.id) && may_take w.release job) ≡ true → IsChosen w jobs job
 is_chosen w jobs job there e = record {
   there = there;
@@ -128,6 +129,7 @@ over_follow merge old now w moment job t specs faithful f = record {
   holds = holds_after merge old now (single w (attempt_with job (over_taken w t.context))) specs faithful f t.holds;
 }
 
+-- Calls of others leave a job pending that the worker's claim took.
 rivals_pending : (who : Caller) (w : LiveWorker) (moment : ℕ) (job : Job) (old new : World) → Relies who w → Keeps who.merge old → Rivals who old new → IsPending who.merge old w moment job → IsPending who.merge new w moment job
 rivals_pending who w moment job old new r kept rivals (inl s) = inl (record {
   none = s.none;
@@ -207,6 +209,7 @@ pending_after who w moment put got these same chosen e kept afterwards = all_fro
 abbrev began_at : WorkerOptions → ℕ → LiveWorker → Store → Began
 began_at options moment w met = record { w = w; input = claim_input options moment w met; moment = moment; release = refl }
 
+-- After the get of the manifest, a pending job's attempt has taken over a context, or its plan is to be noted.
 starting_at : (who : Caller) (options : WorkerOptions) (moment : ℕ) (w : LiveWorker) (met : World) (job : Job) → Keeps who.merge met → who.party ≡ Worker w.number → IsPending who.merge met w moment job
     → IsStarting who.merge (after_call who.line who.party (Plain GetManifest) None met) (began_at options moment w met.store) job
 starting_at who options moment w met job k own (inl s) = inl (record {
@@ -296,6 +299,7 @@ left_out left attempts a there =
 stopped_idle : (left : List ℕ) (attempts : List Attempt) → AllByRecursion (λ id. contains (attempt_jobs (without_attempts left attempts)) id ≡ false) left
 stopped_idle left attempts = all_from _ left (λ id there. in_jobs (without_attempts left attempts) id (λ a one same. refused (contains left a.job) (left_out left attempts a one).1 (in_contains left a.job (subst (λ n. IsIn n left) (sym same) there))))
 
+-- An attempt of a list with new ones inserted is a new one, or was in the list before.
 in_begun : (new attempts : List Attempt) (a : Attempt) → IsIn a (with_attempts new attempts) → IsIn a new ⊎ IsIn a attempts
 in_begun [] attempts a there = inr there
 in_begun (x ∷ new) attempts a there = by (in_begun new (put_attempt x attempts) a there)
@@ -331,6 +335,7 @@ left_idle b these left can rise none ran = all_from _ left (λ id there. in_jobs
         (subst (λ n. IsTrue (contains (attempt_jobs b.w.attempts) n)) (sym (begun.1.1 ∙ same)) (all_at (λ n. IsTrue (contains (attempt_jobs b.w.attempts) n)) left id ran there))
     by id there a same (inr one) = refused (contains left a.job) (left_out left b.w.attempts a one).1 (in_contains left a.job (subst (λ n. IsIn n left) (sym same) there))
 
+-- After its claim, a worker runs none of the jobs that the claim took and could not start.
 released_idle : (b : Began) (these : Jobs) (left : List ℕ) (can : Job → Bool) → Pairs (λ x y. x.id < y.id) these → NotRun b.w these
     → AllByRecursion (λ id. contains (attempt_jobs (with_attempts (map (claimed_attempt b.input) (filter can these)) (without_attempts left b.w.attempts))) id ≡ false) (ids (filter (λ job. not (can job)) these))
 released_idle b these left can rise none = all_map _ (λ (job : Job). job.id) (filter (λ job. not (can job)) these) (all_from _ (filter (λ job. not (can job)) these) (λ job there.
@@ -367,6 +372,7 @@ started_report c shown these left =
     let begun = map (claimed_attempt (claim_input c.options c.moment c.w shown)) (filter (can_start shown.manifest) these) in
     record { begun = begun; stopped = left; released = ids (filter (λ job. not (can_start shown.manifest job)) these); attempts = with_attempts begun (without_attempts left c.w.attempts) }
 
+-- The starts of the jobs that a claim took leave a worker that fits and a right report.
 started : (c : Claimant) (shown : Store) (these : Jobs) (left : List ℕ) → AreRun c.w left → Relies c.who c.w → Did c (started_report c shown these left) → (new : World) (end : End (StepEnd Claimed)) (old : World) → Pairs (λ x y. x.id < y.id) these → NotRun c.w these
     → AllByRecursion (IsStarting c.who.merge old (began_at c.options c.moment c.w shown)) these → After c (starts_claimed (claim_input c.options c.moment c.w shown) c.w these left) old new end
 started c shown these left ran r did new end old rise none starting fit lawful run =
@@ -405,6 +411,7 @@ pending_lost : (c : Claimant) (world : World) (job : Job) → Keeps c.who.merge 
 pending_lost c world job kept (inl s) = lost_at c.who.merge world c.w job (taken_by c.w c.moment job) kept refl (λ now e runs. s.waits.runs now e runs)
 pending_lost c world job kept (inr t) = lost_at c.who.merge world c.w job (taken_by c.w c.moment job) kept refl (λ now e runs. t.runs now e runs)
 
+-- From its get of the manifest on, a claim leaves a worker that fits and a right report.
 after_put : (c : Claimant) (these : Jobs) (left : List ℕ) → AreRun c.w left → Relies c.who c.w → (new : World) (end : End (StepEnd Claimed)) (old : World)
     → ((shown : World) → Rivals c.who old shown → AllByRecursion (IsLost c.w shown.store) these → Did c (started_report c shown.store these left)) → Pairs (λ x y. x.id < y.id) these → NotRun c.w these
     → AllByRecursion (IsPending c.who.merge old c.w c.moment) these → After c (Calls (Plain GetManifest) (λ met. starts_claimed (claim_input c.options c.moment c.w met) c.w these left)) old new end
@@ -423,6 +430,7 @@ after_put c these left ran r new end old did rise none pending fit lawful run =
 abbrev Makes : Claimant → World → Records → Jobs → List ℕ → Type 0
 Makes c found got these left = (report : Claimed) → report.stopped ≡ left → TookThese c.who c.options c.moment c.w found got these report → report.attempts ≡ with_attempts report.begun (without_attempts report.stopped c.w.attempts) → Did c report
 
+-- From its choice of jobs on, a claim leaves a worker that fits and a right report, if another try does.
 those : (c : Claimant) (left : List ℕ) (again : ℕ → Course (StepEnd Claimed)) → AreRun c.w left → Relies c.who c.w → (new : World) (end : End (StepEnd Claimed)) → ((version : ℕ) (old : World) → ComesAfter c.start old → After c (again version) old new end)
     → (met : World) (got : Records) (these : Jobs) → ComesAfter c.start met → Makes c met got these left → met.store.records ≡ Some got → AreChosen c.w got.jobs these
     → After c (claim_of c.options c.moment c.w got these left again) (after_call c.who.line c.who.party (Plain GetRecords) None met) new end
@@ -478,6 +486,7 @@ pub none_stopped : (attempts : List Attempt) → without_attempts [] attempts �
 none_stopped [] = refl
 none_stopped (a ∷ attempts) = ap (λ (rest : List Attempt). a ∷ rest) (none_stopped attempts)
 
+-- From its get of the records on, a claim leaves a worker that fits and a right report, if another try does.
 over : (c : Claimant) (again : ℕ → Course (StepEnd Claimed)) → Relies c.who c.w → (new : World) (end : End (StepEnd Claimed)) → ((version : ℕ) (old : World) → ComesAfter c.start old → After c (again version) old new end)
     → (met : World) (records : Option Records) → ComesAfter c.start met → Keeps c.who.merge met → met.store.records ≡ records → After c (claim_by c.options c.moment c.w records again) (after_call c.who.line c.who.party (Plain GetRecords) None met) new end
 over c again r new end tries met None comes kept is fit lawful run =

@@ -90,6 +90,7 @@ apart_outputs merge w world a made h there live lacks = all_from _ (live_attempt
     (outputs_all (λ t. IsIn t (noted_tables b) → ⊥) a.context.ranges made (all_from _ (noted_tables a) (λ t old more. apart_at (noted_tables a) (noted_tables b) t two old more))
     (all_to _ _ (all_of made) (λ p new none. none b found.0) lacks)) named))
 
+-- From its get of the records on, the end of a job leaves a worker that fits and a right report, if another try does.
 ended_job : (who : Caller) (w : LiveWorker) (moment : ℕ) (a : Attempt) (made : List (List (ℕ × List Row))) (again : ℕ → Course (StepEnd FinishedJob)) → Relies who w → IsIn a w.attempts → AreUnnoted w (all_of made)
     → (new : World) (end : End (StepEnd FinishedJob)) → ((version : ℕ) (old : World) → After who moment w a (again version) old new end) → (met : World) (got : Records) → met.store.records ≡ Some got → (live : Bool) → is_live got.jobs w.number a ≡ live
     → After who moment w a (ends_job moment w a (all_outputs a.context.ranges (map ids_of made)) got live again) (after_call who.line who.party (Plain GetRecords) None met) new end
@@ -179,6 +180,7 @@ end_fits who w moment a made r there lacks new end old fit lawful run = ends who
 abbrev FinishLeaves : Caller → FinishAsk → World → End (StepEnd FinishedJob) → Type 0
 FinishLeaves who ask new end = Left who ask.worker (λ (report : FinishedJob). report.attempts) (FinishDid who ask.moment ask.worker ask.attempt) new end
 
+-- A finish that has got its sources leaves a worker that fits and a right report, also if the operator refused a fold.
 made_fits : (who : Caller) (start : World) (ask : FinishAsk) (refusal : Option (List ℕ)) → Relies who ask.worker → IsIn ask.attempt ask.worker.attempts → (new : World) (end : End (StepEnd FinishedJob)) (world : World) → State who ask.worker start ask.attempt [] world
     → let course = unless_refused ask.worker ask.attempt refusal (puts_and_ends ask (tables_left who.merge start.store.tables ask)) in
     IsLawfulCourse who world course → Runs who course world new end → FinishLeaves who ask new end

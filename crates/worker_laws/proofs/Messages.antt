@@ -96,6 +96,7 @@ progress_left who w job number context old new end kept holds fits run =
 
 -- ---- the laws
 
+-- A worker still fits after it takes the message that an attempt finished, failed or went on, if the message fits.
 pub messages_keep_fit : MessagesKeepFit
 messages_keep_fit = record {
   finished = λ who old moment w job number result keep own kept holds fits. (

@@ -168,6 +168,7 @@ fits_still who w start now a place range n table p fits =
 claimed_still : (now : World) (specs : ℕ → JobSpec) (job number place table : ℕ) (a : Attempt) → IsClaimed now.store specs job number a.context → IsClaimed now.store specs job number (noting place table a).context
 claimed_still now specs job number place table a c = record { settings = c.settings; ranges = c.ranges ∙ ap Some (sym (noted_ranges place table a.context.ranges)) }
 
+-- With the table of an output noted, the worker may run the attempt beside its attempts at other jobs.
 pub added : (who : Caller) (w : LiveWorker) (start now : World) (a : Attempt) (place : ℕ) (range : Range × List ℕ) (n table : ℕ) → IsPut who w start now a place range n table
     → Added who.merge now (record w { attempts = without_attempts (a.job ∷ []) w.attempts }) (noting place table a)
 added who w start now a place range n table p = record {
@@ -225,6 +226,7 @@ added who w start now a place range n table p = record {
 stops : (who : Caller) (w : LiveWorker) (new : World) (end : End (StepEnd Written)) → Stops (FitsAfterwards who.merge w (λ report. report.attempts) new end) who w new end
 stops who w new end x met fit stop = stopped who w (λ (report : Written). report.attempts) x met new end fit.holds stop
 
+-- An output that writes the next rows of a range, or has none to write, leaves a worker that fits.
 written : (who : Caller) (start : World) (ask : OutputAsk) (rows : List Row) (new : World) (end : End (StepEnd Written)) → Relies who ask.worker → IsIn ask.attempt ask.worker.attempts → IsRangeAt ask.attempt ask.place ask.range
     → rows ≡ rows_written who.merge start.store.tables ask → (world : World) → State who ask.worker start ask.attempt [] world → IsLawfulCourse who world (writes ask rows) → Runs who (writes ask rows) world new end
     → FitsAfterwards who.merge ask.worker (λ report. report.attempts) new end

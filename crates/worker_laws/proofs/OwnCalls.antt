@@ -68,6 +68,7 @@ quiet_origin world entry a quiet = sym (ap (if_earlier a.number) (beaten_stays a
 abbrev pub own_entry : ℕ → Party → World → RecordChange → Entry
 own_entry line party world change = record { line = line; party = party; event = PutRecords change; answer = Done (records_version world.store.records + 1) }
 
+-- The put of a claim keeps what a worker's attempts read, and names no further table that a live one noted.
 claim_spares : (merge : Operator) (line : ℕ) (party : Party) (world : World) (w : LiveWorker) (u : Unrecorded) (worker : ℕ) (attempts : List (ℕ × ℕ)) (jobs : Jobs) → Keeps merge world → ChangeFits merge party world u jobs (Claim worker attempts)
     → OwnPut world w (claimed_by worker u.moment) (firsts attempts) (own_entry line party world (Claim worker attempts))
 claim_spares merge line party world w u worker attempts jobs k fits = record {
@@ -92,6 +93,7 @@ claim_spares merge line party world w u worker attempts jobs k fits = record {
         let is = each_named world k.stored.replay.specs merge (λ job. IsTrue (is_waiting job)) attempts (whole_of merge world k).body (all_to _ _ attempts (λ a there h. stored_to world (λ job. IsTrue (is_waiting job) × (a.1 ≡ job.attempt + 1)) (λ job. IsTrue (is_waiting job)) a.0 (λ job one. one.0) h) fits.each) old one has in
         waiting_active old.status (is_none old.lease) is
 
+-- The put of a release keeps what a worker's attempts read, and names no further table that a live one noted.
 release_spares : (merge : Operator) (line : ℕ) (party : Party) (world : World) (w : LiveWorker) (u : Unrecorded) (worker : ℕ) (attempts : List (ℕ × ℕ)) (jobs : Jobs) → Keeps merge world → ChangeFits merge party world u jobs (Release worker attempts)
     → OwnPut world w to_waiting (firsts attempts) (own_entry line party world (Release worker attempts))
 release_spares merge line party world w u worker attempts jobs k fits = record {
@@ -112,6 +114,7 @@ release_spares merge line party world w u worker attempts jobs k fits = record {
         let is = each_named world k.stored.replay.specs merge AtSome attempts (whole_of merge world k).body (all_to _ _ attempts (λ a there h. stored_to world (IsLiveAt worker a.1) AtSome a.0 (λ job one. (a.1, one)) h) fits.each) old one has in
         active_if_open old (live_open worker is.0 old is.1)
 
+-- The put of a finish keeps what a worker's attempts read, if no other live attempt noted one of its outputs.
 finish_spares : (merge : Operator) (line : ℕ) (party : Party) (world : World) (w : LiveWorker) (u : Unrecorded) (worker id attempt : ℕ) (outputs : List (List ℕ)) (jobs : Jobs) → SparesOwn world w jobs (Finish worker id attempt outputs)
     → OwnPut world w (finished_by worker u outputs) (id ∷ []) (own_entry line party world (Finish worker id attempt outputs))
 finish_spares merge line party world w u worker id attempt outputs jobs spares = record {
@@ -127,6 +130,7 @@ finish_spares merge line party world w u worker id attempt outputs jobs spares =
 
 -- ---- a heartbeat
 
+-- The put of a heartbeat keeps what the worker's attempts read, if it publishes the contexts of all live ones.
 beat_spares : (merge : Operator) (line : ℕ) (party : Party) (world : World) (w : LiveWorker) (u : Unrecorded) (worker : ℕ) (attempts : List (ℕ × ℕ)) → Keeps merge world → party ≡ Worker w.number
     → ChangeFits merge party world u (jobs_after u (Beat worker attempts) (stored_jobs world.store)) (Beat worker attempts)
     → SparesOwn world w (jobs_after u (Beat worker attempts) (stored_jobs world.store)) (Beat worker attempts) → OwnPut world w (beaten_by worker u) (firsts attempts) (own_entry line party world (Beat worker attempts))
@@ -185,6 +189,7 @@ put_world line party world version change epoch jobs e = by (version == records_
     by true e = world_with_records world (record { version = version + 1; epoch = epoch; jobs = jobs }) (own_entry line party world change)
     by false e = absurd (cc e)
 
+-- A worker that fits still fits after its own put of the records, if the change fits and spares its live attempts.
 change_holds : (merge : Operator) (line : ℕ) (party : Party) (world : World) (w : LiveWorker) (version : ℕ) (change : RecordChange) (epoch : ℕ) (jobs : Jobs) (u : Unrecorded) → Keeps merge world → party ≡ Worker w.number
     → ChangeFits merge party world u (jobs_after u change (stored_jobs world.store)) change → SparesOwn world w (jobs_after u change (stored_jobs world.store)) change → WorkerHolds merge world w
     → WorkerHolds merge (with_records world (record { version = version; epoch = epoch; jobs = jobs_after u change (stored_jobs world.store) }) (own_entry line party world change)) w
@@ -212,6 +217,7 @@ records_hold merge line party world w version change epoch jobs k own e fits spa
 
 -- ---- all calls
 
+-- A worker that fits still fits after each lawful call of its own that spares its live attempts.
 pub own_calls_keep : (merge : Operator) → OwnCallsKeep merge
 own_calls_keep merge (Plain event) line party world w k own lawful is h = plain_holds merge line party world w event _ lawful h
 own_calls_keep merge (DrawsJob moment) line party world w k own lawful is h =

@@ -137,6 +137,7 @@ unnamed_still world w f these entry version epoch a id t put there live lacks sa
         let from = from_stored world f these found.0 kept.0 in
         (subst Names (sym from.is) (now_names from.was from.there)) (left (is_active found.0) (not (id == found.0.id)) kept.1) (differs found.0 kept.1) found.1.1
 
+-- An attempt that is live after the worker's own put was live before it, at a job with the same spec and sources.
 still : (world : World) (w : LiveWorker) (f : Job → Job) (these : List ℕ) (entry : Entry) (version epoch : ℕ) (merge : Operator) (specs : ℕ → JobSpec) → Body merge world specs → OwnPut world w f these entry
     → (a : Attempt) → IsIn a w.attempts → AttemptHeld world w.number a → is_live (stored_jobs (with_records world (left_records world f these version epoch) entry).store) w.number a ≡ true → Still world (with_records world (left_records world f these version epoch) entry) w a
 still world w f these entry version epoch merge specs b put a there held live = by (job_with a.job jobs) refl live

@@ -69,6 +69,7 @@ refusals_give_back = record {
 abbrev Says : Caller → (start new : World) → OutputAsk → Written → Type 0
 Says who start new ask report = IfSome report.table (OutputSays who.merge start new ask report)
 
+-- The table that an output reports is held, has the next rows of the range, and is noted for it.
 written_says : (who : Caller) (start : World) (ask : OutputAsk) (rows : List Row) (new : World) (report : Written) → Relies who ask.worker → rows ≡ rows_written who.merge start.store.tables ask
     → (world : World) → State who ask.worker start ask.attempt [] world → IsLawfulCourse who world (writes ask rows) → Runs who (writes ask rows) world new (Gives (Reports report)) → Says who start new ask report
 written_says who start ask [] new report r is world s lawful run = subst (Says who start new ask) (same run.1) tt

@@ -82,6 +82,7 @@ pub record Ways (A : Type 0) (R : Type 0) (who : Caller) (w : LiveWorker) (attem
 abbrev Leads : {A : Type 0} → Type 0 → Caller → LiveWorker → Course (StepEnd A) → (old new : World) → End (StepEnd A) → Type 0
 Leads R who w course old new end = Fit who w old → IsLawfulCourse who old course → Runs who course old new end → R
 
+-- From its get of the records on, a release stops, gives up, or goes on with no attempt live, if another try does.
 those : {A : Type 0} (R : Type 0) (who : Caller) (w : LiveWorker) (attempts : List Attempt) (next : List ℕ → Course (StepEnd A)) (again : ℕ → Course (StepEnd A)) (new : World) (end : End (StepEnd A)) → Relies who w → Ways A R who w attempts next new end
     → ((version : ℕ) (old : World) → Leads R who w (again version) old new end) → (met : World) (got : Records) (live : List Attempt) → met.store.records ≡ Some got → filter (is_live got.jobs w.number) attempts ≡ live
     → Leads R who w (release_live w got live next again) (after_call who.line who.party (Plain GetRecords) None met) new end
@@ -137,6 +138,7 @@ released {A} R who w attempts next new end r ways (suc left) seen old fit lawful
 abbrev AreAllOver : LiveWorker → World → List ℕ → Type 0
 AreAllOver w new released = AreOver w w.attempts new
 
+-- A release of all attempts leaves a worker that fits, and where it reports, none of the attempts is live.
 release_fits : (who : Caller) (w : LiveWorker) → Relies who w → (old new : World) (end : End (StepEnd (List ℕ))) → Leads (Left who w (λ released. w.attempts) (AreAllOver w) new end) who w (release_all w) old new end
 unfolding release_all
 release_fits who w r old new end = by (is_nonempty w.attempts) refl

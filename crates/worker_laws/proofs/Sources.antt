@@ -39,6 +39,7 @@ record SourceNodes (merge : Operator) (world : World) (job : Job) : Type 0 where
   fits : SegmentFits merge (with_horizon world.store world.store.manifest.horizon) world.store.history at.s
   tables : job.source_tables ≡ flat_map (λ (node : Node). node.pieces) (at.t ∷ at.ts)
 
+-- The sources of a job that stand are a stretch of a tree that fits, and their pieces are the job's source tables.
 source_nodes_of : (merge : Operator) (world : World) (specs : ℕ → JobSpec) (job : Job) → Body merge world specs → SourcesStand world.store.manifest.trees job → SourceNodes merge world job
 source_nodes_of merge world specs job b stands =
     let kept = (start merge world specs b).kept in

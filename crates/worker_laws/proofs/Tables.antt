@@ -56,6 +56,7 @@ unnoted who w world table kept holds new b there noted =
     refused (is_among world.store.tables table) new
     (held_put world.store table (all_at _ (noted_tables b) table (all_back _ b.sources (context_tables (Some b.context)) (all_true_front (is_held world.store) (attempt_tables b) (all_at _ w.attempts b (holds.fits kept.stored.replay.specs kept.faithful).each there).held)) noted))
 
+-- A run that puts a table stops, or goes on with the table among those that it made, while no attempt has noted it.
 pub puts_one : {A : Type 0} (R : Type 0) (who : Caller) (w : LiveWorker) (start : World) (a : Attempt) (moment : ℕ) (rows : List Row) (pairs : List (ℕ × List Row)) (next : ℕ → Course (StepEnd A)) (new : World) (end : End (StepEnd A)) → Relies who w → Stops R who w new end
     → ((world : World) (table : ℕ) → State who w start a (pairs ++ (table, rows) ∷ []) world → IsUnnoted w table → IsLawfulCourse who world (next table) → Runs who (next table) world new end → R)
     → (old : World) → State who w start a pairs old → IsLawfulCourse who old (puts_table moment rows next) → Runs who (puts_table moment rows next) old new end → R

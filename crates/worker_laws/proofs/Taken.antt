@@ -148,6 +148,7 @@ first_is_beaten job n (entry ∷ history) e = by (if stood entry.answer then bea
     by None f rest e = back (beats job entry.event && stood entry.answer) (was_beaten history job) (rest e)
     by (Some m) f rest e = front (beats job entry.event && stood entry.answer) (was_beaten history job) (beat_of job m (stood entry.answer) entry.event f)
 
+-- The attempt that a claim begins at a job without a context is its own origin, and its tables are held.
 pub took_waits : (merge : Operator) (world : World) (w : LiveWorker) (moment : ℕ) (job : Job) → Keeps merge world → Took world w moment job → job.context ≡ None → Waits world w (attempt_with job blank) (taken_by w moment job)
 took_waits merge world w moment job k t none = record {
   held = took_held merge world w moment job blank k t;
@@ -184,6 +185,7 @@ cut_taken One job c is may fits never = fits (plain c.has_cut (subst (λ o. has_
     plain false e = refl
 cut_taken Two job c is may fits never = absurd (cc never)
 
+-- A worker fits with only the attempt that takes over a claimed job's context, if its release may take the job.
 pub took_over : (merge : Operator) (world : World) (w : LiveWorker) (moment : ℕ) (job : Job) (c : Context) → Keeps merge world → Took world w moment job → job.context ≡ Some c → may_take w.release job ≡ true
     → WorkerHolds merge world (single w (attempt_with job (over_taken w c)))
 took_over merge world w moment job c k t is may = holds_alone merge world w a (record {

@@ -26,6 +26,7 @@ use Rattle.worker_laws.proofs.Finishes.{finishes_keep_fit, finishes_report}
 
 -- ---- a claim
 
+-- A worker that fits still fits after its claim, unless the claim meets a fault or is out of memory.
 claim_fit : (who : Caller) (options : WorkerOptions) (moment : ℕ) (old new : World) (w : LiveWorker) (end : StepEnd Claimed) → CallsKeep who.merge → IsFit who old w → Runs who (claim options moment w) old new (Gives end) → IsFit who new (after_claim w end)
 claim_fit who options moment old new w end keep fit run = by end ((claims_keep_fit who old options moment w keep fit.own fit.kept fit.holds).0 new (Gives end) run)
     (runs_keep who (claim options moment w) keep old new (Gives end) fit.kept (claims_are_lawful who old options moment w keep fit.kept fit.own) run)
@@ -43,6 +44,7 @@ claim_fit who options moment old new w end keep fit run = by end ((claims_keep_f
 
 -- ---- finishes
 
+-- Under a lawful operator, a worker that fits still fits after it finishes an attempt.
 finish_fit : (who : Caller) (options : WorkerOptions) (moment job : ℕ) (old new : World) (w v : LiveWorker) → IsLawful who.merge → IsFit who old w → FinishRan who options moment job old w new v → IsFit who new v
 finish_fit who options moment job old new w v lawful fit r =
     subst (IsFit who new) (sym r.left) (record {
