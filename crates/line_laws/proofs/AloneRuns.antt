@@ -55,6 +55,7 @@ has_room (PutsRecords version change epoch jobs) world room = tt
 has_room ListsTables world room = tt
 has_room (DeletesTable table) world room = tt
 
+-- A course that runs alone over a store runs as courses do, if the history had room for its draws.
 pub alone_runs : {A : Type 0} (who : Caller) (course : Course A) (world : World) (fault : Option Fault) → HadRoom (run_alone who.line who.party course fault world.store).store
     → IsRun who course world (run_alone who.line who.party course fault world.store)
 alone_runs who (Ends answer) world fault room = record { new = world; left = refl; run = (refl, refl) }

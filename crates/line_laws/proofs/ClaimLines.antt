@@ -31,6 +31,7 @@ claim_is inputs number old new n answer one = ap (run_line number old) (sym one.
 pub found_worker : (n : ℕ) (w : LiveWorker) (parties : Parties) → n ≡ w.number → worker_with n (with_worker w parties) ≡ Some w
 found_worker n w parties same = ap (λ (b : Bool). cond b (Some w) (find (λ (v : LiveWorker). n == v.number) (without_worker w.number parties).workers)) ((Decides-eqb n w.number).1 same)
 
+-- A claim that is not refused is one of a live worker, and takes and stops exactly the jobs of its rule.
 pub claims_take : ClaimsTake
 claims_take inputs old new n answer c ok = by (worker_with n old.parties) refl (claim_is inputs c.number old new n answer c.course)
   where

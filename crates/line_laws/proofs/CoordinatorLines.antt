@@ -70,6 +70,7 @@ refused_live number s answer new is live = other_line number s (no_such_party s)
 gone_alike : (tables : Tables) (specs : ℕ → JobSpec) (n : ℕ) (s : State) → CoordinatorsAreLive s → without n (live_at tables specs s).coordinators ≡ pairs_of (without_coordinator n s.parties)
 gone_alike tables specs n s live = ap (without n) (live tables specs) ∙ sym (pairs_without n s.parties)
 
+-- After a line that ends a coordinator, the live coordinators are still those of the history.
 pub end_live : (number n : ℕ) (s : State) (answer : List ℕ) (new : State) → run_line number s (end_coordinator n s) ≡ (answer, new) → CoordinatorsAreLive s → CoordinatorsAreLive new
 end_live number n s answer new is live = by (coordinator_with n s.parties) is
   where
@@ -123,6 +124,7 @@ started_line number n epoch s course front answer new is are ends none puts live
     by (Cut before event given after counts whole history parties) tables specs =
         struck_line number n s new before event given (front_plain (λ (call : Answered). is_start call.0 ≡ false) front noted before (event, given) after none (sym are ∙ whole)) history parties live tables specs
 
+-- After a line that starts a coordinator, the live coordinators are still those of the history.
 pub start_live : (number n : ℕ) (s : State) (answer : List ℕ) (new : State) → run_line number s (start_coordinator n s) ≡ (answer, new) → CoordinatorsAreLive s → CoordinatorsAreLive new
 start_live number n s answer new is live = by (is_some (coordinator_with n s.parties)) refl is
   where

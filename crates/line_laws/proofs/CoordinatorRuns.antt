@@ -62,6 +62,7 @@ start_worker_live number n release s answer new is live = by (is_some (worker_wi
     by true is = other_line number s (only_notes (Worker n) (killed_first true (Worker n) ++ Start (Worker n) ∷ []) s parties) answer new is tt refl refl live
     by false is = other_line number s (only_notes (Worker n) (killed_first false (Worker n) ++ Start (Worker n) ∷ []) s parties) answer new is tt refl refl live
 
+-- After a line that stops a worker, the live coordinators are still those of the history.
 stop_live : (number n : ℕ) (s : State) (answer : List ℕ) (new : State) → run_line number s (stop_worker n s) ≡ (answer, new) → CoordinatorsAreLive s → CoordinatorsAreLive new
 stop_live number n s answer new is live = by (worker_with n s.parties) is
   where
@@ -115,6 +116,7 @@ sweep_live number s answer new is live = other_line number s (sweep_line s) answ
 
 -- ---- all lines
 
+-- After each course of a line, the live coordinators are still those of the history.
 course_live : (inputs : Inputs) (number : ℕ) (line : Line) (refusal : Option (List ℕ)) (s : State) (answer : List ℕ) (new : State) → run_line number s (course_of inputs line refusal s) ≡ (answer, new) → IsReplayed s.store → CoordinatorsAreLive s → CoordinatorsAreLive new
 unfolding course_of
 course_live inputs number (StartCoordinator n) refusal s answer new is replay live = start_live number n s answer new is live

@@ -102,6 +102,7 @@ eq_names (L0 a) (Run b) e = absurd (cc e)
 eq_names (Run a) (L0 b) e = absurd (cc e)
 eq_names (Run a) (Run b) e = ap Run ((Decides-eqb a b).0 e)
 
+-- A node among the sources is a node of the tree, and its name is among the names of the sources.
 source_is : (sources : List NodeName) (tree : Tree) (node : Node) → IsIn node (source_nodes sources tree) → IsSource sources tree node
 source_is [] tree node there = absurd there
 source_is (name ∷ sources) tree node there = by (node_named name tree) refl (source_is sources tree node) there
@@ -120,6 +121,7 @@ source_is (name ∷ sources) tree node there = by (node_named name tree) refl (s
         record { there = subst (λ (n : Node). IsIn n tree) same f.there; named = ap (λ (b : Bool). cond b true (names_contain sources node.name)) (subst (λ (n : Node). name_eq name n.name ≡ true) same f.passes) }
     by (Some first) e rest (inr one) = later (rest one)
 
+-- A node of a tree whose name is among those of the sources is one of them, if no name is in the tree twice.
 is_source : (sources : List NodeName) (tree : Tree) (node : Node) → Named tree → IsIn node tree → names_contain sources node.name ≡ true → IsIn node (source_nodes sources tree)
 is_source [] tree node named there e = absurd (cc e)
 is_source (name ∷ sources) tree node named there e = by (name_eq name node.name) refl (is_source sources tree node named there) e
@@ -185,6 +187,7 @@ record IsSeparate (tables : Tables) (s : Segment) : Type 0 where
   pub newest : Pairs (IsNewer tables) s.tree
   pub some : AllByRecursion (λ node. AllByRecursion (λ flush. table_rows tables flush ≢ []) node.flushes) s.tree
 
+-- After a drain, each tree has its flushes without those that the drain takes from it.
 drain_flushes : (tables : Tables) (trees : Trees) (spec : JobSpec) (id : ℕ) (outputs : List ℕ) → AllByRecursion (IsSeparate tables) trees → (prefix : List ℕ)
     → flushes_in (tree_at prefix (stepped_in tables (Drain id) spec outputs trees)) ≡ without_flushes (taken_by prefix trees (Drain id) spec) (flushes_in (tree_at prefix trees))
 drain_flushes tables trees spec id outputs each prefix = ap (λ (o : Option Segment). flushes_in (tree_or_empty o)) (segment_on prefix spec.segment spec.sources (without_nodes spec.sources) trees) ∙ by (segment_at prefix trees) refl
@@ -217,6 +220,7 @@ drain_flushes tables trees spec id outputs each prefix = ap (λ (o : Option Segm
 
 -- ---- the steps
 
+-- The specs by which a party commits a stored job give it its own spec.
 spec_is : (party : Party) (world : World) (specs : ℕ → JobSpec) (id : ℕ) (job : Job) → job_with id (stored_jobs world.store) ≡ Some job → IsKnownTo party world specs id → specs id ≡ job.spec
 spec_is party world specs id job stored known = at (job_with id (stored_jobs world.store)) stored known
   where
@@ -254,6 +258,7 @@ all_separate {merge} {world} {party} {specs} {first} s =
       some = all_to _ _ seg.tree (λ node one put. all_to _ _ node.flushes (λ flush two is. (table_of world.store.tables flush b.sound.tables is).some) (all_true_front (is_among world.store.tables) node.flushes put)) fits.flushes;
     }) m.kept.each
 
+-- After a further step of a commit, each tree has its flushes without those that the step takes from it.
 step_flushes : {merge : Operator} {world : World} {party : Party} {specs : ℕ → JobSpec} {first : List Step} (step : Step) → StepAt merge world party specs first step → (prefix : List ℕ)
     → flushes_in (tree_at prefix (next_trees world specs first step)) ≡ without_flushes (taken_by prefix (trees_after world specs first) step (specs (job_of step))) (flushes_in (tree_at prefix (trees_after world specs first)))
 step_flushes {merge} {world} {party} {specs} {first} (Join id) s prefix = by (was_joined world.store.history id) refl ∙ sym (without_none (flushes_in (tree_at prefix trees)))

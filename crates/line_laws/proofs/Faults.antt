@@ -35,6 +35,7 @@ record More {A : Type 0} (line : ℕ) (party : Party) (x : Exchange) (next : Sto
   history : run.store.history ≡ store.history ++ map (entry_of line party) made
   answer : run.answer ≡ answer_if of (answer_made line party (next store) (after_answered line party x store))
 
+-- If a run is cut where its fault strikes, so is the run with one more answered call before it.
 one_more : {A : Type 0} (line : ℕ) (party : Party) (x : Exchange) (next : Store → Course A) (fault : Option Fault) (store : Store) (run : AloneEnd A) → RunsCut line party (next store) (waiting_after (event_of x store) fault) (after_answered line party x store) run → More line party x next fault store run
 one_more {A} line party x next fault store run r = by r.of r.answer
   where
@@ -57,6 +58,7 @@ one_more {A} line party x next fault store run r = by r.of r.answer
       answer = answer;
     }
 
+-- A course that runs alone makes its calls up to one that a fault strikes, and gives its answer if none is struck.
 pub runs_cut : {A : Type 0} (line : ℕ) (party : Party) (course : Course A) (fault : Option Fault) (store : Store) → RunsCut line party course fault store (run_alone line party course fault store)
 runs_cut line party (Ends answer) fault store = record { made = []; of = AllMade refl; history = sym (append-nil store.history); answer = refl }
 runs_cut {A} line party (Calls x next) fault store = by (strikes (event_of x store) fault) refl (runs_cut line party (next store) (waiting_after (event_of x store) fault) (after_answered line party x store))

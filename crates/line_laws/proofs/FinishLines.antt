@@ -32,6 +32,7 @@ finish_is : (inputs : Inputs) (number : ℕ) (old new : State) (n job : ℕ) (an
 unfolding course_of
 finish_is inputs number old new n job answer one = ap (run_line number old) (sym one.does.is) ∙ one.ends
 
+-- A finish that is not refused ends a live attempt of a live worker, and the reply has its outputs.
 pub finishes_end : FinishesEnd
 finishes_end inputs old new n job answer c ok = by c.course.does.refusal (job_at old n job) refl c.course.does.may (finish_is inputs c.number old new n job answer c.course)
   where

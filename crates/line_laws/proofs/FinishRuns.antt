@@ -45,6 +45,7 @@ record Made {A B : Type 0} (who : Caller) (next : List B → Course A) (world ne
   pub made : List B
   pub on : On who (next made) world new answer
 
+-- A run that is alone puts its tables and goes on with their ids, and both objects stay.
 tables_made : {A : Type 0} (who : Caller) (moment : ℕ) (tables : List (List Row)) (next : List ℕ → Course A) (world new : World) (answer : A) → CallsKeep who.merge → who.alone ≡ true → Going who (puts_tables moment tables next) world new answer
     → Made who next world new answer
 tables_made who moment [] next world new answer keep alone going = record { made = []; on = record { mid = world; manifest = refl; records = refl; going = going } }
@@ -69,6 +70,7 @@ ranges_made who moment (tables ∷ ranges) next world new answer keep alone goin
 
 -- ---- a finish that the operator refuses
 
+-- A finish that is alone and gives its attempt back, as the operator refused a fold, does not report.
 back_no_report : (who : Caller) (w : LiveWorker) (a : Attempt) (message : List ℕ) (left seen : ℕ) (world new : World) (report : FinishedJob) → CallsKeep who.merge → who.alone ≡ true
     → Going who (tries (release_try w (a ∷ []) (λ released. Ends (OperatorRefuses message))) left seen) world new (Reports report) → ⊥
 back_no_report who w a message zero seen world new report keep alone going = absurd (cc (going.run.1))
@@ -113,6 +115,7 @@ pub record Ended (moment : ℕ) (w : LiveWorker) (a : Attempt) (outputs : List (
   pub jobs : stored_jobs new ≡ trimmed_jobs (changed_jobs (finished_by w.number (unrecorded_of_finish moment w a) outputs) (a.job ∷ []) (stored_jobs old))
   pub manifest : new.manifest ≡ old.manifest
 
+-- The end of a job that is alone and reports ended the attempt, which was live, with these outputs.
 ends_do : (who : Caller) (moment : ℕ) (w : LiveWorker) (a : Attempt) (outputs : List (List ℕ)) (left seen : ℕ) (world new : World) (report : FinishedJob) → CallsKeep who.merge → who.alone ≡ true
     → Going who (tries (end_try moment w a outputs) left seen) world new (Reports report) → Ended moment w a outputs world.store new.store report
 ends_do who moment w a outputs zero seen world new report keep alone going = absurd (cc (going.run.1))
@@ -175,6 +178,7 @@ pub record Finished (moment : ℕ) (w : LiveWorker) (a : Attempt) (old new : Sto
   pub made : List (List ℕ)
   pub end : Ended moment w a (all_outputs a.context.ranges made) old new report
 
+-- A finish that is alone and reports made tables for each range, and ended its attempt with them.
 pub finish_did : (who : Caller) (tables : Tables) (ask : FinishAsk) (world new : World) (report : FinishedJob) → CallsKeep who.merge → who.alone ≡ true
     → Going who (finish who.merge tables ask) world new (Reports report) → Finished ask.moment ask.worker ask.attempt world.store new.store report
 unfolding finish end_job

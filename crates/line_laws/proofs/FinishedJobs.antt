@@ -126,6 +126,7 @@ named_pair [] id there = absurd there
 named_pair (p ∷ pairs) id (inl same) = record { pair = p; there = inl refl; same = same }
 named_pair (p ∷ pairs) id (inr there) = let n = named_pair pairs id there in record { pair = n.pair; there = inr n.there; same = n.same }
 
+-- A job with a status other than Compacted fails the test for Compacted.
 pub status_not : (a : Status) (job : Job) → status_eq a job.status ≡ true → status_eq a Compacted ≡ false → has_status Compacted job ≡ false
 status_not a job is other = by a job.status is other
   where
@@ -307,6 +308,7 @@ change_awaits merge party world u jobs (Polled change) id kept names fits h = by
 
 -- ---- all calls
 
+-- Each lawful call keeps it so that the finished jobs of the history are those that are stored as Compacted.
 pub finished_holds : (who : Caller) → CallsHold who (λ x. ⊤) (λ world. FinishedAreStored world.store)
 finished_holds who x strike world kept lawful may one h = by (outcome who.merge x who.line who.party strike world lawful may)
   where

@@ -74,6 +74,7 @@ none_freed : (jobs : Jobs) → changed_jobs to_waiting [] jobs ≡ jobs
 none_freed [] = refl
 none_freed (job ∷ jobs) = ap (λ (rest : Jobs). job ∷ rest) (none_freed jobs)
 
+-- The verdicts of a poll are on the stored jobs that the history finished, in the order of their ids.
 judged : (ask : PollAsk) (store : Store) → Pairs (λ a b. a.id < b.id) (stored_jobs store) → AllByRecursion (λ job. is_finished_by store.history job.id ≡ has_status Compacted job) (stored_jobs store)
     → map (λ verdict. verdict.0) (all_verdicts ask.commits_only (input_at ask store)) ≡ filter (is_finished_by store.history) (ids (stored_jobs store))
 judged ask store rise are = verdict_ids input (filter (has_status Compacted) (before_commits ask.commits_only input).jobs) (before_commits ask.commits_only input) ∙ by ask.commits_only
@@ -93,6 +94,7 @@ judged ask store rise are = verdict_ids input (filter (has_status Compacted) (be
     by false = ap (λ (jobs : Jobs). ids (filter (has_status Compacted) (changed_jobs to_waiting (stale jobs) jobs))) (got_jobs store.records)
         ∙ finished_ids (is_finished_by store.history) (stale (stored_jobs store)) (stored_jobs store) are (stale_open ask.options.timeout ask.moment (stored_jobs store) rise)
 
+-- In each state that keeps the invariant, the finished jobs of the history are stored and wait for a commit.
 pub finished_jobs_wait : FinishedJobsWait
 finished_jobs_wait merge s k = record {
   compacted = are;

@@ -86,6 +86,7 @@ bad_rests : (fault : Option FlushFault) (next : Course (StepEnd ⊤)) → Rests 
 bad_rests None next rest = rest
 bad_rests (Some fault) next rest = refl
 
+-- A flush makes another call after each put of a table.
 flush_rests : (moment retention : ℕ) (ask : FlushAsk) (left : ℕ) (is_put : Bool) (seen : ℕ) → Rests false (flushes_from moment retention ask left is_put seen)
 flush_rests moment retention ask zero is_put seen = refl
 flush_rests moment retention ask (suc left) is_put seen = λ met. bad_rests (fault_after_get met.manifest ask) _ (puts is_put met.manifest (flush_rests moment retention ask left true))

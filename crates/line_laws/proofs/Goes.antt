@@ -27,6 +27,7 @@ once inputs number old line may =
 
 -- ---- settle lines
 
+-- A line that meets no refusal runs as a step and has a rest after it, if there is a rest from each state.
 step_goes : (inputs : Inputs) (number : ℕ) (line : Line) (old : State) (R : State → List ℕ → State → Type 0) → MayRefuse inputs line (prepared_state line old) None → ((after : State) → Some2 (R after))
     → Some2 (λ answer new. Step inputs number line old answer new (λ after. R after answer new))
 step_goes inputs number line old R may next = by (once inputs number old line may)

@@ -54,6 +54,7 @@ abbrev pub Spares : {A : Type 0} → Party → Parties → Course A → Type 0
 Spares Sweeper parties course = (w : LiveWorker) → IsIn w parties.workers → AllCalls (SparesTables w) course
 Spares party parties course = ⊤
 
+-- A lawful course that runs alone keeps the invariant of the store, and live parties other than the caller still fit.
 pub leaves : {A : Type 0} (who : Caller) (course : Course A) (parties : Parties) (old new : World) (end : End A) → IsLawful who.merge → who.alone ≡ true → FleetKeeps who.merge old parties → IsLawfulCourse who old course
     → Spares who.party parties course → Runs who course old new end → Left who parties new
 leaves {A} who course parties old new end merge_lawful alone fleet lawful spares run =
@@ -93,6 +94,7 @@ pub record Fitting (merge : Operator) (number : ℕ) (s : State) (c : LineCourse
   pub struck : (new : World) → Runs (caller_of merge number c.party) c.course (world_of merge s k) new MeetsFault → Left (caller_of merge number c.party) s.parties new → FleetKeeps merge new c.struck
   pub gives : (new : World) (end : LineEnd) → Runs (caller_of merge number c.party) c.course (world_of merge s k) new (Gives end) → Left (caller_of merge number c.party) s.parties new → FleetKeeps merge new end.parties
 
+-- A line with a lawful course keeps the invariant if there was room, and if the parties that it leaves live fit.
 pub line_keeps : (merge : Operator) (number : ℕ) (s : State) (c : LineCourse) (k : StateKeeps merge s) → IsLawful merge → IsLawfulCourse (caller_of merge number c.party) (world_of merge s k) c.course → Spares c.party s.parties c.course
     → Fitting merge number s c k → HadRoom (run_line number s c).1.store → StateKeeps merge (run_line number s c).1
 line_keeps merge number s c k merge_lawful lawful spares fitting room =

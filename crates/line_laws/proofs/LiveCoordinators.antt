@@ -33,6 +33,7 @@ without_twice n (c ∷ cs) = by (n == c.0) refl (without_twice n cs)
 abbrev pub pairs_of : Parties → List (ℕ × ℕ)
 pairs_of parties = map (λ c. (c.number, c.epoch)) parties.coordinators
 
+-- The pairs of a state without a coordinator are those of the state without that number.
 pub pairs_without : (n : ℕ) (parties : Parties) → pairs_of (without_coordinator n parties) ≡ without n (pairs_of parties)
 pairs_without n parties = on parties.coordinators
   where
@@ -233,6 +234,7 @@ pub record SameEpochs (a b : Objects) : Type 0 where
   pub manifest : a.manifest.epoch ≡ b.manifest.epoch
   pub records : records_epoch a.records ≡ records_epoch b.records
 
+-- What an event does to the live parties leaves the objects that the history gives.
 did_objects : (party : Party) (event : Event) (answer : Answer) (s : LiveParties) → (party_did party event answer s).objects ≡ s.objects
 did_objects Writer event answer s = refl
 did_objects Submitter event answer s = refl

@@ -27,6 +27,7 @@ pub data LineMade (number : ℕ) (s : State) (c : LineCourse) (new : State) : Ty
   Cut : (before : List Answered) (event : Event) (answer : Answer) (after : List Answered) → IsTrue (is_get_or_put event) → calls_made number c.party c.course s.store ≡ before ++ (event, answer) ∷ after
       → new.store.history ≡ s.store.history ++ map (entry_of number c.party) (before ++ (event, struck_answer (does_stand s.fault) answer) ∷ []) → new.parties ≡ c.struck → LineMade number s c new
 
+-- A line makes all calls of its course and leaves the parties of its end, or a fault cuts it at one of the calls.
 pub line_made : (number : ℕ) (s : State) (c : LineCourse) (answer : List ℕ) (new : State) → run_line number s c ≡ (answer, new) → LineMade number s c new
 line_made number s c answer new is = by run r.made r.of r.history r.answer is
   where
@@ -92,6 +93,7 @@ put_unstruck : (b : Bool) (there : ℕ) → is_fault (cond b (Done (there + 1)) 
 put_unstruck true there = refl
 put_unstruck false there = refl
 
+-- No call has a fault as its answer if none strikes it.
 no_fault : (x : Exchange) (store : Store) → is_fault (answer_of x store) ≡ false
 no_fault (Plain GetManifest) store = refl
 no_fault (Plain GetRecords) store = by store.records

@@ -97,6 +97,7 @@ is_there n parties w e =
     let f = found (λ (v : LiveWorker). n == v.number) parties.workers w e in
     ap (λ (m : ℕ). is_some (worker_with m parties)) (sym ((Decides-eqb n w.number).0 f.passes)) ∙ ap is_some e
 
+-- After a line of a live worker whose step makes no note, the live workers are still those of the history.
 step_work : {A : Type 0} (number : ℕ) (s : State) (w : LiveWorker) (step : Course (StepEnd A)) (spell : A → List ℕ) (reported : A → List Attempt) (refused : List Attempt) (answer : List ℕ) (new : State)
     → run_line number s (worker_line w s step spell reported refused) ≡ (answer, new) → AreQuiet step → is_some (worker_with w.number s.parties) ≡ true → IsLive s → IsLive new
 step_work {A} number s w step spell reported refused answer new is quiet there live =
@@ -125,6 +126,7 @@ job_live s n job p e = by (worker_with n s.parties) refl e
     by None there e = absurd (cc e)
     by (Some w) there e = inner w there (attempt_numbered job w.attempts) e
 
+-- The worker of a range that a line names is live.
 range_live : (s : State) (n job place : ℕ) (q : LiveWorker × Attempt × (Range × List ℕ)) → range_at s n job place ≡ Some q → is_some (worker_with q.0.number s.parties) ≡ true
 range_live s n job place q e = by (job_at s n job) refl e
   where
@@ -174,6 +176,7 @@ front_plain P [] y (b ∷ before) z after all e = absurd (never before (cc e))
     never (c ∷ before) e = absurd (cc e)
 front_plain P (x ∷ xs) y (b ∷ before) z after all e = (subst P (cc e) all.0, front_plain P xs y before z after all.1 (cc e))
 
+-- After a line that stops a worker, the live workers are still those of the history.
 stop_live : (number n : ℕ) (s : State) (answer : List ℕ) (new : State) → run_line number s (stop_worker n s) ≡ (answer, new) → IsLive s → IsLive new
 stop_live number n s answer new is live = by (worker_with n s.parties) is
   where
@@ -277,6 +280,7 @@ sweep_live : (number : ℕ) (s : State) (answer : List ℕ) (new : State) → ru
 sweep_live number s answer new is live = other_line number s (sweep_line s) answer new is tt
     (ap (λ (e : LineEnd). e.parties.workers) (then_ends number Sweeper (sweep (pinned_tables s.parties)) (λ tables. record { reply = reply (codes "ok" ∷ tables_text (by_number tables) ∷ []); parties = s.parties }) s.store).answer_is) refl live
 
+-- After each course of a line, the live workers are still those of the history.
 course_live : (inputs : Inputs) (number : ℕ) (line : Line) (refusal : Option (List ℕ)) (s : State) (answer : List ℕ) (new : State) → run_line number s (course_of inputs line refusal s) ≡ (answer, new) → IsLive s → IsLive new
 unfolding course_of
 course_live inputs number (StartCoordinator n) refusal s answer new is live = start_coordinator_live number n s answer new is live

@@ -40,6 +40,7 @@ coordinator_same n (Start party) answer s = refl
 coordinator_same n (Kill party) answer s = refl
 coordinator_same n event answer s = refl
 
+-- Which workers are live after a call depends on the call and on those that were live before it, and on nothing else.
 did_is : (party : Party) (event : Event) (answer : Answer) (s : LiveParties) → (party_did party event answer s).workers ≡ did_to party event answer s.workers
 did_is Writer event answer s = refl
 did_is Submitter event answer s = refl
@@ -85,6 +86,7 @@ to_live s same tables specs n = ap (λ (ws : List ℕ). contains ws n) (live_is 
 
 -- ---- sets of workers
 
+-- Without a number, a list lacks that number and has each other one exactly if it had it.
 pub contains_without : (n m : ℕ) (ws : List ℕ) → contains (filter (λ w. not (n == w)) ws) m ≡ cond (n == m) false (contains ws m)
 contains_without n m [] = by (n == m)
   where
@@ -106,6 +108,7 @@ contains_without n m (w ∷ ws) = by (n == w) refl (w == m) refl (contains_witho
         differs true h = let same = (Decides-eqb n w).1 ((Decides-eqb n m).0 h ∙ sym ((Decides-eqb w m).0 f)) in absurd (cc (e, same))
     by false e false f rest = ap (λ (c : Bool). cond c true (contains (filter (λ w. not (n == w)) ws) m)) f ∙ rest
 
+-- Without a worker, the workers lack that one and have each other one exactly if they had it.
 pub found_without : (n m : ℕ) (ws : List LiveWorker) → is_some (find (λ w. m == w.number) (filter (λ (w : LiveWorker). not (n == w.number)) ws)) ≡ cond (n == m) false (is_some (find (λ w. m == w.number) ws))
 found_without n m [] = by (n == m)
   where

@@ -51,6 +51,7 @@ others_options inputs number old (line ∷ lines) (answer ∷ answers) new none 
 others_options inputs number old [] (answer ∷ answers) new none run = absurd run
 others_options inputs number old (line ∷ lines) [] new none run = absurd run
 
+-- Lines of which at most the first sets options leave the options that it sets.
 pub options_stay : OptionsStay
 options_stay inputs [] last run first = by run.answers run.run
   where

@@ -42,6 +42,7 @@ spared_worker_holds who w other x strike world kept lawful may one h = workers_k
 
 -- ---- coordinators
 
+-- A lawful call never lowers the epoch of the records.
 performed_epoch : (merge : Operator) (party : Party) (world : World) (x : Exchange) → Lawful merge party world x → records_epoch world.store.records ≤ records_epoch (after_exchange x world.store).records
 performed_epoch merge party world (Plain event) lawful = omega arith
 performed_epoch merge party world (DrawsJob moment) lawful = omega arith

@@ -16,6 +16,7 @@ use Rattle.line_laws.specs.Lines.Outputs.{OutputsAreWhole}
 use Rattle.line_laws.proofs.Parties.{found}
 use Rattle.line_laws.proofs.Lines.{world_of}
 
+-- The outputs of a Compacted job that was not joined yet have all rows that one merge of its sources makes.
 one_merge : (merge : Operator) (world : World) (job : Job) → Keeps merge world → IsIn job (stored_jobs world.store) → IsTrue (has_status Compacted job) → was_joined world.store.history job.id ≡ false → OneMerge merge world.store job
 one_merge merge world job k there compacted new =
     let fit = all_at (λ (job : Job). IsTrue (has_status Compacted job) → OutputsFit merge world.store k.stored.replay.specs job) (stored_jobs world.store) job k.stored.outputs there compacted in

@@ -90,6 +90,7 @@ after_notes who (note ∷ notes) next old new answer keep alone own kept (met, (
 
 -- ---- lines of notes alone
 
+-- A line of notes alone keeps the invariant if there was room, and if the parties that it leaves live fit.
 notes_keep : (merge : Operator) (number : ℕ) (s : State) (party : Party) (notes : List Event) (parties : Parties) (k : StateKeeps merge s) → IsLawful merge → party_eq Writer party ≡ false → Spares party s.parties (only_notes party notes s parties).course
     → AllByRecursion (IsOwnNote party) notes → ((new : World) → Left (caller_of merge number party) s.parties new → NonePending new.store → FleetKeeps merge new parties)
     → HadRoom (run_line number s (only_notes party notes s parties)).1.store → StateKeeps merge (run_line number s (only_notes party notes s parties)).1
@@ -134,6 +135,7 @@ kill_worker_keeps merge number n s k lawful room = by (worker_with n s.parties) 
 
 -- ---- the start of a coordinator
 
+-- Under a lawful operator, a line that starts a coordinator keeps the invariant if there was room.
 pub start_coordinator_keeps : (merge : Operator) (number n : ℕ) (s : State) (k : StateKeeps merge s) → IsLawful merge → HadRoom (run_line number s (start_coordinator n s)).1.store → StateKeeps merge (run_line number s (start_coordinator n s)).1
 start_coordinator_keeps merge number n s k lawful room =
     line_keeps merge number s (start_coordinator n s) k lawful line_lawful tt (record {

@@ -51,6 +51,7 @@ record DrawsMade {A B : Type 0} (line : ℕ) (party : Party) (drawn : List (ℕ 
   records : last.records ≡ store.records
   made : Alone line party course store (map draw_of drawn ++ calls_made line party (next drawn) last) (answer_made line party (next drawn) last)
 
+-- Draws that nobody disturbs give each element the next id, and leave both objects.
 draws_made : {A B : Type 0} (line : ℕ) (party : Party) (moment : ℕ) (xs : List B) (next : List (ℕ × B) → Course A) (store : Store) → DrawsMade line party (with_ids moment store.jobs_drawn xs) next (draws_jobs moment xs next) store
 draws_made line party moment [] next store = record { last = store; manifest = refl; records = refl; made = record { calls_are = refl; answer_is = refl } }
 draws_made {A} {B} line party moment (x ∷ xs) next store = further (draws_made line party moment xs (λ drawn. next ((next_job_id moment store, x) ∷ drawn)) (after_answered line party (DrawsJob moment) store))
@@ -66,6 +67,7 @@ draws_made {A} {B} line party moment (x ∷ xs) next store = further (draws_made
 
 -- ---- puts
 
+-- A poll that nobody disturbs puts the records if it changed a job, and then reports.
 rest_made : (line : ℕ) (party : Party) (epoch : ℕ) (p : PollState) (left seen : ℕ) (store : Store) → Alone line party (puts_polled epoch p (records_or_none store.records) (suc left) seen) store (records_puts store.records p) (Reports p)
 rest_made line party epoch p left seen store = by (λ seen. cond (left == 0) (Ends (GivesUp seen)) (gets_records (λ newer. let got = records_or_none newer in unless_fenced epoch got.epoch (puts_polled epoch (merged_into p got.jobs) got left seen)))) (is_nothing (change_of p))
   where
@@ -92,6 +94,7 @@ rest_made line party epoch p left seen store = by (λ seen. cond (left == 0) (En
           answer_is = ap (λ (b : Bool). answer_made line party (cond b (Ends (Reports p)) (again (records_version store.records))) after) same;
         }
 
+-- A poll that nobody disturbs puts the manifest and then the records, each if it changed it, and then reports.
 puts_made : (line : ℕ) (party : Party) (epoch : ℕ) (p : PollState) (left seen : ℕ) (again : ℕ → Course (StepEnd PollState)) (store : Store) → Alone line party (puts_trees epoch p store.manifest (records_or_none store.records) (suc left) seen again) store (puts_of store p) (Reports p)
 puts_made line party epoch p left seen again store = by (is_unchanged store.manifest p)
   where
@@ -125,6 +128,7 @@ puts_made line party epoch p left seen again store = by (is_unchanged store.mani
 
 -- ---- the poll
 
+-- A poll that nobody disturbs makes the calls and has the end that its definition gives over the store.
 tries_made : (line : ℕ) (party : Party) (ask : PollAsk) (left seen : ℕ) (store : Store) → Alone line party (counted_tries (poll_try ask) (suc left) seen) store (calls_of ask store) (ends_as ask store)
 tries_made line party ask left seen store = record {
   calls_are = ap (λ (cs : List Answered). (GetManifest, Done m.version) ∷ cs) (outer (nat_lt ask.epoch m.epoch)).calls_are ∙ turned (nat_lt ask.epoch m.epoch) (nat_lt ask.epoch got.epoch);
@@ -189,6 +193,7 @@ poll_made line party ask store = tries_made line party ask 63 0 store
 
 -- ---- the line
 
+-- A poll line makes its poll's calls, or those up to a struck one, or is refused if its coordinator is not live.
 pub called : (inputs : Inputs) (number : ℕ) (commits_only : Bool) (n : ℕ) (old : State) (answer : List ℕ) (new : State) → run_line number old (polls commits_only (spell_poll commits_only) inputs n old) ≡ (answer, new)
     → PollCalledBy inputs number commits_only n old answer new (coordinator_with n old.parties)
 called inputs number commits_only n old answer new is = by (coordinator_with n old.parties) is

@@ -61,6 +61,7 @@ pub record Reported (inputs : Inputs) (number : ℕ) (commits_only : Bool) (spel
   pub live : coordinator_with n old.parties ≡ Some coordinator
   pub step : StepReported (caller_of inputs.merge number (Coordinator n)) (poll (poll_ask inputs old coordinator commits_only)) spell (λ reached. old.parties) (world_of inputs.merge old k) answer new
 
+-- A poll line with the reply ok is one of a live coordinator, whose poll reported.
 pub reported : (inputs : Inputs) (number : ℕ) (commits_only : Bool) (spell : PollState → List ℕ) (n : ℕ) (old : State) (k : StateKeeps inputs.merge old) (answer : List ℕ) (new : State)
     → run_line number old (polls commits_only spell inputs n old) ≡ (answer, new) → HadRoom new.store → is_ok answer ≡ true → Reported inputs number commits_only spell n old k answer new
 reported inputs number commits_only spell n old k answer new is room ok = by (coordinator_with n old.parties) refl is
@@ -78,6 +79,7 @@ reported inputs number commits_only spell n old k answer new is room ok = by (co
 
 -- ---- the law
 
+-- A poll that reported printed the state that it reached, and the store has what it put.
 ran : (inputs : Inputs) (number : ℕ) (commits_only : Bool) (n : ℕ) (old : State) (k : StateKeeps inputs.merge old) (answer : List ℕ) (new : State) → IsLawful inputs.merge
     → Reported inputs number commits_only (spell_poll commits_only) n old k answer new → PollRan inputs number commits_only n old answer new
 ran inputs number commits_only n old k answer new lawful r =

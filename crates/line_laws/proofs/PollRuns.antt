@@ -46,6 +46,7 @@ pub record Gone {A : Type 0} (who : Caller) (x : Exchange) (next : Store → Cou
   pub call : Lawful who.merge who.party world x
   pub going : Going who (next world.store) (after_call who.line who.party x None world) new answer
 
+-- In a run that is alone, the next call is made at the store that the run has reached, and is lawful there.
 pub alone_next : {A : Type 0} (who : Caller) (x : Exchange) (next : Store → Course A) (world new : World) (answer : A) → CallsKeep who.merge → who.alone ≡ true → Going who (Calls x next) world new answer → Gone who x next world new answer
 alone_next {A} who x next world new answer keep alone going = by going.run
   where
@@ -73,6 +74,7 @@ record DrawsDone {A B : Type 0} (who : Caller) (e : ℕ) (m r : World) (before :
   fresh : AreFresh who.party mid (before ++ drawn)
   going : Going who (next drawn) mid new answer
 
+-- A run that is alone draws the next id for each element, these ids are new, and it goes on with them.
 draws_done : {A B : Type 0} (who : Caller) (e : ℕ) (m r : World) (moment : ℕ) (before : List (ℕ × B)) (xs : List B) (next : List (ℕ × B) → Course A) (world new : World) (answer : A) → CallsKeep who.merge → who.alone ≡ true → Ready who e m r world → AreFresh who.party world before
     → Going who (draws_jobs moment xs next) world new answer → DrawsDone who e m r before (with_ids moment world.store.jobs_drawn xs) next world new answer
 draws_done who e m r moment before [] next world new answer keep alone ready fresh going = record {
@@ -186,6 +188,7 @@ record PutRest (who : Caller) (p reported : PollState) (old new : Store) : Type 
   left : new ≡ rest_left who.line who.party p (is_nothing (change_of p)) old
   jobs : is_nothing (change_of p) ≡ false → JobsPut old p
 
+-- A poll that is alone and reports put its jobs into the records if it changed one, and nothing else.
 puts_rest : (who : Caller) (epoch : ℕ) (p reported : PollState) (left seen : ℕ) (world new : World) → CallsKeep who.merge → who.alone ≡ true → Going who (puts_polled epoch p (records_or_none world.store.records) left seen) world new (Reports reported)
     → PutRest who p reported world.store new.store
 puts_rest who epoch p reported zero seen world new keep alone going = absurd (cc (going.run.1))
@@ -242,6 +245,7 @@ record PutAll (who : Caller) (p reported : PollState) (old new : Store) : Type 0
   left : new ≡ all_left who.line who.party p (is_unchanged old.manifest p) old
   jobs : is_nothing (change_of p) ≡ false → JobsPut old p
 
+-- A poll that is alone and reports put its trees and then its jobs, each if it changed them, and nothing else.
 puts_all : (who : Caller) (epoch : ℕ) (p reported : PollState) (left seen : ℕ) (again : ℕ → Course (StepEnd PollState)) (world new : World) → CallsKeep who.merge → who.alone ≡ true
     → Going who (puts_trees epoch p world.store.manifest (records_or_none world.store.records) left seen again) world new (Reports reported) → PutAll who p reported world.store new.store
 puts_all who epoch p reported left seen again world new keep alone going = by (is_unchanged world.store.manifest p) refl going
@@ -313,6 +317,7 @@ pub record PollKept (who : Caller) (ask : PollAsk) (old new : Store) (p : PollSt
   pub put : CommitPut who.merge who.line who.party old (drawn_at ask old) p
   pub jobs : is_nothing (change_of p) ≡ false → JobsPut old p
 
+-- A poll that is alone and reports did what its definition computes, and its commit and its jobs are as they should be.
 polls_did : (who : Caller) (ask : PollAsk) (left seen : ℕ) (world new : World) (p : PollState) → CallsKeep who.merge → who.alone ≡ true → IsLawful who.merge → 0 < ask.epoch → HasEpoch who.party ask.epoch world
     → Going who (counted_tries (poll_try ask) left seen) world new (Reports p) → PollKept who ask world.store new.store p
 polls_did who ask zero seen world new p keep alone lawful counted own going = absurd (cc (going.run.1))

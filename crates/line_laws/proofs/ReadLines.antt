@@ -42,6 +42,7 @@ rows_of_flushes : (tables : Tables) (tree : Tree) → flat_map (flushed_node_row
 rows_of_flushes tables [] = refl
 rows_of_flushes tables (node ∷ tree) = ap (λ (rows : List Row). flat_map (table_rows tables) node.flushes ++ rows) (rows_of_flushes tables tree) ∙ sym (flat_map-append (table_rows tables) node.flushes (flushes_in tree))
 
+-- A line that reads a key is refused below the horizon or before the tick, and else prints the fold of flushed rows.
 pub reads_answer : ReadsAnswer
 reads_answer inputs old new segment key seq now answer ran =
     let is = read_is inputs ran.number old new segment key seq now answer ran.course in

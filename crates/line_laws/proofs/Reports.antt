@@ -48,6 +48,7 @@ pub record StepReported {A : Type 0} (who : Caller) (step : Course (StepEnd A)) 
   pub run : Runs who step old left (Gives (Reports report))
   pub live : new.parties ≡ parties report
 
+-- If the reply to a line is ok, its step reported, and the line printed the report and left the report's parties.
 pub step_reported : {A : Type 0} (merge : Operator) (number : ℕ) (old : State) (party : Party) (step : Course (StepEnd A)) (spell : A → List ℕ) (parties : A → Parties) (refused struck : Parties) (k : StateKeeps merge old) (answer : List ℕ) (new : State)
     → run_line number old (step_line party step (line_end spell parties refused) struck) ≡ (answer, new) → HadRoom new.store → is_ok answer ≡ true → StepReported (caller_of merge number party) step spell parties (world_of merge old k) answer new
 step_reported {A} merge number old party step spell parties refused struck k answer new is room ok =

@@ -126,6 +126,7 @@ deletes_spare : {A B : Type 0} (w : LiveWorker) (tables : List ℕ) (answer : A)
 deletes_spare w [] answer rest all = tt
 deletes_spare w (table ∷ tables) answer rest all = (all.0, λ met. deletes_spare w tables answer rest all.1)
 
+-- A sweep deletes no table that a live worker holds.
 sweep_spares : {B : Type 0} (parties : Parties) (w : LiveWorker) (rest : List ℕ → B) → IsIn w parties.workers → AllCalls (SparesTables w) (then_course (sweep (pinned_tables parties)) (λ tables. Ends (rest tables)))
 unfolding sweep
 sweep_spares parties w rest there = (
@@ -144,6 +145,7 @@ sweep_spares parties w rest there = (
   ),
 )
 
+-- Under a lawful operator, a sweep line keeps the invariant if there was room.
 pub sweep_keeps : (merge : Operator) (number : ℕ) (s : State) (k : StateKeeps merge s) → IsLawful merge → HadRoom (run_line number s (sweep_line s)).1.store → StateKeeps merge (run_line number s (sweep_line s)).1
 sweep_keeps merge number s k lawful room =
     let who : Caller = caller_of merge number Sweeper in
@@ -159,6 +161,7 @@ sweep_keeps merge number s k lawful room =
 
 -- ---- polls
 
+-- Under a lawful operator, a poll line keeps the invariant if there was room, however the poll ends.
 pub polls_keep : (inputs : Inputs) (number : ℕ) (commits_only : Bool) (spell : PollState → List ℕ) (n : ℕ) (s : State) (k : StateKeeps inputs.merge s) → IsLawful inputs.merge → HadRoom (run_line number s (polls commits_only spell inputs n s)).1.store
     → StateKeeps inputs.merge (run_line number s (polls commits_only spell inputs n s)).1
 polls_keep inputs number commits_only spell n s k lawful room = by (coordinator_with n s.parties) refl room

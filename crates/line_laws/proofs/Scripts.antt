@@ -46,6 +46,7 @@ prepared_keeps merge (Clock moment) s k = record { past = k.past; fleet = k.flee
 prepared_keeps merge (SetFault n stands) s k = record { past = k.past; fleet = k.fleet }
 prepared_keeps merge line s k = k
 
+-- A course of a line keeps the invariant if there was room, and if the line may have its refusal or none.
 course_keeps : (inputs : Inputs) (number : ℕ) (line : Line) (refusal : Option (List ℕ)) (s : State) → IsLawful inputs.merge → IsAskedWell line → MayRefuse inputs line s refusal → StateKeeps inputs.merge s
     → HadRoom (run_line number s (course_of inputs line refusal s)).1.store → StateKeeps inputs.merge (run_line number s (course_of inputs line refusal s)).1
 unfolding course_of
@@ -100,6 +101,7 @@ prepared_history (Clock moment) s = refl
 prepared_history (SetFault n stands) s = refl
 prepared_history line s = refl
 
+-- A course of a line makes the history no shorter, and keeps the invariant if there was room.
 pub course_leads : (inputs : Inputs) (number : ℕ) (old : State) (line : Line) (answer : List ℕ) (new : State) → IsLawful inputs.merge → IsAskedWell line → OneCourse inputs number old line answer new → Leads inputs.merge old new
 course_leads inputs number old line answer new lawful well one =
     let s = prepared_state line old in
@@ -186,6 +188,7 @@ pub record StepsLead (inputs : Inputs) (old : State) (steps : List Line) (answer
   pub leads : Leads inputs.merge old new
   pub ran : HadRoom new.store → StateKeeps inputs.merge old → StepsRan inputs old steps answer new
 
+-- The steps of a settle line keep the invariant if there was room, and each is a course from a state that keeps it.
 pub steps_lead : (inputs : Inputs) (number coordinator worker : ℕ) (old : State) (steps : List Line) (answer : List ℕ) (new : State) → IsLawful inputs.merge → AllByRecursion (IsStepOf coordinator worker) steps → StepsRun inputs number old steps answer new
     → StepsLead inputs old steps answer new
 steps_lead inputs number coordinator worker old [] answer new lawful each same = record { leads = leads_nowhere inputs.merge old new same; ran = λ room k. same }
@@ -246,6 +249,7 @@ record CutRun (inputs : Inputs) (number : ℕ) (old : State) (first others : Lis
   before : ScriptRun inputs number old first front mid
   rest : ScriptRun inputs (length first + number) mid others back last
 
+-- A run of lines may be cut after any first lines into two runs, and the replies are cut with it.
 cut_run : (inputs : Inputs) (number : ℕ) (old : State) (first others : List Line) (answers : List (List ℕ)) (last : State) → ScriptRun inputs number old (first ++ others) answers last → CutRun inputs number old first others answers last
 cut_run inputs number old [] others answers last run = record { mid = old; front = []; back = answers; both = refl; before = refl; rest = subst (λ (n : ℕ). ScriptRun inputs n old others answers last) (omega arith) run }
 cut_run inputs number old (line ∷ first) others [] last run = absurd run
@@ -261,6 +265,7 @@ cut_run inputs number old (line ∷ first) others (answer ∷ answers) last (mid
       rest = subst (λ (n : ℕ). ScriptRun inputs n c.mid others c.back last) (omega arith) c.rest;
     }
 
+-- The first lines of a run ran too, with its options and first replies, and the others from the state that they left.
 pub first_lines_run : FirstLinesRun
 first_lines_run inputs first others last run =
     let c = cut_run inputs 1 (fresh_state run.options) first others run.answers last run.run in

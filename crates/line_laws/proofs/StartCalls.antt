@@ -27,6 +27,7 @@ abbrev pub store_made : {A : Type 0} → ℕ → Party → Course A → Store �
 store_made line party (Ends answer) store = store
 store_made line party (Calls x next) store = store_made line party (next store) (after_answered line party x store)
 
+-- A step and then another course make the calls of the step, and then those of the course over what the step left.
 pub then_made : {A B : Type 0} (line : ℕ) (party : Party) (step : Course A) (rest : A → Course B) (store : Store)
     → Alone line party (then_course step rest) store
     (calls_made line party step store ++ calls_made line party (rest (answer_made line party step store)) (store_made line party step store))
@@ -75,6 +76,7 @@ holds_made line party epoch store first second = record {
     passes : nat_lt epoch stored ≡ false
     passes = le-ltb epoch stored (omega (arith, first, second))
 
+-- A start that nobody disturbs puts its epoch into the records, gets both objects again, and reports the epoch.
 records_made : (line : ℕ) (party : Party) (epoch : ℕ) (again : ℕ → Course (StepEnd ℕ)) (store : Store) → store.manifest.epoch ≡ epoch
     → Alone line party (puts_epoch store.records epoch (holds_at_start epoch) again) store
     ((PutRecords (RecordsEpoch epoch), Done (records_version store.records + 1)) ∷ (GetManifest, Done store.manifest.version) ∷ (GetRecords, Done (records_version store.records + 1)) ∷ []) (Reports epoch)
@@ -98,6 +100,7 @@ records_made line party epoch again store first = record {
     holds : Alone line party (holds_at_start epoch) (after true) ((GetManifest, Done store.manifest.version) ∷ (GetRecords, Done (version + 1)) ∷ []) (Reports epoch)
     holds = holds_made line party epoch (after true) first refl
 
+-- A start that nobody disturbs puts an epoch above the stored ones into both objects, and reports it.
 try_made : (line : ℕ) (party : Party) (again : ℕ → Course (StepEnd ℕ)) (store : Store) → Alone line party (start_try again) store (start_calls store.manifest store.records) (Reports (epoch_above store.manifest store.records))
 try_made line party again store = record {
   calls_are = ap (λ (b : Bool). gets ++ (put, cond b (Done (m.version + 1)) (Conflict m.version)) ∷ calls_made line party (next b) (after b)) (is_itself m.version) ∙ ap (λ (cs : List Answered). gets ++ (put, Done (m.version + 1)) ∷ cs) rest.calls_are;

@@ -39,6 +39,7 @@ job_none : (line : Line) → IsOfOneJob line → is_options line ≡ false
 job_none (Options timeout concurrent slots ranges table_size moves retention) is = absurd is
 job_none line is = refl
 
+-- A fleet that follows a script ran the lines that its text spells, if its grammar bounds lines and sets options first.
 ran_text : (grammar : Grammar) → ((before : List Line) (line : Line) → grammar before line → IsInBounds line) → ((before : List Line) (line : Line) → before ≢ [] → grammar before line → is_options line ≡ false)
     → (inputs : Inputs) (options : FleetOptions) (text : List ℕ) (store : Store) (written : List ℕ) → IsLawful inputs.merge → HadRoom store → Follows grammar inputs options text store written → RanText inputs options text store written
 ran_text grammar bound none inputs options text store written lawful room follows = record {

@@ -62,6 +62,7 @@ replay_is world specs merge k f = replays_alike world specs k.stored.replay.spec
 
 -- ---- one change of the manifest
 
+-- A number that a filter left passes its test.
 filters_on : (p : ℕ → Bool) (xs : List ℕ) (flush : ℕ) → contains (filter p xs) flush ≡ true → p flush ≡ true
 filters_on p [] flush e = absurd (cc e)
 filters_on p (x ∷ xs) flush e = by (p x) refl (filters_on p xs flush) e
@@ -74,6 +75,7 @@ filters_on p (x ∷ xs) flush e = by (p x) refl (filters_on p xs flush) e
     by true is rest e = same is (x == flush) refl rest e
     by false is rest e = rest e
 
+-- A filter leaves each number of the list that passes its test.
 filter_in : (p : ℕ → Bool) (xs : List ℕ) (flush : ℕ) → contains xs flush ≡ true → p flush ≡ true → contains (filter p xs) flush ≡ true
 filter_in p [] flush e is = absurd (cc e)
 filter_in p (x ∷ xs) flush e is = by (x == flush) refl e (filter_in p xs flush)
@@ -115,6 +117,7 @@ record IsFiltered (flushes left : List ℕ) : Type 0 where
   test : ℕ → Bool
   is : left ≡ filter test flushes
 
+-- Two filters, one after the other, leave what passes both tests.
 filter_twice : (p q : ℕ → Bool) (xs : List ℕ) → filter p (filter q xs) ≡ filter (λ x. q x && p x) xs
 filter_twice p q [] = refl
 filter_twice p q (x ∷ xs) = by (q x) (p x) (filter_twice p q xs)
@@ -201,6 +204,7 @@ mute_counts prefix entry trees flushes mute = by (stood entry.answer) entry.even
 abbrev idle : LiveWorker
 idle = record { number = 0; release = Two; attempts = [] }
 
+-- Under a lawful operator, lawful calls keep it so that the trees name the undrained flushes of the history.
 pub flushes_hold : (who : Caller) → IsLawful who.merge → CallsKeep who.merge → CallsHold who (λ x. ⊤) FlushesCount
 flushes_hold who merge_lawful keep x strike world kept lawful may one h = by (outcome who.merge x who.line who.party strike world lawful may) (keep x who.line who.party strike world kept lawful may)
   where

@@ -25,6 +25,7 @@ use Rattle.line_laws.proofs.Texts.{all_in_bounds}
 use Rattle.script_model.specs.Grammars.{full_grammar}
 use Rattle.script_model.specs.Replies.{reply, ok}
 
+-- The replies to the lines of the worked run.
 worked_replies : List (List ℕ)
 worked_replies =
     ok
@@ -46,6 +47,7 @@ worked_replies =
     ∷ reply (codes "none" ∷ [])
     ∷ []
 
+-- The worked run commits its job, drains the other flush, deletes both tables and leaves no live worker.
 pub worked_runs : WorkedRuns
 unfolding digits encode_with planned_ranges committed_poll start poll claim heartbeat release_all output end_job finish submit submit_request flush sweep course_of worked_replies
 worked_runs = record {

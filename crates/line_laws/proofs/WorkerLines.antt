@@ -103,6 +103,7 @@ work_keeps {A} merge number s k w step spell reported refused lawful holds fewer
         subst (FleetKeeps merge new) (ap (λ (e : LineEnd). e.parties) ended.is)
         (ends_fit merge number s k w reported refused new ended.answer left quiet (fewer new) (fits new (Gives ended.answer) ended.run))
 
+-- Under a lawful operator, a claim line keeps the invariant if there was room.
 pub claim_keeps : (merge : Operator) (number n : ℕ) (s : State) (k : StateKeeps merge s) → IsLawful merge → HadRoom (run_line number s (claim_line n s)).1.store → StateKeeps merge (run_line number s (claim_line n s)).1
 claim_keeps merge number n s k lawful room = by (worker_with n s.parties) refl room
   where
@@ -117,6 +118,7 @@ claim_keeps merge number n s k lawful room = by (worker_with n s.parties) refl r
         work_keeps merge number s k w (claim (worker_options s.options) s.moment w) (λ r. claim_reply r.begun r.stopped) (λ r. r.attempts) w.attempts lawful is.holds (λ t h. h)
         (claims_are_lawful who (world_of merge s k) (worker_options s.options) s.moment w (calls_keep merge lawful) k.fleet.store refl) (claims_keep_fit who (world_of merge s k) (worker_options s.options) s.moment w (calls_keep merge lawful) refl k.fleet.store is.holds).0 room
 
+-- Under a lawful operator, a heartbeat line keeps the invariant if there was room.
 pub heartbeat_keeps : (merge : Operator) (number n : ℕ) (s : State) (k : StateKeeps merge s) → IsLawful merge → HadRoom (run_line number s (heartbeat_line n s)).1.store → StateKeeps merge (run_line number s (heartbeat_line n s)).1
 heartbeat_keeps merge number n s k lawful room = by (worker_with n s.parties) refl room
   where
@@ -139,6 +141,7 @@ pub record IsAttempt (merge : Operator) (s : State) (k : StateKeeps merge s) (n 
   pub holds : WorkerHolds merge (world_of merge s k) w
   pub runs : DoesRun w a
 
+-- The worker that a line finds with an attempt at a job has the line's number, runs the attempt and fits the store.
 pub is_attempt : (merge : Operator) (s : State) (k : StateKeeps merge s) (n job : ℕ) (p : LiveWorker × Attempt) → job_at s n job ≡ Some p → IsAttempt merge s k n p.0 p.1
 is_attempt merge s k n job p e = by (worker_with n s.parties) refl e
   where
@@ -158,6 +161,7 @@ pub whole_unless : (inputs : Inputs) (s : State) (w : LiveWorker) (a : Attempt) 
 whole_unless inputs s w a None may = all_true_front (λ (range : Range × List ℕ). (left_in inputs s a range).whole) a.context.ranges may
 whole_unless inputs s w a (Some message) may = tt
 
+-- Under a lawful operator, a finish line keeps the invariant if there was room, and if it may have its refusal or none.
 pub finish_keeps : (inputs : Inputs) (number n job : ℕ) (refusal : Option (List ℕ)) (s : State) (k : StateKeeps inputs.merge s) → IsLawful inputs.merge → FinishMay inputs s (job_at s n job) refusal
     → let c = if_some (job_at s n job) (no_such_party s) (λ found. finish_line inputs s (finish_asked s refusal found)) in HadRoom (run_line number s c).1.store → StateKeeps inputs.merge (run_line number s c).1
 finish_keeps inputs number n job refusal s k lawful may room = by (job_at s n job) refl may room
@@ -176,6 +180,7 @@ finish_keeps inputs number n job refusal s k lawful may room = by (job_at s n jo
         (finishes_are_lawful who (world_of inputs.merge s k) ask (calls_keep inputs.merge lawful) lawful refl k.fleet.store is.holds is.runs (whole_unless inputs s w a refusal may))
         (finishes_keep_fit who (world_of inputs.merge s k) ask (calls_keep inputs.merge lawful) lawful refl k.fleet.store is.holds is.runs (whole_unless inputs s w a refusal may)).0 room
 
+-- Under a lawful operator, an output line with its place counted from 1 keeps the invariant if there was room.
 pub output_keeps : (inputs : Inputs) (number n job place rows : ℕ) (refusal : Option (List ℕ)) (s : State) (k : StateKeeps inputs.merge s) → IsLawful inputs.merge → 1 ≤ place
     → let c = if_some (range_at s n job place) (no_such_party s) (λ found. output_line inputs s (output_asked s place rows refusal found)) in HadRoom (run_line number s c).1.store → StateKeeps inputs.merge (run_line number s c).1
 output_keeps inputs number n job place rows refusal s k lawful counted room = at (job_at s n job) refl room
@@ -205,6 +210,7 @@ output_keeps inputs number n job place rows refusal s k lawful counted room = at
 
 -- ---- stops
 
+-- Under a lawful operator, a line that stops a worker keeps the invariant if there was room.
 pub stop_keeps : (merge : Operator) (number n : ℕ) (s : State) (k : StateKeeps merge s) → IsLawful merge → HadRoom (run_line number s (stop_worker n s)).1.store → StateKeeps merge (run_line number s (stop_worker n s)).1
 stop_keeps merge number n s k lawful room = by (worker_with n s.parties) refl room
   where
