@@ -59,6 +59,7 @@ stand_within nodes sources stretch x h = by (older_nodes sources nodes) refl str
     by None e reaches = absurd (cc reaches)
     by (Some rest) e reaches = stretch_is_in sources nodes rest x e h
 
+-- A job's fitting destination is one of its sources, or a run in no tree that is below the fresh id if ids are left.
 stand_made : (trees : Trees) (fresh : ℕ) (spec : JobSpec) → DestinationFits trees (tree_at spec.segment trees) spec.sources spec.destination
     → (id : ℕ) → spec.destination ≡ Some id → (fresh < 4294967295 → id < fresh) → In (Run id) spec.sources ⊎ ((contains (all_run_ids trees) id ≡ true → ⊥) × (fresh < 4294967295 → id < fresh))
 stand_made trees fresh spec fits id is below =
@@ -101,6 +102,7 @@ midway_begins view stands = record { next = fresh_is view; held = jobs_hold view
 
 -- ---- trees that are looked at
 
+-- The nodes that the jobs of a segment use have each source and each destination of each of these jobs.
 all_used : (jobs : Jobs) (segment : List ℕ) → AllByRecursion (λ job. job.spec.segment ≡ segment → (x : NodeName) → In x (nodes_of job.spec) → In x (nodes_used jobs segment)) jobs
 all_used [] segment = tt
 all_used (job ∷ jobs) segment = by (bytes_eq segment job.spec.segment) refl (all_used jobs segment)

@@ -215,6 +215,7 @@ all_free used (s ∷ trees) apart = (
   all_free used trees (λ x h. apart x (in_back x (names s.tree) (flat_map (λ t. names t.tree) trees) h)),
 )
 
+-- In a view with room, the levelled scheduler picks nothing exactly if every tree is within its sizes.
 pub go_on : (o : LevelOptions) (most : ℕ) (view : View) → HasRoom most view → (level_picks o most view ≡ []) ↔ AllWithin o view
 unfolding level_picks
 go_on o most view room = (

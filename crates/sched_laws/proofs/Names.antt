@@ -55,6 +55,7 @@ pub in_back : (x : NodeName) (xs ys : List NodeName) → In x ys → In x (xs ++
 in_back x [] ys h = h
 in_back x (y ∷ xs) ys h = in_later x y (xs ++ ys) (in_back x xs ys h)
 
+-- A name in two lists joined is in the first or in the second one.
 pub in_append : (x : NodeName) (xs ys : List NodeName) → In x (xs ++ ys) → In x xs ⊎ In x ys
 in_append x [] ys h = inr h
 in_append x (y ∷ xs) ys h = by (in_cases x y (xs ++ ys) h) (λ rest. in_append x xs ys rest)

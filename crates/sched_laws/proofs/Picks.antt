@@ -88,6 +88,7 @@ flushes_stand t trees stand before first others is =
     subst (λ nodes. IsPlaced nodes (flush_names (first ∷ others)) runs) (sym (stand.nodes ∙ parts))
     (placed (flush_names before) (L0 first.id) (flush_names others) runs (subst (λ l. are_distinct l ≡ true) parts stand.named_once))
 
+-- The oldest flushes of a tree are a pick into the fresh run, if none of them is used and the fresh run is not either.
 flushes_are_pick : (fresh : ℕ) (t : Planned) (trees : Trees) → StandsIn trees t.tree → (before : List Sized) (first : Sized) (others : List Sized) → before ++ (first ∷ others) ≡ t.tree.flushes
     → is_apart (Run fresh ∷ flush_names (first ∷ others)) t.used ≡ true → IsPick trees t (flush_spec fresh t (first ∷ others))
 flushes_are_pick fresh t trees stand before first others is apart =

@@ -92,6 +92,7 @@ view_of_trees view stands jobs = record {
 abbrev pub NewNames : Trees → (Tree → Tree) → Segment → Type 0
 NewNames trees change s = (n : NodeName) → IsIn n (names (change s.tree)) → IsIn n (names s.tree) ⊎ ((y : Segment) → IsIn y trees → IsIn n (names y.tree) → ⊥)
 
+-- Trees still stand after one of them changes, if it stays in order and gets no name that another tree has.
 changed_trees_stand : (trees : Trees) (prefix : List ℕ) (sources : List NodeName) (change : Tree → Tree) (s : Segment) → TreesStand trees → IsIn s trees → prefix ≡ s.prefix
     → Named (change s.tree) → InOrder (change s.tree) → NewNames trees change s → TreesStand (map (on_segment prefix sources change) trees)
 changed_trees_stand trees prefix sources change s stands there same named order new = record {

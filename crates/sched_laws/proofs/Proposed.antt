@@ -86,6 +86,7 @@ run_pick_makes o tiered t spec e = by (first_series o t.used t.tree.runs) refl e
         let found = series_is_found o t.used bounds.0 bounds.1 t.tree.runs runs (sym is) in
         subst MakesRun made (runs_make t.tree.segment runs (omega (arith, ap length found.is)))
 
+-- A pick of flushes makes a run, if the bounds of the options are in order.
 flush_pick_makes : (o : TieredOptions) → are_tiered o ≡ true → (fresh : ℕ) (t : Planned) (spec : JobSpec) → flush_pick o fresh t ≡ Some spec → MakesRun spec
 flush_pick_makes o tiered fresh t spec e =
     by (nat_le o.least (length t.tree.flushes) && is_allowed o t.used (flush_names (oldest o.most t.tree.flushes)) (total_size (oldest o.most t.tree.flushes)) (Run fresh) t.tree.runs) refl e
@@ -130,6 +131,7 @@ run_pick_within o tiered t spec e = by (first_series o t.used t.tree.runs) refl 
         let count : length (run_names runs) ≡ length runs = length-map runs (λ (run : Sized). Run run.id) in
         subst (HasSourcesWithin o) made (record { least = omega (arith, within.0, count); most = omega (arith, within.1, count) })
 
+-- A pick of flushes has as many sources as the options ask, if their bounds are in order.
 flush_pick_within : (o : TieredOptions) → are_tiered o ≡ true → (fresh : ℕ) (t : Planned) (spec : JobSpec) → flush_pick o fresh t ≡ Some spec → HasSourcesWithin o spec
 flush_pick_within o tiered fresh t spec e =
     by (nat_le o.least (length t.tree.flushes) && is_allowed o t.used (flush_names (oldest o.most t.tree.flushes)) (total_size (oldest o.most t.tree.flushes)) (Run fresh) t.tree.runs) refl e

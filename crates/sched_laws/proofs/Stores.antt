@@ -57,6 +57,7 @@ stored_stand merge store records stands =
 
 -- ---- the laws
 
+-- The view of a store that stands has ordered trees that share no node, and its jobs' sources stand in them.
 pub views_stand : (merge : Operator) (store : Store) (records : Records) → StoreStands merge store records → ViewStands (store_view store records)
 views_stand merge store records stands =
     let trees = store.manifest.trees in

@@ -157,6 +157,7 @@ no_flushes handles id (node ∷ tree) before =
     by (L0 n) size before later = absurd before
     by (Run i) size before later = later
 
+-- The names of a tree in order are those of its flushes, and then those of its runs.
 flushes_first : (handles : List Handle) (tree : Tree) → Pairs StandsBefore (names tree)
     → names tree ≡ flush_names (filter_map sized_flush (sized_nodes handles tree)) ++ run_names (filter_map sized_run (sized_nodes handles tree))
 flushes_first handles [] order = refl
