@@ -19,6 +19,7 @@ scan_is : (inputs : Inputs) (number : ℕ) (old new : State) (segment from to : 
 unfolding course_of
 scan_is inputs number old new segment from to seq now limit answer one = ap (run_line number old) (sym one.does.is) ∙ one.ends
 
+-- A line that scans a range is refused below the horizon or before the tick, and else prints a page of the answers.
 pub scans_answer : ScansAnswer
 scans_answer inputs old new segment from to seq now limit answer ran =
     let is = scan_is inputs ran.number old new segment from to seq now limit answer ran.course in
