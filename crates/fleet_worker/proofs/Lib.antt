@@ -11,3 +11,4 @@ pub mod Claims
 pub mod TryClaims
 pub mod Returns
 pub mod Progress
+pub mod Finishes

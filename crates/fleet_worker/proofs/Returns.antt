@@ -116,7 +116,8 @@ module _ (w : WorkerParts) (job number : ℕ) where
   pub first_return : (a : AttemptParts) → attempt_with w.attempts job number ≡ Some a → (view : StoreView) → Leads (take_failed (live_of w) job number) view (tries (one_return (live_of w) (attempt_of a)) 64 0) view
   first_return a run view = subst (λ course. Leads (take_failed (live_of w) job number) view course view) (is_tries a run) (begins (take_failed (live_of w) job number) view)
 
-  at_job : (a : AttemptParts) → attempt_with w.attempts job number ≡ Some a → a.job ≡ job
+  -- It is at the job.
+  pub at_job : (a : AttemptParts) → attempt_with w.attempts job number ≡ Some a → a.job ≡ job
   at_job a run = by w.attempts run
     where
       pick : (x : AttemptParts) (c : Bool) → cond c (Some x) None ≡ Some a → x ≡ a

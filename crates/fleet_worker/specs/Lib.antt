@@ -4,3 +4,4 @@ pub mod Beats
 pub mod Held
 pub mod Claims
 pub mod Messages
+pub mod Finishes

@@ -4,6 +4,7 @@
 mod attempt;
 mod beat;
 mod claim;
+mod finish;
 mod held;
 mod release;
 mod worker;

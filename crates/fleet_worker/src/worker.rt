@@ -50,11 +50,11 @@ use std::marker::Model;
 /// A worker. It runs attempts at jobs, at most one at each job. Contracts see its parts.
 #[derive(Debug, Drop)]
 pub struct Worker {
-    alloc: Global,
+    pub(crate) alloc: Global,
     id: u64,
     release: Release,
     attempts: ListOf<RunAttempt>,
-    stopped: bool,
+    pub(crate) stopped: bool,
 }
 
 impl Model for Worker {
@@ -562,7 +562,7 @@ impl Worker {
     }
 
     // The attempt at the job with this number, if the worker runs it.
-    fn attempt_with(&self, job: Ulid, number: u64) -> Option<&RunAttempt>
+    pub(crate) fn attempt_with(&self, job: Ulid, number: u64) -> Option<&RunAttempt>
         ensures { option_copied result ≡ attempt_with self.now.attempts job number }
     {
         if_numbered(number, run_at(self.attempts.as_slice(), job))
@@ -630,7 +630,7 @@ impl Worker {
     }
 
     // Drops the attempt at the job.
-    fn drop_attempt(&mut self, job: Ulid)
+    pub(crate) fn drop_attempt(&mut self, job: Ulid)
         ensures { self.new ≡ record self.old {
           attempts = without_parts (job ∷ []) self.old.attempts;
         } }
