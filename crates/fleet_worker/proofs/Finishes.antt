@@ -34,7 +34,7 @@ use Rattle.fleet_finish.specs.declared.put.FinishPut.{FinishPut}
 use Rattle.fleet_step.specs.Steps.{Leads, RunsTo, StepRan, TryRan, puts_and, stops}
 use Rattle.fleet_step.proofs.Steps.{begins, gives, then_tried, tried}
 use Rattle.fleet_worker.specs.Claims.{without_parts}
-use Rattle.fleet_worker.specs.Finishes.{Finishes, IsResult, MayFinish, done_ends, ended_by, ends_attempt, finish_ends, finished_job, left_after, one_finish}
+use Rattle.fleet_worker.specs.Finishes.{Finishes, IsResult, MayFinish, disowns, done_ends, ended_by, finish_ends, finished_job, left_after, one_finish}
 use Rattle.fleet_worker.specs.Messages.{attempt_with}
 use Rattle.fleet_worker.specs.Workers.{AttemptParts, IsReady, MayStep, WorkerParts, attempt_of, live_of}
 use Rattle.fleet_worker.proofs.Inserted.{without_same}
@@ -190,7 +190,7 @@ module _ (moment : ℕ) (w : WorkerParts) (job number : ℕ) (outputs : Outputs)
   left_ready (Ok done) ran is =
       subst Ready (sym (left_is moment w job number outputs old new next done ran))
       (ready_after (λ (done : Unit {0}). finished_job outputs (map attempt_of next)) (λ (report : FinishedJob). report.attempts) old new w step merges ready safe (Ok done) ran stopped is next refl (λ store noted. some_noted store (λ a. not (contains (job ∷ []) a.job)) w.attempts noted))
-  left_ready (Err e) ran is = by (ends_attempt (Err e) && is_some (attempt_with w.attempts job number))
+  left_ready (Err e) ran is = by (disowns e && is_some (attempt_with w.attempts job number))
     where
       by : (b : Bool) → Ready (cond b next w.attempts)
       by true = fewer_ready new w stopped (job ∷ []) (kept e ran is)

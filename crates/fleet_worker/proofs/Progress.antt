@@ -1,5 +1,5 @@
 -- Progress of an attempt.
-use Rattle.std.proofs.Common.{◌≡◌, refl, sym, ◌∙◌, ap, ℕ, nat_lt, Bool, true, false, cond, not, map, List, [], ◌∷◌, Option, Some, None, option_map, Ok, Err}
+use Rattle.std.proofs.Common.{◌≡◌, refl, sym, ◌∙◌, ap, subst, ℕ, nat_lt, Bool, true, false, cond, not, map, List, [], ◌∷◌, Option, Some, None, option_map, Ok, Err}
 use Rattle.std.specs.Prelude.{IfSome}
 use Rattle.fleet_model.specs.Jobs.{contains}
 use Rattle.fleet_model.specs.Work.Parties.{Attempt, put_attempt}
@@ -44,7 +44,7 @@ module _ (w : WorkerParts) (job number : ℕ) (ctx : ContextParts) where
   pub progress_wants : (attempts : List AttemptParts) (view : StoreView) → StepRan (runs_then attempts) (take_progress (live_of w) job number (context_of ctx)) view view (Err Memory)
   progress_wants attempts view = wants (runs_then attempts) (take_progress (live_of w) job number (context_of ctx)) view
 
-  noted_next : (store : Store) (found : Option AttemptParts) → IsShownBy store ctx → AreNoted w.attempts store → AreNoted (went_on ctx found w.attempts) store
+  noted_next : (store : Store) (found : Option AttemptParts) → IfSome (option_map attempt_of found) (λ a. IsShownBy store ctx) → AreNoted w.attempts store → AreNoted (went_on ctx found w.attempts) store
   noted_next store None shown noted = noted
   noted_next store (Some a) shown noted = put (without_parts (a.job ∷ []) w.attempts) (some_noted store (λ b. not (contains (a.job ∷ []) b.job)) w.attempts noted)
     where
@@ -68,7 +68,7 @@ module _ (w : WorkerParts) (job number : ℕ) (ctx : ContextParts) where
   stays_ready = record {
     over = λ view merges ready fits shown.
         let is = ready_with (λ (done : Unit {0}). map attempt_of next) (λ (attempts : List Attempt). attempts) view view w (take_progress (live_of w) job number (context_of ctx)) merges ready (progress_safe view ready.may fits) (Ok tt) (progress_ran view) false refl next refl
-        (noted_next view.world.store (attempt_with w.attempts job number) shown ready.noted) in
+        (noted_next view.world.store (attempt_with w.attempts job number) (subst (λ found. IfSome found (λ a. IsShownBy view.world.store ctx)) (run_same w job number) shown) ready.noted) in
         record { may = is.may; noted = is.noted };
   }
 

@@ -72,13 +72,17 @@ pub record IsResult (view : StoreView) (w : WorkerParts) (job number : ℕ) (out
   pub whole : IfSome (attempt_run (live_of w) job number) (ResultFits view.who.merge view.world (live_of w) (map table_ids outputs))
   pub shown : IfSome (attempt_run (live_of w) job number) (λ a. AreShown outputs view.world.store)
 
--- True if the worker runs its attempt no more after the step that ends it had this result: the job ended, or the worker
+-- True if an attempt is not run any more after a step that was to end it had this error: the worker does not own the job.
+abbrev pub disowns : SlateDBError → Bool
+disowns error.NotOwner = true
+disowns _ = false
+
+-- True if an attempt is not run any more after a step that was to end it had this result: the job ended, or the worker
 -- does not own it.
-abbrev pub ends_attempt : Result (Unit {0}) SlateDBError → Bool
+abbrev pub ends_attempt : {A : Type 0} → Result A SlateDBError → Bool
 ends_attempt (Ok done) = true
-ends_attempt (Err error.NotOwner) = true
-ends_attempt _ = false
+ends_attempt (Err e) = disowns e
 
 -- The attempts that a worker runs after a step with this result that was to end the attempt at the job with this number.
-abbrev pub left_after : Result (Unit {0}) SlateDBError → (job number : ℕ) → List AttemptParts → List AttemptParts
+abbrev pub left_after : {A : Type 0} → Result A SlateDBError → (job number : ℕ) → List AttemptParts → List AttemptParts
 left_after result job number attempts = if ends_attempt result && is_some (attempt_with attempts job number) then without_parts (job ∷ []) attempts else attempts

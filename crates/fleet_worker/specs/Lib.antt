@@ -5,3 +5,4 @@ pub mod Held
 pub mod Claims
 pub mod Messages
 pub mod Finishes
+pub mod Handles

@@ -74,4 +74,4 @@ IsShownBy store ctx = AllByRecursion (λ part. AllByRecursion (IsDescribed store
 -- A worker that is ready for a step over a store and takes progress that fits is ready after it.
 pub record StaysReady (w : WorkerParts) (job number : ℕ) (ctx : ContextParts) (next : WorkerParts) : Type 0 where
   pub over : (view : StoreView) → IsLawful view.who.merge → IsReady view w → IfSome (attempt_run (live_of w) job number) (ProgressFits view.who.merge view.world (live_of w) (context_of ctx))
-      → IsShownBy view.world.store ctx → IsReady view next
+      → IfSome (attempt_run (live_of w) job number) (λ a. IsShownBy view.world.store ctx) → IsReady view next
