@@ -1,4 +1,6 @@
 pub mod Changed
 pub mod Records
 pub mod Reached
+pub mod Followed
+pub mod Finished
 pub mod Drained

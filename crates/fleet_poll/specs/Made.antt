@@ -1,0 +1,42 @@
+-- The runs that jobs make in a poll, and which flushes went into them.
+use Rattle.std.specs.Prelude.{ℕ, Bool, false, ◌==◌, ◌&&◌, List, flat_map, map, Option, Some, None, bytes_eq, if◌then◌else◌}
+use Rattle.std.specs.List.Sorted.{IsStrictlySortedBy}
+use Rattle.row_model.specs.Rows.{key_cmp}
+use Rattle.fleet_model.specs.Nodes.{tree_at}
+use Rattle.fleet_model.specs.Trees.{source_nodes}
+use Rattle.fleet_tree.specs.Trees.{RunFlushes, trees_of, trees_with_prefix}
+use Rattle.fleet_tree.specs.declared.manifest.ManifestCore.{ManifestCore}
+use Rattle.fleet_tree.specs.declared.run.SortedRun.{SortedRun}
+use Rattle.fleet_jobs.specs.Parts.JobParts.{JobParts}
+use Rattle.fleet_jobs.specs.Laws.{names_of}
+use Rattle.fleet_jobs.specs.Moves.{moved_run}
+use Rattle.fleet_jobs.specs.Specs.{destination_of, segment_of}
+use Rattle.fleet_jobs.specs.Taken.{taken_tables}
+use Rattle.fleet_jobs.specs.declared.spec.CompactionSpec.{CompactionSpec}
+use Rattle.fleet_book.specs.StateParts.{StateParts}
+
+-- The contents of the manifest that the coordinator has.
+abbrev pub own_core : StateParts → ManifestCore
+own_core state = state.manifest.manifest.core
+
+-- The prefixes of the segments rise.
+abbrev pub PrefixesRise : ManifestCore → Type 0
+PrefixesRise core = IsStrictlySortedBy key_cmp (map (λ s. s.0) (trees_with_prefix core))
+
+-- True if the run with this id is the destination.
+abbrev pub is_made : Option ℕ → ℕ → Bool
+is_made None run = false
+is_made (Some destination) run = destination == run
+
+-- Which flushes went into each run after a job with this spec made its run in these trees: all flushes that went into
+-- its sources. Each other run has the flushes that it had.
+abbrev pub flushes_after : CompactionSpec → ManifestCore → RunFlushes → RunFlushes
+flushes_after spec core flushes prefix run =
+    if bytes_eq (segment_of spec) prefix && is_made (destination_of spec) run
+    then flat_map (λ node. node.flushes) (source_nodes (names_of spec) (tree_at (segment_of spec) (trees_of flushes core)))
+    else flushes prefix run
+
+-- The run that a move of the job makes, if there is a job and it can be moved.
+abbrev pub run_if_moved : Option JobParts → ManifestCore → Option SortedRun
+run_if_moved None core = None
+run_if_moved (Some job) core = moved_run (destination_of job.spec) (taken_tables job.spec core)
