@@ -3,4 +3,5 @@ pub mod Records
 pub mod Reached
 pub mod Followed
 pub mod Finished
+pub mod Joined
 pub mod Drained

@@ -1,10 +1,14 @@
 -- The runs that jobs make in a poll, and which flushes went into them.
-use Rattle.std.specs.Prelude.{ℕ, Bool, false, ◌==◌, ◌&&◌, List, flat_map, map, Option, Some, None, bytes_eq, if◌then◌else◌}
+use Rattle.std.specs.Prelude.{◌≡◌, ℕ, Bool, true, false, ◌==◌, ◌&&◌, List, flat_map, map, Option, Some, None, bytes_eq, if◌then◌else◌}
+use Rattle.std.specs.List.{AllByRecursion}
 use Rattle.std.specs.List.Sorted.{IsStrictlySortedBy}
+use Rattle.std.specs.Ordering.{is_le}
 use Rattle.row_model.specs.Rows.{key_cmp}
 use Rattle.fleet_model.specs.Nodes.{tree_at}
 use Rattle.fleet_model.specs.Trees.{source_nodes}
 use Rattle.fleet_tree.specs.Trees.{RunFlushes, trees_of, trees_with_prefix}
+use Rattle.fleet_tree.specs.Views.{View}
+use Rattle.fleet_tree.specs.declared.handle.SsTableHandle.{SsTableHandle}
 use Rattle.fleet_tree.specs.declared.manifest.ManifestCore.{ManifestCore}
 use Rattle.fleet_tree.specs.declared.run.SortedRun.{SortedRun}
 use Rattle.fleet_jobs.specs.Parts.JobParts.{JobParts}
@@ -40,3 +44,24 @@ flushes_after spec core flushes prefix run =
 abbrev pub run_if_moved : Option JobParts → ManifestCore → Option SortedRun
 run_if_moved None core = None
 run_if_moved (Some job) core = moved_run (destination_of job.spec) (taken_tables job.spec core)
+
+-- The tables that the worker of a job wrote, range by range.
+abbrev pub written_tables : JobParts → List SsTableHandle
+written_tables job = flat_map (λ tables. tables) job.outputs
+
+-- No table's first key is above its last key.
+abbrev pub EndsRise : List SsTableHandle → Type 0
+EndsRise tables = AllByRecursion (λ table. is_le (key_cmp table.first_key table.last_key) ≡ true) tables
+
+-- The views of these tables, each under its table's own id.
+abbrev pub own_views : List SsTableHandle → List View
+own_views tables = map (λ table. record { id = table.id; sst = table }) tables
+
+-- The run of these tables that takes the place of the sources of a job. A drain makes none.
+abbrev pub run_of_tables : Option ℕ → List SsTableHandle → Option SortedRun
+run_of_tables None tables = None
+run_of_tables (Some destination) tables = Some (record { id = destination; views = own_views tables })
+
+-- The run that a join of the job makes.
+abbrev pub joined_run : JobParts → Option SortedRun
+joined_run job = run_of_tables (destination_of job.spec) (written_tables job)
