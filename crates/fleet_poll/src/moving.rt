@@ -1,14 +1,16 @@
 //! Jobs whose sources' tables are moved.
 
 ghost use Rattle.std.specs.Prelude.{◌≡◌, false, is_some, IfOk, IfSome, IsOkUnless, Some, true};
+ghost use Rattle.std.specs.List.{AllByRecursion};
 ghost use Rattle.std.specs.Option.{ForSome};
-ghost use Rattle.fleet_model.specs.Jobs.{Compacted, has_status};
-ghost use Rattle.fleet_model.specs.Work.Polls.{move_job};
+ghost use Rattle.fleet_model.specs.Jobs.{Compacted, has_status, is_drain};
+ghost use Rattle.fleet_model.specs.Work.Polls.{can_move, move_job};
 ghost use Rattle.fleet_model.specs.Work.PollStates.{PollInput};
-ghost use Rattle.fleet_tree.specs.Trees.{RunFlushes};
+ghost use Rattle.fleet_tree.specs.Trees.{RunFlushes, trees_of};
 ghost use Rattle.fleet_jobs.specs.Jobs.{job_of};
-ghost use Rattle.fleet_jobs.specs.Laws.{KeysFit};
+ghost use Rattle.fleet_jobs.specs.Laws.{EndsFit, KeysFit};
 ghost use Rattle.fleet_jobs.specs.Places.{sources_stand};
+ghost use Rattle.fleet_jobs.specs.Specs.{spec_of};
 ghost use Rattle.fleet_jobs.specs.Taken.{taken_tables};
 ghost use Rattle.fleet_book.specs.Finishes.{finished_state};
 ghost use Rattle.fleet_book.specs.Records.{record_with};
@@ -46,6 +48,15 @@ impl Poll {
             → IfSome (record_with job (own_jobs self.old.state)) (λ moved.
             self.new.state ≡ finished_state moved
             (run_if_moved (Some moved) (own_core self.old.state)) self.old.state)) }
+        // If moves are allowed, the job is moved exactly if the model can move it.
+        ensures can_move { (flushes : RunFlushes) (input : PollInput) → input.options.moves ≡ true
+            → IfOk result (λ is_moved.
+            IfSome (record_with job (own_jobs self.old.state)) (λ moved.
+            is_drain (spec_of moved.spec) ≡ false
+            → AllByRecursion (EndsFit input.tables)
+            (taken_tables moved.spec (own_core self.old.state))
+            → is_moved ≡ can_move input
+            (trees_of flushes (own_core self.old.state)) (spec_of moved.spec))) }
         ensures left { IfOk result (λ is_moved. is_moved ≡ false → self.new ≡ self.old) }
         ensures memory { IsOkUnless result SlateDBError.Memory }
     {
