@@ -123,10 +123,10 @@ impl Worker {
     /// Takes the message at this moment in milliseconds: claims jobs, sends a heartbeat, or takes
     /// what became of an attempt. The bytes of progress are dropped.
     ///
-    /// `NotOwner` means that the worker does not run the attempt that ended, or that this attempt is
-    /// not live. Progress of an attempt that the worker does not run is `Noted` and changes nothing.
-    /// `Conflict` means that 64 puts were refused in a row. After `StoreFault` the worker is
-    /// stopped.
+    /// `NotOwner` means that the worker does not run the attempt that ended, or that this attempt
+    /// finished and is not live. Progress of an attempt that the worker does not run is `Noted` and
+    /// changes nothing. `Conflict` means that 64 puts were refused in a row. After `StoreFault` the
+    /// worker is stopped.
     pub fn handle<S: Store>(
         &mut self,
         store: &mut S,
