@@ -6,3 +6,4 @@ pub mod Finished
 pub mod Movable
 pub mod Joined
 pub mod Drained
+pub mod Opened

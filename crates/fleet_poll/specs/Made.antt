@@ -1,9 +1,10 @@
 -- The runs that jobs make in a poll, and which flushes went into them.
-use Rattle.std.specs.Prelude.{◌≡◌, ℕ, Bool, true, false, ◌==◌, ◌&&◌, List, flat_map, map, Option, Some, None, bytes_eq, if◌then◌else◌}
+use Rattle.std.specs.Prelude.{◌≡◌, ℕ, Bool, true, false, ◌==◌, ◌&&◌, List, flat_map, map, Option, Some, None, bytes_eq, is_some, if◌then◌else◌}
 use Rattle.std.specs.List.{AllByRecursion}
 use Rattle.std.specs.List.Sorted.{IsStrictlySortedBy}
 use Rattle.std.specs.Ordering.{is_le}
 use Rattle.row_model.specs.Rows.{key_cmp}
+use Rattle.fleet_model.specs.Jobs.{is_drain}
 use Rattle.fleet_model.specs.Nodes.{tree_at}
 use Rattle.fleet_model.specs.Trees.{source_nodes}
 use Rattle.fleet_tree.specs.Trees.{RunFlushes, trees_of, trees_with_prefix}
@@ -14,7 +15,7 @@ use Rattle.fleet_tree.specs.declared.run.SortedRun.{SortedRun}
 use Rattle.fleet_jobs.specs.Parts.JobParts.{JobParts}
 use Rattle.fleet_jobs.specs.Laws.{names_of}
 use Rattle.fleet_jobs.specs.Moves.{moved_run}
-use Rattle.fleet_jobs.specs.Specs.{destination_of, segment_of}
+use Rattle.fleet_jobs.specs.Specs.{destination_of, segment_of, spec_of}
 use Rattle.fleet_jobs.specs.Taken.{taken_tables}
 use Rattle.fleet_jobs.specs.declared.spec.CompactionSpec.{CompactionSpec}
 use Rattle.fleet_book.specs.StateParts.{StateParts}
@@ -65,3 +66,19 @@ run_of_tables (Some destination) tables = Some (record { id = destination; views
 -- The run that a join of the job makes.
 abbrev pub joined_run : JobParts → Option SortedRun
 joined_run job = run_of_tables (destination_of job.spec) (written_tables job)
+
+-- Which flushes went into each run after step 2 of a poll for a job, given the rule that failed if one did.
+abbrev pub flushes_committed : Option ℕ → JobParts → ManifestCore → RunFlushes → RunFlushes
+flushes_committed (Some rule) job core flushes = flushes
+flushes_committed None job core flushes = flushes_after job.spec core flushes
+
+-- Which flushes went into each run after step 4 of a poll for a job, given the rule that failed if one did, and whether
+-- moves are allowed.
+abbrev pub flushes_opened : Option ℕ → Bool → JobParts → ManifestCore → RunFlushes → RunFlushes
+flushes_opened (Some rule) moves job core flushes = flushes
+flushes_opened None moves job core flushes = if moves && is_some (run_if_moved (Some job) core) then flushes_after job.spec core flushes else flushes
+
+-- True if there is a job and it is a drain.
+abbrev pub is_drain_if_there : Option JobParts → Bool
+is_drain_if_there None = false
+is_drain_if_there (Some job) = is_drain (spec_of job.spec)

@@ -6,6 +6,7 @@ mod adding;
 mod draining;
 mod failing;
 mod freeing;
+mod gated;
 mod joining;
 mod moving;
 mod opening;
