@@ -7,3 +7,4 @@ pub mod Movable
 pub mod Joined
 pub mod Drained
 pub mod Opened
+pub mod Answered

@@ -3,6 +3,7 @@
 #![tactic(auto)]
 
 mod adding;
+mod checked;
 mod draining;
 mod failing;
 mod freeing;

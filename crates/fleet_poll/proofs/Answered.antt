@@ -1,0 +1,74 @@
+-- What the gate for submitted jobs says to a poll.
+use Rattle.std.proofs.Common.{◌≡◌, refl, sym, ◌∙◌, ap, subst, ℕ, List, Bool, true}
+use Rattle.std.specs.Prelude.{filter, IfOk, IfSome, Ok, Err, Option, Result, Some, None}
+use Rattle.std.specs.List.{AllByRecursion}
+use Rattle.std.specs.Option.{ForSome}
+use Rattle.fleet_model.specs.Work.Gates.{submit_gate}
+use Rattle.fleet_model.specs.Jobs.{Jobs}
+use Rattle.fleet_model.specs.Nodes.{NodeName}
+use Rattle.fleet_model.specs.Work.Polls.{lost_to_scheduler, open_by, open_job}
+use Rattle.fleet_model.specs.Work.PollStates.{PollInput, accepts}
+use Rattle.fleet_model.specs.Work.Scheduler.{Scheduler}
+use Rattle.fleet_rows.specs.declared.errors.SlateDBError.{SlateDBError}
+use Rattle.fleet_tree.specs.Trees.{RunFlushes, trees_of}
+use Rattle.fleet_tree.specs.declared.manifest.VersionedManifest.{VersionedManifest}
+use Rattle.fleet_jobs.specs.Parts.JobParts.{JobParts}
+use Rattle.fleet_jobs.specs.Jobs.{is_open, job_of, jobs_of}
+use Rattle.fleet_jobs.specs.Laws.{EndsFit}
+use Rattle.fleet_jobs.specs.Places.{sources_stand}
+use Rattle.fleet_jobs.specs.Specs.{spec_of}
+use Rattle.fleet_jobs.specs.Taken.{taken_tables}
+use Rattle.fleet_jobs.proofs.ModelPlaces.{submitted_sources_stand}
+use Rattle.fleet_book.specs.Records.{record_with}
+use Rattle.fleet_book.specs.StateParts.{StateParts}
+use Rattle.fleet_book.specs.States.{own_jobs}
+use Rattle.fleet_book.specs.VersionedRecords.{VersionedRecords}
+use Rattle.fleet_book.specs.Versions.{with_jobs}
+use Rattle.fleet_book.specs.declared.view.CompactorStateView.{CompactorStateView}
+use Rattle.fleet_gates.specs.Held.{Decides}
+use Rattle.fleet_gates.specs.Rules.{numbered}
+use Rattle.fleet_gates.specs.Shown.{accepted_on, shown_trees}
+use Rattle.fleet_gates.specs.declared.rule.Rule.{Rule}
+use Rattle.fleet_poll.specs.Made.{flushes_opened, own_core}
+use Rattle.fleet_poll.specs.Polls.{poll_of}
+use Rattle.fleet_poll.specs.Shown.{rule_of_gate, shown}
+use Rattle.fleet_poll.specs.declared.poll.Poll.{Poll}
+
+view_is : (state : StateParts) (view : CompactorStateView) → view.manifest ≡ state.manifest → view.compactions ≡ Some (with_jobs (filter is_open (own_jobs state)) state.compactions) → view ≡ shown state
+view_is state view manifest jobs =
+    let made : VersionedManifest → Option VersionedRecords → CompactorStateView = λ m c. record { manifest = m; compactions = c } in
+    ap (λ m. made m view.compactions) manifest ∙ ap (made state.manifest) jobs
+
+pub rule_in : (flushes : RunFlushes) (state : StateParts) (view : CompactorStateView) (s : Scheduler) (held : List NodeName) (jobs : Jobs) (lost : List ℕ) (id : ℕ) (job : JobParts) (r : Result (Option Rule) SlateDBError)
+    → view.manifest ≡ state.manifest → view.compactions ≡ Some (with_jobs (filter is_open (own_jobs state)) state.compactions) → record_with id (own_jobs state) ≡ Some job
+    → (Decides held jobs lost (job_of job) → IfOk r (λ rule. numbered rule ≡ submit_gate (shown_trees flushes view) jobs lost (accepted_on flushes view s) (job_of job)))
+    → IfOk r (λ failed. IfSome (record_with id (own_jobs state)) (λ found. Decides held jobs lost (job_of found)
+    → numbered failed ≡ submit_gate (trees_of flushes (own_core state)) jobs lost (accepted_on flushes (shown state) s) (job_of found)))
+rule_in flushes state view s held jobs lost id job (Ok rule) manifest records found said =
+    subst (λ f. IfSome f (λ found. Decides held jobs lost (job_of found) → numbered rule ≡ submit_gate (trees_of flushes (own_core state)) jobs lost (accepted_on flushes (shown state) s) (job_of found))) (sym found)
+    (λ decides. said decides ∙ ap (λ v. submit_gate (shown_trees flushes v) jobs lost (accepted_on flushes v s) (job_of job)) (view_is state view manifest records))
+rule_in flushes state view s held jobs lost id job (Err e) manifest records found said = tt
+
+-- What the gate says of the job that is found.
+abbrev Said : RunFlushes → StateParts → Scheduler → List NodeName → List ℕ → Option Rule → JobParts → Type 0
+Said flushes state s held lost failed job = Decides held (jobs_of (own_jobs state)) lost (job_of job)
+    → numbered failed ≡ submit_gate (trees_of flushes (own_core state)) (jobs_of (own_jobs state)) lost (accepted_on flushes (shown state) s) (job_of job)
+
+pub stand_in : (flushes : RunFlushes) (state : StateParts) (s : Scheduler) (held : List NodeName) (lost : List ℕ) (failed : Option Rule) (found : Option JobParts)
+    → IfSome found (Said flushes state s held lost failed) → ForSome found (λ job. Decides held (jobs_of (own_jobs state)) lost (job_of job)) → failed ≡ None → ForSome found (λ job. sources_stand job.spec (own_core state) ≡ true)
+stand_in flushes state s held lost failed found said decides none job e =
+    let here : Said flushes state s held lost failed job = subst (λ f. IfSome f (Said flushes state s held lost failed)) e said in
+    submitted_sources_stand flushes (jobs_of (own_jobs state)) lost (accepted_on flushes (shown state) s) job (own_core state) (sym (here (decides job e)) ∙ ap numbered none)
+
+pub opened_in : (flushes : RunFlushes) (input : PollInput) (moves : Bool) (before after : Poll) (s : Scheduler) (held : List NodeName) (failed : Option Rule) (found : Option JobParts)
+    → IfSome found (Said flushes before.state s held (lost_to_scheduler before.lost) failed) → ForSome found (λ job. Decides held (jobs_of (own_jobs before.state)) (lost_to_scheduler before.lost) (job_of job))
+    → IfSome found (λ made. AllByRecursion (EndsFit input.tables) (taken_tables made.spec (own_core before.state))
+    → poll_of (flushes_opened (numbered failed) moves made (own_core before.state) flushes) after ≡ open_by input (job_of made) (numbered failed) (poll_of flushes before))
+    → IfSome found (λ made. accepts input (poll_of flushes before) (spec_of made.spec) ≡ accepted_on flushes (shown before.state) s (spec_of made.spec)
+    → AllByRecursion (EndsFit input.tables) (taken_tables made.spec (own_core before.state))
+    → poll_of (flushes_opened (rule_of_gate input (job_of made) (poll_of flushes before)) moves made (own_core before.state) flushes) after ≡ open_job input (job_of made) (poll_of flushes before))
+opened_in flushes input moves before after s held failed None said decides is = tt
+opened_in flushes input moves before after s held failed (Some job) said decides is = λ alike fit.
+    let p = poll_of flushes before in
+    subst (λ n. poll_of (flushes_opened n moves job (own_core before.state) flushes) after ≡ open_by input (job_of job) n p)
+    (said (decides job refl) ∙ ap (λ b. submit_gate p.trees p.jobs (lost_to_scheduler p.lost) (λ spec. b) (job_of job)) (sym alike)) (is fit)
