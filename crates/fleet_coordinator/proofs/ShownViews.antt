@@ -18,7 +18,8 @@ use Rattle.step_model.specs.Kept.TablesKept.{IsFlush}
 use Rattle.step_laws.proofs.Elements.{IsIn, all_at, all_from}
 use Rattle.step_laws.proofs.FlushFollows.{found_segment}
 use Rattle.step_laws.proofs.FlushTrees.{Rising, rising_from}
-use Rattle.course_laws.proofs.Calls.{in_map, pairs_filter}
+use Rattle.course_laws.proofs.Calls.{pairs_filter}
+use Rattle.step_laws.proofs.Polls.{in_map}
 use Rattle.fleet_tree.specs.Handles.{handle_of}
 use Rattle.fleet_tree.specs.Manifests.{manifest_of}
 use Rattle.fleet_tree.specs.Trees.{RunFlushes, flush_node, run_node, segment_of, tree_of, trees_of, trees_with_prefix}

@@ -26,7 +26,7 @@ use Rattle.step_laws.proofs.Later as store_law
 use Rattle.step_laws.proofs.Runs.{rivals_keep}
 use Rattle.commit_laws.proofs.AllCalls.{calls_keep}
 use Rattle.course_laws.proofs.Calls.{done_later, keeps_after}
-use Rattle.course_laws.proofs.Held.{refused}
+use Rattle.step_laws.proofs.FlushNodes.{refused}
 use Rattle.course_laws.proofs.Later.{Later, later_by, later_itself, later_then, rivals_later}
 use Rattle.course_laws.proofs.NewIds.{AreFresh, drawn_fresh, not_named, rivals_fresh}
 use Rattle.course_laws.proofs.Submits.{submits_are_lawful}

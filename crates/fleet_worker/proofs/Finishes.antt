@@ -13,7 +13,7 @@ use Rattle.step_model.specs.Courses.CourseRuns.{Gives, IsLawfulCourse}
 use Rattle.step_model.specs.Fits.{WorkerHolds}
 use Rattle.step_model.specs.Later.{IsLater}
 use Rattle.step_model.specs.Steps.MessageSteps.{attempt_run, ends_run, take_finished}
-use Rattle.step_model.specs.Steps.OutputSteps.{FinishedJob, end_job, ends_job}
+use Rattle.step_model.specs.Steps.FinishSteps.{FinishedJob, end_job, ends_job}
 use Rattle.step_model.specs.Rivals.{Caller}
 use Rattle.step_model.specs.Courses.StepEnds.{StepEnd, NotOwner, Reports}
 use Rattle.step_model.specs.Courses.Tries.{tries}

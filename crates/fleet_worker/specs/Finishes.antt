@@ -6,7 +6,7 @@ use Rattle.fleet_model.specs.Store.{Store}
 use Rattle.step_model.specs.Courses.Course.{Course, Ends}
 use Rattle.step_model.specs.Courses.CourseRuns.{IsLawfulCourse}
 use Rattle.step_model.specs.Steps.MessageSteps.{attempt_run}
-use Rattle.step_model.specs.Steps.OutputSteps.{FinishedJob, end_try, ends_job_by}
+use Rattle.step_model.specs.Steps.FinishSteps.{FinishedJob, end_try, ends_job_by}
 use Rattle.step_model.specs.Courses.StepEnds.{StepEnd, NotOwner, Reports}
 use Rattle.step_model.specs.Courses.Tries.{Try}
 use Rattle.step_model.specs.Views.{StoreView}

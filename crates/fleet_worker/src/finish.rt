@@ -3,7 +3,7 @@
 ghost use Rattle.std.specs.Prelude.{◌≡◌, [], ◌∷◌, map, false, IfOk, IsOkUnless};
 ghost use Rattle.std.specs.Bool.{OnFalse};
 ghost use Rattle.step_model.specs.Steps.MessageSteps.{take_finished};
-ghost use Rattle.step_model.specs.Steps.OutputSteps.{end_try};
+ghost use Rattle.step_model.specs.Steps.FinishSteps.{end_try};
 ghost use Rattle.fleet_jobs.specs.Contexts.{table_ids};
 ghost use Rattle.fleet_finish.specs.Puts.{AreShown};
 ghost use Rattle.fleet_step.specs.Steps.{StepRan, TryRan, stops};
