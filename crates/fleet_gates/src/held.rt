@@ -9,7 +9,7 @@ ghost use Rattle.fleet_jobs.specs.Jobs.{job_of, jobs_of};
 ghost use Rattle.fleet_jobs.specs.Places.{held_nodes};
 ghost use Rattle.fleet_gates.specs.Held.{Decides, HasIds, others};
 
-use fleet_jobs::{Compaction, CompactionStatus, NodeSet};
+use fleet_jobs::{Compaction, NodeSet, reserves_nodes};
 use fleet_rows::Ulid;
 use std::alloc::{AllocError, Global};
 use std::collections::BTreeSet;
@@ -75,13 +75,4 @@ fn holds(job: &Compaction, lost: &BTreeSet<Ulid>) -> bool
         || set_contains nat_cmp lost.now job.now.id) }
 {
     reserves_nodes(job) || lost.contains(&job.id())
-}
-
-fn reserves_nodes(job: &Compaction) -> bool
-    ensures { result ≡ reserves_nodes (job_of job.now) }
-{
-    matches!(
-        job.status(),
-        CompactionStatus::Scheduled | CompactionStatus::Running | CompactionStatus::Compacted
-    )
 }

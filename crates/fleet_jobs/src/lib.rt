@@ -34,7 +34,9 @@ pub use places::{
     tree_nodes,
 };
 pub use release::Release;
-pub use rules::{destination_fits, held_nodes, is_lowest_or_above, nodes_at, sources_stand};
+pub use rules::{
+    destination_fits, held_nodes, is_lowest_or_above, nodes_at, reserves_nodes, sources_stand,
+};
 pub use source_id::{SourceId, SourceList};
 pub use spec::{CompactionSpec, DrainSegmentSpec, SpecList, TieredCompactionSpec};
 pub use status::CompactionStatus;

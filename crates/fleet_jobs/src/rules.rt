@@ -167,7 +167,9 @@ fn holds(job: &Compaction, lost: &[Ulid]) -> bool
     reserves_nodes(job) || contains(lost, job.id())
 }
 
-fn reserves_nodes(job: &Compaction) -> bool
+/// Whether the job holds its sources and its destination: a Scheduled, Running or Compacted one
+/// does.
+pub fn reserves_nodes(job: &Compaction) -> bool
     ensures { result ≡ reserves_nodes (job_of job.now) }
 {
     match job.status() {
