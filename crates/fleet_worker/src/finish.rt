@@ -136,7 +136,7 @@ impl Worker {
     /// that the attempt is not live; it is dropped then too. `Conflict` means that 64 puts were
     /// refused in a row. After `StoreFault` the worker is stopped, and the job may be ended or not.
     /// The tables stay in the store whatever comes.
-    pub fn take_finished<S: Store>(
+    pub(crate) fn take_finished<S: Store>(
         &mut self,
         store: &mut S,
         moment: u64,

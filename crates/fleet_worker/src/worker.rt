@@ -646,7 +646,7 @@ impl Worker {
     /// `NotOwner` means that the worker does not run this attempt; nothing is called then.
     /// `Conflict` means that 64 puts were refused in a row. After `StoreFault` the worker is
     /// stopped, and the job may wait or not.
-    pub fn take_failed<S: Store>(
+    pub(crate) fn take_failed<S: Store>(
         &mut self,
         store: &mut S,
         job: Ulid,
@@ -700,7 +700,7 @@ impl Worker {
     /// Takes the message that the attempt at the job with this number went on: it has this context
     /// from now on. The message is dropped if the worker does not run this attempt. Nothing is
     /// called.
-    pub fn take_progress(
+    pub(crate) fn take_progress(
         &mut self,
         job: Ulid,
         number: u64,
