@@ -12,7 +12,8 @@ key_of first bytes parts = take parts.shared first ++ slice_range bytes parts.st
 
 -- If a row of a block with this first key stands at the place, the reader tells what `of` says of the row.
 abbrev pub Tells : {A : Type 0} → (Row → A) → List ℕ → List ℕ → ℕ → Option (A × ℕ) → Type 0
-Tells of first bytes place found = (r : Row) (others : List ℕ) → IsWritable r → drop place bytes ≡ row_bytes first r ++ others → IsFound (λ x. x) (of r) others bytes found
+Tells of first bytes place found = (r : Row) (others : List ℕ) → IsWritable r
+    → drop place bytes ≡ row_bytes first r ++ others → IsFound (λ x. x) (of r) others bytes found
 
 -- The reader passed over what stands at a place, and the other bytes follow.
 abbrev pub IsPassed : List ℕ → List ℕ → Option ℕ → Type 0
@@ -21,8 +22,11 @@ IsPassed others bytes (Some place) = drop place bytes ≡ others
 
 -- The reader passes over the content of a row, whose kind the flags tell.
 abbrev pub PassesContent : ℕ → List ℕ → ℕ → Option ℕ → Type 0
-PassesContent flags bytes place found = (x : Content) (others : List ℕ) → content_len x < 2 ^ 32 → flags % 4 ≡ content_flag x → drop place bytes ≡ content_bytes x ++ others → IsPassed others bytes found
+PassesContent flags bytes place found = (x : Content) (others : List ℕ) → content_len x < 2 ^ 32
+    → flags % 4 ≡ content_flag x → drop place bytes ≡ content_bytes x ++ others → IsPassed others bytes found
 
 -- The reader passes over what follows the sequence of a row.
 abbrev pub PassesFields : List ℕ → ℕ → Option ℕ → Type 0
-PassesFields bytes place found = (r : Row) (others : List ℕ) → IsWritable r → drop place bytes ≡ row_flags r ∷ (stamp_bytes r.created ++ (stamp_bytes r.expires ++ (content_bytes r.content ++ others))) → IsPassed others bytes found
+PassesFields bytes place found = (r : Row) (others : List ℕ) → IsWritable r → drop place bytes
+    ≡ row_flags r ∷ (stamp_bytes r.created ++ (stamp_bytes r.expires ++ (content_bytes r.content ++ others)))
+    → IsPassed others bytes found

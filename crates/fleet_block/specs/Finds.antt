@@ -12,7 +12,8 @@ IsFound view x others bytes (Some found) = (view found.0 ≡ x) × (drop found.1
 
 -- If the bytes from the place on begin with the spelling of a value that fits, the reader finds that value.
 abbrev pub Finds : {A V : Type 0} → (V → A) → (A → List ℕ) → (A → Type 0) → List ℕ → ℕ → Option (V × ℕ) → Type 0
-Finds {A} view spelt Fits bytes place found = (x : A) (others : List ℕ) → Fits x → drop place bytes ≡ spelt x ++ others → IsFound view x others bytes found
+Finds {A} view spelt Fits bytes place found = (x : A) (others : List ℕ) → Fits x
+    → drop place bytes ≡ spelt x ++ others → IsFound view x others bytes found
 
 -- Each row begins in an open block, which already has `filled` bytes.
 abbrev pub BeginOpen : ℕ → List Row → Type 0
@@ -29,7 +30,9 @@ pub record AreRows (filled count : ℕ) (rows : List Row) : Type 0 where
 -- The reader finds so many rows of a block with this first key, and puts them after other rows, which have
 -- `filled` bytes.
 abbrev pub FindsLater : {V : Type 0} → (V → List Row) → List ℕ → ℕ → ℕ → List Row → List ℕ → ℕ → Option (V × ℕ) → Type 0
-FindsLater view first filled count before bytes place found = (rows : List Row) (others : List ℕ) → AreRows filled count rows → drop place bytes ≡ flat_map (row_bytes first) rows ++ others → IsFound view (before ++ rows) others bytes found
+FindsLater view first filled count before bytes place found = (rows : List Row) (others : List ℕ)
+    → AreRows filled count rows → drop place bytes ≡ flat_map (row_bytes first) rows ++ others
+    → IsFound view (before ++ rows) others bytes found
 
 -- A block whose rows fit their places. It ends with the row with which it reaches block_bytes. It has at most
 -- 512 rows, since each has a size of at least 8 bytes.
@@ -48,15 +51,19 @@ joined_rows cut = flat_map (λ rows. rows) cut
 -- The reader finds so many blocks, whose headers and rows begin at two places, and puts their rows after
 -- other rows.
 abbrev pub FindsBlocks : {V : Type 0} → (V → List Row) → ℕ → List Row → List ℕ → ℕ → ℕ → Option (V × ℕ) → Type 0
-FindsBlocks view count before bytes header place found = (cut : List (List Row)) (after others : List ℕ) → AreBlocks count cut
-    → drop header bytes ≡ flat_map header_bytes cut ++ after → drop place bytes ≡ flat_map rows_bytes cut ++ others → IsFound view (before ++ joined_rows cut) others bytes found
+FindsBlocks view count before bytes header place found = (cut : List (List Row)) (after others : List ℕ)
+    → AreBlocks count cut
+    → drop header bytes ≡ flat_map header_bytes cut ++ after → drop place bytes ≡ flat_map rows_bytes cut ++ others
+    → IsFound view (before ++ joined_rows cut) others bytes found
 
 -- The reader finds the rows of the blocks that are written in the bytes.
 abbrev pub FindsAll : {V : Type 0} → (V → List Row) → List ℕ → Option V → Type 0
 FindsAll view bytes None = (cut : List (List Row)) → AllByRecursion IsBlock cut → bytes ≢ bytes_of_blocks cut
-FindsAll view bytes (Some rows) = (cut : List (List Row)) → AllByRecursion IsBlock cut → bytes ≡ bytes_of_blocks cut → view rows ≡ joined_rows cut
+FindsAll view bytes (Some rows) = (cut : List (List Row)) → AllByRecursion IsBlock cut
+    → bytes ≡ bytes_of_blocks cut → view rows ≡ joined_rows cut
 
 -- What was read of all bytes: the value that is spelt so, or nothing where no value is.
-pub record Reads {A V : Type 0} (view : V → A) (spelt : A → List ℕ) (Fits : A → Type 0) (bytes : List ℕ) (found : Option V) : Type 0 where
+pub record Reads {A V : Type 0} (view : V → A) (spelt : A → List ℕ) (Fits : A → Type 0) (bytes : List ℕ)
+    (found : Option V) : Type 0 where
   pub spelt_so : IfSome found (λ v. Fits (view v) × (bytes ≡ spelt (view v)))
   pub only : (x : A) → Fits x → bytes ≡ spelt x → option_map view found ≡ Some x

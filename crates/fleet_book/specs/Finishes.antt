@@ -36,7 +36,8 @@ merged_segment own s = (s.0, merged_tree (tree_in s.0 own) s.1)
 
 -- The contents of a stored manifest, with the trees that the coordinator makes of its own and the stored ones.
 abbrev pub merged_core : ManifestCore → ManifestCore → ManifestCore
-merged_core own stored = record stored { tree = from_writer own.tree stored.tree; segments = map (merged_segment own) stored.segments }
+merged_core own stored =
+    record stored { tree = from_writer own.tree stored.tree; segments = map (merged_segment own) stored.segments }
 
 -- The manifest with these contents, at the same version and epoch.
 abbrev pub with_core : ManifestCore → VersionedManifest → VersionedManifest
@@ -76,7 +77,8 @@ id_or mark (Some view) = Some view.id
 -- The watermark of a tree after a job: the newest flush among the sources, or the old watermark if no source is
 -- a flush of the tree.
 abbrev pub mark_after : List SourceId → LsmTreeState → Option ℕ
-mark_after sources tree = id_or tree.last_compacted_l0_sst_view_id (find (λ view. is_named sources (L0 view.id)) tree.l0)
+mark_after sources tree =
+    id_or tree.last_compacted_l0_sst_view_id (find (λ view. is_named sources (L0 view.id)) tree.l0)
 
 -- The tree without the sources, and with the run that was made of them. A drain makes no run.
 abbrev pub finished_tree : List SourceId → Option SortedRun → LsmTreeState → LsmTreeState
@@ -88,7 +90,8 @@ finished_tree sources output tree = record tree {
 
 -- The tree of the segment with this prefix after a job. Only the tree of the job's segment changes.
 abbrev pub tree_after : CompactionSpec → Option SortedRun → List ℕ → LsmTreeState → LsmTreeState
-tree_after spec output prefix tree = if bytes_eq (segment_of spec) prefix then finished_tree (sources_of spec) output tree else tree
+tree_after spec output prefix tree =
+    if bytes_eq (segment_of spec) prefix then finished_tree (sources_of spec) output tree else tree
 
 -- The segment after a job.
 abbrev pub segment_after : CompactionSpec → Option SortedRun → List ℕ × LsmTreeState → List ℕ × LsmTreeState
@@ -101,7 +104,8 @@ run_step false id = Move id
 
 -- The step that finishes a job. A drain drops the sources, whatever the status of its job is.
 abbrev pub step_of : JobParts → Step
-step_of job = if is_drain (spec_of job.spec) then Drain job.id else run_step (status_eq Compacted (status_of job.status)) job.id
+step_of job = if is_drain (spec_of job.spec) then Drain job.id
+    else run_step (status_eq Compacted (status_of job.status)) job.id
 
 -- The horizon after a job, as the model has it.
 abbrev pub horizon_by : JobParts → ManifestCore → ℕ

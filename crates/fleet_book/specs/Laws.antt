@@ -1,5 +1,5 @@
--- Laws: what a coordinator makes of its jobs and its trees is what the model makes of them, and what merges and trims of
--- jobs keep.
+-- Laws: what a coordinator makes of its jobs and its trees is what the model makes of them, and what merges
+-- and trims of jobs keep.
 use Rattle.std.specs.Prelude.{◌≡◌, ℕ, ◌<◌, ◌==◌, true, false, not, List, [], ◌∷◌, ◌++◌, filter, flat_map, map, Some, None, bytes_eq}
 use Rattle.std.specs.List.{AllByRecursion}
 use Rattle.std.specs.List.Sorted.{IsStrictlySortedBy}
@@ -37,45 +37,56 @@ use Rattle.fleet_book.specs.States.{merged_jobs}
 -- A drain changes the trees as the model's drain does.
 abbrev pub DrainsAreTheModels : Type 0
 DrainsAreTheModels = (flushes : RunFlushes) (tables : Tables) (outputs : List ℕ) (job : JobParts) (core : ManifestCore)
-    → trees_of flushes (core_after job None core) ≡ stepped_in tables (Drain job.id) (spec_of job.spec) outputs (trees_of flushes core)
+    → trees_of flushes (core_after job None core)
+    ≡ stepped_in tables (Drain job.id) (spec_of job.spec) outputs (trees_of flushes core)
 
 -- In the job's segment, all flushes that went into the sources are in the run that was made. Each other run of this
 -- segment has the flushes that it had.
-pub record FlushesFollow (before after : RunFlushes) (spec : CompactionSpec) (made : ℕ) (s : List ℕ × LsmTreeState) : Type 0 where
-  pub gathered : bytes_eq (segment_of spec) s.0 ≡ true → after s.0 made ≡ flat_map (λ node. node.flushes) (source_nodes (names_of spec) (tree_of (before s.0) s.1))
+pub record FlushesFollow (before after : RunFlushes) (spec : CompactionSpec) (made : ℕ)
+    (s : List ℕ × LsmTreeState) : Type 0 where
+  pub gathered : bytes_eq (segment_of spec) s.0 ≡ true
+      → after s.0 made ≡ flat_map (λ node. node.flushes) (source_nodes (names_of spec) (tree_of (before s.0) s.1))
   pub kept : AllByRecursion (λ run. after s.0 run.id ≡ before s.0 run.id) (tree_after spec None s.0 s.1).compacted
 
 -- The flushes that went into runs are as the job leaves them, in each segment.
 abbrev pub FlushesFollowIn : (before after : RunFlushes) → CompactionSpec → ℕ → ManifestCore → Type 0
-FlushesFollowIn before after spec made core = AllByRecursion (FlushesFollow before after spec made) (trees_with_prefix core)
+FlushesFollowIn before after spec made core =
+    AllByRecursion (FlushesFollow before after spec made) (trees_with_prefix core)
 
 -- A job that makes a run of these tables changes the trees as the model's join of these tables does.
 abbrev pub JoinsAreTheModels : Type 0
-JoinsAreTheModels = (before after : RunFlushes) (tables : Tables) (job : JobParts) (output : SortedRun) (core : ManifestCore)
+JoinsAreTheModels =
+    (before after : RunFlushes) (tables : Tables) (job : JobParts) (output : SortedRun) (core : ManifestCore)
     → destination_of job.spec ≡ Some output.id → FlushesFollowIn before after job.spec output.id core
-    → trees_of after (core_after job (Some output) core) ≡ stepped_in tables (Join job.id) (spec_of job.spec) (view_tables output.views) (trees_of before core)
+    → trees_of after (core_after job (Some output) core)
+    ≡ stepped_in tables (Join job.id) (spec_of job.spec) (view_tables output.views) (trees_of before core)
 
 -- In the job's segment, the tables are those of the sources by rising first key.
 abbrev pub AreMoved : RunFlushes → Tables → CompactionSpec → List View → List ℕ × LsmTreeState → Type 0
-AreMoved flushes tables spec views s = bytes_eq (segment_of spec) s.0 ≡ true → view_tables views ≡ by_first_key tables (source_pieces (names_of spec) (tree_of (flushes s.0) s.1))
+AreMoved flushes tables spec views s = bytes_eq (segment_of spec) s.0 ≡ true
+    → view_tables views ≡ by_first_key tables (source_pieces (names_of spec) (tree_of (flushes s.0) s.1))
 
 -- A job that makes a run of the tables of its sources changes the trees as the model's move does.
 abbrev pub MovesAreTheModels : Type 0
-MovesAreTheModels = (before after : RunFlushes) (tables : Tables) (outputs : List ℕ) (job : JobParts) (output : SortedRun) (core : ManifestCore)
+MovesAreTheModels = (before after : RunFlushes) (tables : Tables) (outputs : List ℕ) (job : JobParts)
+    (output : SortedRun) (core : ManifestCore)
     → destination_of job.spec ≡ Some output.id → FlushesFollowIn before after job.spec output.id core
     → AllByRecursion (AreMoved before tables job.spec output.views) (trees_with_prefix core)
-    → trees_of after (core_after job (Some output) core) ≡ stepped_in tables (Move job.id) (spec_of job.spec) outputs (trees_of before core)
+    → trees_of after (core_after job (Some output) core)
+    ≡ stepped_in tables (Move job.id) (spec_of job.spec) outputs (trees_of before core)
 
 -- A job that is finished with the run that `trivial_move_output` gives changes the trees as the model's move does. The
 -- prefixes of segments rise, and the job names its flushes before its runs.
 abbrev pub TrivialMovesAreTheModels : Type 0
-TrivialMovesAreTheModels = (before after : RunFlushes) (tables : Tables) (outputs : List ℕ) (job : JobParts) (output : SortedRun) (core : ManifestCore)
+TrivialMovesAreTheModels = (before after : RunFlushes) (tables : Tables) (outputs : List ℕ) (job : JobParts)
+    (output : SortedRun) (core : ManifestCore)
     → IsStrictlySortedBy key_cmp (map (λ s. s.0) (trees_with_prefix core))
     → names_of job.spec ≡ l0_names job.spec ++ run_names job.spec
     → KeysFit tables (taken_tables job.spec core)
     → moved_run (destination_of job.spec) (taken_tables job.spec core) ≡ Some output
     → FlushesFollowIn before after job.spec output.id core
-    → trees_of after (core_after job (Some output) core) ≡ stepped_in tables (Move job.id) (spec_of job.spec) outputs (trees_of before core)
+    → trees_of after (core_after job (Some output) core)
+    ≡ stepped_in tables (Move job.id) (spec_of job.spec) outputs (trees_of before core)
 
 -- The ids of the runs fall.
 abbrev pub RunsFall : List SortedRun → Type 0
@@ -86,7 +97,8 @@ RunsFall runs = Pairs (λ a b. b.id < a.id) runs
 pub record RunsStay (sources : List SourceId) (output : SortedRun) (before after : List SortedRun) : Type 0 where
   pub fall : RunsFall after
   pub made : run_with (Some output.id) after ≡ Some output
-  pub others : (id : ℕ) → (output.id == id) ≡ false → run_with (Some id) after ≡ run_with (Some id) (kept_runs sources before)
+  pub others : (id : ℕ) → (output.id == id) ≡ false
+      → run_with (Some id) after ≡ run_with (Some id) (kept_runs sources before)
 
 -- The runs of the tree of the job's segment.
 abbrev pub runs_for : CompactionSpec → ManifestCore → List SortedRun
@@ -96,7 +108,8 @@ runs_for spec core = runs_in (tree_in (segment_of spec) core)
 abbrev pub FinishedRunsStay : Type 0
 FinishedRunsStay = (job : JobParts) (output : SortedRun) (core : ManifestCore)
     → destination_of job.spec ≡ Some output.id → sources_stand job.spec core ≡ true → RunsFall (runs_for job.spec core)
-    → RunsStay (sources_of job.spec) output (runs_for job.spec core) (runs_for job.spec (core_after job (Some output) core))
+    → RunsStay (sources_of job.spec) output (runs_for job.spec core)
+    (runs_for job.spec (core_after job (Some output) core))
 
 -- If every flush that is older than a source is a source too, the flushes that stay are those that are newer than the
 -- watermark. So a merge with a stored tree brings no source back, and loses no other flush.
@@ -108,7 +121,8 @@ FinishedFlushesStay = (sources : List SourceId) (tree : LsmTreeState)
 
 -- Inserting a job under a new id is the model's insertion.
 abbrev pub NewJobsAreTheModels : Type 0
-NewJobsAreTheModels = (new : JobParts) (jobs : List JobParts) → record_with new.id jobs ≡ None → jobs_of (put_record new jobs) ≡ put_job (job_of new) (jobs_of jobs)
+NewJobsAreTheModels = (new : JobParts) (jobs : List JobParts) → record_with new.id jobs ≡ None
+    → jobs_of (put_record new jobs) ≡ put_job (job_of new) (jobs_of jobs)
 
 -- Inserting what a change of the model makes of a job that is there changes the jobs as the model does.
 abbrev pub ReplacementsAreTheModels : Type 0
@@ -118,7 +132,8 @@ ReplacementsAreTheModels = (change : Job → Job) (old new : JobParts) (jobs : L
 
 -- The model's manifest with the contents of a stored one.
 abbrev pub model_manifest : RunFlushes → VersionedManifest → Manifest
-model_manifest flushes manifest = manifest_of flushes manifest.id manifest.manifest.compactor_epoch manifest.manifest.core
+model_manifest flushes manifest =
+    manifest_of flushes manifest.id manifest.manifest.compactor_epoch manifest.manifest.core
 
 -- A coordinator's manifest after it saw a stored one is the stored one with the trees that the model merges.
 abbrev pub MergedManifestsAreTheModels : Type 0
@@ -129,11 +144,13 @@ MergedManifestsAreTheModels = (flushes : RunFlushes) (own stored : VersionedMani
 
 -- A coordinator's jobs after it saw stored records are the jobs that the model merges.
 abbrev pub MergesAreTheModels : Type 0
-MergesAreTheModels = (own stored : List JobParts) → AreRising own → jobs_of (merged_jobs own stored) ≡ model.merged_jobs (jobs_of own) (jobs_of stored)
+MergesAreTheModels = (own stored : List JobParts) → AreRising own
+    → jobs_of (merged_jobs own stored) ≡ model.merged_jobs (jobs_of own) (jobs_of stored)
 
 -- A coordinator that sees the same stored records again keeps its jobs as they are.
 abbrev pub RepeatedMergesAreIdle : Type 0
-RepeatedMergesAreIdle = (own stored : List JobParts) → AreRising own → AreRising stored → merged_jobs (merged_jobs own stored) stored ≡ merged_jobs own stored
+RepeatedMergesAreIdle = (own stored : List JobParts) → AreRising own → AreRising stored
+    → merged_jobs (merged_jobs own stored) stored ≡ merged_jobs own stored
 
 -- A trim of jobs that are trimmed drops none.
 abbrev pub RepeatedTrimsAreIdle : Type 0

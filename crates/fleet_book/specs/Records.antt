@@ -16,7 +16,8 @@ record_with id jobs = find (λ job. job.id == id) jobs
 -- with a greater id.
 abbrev pub put_record : JobParts → List JobParts → List JobParts
 put_record new [] = new ∷ []
-put_record new (job ∷ jobs) = if nat_lt job.id new.id then job ∷ put_record new jobs else (if job.id == new.id then new ∷ jobs else new ∷ job ∷ jobs)
+put_record new (job ∷ jobs) = if nat_lt job.id new.id then job ∷ put_record new jobs
+    else (if job.id == new.id then new ∷ jobs else new ∷ job ∷ jobs)
 
 -- True if one of the jobs is over.
 abbrev pub over_later : List JobParts → Bool
@@ -26,4 +27,5 @@ over_later (job ∷ jobs) = not (is_open job) || over_later jobs
 -- The jobs that are not over and, of those that are, the one with the greatest id.
 abbrev pub kept_records : List JobParts → List JobParts
 kept_records [] = []
-kept_records (job ∷ jobs) = if is_open job then job ∷ kept_records jobs else (if over_later jobs then kept_records jobs else job ∷ kept_records jobs)
+kept_records (job ∷ jobs) = if is_open job then job ∷ kept_records jobs
+    else (if over_later jobs then kept_records jobs else job ∷ kept_records jobs)

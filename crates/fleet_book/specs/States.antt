@@ -36,4 +36,7 @@ merged_jobs jobs stored = fold with_stored jobs stored
 
 -- The coordinator's records after it saw the stored ones. They have the stored version and its own epoch.
 abbrev pub merged_records : VersionedRecords → VersionedRecords → VersionedRecords
-merged_records own stored = record { id = stored.id; compactions = record own.compactions { jobs = merged_jobs own.compactions.jobs stored.compactions.jobs } }
+merged_records own stored = record {
+  id = stored.id;
+  compactions = record own.compactions { jobs = merged_jobs own.compactions.jobs stored.compactions.jobs };
+}

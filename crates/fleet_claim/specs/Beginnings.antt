@@ -81,7 +81,8 @@ settings_at core options moment spec nodes = record {
 }
 
 -- The attempt is the one at the job that begins under this manifest.
-pub record Begins (release : Release) (options : CompactionWorkerOptions) (moment : ℕ) (core : ManifestCore) (job : JobParts) (a : ClaimedAttempt) : Type 0 where
+pub record Begins (release : Release) (options : CompactionWorkerOptions) (moment : ℕ) (core : ManifestCore)
+    (job : JobParts) (a : ClaimedAttempt) : Type 0 where
   pub can : can_begin core job ≡ true
   pub same : a.job ≡ job.id
   pub next : a.number ≡ job.attempt + 1
@@ -90,7 +91,8 @@ pub record Begins (release : Release) (options : CompactionWorkerOptions) (momen
       (settings_at core options moment job.spec (nodes_at (segment_of job.spec) core)) release job.ctx a.ctx
 
 -- The same, or without an attempt the job cannot start.
-abbrev pub IsBeginning : Release → CompactionWorkerOptions → ℕ → ManifestCore → JobParts → Option ClaimedAttempt → Type 0
+abbrev pub IsBeginning : Release → CompactionWorkerOptions → ℕ → ManifestCore → JobParts
+    → Option ClaimedAttempt → Type 0
 IsBeginning release options moment core job None = can_begin core job ≡ false
 IsBeginning release options moment core job (Some a) = Begins release options moment core job a
 
@@ -111,7 +113,8 @@ released_at job None = job ∷ []
 released_at job (Some a) = []
 
 -- It was added how the job begins.
-pub record Adds (release : Release) (options : CompactionWorkerOptions) (moment : ℕ) (core : ManifestCore) (job : JobParts) (old new : Starts) : Type 0 where
+pub record Adds (release : Release) (options : CompactionWorkerOptions) (moment : ℕ) (core : ManifestCore)
+    (job : JobParts) (old new : Starts) : Type 0 where
   pub found : Option ClaimedAttempt
   pub is : IsBeginning release options moment core job found
   pub more_begun : new.begun.items ≡ old.begun.items ++ option_to_list found
@@ -126,7 +129,8 @@ noted_events notes = map (λ note. event_of (event_of_note note)) notes
 
 -- The attempts, the notes and the released jobs are those of the model's claim of these jobs.
 pub record StartsAre (input : ClaimInput) (jobs : Jobs) (starts : Starts) : Type 0 where
-  pub attempts : map claimed_of starts.begun.items ≡ map (claimed_attempt input) (filter (can_start input.manifest) jobs)
+  pub attempts : map claimed_of starts.begun.items
+      ≡ map (claimed_attempt input) (filter (can_start input.manifest) jobs)
   pub plans : noted_events starts.notes.items ≡ flat_map (plan_of input) (filter (can_start input.manifest) jobs)
   pub others : starts.released.items ≡ ids (filter (λ job. not (can_start input.manifest job)) jobs)
 
@@ -136,7 +140,8 @@ IsShown store a = AllByRecursion (λ part. AllByRecursion (IsDescribed store.tab
 
 -- Over each store whose manifest this is, the jobs begin as in the model, if the release may take them. What their
 -- attempts have noted is described if their records are.
-pub record AreStarts (release : Release) (options : CompactionWorkerOptions) (moment : ℕ) (manifest : VersionedManifest) (jobs : List JobParts) (starts : Starts) : Type 0 where
+pub record AreStarts (release : Release) (options : CompactionWorkerOptions) (moment : ℕ)
+    (manifest : VersionedManifest) (jobs : List JobParts) (starts : Starts) : Type 0 where
   pub model : (store : Store) → IsManifest manifest store → AllByRecursion (λ table. IsTable table.1) store.tables
       → AllByRecursion (λ job. may_take (release_of release) (job_of job) ≡ true) jobs
       → StartsAre (input_of release options moment store) (jobs_of jobs) starts

@@ -19,7 +19,8 @@ is_stopped running job = is_waiting job && contains running job.id
 
 -- The records of the jobs that a worker takes, and the ids of those that it stops.
 abbrev pub taken_records : ℕ → List ℕ → Release → List JobParts → List JobParts
-taken_records slots running release jobs = take (slots - length running) (filter (λ job. is_taken running (release_of release) (job_of job)) jobs)
+taken_records slots running release jobs =
+    take (slots - length running) (filter (λ job. is_taken running (release_of release) (job_of job)) jobs)
 
 abbrev pub stopped_ids : List ℕ → List JobParts → List ℕ
 stopped_ids running jobs = map (λ job. job.id) (filter (λ job. is_stopped running (job_of job)) jobs)

@@ -18,7 +18,8 @@ fresh_parts ranges = map (λ range. record { range = range; output_ssts = [] }) 
 
 -- The context has these settings, and ranges without tables. If the rows of the views are known, these are the ranges
 -- that the model plans for them.
-pub record IsFresh (views : List View) (most : ℕ) (settings : Settings) (release : Release) (context : ContextParts) : Type 0 where
+pub record IsFresh (views : List View) (most : ℕ) (settings : Settings) (release : Release)
+    (context : ContextParts) : Type 0 where
   pub keys : List (Ends (List ℕ))
   pub is : context ≡ context_with (fresh_parts keys) settings release
   pub planned : (rows : View → List Row) → AreOfRows rows views → ranges_of keys ≡ planned_ranges most (map rows views)
@@ -26,4 +27,5 @@ pub record IsFresh (views : List View) (most : ℕ) (settings : Settings) (relea
 -- The context is the published one, as this release keeps it, or a fresh one if none is published.
 abbrev pub IsContext : List View → ℕ → Settings → Release → Option ContextParts → ContextParts → Type 0
 IsContext views most settings release None context = IsFresh views most settings release context
-IsContext views most settings release (Some published) context = context ≡ context_with published.ranges (settings_in published) release
+IsContext views most settings release (Some published) context =
+    context ≡ context_with published.ranges (settings_in published) release

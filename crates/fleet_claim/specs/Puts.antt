@@ -22,7 +22,8 @@ is_named attempts job = list_any (λ a. a.0 == job) attempts
 
 -- The record of a job that is Running with the worker at its next attempt.
 abbrev pub taken : (worker moment : ℕ) → JobParts → JobParts
-taken worker moment job = record (with_status Running job) { worker = worker_at worker moment; attempt = job.attempt + 1 }
+taken worker moment job =
+    record (with_status Running job) { worker = worker_at worker moment; attempt = job.attempt + 1 }
 
 -- The record of the job, claimed if one of these attempts is at it.
 abbrev pub claimed_record : (worker moment : ℕ) → List (ℕ × ℕ) → JobParts → JobParts

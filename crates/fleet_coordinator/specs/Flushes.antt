@@ -46,11 +46,13 @@ ends (Some fault) = BadFlush (fault_of fault)
 
 -- The model's flush.
 abbrev pub ask_of : own.FlushAsk → FlushAsk
-ask_of ask = record { name = ask.name; segment = ask.segment; floor = ask.floor; tick = ask.tick; rows = rows_of ask.rows }
+ask_of ask =
+    record { name = ask.name; segment = ask.segment; floor = ask.floor; tick = ask.tick; rows = rows_of ask.rows }
 
 -- The same, once its table is made.
 abbrev pub asked_of : MadeFlush → FlushAsk
-asked_of flush = record { name = flush.name; segment = flush.segment; floor = flush.floor; tick = flush.tick; rows = flush.table }
+asked_of flush =
+    record { name = flush.name; segment = flush.segment; floor = flush.floor; tick = flush.tick; rows = flush.table }
 
 -- The flush has rows, and keeps the least and the greatest sequence of them.
 pub record HasSeqs (flush : MadeFlush) : Type 0 where
@@ -76,10 +78,12 @@ MayPutOnce view ask false = MayCall view (λ met. PutsTable ask.name ask.rows)
 -- The table was put, unless it was put already or memory ran out first.
 abbrev pub PutsOnce : (old new : StoreView) → FlushAsk → (is_put : Bool) → Result Unit SlateDBError → Type 0
 PutsOnce old new ask true result = (new ≡ old) × (result ≡ Ok tt)
-PutsOnce old new ask false result = PutsTableRows old new ask.name ask.rows result ⊎ ((new ≡ old) × (result ≡ Err Memory))
+PutsOnce old new ask false result =
+    PutsTableRows old new ask.name ask.rows result ⊎ ((new ≡ old) × (result ≡ Err Memory))
 
 -- The put of the manifest brings the flush to the manifest that was got.
-pub record IsFlushPut (moment retention : ℕ) (got : VersionedManifest) (flush : MadeFlush) (version : ℕ) (value : Manifest) : Type 0 where
+pub record IsFlushPut (moment retention : ℕ) (got : VersionedManifest) (flush : MadeFlush) (version : ℕ)
+    (value : Manifest) : Type 0 where
   pub at : version ≡ got.id
   pub epoch : value.compactor_epoch ≡ got.manifest.compactor_epoch
   pub view : View

@@ -35,4 +35,5 @@ pub record IsStartPut (got : VersionedManifest) (records : Option VersionedRecor
 
 -- The coordinator that calls the store fits it with this epoch, and holds no local state.
 abbrev pub HasStarted : StoreView → ℕ → Type 0
-HasStarted view epoch = (number : ℕ) → view.who.party ≡ Coordinator number → CoordinatorHolds view.world (record { number = number; epoch = epoch }) None
+HasStarted view epoch = (number : ℕ) → view.who.party ≡ Coordinator number
+    → CoordinatorHolds view.world (record { number = number; epoch = epoch }) None

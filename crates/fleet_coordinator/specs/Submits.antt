@@ -42,16 +42,19 @@ pub record AddsJobs (old new : Compactions) (named : List (ℕ × CompactionSpec
 
 -- The put is over these records. It adds jobs of these specs, with these ids, and describes only tables that the
 -- records describe.
-pub record IsSubmitPut (got : VersionedRecords) (ids : List ℕ) (specs : List CompactionSpec) (put : SubmitPut) : Type 0 where
+pub record IsSubmitPut (got : VersionedRecords) (ids : List ℕ) (specs : List CompactionSpec)
+    (put : SubmitPut) : Type 0 where
   pub at : put.version ≡ got.id
   pub why : record_change_of put.why ≡ Submit (zip ids (map spec_of specs))
   pub epoch : put.value.compactor_epoch ≡ got.compactions.compactor_epoch
-  pub jobs : jobs_of put.value.jobs ≡ trimmed_jobs (with_new (zip ids (map spec_of specs)) (jobs_of got.compactions.jobs))
+  pub jobs : jobs_of put.value.jobs
+      ≡ trimmed_jobs (with_new (zip ids (map spec_of specs)) (jobs_of got.compactions.jobs))
   pub described : (store : Store) → DescribeTables got.compactions.jobs store → DescribeTables put.value.jobs store
 
 -- The submitter may submit jobs of these specs over records that it got: it calls a store that meets the invariant,
 -- each job of the records was named there, their tables are described there, and the submission is a lawful course.
-pub record MaySubmit (view : StoreView) (moment : ℕ) (got : VersionedRecords) (specs : List CompactionSpec) : Type 0 where
+pub record MaySubmit (view : StoreView) (moment : ℕ) (got : VersionedRecords)
+    (specs : List CompactionSpec) : Type 0 where
   pub keeps : Keeps view.who.merge view.world
   pub named : AllByRecursion (λ job. IsTrue (was_named view.world.store.history job.id)) (jobs_of got.compactions.jobs)
   pub described : DescribeTables got.compactions.jobs view.world.store

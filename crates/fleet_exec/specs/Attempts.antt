@@ -12,4 +12,5 @@ pub record FollowJobs (attempt_of : ActiveParts → Attempt) (jobs : List Active
 
 -- If an attempt has the id of its job, the attempts follow the jobs.
 abbrev pub AttemptsFollowJobs : Type 0
-AttemptsFollowJobs = (attempt_of : ActiveParts → Attempt) → ((job : ActiveParts) → (attempt_of job).job ≡ job.args.id) → (jobs : List ActiveParts) → FollowJobs attempt_of jobs
+AttemptsFollowJobs = (attempt_of : ActiveParts → Attempt) → ((job : ActiveParts) → (attempt_of job).job ≡ job.args.id)
+    → (jobs : List ActiveParts) → FollowJobs attempt_of jobs

@@ -29,8 +29,10 @@ before_tables (r ∷ rows) tables = (r ∷ rows) ∷ tables
 
 -- The next table is taken. It is the first of the tables into which the rows left are cut. It is empty only
 -- if the iterator is whole.
-pub record TakesTable (size : ℕ) (cursor : Option Cursor) (old : IteratorState) (table : List RowEntry) (new : IteratorState) : Type 0 where
-  pub tables : cut_tables size (left_after cursor old.rows) ≡ before_tables (rows_of table) (cut_tables size (left_after cursor new.rows))
+pub record TakesTable (size : ℕ) (cursor : Option Cursor) (old : IteratorState) (table : List RowEntry)
+    (new : IteratorState) : Type 0 where
+  pub tables : cut_tables size (left_after cursor old.rows)
+      ≡ before_tables (rows_of table) (cut_tables size (left_after cursor new.rows))
   pub reads : ReadsOn old new
   pub ends : table ≡ [] → old.whole ≡ true
 
@@ -73,7 +75,8 @@ first_refusal (Err e ∷ answers) = Some e
 
 -- No fold refuses in any of the ranges, and these are the tables of what is left of each range, cut at
 -- `size`.
-pub record AreFinished (merge : Operator) (sources : Sources) (size : ℕ) (jobs : List RangeJob) (ranges : List Tables) : Type 0 where
+pub record AreFinished (merge : Operator) (sources : Sources) (size : ℕ) (jobs : List RangeJob)
+    (ranges : List Tables) : Type 0 where
   pub cut : ranges ≡ map (λ job. cut_tables size (made_of merge sources job).rows) jobs
   pub whole : AllByRecursion (λ job. (made_of merge sources job).whole ≡ true) jobs
 

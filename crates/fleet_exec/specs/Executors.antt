@@ -64,7 +64,8 @@ pub record IsSound (executor : ExecutorParts) : Type 0 where
 
 -- The settings of a job that starts with these arguments and this floor.
 abbrev pub settings_with : ℕ → StartCompactionJobArgs → Settings
-settings_with floor args = record { floor = floor; tick = args.compaction_clock_tick; last_run = args.is_dest_last_run; cut = args.cut }
+settings_with floor args =
+    record { floor = floor; tick = args.compaction_clock_tick; last_run = args.is_dest_last_run; cut = args.cut }
 
 -- The ranges are planned for these tables: they are cut at the tables' anchors and, if the tables' rows are
 -- known, they are the ranges that the model plans for them. There are at most so many, where 0 counts as 1.
@@ -116,4 +117,5 @@ longer_part table part = record part { output_ssts = part.output_ssts ++ table �
 
 -- The job with this table at the end of the list of a range, counted from 1.
 abbrev pub with_table : ℕ → SsTableHandle → ActiveParts → ActiveParts
-with_table range table job = record job { ctx = record job.ctx { ranges = changed_at (range - 1) (longer_part table) job.ctx.ranges } }
+with_table range table job =
+    record job { ctx = record job.ctx { ranges = changed_at (range - 1) (longer_part table) job.ctx.ranges } }

@@ -45,7 +45,8 @@ made_of merge sources job = left_of merge (settings_of job.settings) (range_of j
 
 -- An iterator for each source over its rows in the range.
 abbrev pub opened_states : Range → Sources → List IteratorState
-opened_states range sources = map (λ tables. state_of (record { left = rows_of_tables range tables; broken = false })) sources
+opened_states range sources =
+    map (λ tables. state_of (record { left = rows_of_tables range tables; broken = false })) sources
 
 -- The rows from the cursor's key on. Without a cursor these are all rows.
 abbrev pub from_cursor : Option Cursor → List Row → List Row

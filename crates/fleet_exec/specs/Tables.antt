@@ -32,16 +32,20 @@ GivesTable made most (Some table) = IsNextTable made most table
 -- A fold refuses in what is made, and `e` is what the operator answered. Take any key below which no fold
 -- refuses, and any row that is read whose key is below it. Then a job makes of the keys below this row's key
 -- fewer than `most` rows that are left.
-pub record RefusesTable (merge : Operator) (settings : Settings) (cursor : Option Cursor) (rows : List Row) (made : JobRows) (most : ℕ) (e : SlateDBError) : Type 0 where
+pub record RefusesTable (merge : Operator) (settings : Settings) (cursor : Option Cursor) (rows : List Row)
+    (made : JobRows) (most : ℕ) (e : SlateDBError) : Type 0 where
   pub refused : made.whole ≡ false
   pub operator : IsOfOperator merge rows e
   pub early : (key : List ℕ) → (job_rows merge settings (filter (is_below key) rows)).whole ≡ true
-      → AllByRecursion (λ r. is_below key r ≡ true → length (left_after cursor (job_rows merge settings (filter (is_below r.key) rows)).rows) < most) rows
+      → AllByRecursion (λ r. is_below key r ≡ true
+      → length (left_after cursor (job_rows merge settings (filter (is_below r.key) rows)).rows) < most) rows
 
 -- If the error is not out of memory, the table is refused as `RefusesTable` says.
 abbrev pub RefusesTableUnless : Operator → Settings → Option Cursor → List Row → JobRows → ℕ → SlateDBError → Type 0
-RefusesTableUnless merge settings cursor rows made most e = e ≢ Memory → RefusesTable merge settings cursor rows made most e
+RefusesTableUnless merge settings cursor rows made most e =
+    e ≢ Memory → RefusesTable merge settings cursor rows made most e
 
 -- If the error is not out of memory, the next table of this range of a job is refused as `RefusesTable` says.
 abbrev pub RefusesJobTable : Operator → Sources → RangeJob → ℕ → SlateDBError → Type 0
-RefusesJobTable merge sources job most e = RefusesTableUnless merge (settings_of job.settings) job.cursor (rows_read sources job) (made_of merge sources job) most e
+RefusesJobTable merge sources job most e = RefusesTableUnless merge (settings_of job.settings) job.cursor
+    (rows_read sources job) (made_of merge sources job) most e

@@ -28,7 +28,8 @@ pub record ReadsOn (old new : IteratorState) : Type 0 where
 
 -- The first rows that are left are taken, at most `most`. If they are fewer than `most`, no row is left and
 -- the iterator is whole.
-pub record Takes (most : ℕ) (cursor : Option Cursor) (old : IteratorState) (taken : List RowEntry) (new : IteratorState) : Type 0 where
+pub record Takes (most : ℕ) (cursor : Option Cursor) (old : IteratorState) (taken : List RowEntry)
+    (new : IteratorState) : Type 0 where
   pub rows : left_after cursor old.rows ≡ rows_of taken ++ left_after cursor new.rows
   pub few : length taken ≤ most
   pub reads : ReadsOn old new
@@ -38,4 +39,5 @@ pub record Takes (most : ℕ) (cursor : Option Cursor) (old : IteratorState) (ta
 -- is that refusal. Fewer than `most` rows are then left before it.
 pub record RefusesTaking (most : ℕ) (cursor : Option Cursor) (old : IteratorState) (e : SlateDBError) : Type 0 where
   pub cause : CanFail old.whole e
-  pub known : (after : SlateDBError) → old.refusal ≡ Some after → e ≢ Memory → (length (left_after cursor old.rows) < most) × (e ≡ after)
+  pub known : (after : SlateDBError) → old.refusal ≡ Some after → e ≢ Memory
+      → (length (left_after cursor old.rows) < most) × (e ≡ after)

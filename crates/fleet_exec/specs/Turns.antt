@@ -30,7 +30,8 @@ AreTaken merge settings range sources cursor [] [] = ⊤
 AreTaken merge settings range sources cursor [] (table ∷ tables) = ⊥
 AreTaken merge settings range sources cursor (most ∷ sizes) [] = ⊥
 AreTaken merge settings range sources cursor (most ∷ sizes) (table ∷ tables) =
-    IsNextTable (left_of merge settings range cursor sources) most table × AreTaken merge settings range sources (cursor_after cursor (rows_of table)) sizes tables
+    IsNextTable (left_of merge settings range cursor sources) most table
+    × AreTaken merge settings range sources (cursor_after cursor (rows_of table)) sizes tables
 
 -- The rows of tables, one table after the other.
 abbrev pub rows_of_all : List (List RowEntry) → List Row
@@ -39,7 +40,8 @@ rows_of_all tables = flat_map rows_of tables
 -- Tables that are taken from the start of a range have the first rows of what a job makes of it. They have as
 -- many rows as were asked for in all, or all rows if there are fewer.
 abbrev pub TakenAreFirst : Operator → Type 0
-TakenAreFirst merge = (settings : Settings) (range : Range) (sources : Sources) (sizes : List ℕ) (tables : List (List RowEntry)) → AreSources sources
+TakenAreFirst merge = (settings : Settings) (range : Range) (sources : Sources) (sizes : List ℕ)
+    (tables : List (List RowEntry)) → AreSources sources
     → AreTaken merge settings range sources None sizes tables
     → rows_of_all tables ≡ take (sum sizes) (job_rows merge settings (rows_in range (all_rows sources))).rows
 
@@ -55,7 +57,8 @@ pub record RangeTurns : Type 0 where
 -- Calls gave the taken tables from the start of the range, and finished all that was left after them.
 pub record AreMade (merge : Operator) (settings : Settings) (sources : Sources) (turns : RangeTurns) : Type 0 where
   pub begin : AreTaken merge settings turns.range sources None turns.sizes turns.taken
-  pub end : IsFinished turns.cut_size (left_of merge settings turns.range (cursor_after None (rows_of_all turns.taken)) sources) turns.finished
+  pub end : IsFinished turns.cut_size
+      (left_of merge settings turns.range (cursor_after None (rows_of_all turns.taken)) sources) turns.finished
 
 -- The rows of the taken tables, followed by the rows of the finished tables.
 abbrev pub made_rows : RangeTurns → List Row
@@ -96,18 +99,27 @@ pub record IsBegun (merge : Operator) (settings : Settings) (sources : Sources) 
 -- A begun range together with the tables in which a call finishes it. The call cuts tables at this size.
 abbrev pub finished_at : Operator → Sources → ℕ → BegunRange → RangeTurns
 finished_at merge sources size begun =
-    record { range = range_of begun.job.range; sizes = begun.sizes; taken = begun.taken; cut_size = size; finished = cut_tables size (made_of merge sources begun.job).rows }
+    record {
+      range = range_of begun.job.range;
+      sizes = begun.sizes;
+      taken = begun.taken;
+      cut_size = size;
+      finished = cut_tables size (made_of merge sources begun.job).rows;
+    }
 
 -- The call gave the tables in which it finished each range. The rows taken and the rows finished, one range
 -- after the other, are all that the job makes, and no fold refuses.
-pub record FinishedMakeJob (merge : Operator) (settings : Settings) (sources : Sources) (size : ℕ) (begun : List BegunRange) (ranges : List Tables) : Type 0 where
+pub record FinishedMakeJob (merge : Operator) (settings : Settings) (sources : Sources) (size : ℕ)
+    (begun : List BegunRange) (ranges : List Tables) : Type 0 where
   pub given : ranges ≡ map (λ turns. turns.finished) (map (finished_at merge sources size) begun)
-  pub all : job_rows merge settings (all_rows sources) ≡ record { rows = flat_map made_rows (map (finished_at merge sources size) begun); whole = true }
+  pub all : job_rows merge settings (all_rows sources)
+      ≡ record { rows = flat_map made_rows (map (finished_at merge sources size) begun); whole = true }
 
 -- Let begun ranges follow each other and have every key, and let one call finish them. Then the rows taken
 -- and the rows finished are all that the job makes.
 abbrev pub FinishMakesJob : Operator → Type 0
-FinishMakesJob merge = (settings : Settings) (sources : Sources) (size : ℕ) (begun : List BegunRange) (ranges : List Tables) → AreSources sources
+FinishMakesJob merge = (settings : Settings) (sources : Sources) (size : ℕ) (begun : List BegunRange)
+    (ranges : List Tables) → AreSources sources
     → AreCut (map (λ b. range_of b.job.range) begun)
     → AllByRecursion (IsBegun merge settings sources) begun
     → AreFinished merge sources size (map (λ b. b.job) begun) ranges

@@ -53,10 +53,12 @@ AreShown outputs store = AllByRecursion (λ tables. AllByRecursion (IsDescribed 
 pub record EndsRecords (attempt : EndedAttempt) (outputs : Outputs) (old new : Compactions) : Type 0 where
   pub jobs : jobs_of new.jobs ≡ jobs_after (unrecorded_of attempt) (change_of attempt outputs) (jobs_of old.jobs)
   pub epoch : new.compactor_epoch ≡ old.compactor_epoch
-  pub described : (store : Store) → AreShown outputs store → DescribeTables old.jobs store → DescribeTables new.jobs store
+  pub described : (store : Store) → AreShown outputs store → DescribeTables old.jobs store
+      → DescribeTables new.jobs store
 
 -- The put ends the attempt with these tables.
-pub record IsFinishPut (attempt : EndedAttempt) (outputs : Outputs) (got : VersionedRecords) (put : FinishPut) : Type 0 where
+pub record IsFinishPut (attempt : EndedAttempt) (outputs : Outputs) (got : VersionedRecords)
+    (put : FinishPut) : Type 0 where
   pub at : put.version ≡ got.id
   pub why : record_change_of put.why ≡ change_of attempt outputs
   pub made : EndsRecords attempt outputs got.compactions put.value

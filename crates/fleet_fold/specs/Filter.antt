@@ -35,7 +35,8 @@ pub record GoesOn (r : Row) (old : Answers) (closing : Closing) (new : Answers) 
 
 -- The row with another value. It keeps key, sequence and stamps, but a tombstone has no expiry.
 abbrev pub modified_row : ValueDeletable → Row → Row
-modified_row value r = record r { content = content_of value; expires = if is_tombstone (content_of value) then None else r.expires }
+modified_row value r =
+    record r { content = content_of value; expires = if is_tombstone (content_of value) then None else r.expires }
 
 abbrev pub decided_rows : CompactionFilterDecision → Row → List Row
 decided_rows Keep r = r ∷ []
@@ -54,7 +55,8 @@ before_refused (Err e) r later = record { rows = []; end = Err e }
 
 abbrev pub filtered_rows : Answers → Closing → List Row → Filtered
 filtered_rows answers closing [] = record { rows = []; end = closing [] }
-filtered_rows answers closing (r ∷ rows) = before_refused (answers [] r) r (filtered_rows (λ seen. answers (r ∷ seen)) (λ seen. closing (r ∷ seen)) rows)
+filtered_rows answers closing (r ∷ rows) =
+    before_refused (answers [] r) r (filtered_rows (λ seen. answers (r ∷ seen)) (λ seen. closing (r ∷ seen)) rows)
 
 -- Whether the filter refuses no row and can be closed.
 abbrev pub ends_well : Filtered → Bool
@@ -62,15 +64,30 @@ ends_well f = is_ok f.end
 
 -- The state of a filtered iterator. If the filter was closed, no row is left.
 abbrev pub filtering : Option SlateDBError → Bool → Answers → Closing → IteratorState → IteratorState
-filtering failure true answers closing inner = record { rows = []; initialised = inner.initialised; failure = failure; whole = true; steady = false; refusal = None }
+filtering failure true answers closing inner = record {
+  rows = [];
+  initialised = inner.initialised;
+  failure = failure;
+  whole = true;
+  steady = false;
+  refusal = None;
+}
 filtering failure false answers closing inner =
     let f = filtered_rows answers closing inner.rows in
-    record { rows = f.rows; initialised = inner.initialised; failure = failure; whole = inner.whole && ends_well f; steady = false; refusal = None }
+    record {
+      rows = f.rows;
+      initialised = inner.initialised;
+      failure = failure;
+      whole = inner.whole && ends_well f;
+      steady = false;
+      refusal = None;
+    }
 
 -- The call gives the next row that the filter leaves, or it closes the filter at the end of the rows.
 abbrev pub Gives : Filtered → Bool → Option RowEntry → Filtered → Bool → IteratorState → Type 0
 Gives old whole None new closed inner = (old.rows ≡ []) × (old.end ≡ Ok tt) × (whole ≡ true) × (closed ≡ true)
-Gives old whole (Some row) new closed inner = (old ≡ record new { rows = row_of row ∷ new.rows }) × (inner.whole ≡ whole) × (closed ≡ false)
+Gives old whole (Some row) new closed inner =
+    (old ≡ record new { rows = row_of row ∷ new.rows }) × (inner.whole ≡ whole) × (closed ≡ false)
 
 -- The filter leaves no row before it refuses, and the error is the one with which it refuses.
 pub record IsFiltersRefusal (stated : Filtered) (e : SlateDBError) : Type 0 where
@@ -81,9 +98,11 @@ pub record IsFiltersRefusal (stated : Filtered) (e : SlateDBError) : Type 0 wher
 
 -- What a call answers if the inner iterator does not fail in it. It answers the filter's error exactly if the
 -- filter leaves no row before that error. It may answer `Memory` instead.
-pub record Refuses {A : Type 0} (stated : Filtered) (inner : IteratorState) (answer : Result A SlateDBError) : Type 0 where
+pub record Refuses {A : Type 0} (stated : Filtered) (inner : IteratorState)
+    (answer : Result A SlateDBError) : Type 0 where
   pub cause : (e : SlateDBError) → answer ≡ Err e → inner.failure ≡ None → e ≢ Memory → IsFiltersRefusal stated e
-  pub comes : (e : CompactionFilterError) → stated.rows ≡ [] → stated.end ≡ Err e → inner.failure ≡ None → answer ≢ Err Memory → answer ≡ Err (raised_by_filter e)
+  pub comes : (e : CompactionFilterError) → stated.rows ≡ [] → stated.end ≡ Err e → inner.failure ≡ None
+      → answer ≢ Err Memory → answer ≡ Err (raised_by_filter e)
 
 -- What holds inside a filtered iterator until a call fails it.
 pub record Knows (ended is_closed : Bool) (inner : IteratorState) : Type 0 where
@@ -98,7 +117,8 @@ KnowsUnlessFailed None ended is_closed inner = Knows ended is_closed inner
 
 -- What a seek leaves. If the filter was closed, no row is left. Otherwise the filter is shown the rows that
 -- the seek leaves of the inner iterator, and not the rows that it drops.
-pub record SeeksFiltered (sought : List ℕ → IteratorState → Type 0) (ended : Bool) (answers : Answers) (closing : Closing) (inner : IteratorState) (key : List ℕ) (new : IteratorState) : Type 0 where
+pub record SeeksFiltered (sought : List ℕ → IteratorState → Type 0) (ended : Bool) (answers : Answers)
+    (closing : Closing) (inner : IteratorState) (key : List ℕ) (new : IteratorState) : Type 0 where
   pub stays : ended ≡ true → new ≡ filtering None true answers closing inner
   pub goes_on : ended ≡ false → SoughtThrough sought (filtering None false answers closing) inner key new
 
@@ -106,6 +126,8 @@ pub record SeeksFiltered (sought : List ℕ → IteratorState → Type 0) (ended
 -- These include rows of that key that are written already. Of what the filter leaves, the first rows that are
 -- written already are dropped.
 abbrev pub FiltersSeeTheKey : Type 0
-FiltersSeeTheKey = (answers : Answers) (closing : Closing) (inner left new : IteratorState) (cursor : Cursor) → Moves true cursor.0 inner left
-    → new ≡ record (filtering None false answers closing left) { rows = without_first (is_written cursor) (filtering None false answers closing left).rows }
+FiltersSeeTheKey = (answers : Answers) (closing : Closing) (inner left new : IteratorState) (cursor : Cursor)
+    → Moves true cursor.0 inner left
+    → new ≡ record (filtering None false answers closing left)
+    { rows = without_first (is_written cursor) (filtering None false answers closing left).rows }
     → new.rows ≡ without_first (is_written cursor) (filtered_rows answers closing (from_key cursor.0 inner.rows)).rows

@@ -25,13 +25,15 @@ opens rule r = is_operand r && is_within rule.snapshot_barrier_seq r.seq
 -- Whether a row belongs to the group with this key and expiry. It has the key, and the same expiry unless the
 -- rule merges different ones.
 abbrev pub same_group : GroupRule → List ℕ → Option ℤ → Row → Bool
-same_group rule key stamp q = bytes_eq key q.key && (if rule.merge_different_expire_ts then true else same_stamp stamp q.expires)
+same_group rule key stamp q =
+    bytes_eq key q.key && (if rule.merge_different_expire_ts then true else same_stamp stamp q.expires)
 
 -- The rows that join the group of a row: the next rows that belong to it, up to the first that is no operand.
 -- That row joins too, and is the base.
 abbrev pub joining : GroupRule → Row → List Row → List Row
 joining rule r [] = []
-joining rule r (q ∷ rows) = if same_group rule r.key r.expires q then q ∷ (if is_operand q then joining rule r rows else []) else []
+joining rule r (q ∷ rows) =
+    if same_group rule r.key r.expires q then q ∷ (if is_operand q then joining rule r rows else []) else []
 
 -- ---- what a group becomes
 
@@ -58,7 +60,8 @@ answer_of None = Err (MergeOperator EmptyBatch)
 -- The answer for a batch of the group of row `first`: its operands, folded without an existing value. If a
 -- row of the batch has a sequence above that of `first`, it is `InvalidSequenceOrder`.
 abbrev pub batch_answer : Operator → Row → List Row → Result (List ℕ) SlateDBError
-batch_answer merge first batch = in_order first.seq (last_above first.seq batch) (answer_of (fold_bytes merge first.key None (group_operands batch)))
+batch_answer merge first batch = in_order first.seq (last_above first.seq batch)
+    (answer_of (fold_bytes merge first.key None (group_operands batch)))
 
 -- One answer before all other answers, or the first error.
 abbrev pub one_more : {A : Type 0} → Result A SlateDBError → Result (List A) SlateDBError → Result (List A) SlateDBError
@@ -75,7 +78,8 @@ all_answers (a ∷ others) = one_more a (all_answers others)
 -- value. If the base has a sequence above that of `first`, the answer is `InvalidSequenceOrder`.
 abbrev pub over_base : Operator → Row → List Row → Result (List (List ℕ)) SlateDBError → Result (List ℕ) SlateDBError
 over_base merge first base (Err e) = Err e
-over_base merge first base (Ok results) = in_order first.seq (last_above first.seq base) (answer_of (fold_bytes merge first.key (base_bytes (group_base base)) (reverse results)))
+over_base merge first base (Ok results) = in_order first.seq (last_above first.seq base)
+    (answer_of (fold_bytes merge first.key (base_bytes (group_base base)) (reverse results)))
 
 -- The number of operands in a full batch.
 abbrev pub batch_len : ℕ
@@ -92,7 +96,8 @@ base_among rows = filter (λ r. not (is_operand r)) rows
 -- The bytes that a group's operands merge to, or the first error. The operands are merged in batches, and the
 -- batches' results over the base.
 abbrev pub group_answer : Operator → Chunk Row → Result (List ℕ) SlateDBError
-group_answer merge g = over_base merge g.0 (base_among g.1) (all_answers (map (batch_answer merge g.0) (batches batch_len (g.0 ∷ operands_in g.1))))
+group_answer merge g = over_base merge g.0 (base_among g.1)
+    (all_answers (map (batch_answer merge g.0) (batches batch_len (g.0 ∷ operands_in g.1))))
 
 -- The lesser of two stamps. If one is missing, it is the other one.
 abbrev pub lesser_stamp : Option ℤ → Option ℤ → Option ℤ
@@ -107,7 +112,11 @@ least_expiry (r ∷ rows) = lesser_stamp r.expires (least_expiry rows)
 -- The row of a group with these bytes. It has the key and the sequence of the group's first row, the greatest
 -- time of creation and the least expiry.
 abbrev pub merged_row : Chunk Row → List ℕ → Row
-merged_row g bytes = record g.0 { content = merged_content (group_base g.1) bytes; created = greatest_created (elements g); expires = least_expiry (elements g) }
+merged_row g bytes = record g.0 {
+  content = merged_content (group_base g.1) bytes;
+  created = greatest_created (elements g);
+  expires = least_expiry (elements g);
+}
 
 abbrev pub row_of_answer : Chunk Row → Result (List ℕ) SlateDBError → Result Row SlateDBError
 row_of_answer g (Ok bytes) = Ok (merged_row g bytes)
@@ -124,7 +133,8 @@ abbrev pub folded_after : Operator → GroupRule → ℕ → List Row → List (
 folded_after merge rule taken [] = []
 folded_after merge rule (suc taken) (r ∷ rows) = folded_after merge rule taken rows
 folded_after merge rule zero (r ∷ rows) =
-    if opens rule r then merged_group merge (r, joining rule r rows) ∷ folded_after merge rule (length (joining rule r rows)) rows
+    if opens rule r
+    then merged_group merge (r, joining rule r rows) ∷ folded_after merge rule (length (joining rule r rows)) rows
     else Ok r ∷ folded_after merge rule 0 rows
 
 -- The rows before the first error, and this error, if there is one.

@@ -34,7 +34,8 @@ pub record GathersUpTo (most : ℕ) (merge : Operator) (first : Row) (taken : Li
   pub done : List (List Row)
   pub pending : List Row
   pub plain : AllByRecursion (λ r. is_operand r ≡ true) pending
-  pub cut : (later : List Row) → batches batch_len (first ∷ (taken ++ later)) ≡ done ++ batches batch_len (pending ++ later)
+  pub cut : (later : List Row)
+      → batches batch_len (first ∷ (taken ++ later)) ≡ done ++ batches batch_len (pending ++ later)
   pub folded : map (batch_answer merge first) done ≡ map Ok g.folded.items
   pub batch : reverse g.batch.items ≡ group_operands pending
   pub count : length g.batch.items ≡ length pending
@@ -87,28 +88,34 @@ pub record Flushes (merge : Operator) (old new : Group) : Type 0 where
   pub late : new.late ≡ old.late
   pub in_order : old.batch.items ≢ [] → new.late ≡ None
   pub batch : new.batch.items ≡ []
-  pub folded : map Ok new.folded.items ≡ map Ok old.folded.items ++ left_to_merge (pending_answer merge old) old.batch.items
+  pub folded : map Ok new.folded.items
+      ≡ map Ok old.folded.items ++ left_to_merge (pending_answer merge old) old.batch.items
 
 abbrev pub RefusesFlush : Operator → Group → SlateDBError → Type 0
 RefusesFlush merge g e = e ≢ Memory → left_to_merge (pending_answer merge g) g.batch.items ≡ Err e ∷ []
 
 -- If the operands that wait to be merged fill a batch, they are merged.
 abbrev pub FlushesFull : Operator → Group → Group → Type 0
-FlushesFull merge old new = (first : Row) (taken : List Row) → GathersUpTo batch_len merge first taken old → Gathers merge first taken new
+FlushesFull merge old new = (first : Row) (taken : List Row) → GathersUpTo batch_len merge first taken old
+    → Gathers merge first taken new
 
 abbrev pub RefusesFull : Operator → Group → SlateDBError → Type 0
-RefusesFull merge g e = (first : Row) (taken later : List Row) → GathersUpTo batch_len merge first taken g → RefusesAs (merged_group merge (first, taken ++ later)) e
+RefusesFull merge g e = (first : Row) (taken later : List Row) → GathersUpTo batch_len merge first taken g
+    → RefusesAs (merged_group merge (first, taken ++ later)) e
 
 -- The group takes one more operand, which waits to be merged and may fill a batch.
 abbrev pub Pushes : Group → Row → Group → Type 0
-Pushes old r new = (merge : Operator) (first : Row) (taken : List Row) → Gathers merge first taken old → GathersUpTo batch_len merge first (taken ++ r ∷ []) new
+Pushes old r new = (merge : Operator) (first : Row) (taken : List Row) → Gathers merge first taken old
+    → GathersUpTo batch_len merge first (taken ++ r ∷ []) new
 
 -- The group takes one more operand, and a batch that this one fills is merged.
 abbrev pub Adds : Operator → Group → Row → Group → Type 0
-Adds merge old r new = (first : Row) (taken : List Row) → Gathers merge first taken old → Gathers merge first (taken ++ r ∷ []) new
+Adds merge old r new = (first : Row) (taken : List Row) → Gathers merge first taken old
+    → Gathers merge first (taken ++ r ∷ []) new
 
 abbrev pub RefusesAdd : Operator → Group → Row → SlateDBError → Type 0
-RefusesAdd merge g r e = (first : Row) (taken later : List Row) → Gathers merge first taken g → RefusesAs (merged_group merge (first, taken ++ r ∷ later)) e
+RefusesAdd merge g r e = (first : Row) (taken later : List Row) → Gathers merge first taken g
+    → RefusesAs (merged_group merge (first, taken ++ r ∷ later)) e
 
 -- The group's row with this content.
 abbrev pub with_value : Group → Content → Row
@@ -116,22 +123,26 @@ with_value g content = record { key = g.key; content = content; seq = g.seq; cre
 
 -- The group becomes a row, over the base if there is one.
 abbrev pub Closes : Operator → Group → List Row → Row → Type 0
-Closes merge g base r = (first : Row) (taken : List Row) → Gathers merge first taken g → merged_group merge (first, taken ++ base) ≡ Ok r
+Closes merge g base r = (first : Row) (taken : List Row) → Gathers merge first taken g
+    → merged_group merge (first, taken ++ base) ≡ Ok r
 
 abbrev pub RefusesClose : Operator → Group → List Row → SlateDBError → Type 0
-RefusesClose merge g base e = (first : Row) (taken : List Row) → Gathers merge first taken g → RefusesAs (merged_group merge (first, taken ++ base)) e
+RefusesClose merge g base e = (first : Row) (taken : List Row) → Gathers merge first taken g
+    → RefusesAs (merged_group merge (first, taken ++ base)) e
 
 -- ---- a group and the rows of an iterator
 
 -- A group has taken all rows that join it. The first row after them may have been read ahead.
-pub record Joins (merge : Operator) (rule : GroupRule) (first : Row) (old : IteratorState) (base : Option RowEntry) (g : Group) (later : Option RowEntry) (new : IteratorState) : Type 0 where
+pub record Joins (merge : Operator) (rule : GroupRule) (first : Row) (old : IteratorState)
+    (base : Option RowEntry) (g : Group) (later : Option RowEntry) (new : IteratorState) : Type 0 where
   pub taken : List Row
   pub gathers : Gathers merge first taken g
   pub joined : joining rule first old.rows ≡ taken ++ rows_of (option_to_list base)
   pub parts : old.rows ≡ joining rule first old.rows ++ from_ahead later new
 
 -- A group has taken some of the rows that join it, and the others are still to be read.
-pub record JoinsSoFar (merge : Operator) (rule : GroupRule) (first : Row) (old : IteratorState) (g : Group) (new : IteratorState) : Type 0 where
+pub record JoinsSoFar (merge : Operator) (rule : GroupRule) (first : Row) (old : IteratorState) (g : Group)
+    (new : IteratorState) : Type 0 where
   pub taken : List Row
   pub gathers : Gathers merge first taken g
   pub joined : joining rule first old.rows ≡ taken ++ joining rule first new.rows
@@ -142,7 +153,8 @@ abbrev pub IsNoOperand : Option RowEntry → Type 0
 IsNoOperand None = ⊤
 IsNoOperand (Some row) = is_operand (row_of row) ≡ false
 
-pub record TakesRows (merge : Operator) (rule : GroupRule) (g : Group) (old : IteratorState) (base : Option RowEntry) (filled : Group) (later : Option RowEntry) (new : IteratorState) : Type 0 where
+pub record TakesRows (merge : Operator) (rule : GroupRule) (g : Group) (old : IteratorState)
+    (base : Option RowEntry) (filled : Group) (later : Option RowEntry) (new : IteratorState) : Type 0 where
   pub group : (first : Row) → Gathers merge first [] g → Joins merge rule first old base filled later new
   pub plain : IsNoOperand base
   pub readable : IsReadable new
@@ -153,20 +165,23 @@ pub record TakesRows (merge : Operator) (rule : GroupRule) (g : Group) (old : It
 
 -- What refuses a call that reads rows: the inner iterator, if it failed, and otherwise this answer. The error
 -- may be `Memory` instead.
-pub record RefusesReading {A : Type 0} (answer : Result A SlateDBError) (old new : IteratorState) (e : SlateDBError) : Type 0 where
+pub record RefusesReading {A : Type 0} (answer : Result A SlateDBError) (old new : IteratorState)
+    (e : SlateDBError) : Type 0 where
   pub read : new.failure ≢ None → CanFail old.whole e
   pub handed : new.failure ≢ None → IsHandedOn new e
   pub merged : new.failure ≡ None → RefusesAs answer e
 
 -- What refuses the group that a row opens: the inner iterator, or the merge of the group.
 abbrev pub RefusesGroup : Operator → GroupRule → Row → IteratorState → IteratorState → SlateDBError → Type 0
-RefusesGroup merge rule first old new e = RefusesReading (merged_group merge (first, joining rule first old.rows)) old new e
+RefusesGroup merge rule first old new e =
+    RefusesReading (merged_group merge (first, joining rule first old.rows)) old new e
 
 abbrev pub RefusesRows : Operator → GroupRule → Group → IteratorState → IteratorState → SlateDBError → Type 0
 RefusesRows merge rule g old new e = (first : Row) → Gathers merge first [] g → RefusesGroup merge rule first old new e
 
 -- The group that a row opens becomes row `r`.
-pub record FoldsGroup (merge : Operator) (rule : GroupRule) (first : Row) (old : IteratorState) (r : Row) (later : Option RowEntry) (new : IteratorState) : Type 0 where
+pub record FoldsGroup (merge : Operator) (rule : GroupRule) (first : Row) (old : IteratorState) (r : Row)
+    (later : Option RowEntry) (new : IteratorState) : Type 0 where
   pub group : merged_group merge (first, joining rule first old.rows) ≡ Ok r
   pub parts : old.rows ≡ joining rule first old.rows ++ from_ahead later new
   pub readable : IsReadable new
@@ -174,7 +189,8 @@ pub record FoldsGroup (merge : Operator) (rule : GroupRule) (first : Row) (old :
   pub steady : new.steady ≡ old.steady
 
 -- The next row that is made of the first row and the rows after it is `r`.
-pub record Folds (merge : Operator) (rule : GroupRule) (first : Row) (old : IteratorState) (r : Row) (later : Option RowEntry) (new : IteratorState) : Type 0 where
+pub record Folds (merge : Operator) (rule : GroupRule) (first : Row) (old : IteratorState) (r : Row)
+    (later : Option RowEntry) (new : IteratorState) : Type 0 where
   pub rows : folded_after merge rule 0 (first ∷ old.rows) ≡ Ok r ∷ folded_after merge rule 0 (from_ahead later new)
   pub readable : IsReadable new
   pub whole : new.whole ≡ old.whole
@@ -182,7 +198,9 @@ pub record Folds (merge : Operator) (rule : GroupRule) (first : Row) (old : Iter
   pub rising : AreRising old.rows → AreRising (from_ahead later new)
 
 -- What refuses the next row that is made of some rows: the inner iterator, or the merge of the first group.
-pub record RefusesNext (merge : Operator) (rule : GroupRule) (rows : List Row) (old new : IteratorState) (e : SlateDBError) : Type 0 where
+pub record RefusesNext (merge : Operator) (rule : GroupRule) (rows : List Row) (old new : IteratorState)
+    (e : SlateDBError) : Type 0 where
   pub read : new.failure ≢ None → CanFail old.whole e
   pub handed : new.failure ≢ None → IsHandedOn new e
-  pub merged : new.failure ≡ None → e ≢ Memory → (others : List (Result Row SlateDBError)) × (folded_after merge rule 0 rows ≡ Err e ∷ others)
+  pub merged : new.failure ≡ None → e ≢ Memory
+      → (others : List (Result Row SlateDBError)) × (folded_after merge rule 0 rows ≡ Err e ∷ others)

@@ -34,13 +34,16 @@ rows_if_whole f = if is_none f.refusal then Some f.rows else None
 -- Of rows of one key, folding in batches gives the model's folded rows. It is refused exactly if the model's
 -- fold is.
 abbrev pub FoldsOneKey : Operator → Type 0
-FoldsOneKey merge = (cut : ℕ) (key : List ℕ) (rows : List Row) → AreOfKey key rows → rows_if_whole (folded_groups merge (job_rule cut) rows) ≡ folded_rows merge cut rows
+FoldsOneKey merge = (cut : ℕ) (key : List ℕ) (rows : List Row) → AreOfKey key rows
+    → rows_if_whole (folded_groups merge (job_rule cut) rows) ≡ folded_rows merge cut rows
 
 -- Folding is refused exactly if the job is not whole. If the job is whole, what retention keeps of the folded
 -- rows is the job's rows.
 pub record MakesJob (merge : Operator) (settings : Settings) (rows : List Row) : Type 0 where
   pub whole : is_none (folded_groups merge (job_rule settings.cut) rows).refusal ≡ (job_rows merge settings rows).whole
-  pub kept : (job_rows merge settings rows).whole ≡ true → kept_of_keys settings (folded_groups merge (job_rule settings.cut) rows).rows ≡ (job_rows merge settings rows).rows
+  pub kept : (job_rows merge settings rows).whole ≡ true
+      → kept_of_keys settings (folded_groups merge (job_rule settings.cut) rows).rows
+      ≡ (job_rows merge settings rows).rows
 
 -- Of strictly ordered rows, folding and then retention make the job's rows.
 abbrev pub FoldsMakeJobs : Operator → Type 0
@@ -51,13 +54,18 @@ FoldsMakeJobs merge = (settings : Settings) (rows : List Row) → IsStrictlyOrde
 -- What holds of folded rows and the job's rows, whether or not a fold is refused.
 pub record BeginsJob (merge : Operator) (settings : Settings) (rows : List Row) : Type 0 where
   -- The last key of the folded rows may lack rows. What is kept of the keys before it begins the job's rows.
-  pub begins : IsPrefixOf (kept_given settings false (folded_groups merge (job_rule settings.cut) rows).rows) (job_rows merge settings rows).rows
+  pub begins : IsPrefixOf (kept_given settings false (folded_groups merge (job_rule settings.cut) rows).rows)
+      (job_rows merge settings rows).rows
   -- No folded row is above a key in which a fold refuses.
-  pub up_to : (key : List ℕ) → RefusesIn merge settings key rows → AllByRecursion (λ r. is_gt (key_cmp r.key key) ≡ false) (folded_groups merge (job_rule settings.cut) rows).rows
+  pub up_to : (key : List ℕ) → RefusesIn merge settings key rows
+      → AllByRecursion (λ r. is_gt (key_cmp r.key key) ≡ false)
+      (folded_groups merge (job_rule settings.cut) rows).rows
   -- Take a key below which no fold refuses, and a row below that key. The kept rows begin with all that the
   -- job makes of the keys before that row's key.
   pub reaches : (key : List ℕ) → (job_rows merge settings (filter (is_below key) rows)).whole ≡ true
-      → AllByRecursion (λ r. is_below key r ≡ true → IsPrefixOf (job_rows merge settings (filter (is_below r.key) rows)).rows (kept_given settings false (folded_groups merge (job_rule settings.cut) rows).rows)) rows
+      → AllByRecursion (λ r. is_below key r ≡ true
+      → IsPrefixOf (job_rows merge settings (filter (is_below r.key) rows)).rows
+      (kept_given settings false (folded_groups merge (job_rule settings.cut) rows).rows)) rows
 
 -- Of strictly ordered rows, folding and then retention begin the job's rows, even if a fold refuses.
 abbrev pub FoldsBeginJobs : Operator → Type 0
@@ -101,7 +109,8 @@ pub record IsOfOperator (merge : Operator) (rows : List Row) (e : SlateDBError) 
 
 -- Of strictly ordered rows, every error of folding is the operator's.
 abbrev pub RefusesByOperator : Operator → Type 0
-RefusesByOperator merge = (cut : ℕ) (rows : List Row) (e : SlateDBError) → IsStrictlyOrdered rows → (folded_groups merge (job_rule cut) rows).refusal ≡ Some e → IsOfOperator merge rows e
+RefusesByOperator merge = (cut : ℕ) (rows : List Row) (e : SlateDBError) → IsStrictlyOrdered rows
+    → (folded_groups merge (job_rule cut) rows).refusal ≡ Some e → IsOfOperator merge rows e
 
 -- ---- an iterator over a job's rows
 
@@ -113,15 +122,18 @@ pub record GivesJob (merge : Operator) (settings : Settings) (rows : List Row) (
   pub all : s.whole ≡ true → s.rows ≡ (job_rows merge settings rows).rows
   pub begins : IsPrefixOf s.rows (job_rows merge settings rows).rows
   pub reaches : s.whole ≡ false → (key : List ℕ) → (job_rows merge settings (filter (is_below key) rows)).whole ≡ true
-      → AllByRecursion (λ r. is_below key r ≡ true → IsPrefixOf (job_rows merge settings (filter (is_below r.key) rows)).rows s.rows) rows
+      → AllByRecursion (λ r. is_below key r ≡ true
+      → IsPrefixOf (job_rows merge settings (filter (is_below r.key) rows)).rows s.rows) rows
   pub refusal : s.whole ≡ false → (e : SlateDBError) × ((s.refusal ≡ Some e) × IsOfOperator merge rows e)
 
 -- If no fold refuses, the rows given read as the source rows do: each key, at each sequence from the cut on,
 -- and at each moment from the tick on. Any rows may come before them. Any rows may come after them, unless
 -- the last run is made.
 abbrev pub KeepsReads : Operator → Settings → List Row → IteratorState → Type 0
-KeepsReads merge settings rows s = s.whole ≡ true → (key : List ℕ) (seq : ℕ) (now : ℤ) (above below : List Row) → settings.cut ≤ seq → int_le settings.tick now ≡ true → (settings.last_run ≡ true → below ≡ [])
-    → read merge key seq now (above ++ (rows_of_key key rows ++ below)) ≡ read merge key seq now (above ++ (rows_of_key key s.rows ++ below))
+KeepsReads merge settings rows s = s.whole ≡ true → (key : List ℕ) (seq : ℕ) (now : ℤ) (above below : List Row)
+    → settings.cut ≤ seq → int_le settings.tick now ≡ true → (settings.last_run ≡ true → below ≡ [])
+    → read merge key seq now (above ++ (rows_of_key key rows ++ below))
+    ≡ read merge key seq now (above ++ (rows_of_key key s.rows ++ below))
 
 -- The iterator was not used yet: it has not failed, and it is initialised exactly if the inner one is. Its
 -- rows rise.
@@ -132,4 +144,5 @@ pub record IsReady (inner s : IteratorState) : Type 0 where
 
 -- Of strictly ordered rows, an iterator that gives the job's rows keeps reads.
 abbrev pub JobsKeepReads : Operator → Type 0
-JobsKeepReads merge = (settings : Settings) (rows : List Row) (s : IteratorState) → IsStrictlyOrdered rows → GivesJob merge settings rows s → KeepsReads merge settings rows s
+JobsKeepReads merge = (settings : Settings) (rows : List Row) (s : IteratorState) → IsStrictlyOrdered rows
+    → GivesJob merge settings rows s → KeepsReads merge settings rows s

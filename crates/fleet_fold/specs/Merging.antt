@@ -18,7 +18,14 @@ use Rattle.fleet_fold.specs.declared.merging.MergeOperatorIterator.{MergeOperato
 abbrev pub merging : Option SlateDBError → Operator → GroupRule → Option RowEntry → IteratorState → IteratorState
 merging failure merge rule ahead inner =
     let f = folded_groups merge rule (from_ahead ahead inner) in
-    record { rows = f.rows; initialised = inner.initialised; failure = failure; whole = inner.whole && is_none f.refusal; steady = inner.steady; refusal = if inner.whole then f.refusal else None }
+    record {
+      rows = f.rows;
+      initialised = inner.initialised;
+      failure = failure;
+      whole = inner.whole && is_none f.refusal;
+      steady = inner.steady;
+      refusal = if inner.whole then f.refusal else None;
+    }
 
 -- Rows rise if a fold of them refuses. Where none does, they may fall.
 abbrev pub RisesIfRefused : Operator → GroupRule → List Row → Type 0
@@ -27,27 +34,37 @@ RisesIfRefused merge rule rows = (folded_groups merge rule rows).refusal ≢ Non
 -- What holds of the inner iterator until a call fails the outer one.
 abbrev pub ReadsGroups : Operator → GroupRule → Option SlateDBError → Option RowEntry → IteratorState → Type 0
 ReadsGroups merge rule (Some e) ahead inner = ⊤
-ReadsGroups merge rule None ahead inner = (inner.failure ≡ None) × ((ahead ≡ None → ⊥) → inner.initialised ≡ true) × RisesIfRefused merge rule (from_ahead ahead inner)
+ReadsGroups merge rule None ahead inner = (inner.failure ≡ None)
+    × ((ahead ≡ None → ⊥) → inner.initialised ≡ true) × RisesIfRefused merge rule (from_ahead ahead inner)
 
-abbrev pub state_of : {O T : Type 0} → (O → List ℕ) → (List ℕ → Operator) → (T → IteratorState) → MergeOperatorIterator O T → IteratorState
-state_of settings merged state i = merging i.failure (merged (settings i.operator.now)) i.rule i.ahead (state i.delegate)
+abbrev pub state_of : {O T : Type 0} → (O → List ℕ) → (List ℕ → Operator) → (T → IteratorState)
+    → MergeOperatorIterator O T → IteratorState
+state_of settings merged state i =
+    merging i.failure (merged (settings i.operator.now)) i.rule i.ahead (state i.delegate)
 
-abbrev pub IsSound : {O T : Type 0} → (O → List ℕ) → (List ℕ → Operator) → (T → Type 0) → (T → IteratorState) → MergeOperatorIterator O T → Type 0
-IsSound settings merged sound state i = sound i.delegate × ReadsGroups (merged (settings i.operator.now)) i.rule i.failure i.ahead (state i.delegate)
+abbrev pub IsSound : {O T : Type 0} → (O → List ℕ) → (List ℕ → Operator) → (T → Type 0)
+    → (T → IteratorState) → MergeOperatorIterator O T → Type 0
+IsSound settings merged sound state i =
+    sound i.delegate × ReadsGroups (merged (settings i.operator.now)) i.rule i.failure i.ahead (state i.delegate)
 
 -- What a seek leaves. If a row was read ahead and is not below the key, nothing changes. Otherwise that row
 -- is dropped, and the inner iterator is sought.
-pub record SeeksGroups (sought : List ℕ → IteratorState → Type 0) (merge : Operator) (rule : GroupRule) (ahead : Option RowEntry) (inner : IteratorState) (key : List ℕ) (new : IteratorState) : Type 0 where
+pub record SeeksGroups (sought : List ℕ → IteratorState → Type 0) (merge : Operator) (rule : GroupRule)
+    (ahead : Option RowEntry) (inner : IteratorState) (key : List ℕ) (new : IteratorState) : Type 0 where
   pub stays : is_left key ahead ≡ true → new ≡ merging None merge rule ahead inner
   pub goes_on : is_left key ahead ≡ false → SoughtThrough sought (merging None merge rule None) inner key new
 
-abbrev pub Sought : {O T : Type 0} → (O → List ℕ) → (List ℕ → Operator) → (T → IteratorState) → (T → List ℕ → IteratorState → Type 0) → MergeOperatorIterator O T → List ℕ → IteratorState → Type 0
-Sought settings merged state sought i key new = SeeksGroups (sought i.delegate) (merged (settings i.operator.now)) i.rule i.ahead (state i.delegate) key new
+abbrev pub Sought : {O T : Type 0} → (O → List ℕ) → (List ℕ → Operator) → (T → IteratorState)
+    → (T → List ℕ → IteratorState → Type 0) → MergeOperatorIterator O T → List ℕ → IteratorState → Type 0
+Sought settings merged state sought i key new =
+    SeeksGroups (sought i.delegate) (merged (settings i.operator.now)) i.rule i.ahead (state i.delegate) key new
 
 -- If the inner iterator failed in a call, its error is the error of the call. Otherwise that is the error of
 -- the first group left. It may be `Memory` instead.
-abbrev pub HandsOnOrRefuses : {O T A : Type 0} → (O → List ℕ) → (List ℕ → Operator) → (T → IteratorState) → MergeOperatorIterator O T → MergeOperatorIterator O T → Result A SlateDBError → Type 0
+abbrev pub HandsOnOrRefuses : {O T A : Type 0} → (O → List ℕ) → (List ℕ → Operator) → (T → IteratorState)
+    → MergeOperatorIterator O T → MergeOperatorIterator O T → Result A SlateDBError → Type 0
 HandsOnOrRefuses settings merged state old new (Ok a) = ⊤
 HandsOnOrRefuses settings merged state old new (Err e) =
     old.failure ≡ None → (state old.delegate).initialised ≡ true
-    → RefusesNext (merged (settings old.operator.now)) old.rule (from_ahead old.ahead (state old.delegate)) (state old.delegate) (state new.delegate) e
+    → RefusesNext (merged (settings old.operator.now)) old.rule (from_ahead old.ahead (state old.delegate))
+    (state old.delegate) (state new.delegate) e

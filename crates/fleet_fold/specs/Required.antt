@@ -19,7 +19,14 @@ has_operand (r ∷ rows) = if is_operand r then true else has_operand rows
 -- The state of an iterator that gives the rows before the first operand, and then refuses that operand.
 abbrev pub without_operands : Option SlateDBError → IteratorState → IteratorState
 without_operands failure inner =
-    record { rows = before_operand inner.rows; initialised = inner.initialised; failure = failure; whole = inner.whole && not (has_operand inner.rows); steady = inner.steady; refusal = if inner.whole && has_operand inner.rows then Some MergeOperatorMissing else None }
+    record {
+      rows = before_operand inner.rows;
+      initialised = inner.initialised;
+      failure = failure;
+      whole = inner.whole && not (has_operand inner.rows);
+      steady = inner.steady;
+      refusal = if inner.whole && has_operand inner.rows then Some MergeOperatorMissing else None;
+    }
 
 -- What holds of the inner iterator until a call fails the outer one.
 abbrev pub ReadsPlain : Option SlateDBError → IteratorState → Type 0
@@ -38,11 +45,15 @@ starts_with_operand (r ∷ rows) = is_operand r
 
 -- `next` answers `MergeOperatorMissing` exactly if the next row is an operand, unless the inner iterator
 -- fails in this call. Any other error is handed on from the inner iterator.
-pub record MissesOperator (rows : List Row) (old inner : IteratorState) (answer : Result (Option RowEntry) SlateDBError) : Type 0 where
+pub record MissesOperator (rows : List Row) (old inner : IteratorState)
+    (answer : Result (Option RowEntry) SlateDBError) : Type 0 where
   pub cause : answer ≡ Err MergeOperatorMissing → inner.failure ≡ None → starts_with_operand rows ≡ true
-  pub handed : old.failure ≡ None → old.initialised ≡ true → (e : SlateDBError) → answer ≡ Err e → e ≢ MergeOperatorMissing → IsHandedOn inner e
-  pub comes : old.failure ≡ None → old.initialised ≡ true → inner.failure ≡ None → starts_with_operand rows ≡ true → answer ≡ Err MergeOperatorMissing
+  pub handed : old.failure ≡ None → old.initialised ≡ true → (e : SlateDBError) → answer ≡ Err e
+      → e ≢ MergeOperatorMissing → IsHandedOn inner e
+  pub comes : old.failure ≡ None → old.initialised ≡ true → inner.failure ≡ None
+      → starts_with_operand rows ≡ true → answer ≡ Err MergeOperatorMissing
 
 -- What a seek of an iterator that refuses operands leaves.
-abbrev pub Sought : {T : Type 0} → (T → IteratorState) → (T → List ℕ → IteratorState → Type 0) → MergeOperatorRequiredIterator T → List ℕ → IteratorState → Type 0
+abbrev pub Sought : {T : Type 0} → (T → IteratorState) → (T → List ℕ → IteratorState → Type 0)
+    → MergeOperatorRequiredIterator T → List ℕ → IteratorState → Type 0
 Sought state sought r key new = SoughtThrough (sought r.delegate) (without_operands None) (state r.delegate) key new

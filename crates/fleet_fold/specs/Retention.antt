@@ -58,7 +58,8 @@ joins [] q = true
 joins (r ∷ rows) q = same_key r q
 
 -- All rows of the next key are read. The first row after them is read ahead, if there is one.
-pub record ReadsKey (ahead : Option RowEntry) (old : IteratorState) (rows : List RowEntry) (later : Option RowEntry) (new : IteratorState) : Type 0 where
+pub record ReadsKey (ahead : Option RowEntry) (old : IteratorState) (rows : List RowEntry)
+    (later : Option RowEntry) (new : IteratorState) : Type 0 where
   pub parts : from_ahead ahead old ≡ rows_of rows ++ from_ahead later new
   pub alike : HaveOneKey (rows_of rows)
   pub ended : AreEndedBy (rows_of rows) (from_ahead later new)
@@ -73,11 +74,14 @@ pub record ReadsKey (ahead : Option RowEntry) (old : IteratorState) (rows : List
 pub record RefusesKey (ahead : Option RowEntry) (old new : IteratorState) (e : SlateDBError) : Type 0 where
   pub cause : CanFail old.whole e
   pub handed : IsHandedOn new e
-  pub known : (after : SlateDBError) → old.refusal ≡ Some after → e ≢ Memory → HaveOneKey (from_ahead ahead old) × (e ≡ after)
+  pub known : (after : SlateDBError) → old.refusal ≡ Some after → e ≢ Memory
+      → HaveOneKey (from_ahead ahead old) × (e ≡ after)
 
 -- Keys are read and kept until the buffer has a row or no row is left.
-pub record Fills (settings : Settings) (buffer : List RowEntry) (ahead : Option RowEntry) (old : IteratorState) (filled : List RowEntry) (later : Option RowEntry) (new : IteratorState) : Type 0 where
-  pub rows : rows_of buffer ++ kept_given settings old.whole (from_ahead ahead old) ≡ rows_of filled ++ kept_given settings old.whole (from_ahead later new)
+pub record Fills (settings : Settings) (buffer : List RowEntry) (ahead : Option RowEntry) (old : IteratorState)
+    (filled : List RowEntry) (later : Option RowEntry) (new : IteratorState) : Type 0 where
+  pub rows : rows_of buffer ++ kept_given settings old.whole (from_ahead ahead old)
+      ≡ rows_of filled ++ kept_given settings old.whole (from_ahead later new)
   pub readable : IsReadable new
   pub whole : new.whole ≡ old.whole
   pub steady : new.steady ≡ old.steady
@@ -88,15 +92,25 @@ pub record Fills (settings : Settings) (buffer : List RowEntry) (ahead : Option 
 
 -- Filling the buffer is refused. If the error after the rows is known, then an error other than `Memory` is
 -- that one, and no row is left to give.
-pub record RefusesFill (settings : Settings) (buffer : List RowEntry) (ahead : Option RowEntry) (old new : IteratorState) (e : SlateDBError) : Type 0 where
+pub record RefusesFill (settings : Settings) (buffer : List RowEntry) (ahead : Option RowEntry)
+    (old new : IteratorState) (e : SlateDBError) : Type 0 where
   pub cause : CanFail old.whole e
   pub handed : IsHandedOn new e
-  pub known : (after : SlateDBError) → old.refusal ≡ Some after → e ≢ Memory → (rows_of buffer ++ kept_given settings old.whole (from_ahead ahead old) ≡ []) × (e ≡ after)
+  pub known : (after : SlateDBError) → old.refusal ≡ Some after → e ≢ Memory
+      → (rows_of buffer ++ kept_given settings old.whole (from_ahead ahead old) ≡ []) × (e ≡ after)
 
 -- The state of retention. Its rows are the kept ones in the buffer, and what it will keep of the other rows.
-abbrev pub retained_state : Option SlateDBError → Settings → List RowEntry → Option RowEntry → IteratorState → IteratorState
+abbrev pub retained_state : Option SlateDBError → Settings → List RowEntry → Option RowEntry → IteratorState
+    → IteratorState
 retained_state failure settings buffer ahead inner =
-    record { rows = rows_of buffer ++ kept_given settings inner.whole (from_ahead ahead inner); initialised = inner.initialised; failure = failure; whole = inner.whole; steady = inner.steady; refusal = inner.refusal }
+    record {
+      rows = rows_of buffer ++ kept_given settings inner.whole (from_ahead ahead inner);
+      initialised = inner.initialised;
+      failure = failure;
+      whole = inner.whole;
+      steady = inner.steady;
+      refusal = inner.refusal;
+    }
 
 -- What holds of the inner iterator until a call fails the outer one.
 pub record ReadsOn (buffer : List RowEntry) (ahead : Option RowEntry) (inner : IteratorState) : Type 0 where
@@ -106,7 +120,8 @@ pub record ReadsOn (buffer : List RowEntry) (ahead : Option RowEntry) (inner : I
   pub rising : AreRising (from_ahead ahead inner)
 
 -- A row is read ahead, unless one was read already or the buffer has rows.
-pub record Begins (ahead : Option RowEntry) (old : IteratorState) (later : Option RowEntry) (new : IteratorState) : Type 0 where
+pub record Begins (ahead : Option RowEntry) (old : IteratorState) (later : Option RowEntry)
+    (new : IteratorState) : Type 0 where
   pub begun : old.initialised ≡ true
   pub readable : IsReadable new
   pub rows : from_ahead later new ≡ from_ahead ahead old
@@ -115,7 +130,8 @@ pub record Begins (ahead : Option RowEntry) (old : IteratorState) (later : Optio
   pub refusal : new.refusal ≡ old.refusal
 
 -- Reading a row ahead is refused.
-pub record RefusesBeginning (buffer : List RowEntry) (ahead : Option RowEntry) (old : IteratorState) (later : Option RowEntry) (new : IteratorState) (e : SlateDBError) : Type 0 where
+pub record RefusesBeginning (buffer : List RowEntry) (ahead : Option RowEntry) (old : IteratorState)
+    (later : Option RowEntry) (new : IteratorState) (e : SlateDBError) : Type 0 where
   pub empty : buffer ≡ []
   pub none : ahead ≡ None
   pub stays : later ≡ ahead
@@ -128,7 +144,11 @@ Knows None buffer ahead inner = ReadsOn buffer ahead inner
 -- What a seek leaves. If the buffer has rows from the key on, only the rows below the key are dropped from
 -- it. Otherwise the buffer is emptied. If a row was read ahead and is not below the key, nothing else
 -- changes. Otherwise that row is dropped, and the inner iterator is sought.
-pub record SeeksKept (sought : List ℕ → IteratorState → Type 0) (settings : Settings) (buffer : List RowEntry) (ahead : Option RowEntry) (inner : IteratorState) (key : List ℕ) (new : IteratorState) : Type 0 where
-  pub kept : from_key key (rows_of buffer) ≢ [] → new.rows ≡ from_key key (rows_of buffer) ++ kept_given settings inner.whole (from_ahead ahead inner)
-  pub stays : from_key key (rows_of buffer) ≡ [] → is_left key ahead ≡ true → new ≡ retained_state None settings [] ahead inner
-  pub goes_on : from_key key (rows_of buffer) ≡ [] → is_left key ahead ≡ false → SoughtThrough sought (retained_state None settings [] None) inner key new
+pub record SeeksKept (sought : List ℕ → IteratorState → Type 0) (settings : Settings) (buffer : List RowEntry)
+    (ahead : Option RowEntry) (inner : IteratorState) (key : List ℕ) (new : IteratorState) : Type 0 where
+  pub kept : from_key key (rows_of buffer) ≢ []
+      → new.rows ≡ from_key key (rows_of buffer) ++ kept_given settings inner.whole (from_ahead ahead inner)
+  pub stays : from_key key (rows_of buffer) ≡ [] → is_left key ahead ≡ true
+      → new ≡ retained_state None settings [] ahead inner
+  pub goes_on : from_key key (rows_of buffer) ≡ [] → is_left key ahead ≡ false
+      → SoughtThrough sought (retained_state None settings [] None) inner key new

@@ -36,7 +36,12 @@ answer_of Stands = model.Stands
 
 -- The model's entry.
 abbrev pub entry_of : HistoryEntry → model.Entry
-entry_of entry = record { line = entry.line; party = party_of entry.party; event = event_of entry.event; answer = answer_of entry.answer }
+entry_of entry = record {
+  line = entry.line;
+  party = party_of entry.party;
+  event = event_of entry.event;
+  answer = answer_of entry.answer;
+}
 
 -- The model's history.
 abbrev pub history_of : List HistoryEntry → List model.Entry

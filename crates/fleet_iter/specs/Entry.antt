@@ -24,7 +24,8 @@ key_cmp_in a b = ordering_then (order_cmp a.0 b.0) (keys_in a.0 a.1 b.1)
 -- Entries are compared by iteration order, by key in it, by falling sequence, and then by the place of their
 -- source.
 abbrev pub entry_cmp : MergeIteratorHeapEntry → MergeIteratorHeapEntry → Ordering
-entry_cmp a b = ordering_then (key_cmp_in (a.order, a.row.key) (b.order, b.row.key)) (ordering_then (nat_cmp b.row.seq a.row.seq) (nat_cmp a.index b.index))
+entry_cmp a b = ordering_then (key_cmp_in (a.order, a.row.key) (b.order, b.row.key))
+    (ordering_then (nat_cmp b.row.seq a.row.seq) (nat_cmp a.index b.index))
 
 -- ---- the order of entries is total
 
@@ -61,4 +62,5 @@ key_total = record { antisymm = antisymm; trans = trans; congr = congr }
 pub entry_total : IsTotalOrder entry_cmp
 entry_total =
     then_total (on_total (λ (e : MergeIteratorHeapEntry). (e.order, e.row.key)) key_total)
-    (then_total (back_total (on_total (λ (e : MergeIteratorHeapEntry). e.row.seq) nat_cmp_total)) (on_total (λ (e : MergeIteratorHeapEntry). e.index) nat_cmp_total))
+    (then_total (back_total (on_total (λ (e : MergeIteratorHeapEntry). e.row.seq) nat_cmp_total))
+    (on_total (λ (e : MergeIteratorHeapEntry). e.index) nat_cmp_total))

@@ -16,7 +16,9 @@ pub record IteratorState : Type 0 where
   pub failure : Option SlateDBError  -- the error with which a call failed it
   pub whole : Bool  -- only running out of memory can keep it from giving all rows
   pub steady : Bool  -- what it gives of a row does not depend on earlier rows, so a seek leaves later rows as they are
-  pub refusal : Option SlateDBError  -- the error that comes after the rows, if it is known; an iterator that is not whole and of which none is known may refuse earlier
+  -- the error that comes after the rows, if it is known; an iterator that is not whole and of which none is
+  -- known may refuse earlier
+  pub refusal : Option SlateDBError
 
 -- No call of the iterator has failed it.
 pub record IsAlive (s : IteratorState) : Type 0 where
@@ -142,7 +144,8 @@ SeekAnswers key old new (Err e) = Fails (is_exact old) new e
 
 -- What a seek leaves of an iterator that makes its rows from those of an inner one. The inner iterator is
 -- sought, and the new state is made from the state that this leaves.
-pub record SoughtThrough (sought : List ℕ → IteratorState → Type 0) (make : IteratorState → IteratorState) (inner : IteratorState) (key : List ℕ) (new : IteratorState) : Type 0 where
+pub record SoughtThrough (sought : List ℕ → IteratorState → Type 0) (make : IteratorState → IteratorState)
+    (inner : IteratorState) (key : List ℕ) (new : IteratorState) : Type 0 where
   pub left : IteratorState
   pub moves : Moves (is_exact inner) key inner left
   pub stated : sought key left

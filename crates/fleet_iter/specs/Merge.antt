@@ -34,7 +34,8 @@ goes_first order a b = not (is_gt (cmp_in order a b))
 -- The merge of a list with a row and the rows after it. The function merges the rows after it with a list.
 abbrev pub merge_into : IterationOrder → Row → (List Row → List Row) → List Row → List Row
 merge_into order r rest [] = r ∷ rest []
-merge_into order r rest (q ∷ rows) = if goes_first order r q then r ∷ rest (q ∷ rows) else q ∷ merge_into order r rest rows
+merge_into order r rest (q ∷ rows) =
+    if goes_first order r q then r ∷ rest (q ∷ rows) else q ∷ merge_into order r rest rows
 
 abbrev pub merge_two : IterationOrder → List Row → List Row → List Row
 merge_two order [] others = others
@@ -158,21 +159,27 @@ StepsFrom false key s t h = IsTaken h t × AreRising (rows_of (option_to_list h)
 
 -- A step of a merge takes the first row that is given, and with dedup the rows that this one hides. If it
 -- takes no row, none is left and all sources are whole.
-pub record Takes (order : IterationOrder) (dedup : Bool) (hs : List (Option RowEntry)) (ss : List IteratorState) (hs' : List (Option RowEntry)) (ss' : List IteratorState) (o : Option RowEntry) : Type 0 where
-  pub rows : given_rows dedup (merged_left order hs ss) ≡ rows_of (option_to_list o) ++ given_rows dedup (merged_left order hs' ss')
+pub record Takes (order : IterationOrder) (dedup : Bool) (hs : List (Option RowEntry)) (ss : List IteratorState)
+    (hs' : List (Option RowEntry)) (ss' : List IteratorState) (o : Option RowEntry) : Type 0 where
+  pub rows : given_rows dedup (merged_left order hs ss)
+      ≡ rows_of (option_to_list o) ++ given_rows dedup (merged_left order hs' ss')
   pub taken : AllTaken hs' ss'
   pub same_manner : manners ss' ≡ manners ss
   pub ends : o ≡ None → (merged_left order hs ss ≡ []) × (are_whole ss ≡ true)
 
 -- A merge drops its first row, if it has one.
-pub record Drops (order : IterationOrder) (hs : List (Option RowEntry)) (ss : List IteratorState) (hs' : List (Option RowEntry)) (ss' : List IteratorState) : Type 0 where
+pub record Drops (order : IterationOrder) (hs : List (Option RowEntry)) (ss : List IteratorState)
+    (hs' : List (Option RowEntry)) (ss' : List IteratorState) : Type 0 where
   pub rows : merged_left order hs' ss' ≡ after_first (merged_left order hs ss)
   pub taken : AllTaken hs' ss'
   pub same_manner : manners ss' ≡ manners ss
 
 -- Each source whose head is not below the key stays as it is, and so does its head.
-abbrev pub LeavesFrom : {T : Type 0} → List ℕ → List (Option RowEntry) → List T → List (Option RowEntry) → List T → Type 0
-LeavesFrom key hs xs hs' xs' = (place : ℕ) (x : RowEntry) → slice_get hs place ≡ Some (Some x) → is_below key (row_of x) ≡ false → (slice_get hs' place ≡ Some (Some x)) × (slice_get xs' place ≡ slice_get xs place)
+abbrev pub LeavesFrom : {T : Type 0} → List ℕ → List (Option RowEntry) → List T → List (Option RowEntry)
+    → List T → Type 0
+LeavesFrom key hs xs hs' xs' = (place : ℕ) (x : RowEntry)
+    → slice_get hs place ≡ Some (Some x) → is_below key (row_of x) ≡ false
+    → (slice_get hs' place ≡ Some (Some x)) × (slice_get xs' place ≡ slice_get xs place)
 
 abbrev pub NoneFailed : List IteratorState → Type 0
 NoneFailed [] = ⊤
@@ -200,13 +207,15 @@ pub record Begins (ss : List IteratorState) (hs' : List (Option RowEntry)) (ss' 
   pub same_manner : manners ss' ≡ manners ss
 
 -- A merge drops its first rows that pass a test, up to the first row that does not.
-pub record Skips (order : IterationOrder) (test : Row → Bool) (hs : List (Option RowEntry)) (ss : List IteratorState) (hs' : List (Option RowEntry)) (ss' : List IteratorState) : Type 0 where
+pub record Skips (order : IterationOrder) (test : Row → Bool) (hs : List (Option RowEntry))
+    (ss : List IteratorState) (hs' : List (Option RowEntry)) (ss' : List IteratorState) : Type 0 where
   pub rows : merged_left order hs' ss' ≡ without_first test (merged_left order hs ss)
   pub taken : AllTaken hs' ss'
   pub same_manner : manners ss' ≡ manners ss
 
 -- A merge drops its rows below a key. If the flag is false, it is only known that the rows left rise.
-abbrev pub SkipsTo : Bool → IterationOrder → List ℕ → List (Option RowEntry) → List IteratorState → List (Option RowEntry) → List IteratorState → Type 0
+abbrev pub SkipsTo : Bool → IterationOrder → List ℕ → List (Option RowEntry) → List IteratorState
+    → List (Option RowEntry) → List IteratorState → Type 0
 SkipsTo true order key hs ss hs' ss' = Skips order (is_below key) hs ss hs' ss'
 SkipsTo false order key hs ss hs' ss' = AllTaken hs' ss' × AreRising (merged_left order hs' ss')
 
@@ -218,19 +227,36 @@ Fits None true hs ss = AllTaken hs ss
 Fits None false hs ss = (hs ≡ []) × NoneFailed ss
 
 -- The state of a merge with these flags, heads and sources.
-abbrev pub merging : IterationOrder → Bool → Bool → Option SlateDBError → List (Option RowEntry) → List IteratorState → IteratorState
+abbrev pub merging : IterationOrder → Bool → Bool → Option SlateDBError → List (Option RowEntry)
+    → List IteratorState → IteratorState
 merging order dedup initialised failure hs ss =
-    record { rows = given_rows dedup (merged_left order hs ss); initialised = initialised; failure = failure; whole = are_whole ss; steady = are_steady ss; refusal = None }
+    record {
+      rows = given_rows dedup (merged_left order hs ss);
+      initialised = initialised;
+      failure = failure;
+      whole = are_whole ss;
+      steady = are_steady ss;
+      refusal = None;
+    }
 
 -- The state of a merge with dedup that is not initialised.
 abbrev pub starting : IterationOrder → List IteratorState → IteratorState
-starting order ss = record { rows = deduplicated_rows (merged_lists order (rows_left ss)); initialised = false; failure = None; whole = are_whole ss; steady = are_steady ss; refusal = None }
+starting order ss = record {
+  rows = deduplicated_rows (merged_lists order (rows_left ss));
+  initialised = false;
+  failure = None;
+  whole = are_whole ss;
+  steady = are_steady ss;
+  refusal = None;
+}
 
 -- If each list is strictly ordered and no two rows share key and sequence, the ascending merge has all rows
 -- in order.
 abbrev pub MergesSort : Type 0
-MergesSort = (ls : List (List Row)) → AllByRecursion IsStrictlyOrdered ls → AreApart (flat_map (λ rows. rows) ls) → merged_lists Ascending ls ≡ merged_rows ls
+MergesSort = (ls : List (List Row)) → AllByRecursion IsStrictlyOrdered ls
+    → AreApart (flat_map (λ rows. rows) ls) → merged_lists Ascending ls ≡ merged_rows ls
 
 -- The ascending merge of rising lists rises, with or without dedup. So it may be sought.
 abbrev pub MergesRise : Type 0
-MergesRise = (dedup : Bool) (ls : List (List Row)) → AllByRecursion AreRising ls → AreRising (given_rows dedup (merged_lists Ascending ls))
+MergesRise = (dedup : Bool) (ls : List (List Row)) → AllByRecursion AreRising ls
+    → AreRising (given_rows dedup (merged_lists Ascending ls))

@@ -14,4 +14,5 @@ abbrev pub state_of : {T : Type 0} → (T → IteratorState) → MergeIterator T
 state_of state m = merging m.heads.order m.dedup m.initialised m.failure m.heads.rows (map state m.sources.items)
 
 abbrev pub IsSound : {T : Type 0} → (T → Type 0) → (T → IteratorState) → MergeIterator T → Type 0
-IsSound sound state m = AllByRecursion sound m.sources.items × Fits m.failure m.initialised m.heads.rows (map state m.sources.items)
+IsSound sound state m =
+    AllByRecursion sound m.sources.items × Fits m.failure m.initialised m.heads.rows (map state m.sources.items)

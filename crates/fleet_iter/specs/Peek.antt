@@ -25,7 +25,8 @@ is_left key (Some row) = not (is_below key (row_of row))
 
 -- What a seek leaves. If it leaves the row that was read ahead, the inner iterator is unchanged. Otherwise
 -- that row is dropped, if there is one, and the inner iterator is sought.
-pub record SeeksAhead (sought : List ℕ → IteratorState → Type 0) (row : Option RowEntry) (inner : IteratorState) (key : List ℕ) (new : IteratorState) : Type 0 where
+pub record SeeksAhead (sought : List ℕ → IteratorState → Type 0) (row : Option RowEntry)
+    (inner : IteratorState) (key : List ℕ) (new : IteratorState) : Type 0 where
   pub stays : is_left key row ≡ true → new ≡ ahead row inner
   pub goes_on : is_left key row ≡ false → sought key new
 

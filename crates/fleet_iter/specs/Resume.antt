@@ -36,7 +36,8 @@ ResumesBy sought (Some cursor) old new = SoughtAfter sought cursor new
 
 -- Resuming is refused with the error with which a call of the inner iterator failed it. There is a cursor, and
 -- the failed iterator is what that call left.
-pub record InnerFails {T : Type 0} (Sound : T → Type 0) (state : T → IteratorState) (cursor : Option Cursor) (e : SlateDBError) : Type 0 where
+pub record InnerFails {T : Type 0} (Sound : T → Type 0) (state : T → IteratorState) (cursor : Option Cursor)
+    (e : SlateDBError) : Type 0 where
   pub sought : cursor ≢ None
   pub left : T
   pub sound : Sound left
@@ -45,4 +46,5 @@ pub record InnerFails {T : Type 0} (Sound : T → Type 0) (state : T → Iterato
 -- Of strictly ordered rows, those after a cursor are exactly the rows from its key on that are not written
 -- yet.
 abbrev pub ResumesAfter : Type 0
-ResumesAfter = (cursor : Cursor) (rows : List Row) → IsStrictlyOrdered rows → rows_after (Some cursor) rows ≡ filter (is_unwritten cursor) (filter (is_from cursor.0) rows)
+ResumesAfter = (cursor : Cursor) (rows : List Row) → IsStrictlyOrdered rows
+    → rows_after (Some cursor) rows ≡ filter (is_unwritten cursor) (filter (is_from cursor.0) rows)

@@ -38,7 +38,12 @@ context_with ranges settings release = record {
 
 -- The settings of a context. If it has no cut, the cut is the floor.
 abbrev pub settings_in : ContextParts → Settings
-settings_in context = record { floor = context.floor; tick = context.tick; last_run = context.last_run; cut = unwrap_or context.cut context.floor }
+settings_in context = record {
+  floor = context.floor;
+  tick = context.tick;
+  last_run = context.last_run;
+  cut = unwrap_or context.cut context.floor;
+}
 
 -- The ids of the tables with these descriptions.
 abbrev pub table_ids : List SsTableHandle → List ℕ
@@ -75,4 +80,5 @@ pub record IsContinued (earlier later : ContextParts) : Type 0 where
 -- If there was a context and a new one is given, the new one extends it, as the model says.
 abbrev pub FollowsContext : Option ContextParts → Option ContextParts → Type 0
 FollowsContext earlier None = ⊤
-FollowsContext earlier (Some later) = IfSome (option_map context_of earlier) (λ context. ContextExtends context (context_of later))
+FollowsContext earlier (Some later) =
+    IfSome (option_map context_of earlier) (λ context. ContextExtends context (context_of later))

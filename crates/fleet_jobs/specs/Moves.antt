@@ -10,7 +10,8 @@ use Rattle.fleet_tree.specs.declared.run.SortedRun.{SortedRun}
 -- Inserts a table in front of the first table whose first key is not below its own.
 abbrev pub put_view : View → List View → List View
 put_view view [] = view ∷ []
-put_view view (other ∷ others) = if is_lt (key_cmp other.sst.first_key view.sst.first_key) then other ∷ put_view view others else view ∷ other ∷ others
+put_view view (other ∷ others) = if is_lt (key_cmp other.sst.first_key view.sst.first_key)
+    then other ∷ put_view view others else view ∷ other ∷ others
 
 -- The tables by rising first key. Tables with one first key keep their order.
 abbrev pub by_start : List View → List View
@@ -30,7 +31,8 @@ are_disjoint (a ∷ b ∷ views) = not (intersect a b) && are_disjoint (b ∷ vi
 -- The run with this id that is made of these tables as they are, in their order. It is None if there are no
 -- tables, or if two neighbours' ranges intersect.
 abbrev pub run_of_disjoint : ℕ → List View → Option SortedRun
-run_of_disjoint id views = if is_nonempty views && are_disjoint views then Some (record { id = id; views = views }) else None
+run_of_disjoint id views =
+    if is_nonempty views && are_disjoint views then Some (record { id = id; views = views }) else None
 
 -- The run that a move makes of these tables, by rising first key. A drain, which has no destination, makes
 -- none.

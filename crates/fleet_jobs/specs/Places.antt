@@ -29,7 +29,8 @@ nodes_at segment core = nodes_if_there (tree_in segment core)
 -- the tree one after the other, and if one is a flush they reach the oldest flush. The id is the lowest source run
 -- or, if no run is a source, above all runs of the tree.
 abbrev pub may_merge : List NodeName → List NodeName → ℕ → Bool
-may_merge nodes sources run = is_nonempty sources && reaches_oldest sources (older_nodes sources nodes) && is_lowest_or_above run (run_ids sources) (run_ids nodes)
+may_merge nodes sources run = is_nonempty sources && reaches_oldest sources (older_nodes sources nodes)
+    && is_lowest_or_above run (run_ids sources) (run_ids nodes)
 
 -- True if these sources may be dropped from a tree with these nodes. They are in the tree, and every flush that is
 -- older than a source is a source too.
@@ -44,8 +45,10 @@ stand_among nodes sources (Some run) = may_merge nodes sources run
 
 -- True if the sources of a job stand in the tree of its segment, so that the job may be finished.
 abbrev pub sources_stand : CompactionSpec → ManifestCore → Bool
-sources_stand spec core = stand_among (nodes_at (segment_of spec) core) (map name_of (sources_of spec)) (destination_of spec)
+sources_stand spec core =
+    stand_among (nodes_at (segment_of spec) core) (map name_of (sources_of spec)) (destination_of spec)
 
 -- The nodes of the jobs that hold nodes. A job whose id is in the list holds its nodes whatever its status is.
 abbrev pub held_nodes : Jobs → List ℕ → List NodeName
-held_nodes jobs lost = flat_map (λ job. nodes_of job.spec) (filter (λ job. reserves_nodes job || contains lost job.id) jobs)
+held_nodes jobs lost =
+    flat_map (λ job. nodes_of job.spec) (filter (λ job. reserves_nodes job || contains lost job.id) jobs)

@@ -23,4 +23,5 @@ destination_of (DrainSegment spec) = None
 
 -- The model's spec with the contents of a program's spec.
 abbrev pub spec_of : CompactionSpec → JobSpec
-spec_of spec = record { segment = segment_of spec; sources = map name_of (sources_of spec); destination = destination_of spec }
+spec_of spec =
+    record { segment = segment_of spec; sources = map name_of (sources_of spec); destination = destination_of spec }

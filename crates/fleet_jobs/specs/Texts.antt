@@ -15,7 +15,8 @@ is_plain byte = nat_le 32 byte && nat_le byte 126 && not (byte == 34) && not (by
 
 -- A byte of a segment's prefix. It stands as it is if it is plain, and else as two hexadecimal digits.
 abbrev pub byte_text : ℕ → List ℕ
-byte_text byte = if is_plain byte then byte ∷ [] else codes "\\x" ++ digits 16 false (byte / 16) ++ digits 16 false (byte % 16)
+byte_text byte =
+    if is_plain byte then byte ∷ [] else codes "\\x" ++ digits 16 false (byte / 16) ++ digits 16 false (byte % 16)
 
 -- The prefix of a segment.
 abbrev pub segment_text : List ℕ → List ℕ
@@ -28,7 +29,8 @@ quoted_source source = codes "\"" ++ source_text source ++ codes "\""
 -- The sources in quotes, with commas between them, in brackets.
 abbrev pub sources_text : List SourceId → List ℕ
 sources_text [] = codes "[]"
-sources_text (source ∷ sources) = codes "[" ++ quoted_source source ++ flat_map (λ other. codes ", " ++ quoted_source other) sources ++ codes "]"
+sources_text (source ∷ sources) =
+    codes "[" ++ quoted_source source ++ flat_map (λ other. codes ", " ++ quoted_source other) sources ++ codes "]"
 
 -- The prefix of a segment, or nothing for the root.
 abbrev pub segment_or_root : List ℕ → List ℕ
@@ -36,7 +38,8 @@ segment_or_root segment = if bytes_eq segment [] then [] else segment_text segme
 
 -- A spec: its segment, and its sources with the run that is made of them.
 abbrev pub spec_text : CompactionSpec → List ℕ
-spec_text (Tiered spec) = segment_or_root spec.segment ++ sources_text spec.sources ++ codes " -> SR(" ++ decimal spec.destination ++ codes ")"
+spec_text (Tiered spec) = segment_or_root spec.segment ++ sources_text spec.sources ++ codes " -> SR("
+    ++ decimal spec.destination ++ codes ")"
 spec_text (DrainSegment spec) = segment_text spec.segment ++ codes "drain " ++ sources_text spec.sources
 
 -- The bytes that a job has processed, if there are any.
@@ -49,7 +52,8 @@ has_output range = not (length range.output_ssts == 0)
 
 -- How many of all ranges have tables.
 abbrev pub count_text : (with_output all : ℕ) → List ℕ
-count_text with_output all = codes " [" ++ decimal with_output ++ codes "/" ++ decimal all ++ codes " subcompactions with output]"
+count_text with_output all =
+    codes " [" ++ decimal with_output ++ codes "/" ++ decimal all ++ codes " subcompactions with output]"
 
 -- How many of the ranges have tables, if there are ranges.
 abbrev pub ranges_text : List Part → List ℕ

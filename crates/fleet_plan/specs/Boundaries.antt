@@ -19,4 +19,5 @@ abbrev pub boundary_keys : List Anchor → ℕ → ℕ → List (List ℕ)
 boundary_keys anchors max_ranges min_range_bytes =
     let total = saturated_sum (sum_by (λ a. a.bytes) anchors) in
     let target = max (total / max_ranges) min_range_bytes in
-    if nat_le max_ranges 1 || target == 0 || nat_le total target then [] else cut_anchors max_ranges target (anchors_by_key anchors)
+    if nat_le max_ranges 1 || target == 0 || nat_le total target then []
+    else cut_anchors max_ranges target (anchors_by_key anchors)

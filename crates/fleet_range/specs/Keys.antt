@@ -49,7 +49,8 @@ placed_range prefix whole (Included suffix) = Included (prefix ++ suffix)
 placed_range prefix whole (Excluded suffix) = Excluded (prefix ++ suffix)
 
 abbrev pub placed_ends : List ℕ → Ends (List ℕ) → Ends (List ℕ)
-placed_ends prefix ends = (placed_range prefix (prefix_start prefix) ends.0, placed_range prefix (end_before (successor prefix)) ends.1)
+placed_ends prefix ends =
+    (placed_range prefix (prefix_start prefix) ends.0, placed_range prefix (end_before (successor prefix)) ends.1)
 
 abbrev pub is_excluded : {K : Type 0} → Bound K → Bool
 is_excluded (Excluded key) = true

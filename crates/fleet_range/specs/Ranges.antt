@@ -73,7 +73,8 @@ module _ {K : Type 0} (R : K → K → Ordering) where
   -- The union of two ranges of which the second is not before the first: from the first start to the greater
   -- end. None if the two ranges neither overlap nor touch.
   abbrev pub joined_ends : Ends K → Ends K → Option (Ends K)
-  joined_ends first second = if is_non_empty (overlap first second) || touches second.0 first.1 then Some (first.0, ord_max (end_cmp R) first.1 second.1) else None
+  joined_ends first second = if is_non_empty (overlap first second) || touches second.0 first.1
+      then Some (first.0, ord_max (end_cmp R) first.1 second.1) else None
 
   abbrev pub union_of : Ends K → Ends K → Option (Ends K)
   union_of a b = if is_lt (ends_cmp a b) then joined_ends a b else joined_ends b a

@@ -69,7 +69,8 @@ then_equal Less = refl
 then_equal Equal = refl
 then_equal Greater = refl
 
-pub start_cuts : {K : Type 0} (R : K → K → Ordering) (a b : Bound K) → cut_cmp R (start_cut a) (start_cut b) ≡ start_cmp R a b
+pub start_cuts : {K : Type 0} (R : K → K → Ordering) (a b : Bound K)
+    → cut_cmp R (start_cut a) (start_cut b) ≡ start_cmp R a b
 start_cuts R Unbounded Unbounded = refl
 start_cuts R Unbounded (Included y) = refl
 start_cuts R Unbounded (Excluded y) = refl
@@ -92,10 +93,13 @@ end_cuts R (Excluded x) (Included y) = refl
 end_cuts R (Excluded x) (Excluded y) = then_equal (R x y)
 
 spot_total : {K : Type 0} {R : K → K → Ordering} → IsTotalOrder R → IsTotalOrder (spot_cmp R)
-spot_total {K} {R} o = then_total {K = K × ℕ} {R = on (λ p. p.0) R} {S = on (λ p. p.1) nat_cmp} (on_total {K = K × ℕ} {J = K} (λ p. p.0) o) (on_total {K = K × ℕ} {J = ℕ} (λ p. p.1) nat_cmp_total)
+spot_total {K} {R} o = then_total {K = K × ℕ} {R = on (λ p. p.0) R} {S = on (λ p. p.1) nat_cmp}
+    (on_total {K = K × ℕ} {J = K} (λ p. p.0) o) (on_total {K = K × ℕ} {J = ℕ} (λ p. p.1) nat_cmp_total)
 
 pub cut_total : {K : Type 0} {R : K → K → Ordering} → IsTotalOrder R → IsTotalOrder (cut_cmp R)
-cut_total {K} {R} o = then_total {K = Cut K} {R = on (λ c. c.0) nat_cmp} {S = on (λ c. c.1) (option_cmp (spot_cmp R))} (on_total {K = Cut K} {J = ℕ} (λ c. c.0) nat_cmp_total) (on_total {K = Cut K} {J = Option (K × ℕ)} (λ c. c.1) (options_total (spot_total o)))
+cut_total {K} {R} o = then_total {K = Cut K} {R = on (λ c. c.0) nat_cmp}
+    {S = on (λ c. c.1) (option_cmp (spot_cmp R))} (on_total {K = Cut K} {J = ℕ} (λ c. c.0) nat_cmp_total)
+    (on_total {K = Cut K} {J = Option (K × ℕ)} (λ c. c.1) (options_total (spot_total o)))
 
 pub start_total : {K : Type 0} {R : K → K → Ordering} → IsTotalOrder R → IsTotalOrder (start_cmp R)
 start_total {K} {R} o = subst IsTotalOrder (λ i a b. start_cuts R a b i) (on_total start_cut (cut_total o))
@@ -125,7 +129,8 @@ then_greater Less = refl
 then_greater Equal = refl
 then_greater Greater = refl
 
-pub start_ties : {K : Type 0} (E : K → K → Bool) (R : K → K → Ordering) → ((x y : K) → E x y ≡ eq_by_cmp R x y) → (a b : Bound K) → bound_eq E a b ≡ eq_by_cmp (start_cmp R) a b
+pub start_ties : {K : Type 0} (E : K → K → Bool) (R : K → K → Ordering)
+    → ((x y : K) → E x y ≡ eq_by_cmp R x y) → (a b : Bound K) → bound_eq E a b ≡ eq_by_cmp (start_cmp R) a b
 start_ties E R t Unbounded Unbounded = refl
 start_ties E R t Unbounded (Included y) = refl
 start_ties E R t Unbounded (Excluded y) = refl
@@ -136,7 +141,8 @@ start_ties E R t (Included x) (Excluded y) = sym (then_less (R x y))
 start_ties E R t (Excluded x) (Included y) = sym (then_greater (R x y))
 start_ties E R t (Excluded x) (Excluded y) = t x y
 
-pub end_ties : {K : Type 0} (E : K → K → Bool) (R : K → K → Ordering) → ((x y : K) → E x y ≡ eq_by_cmp R x y) → (a b : Bound K) → bound_eq E a b ≡ eq_by_cmp (end_cmp R) a b
+pub end_ties : {K : Type 0} (E : K → K → Bool) (R : K → K → Ordering)
+    → ((x y : K) → E x y ≡ eq_by_cmp R x y) → (a b : Bound K) → bound_eq E a b ≡ eq_by_cmp (end_cmp R) a b
 end_ties E R t Unbounded Unbounded = refl
 end_ties E R t Unbounded (Included y) = refl
 end_ties E R t Unbounded (Excluded y) = refl
@@ -160,7 +166,8 @@ bound_itself o Unbounded = refl
 bound_itself o (Included x) = o.refl x
 bound_itself o (Excluded x) = o.refl x
 
-bound_flip : {K : Type 0} {E : K → K → Bool} → ((x y : K) → E x y ≡ E y x) → (a b : Bound K) → bound_eq E a b ≡ bound_eq E b a
+bound_flip : {K : Type 0} {E : K → K → Bool} → ((x y : K) → E x y ≡ E y x) → (a b : Bound K)
+    → bound_eq E a b ≡ bound_eq E b a
 bound_flip s Unbounded Unbounded = refl
 bound_flip s Unbounded (Included y) = refl
 bound_flip s Unbounded (Excluded y) = refl
@@ -171,7 +178,8 @@ bound_flip s (Included x) (Excluded y) = refl
 bound_flip s (Excluded x) (Included y) = refl
 bound_flip s (Excluded x) (Excluded y) = s x y
 
-bound_alike : {K : Type 0} {E : K → K → Bool} → ((x y z : K) → E x y ≡ true → E x z ≡ E y z) → (a b c : Bound K) → bound_eq E a b ≡ true → bound_eq E a c ≡ bound_eq E b c
+bound_alike : {K : Type 0} {E : K → K → Bool} → ((x y z : K) → E x y ≡ true → E x z ≡ E y z)
+    → (a b c : Bound K) → bound_eq E a b ≡ true → bound_eq E a c ≡ bound_eq E b c
 bound_alike s Unbounded Unbounded c h = refl
 bound_alike s Unbounded (Included y) c h = never h
 bound_alike s Unbounded (Excluded y) c h = never h
@@ -195,7 +203,9 @@ bound_input f Unbounded = fed.u8 0
 bound_input f (Included x) = fed.u8 1 ++ f x
 bound_input f (Excluded x) = fed.u8 2 ++ f x
 
-pub bound_alike_input : {K : Type 0} (E : K → K → Bool) (f : K → fed.HashWrites) → ((x y : K) → E x y ≡ true → f x ≡ f y) → (a b : Bound K) → bound_eq E a b ≡ true → bound_input f a ≡ bound_input f b
+pub bound_alike_input : {K : Type 0} (E : K → K → Bool) (f : K → fed.HashWrites)
+    → ((x y : K) → E x y ≡ true → f x ≡ f y) → (a b : Bound K) → bound_eq E a b ≡ true
+    → bound_input f a ≡ bound_input f b
 bound_alike_input E f h Unbounded Unbounded e = refl
 bound_alike_input E f h Unbounded (Included y) e = never e
 bound_alike_input E f h Unbounded (Excluded y) e = never e

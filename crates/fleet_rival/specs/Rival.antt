@@ -35,4 +35,5 @@ view_of r = shared_view r.line r.party (lent_of r) (store_of r)
 
 -- Records that keep their version stay whole.
 abbrev pub StayWhole : (old new : StoreParts) → Type 0
-StayWhole old new = records_version old.world.store.records ≡ records_version new.world.store.records → new.processed ≡ old.processed
+StayWhole old new = records_version old.world.store.records ≡ records_version new.world.store.records
+    → new.processed ≡ old.processed

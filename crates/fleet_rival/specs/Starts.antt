@@ -12,8 +12,11 @@ next_epoch world = world.store.manifest.epoch + 1
 -- The world after the coordinator 1 put the next epoch into the manifest.
 abbrev pub raised : World → World
 raised world =
-    after_call 0 (Coordinator 1) (PutsManifest world.store.manifest.version (ManifestEpoch (next_epoch world)) (record world.store.manifest { epoch = next_epoch world })) None world
+    after_call 0 (Coordinator 1)
+    (PutsManifest world.store.manifest.version (ManifestEpoch (next_epoch world))
+    (record world.store.manifest { epoch = next_epoch world })) None world
 
 -- The world after it then put the first records, which have that epoch and no jobs.
 abbrev pub started : World → World
-started world = after_call 0 (Coordinator 1) (PutsRecords 0 (RecordsEpoch (next_epoch world)) (next_epoch world) []) None (raised world)
+started world = after_call 0 (Coordinator 1)
+    (PutsRecords 0 (RecordsEpoch (next_epoch world)) (next_epoch world) []) None (raised world)

@@ -12,7 +12,8 @@ content_of (Merge bytes) = model.Merge bytes
 content_of Tombstone = model.Tombstone
 
 abbrev pub row_of : RowEntry → Row
-row_of r = record { key = r.key; content = content_of r.value; seq = r.seq; created = r.create_ts; expires = r.expire_ts }
+row_of r =
+    record { key = r.key; content = content_of r.value; seq = r.seq; created = r.create_ts; expires = r.expire_ts }
 
 abbrev pub rows_of : List RowEntry → List Row
 rows_of rows = map row_of rows

@@ -56,7 +56,12 @@ abbrev pub run_node : MadeRun → Node
 run_node m = record { name = Run m.id; flushes = m.flush.0 ∷ []; pieces = firsts m.tables }
 
 abbrev pub root_of : FleetView → List MadeRun → Option ℕ → Segment
-root_of fleet made watermark = record { prefix = []; tree = map node_of fleet.flushes ++ map run_node made; last_seq = fleet.last_seq; watermark = watermark }
+root_of fleet made watermark = record {
+  prefix = [];
+  tree = map node_of fleet.flushes ++ map run_node made;
+  last_seq = fleet.last_seq;
+  watermark = watermark;
+}
 
 abbrev pub made_of : List MadeRun → Tables
 made_of made = map (λ m. m.flush) made
@@ -98,7 +103,8 @@ opened_job job = record (asked_job job) { status = Scheduled; source_tables = jo
 
 abbrev pub job_at : AskedJob → Stage → Job
 job_at job Waits = opened_job job
-job_at job (Runs settings) = record (opened_job job) { status = Running; lease = Some (record { worker = 1; heartbeat = 0 }); attempt = 1 }
+job_at job (Runs settings) =
+    record (opened_job job) { status = Running; lease = Some (record { worker = 1; heartbeat = 0 }); attempt = 1 }
 job_at job (Wrote tables cut) = record (opened_job job) {
   status = Compacted;
   lease = Some (record { worker = 1; heartbeat = 0 });
@@ -165,7 +171,8 @@ IsStored stored table = find (λ other. other.0 == table.0) stored ≡ Some tabl
 
 -- The table's id is a flush's name, at most the last one, or a number that was drawn for a table.
 abbrev pub IsUsed : FleetView → ℕ × List Row → Type 0
-IsUsed fleet table = (table.0 ≤ fleet.last_name) ⊎ ((drawn_base < table.0) × (table.0 ≤ drawn_base + fleet.tables_drawn))
+IsUsed fleet table =
+    (table.0 ≤ fleet.last_name) ⊎ ((drawn_base < table.0) × (table.0 ≤ drawn_base + fleet.tables_drawn))
 
 abbrev pub attempts_at : AskedJob → Stage → List Attempt
 attempts_at job Waits = []
@@ -214,9 +221,13 @@ workers false attempts = []
 workers true attempts = record { number = 1; release = Two; attempts = attempts } ∷ []
 
 abbrev pub parties_of : FleetView → Parties
-parties_of fleet = record { coordinators = coordinators fleet.coordinator; workers = workers fleet.worker (attempts_by fleet.opened) }
+parties_of fleet = record {
+  coordinators = coordinators fleet.coordinator;
+  workers = workers fleet.worker (attempts_by fleet.opened);
+}
 
 -- The state between two lines of a script: the fleet's parties with this store, the default
 -- options, moment 0 and no fault.
 abbrev pub state_of : FleetView → Store → State
-state_of fleet store = record { options = default_options; moment = 0; store = store; parties = parties_of fleet; fault = None }
+state_of fleet store =
+    record { options = default_options; moment = 0; store = store; parties = parties_of fleet; fault = None }

@@ -40,7 +40,12 @@ run_of run = (run.0, settings_of run.1)
 
 -- The worker's attempt at the job. It is the first attempt and has one range of all keys.
 abbrev pub attempt_of : AskedJob → Settings → Attempt
-attempt_of job settings = record { job = job.id; number = 1; sources = job.source ∷ []; context = record { settings = settings; has_cut = true; ranges = (all_keys, []) ∷ [] } }
+attempt_of job settings = record {
+  job = job.id;
+  number = 1;
+  sources = job.source ∷ [];
+  context = record { settings = settings; has_cut = true; ranges = (all_keys, []) ∷ [] };
+}
 
 -- The job has another flush and another run than the open job. This holds if no job is open.
 abbrev pub is_apart_from : Option AskedJob → AskedJob → Bool

@@ -29,7 +29,8 @@ pub record ReadFront (old new : SourceView) : Type 0 where
 
 -- Status 0: the source gave a script and ended, and the script was run. This holds for every merge
 -- operator.
-pub record RunsScript (fleet : FleetView) (source_old source_new : SourceView) (sink_old sink_new : SinkView) : Type 0 where
+pub record RunsScript (fleet : FleetView) (source_old source_new : SourceView)
+    (sink_old sink_new : SinkView) : Type 0 where
   pub text : List ℕ
   pub read : ReadWhole text source_old source_new
   pub served : (merge : Operator) → Served merge text fleet sink_old sink_new
@@ -43,7 +44,8 @@ pub record HasBadLine (source_old source_new : SourceView) : Type 0 where
 
 -- Status 5: the source gave a script and ended. The script was run up to a line whose reply the
 -- sink did not take to its end.
-pub record RunsUpTo (fleet : FleetView) (source_old source_new : SourceView) (sink_old sink_new : SinkView) : Type 0 where
+pub record RunsUpTo (fleet : FleetView) (source_old source_new : SourceView)
+    (sink_old sink_new : SinkView) : Type 0 where
   pub text : List ℕ
   pub read : ReadWhole text source_old source_new
   pub served : (merge : Operator) → ServedUpToFault merge text fleet sink_old sink_new
@@ -57,7 +59,8 @@ pub record ReadsScript (lines : List Line) (old new : SourceView) : Type 0 where
 -- Status 6: some lines, or none, were run, and the sink took exactly their replies. This holds for
 -- every merge operator. If a line was run, the source had given a script that begins with the lines
 -- that were run, and had ended.
-pub record RunsFirst (fleet : FleetView) (source_old source_new : SourceView) (sink_old sink_new : SinkView) : Type 0 where
+pub record RunsFirst (fleet : FleetView) (source_old source_new : SourceView)
+    (sink_old sink_new : SinkView) : Type 0 where
   pub run : List Line
   pub front : ReadFront source_old source_new
   pub ran : (merge : Operator) → Ran merge run fleet sink_old sink_new

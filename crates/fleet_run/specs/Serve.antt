@@ -59,7 +59,13 @@ flush_reply (Some fault) = bad_flush fault
 
 abbrev pub with_flush : FleetView → ℕ → ℕ → ℤ → List Row → FleetView
 with_flush fleet name floor tick rows =
-    record fleet { flushes = (name, rows) ∷ fleet.flushes; last_name = name; last_seq = greatest_seq fleet.last_seq rows; floor = floor; tick = tick }
+    record fleet {
+      flushes = (name, rows) ∷ fleet.flushes;
+      last_name = name;
+      last_seq = greatest_seq fleet.last_seq rows;
+      floor = floor;
+      tick = tick;
+    }
 
 abbrev pub after_flush : FleetView → ℕ → ℕ → ℤ → List Row → Option FlushFault → FleetView
 after_flush fleet name floor tick rows None = with_flush fleet name floor tick rows
@@ -110,11 +116,16 @@ abbrev pub started_reply : List ℕ
 started_reply = reply (codes "ok" ∷ codes "epoch" ∷ decimal 1 ∷ [])
 
 abbrev pub submit_reply : FleetView → List ℕ
-submit_reply fleet = if fleet.coordinator then reply (codes "ok" ∷ codes "job" ∷ jobs_text ((fleet.jobs_drawn + 1) ∷ []) ∷ []) else reply (codes "invaliddbstate" ∷ [])
+submit_reply fleet =
+    if fleet.coordinator then reply (codes "ok" ∷ codes "job" ∷ jobs_text ((fleet.jobs_drawn + 1) ∷ []) ∷ [])
+    else reply (codes "invaliddbstate" ∷ [])
 
 abbrev pub with_asked : FleetView → ℕ → ℕ → FleetView
 with_asked fleet source destination =
-    record fleet { jobs_drawn = fleet.jobs_drawn + 1; asked = fleet.asked ++ record { id = fleet.jobs_drawn + 1; source = source; destination = destination } ∷ [] }
+    record fleet {
+      jobs_drawn = fleet.jobs_drawn + 1;
+      asked = fleet.asked ++ record { id = fleet.jobs_drawn + 1; source = source; destination = destination } ∷ [];
+    }
 
 abbrev pub after_submit : FleetView → ℕ → ℕ → FleetView
 after_submit fleet source destination = if fleet.coordinator then with_asked fleet source destination else fleet
@@ -186,7 +197,8 @@ run_ids_after ids (Some job) = job.destination ∷ ids
 -- The result of the poll's look at the submitted jobs, after the finished job is committed.
 abbrev pub judged_after : FleetView → Option AskedJob → Judged
 judged_after fleet done =
-    judge_all (firsts (flushes_left fleet.flushes done)) (run_ids_after (firsts fleet.runs) done) (record { held = held_by (opened_left fleet.opened done); opened = []; refused = [] }) fleet.asked
+    judge_all (firsts (flushes_left fleet.flushes done)) (run_ids_after (firsts fleet.runs) done)
+    (record { held = held_by (opened_left fleet.opened done); opened = []; refused = [] }) fleet.asked
 
 abbrev pub judged_job : FleetView → Judged
 judged_job fleet = judged_after fleet (done_job fleet.opened)
@@ -206,12 +218,18 @@ abbrev pub polled_reply : List ℕ → Judged → List ℕ
 polled_reply done j = poll_reply (record (poll_begun [] 0 []) { done = done; opened = j.opened; refused = j.refused })
 
 abbrev pub poll_answer : FleetView → List ℕ
-poll_answer fleet = if fleet.coordinator then polled_reply (done_ids (done_job fleet.opened)) (judged_job fleet) else no_such_party
+poll_answer fleet =
+    if fleet.coordinator then polled_reply (done_ids (done_job fleet.opened)) (judged_job fleet) else no_such_party
 
 -- ---- claims
 
 abbrev pub settings_now : FleetView → AskedJob → Settings
-settings_now fleet job = record { floor = fleet.floor; tick = fleet.tick; last_run = is_last job.destination (firsts fleet.runs); cut = fleet.floor }
+settings_now fleet job = record {
+  floor = fleet.floor;
+  tick = fleet.tick;
+  last_run = is_last job.destination (firsts fleet.runs);
+  cut = fleet.floor;
+}
 
 -- The job, if it waits for a worker.
 abbrev pub waiting_at : AskedJob → Stage → Option AskedJob
@@ -235,7 +253,8 @@ abbrev pub claim_answer : FleetView → List ℕ
 claim_answer fleet = if fleet.worker then claimed_reply fleet (waiting_job fleet.opened) else no_such_party
 
 abbrev pub after_claim : FleetView → FleetView
-after_claim fleet = if fleet.worker then record fleet { opened = opened_claimed fleet fleet.opened (waiting_job fleet.opened) } else fleet
+after_claim fleet = if fleet.worker
+    then record fleet { opened = opened_claimed fleet fleet.opened (waiting_job fleet.opened) } else fleet
 
 -- ---- finishes
 
@@ -245,7 +264,8 @@ numbered_tables drawn (rows ∷ tables) = (table_id_of 0 (drawn + 1), rows) ∷ 
 
 -- The tables that a job with these settings writes from a flush.
 abbrev pub written_tables : FleetView → ℕ → Settings → Tables
-written_tables fleet source settings = numbered_tables fleet.tables_drawn (cut_tables default_options.table_size (kept_of_keys settings (table_rows fleet.flushes source)))
+written_tables fleet source settings = numbered_tables fleet.tables_drawn
+    (cut_tables default_options.table_size (kept_of_keys settings (table_rows fleet.flushes source)))
 
 -- The job that runs under this number, with its settings.
 abbrev pub run_at : ℕ → AskedJob → Stage → Option (AskedJob × Settings)
@@ -261,7 +281,10 @@ abbrev pub run_by : FleetView → ℕ → Option (AskedJob × Settings)
 run_by fleet number = if fleet.worker then run_opened number fleet.opened else None
 
 abbrev pub wrote : FleetView → AskedJob → Tables → ℕ → FleetView
-wrote fleet job tables cut = record fleet { tables_drawn = fleet.tables_drawn + length tables; opened = Some (record { job = job; stage = Wrote tables cut }) }
+wrote fleet job tables cut = record fleet {
+  tables_drawn = fleet.tables_drawn + length tables;
+  opened = Some (record { job = job; stage = Wrote tables cut });
+}
 
 abbrev pub finished_fleet : FleetView → Option (AskedJob × Settings) → FleetView
 finished_fleet fleet None = fleet
@@ -272,7 +295,8 @@ after_finish fleet number = finished_fleet fleet (run_by fleet number)
 
 abbrev pub finish_reply : FleetView → Option (AskedJob × Settings) → List ℕ
 finish_reply fleet None = no_such_party
-finish_reply fleet (Some run) = reply (codes "ok" ∷ ranges_text (firsts (written_tables fleet run.0.source run.1) ∷ []) ∷ [])
+finish_reply fleet (Some run) =
+    reply (codes "ok" ∷ ranges_text (firsts (written_tables fleet run.0.source run.1) ∷ []) ∷ [])
 
 abbrev pub finish_answer : FleetView → ℕ → List ℕ
 finish_answer fleet number = finish_reply fleet (run_by fleet number)
@@ -304,7 +328,8 @@ reply_to _ fleet = []
 abbrev pub fleet_after : Line → FleetView → FleetView
 fleet_after (StartCoordinator n) fleet = record fleet { coordinator = true }
 fleet_after (StartWorker n release) fleet = record fleet { worker = true }
-fleet_after (FlushRows name segment floor tick rows) fleet = after_flush fleet name floor tick rows (flush_fault fleet name floor tick rows)
+fleet_after (FlushRows name segment floor tick rows) fleet =
+    after_flush fleet name floor tick rows (flush_fault fleet name floor tick rows)
 fleet_after (SubmitJob segment destination sources) fleet = after_submit fleet (source_or_zero sources) destination
 fleet_after (Poll n) fleet = after_poll fleet
 fleet_after (ClaimJobs n) fleet = after_claim fleet

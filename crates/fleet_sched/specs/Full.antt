@@ -11,7 +11,8 @@ use Rattle.fleet_sched.specs.Views.{trees_in}
 -- The spec that merges these runs of a segment into the given one, if one is given.
 abbrev pub into_run : List ℕ → List SortedRun → Option ℕ → Option JobSpec
 into_run segment runs None = None
-into_run segment runs (Some lowest) = Some (record { segment = segment; sources = map (λ run. Run run.id) runs; destination = Some lowest })
+into_run segment runs (Some lowest) =
+    Some (record { segment = segment; sources = map (λ run. Run run.id) runs; destination = Some lowest })
 
 -- The spec that merges all runs of a tree into the lowest one. It is None if the tree has no runs.
 abbrev pub full_spec_in : List ℕ × LsmTreeState → Option JobSpec
@@ -19,4 +20,5 @@ full_spec_in s = into_run s.0 s.1.compacted (lowest_of (map (λ run. run.id) s.1
 
 -- The answer to a request to merge all runs of the tree of a segment.
 abbrev pub segment_answer : List ℕ → CompactorStateView → Generated
-segment_answer segment state = one_or_invalid (option_and_then full_spec_in (find (λ s. bytes_eq segment s.0) (trees_in state)))
+segment_answer segment state =
+    one_or_invalid (option_and_then full_spec_in (find (λ s. bytes_eq segment s.0) (trees_in state)))

@@ -16,7 +16,8 @@ tree_found segment state = option_map (λ s. s.1) (find (λ s. bytes_eq segment 
 -- True if the sources are in the tree one after the other, and the destination is the lowest source run if a
 -- run is a source.
 abbrev pub stands_in_tree : List NodeName → Option ℕ → LsmTreeState → Bool
-stands_in_tree sources destination tree = is_nonempty sources && is_some (older_nodes sources (nodes_in tree)) && agree (lowest_run sources) destination
+stands_in_tree sources destination tree =
+    is_nonempty sources && is_some (older_nodes sources (nodes_in tree)) && agree (lowest_run sources) destination
 
 -- True if the job with this destination and these sources is accepted, given the tree of its segment.
 abbrev pub accepts : Option ℕ → List NodeName → Option LsmTreeState → Bool

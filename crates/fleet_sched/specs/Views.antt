@@ -41,7 +41,8 @@ tree_handles tree = map (λ view. view.sst) tree.l0 ++ flat_map (λ run. map (λ
 
 -- The tables that trees and jobs name.
 abbrev pub handles_in : CompactorStateView → List SsTableHandle
-handles_in state = flat_map (λ s. tree_handles s.1) (trees_in state) ++ flat_map job_handles (open_records state.compactions)
+handles_in state =
+    flat_map (λ s. tree_handles s.1) (trees_in state) ++ flat_map job_handles (open_records state.compactions)
 
 -- The model's view of a state. It has no job that is over, and no count of the bytes that a job has
 -- processed. A program does not keep which flushes went into a run, so they are given too.

@@ -7,7 +7,8 @@ use Rattle.step_model.specs.Views.{StoreView}
 use Rattle.fleet_store.specs.Asks.{GetsManifest, GetsRecords}
 
 -- The manifest was got, and then the records were. `between` is what the caller saw in between.
-pub record GotBoth (old new : StoreView) (manifest : VersionedManifest) (records : Result (Option VersionedRecords) SlateDBError) : Type 0 where
+pub record GotBoth (old new : StoreView) (manifest : VersionedManifest)
+    (records : Result (Option VersionedRecords) SlateDBError) : Type 0 where
   pub between : StoreView
   pub first : GetsManifest old between (Ok manifest)
   pub second : GetsRecords between new records
@@ -15,4 +16,5 @@ pub record GotBoth (old new : StoreView) (manifest : VersionedManifest) (records
 -- Both objects were got, or one of the gets failed.
 abbrev pub GetsBoth : (old new : StoreView) → Result (VersionedManifest × Option VersionedRecords) SlateDBError → Type 0
 GetsBoth old new (Ok (manifest, records)) = GotBoth old new manifest (Ok records)
-GetsBoth old new (Err error) = GetsManifest old new (Err error) ⊎ ((manifest : VersionedManifest) × GotBoth old new manifest (Err error))
+GetsBoth old new (Err error) =
+    GetsManifest old new (Err error) ⊎ ((manifest : VersionedManifest) × GotBoth old new manifest (Err error))

@@ -56,7 +56,8 @@ pub record RunsTo {A : Type 0} (course : Course A) (old new : StoreView) (end : 
   pub ran : Ran old.who course old.world new.world old.waits new.waits end
 
 -- A step ran its course, and its result tells how the run ended.
-pub record StepRan {A B : Type 0} (ends : A → StepEnd B) (course : Course (StepEnd B)) (old new : StoreView) (result : Result A SlateDBError) : Type 0 where
+pub record StepRan {A B : Type 0} (ends : A → StepEnd B) (course : Course (StepEnd B)) (old new : StoreView)
+    (result : Result A SlateDBError) : Type 0 where
   pub to_end : OfSome (RunsTo course old new) (end_of ends result)
 
 -- ---- parts of a run
@@ -68,11 +69,13 @@ pub record Leads {A : Type 0} (course : Course A) (old : StoreView) (rest : Cour
   pub rise : old.faults ≤ new.faults
   pub no_fault : old.who.alone ≡ true → new.faults ≡ old.faults
   pub later : IsLater old.world.store new.world.store
-  pub on : (last : World) (left : Option Fault) (end : End A) → Ran old.who rest new.world last new.waits left end → Ran old.who course old.world last old.waits left end
+  pub on : (last : World) (left : Option Fault) (end : End A) → Ran old.who rest new.world last new.waits left end
+      → Ran old.who course old.world last old.waits left end
   pub lawful : IsLawfulCourse old.who old.world course → IsLawfulCourse old.who new.world rest
 
 -- One try of a step: if its put was refused, it leads to another try. Otherwise the step ends with it.
-pub record TryRan {A B : Type 0} (ends : A → StepEnd B) (course : Course (StepEnd B)) (again : ℕ → Course (StepEnd B)) (old new : StoreView) (result : Result A SlateDBError) : Type 0 where
+pub record TryRan {A B : Type 0} (ends : A → StepEnd B) (course : Course (StepEnd B))
+    (again : ℕ → Course (StepEnd B)) (old new : StoreView) (result : Result A SlateDBError) : Type 0 where
   pub ended : refused_at result ≡ None → StepRan ends course old new result
   pub refused : (seen : ℕ) → refused_at result ≡ Some seen → Leads course old (again seen) new
 
@@ -80,7 +83,8 @@ pub record TryRan {A B : Type 0} (ends : A → StepEnd B) (course : Course (Step
 
 -- How a course goes on after a put of the records: by whether its version is stored.
 abbrev pub put_then : {A : Type 0} → ℕ → Course A → (ℕ → Course A) → Store → Course A
-put_then version next again met = if version == records_version met.records then next else again (records_version met.records)
+put_then version next again met =
+    if version == records_version met.records then next else again (records_version met.records)
 
 -- A course that makes this put of the records for a version. It goes on with `next`, or with `again` if the put is
 -- refused.

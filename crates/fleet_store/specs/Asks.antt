@@ -30,7 +30,8 @@ MayCall view x = (met : World) → Rivals view.who view.world met → Lawful vie
 
 -- A put of the manifest fits each store that calls of others may leave: it is lawful, and if its version is
 -- stored, then it has the trees that the change makes of the stored ones.
-pub record ManifestPutFits (view : StoreView) (version : ℕ) (value : Manifest) (why : ManifestChange) (jobs : List JobParts) : Type 0 where
+pub record ManifestPutFits (view : StoreView) (version : ℕ) (value : Manifest) (why : ManifestChange)
+    (jobs : List JobParts) : Type 0 where
   pub lawful : MayCall view (manifest_put version value why jobs)
   pub shown : (met : World) → Rivals view.who view.world met → version ≡ met.store.manifest.version
       → HasTrees value jobs (manifest_change_of why) met.store
@@ -58,10 +59,13 @@ module _ (old new : StoreView) where
     pub answer : IfOk result (λ records. processed_by (jobs_or_none records) ≡ new.processed)
 
   -- If the put takes effect, the value is stored whole.
-  pub record PutsRecords (version : ℕ) (value : Compactions) (why : RecordChange) (result : Result ℕ SlateDBError) : Type 0 where
-    pub called : Called old new (λ met. records_put version value why) (λ met. PutsNext version (records_version met.records))
+  pub record PutsRecords (version : ℕ) (value : Compactions) (why : RecordChange)
+      (result : Result ℕ SlateDBError) : Type 0 where
+    pub called : Called old new (λ met. records_put version value why)
+        (λ met. PutsNext version (records_version met.records))
         (λ met. ShowsStored version (records_version met.records)) result
-    pub stored : records_version new.world.store.records ≢ records_version called.met.store.records → new.processed ≡ processed_by value.jobs
+    pub stored : records_version new.world.store.records ≢ records_version called.met.store.records
+        → new.processed ≡ processed_by value.jobs
 
   abbrev pub PutsTableRows : ℕ → List Row → Result Unit SlateDBError → Type 0
   PutsTableRows id rows result = Called old new (λ met. PutsTable id rows) (λ met done. ⊤) Never result
@@ -70,7 +74,8 @@ module _ (old new : StoreView) where
   GetsTable id result = Called old new (λ met. Plain (GetTable id)) (λ met rows. rows ≡ held_rows id met) Never result
 
   abbrev pub DrawsJobId : ℕ → Result ℕ SlateDBError → Type 0
-  DrawsJobId moment result = Called old new (λ met. DrawsJob moment) (λ met id. id ≡ next_job_id moment met) Never result
+  DrawsJobId moment result =
+      Called old new (λ met. DrawsJob moment) (λ met id. id ≡ next_job_id moment met) Never result
 
   abbrev pub DrawsTableId : ℕ → Result ℕ SlateDBError → Type 0
   DrawsTableId moment result =

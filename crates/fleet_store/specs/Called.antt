@@ -34,7 +34,8 @@ pub record IsNotMade (met : World) (old new : StoreView) : Type 0 where
   pub no_fault : old.who.alone ≡ true → new.faults ≡ old.faults
 
 -- The end of a call that met this store. There is no other error.
-module _ {A : Type 0} (x : Exchange) (met : World) (old new : StoreView) (Gives : A → Type 0) (Refuses : ℕ → Type 0) where
+module _ {A : Type 0} (x : Exchange) (met : World) (old new : StoreView) (Gives : A → Type 0)
+    (Refuses : ℕ → Type 0) where
   abbrev pub Ended : Result A SlateDBError → Type 0
   Ended (Ok answer) = Gives answer × IsMade x met old new
   Ended (Err StoreFault) = IsStruck x met old new
@@ -44,10 +45,12 @@ module _ {A : Type 0} (x : Exchange) (met : World) (old new : StoreView) (Gives 
 
 -- A call of the store. Calls of others may come before it, and the store that it meets decides on its answer. Records
 -- that keep their version stay whole.
-pub record Called {A : Type 0} (old new : StoreView) (x : Store → Exchange) (Gives : Store → A → Type 0) (Refuses : Store → ℕ → Type 0) (result : Result A SlateDBError) : Type 0 where
+pub record Called {A : Type 0} (old new : StoreView) (x : Store → Exchange) (Gives : Store → A → Type 0)
+    (Refuses : Store → ℕ → Type 0) (result : Result A SlateDBError) : Type 0 where
   pub same : SameCaller old new
   pub rise : old.faults ≤ new.faults
-  pub whole : records_version old.world.store.records ≡ records_version new.world.store.records → new.processed ≡ old.processed
+  pub whole : records_version old.world.store.records ≡ records_version new.world.store.records
+      → new.processed ≡ old.processed
   pub met : World
   pub rivals : Rivals old.who old.world met
   pub ended : Ended (x met.store) met old new (Gives met.store) (Refuses met.store) result

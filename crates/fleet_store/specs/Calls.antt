@@ -18,14 +18,16 @@ exchange_of (Plain event) store = model.Plain (event_of event.value)
 exchange_of (DrawsJob moment) store = model.DrawsJob moment
 exchange_of (DrawsTable moment) store = model.DrawsTable moment
 exchange_of (PutsTable id table) store = model.PutsTable id table.value
-exchange_of (PutsManifest version value why jobs) store = manifest_put version value.value why.value (jobs_shown jobs) store
+exchange_of (PutsManifest version value why jobs) store =
+    manifest_put version value.value why.value (jobs_shown jobs) store
 exchange_of (PutsRecords version value why) store = records_put version value.value why.value
 exchange_of ListsTables store = model.ListsTables
 exchange_of (DeletesTable id) store = model.DeletesTable id
 
 -- The world after a call.
 abbrev pub after_kept_call : World → Call → World
-after_kept_call world call = after_call call.line (party_of call.party) (exchange_of call.made world.store) call.strike world
+after_kept_call world call =
+    after_call call.line (party_of call.party) (exchange_of call.made world.store) call.strike world
 
 -- The world after these calls of a fresh store.
 abbrev pub world_of : List Call → World

@@ -16,11 +16,13 @@ use Rattle.fleet_store.specs.Manifests.{meant_by}
 
 -- A put of a manifest over this store. The jobs are those that a commit does.
 abbrev pub manifest_put : ℕ → Manifest → ManifestChange → List JobParts → model_store.Store → model.Exchange
-manifest_put version value why jobs store = model.PutsManifest version (manifest_change_of why) (meant_by jobs (manifest_change_of why) version value store)
+manifest_put version value why jobs store =
+    model.PutsManifest version (manifest_change_of why) (meant_by jobs (manifest_change_of why) version value store)
 
 -- A put of records.
 abbrev pub records_put : ℕ → Compactions → RecordChange → model.Exchange
-records_put version value why = model.PutsRecords version (record_change_of why) value.compactor_epoch (jobs_of value.jobs)
+records_put version value why =
+    model.PutsRecords version (record_change_of why) value.compactor_epoch (jobs_of value.jobs)
 
 -- A note.
 abbrev pub noted_exchange : Note → model.Exchange

@@ -20,15 +20,18 @@ use Rattle.fleet_store.specs.Records.{AreRecords, DescribeTables}
 
 -- Two puts of the manifest leave the same if their values are equal wherever their version is stored.
 abbrev pub RefusedPutsAreAlike : Type 0
-RefusedPutsAreAlike = (line : ℕ) (party : Party) (version : ℕ) (change : ManifestChange) (one other : Manifest) (strike : Strike) (world : World)
+RefusedPutsAreAlike = (line : ℕ) (party : Party) (version : ℕ) (change : ManifestChange)
+    (one other : Manifest) (strike : Strike) (world : World)
     → (version ≡ world.store.manifest.version → one ≡ other)
-    → after_call line party (PutsManifest version change one) strike world ≡ after_call line party (PutsManifest version change other) strike world
+    → after_call line party (PutsManifest version change one) strike world
+    ≡ after_call line party (PutsManifest version change other) strike world
 
 -- What was got of a store stays in a later one: an object as long as its version is stored, and what describes a
 -- table or names it in any case.
 pub record GotStays (got met : Store) : Type 0 where
   pub manifest : (m : VersionedManifest) → IsManifest m got → m.id ≡ met.manifest.version → IsManifest m met
-  pub records : (r : VersionedRecords) → AreRecords (Some r) got → r.id ≡ records_version met.records → AreRecords (Some r) met
+  pub records : (r : VersionedRecords) → AreRecords (Some r) got → r.id ≡ records_version met.records
+      → AreRecords (Some r) met
   pub handle : (handle : SsTableHandle) → IsDescribed got.tables handle → IsDescribed met.tables handle
   pub view : (view : View) → NamesTable got.tables view → NamesTable met.tables view
   pub jobs : (jobs : List JobParts) → DescribeTables jobs got → DescribeTables jobs met

@@ -70,17 +70,22 @@ spec_in jobs id = spec_or_none (record_with id jobs)
 -- The trees that a change makes of the stored ones. The specs are those of the jobs that a commit does.
 abbrev pub changed_trees : (ℕ → JobSpec) → model.ManifestChange → model_store.Store → Trees
 changed_trees specs (model.ManifestEpoch epoch) store = store.manifest.trees
-changed_trees specs (model.Flush name segment floor tick) store = flushed_trees segment name (table_rows store.tables name) store.manifest.trees
-changed_trees specs (model.Commit steps) store = stepped_all store.tables (λ id. (specs id, outputs_in store.records id)) steps store.manifest.trees
+changed_trees specs (model.Flush name segment floor tick) store =
+    flushed_trees segment name (table_rows store.tables name) store.manifest.trees
+changed_trees specs (model.Commit steps) store =
+    stepped_all store.tables (λ id. (specs id, outputs_in store.records id)) steps store.manifest.trees
 
 -- The model's manifest that is meant by a program's manifest which is put over this store: its trees are those
 -- that the change makes of the stored ones, and all else it has itself.
 abbrev pub meant_by : List JobParts → model.ManifestChange → ℕ → Manifest → model_store.Store → model_store.Manifest
 meant_by jobs change version manifest store =
-    record (manifest_of (λ prefix run. []) version manifest.compactor_epoch manifest.core) { trees = changed_trees (spec_in jobs) change store }
+    record (manifest_of (λ prefix run. []) version manifest.compactor_epoch manifest.core)
+    { trees = changed_trees (spec_in jobs) change store }
 
 -- The program's manifest has the trees that the change makes of the stored ones, but for the flushes of their
 -- nodes, and describes its tables.
-pub record HasTrees (value : Manifest) (jobs : List JobParts) (change : model.ManifestChange) (store : model_store.Store) : Type 0 where
-  pub same : map bare_segment (trees_of (λ prefix run. []) value.core) ≡ map bare_segment (changed_trees (spec_in jobs) change store)
+pub record HasTrees (value : Manifest) (jobs : List JobParts) (change : model.ManifestChange)
+    (store : model_store.Store) : Type 0 where
+  pub same : map bare_segment (trees_of (λ prefix run. []) value.core)
+      ≡ map bare_segment (changed_trees (spec_in jobs) change store)
   pub views : AllByRecursion (NamesTable store.tables) (views_in value.core)

@@ -52,7 +52,8 @@ parts_of log records = record {
 
 -- What a store in memory keeps is what its world has. `many` is the length of its history, which bounds its
 -- numbers.
-pub record IsMemory (store : Store) (many : ℕ) (manifest : VersionedManifest) (records : Option VersionedRecords) (held : Tables) (jobs_drawn tables_drawn : ℕ) : Type 0 where
+pub record IsMemory (store : Store) (many : ℕ) (manifest : VersionedManifest)
+    (records : Option VersionedRecords) (held : Tables) (jobs_drawn tables_drawn : ℕ) : Type 0 where
   pub manifest_is : IsManifest manifest store
   pub records_are : AreRecords records store
   pub held_are : held ≡ by_id (held_tables store)
@@ -89,7 +90,8 @@ processed_after (PutsRecords version change epoch jobs) strike store written pro
 processed_after _ strike store written processed = processed
 
 -- The call was made, with this fault and this answer without a fault.
-pub record IsOutcome {A : Type 0} (x : Exchange) (written : List ℕ) (Gives : A → Type 0) (Refuses : ℕ → Type 0) (old new : StoreParts) (made : Strike × Result A SlateDBError) : Type 0 where
+pub record IsOutcome {A : Type 0} (x : Exchange) (written : List ℕ) (Gives : A → Type 0)
+    (Refuses : ℕ → Type 0) (old new : StoreParts) (made : Strike × Result A SlateDBError) : Type 0 where
   pub strike_is : made.0 ≡ strike_by (event_of x old.world.store) old.waits
   pub world_is : new.world ≡ after_call old.line (party_of old.party) x made.0 old.world
   pub line_is : new.line ≡ old.line
@@ -101,7 +103,8 @@ pub record IsOutcome {A : Type 0} (x : Exchange) (written : List ℕ) (Gives : A
   pub fits : Fits Gives Refuses made.1
 
 -- The call was made, or memory ran out and nothing changed.
-abbrev pub Makes : {A : Type 0} → Exchange → (written : List ℕ) → (A → Type 0) → (ℕ → Type 0) → (old new : StoreParts) → Result (Strike × Result A SlateDBError) AllocError → Type 0
+abbrev pub Makes : {A : Type 0} → Exchange → (written : List ℕ) → (A → Type 0) → (ℕ → Type 0)
+    → (old new : StoreParts) → Result (Strike × Result A SlateDBError) AllocError → Type 0
 Makes x written Gives Refuses old new (Err refusal) = new ≡ old
 Makes x written Gives Refuses old new (Ok made) = IsOutcome x written Gives Refuses old new made
 

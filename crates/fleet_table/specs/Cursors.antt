@@ -51,7 +51,8 @@ pub record StandsAt (rows : List Row) (cursor : Cursor) : Type 0 where
   pub all : blocks_of_rows 0 rows ≡ before ++ (front ++ here ∷ later) ∷ after
   pub block : cursor.block ≡ length before
   pub row : cursor.row ≡ length (joined_rows before) + length front
-  pub place : drop cursor.place (table_bytes rows) ≡ row_bytes (key_after front) here ++ (flat_map (row_bytes (key_after (front ++ here ∷ []))) later ++ flat_map rows_bytes after)
+  pub place : drop cursor.place (table_bytes rows) ≡ row_bytes (key_after front) here
+      ++ (flat_map (row_bytes (key_after (front ++ here ∷ []))) later ++ flat_map rows_bytes after)
 
 -- The cursor is at a row, or after all rows.
 abbrev pub IsCursor : List Row → Cursor → Type 0

@@ -12,7 +12,14 @@ pub record RowsLeft : Type 0 where
 -- A table's iterator as an iterator state. The iterator needs no init, and only running out of memory fails
 -- it.
 abbrev pub state_of : RowsLeft → IteratorState
-state_of t = record { rows = t.left; initialised = true; failure = (if t.broken then Some Memory else None); whole = true; steady = true; refusal = None }
+state_of t = record {
+  rows = t.left;
+  initialised = true;
+  failure = (if t.broken then Some Memory else None);
+  whole = true;
+  steady = true;
+  refusal = None;
+}
 
 -- The rows that are left to be read. None are left where there is no table.
 abbrev pub rows_left : Option (List Row) → List Row

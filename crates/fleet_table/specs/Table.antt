@@ -20,7 +20,8 @@ pub record IsTableRows (rows : List Row) : Type 0 where
 
 -- A table of these rows has these bytes. It has this size, these blocks, which begin at these places, so many
 -- rows, and this sequence of its last row.
-pub record IsKept (rows : List Row) (bytes : List ℕ) (places : List BlockPlace) (listed : List BlockMeta) (measured count seq : ℕ) : Type 0 where
+pub record IsKept (rows : List Row) (bytes : List ℕ) (places : List BlockPlace) (listed : List BlockMeta)
+    (measured count seq : ℕ) : Type 0 where
   pub table : IsTableRows rows
   pub writable : AllByRecursion IsWritable rows
   pub spelt : bytes ≡ table_bytes rows

@@ -16,7 +16,8 @@ abbrev pub nodes_of : List NodeName → List nodes.NodeName
 nodes_of nodes = map node_of nodes
 
 abbrev pub line_of : Line → model.Line
-line_of (Options timeout concurrent slots ranges table_size moves retention) = model.Options timeout concurrent slots ranges table_size moves retention
+line_of (Options timeout concurrent slots ranges table_size moves retention) =
+    model.Options timeout concurrent slots ranges table_size moves retention
 line_of (Clock moment) = model.Clock moment
 line_of (StartCoordinator number) = model.StartCoordinator number
 line_of (StartWorker number release) = model.StartWorker number release

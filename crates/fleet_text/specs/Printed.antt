@@ -37,4 +37,5 @@ abbrev pub polled_text : PollReport → List ℕ
 polled_text r = reply (codes "ok"
     ∷ codes "freed" ∷ jobs_text r.freed ∷ codes "done" ∷ jobs_text r.done ∷ codes "lost" ∷ rules_text r.lost
     ∷ codes "added" ∷ jobs_text r.added ∷ codes "dropped" ∷ places_text r.dropped ∷ codes "open" ∷ jobs_text r.opened
-    ∷ codes "moved" ∷ jobs_text r.moved ∷ codes "drained" ∷ jobs_text r.drained ∷ codes "bad" ∷ rules_text r.refused ∷ [])
+    ∷ codes "moved" ∷ jobs_text r.moved ∷ codes "drained" ∷ jobs_text r.drained ∷ codes "bad"
+    ∷ rules_text r.refused ∷ [])

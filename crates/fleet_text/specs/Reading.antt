@@ -34,7 +34,8 @@ abbrev pub content_words : Content → List (List ℕ)
 content_words content = kind_text content ∷ content_text content ∷ []
 
 abbrev pub row_words : Row → List (List ℕ)
-row_words r = bytes_text r.key ∷ kind_text r.content ∷ content_text r.content ∷ decimal r.seq ∷ stamp_text r.created ∷ stamp_text r.expires ∷ []
+row_words r = bytes_text r.key ∷ kind_text r.content ∷ content_text r.content ∷ decimal r.seq
+    ∷ stamp_text r.created ∷ stamp_text r.expires ∷ []
 
 -- The rows of a flush: at least one, each in bounds.
 abbrev pub AreSomeRows : List Row → Type 0

@@ -42,7 +42,8 @@ abbrev pub flushed_segments : List ℕ → View → ℕ → List (List ℕ × Ls
 flushed_segments prefix view seq [] = (prefix, flushed_on view seq empty_tree) ∷ []
 flushed_segments prefix view seq (s ∷ trees) =
     if bytes_eq prefix s.0 then (prefix, flushed_on view seq s.1) ∷ trees
-    else (if is_lt (key_cmp prefix s.0) then (prefix, flushed_on view seq empty_tree) ∷ s ∷ trees else s ∷ flushed_segments prefix view seq trees)
+    else (if is_lt (key_cmp prefix s.0) then (prefix, flushed_on view seq empty_tree) ∷ s ∷ trees
+    else s ∷ flushed_segments prefix view seq trees)
 
 -- Whether this segment has this prefix, and its tree if it does. Without such a segment the tree is empty.
 abbrev pub tree_or_empty : List ℕ → Option (List ℕ × LsmTreeState) → Bool × LsmTreeState
@@ -69,7 +70,12 @@ module _ (flushes : ℕ → List ℕ) where
 -- The model's trees of a program's trees.
 module _ (flushes : RunFlushes) where
   abbrev pub segment_of : List ℕ × LsmTreeState → Segment
-  segment_of s = record { prefix = s.0; tree = tree_of (flushes s.0) s.1; last_seq = s.1.last_seq; watermark = s.1.last_compacted_l0_sst_view_id }
+  segment_of s = record {
+    prefix = s.0;
+    tree = tree_of (flushes s.0) s.1;
+    last_seq = s.1.last_seq;
+    watermark = s.1.last_compacted_l0_sst_view_id;
+  }
 
   abbrev pub trees_of : ManifestCore → Trees
   trees_of core = map segment_of (trees_with_prefix core)

@@ -83,7 +83,8 @@ pub record IsBeatPut (moment : ℕ) (w : WorkerParts) (got : VersionedRecords) (
   pub made : BeatenRecords w.number moment w.attempts got.compactions put.value
 
 -- A heartbeat over these records goes on with this put and then reports so.
-pub record Beats (moment : ℕ) (w : WorkerParts) (got : Option VersionedRecords) (report : BeatReport) (put : BeatPut) : Type 0 where
+pub record Beats (moment : ℕ) (w : WorkerParts) (got : Option VersionedRecords) (report : BeatReport)
+    (put : BeatPut) : Type 0 where
   pub next : (again : ℕ → Course (StepEnd Beaten)) → beat_by moment (live_of w) (option_map records_of got) again
       ≡ puts_and (records_put put.version put.value put.why) put.version (Ends (beat_ends_over w (report, got))) again
   pub described : (store : Store) → DescribeTables (jobs_or_none got) store → AreNoted w.attempts store

@@ -89,14 +89,16 @@ claim_ends_with answer = claim_ends answer.1 answer.0
 -- ---- the parts of a claim
 
 -- The jobs that a claim takes over these records, and the ids of those that it stops.
-pub record IsChoice (options : CompactionWorkerOptions) (w : WorkerParts) (jobs : List JobParts) (claimed : List JobParts) (stopped : List ℕ) : Type 0 where
+pub record IsChoice (options : CompactionWorkerOptions) (w : WorkerParts) (jobs : List JobParts)
+    (claimed : List JobParts) (stopped : List ℕ) : Type 0 where
   pub records : claimed ≡ taken_records options.max_concurrent_compactions (part_jobs w.attempts) w.release jobs
   pub takes : jobs_of claimed ≡ claimed_jobs options.max_concurrent_compactions (live_of w) (jobs_of jobs)
   pub stops : stopped ≡ ids (stopped_jobs (live_of w) (jobs_of jobs))
   pub rising : AreRising claimed
 
 -- The put of a claim of these jobs.
-pub record IsClaimPut (moment : ℕ) (w : WorkerParts) (got : VersionedRecords) (claimed : List JobParts) (put : ClaimPut) : Type 0 where
+pub record IsClaimPut (moment : ℕ) (w : WorkerParts) (got : VersionedRecords) (claimed : List JobParts)
+    (put : ClaimPut) : Type 0 where
   pub at : put.version ≡ got.id
   pub change : record_change_of put.why ≡ model.Claim w.number (next_numbers claimed)
   pub made : ClaimsRecords w.number moment (next_numbers claimed) got.compactions put.value
@@ -122,15 +124,18 @@ pub record AreNew (w : WorkerParts) (jobs : List JobParts) : Type 0 where
   pub apart : AllByRecursion (λ job. contains (part_jobs w.attempts) job.id ≡ false) jobs
 
 -- The claimed jobs start so under this manifest.
-pub record IsClaimStart (options : CompactionWorkerOptions) (moment : ℕ) (w : WorkerParts) (manifest : VersionedManifest) (claimed : List JobParts) (stopped : List ℕ) (start : ClaimStart) : Type 0 where
+pub record IsClaimStart (options : CompactionWorkerOptions) (moment : ℕ) (w : WorkerParts)
+    (manifest : VersionedManifest) (claimed : List JobParts) (stopped : List ℕ) (start : ClaimStart) : Type 0 where
   pub starts : Starts
   pub are : AreStarts w.release options moment manifest claimed starts
   pub plans : start.notes.items ≡ starts.notes.items
-  pub reports : start.report ≡ record { claimed = map (λ a. a.job) starts.begun.items; stopped = stopped; released = starts.released.items }
+  pub reports : start.report
+      ≡ record { claimed = map (λ a. a.job) starts.begun.items; stopped = stopped; released = starts.released.items }
   pub next : start.attempts ≡ next_parts stopped starts.begun.items w.attempts
 
 -- The end of a claim that began nothing: it stopped these jobs.
-pub record BeginsNothing (w : WorkerParts) (stopped : List ℕ) (report : ClaimReport) (attempts : List AttemptParts) : Type 0 where
+pub record BeginsNothing (w : WorkerParts) (stopped : List ℕ) (report : ClaimReport)
+    (attempts : List AttemptParts) : Type 0 where
   pub reports : report ≡ record { claimed = []; stopped = stopped; released = [] }
   pub left : attempts ≡ without_parts stopped w.attempts
 
@@ -138,10 +143,13 @@ pub record BeginsNothing (w : WorkerParts) (stopped : List ℕ) (report : ClaimR
 
 -- The notes were made, one after the other, or one of them failed.
 abbrev pub NotesEach : List Note → (old new : StoreView) → Result Unit SlateDBError → Type 0
-NotesEach notes old new (Ok done) = (rest : Course (StepEnd Claimed)) → Leads (calls_each (noted_events notes) rest) old rest new
+NotesEach notes old new (Ok done) = (rest : Course (StepEnd Claimed))
+    → Leads (calls_each (noted_events notes) rest) old rest new
 NotesEach notes old new (Err error) =
-    (rest : Course (StepEnd Claimed)) (again : ℕ → Course (StepEnd Claimed)) → TryRan claim_ends_with (calls_each (noted_events notes) rest) again old new (Err error)
+    (rest : Course (StepEnd Claimed)) (again : ℕ → Course (StepEnd Claimed))
+    → TryRan claim_ends_with (calls_each (noted_events notes) rest) again old new (Err error)
 
 -- The notes may be made whatever calls of others come in between.
 abbrev pub MayNoteEach : List Note → StoreView → Type 0
-MayNoteEach notes view = (answer : StepEnd Claimed) × IsLawfulCourse view.who view.world (calls_each (noted_events notes) (Ends answer))
+MayNoteEach notes view =
+    (answer : StepEnd Claimed) × IsLawfulCourse view.who view.world (calls_each (noted_events notes) (Ends answer))

@@ -29,7 +29,13 @@ use Rattle.fleet_worker.specs.Workers.{AttemptParts, WorkerParts, attempt_of, li
 
 -- The attempt, as the worker ends it at this moment.
 abbrev pub ended_by : (moment : ℕ) → WorkerParts → AttemptParts → EndedAttempt
-ended_by moment w a = record { worker = w.number; moment = moment; job = a.job; number = a.number; cut = finish_cut (release_of w.release) (context_of a.ctx) }
+ended_by moment w a = record {
+  worker = w.number;
+  moment = moment;
+  job = a.job;
+  number = a.number;
+  cut = finish_cut (release_of w.release) (context_of a.ctx);
+}
 
 -- The model's report of the end of a job with these tables, after which the worker runs these attempts.
 abbrev pub finished_job : Outputs → List Attempt → FinishedJob
@@ -49,30 +55,40 @@ one_finish moment w a outputs = end_try moment (live_of w) (attempt_of a) (map t
 
 -- The try may be made whatever calls of others come in between.
 abbrev pub MayFinish : StoreView → (moment : ℕ) → WorkerParts → AttemptParts → Outputs → Type 0
-MayFinish view moment w a outputs = (again : ℕ → Course (StepEnd FinishedJob)) × IsLawfulCourse view.who view.world (one_finish moment w a outputs again)
+MayFinish view moment w a outputs = (again : ℕ → Course (StepEnd FinishedJob))
+    × IsLawfulCourse view.who view.world (one_finish moment w a outputs again)
 
 -- The end of the job over these records.
-abbrev pub ends_over : (moment : ℕ) → WorkerParts → AttemptParts → Outputs → Option VersionedRecords → (ℕ → Course (StepEnd FinishedJob)) → Course (StepEnd FinishedJob)
-ends_over moment w a outputs got again = ends_job_by moment (live_of w) (attempt_of a) (map table_ids outputs) (option_map records_of got) again
+abbrev pub ends_over : (moment : ℕ) → WorkerParts → AttemptParts → Outputs → Option VersionedRecords
+    → (ℕ → Course (StepEnd FinishedJob)) → Course (StepEnd FinishedJob)
+ends_over moment w a outputs got again =
+    ends_job_by moment (live_of w) (attempt_of a) (map table_ids outputs) (option_map records_of got) again
 
 -- The end of the job over these records goes on with this put, and then reports. The put describes only tables that the
 -- records describe and those that the attempt ends with.
-pub record Finishes (moment : ℕ) (w : WorkerParts) (a : AttemptParts) (outputs : Outputs) (got : Option VersionedRecords) (put : FinishPut) : Type 0 where
-  pub next : (again : ℕ → Course (StepEnd FinishedJob)) → ends_over moment w a outputs got again ≡ puts_and (records_put put.version put.value put.why) put.version (Ends (done_ends w a outputs tt)) again
-  pub described : (store : Store) → AreShown outputs store → DescribeTables (jobs_or_none got) store → DescribeTables put.value.jobs store
+pub record Finishes (moment : ℕ) (w : WorkerParts) (a : AttemptParts) (outputs : Outputs)
+    (got : Option VersionedRecords) (put : FinishPut) : Type 0 where
+  pub next : (again : ℕ → Course (StepEnd FinishedJob)) → ends_over moment w a outputs got again
+      ≡ puts_and (records_put put.version put.value put.why) put.version (Ends (done_ends w a outputs tt)) again
+  pub described : (store : Store) → AreShown outputs store → DescribeTables (jobs_or_none got) store
+      → DescribeTables put.value.jobs store
 
 -- The same, or without a put the worker does not own the job.
-abbrev pub IsFinishOf : (moment : ℕ) → WorkerParts → AttemptParts → Outputs → Option VersionedRecords → Option FinishPut → Type 0
-IsFinishOf moment w a outputs got None = (again : ℕ → Course (StepEnd FinishedJob)) → ends_over moment w a outputs got again ≡ Ends NotOwner
+abbrev pub IsFinishOf : (moment : ℕ) → WorkerParts → AttemptParts → Outputs → Option VersionedRecords
+    → Option FinishPut → Type 0
+IsFinishOf moment w a outputs got None = (again : ℕ → Course (StepEnd FinishedJob))
+    → ends_over moment w a outputs got again ≡ Ends NotOwner
 IsFinishOf moment w a outputs got (Some put) = Finishes moment w a outputs got put
 
 -- The tables are a result of the attempt at the job with this number, if the worker runs this attempt: the result is
 -- whole, and the tables are described as they were put.
 pub record IsResult (view : StoreView) (w : WorkerParts) (job number : ℕ) (outputs : Outputs) : Type 0 where
-  pub whole : IfSome (attempt_run (live_of w) job number) (ResultFits view.who.merge view.world (live_of w) (map table_ids outputs))
+  pub whole : IfSome (attempt_run (live_of w) job number)
+      (ResultFits view.who.merge view.world (live_of w) (map table_ids outputs))
   pub shown : IfSome (attempt_run (live_of w) job number) (λ a. AreShown outputs view.world.store)
 
--- True if an attempt is not run any more after a step that was to end it had this error: the worker does not own the job.
+-- True if an attempt is not run any more after a step that was to end it had this error: the worker does not
+-- own the job.
 abbrev pub disowns : SlateDBError → Bool
 disowns error.NotOwner = true
 disowns _ = false
@@ -83,6 +99,8 @@ abbrev pub ends_attempt : {A : Type 0} → Result A SlateDBError → Bool
 ends_attempt (Ok done) = true
 ends_attempt (Err e) = disowns e
 
--- The attempts that a worker runs after a step with this result that was to end the attempt at the job with this number.
+-- The attempts that a worker runs after a step with this result that was to end the attempt at the job with
+-- this number.
 abbrev pub left_after : {A : Type 0} → Result A SlateDBError → (job number : ℕ) → List AttemptParts → List AttemptParts
-left_after result job number attempts = if ends_attempt result && is_some (attempt_with attempts job number) then without_parts (job ∷ []) attempts else attempts
+left_after result job number attempts = if ends_attempt result && is_some (attempt_with attempts job number)
+    then without_parts (job ∷ []) attempts else attempts

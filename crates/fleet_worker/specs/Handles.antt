@@ -32,7 +32,8 @@ answered answer (Ok done) = Ok (answer done)
 answered answer (Err e) = Err e
 
 -- A step ran its course, and this is the answer to it.
-pub record StepAnswers {A B : Type 0} (answer : A → WorkerAnswer) (ends : A → StepEnd B) (course : Course (StepEnd B)) (old new : StoreView) (result : Result WorkerAnswer SlateDBError) : Type 0 where
+pub record StepAnswers {A B : Type 0} (answer : A → WorkerAnswer) (ends : A → StepEnd B)
+    (course : Course (StepEnd B)) (old new : StoreView) (result : Result WorkerAnswer SlateDBError) : Type 0 where
   pub done : Result A SlateDBError
   pub answers : result ≡ answered answer done
   pub ran : StepRan ends course old new done
@@ -45,13 +46,18 @@ EndFits view w job number (Ok outputs) = IsResult view w job number outputs
 EndFits view w job number (Err e) = ⊤
 
 -- The step by which the worker takes the end of the attempt ran, and left the worker so.
-abbrev pub RunsEnd : (moment : ℕ) → (w next : WorkerParts) → (job number : ℕ) → Result Outputs SlateDBError → (old new : StoreView) → Result WorkerAnswer SlateDBError → Type 0
-RunsEnd moment w next job number (Ok outputs) old new result = StepAnswers (λ done. answer.Finished) (finish_ends outputs next.attempts) (take_finished moment (live_of w) job number (map table_ids outputs)) old new result
-RunsEnd moment w next job number (Err e) old new result = StepAnswers (λ done. answer.Released) (runs_then next.attempts) (take_failed (live_of w) job number) old new result
+abbrev pub RunsEnd : (moment : ℕ) → (w next : WorkerParts) → (job number : ℕ) → Result Outputs SlateDBError
+    → (old new : StoreView) → Result WorkerAnswer SlateDBError → Type 0
+RunsEnd moment w next job number (Ok outputs) old new result =
+    StepAnswers (λ done. answer.Finished) (finish_ends outputs next.attempts)
+    (take_finished moment (live_of w) job number (map table_ids outputs)) old new result
+RunsEnd moment w next job number (Err e) old new result = StepAnswers (λ done. answer.Released)
+    (runs_then next.attempts) (take_failed (live_of w) job number) old new result
 
 -- The attempts that are left after a message that an attempt ended: if it finished, the worker drops it also where it
 -- does not own the job. Otherwise an error leaves all attempts.
-abbrev pub LeavesEnded : (w next : WorkerParts) → (job number : ℕ) → Result Outputs SlateDBError → Result WorkerAnswer SlateDBError → Type 0
+abbrev pub LeavesEnded : (w next : WorkerParts) → (job number : ℕ) → Result Outputs SlateDBError
+    → Result WorkerAnswer SlateDBError → Type 0
 LeavesEnded w next job number (Ok outputs) result = next.attempts ≡ left_after result job number w.attempts
 LeavesEnded w next job number (Err e) result = OnErr result (next.attempts ≡ w.attempts)
 
@@ -60,7 +66,8 @@ LeavesEnded w next job number (Err e) result = OnErr result (next.attempts ≡ w
 -- The context is progress of the attempt, if the worker runs it: it fits the attempt, and the tables that it has noted
 -- are described as they were put.
 pub record IsProgress (view : StoreView) (w : WorkerParts) (job number : ℕ) (ctx : ContextParts) : Type 0 where
-  pub goes : IfSome (attempt_run (live_of w) job number) (ProgressFits view.who.merge view.world (live_of w) (context_of ctx))
+  pub goes : IfSome (attempt_run (live_of w) job number)
+      (ProgressFits view.who.merge view.world (live_of w) (context_of ctx))
   pub shown : IfSome (attempt_run (live_of w) job number) (λ a. IsShownBy view.world.store ctx)
 
 -- What the message says fits the worker and the store. A result of an attempt that the worker runs must be whole, and
@@ -72,11 +79,17 @@ MessageFits view w PollCompactions = ⊤
 MessageFits view w HeartbeatOwnedJobs = ⊤
 
 -- The step of the message ran, and left the worker so.
-abbrev pub RunsMessage : CompactionWorkerOptions → (moment : ℕ) → (w next : WorkerParts) → WorkerMessage → (old new : StoreView) → Result WorkerAnswer SlateDBError → Type 0
-RunsMessage options moment w next (CompactionJobFinished id number ended) old new result = RunsEnd moment w next id number ended old new result
-RunsMessage options moment w next (CompactionJobProgress id number bytes ctx) old new result = StepAnswers (λ done. answer.Noted) (runs_then next.attempts) (take_progress (live_of w) id number (context_of ctx)) old new result
-RunsMessage options moment w next PollCompactions old new result = StepAnswers answer.Claimed (claim_ends next.attempts) (claim (options_of options) moment (live_of w)) old new result
-RunsMessage options moment w next HeartbeatOwnedJobs old new result = StepAnswers answer.Beat (beat_ends next.attempts) (heartbeat moment (live_of w)) old new result
+abbrev pub RunsMessage : CompactionWorkerOptions → (moment : ℕ) → (w next : WorkerParts) → WorkerMessage
+    → (old new : StoreView) → Result WorkerAnswer SlateDBError → Type 0
+RunsMessage options moment w next (CompactionJobFinished id number ended) old new result =
+    RunsEnd moment w next id number ended old new result
+RunsMessage options moment w next (CompactionJobProgress id number bytes ctx) old new result =
+    StepAnswers (λ done. answer.Noted) (runs_then next.attempts)
+    (take_progress (live_of w) id number (context_of ctx)) old new result
+RunsMessage options moment w next PollCompactions old new result = StepAnswers answer.Claimed
+    (claim_ends next.attempts) (claim (options_of options) moment (live_of w)) old new result
+RunsMessage options moment w next HeartbeatOwnedJobs old new result =
+    StepAnswers answer.Beat (beat_ends next.attempts) (heartbeat moment (live_of w)) old new result
 
 -- The attempts that are left after the message.
 abbrev pub LeavesAttempts : (w next : WorkerParts) → WorkerMessage → Result WorkerAnswer SlateDBError → Type 0

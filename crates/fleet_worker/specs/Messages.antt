@@ -50,14 +50,19 @@ gone_ends w a done = Reports (without_attempts (a.job ∷ []) (live_of w).attemp
 
 -- A release of the attempt over these records goes on with this put. The put describes only tables that the records
 -- describe.
-pub record ReturnsOne (w : WorkerParts) (a : AttemptParts) (got : Option VersionedRecords) (put : ReleasePut) : Type 0 where
-  pub next : (again : ℕ → Course (StepEnd (List Attempt))) → release_by (live_of w) (attempt_of a ∷ []) (option_map records_of got) (is_gone (live_of w) (attempt_of a)) again
+pub record ReturnsOne (w : WorkerParts) (a : AttemptParts) (got : Option VersionedRecords)
+    (put : ReleasePut) : Type 0 where
+  pub next : (again : ℕ → Course (StepEnd (List Attempt)))
+      → release_by (live_of w) (attempt_of a ∷ []) (option_map records_of got)
+      (is_gone (live_of w) (attempt_of a)) again
       ≡ puts_and (records_put put.version put.value put.why) put.version (Ends (gone_ends w a tt)) again
   pub described : (store : Store) → DescribeTables (jobs_or_none got) store → DescribeTables put.value.jobs store
 
 -- The same, or without a put the attempt is not live.
 abbrev pub IsReturnOf : WorkerParts → AttemptParts → Option VersionedRecords → Option ReleasePut → Type 0
-IsReturnOf w a got None = (again : ℕ → Course (StepEnd (List Attempt))) → release_by (live_of w) (attempt_of a ∷ []) (option_map records_of got) (is_gone (live_of w) (attempt_of a)) again ≡ Ends (gone_ends w a tt)
+IsReturnOf w a got None = (again : ℕ → Course (StepEnd (List Attempt)))
+    → release_by (live_of w) (attempt_of a ∷ []) (option_map records_of got)
+    (is_gone (live_of w) (attempt_of a)) again ≡ Ends (gone_ends w a tt)
 IsReturnOf w a got (Some put) = ReturnsOne w a got put
 
 -- ---- progress
@@ -73,5 +78,7 @@ IsShownBy store ctx = AllByRecursion (λ part. AllByRecursion (IsDescribed store
 
 -- A worker that is ready for a step over a store and takes progress that fits is ready after it.
 pub record StaysReady (w : WorkerParts) (job number : ℕ) (ctx : ContextParts) (next : WorkerParts) : Type 0 where
-  pub over : (view : StoreView) → IsLawful view.who.merge → IsReady view w → IfSome (attempt_run (live_of w) job number) (ProgressFits view.who.merge view.world (live_of w) (context_of ctx))
+  pub over : (view : StoreView) → IsLawful view.who.merge → IsReady view w
+      → IfSome (attempt_run (live_of w) job number)
+      (ProgressFits view.who.merge view.world (live_of w) (context_of ctx))
       → IfSome (attempt_run (live_of w) job number) (λ a. IsShownBy view.world.store ctx) → IsReady view next
