@@ -12,6 +12,7 @@ module _ (P : Row → Type 0) (keeps : (tick : ℤ) (r : Row) → P r → P (as_
   all-both [] ys h g = g
   all-both (x ∷ xs) ys h g = (h.0, all-both xs ys h.1 g)
 
+  -- If a property holds of rows, it holds of the rows that the walk of retention keeps of them.
   pub all-walk : (cut : ℕ) (tick : ℤ) (rows : List Row) → AllByRecursion P rows → AllByRecursion P (retention_walk cut tick rows)
   all-walk cut tick [] h = tt
   all-walk cut tick (r ∷ rows) h = by (is_operand r) (is_expired r tick) (nat_le r.seq cut) (all-walk cut tick rows h.1)
@@ -24,6 +25,7 @@ module _ (P : Row → Type 0) (keeps : (tick : ℤ) (r : Row) → P r → P (as_
       by false expired true rest = (keeps tick r h.0, tt)
       by false expired false rest = (keeps tick r h.0, rest)
 
+  -- If a property holds of rows, it holds of those that are left without the old tombstones.
   pub all-stripped : (rows : List Row) → AllByRecursion P rows → AllByRecursion P (without_old_tombstones rows)
   all-stripped [] h = tt
   all-stripped (r ∷ rows) h = by (without_old_tombstones rows) (all-stripped rows h.1)

@@ -85,6 +85,8 @@ pub record Reads (s t : IteratorState) (o : Option RowEntry) : Type 0 where
   pub whole : t.whole ≡ s.whole
   pub ended : o ≡ None → (t.rows ≡ []) × (t.whole ≡ true)
 
+-- If `next` of a readable inner iterator answers without an error, it has read the next row, if there is
+-- one.
 pub reads : (s t : IteratorState) (o : Option RowEntry) → IsReadable s → Nexts s t (Ok o) → Reads s t o
 reads s t o k n = by o (n.answers k.0 k.1)
   where
@@ -115,6 +117,7 @@ all_filtered P answers closing (r ∷ rows) all = by (answers [] r) (all_filtere
     by (Ok Drop) rest = rest
     by (Ok (Modify value)) rest = (all.0, rest)
 
+-- The rows that a filter leaves of rising rows rise.
 pub filtered_rise : (answers : Answers) (closing : Closing) (rows : List Row) → AreRising rows → AreRising (filtered_rows answers closing rows).rows
 filtered_rise answers closing [] h = tt
 filtered_rise answers closing (r ∷ rows) h =
@@ -144,6 +147,7 @@ module _ (answers : Answers) (closing : Closing) (failure : Option SlateDBError)
   was_initialised : (key : List ℕ) → Seeks key inner after (Ok tt) → inner.initialised ≡ true
   was_initialised key seeks = true_from_ne_false inner.initialised (λ i. let e = (seeks.uninitialised knows.alive i).answer in cc e)
 
+  -- If a seek of the inner iterator succeeds, it is a seek of the filtered iterator to the same key.
   pub seeks_filtered : (key : List ℕ) → Seeks key inner after (Ok tt) → Seeks key (F failure inner) (F failure after) (Ok tt)
   seeks_filtered key seeks =
       let begun = was_initialised key seeks in

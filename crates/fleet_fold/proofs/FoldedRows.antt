@@ -48,6 +48,7 @@ module _ (merge : Operator) (rule : GroupRule) where
   passed r rows h =
       ap (λ (b : Bool). if b then merged_group merge (r, joining rule r rows) ∷ folded_after merge rule (length (joining rule r rows)) rows else Ok r ∷ folded_after merge rule 0 rows) h
 
+  -- If a row opens a group, the row that the group becomes is the next folded row.
   pub folds_opened : (first r : Row) (old : IteratorState) (later : Option RowEntry) (new : IteratorState) → opens rule first ≡ true → FoldsGroup merge rule first old r later new → Folds merge rule first old r later new
   folds_opened first r old later new is h =
       let taken : List Row = joining rule first old.rows in

@@ -52,6 +52,7 @@ module _ (merge : Operator) (rule : GroupRule) where
       by true afterwards rest = first (merged_group merge (r, joining rule r rows)) (U (length (joining rule r rows)) rows) refl afterwards
       by false afterwards rest = (all.0, rest)
 
+  -- The rows that rising rows fold to rise.
   pub folded_rise : (taken : ℕ) (rows : List Row) → AreRising rows → AreRising (U taken rows).rows
   folded_rise taken [] h = tt
   folded_rise (suc taken) (r ∷ rows) h = folded_rise taken rows h.1
@@ -176,6 +177,8 @@ module _ (key : List ℕ) (merge : Operator) (rule : GroupRule) (ahead later : O
       subst (λ (b : Bool). Moves b key A B) (sym was)
       (record { initialised = begun; failure = refl; rising = subst (λ (w : List Row). AreRising (folded_groups merge rule w).rows) (sym left_over) (folded_rise merge rule 0 after.rows rising) })
 
+  -- If the inner iterator has moved to a key, the folded rows have moved to it too. They have exactly the
+  -- rows from the key on if the inner iterator is steady and whole and no fold is refused.
   moved : AreRising inner.rows → (exact : Bool) → is_exact inner ≡ exact → (o : Option SlateDBError) → (folded_groups merge rule R).refusal ≡ o → Moves exact key inner after → Moves (inner.steady && W) key A B
   moved rising true exact None eo m =
       let ew : inner.whole ≡ true = (and_parts inner.steady inner.whole exact).1 in
@@ -201,6 +204,8 @@ module _ (key : List ℕ) (merge : Operator) (rule : GroupRule) (ahead later : O
       passes (and_right inner.steady W (and_right inner.whole (is_none (folded_groups merge rule R).refusal) (ap is_none eo))) (ap (λ (s : IteratorState). s.initialised) m) (moves_rising key inner after true m rising)
   moved rising false exact o eo m = passes (inexact inner.steady inner.whole (is_none (folded_groups merge rule R).refusal) exact) m.initialised m.rising
 
+-- If no row is read ahead any more and a seek of the inner iterator succeeds, it is a seek of the
+-- iterator of folded rows.
 pub seeks_folded : (key : List ℕ) (merge : Operator) (rule : GroupRule) (failure : Option SlateDBError) (ahead later : Option RowEntry) (inner after : IteratorState) → failure ≡ None → ReadsGroups merge rule failure ahead inner → AreRising (from_ahead ahead inner)
     → rows_of (option_to_list later) ≡ from_key key (rows_of (option_to_list ahead)) → later ≡ None → Seeks key inner after (Ok tt) → Seeks key (merging failure merge rule ahead inner) (merging failure merge rule later after) (Ok tt)
 seeks_folded key merge rule (Some e) ahead later inner after alive k rises at gone seeks = absurd (cc alive)

@@ -19,6 +19,7 @@ int_le_back (negsuc a) (negsuc b) h = let p = leb-false b a h in le-leb a b (ome
 pub clash : {b : Bool} → b ≡ true → b ≡ false → ⊥
 clash {b} h g = let e : true ≡ false = sym h ∙ g in cc e
 
+-- The greatest of three stamps does not depend on which two are compared first.
 pub greater-assoc : (a b c : Option ℤ) → greater_stamp a (greater_stamp b c) ≡ greater_stamp (greater_stamp a b) c
 greater-assoc None b c = refl
 greater-assoc (Some a) None c = refl
@@ -37,6 +38,7 @@ greater-assoc (Some a) (Some b) (Some c) = by (int_le a b) (int_le b c) (int_le 
     by false false true p q r = absurd (clash (int_le_trans a c b r (int_le_back b c q)) p)
     by false false false p q r = ap (λ (w : Bool). if w then Some b else Some a) p ∙ sym (ap (λ (w : Bool). if w then Some c else Some a) r)
 
+-- The least of three stamps does not depend on which two are compared first.
 pub lesser-assoc : (a b c : Option ℤ) → lesser_stamp a (lesser_stamp b c) ≡ lesser_stamp (lesser_stamp a b) c
 lesser-assoc None b c = refl
 lesser-assoc (Some a) None c = refl

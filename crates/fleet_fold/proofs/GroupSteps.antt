@@ -20,6 +20,8 @@ operand_of c x h = ap (λ (w : Content). with_group_operand w []) h
 
 -- ---- the first operand
 
+-- A group that has its first row's key, sequence, stamps and operand, and no more, has gathered that row
+-- alone.
 pub gathers_first : (merge : Operator) (first : Row) (g : Group) (x : List ℕ) → g.key ≡ first.key → g.seq ≡ first.seq → g.stamp ≡ first.expires → g.created ≡ first.created → g.expires ≡ first.expires → g.late ≡ None
     → g.batch.items ≡ x ∷ [] → g.folded.items ≡ [] → first.content ≡ Merge x → is_operand first ≡ true → Gathers merge first [] g
 gathers_first merge first g x key seq stamp created expires late batch folded is operand = record {
@@ -47,6 +49,8 @@ length-snoc [] x = refl
 length-snoc (y ∷ xs) x = ap suc (length-snoc xs x)
 
 module _ (merge : Operator) where
+  -- A group that notes an operand and takes its bytes has gathered one more operand, which may fill a
+  -- batch.
   pub adds : (old mid new : Group) (row : Row) (x : List ℕ) → Notes old row mid → new.key ≡ mid.key → new.seq ≡ mid.seq → new.stamp ≡ mid.stamp → new.created ≡ mid.created → new.expires ≡ mid.expires → new.late ≡ mid.late
       → new.folded.items ≡ mid.folded.items → new.batch.items ≡ mid.batch.items ++ x ∷ [] → row.content ≡ Merge x → is_operand row ≡ true
       → (first : Row) (taken : List Row) → Gathers merge first taken old → GathersUpTo batch_len merge first (taken ++ row ∷ []) new
@@ -127,6 +131,8 @@ module _ (merge : Operator) where
     room = let same = h.count in omega arith;
   }
 
+  -- If the operands that wait fill a batch and are merged, the group has gathered the same rows, and less
+  -- than a batch waits.
   pub flushes_full : (old new : Group) → batch_len ≤ length old.batch.items → Flushes merge old new → FlushesFull merge old new
   flushes_full old new full flushes first taken h = by h.pending refl
     where
@@ -159,6 +165,8 @@ module _ (merge : Operator) where
   refused_answer : (first : Row) (rows : List Row) (e : SlateDBError) → group_answer merge (first, rows) ≡ Err e → merged_group merge (first, rows) ≡ Err e
   refused_answer first rows e h = ap (row_of_answer (first, rows)) h
 
+  -- If earlier batches of a group are merged and a batch is refused, the group is refused with the same
+  -- error.
   refused_batches : (first : Row) (taken later : List Row) (done rest : List (List Row)) (results : List (List ℕ)) (batch : List Row) (e : SlateDBError) → AllOperands (first ∷ taken)
       → batches batch_len (first ∷ (taken ++ operands_in later)) ≡ done ++ batch ∷ rest → map (batch_answer merge first) done ≡ map Ok results → batch_answer merge first batch ≡ Err e → merged_group merge (first, taken ++ later) ≡ Err e
   refused_batches first taken later done rest results batch e all cut folded refused =
@@ -174,6 +182,8 @@ module _ (merge : Operator) where
   head_is : (a b : Result (List ℕ) SlateDBError) → ◌≡◌ {A = List (Result (List ℕ) SlateDBError)} (a ∷ []) (b ∷ []) → a ≡ b
   head_is a b h = cc h
 
+  -- If the merge of a full batch is refused, the group is refused with the same error, whatever rows join
+  -- it later.
   pub refuses_full : (g : Group) (e : SlateDBError) → batch_len ≤ length g.batch.items → RefusesFlush merge g e → RefusesFull merge g e
   refuses_full g e full refuses first taken later h other = by h.pending refl
     where
@@ -191,6 +201,7 @@ module _ (merge : Operator) where
 
   -- ---- all operands are merged
 
+  -- If the operands that wait are merged, all operands of the group are merged.
   pub all_merged : (old new : Group) (first : Row) (taken : List Row) → Gathers merge first taken old → Flushes merge old new → IsMerged merge first taken new
   all_merged old new first taken h flushes = by h.pending refl
     where
@@ -213,6 +224,8 @@ module _ (merge : Operator) where
           ∙ with_last first h.done p pending old new h.folded same (as_batch first taken 99 old h ∙ ap (batch_answer merge first) is) flushes)
           (flushes.in_order (is_filled old.batch.items p pending same))
 
+  -- If the merge of the last operands is refused, the group is refused with the same error, whatever its
+  -- base is.
   pub refuses_last : (old : Group) (e : SlateDBError) → RefusesFlush merge old e → (first : Row) (taken base : List Row) → Gathers merge first taken old → operands_in base ≡ [] → RefusesAs (merged_group merge (first, taken ++ base)) e
   refuses_last old e refuses first taken base h none other = by h.pending refl
     where

@@ -77,6 +77,7 @@ module _ (merge : Operator) (rule : GroupRule) where
       by (Ok bytes) h = let e : merged_row g bytes ≡ q = cc in sym (ap (λ (r : Row). r.key) e)
       by (Err e) h = absurd (cc h)
 
+  -- What holds of the keys of all rows holds of the keys of the rows that they fold to.
   after_keys : (P : List ℕ → Type 0) (taken : ℕ) (rows : List Row) → AllByRecursion (λ r. P r.key) rows → AllByRecursion (λ r. P r.key) (up_to_refusal (folded_after merge rule taken rows)).rows
   after_keys P taken [] all = tt
   after_keys P (suc taken) (r ∷ rows) all = after_keys P taken rows all.1
@@ -198,6 +199,7 @@ module _ (merge : Operator) (lawful : IsLawful merge) (settings : Settings) wher
   abbrev make : List Row → Folded
   make rows = folded_groups merge (job_rule settings.cut) rows
 
+  -- Folding the rows of whole keys agrees with the job of these keys.
   agree : (gs : List (Chunk Row)) → AreWholeKeys gs → Agree settings (make (flat gs)) (keys_job merge settings gs)
   agree [] whole = (refl, λ _. refl)
   agree (g ∷ gs) whole = by (make (elements g)).refusal refl (agree gs whole.2)

@@ -129,6 +129,8 @@ module _ (merge : Operator) (lawful : IsLawful merge) (settings : Settings) (g :
 
   -- ---- the beginning
 
+  -- If what is kept of the later keys begins their job, what is kept of all keys begins the job of all
+  -- keys.
   pub begins_on : IsPrefixOf (kept_given settings false later.rows) (keys_job merge settings gs).rows → IsPrefixOf (kept_given settings false (folded_groups merge rule all).rows) (keys_job merge settings (g ∷ gs)).rows
   begins_on rest = by here.refusal refl later.rows refl
     where
@@ -160,6 +162,8 @@ module _ (merge : Operator) (lawful : IsLawful merge) (settings : Settings) (g :
         (ap (λ (rows : List Row). (make rows).rows) (ap (λ (k : List ℕ). filter (is_below k) all) alike ∙ filter_none (is_below g.0.key) all own_lower)),
   )
 
+  -- If the first key's job is whole and the folded rows of the later keys reach up to a row, those of all
+  -- keys reach up to it.
   reaches_later : (make (elements g)).whole ≡ true → (q : Row) → is_below q.key g.0 ≡ true → Reaches (flat gs) later.rows q → Reaches all (folded_groups merge rule all).rows q
   reaches_later is q low rest =
       let none = not_refused is in
@@ -172,6 +176,8 @@ module _ (merge : Operator) (lawful : IsLawful merge) (settings : Settings) (g :
             (both_begin (kept_rows settings here.rows) (make others).rows (kept_given settings false later.rows) rest.1),
       )
 
+  -- If the job below a key is whole and the folded rows of the later keys reach up to each of their rows
+  -- below that key, the folded rows of all keys reach up to each row below it.
   pub reaches_on : (key : List ℕ) → (make (filter (is_below key) all)).whole ≡ true
       → ((make (filter (is_below key) (flat gs))).whole ≡ true → AllByRecursion (λ q. is_below key q ≡ true → Reaches (flat gs) later.rows q) (flat gs))
       → AllByRecursion (λ q. is_below key q ≡ true → Reaches all (folded_groups merge rule all).rows q) all
@@ -207,6 +213,7 @@ module _ (merge : Operator) (lawful : IsLawful merge) (settings : Settings) (g :
       let clash : Some [] ≡ None = sym (ap (folded_rows merge settings.cut) (of_key-others key all others)) ∙ refused in
       cc clash)
 
+  -- If no fold of the first key is refused, a refusal among all keys is a refusal among the later ones.
   refused_later : (key : List ℕ) → here.refusal ≡ None → refuses key all → refuses key (flat gs)
   refused_later key none refused = by (bytes_eq key g.0.key) refl
     where

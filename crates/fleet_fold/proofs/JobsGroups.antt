@@ -121,6 +121,7 @@ module _ (stamp : Option ℤ) where
       by true false e rest = ap group_base (in_base q [] false e)
       by false operand e rest = refl
 
+  -- No row that a group takes expires before the group's stamp.
   tail_stamp : (rows : List Row) → lesser_stamp stamp (least_expiry (taken_rows stamp rows)) ≡ stamp
   tail_stamp [] = lesser_none stamp
   tail_stamp (q ∷ rows) = by (same_stamp stamp q.expires) refl (is_operand q) (tail_stamp rows)

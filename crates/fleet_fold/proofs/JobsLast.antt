@@ -82,6 +82,7 @@ module _ (settings : Settings) (key : List ℕ) where
 -- ---- rows that are not refused become at least one row
 
 module _ (merge : Operator) (rule : GroupRule) where
+  -- If there are rows and no fold of them is refused, there are folded rows.
   pub folds_some : (r : Row) (rows : List Row) → (folded_groups merge rule (r ∷ rows)).refusal ≡ None → (folded_groups merge rule (r ∷ rows)).rows ≢ []
   folds_some r rows none = by (opens rule r) none
     where

@@ -76,6 +76,8 @@ module _ (merge : Operator) (lawful : IsLawful merge) (cut : ℕ) where
   abbrev IsFolded : List Row → Type 0
   IsFolded rows = map result_ok (answers rows) ≡ map (folded_chunk merge cut) (operand_groups cut rows)
 
+  -- If a row opens a group and the rows after the group fold as in the model, the row and all rows after
+  -- it do.
   first_opens : (r : Row) (rows : List Row) → opens_group cut r ≡ true → IsFalling (r ∷ rows) → AllByRecursion (λ q. q.key ≡ r.key) rows → IsFolded (left r.expires rows) → IsFolded (r ∷ rows)
   first_opens r rows opened falling keys rest =
       let rule = job_rule cut in
@@ -101,6 +103,7 @@ module _ (merge : Operator) (lawful : IsLawful merge) (cut : ℕ) where
       ∙ sym (ap (map (folded_chunk merge cut)) (groups_are_walked cut r rows falling
       ∙ ap (λ (b : Bool). if b then (r, taken_rows stamp rows) ∷ operand_groups cut others else (r, []) ∷ operand_groups cut rows) closed))))
 
+  -- Rows of one key with falling sequences fold as in the model.
   of_key : (fuel : ℕ) (key : List ℕ) (rows : List Row) → length rows ≤ fuel → IsFalling rows → AllByRecursion (λ r. r.key ≡ key) rows → IsFolded rows
   of_key fuel key [] short falling keys = refl
   of_key zero key (r ∷ rows) short falling keys = absurd (omega arith)

@@ -49,6 +49,8 @@ in_base : (q : Row) (rows : List Row) (b : Bool) → is_operand q ≡ b → base
 in_base q rows b e = ap (λ c. cond (not c) (q ∷ base_among rows) (base_among rows)) e
 
 module _ (rule : GroupRule) where
+  -- The rows that join a group are the first of the later rows. They have the group's key and no greater
+  -- sequence, and they are operands with at most one base after them.
   are_joined : (r : Row) (rows : List Row) → AllByRecursion (λ q. row_cmp r q ≡ Less) rows → AreJoined r rows (joining rule r rows)
   are_joined r [] before = record { after = []; all = refl; lower = tt; keys = tt; parts = refl; one = omega arith }
   are_joined r (q ∷ rows) before = by (same_group rule r.key r.expires q) refl (is_operand q) refl (are_joined r rows before.1)
@@ -172,6 +174,7 @@ module _ (merge : Operator) (first : Row) where
   batch_refused b e filled lower operands is =
       answer_refused merge first.key (outcome b) e (batch_some merge first.key b filled operands) (sym (ordered first.seq b (answer_of (outcome b)) lower) ∙ is)
 
+  -- If the merge of some batches is refused, the operator refuses one of the batches.
   batches_refused : (bs : List (List Row)) (e : SlateDBError) → AreFilled bs → AllIn (UpTo first.seq) bs → AllIn (λ r. is_operand r ≡ true) bs → all_answers (map (batch_answer merge first) bs) ≡ Err e → InBatch bs e
   batches_refused [] e filled lower operands is = absurd (cc is)
   batches_refused (b ∷ bs) e filled lower operands is =
@@ -191,6 +194,7 @@ module _ (merge : Operator) (first : Row) where
       by (Ok bytes) (Err x) first_is rest_is is = let same : x ≡ e = cc in later (rest_is (ap Err same))
       by (Ok bytes) (Ok results) first_is rest_is is = absurd (cc is)
 
+  -- If some batches are merged, the operator's outcome for each batch is its result.
   batches_merged : (bs : List (List Row)) (results : List (List ℕ)) → AllIn (UpTo first.seq) bs → all_answers (map (batch_answer merge first) bs) ≡ Ok results → map outcome bs ≡ map (λ bytes. Some (Merged bytes)) results
   batches_merged [] results lower is = let same : [] ≡ results = cc in ap (map (λ bytes. Some (Merged bytes))) same
   batches_merged (b ∷ bs) results lower is =
@@ -212,6 +216,8 @@ module _ (merge : Operator) (first : Row) where
   mapped_some [] some = absurd (some refl)
   mapped_some (b ∷ bs) some = cons_filled (batch_answer merge first b) (map (batch_answer merge first) bs)
 
+  -- If a fold over the base is refused, the operator refuses one of the batches or the fold of their
+  -- results.
   results_refused : (operands base : List Row) (answers : Result (List (List ℕ)) SlateDBError) (e : SlateDBError) → AllByRecursion (UpTo first.seq) base
       → (answers ≡ Err e → InBatch (batches batch_len operands) e)
       → ((results : List (List ℕ)) → answers ≡ Ok results → (results ≢ []) × (batch_outcomes merge first.key operands ≡ map (λ bytes. Some (Merged bytes)) results))
@@ -227,6 +233,7 @@ module _ (merge : Operator) (first : Row) where
       let (message, stated, refusing) = answer_refused merge first.key o e (back_some merge first.key under results some) (sym (ordered first.seq base (answer_of o) lower) ∙ is) in
       (message, stated, inr (record { results = results; merged = all; refused = refusing }))
 
+  -- If a group is refused, the operator refuses one of its batches or the fold of their results.
   group_refused : (others : List Row) (e : SlateDBError) → is_operand first ≡ true → AllByRecursion (UpTo first.seq) others → merged_group merge (first, others) ≡ Err e → InGroup (first ∷ operands_in others) (base_among others) e
   group_refused others e operand lower is =
       let operands : List Row = first ∷ operands_in others in
@@ -261,6 +268,7 @@ none_merged rows = all_weaken (λ r. not (is_operand r) ≡ true) (λ r. is_oper
     by false h = refl
 
 module _ (merge : Operator) (rule : GroupRule) where
+  -- If the group that the first row opens is refused, the operator refuses it with this error.
   refused_first : (r : Row) (rows : List Row) (e : SlateDBError) → is_operand r ≡ true → AreJoined r rows (joining rule r rows) → merged_group merge (r, joining rule r rows) ≡ Err e → IsOfOperator merge (r ∷ rows) e
   refused_first r rows e operand joined is =
       let others : List Row = joining rule r rows in

@@ -93,6 +93,7 @@ module _ (settings : Settings) (failure : Option SlateDBError) (alive : failure 
           record { rows = old_rows; whole = sym whole ∙ fills.all none; same = sym (same_state _ _ (old_rows ∙ sym new_rows)) }
       by (Some x) is ends = same_state _ _ (all ∙ ap (λ (w : List RowEntry). rows_of w ++ kept_given settings after.whole (from_ahead later after)) is)
 
+  -- If the buffer cannot be filled, `next` of a retention iterator answers the error.
   pub next_unfilled : (rest : List RowEntry) (later : Option RowEntry) (after : IteratorState) (kept : Option SlateDBError) (e answer : SlateDBError) → KeepsRefusal e failure kept answer → RefusesFill settings buffer read mid after e
       → Nexts (retained_state failure settings buffer ahead inner) (retained_state kept settings rest later after) (Err answer)
   next_unfilled rest later after kept e answer keeps refuses = record {

@@ -20,6 +20,8 @@ walk-dropped cut tick r rows h = by (is_operand r) (is_expired r tick) h
     by true false h = absurd (cc h)
     by false expired h = absurd (cc h)
 
+-- A walk keeps a first row that is not dropped, and it keeps later rows only if the first one does not
+-- end the walk.
 pub walk-kept : (cut : ℕ) (tick : ℤ) (r : Row) (rows : List Row) → is_dropped tick r ≡ false
     → retention_walk cut tick (r ∷ rows) ≡ as_tombstone_if_expired tick r ∷ (if ends_walk cut r then [] else retention_walk cut tick rows)
 walk-kept cut tick r rows h = by (is_operand r) (is_expired r tick) refl (nat_le r.seq cut) h

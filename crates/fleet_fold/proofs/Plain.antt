@@ -62,6 +62,8 @@ module _ (key : List ℕ) (inner after : IteratorState) (rising : AreRising inne
   abbrev W : Bool
   W = inner.whole && not (has_operand inner.rows)
 
+  -- If the inner iterator has moved to a key, the rows before the first operand have moved to it too.
+  -- They are exactly those from the key on if the inner iterator is steady and whole and has no operand.
   moved : (exact : Bool) → is_exact inner ≡ exact → (o : Bool) → has_operand inner.rows ≡ o → Moves exact key inner after → Moves (inner.steady && W) key A B
   moved true exact false eo m =
       let ew : inner.whole ≡ true = (and_parts inner.steady inner.whole exact).1 in

@@ -36,6 +36,7 @@ stays_before ys tick r h = by (is_expired r tick)
 
 -- ---- one key
 
+-- The rows that the walk of retention keeps of rising rows rise.
 rising-walk : (cut : ℕ) (tick : ℤ) (rows : List Row) → AreRising rows → AreRising (retention_walk cut tick rows)
 rising-walk cut tick [] h = tt
 rising-walk cut tick (r ∷ rows) h = by (is_operand r) (is_expired r tick) (nat_le r.seq cut) (all-walk (IsUpTo r) (stays_after r) cut tick rows h.0) (rising-walk cut tick rows h.1)
@@ -48,6 +49,7 @@ rising-walk cut tick (r ∷ rows) h = by (is_operand r) (is_expired r tick) (nat
     by false expired true after rest = (tt, tt)
     by false expired false after rest = (stays_before (retention_walk cut tick rows) tick r after, rest)
 
+-- Rising rows still rise without their old tombstones.
 rising-stripped : (rows : List Row) → AreRising rows → AreRising (without_old_tombstones rows)
 rising-stripped [] h = tt
 rising-stripped (r ∷ rows) h = by (without_old_tombstones rows) (all-stripped (IsUpTo r) (stays_after r) rows h.0) (rising-stripped rows h.1)

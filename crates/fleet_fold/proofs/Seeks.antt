@@ -46,6 +46,7 @@ module _ (key : List ℕ) (settings : Settings) (failure : Option SlateDBError) 
       (record { rows = ys; initialised = inner.initialised; failure = failure; whole = inner.whole; steady = inner.steady; refusal = inner.refusal })
   same_state inner xs ys e = ap (λ (w : List Row). record { rows = w; initialised = inner.initialised; failure = failure; whole = inner.whole; steady = inner.steady; refusal = inner.refusal }) e
 
+  -- If the buffer has rows from the key on, dropping the rows below the key from the buffer is a seek.
   pub in_buffer : (buffer left : List RowEntry) (ahead : Option RowEntry) (inner : IteratorState) → ReadsOn buffer ahead inner → rows_of left ≡ from_key key (rows_of buffer) → (left ≡ [] → ⊥) → AreRising (retained_state failure settings buffer ahead inner).rows
       → Seeks key (retained_state failure settings buffer ahead inner) (retained_state failure settings left ahead inner) (Ok tt)
   in_buffer buffer left ahead inner knows is some rising =
@@ -135,6 +136,8 @@ module _ (key : List ℕ) (settings : Settings) (failure : Option SlateDBError) 
         answers = λ q i. moved buffer left ahead later inner knows is none after at gone rising (is_exact inner) refl (seeks.answers knows.alive begun);
       }
 
+  -- If nothing is buffered or read ahead and a seek of the inner iterator succeeds, a retention iterator
+  -- reads on.
   pub in_inner_sound : (buffer left : List RowEntry) (ahead later : Option RowEntry) (inner after : IteratorState) → ReadsOn buffer ahead inner → left ≡ [] → later ≡ None → Seeks key inner after (Ok tt) → ReadsOn left later after
   in_inner_sound buffer left ahead later inner after knows none gone seeks =
       let begun = was_initialised inner after knows.alive seeks in
@@ -170,6 +173,8 @@ clash true h g = cc g
 clash false h g = cc h
 
 module _ (settings : Settings) (failure kept : Option SlateDBError) (buffer : List RowEntry) (ahead : Option RowEntry) (inner after : IteratorState) (e answer : SlateDBError) (alive : failure ≡ None) (knows : ReadsOn buffer ahead inner) (keeps : KeepsRefusal e failure kept answer) where
+  -- If a seek of the inner iterator is refused, the seek of a retention iterator answers the error that
+  -- is kept.
   pub seek_refused_kept : (key : List ℕ) (left : List RowEntry) (later : Option RowEntry) → rows_of left ≡ from_key key (rows_of buffer) → rows_of (option_to_list later) ≡ from_key key (rows_of (option_to_list ahead))
       → Seeks key inner after (Err e) → Seeks key (retained_state failure settings buffer ahead inner) (retained_state kept settings left later after) (Err answer)
   seek_refused_kept key left later is at seeks =
@@ -186,6 +191,8 @@ module _ (settings : Settings) (failure kept : Option SlateDBError) (buffer : Li
           ∙ (ap (λ (w : List RowEntry). retained_state failure settings w later inner) (gone ∙ sym empty)
           ∙ ap (λ (o : Option RowEntry). retained_state failure settings buffer o inner) (gone_too ∙ sym nothing)))
 
+  -- If nothing is buffered or read ahead and `next` of the inner iterator is refused, `next` of a
+  -- retention iterator answers the error that is kept.
   pub next_refused_kept : buffer ≡ [] → ahead ≡ None → Nexts inner after (Err e) → Nexts (retained_state failure settings buffer ahead inner) (retained_state kept settings buffer ahead after) (Err answer)
   next_refused_kept empty nothing nexts =
       next_refused (retained_state failure settings buffer ahead inner) (retained_state kept settings buffer ahead after) inner after e answer alive knows.alive keeps refl stays (λ whole. whole) known nexts

@@ -89,6 +89,8 @@ module _ (merge : Operator) (rule : GroupRule) where
   joined key zero rows first all = tt
   joined key (suc n) rows first all = (first, all)
 
+  -- If no fold of the rows is refused and the folded rows rise, the rows rise, even if some at the front
+  -- were skipped.
   unfolded : (key : List ℕ) (taken : ℕ) (rows : List Row) → Joined key taken rows → (U merge rule taken rows).refusal ≡ None → AreRising (U merge rule taken rows).rows → AreRising rows
   unfolded key taken [] skipped none rising = tt
   unfolded key (suc taken) (r ∷ rows) skipped none rising =

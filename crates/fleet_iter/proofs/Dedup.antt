@@ -72,6 +72,7 @@ seek_after key r (q ∷ rows) low = by (hides r q) refl (is_below key q) refl (s
         ap (λ c. cond c (from_key key (given_after q rows)) (q ∷ given_after q rows)) e
         ∙ sym (ap (λ c. deduplicated_rows (cond c (from_key key rows) (q ∷ rows))) e)
 
+-- The deduplicated rows from a key on are what dedup gives of the rows from that key on.
 seek_deduplicated : (key : List ℕ) (rows : List Row) → from_key key (deduplicated_rows rows) ≡ deduplicated_rows (from_key key rows)
 seek_deduplicated key [] = refl
 seek_deduplicated key (r ∷ rows) = by (is_below key r) refl

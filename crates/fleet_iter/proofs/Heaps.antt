@@ -131,6 +131,8 @@ later_row e es j far = ap (λ b. cond b (Some e.0.row) (row_at es j)) (other_pla
 
 -- ---- a heap whose top is replaced or removed
 
+-- If an entry is exchanged for one of the same source, the heads stay, except that this source has the
+-- new row.
 pub exchanged : (order : IterationOrder) (n : ℕ) (es rest fs : List (Reverse MergeIteratorHeapEntry)) (e d : Reverse MergeIteratorHeapEntry) → AreHeads order n es → IsPermutation es (e ∷ rest) → IsPermutation (d ∷ rest) fs → IsHeap (λ a b. entry_cmp b.0 a.0) fs → d.0.index ≡ e.0.index → d.0.order ≡ e.0.order
     → AreHeads order n fs × (heads_of n fs ≡ set (heads_of n es) e.0.index (Some d.0.row))
 exchanged order n es rest fs e d a p q heap at same = (record { heap = heap; within = within_same P (d ∷ rest) fs q ((same ∙ all.0.0, subst (λ j. j < n) (sym at) all.0.1), all.1); apart = apart_same (d ∷ rest) fs q apart }, heads)
@@ -153,6 +155,7 @@ exchanged order n es rest fs e d a p q heap at same = (record { heap = heap; wit
         ∙ (made_set (row_at (e ∷ rest)) (row_at (d ∷ rest)) 0 n e.0.index e.0.index (zero-add e.0.index) all.0.1 (λ j far. later_row e rest j far ∙ sym (later_row d rest j (λ g. far (g ∙ at))))
         ∙ (ap (λ (h : Option RowEntry). set (heads_of n (e ∷ rest)) e.0.index h) there ∙ ap (λ (hs : List (Option RowEntry)). set hs e.0.index (Some d.0.row)) (sym (heads_same es (e ∷ rest) n p a.apart))))
 
+-- If an entry is removed, the heads stay, except that its source has none.
 pub removed : (order : IterationOrder) (n : ℕ) (es fs : List (Reverse MergeIteratorHeapEntry)) (e : Reverse MergeIteratorHeapEntry) → AreHeads order n es → IsPermutation es (e ∷ fs) → IsHeap (λ a b. entry_cmp b.0 a.0) fs
     → AreHeads order n fs × (heads_of n fs ≡ set (heads_of n es) e.0.index None)
 removed order n es fs e a p heap = (record { heap = heap; within = all.1; apart = IsDistinct-tail nat_eq e.0.index (keys_of (placed_rows fs)) apart }, heads)
@@ -191,6 +194,7 @@ added_none order n es a = (
   map-range_with_len_more (row_at es) 0 n n (zero-add n) ∙ ap (λ (h : Option RowEntry). heads_of n es ++ h ∷ []) (none_beyond n es (beyond order n es a.within)),
 )
 
+-- If an entry of one more source is added, its row is added to the heads.
 pub added : (order : IterationOrder) (n : ℕ) (es fs : List (Reverse MergeIteratorHeapEntry)) (e : Reverse MergeIteratorHeapEntry) → AreHeads order n es → IsPermutation (e ∷ es) fs → IsHeap (λ a b. entry_cmp b.0 a.0) fs → e.0.order ≡ order → e.0.index ≡ n
     → AreHeads order (n + 1) fs × (heads_of (n + 1) fs ≡ heads_of n es ++ Some e.0.row ∷ [])
 added order n es fs e a p heap same at = (record { heap = heap; within = within_same P (e ∷ es) fs p ((same, omega (arith, at)), wider order n es a.within); apart = apart_same (e ∷ es) fs p apart }, heads)
@@ -288,6 +292,7 @@ same_order : (order : IterationOrder) → order_cmp order order ≡ Equal
 same_order Ascending = refl
 same_order Descending = refl
 
+-- If an entry is not less than another one, it is not less by key, sequence and place.
 no_less : (order : IterationOrder) (d e : Reverse MergeIteratorHeapEntry) → d.0.order ≡ order → e.0.order ≡ order → is_lt (entry_cmp d.0 e.0) ≡ false → IsNoLess order d.0.index d.0.row e.0.index e.0.row
 no_less order d e f g h = subst F (same_order order) (subst D f (subst C g h))
   where

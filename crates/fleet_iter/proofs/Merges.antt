@@ -50,6 +50,7 @@ after_front order (Some p) k x e =
     let q : (p.0 + 1, p.1) ≡ (k, x) = cc in
     (p, refl, sym (ap (λ (z : ℕ × RowEntry). z.0) q) ∙ add-one p.0, sym (ap (λ (z : ℕ × RowEntry). z.1) q))
 
+-- The best head is the first row of the merge, and the merge of the other rows comes after it.
 pub takes_head : (order : IterationOrder) → (hs : List (Option RowEntry)) (ss : List IteratorState) → AllTaken hs ss → (k : ℕ) (x : RowEntry) → best order hs ≡ Some (k, x) → Heads order hs (rows_left ss) k x
 takes_head order [] ss a k x e = absurd (cc)
 takes_head order (h ∷ hs) [] a k x e = absurd a
@@ -158,6 +159,7 @@ first_place z k x e = let P : Option (ℕ × RowEntry) → ℕ = place_or in ap 
 front_within : (n : ℕ) (z : RowEntry) (k : ℕ) (x : RowEntry) → ◌≡◌ {A = Option (ℕ × RowEntry)} (Some (0, z)) (Some (k, x)) → k < suc n
 front_within n z k x e = let q : 0 ≡ k = first_place z k x e in omega (arith, q)
 
+-- The place of the best head is a place of the heads.
 pub best_within : (order : IterationOrder) → (hs : List (Option RowEntry)) (k : ℕ) (x : RowEntry) → best order hs ≡ Some (k, x) → k < length hs
 best_within order [] k x e = absurd (cc)
 best_within order (h ∷ hs) k x e = by_head h (best order hs) e (λ j y q. best_within order hs j y q) where
@@ -196,6 +198,7 @@ one_whole (r ∷ ss) (suc k) s lt is all = one_whole ss k s (omega arith) is (re
     rest true h = h
     rest false h = absurd (cc h)
 
+-- If all sources are steady, each of them is.
 pub one_steady : (ss : List IteratorState) (k : ℕ) (s : IteratorState) → k < length ss → s ≡ get_or ss k s → are_steady ss ≡ true → s.steady ≡ true
 one_steady [] k s lt is all = absurd (omega arith)
 one_steady (r ∷ ss) zero s lt is all = ap (λ (z : IteratorState). z.steady) is ∙ first r.steady all
@@ -286,6 +289,7 @@ pub record More (hs : List (Option RowEntry)) (ss : List IteratorState) (k : ℕ
   pub rows : lists (hs ++ h ∷ []) (rows_left (set ss k t)) ≡ lists hs (rows_left ss)
   pub same_manner : manners (set ss k t) ≡ manners ss
 
+-- If the next source's first row is taken as its head, that source has begun too, and no row is lost.
 pub begin_more : (hs : List (Option RowEntry)) (ss : List IteratorState) (k : ℕ) (s t : IteratorState) (h : Option RowEntry) → AllBegun hs ss → length hs ≡ k → k < length ss → s ≡ get_or ss k s → Steps s t h → More hs ss k t h
 begin_more [] [] k s t h a n lt is st = absurd (omega arith)
 begin_more [] (r ∷ ss) zero s t h a n lt is st =

@@ -25,6 +25,7 @@ use Rattle.fleet_iter.proofs.Dedup.{from_key_skipped}
 abbrev StandsFirst : (Row → Bool) → List Row → Type 0
 StandsFirst test rows = Pairs (λ r q. test q ≡ true → test r ≡ true) rows
 
+-- If the rows that pass a test come first, the rows left without them are those that do not pass it.
 first_are_filtered : (test : Row → Bool) (rows : List Row) → StandsFirst test rows → without_first test rows ≡ filter (λ r. not (test r)) rows
 first_are_filtered test [] h = refl
 first_are_filtered test (r ∷ rows) h = by (test r) refl (first_are_filtered test rows h.1)
@@ -43,6 +44,7 @@ unfolding IsStrictlySortedBy
 below_first key [] h = tt
 below_first key (r ∷ rows) h = (all_weaken (λ q. row_cmp r q ≡ Less) (λ q. is_below key q ≡ true → is_below key r ≡ true) (λ q less low. below_too key r q less low) rows h.0, below_first key rows h.1)
 
+-- If a row is written up to a cursor, each row before it from the cursor's key on is written too.
 written_back : (c : Cursor) (r q : Row) → row_cmp r q ≡ Less → is_from c.0 r ≡ true → is_written c q ≡ true → is_written c r ≡ true
 written_back c r q before high written = by (key_cmp r.key q.key) refl before
   where

@@ -35,6 +35,8 @@ other_is_up r q h = ap is_gt (nat_list_cmp_total.antisymm q.key r.key) ∙ by (k
 pub up_to_all : (r q : Row) (rows : List Row) → IsUpTo r q → AllByRecursion (IsUpTo q) rows → AllByRecursion (IsUpTo r) rows
 up_to_all r q rows h all = all_weaken (IsUpTo q) (IsUpTo r) (λ x after. not_after_too r q x h after) rows all
 
+-- If the merge of some rows with any rising list rises, so does the merge with one more row in front of
+-- them.
 rising_into : (x : Row) (xs ys : List Row) → AllByRecursion (IsUpTo x) xs → ((zs : List Row) → AreRising zs → AreRising (merge_two Ascending xs zs)) → AreRising ys → AreRising (merge_into Ascending x (merge_two Ascending xs) ys)
 rising_into x xs [] up rest rising = (all_merged (IsUpTo x) xs [] up tt, rest [] tt)
 rising_into x xs (y ∷ ys) up rest rising = by (goes_first Ascending x y) refl (rising_into x xs ys up rest rising.1)

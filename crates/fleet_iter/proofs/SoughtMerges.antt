@@ -31,6 +31,8 @@ in_two P order (x ∷ xs) ys all = in_into P order x xs (λ zs k. in_two P order
 
 -- ---- the lists of a rising merge rise
 
+-- If the merge of two lists rises, both lists rise, given that this holds of the first list without its
+-- first row.
 parts_into : (order : IterationOrder) (x : Row) (xs : List Row) → ((zs : List Row) → AreRising (merge_two order xs zs) → AreRising xs × AreRising zs) → (ys : List Row) → AreRising (merge_into order x (merge_two order xs) ys) → AreRising (x ∷ xs) × AreRising ys
 parts_into order x xs rest [] r = (((in_two (IsUpTo x) order xs [] r.0).0, (rest [] r.1).0), tt)
 parts_into order x xs rest (y ∷ ys) r = by (goes_first order x y) r (parts_into order x xs rest ys)
@@ -69,6 +71,8 @@ up_below key a b up low = by (key_cmp a.key b.key) refl up
 apart : (b : Bool) → b ≡ true → b ≡ false → true ≡ false
 apart b h g = sym h ∙ g
 
+-- The merge of two lists from a key on is their merge from that key on, given that this holds of the
+-- first list without its first row.
 seek_into : (order : IterationOrder) (key : List ℕ) (x : Row) (xs : List Row) → ((zs : List Row) → AreRising (merge_two order xs zs) → merge_two order (from_key key xs) (from_key key zs) ≡ from_key key (merge_two order xs zs))
     → (ys : List Row) → AreRising (merge_into order x (merge_two order xs) ys) → merge_two order (from_key key (x ∷ xs)) (from_key key ys) ≡ from_key key (merge_into order x (merge_two order xs) ys)
 seek_into order key x xs rest [] r = by (is_below key x) (rest [] r.1)
@@ -121,6 +125,7 @@ alike Less e = absurd (cc e)
 alike Equal e = refl
 alike Greater e = absurd (cc e)
 
+-- If what dedup gives of some rows rises, the rows rise.
 rising_after : (r : Row) (rows : List Row) → AreRising (r ∷ given_after r rows) → AreRising (r ∷ rows)
 rising_after r [] h = h
 rising_after r (q ∷ rows) h = by (hides r q) refl h (rising_after r rows) (rising_after q rows)

@@ -4,6 +4,7 @@ use Rattle.fleet_fold.specs.Retention.{IsReadable}
 use Rattle.fleet_fold.specs.Groups.{Gathers, JoinsSoFar}
 use Rattle.fleet_fold.proofs.fold.take_rows.Given as goal
 
+-- The group has taken all rows that were read, and no row is read ahead.
 abbrev pub invariant-rows : goal.invariant-rows
 invariant-rows g l =
     let s = g.T.RowSource.state l.inner in

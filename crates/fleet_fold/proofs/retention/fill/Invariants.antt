@@ -6,6 +6,7 @@ use Rattle.fleet_rows.specs.Settings.{settings_of}
 use Rattle.fleet_fold.specs.Retention.{from_ahead, kept_given, IsReadable}
 use Rattle.fleet_fold.proofs.retention.fill.Given as goal
 
+-- The buffer and what is kept of the rows left are together what was to be given at first.
 abbrev pub invariant-keys : goal.invariant-keys
 invariant-keys g l =
     let s = g.T.RowSource.state l.inner in

@@ -3,6 +3,7 @@ use Rattle.fleet_rows.specs.Row.{rows_of}
 use Rattle.fleet_fold.specs.Retention.{from_ahead, HaveOneKey, IsReadable}
 use Rattle.fleet_fold.proofs.retention.read_key.Given as goal
 
+-- The rows that were read have one key, and with the rows left they are all rows that there were.
 abbrev pub invariant-rows : goal.invariant-rows
 invariant-rows g l =
     let s = g.T.RowSource.state l.inner in

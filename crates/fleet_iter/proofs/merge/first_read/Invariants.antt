@@ -3,6 +3,7 @@ use Rattle.fleet_iter.specs.Iteration.{from_key}
 use Rattle.fleet_iter.specs.Merge.{manner}
 use Rattle.fleet_iter.proofs.merge.first_read.Given as goal
 
+-- The rows from the key on are those that there were at first.
 abbrev pub invariant-rows : goal.invariant-rows
 invariant-rows g l =
     let now = g.T.RowSource.state l.source in

@@ -5,6 +5,7 @@ use Rattle.fleet_iter.specs.Merge.{LeavesFrom, lists, rows_left}
 use Rattle.fleet_iter.proofs.Sought.{Sought}
 use Rattle.fleet_iter.proofs.merge.skip_below.Given as goal
 
+-- The sources before this place have moved to the key, and the heads from the key on have stayed.
 abbrev pub invariant-sources : goal.invariant-sources
 invariant-sources g l =
     let f = g.T.RowSource.state in

@@ -7,6 +7,8 @@ use Rattle.fleet_iter.specs.Merge.{hides, AllTaken, merged_left, manners}
 use Rattle.fleet_iter.specs.Tracked.{counted_bytes, kept_back}
 use Rattle.fleet_iter.proofs.merge.skip_hidden.Given as goal
 
+-- The rows that the given row does not hide are those that there were at first, and the bytes of the
+-- hidden rows that were skipped are counted.
 abbrev pub invariant-hidden : goal.invariant-hidden
 invariant-hidden g l =
     let f = g.T.RowSource.state in

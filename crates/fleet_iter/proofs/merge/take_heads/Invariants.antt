@@ -4,6 +4,8 @@ use Rattle.std.specs.List.{AllByRecursion}
 use Rattle.fleet_iter.specs.Merge.{AllBegun, lists, rows_left, manners}
 use Rattle.fleet_iter.proofs.merge.take_heads.Given as goal
 
+-- The sources before this place have begun, and the heads and the rows left are the rows that there were
+-- at first.
 abbrev pub invariant-sources : goal.invariant-sources
 invariant-sources g l =
     let f = g.T.RowSource.state in

@@ -3,6 +3,7 @@ use Rattle.fleet_iter.specs.Iteration.{without_first}
 use Rattle.fleet_iter.specs.Resume.{is_written}
 use Rattle.fleet_iter.proofs.resuming.first_unwritten.Given as goal
 
+-- The rows that are not written up to the cursor are those that there were at first.
 abbrev pub invariant-rows : goal.invariant-rows
 invariant-rows g l =
     let now = g.T.RowSource.state l.source in
