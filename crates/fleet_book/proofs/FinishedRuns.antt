@@ -120,6 +120,7 @@ module _ (sources : List SourceId) where
       by true rest = rest
       by false rest = (other (run.id == id) refl, rest)
 
+-- A run whose id is among the names of the sources is a source.
 named_run : (id : ℕ) (sources : List SourceId) → contains (run_ids (map name_of sources)) id ≡ true → is_named sources (Run id) ≡ true
 named_run id [] there = there
 named_run id (source ∷ sources) there = by (name_of source) there (named_run id sources)
@@ -142,6 +143,8 @@ none_has sources id tree fits = by (run_ids (map name_of sources)) refl fits
         let there = both_true (contains (one ∷ ids) id) (list_all (λ run. nat_le id run) (one ∷ ids)) lowest in
         source_goes sources id (named_run id sources (ap (λ l. contains l id) e ∙ there.0)) tree.compacted
 
+-- If the sources may be merged into a run, the runs fall after the merge, that run is among them, and
+-- each run that is no source is as it was.
 runs_stay : (sources : List SourceId) (output : SortedRun) (tree : LsmTreeState) → may_merge (nodes_in tree) (map name_of sources) output.id ≡ true → RunsFall tree.compacted
     → RunsStay sources output tree.compacted (put_run output (kept_runs sources tree.compacted))
 runs_stay sources output tree may fall =
@@ -156,6 +159,7 @@ runs_stay sources output tree may fall =
 
 -- ---- the tree of the job's segment
 
+-- After a finish, the tree of the job's segment is its finished tree.
 tree_after_is : (spec : CompactionSpec) (output : SortedRun) (trees : List (List ℕ × LsmTreeState))
     → option_map (λ s. s.1) (find (λ s. bytes_eq (segment_of spec) s.0) (map (segment_after spec (Some output)) trees))
     ≡ option_map (finished_tree (sources_of spec) (Some output)) (option_map (λ s. s.1) (find (λ s. bytes_eq (segment_of spec) s.0) trees))
@@ -175,6 +179,7 @@ no_tree : (sources : List SourceId) (run : ℕ) → may_merge [] (map name_of so
 no_tree [] run e = cc e
 no_tree (source ∷ sources) run e = cc e
 
+-- If the runs fall and the sources stand, the runs fall after the job too, and no run is lost.
 pub finished_runs_stay : FinishedRunsStay
 finished_runs_stay job output core makes stand fall =
     let sources = sources_of job.spec in

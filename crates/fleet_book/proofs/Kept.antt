@@ -62,6 +62,7 @@ self_last job = eq-eqb job.id job.id refl
 abbrev filtered : Option ℕ → List JobParts → List JobParts
 filtered last jobs = filter (λ job. is_open job || is_last last job) jobs
 
+-- The jobs without those that are over, except for the last of these, are the jobs that a trim keeps.
 kept_is : (last : Option ℕ) (jobs : List JobParts) → AreRising jobs → filtered (last_in last jobs) jobs ≡ kept_records jobs
 kept_is last [] up = refl
 kept_is last (job ∷ jobs) up = by (is_open job) (over_later jobs) refl (λ before. kept_is before jobs up.1)

@@ -33,6 +33,7 @@ over_stays Compacted stored over = absurd (cc over)
 over_stays Completed stored over = refl
 over_stays Failed stored over = refl
 
+-- A job that is over stays as it is when a stored record is seen.
 step_keeps : (id : ℕ) (job : JobParts) (jobs : List JobParts) (stored : JobParts) → record_with id jobs ≡ Some job → is_open job ≡ false → record_with id (with_stored jobs stored) ≡ Some job
 step_keeps id job jobs stored found over = by (stored.id == id) refl
   where

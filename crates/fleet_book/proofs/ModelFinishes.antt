@@ -73,6 +73,7 @@ module _ (flushes : ℕ → List ℕ) (sources : List SourceId) where
       by true rest = refl
       by false rest = rest
 
+  -- The model's watermark is the newest flush that is a source, or the old watermark if no flush is.
   mark_is : (mark : Option ℕ) (runs : List SortedRun) (views : List View)
       → watermark_after (map name_of sources) (map (flush_node flushes) views ++ map (run_node flushes) runs) mark ≡ id_or mark (find (λ view. is_named sources (L0 view.id)) views)
   mark_is mark runs [] = no_mark mark runs
@@ -123,6 +124,8 @@ module _ (before after : ℕ → List ℕ) where
   same t kept = ap (λ rs. map (flush_node before) t.l0 ++ rs) (sym (runs_same t.compacted kept))
 
 module _ (before after : RunFlushes) where
+  -- If a finish changes the tree of its own segment as a change of the model does and leaves other trees,
+  -- it changes each segment as the model does.
   pub segment_is : (spec : CompactionSpec) (output : Option SortedRun) (change : Tree → Tree) (p : List ℕ) (t : LsmTreeState)
       → (bytes_eq (segment_of spec) p ≡ true → tree_of (after p) (finished_tree (sources_of spec) output t) ≡ change (tree_of (before p) t))
       → (bytes_eq (segment_of spec) p ≡ false → tree_of (after p) t ≡ tree_of (before p) t)
@@ -169,6 +172,7 @@ both : {A : Type 0} (P Q : A → Type 0) (xs : List A) → AllByRecursion P xs �
 both P Q [] ps qs = tt
 both P Q (x ∷ xs) ps qs = ((ps.0, qs.0), both P Q xs ps.1 qs.1)
 
+-- A finish of a merge changes the trees as the model's join does.
 pub joins_are_the_models : JoinsAreTheModels
 joins_are_the_models before after tables job output core makes follow =
     let spec = job.spec in
@@ -181,6 +185,7 @@ joins_are_the_models before after tables job output core makes follow =
     (λ s follows. segment_is before after spec (Some output) (change output.id) s.0 s.1 (joined_in before after spec output s follows) (same_in before after spec output s follows))
     (trees_with_prefix core) follow))
 
+-- A finish of moved tables changes the trees as the model's move does.
 pub moves_are_the_models : MovesAreTheModels
 moves_are_the_models before after tables outputs job output core makes follow moved =
     let spec = job.spec in

@@ -34,6 +34,7 @@ rising_put new (job ∷ jobs) up = by (nat_lt job.id new.id) (job.id == new.id) 
     by false true e f rest = let same = eqb-true job.id new.id f in (subst (λ n. AllByRecursion (Above n) jobs) same up.0, up.1)
     by false false e f rest = let low = above job.id new.id e (eqb-false job.id new.id f) in ((low, all_weaken (Above job.id) (Above new.id) (λ other high. omega arith) jobs up.0), up)
 
+-- Jobs by rising ids are still by rising ids after some are left out.
 pub rising_filter : (p : JobParts → Bool) (jobs : List JobParts) → AreRising jobs → AreRising (filter p jobs)
 rising_filter p [] up = tt
 rising_filter p (job ∷ jobs) up = by (p job) (rising_filter p jobs up.1) (kept jobs up.0)
@@ -62,6 +63,7 @@ place_in id jobs = prefix_len (λ job. nat_lt job.id id) jobs
 abbrev pub put_at : Bool → ℕ → JobParts → List JobParts → List JobParts
 put_at there n new jobs = cond there (slice_set jobs n new) (take n jobs ++ new ∷ drop n jobs)
 
+-- A job that is put at the place of its id is put as `put_record` puts it.
 pub put_is : (new : JobParts) (jobs : List JobParts) → put_at (has_id new.id (slice_get jobs (place_in new.id jobs))) (place_in new.id jobs) new jobs ≡ put_record new jobs
 put_is new [] = refl
 put_is new (job ∷ jobs) = by (nat_lt job.id new.id) (put_is new jobs)
@@ -156,6 +158,7 @@ record IsThere (id : ℕ) (jobs : List JobParts) (job : JobParts) : Type 0 where
   found : slice_get jobs (place_in id jobs) ≡ Some job
   replaced : (new : JobParts) → id ≡ new.id → slice_set jobs (place_in id jobs) new ≡ put_record new jobs
 
+-- A record that is found stands at the place of its id, and a record that is put there replaces it.
 there : (id : ℕ) (jobs : List JobParts) → AreRising jobs → IsSome (record_with id jobs) → (job : JobParts) × IsThere id jobs job
 there id jobs up some = by (record_with id jobs) refl some
   where

@@ -27,6 +27,7 @@ none_after id job jobs up same = none_there id jobs (subst (λ n. AllByRecursion
 abbrev FindAlike : List JobParts → List JobParts → Type 0
 FindAlike xs ys = (id : ℕ) → record_with id xs ≡ record_with id ys
 
+-- Jobs by rising ids are the same if the same record is found under each id.
 alike : (xs ys : List JobParts) → AreRising xs → AreRising ys → FindAlike xs ys → xs ≡ ys
 alike [] [] up up' same = refl
 alike [] (y ∷ ys) up up' same =
@@ -54,6 +55,7 @@ alike (x ∷ xs) (y ∷ ys) up up' same = by (cases_order x.id y.id) (alike xs y
     by (inr (inr low)) rest =
         let clash : None ≡ Some y = sym (none_lower y.id x xs up low) ∙ same y.id ∙ first_is y ys in absurd (cc clash)
 
+-- A job that is put is found under its id.
 put_found : (new : JobParts) (jobs : List JobParts) → record_with new.id (put_record new jobs) ≡ Some new
 put_found new [] = first_is new []
 put_found new (job ∷ jobs) = by (nat_lt job.id new.id) (job.id == new.id) refl refl (put_found new jobs)
@@ -71,6 +73,7 @@ abbrev taken : Option JobParts → Option JobParts → Option JobParts
 taken own None = own
 taken own (Some stored) = cond (takes own stored) (Some stored) own
 
+-- A stored record that is seen changes at most what is found under its own id.
 one_found : (id : ℕ) (jobs : List JobParts) (s : JobParts) → record_with id (with_stored jobs s) ≡ cond (s.id == id) (taken (record_with id jobs) (Some s)) (record_with id jobs)
 one_found id jobs s = by (s.id == id) refl
   where
@@ -97,6 +100,7 @@ all_found id jobs (s ∷ stored) up = all_found id (with_stored jobs s) stored u
     by true e = ap (taken (taken (record_with id jobs) (Some s))) (none_after id s stored up (eqb-true s.id id e))
     by false e = refl
 
+-- A stored record that is seen twice leaves what it leaves when it is seen once.
 taken_twice : (own stored : Option JobParts) → taken (taken own stored) stored ≡ taken own stored
 taken_twice own None = refl
 taken_twice own (Some s) = by (takes own s) refl

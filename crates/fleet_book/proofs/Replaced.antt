@@ -26,6 +26,7 @@ untouched change id (job ∷ jobs) all =
     ap (λ b. cond (cond b true false) (change (job_of job)) (job_of job) ∷ changed_jobs change (id ∷ []) (jobs_of jobs)) (not_same id job.id (λ same. absurd (omega (arith, same, high))))
     ∙ ap (λ js. job_of job ∷ js) (untouched change id jobs all.1)
 
+-- Putting the record of a changed job changes the model's jobs in the same way.
 pub replacements_are_the_models : ReplacementsAreTheModels
 replacements_are_the_models change old new [] up found is = absurd (cc found)
 replacements_are_the_models change old new (job ∷ jobs) up found is =

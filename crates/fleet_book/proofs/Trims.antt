@@ -35,6 +35,7 @@ last_later job (next ∷ jobs) some = by (is_open next) some (last_later job job
     by true there rest = rest there
     by false there rest = refl
 
+-- Of the jobs that are over, a trim keeps the last one alone.
 pub last_over_jobs_are_kept : LastOverJobsAreKept
 last_over_jobs_are_kept [] = refl
 last_over_jobs_are_kept (job ∷ jobs) = by (is_open job) refl (over_later jobs) refl (last_over_jobs_are_kept jobs)
@@ -53,6 +54,7 @@ last_over_jobs_are_kept (job ∷ jobs) = by (is_open job) refl (over_later jobs)
         let none = none_over jobs f in
         first e ∙ ap (λ js. job ∷ js) (rest ∙ ap last_of none) ∙ sym (ap (λ js. last_of (job ∷ js)) none)
 
+-- A trim leaves a job that is over exactly if there was one.
 later_kept : (jobs : List JobParts) → over_later (kept_records jobs) ≡ over_later jobs
 later_kept [] = refl
 later_kept (job ∷ jobs) = by (is_open job) refl (over_later jobs) refl (later_kept jobs)
@@ -66,6 +68,7 @@ later_kept (job ∷ jobs) = by (is_open job) refl (over_later jobs) refl (later_
     by false e true f rest = rest ∙ f
     by false e false f rest = first false e
 
+-- A trim of jobs that are trimmed drops none.
 pub repeated_trims_are_idle : RepeatedTrimsAreIdle
 repeated_trims_are_idle [] = refl
 repeated_trims_are_idle (job ∷ jobs) = by (is_open job) refl (over_later jobs) refl (repeated_trims_are_idle jobs)

@@ -137,6 +137,8 @@ module _ (release : Release) (options : CompactionWorkerOptions) (moment : ℕ) 
 
 -- ---- one more job
 
+-- If the starts are the model's for some jobs and one more job begins as in the model, they are the
+-- model's for all of these jobs.
 starts_more : (input : ClaimInput) (jobs : Jobs) (job : Job) (old new : Starts) (begun : List ClaimedAttempt) (notes : List Note) (released : List ℕ) → StartsAre input jobs old → StartIs input job begun notes released
     → new.begun.items ≡ old.begun.items ++ begun → new.notes.items ≡ old.notes.items ++ notes → new.released.items ≡ old.released.items ++ released → StartsAre input (jobs ++ job ∷ []) new
 starts_more input jobs job old new begun notes released were one more_begun more_notes more_released = record {

@@ -104,6 +104,7 @@ module _ (old now next : Compactions) (done left : List (ℕ × CompactionSpec))
   all_still [] differ none = tt
   all_still (id ∷ ids) differ none = (still_new p.0 p.1 id now.jobs differ.0 none.0, all_still ids differ.1 none.1)
 
+  -- If one more of the named jobs is put into the records, it is among the jobs that were added.
   pub added_more : AddedSome old now done (p ∷ left) → next ≡ record now { jobs = put_record (fresh_job p.0 p.1) now.jobs } → jobs_of next.jobs ≡ put_job (new_job (p.0, spec_of p.1)) (jobs_of now.jobs)
       → AddedSome old next (done ++ p ∷ []) left
   added_more some is model = record {

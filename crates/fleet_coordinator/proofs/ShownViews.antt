@@ -133,6 +133,7 @@ name_is : (id : ℕ) (name : NodeName) → name_eq (Run id) name ≡ true → na
 name_is id (L0 other) e = absurd (cc e)
 name_is id (Run other) e = ap Run (sym ((Decides-eqb id other).0 e))
 
+-- A run in a tree whose nodes are in order is found by its id.
 run_here : (id : ℕ) (tree : Tree) (node : Node) → Pairs StandsBefore (names tree) → IsIn node tree → node.name ≡ Run id → node_named (Run id) tree ≡ Some node
 run_here id [] node order there is = absurd there
 run_here id (first ∷ tree) node order (inl same) is = by (name_eq (Run id) first.name) refl

@@ -135,6 +135,7 @@ module _ (old mid : StoreView) (m : VersionedManifest) (r : Option VersionedReco
   lawful : IsCoordinator old → IsLawfulCourse old.who old.world (start_try (counted_tries (λ left seen. start_try) zero))
   lawful by = starts old.who by.number by.party (suc zero) 0 old.world
 
+  -- A coordinator that starts may put its epoch into the manifest.
   pub manifest_fits : IsCoordinator old → ManifestPutFits mid put.id put.manifest (manifest_change.Epoch put.epoch) []
   manifest_fits by =
       let at = at_manifest (counted_tries (λ left seen. start_try) zero) in

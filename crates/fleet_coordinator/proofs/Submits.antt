@@ -133,6 +133,7 @@ record Drawing (start : World) (view : StoreView) (pairs : List (ℕ × ⊤)) : 
   fresh : AreFresh view.who.party view.world pairs
 
 module _ (start : World) (moment : ℕ) where
+  -- If one more job id is drawn, all drawn ids are new, and the store is still later than the start.
   drew_one : (pairs : List (ℕ × ⊤)) (id : ℕ) (old new : StoreView) → IsLawful old.who.merge → DrawsJobId old new moment (Ok id) → Drawing start old pairs → Drawing start new (pairs ++ (id, tt) ∷ [])
   drew_one pairs id old new merges draw so_far =
       let who = old.who in

@@ -113,6 +113,7 @@ pub record IsAdded (id : ℕ) (job : ActiveParts) (old new : List ActiveParts) :
   pub by_id : AreById new
   pub placed : new ≡ put_job job old
 
+-- A job that is put among jobs without its id is found under its id, and the other jobs stay.
 pub is_added : (id : ℕ) (old jobs new : List ActiveParts) (job : ActiveParts) → jobs ≡ old → AreById jobs → IsNone (active_job_with id old) → job.args.id ≡ id → new ≡ put_job job jobs → IsAdded id job old new
 is_added id old jobs new job is rising none own made =
     let free = none_is (active_job_with id old) none in
@@ -204,6 +205,7 @@ found_at id (job ∷ jobs) = by (job.args.id == id) (found_at id jobs)
     by true rest = refl
     by false rest = let e : 1 + place_in id jobs ≡ suc (place_in id jobs) = omega arith in ap (slice_get (job ∷ jobs)) e ∙ rest
 
+-- A change of the job at the place of an id changes that job alone.
 pub is_changed : (change : ActiveParts → ActiveParts) → ((job : ActiveParts) → (change job).args.id ≡ job.args.id) → (id : ℕ) (jobs : List ActiveParts) (job : ActiveParts)
     → active_job_with id jobs ≡ Some job → IsChanged id change jobs (slice_set jobs (place_in id jobs) (change job))
 is_changed change keeps id [] job found = absurd (cc found)

@@ -23,6 +23,7 @@ only_one a b = by (a == b)
     by false = refl
 
 module _ (attempt_of : ActiveParts → Attempt) (own : (job : ActiveParts) → (attempt_of job).job ≡ job.args.id) where
+  -- The attempt at an id is the attempt of the job with that id.
   found : (id : ℕ) (jobs : List ActiveParts) → attempt_at id (map attempt_of jobs) ≡ option_map attempt_of (active_job_with id jobs)
   found id [] = refl
   found id (job ∷ jobs) =
@@ -35,6 +36,7 @@ module _ (attempt_of : ActiveParts → Attempt) (own : (job : ActiveParts) → (
       by true rest = refl
       by false rest = rest
 
+  -- A job that is put among jobs puts its attempt among theirs.
   put : (job : ActiveParts) (jobs : List ActiveParts) → put_attempt (attempt_of job) (map attempt_of jobs) ≡ map attempt_of (put_job job jobs)
   put job [] = refl
   put job (other ∷ jobs) =
@@ -47,6 +49,7 @@ module _ (attempt_of : ActiveParts → Attempt) (own : (job : ActiveParts) → (
       by true rest = refl
       by false rest = ap (λ ys. attempt_of other ∷ ys) rest
 
+  -- A job that is taken out takes its attempt with it.
   taken_out : (id : ℕ) (jobs : List ActiveParts) → without_attempts (id ∷ []) (map attempt_of jobs) ≡ map attempt_of (without_job id jobs)
   taken_out id [] = refl
   taken_out id (job ∷ jobs) =

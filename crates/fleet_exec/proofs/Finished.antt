@@ -23,6 +23,8 @@ module _ (merge : Operator) (sources : List (List (List Row))) (size : ℕ) wher
       let rest = all_finished jobs ranges (omega (arith, same)) (λ i job d lt. each (suc i) job d (omega (arith, lt))) in
       record { cut = ap (λ (t : List (List Row)). t ∷ map (map rows_of) ranges) first.cut ∙ ap (λ (w : List (List (List Row))). cut_tables size (made_of merge sources j).rows ∷ w) rest.cut; whole = (first.whole, rest.whole) }
 
+  -- The first refusal among the answers of ranges, unless it is `Memory`, comes from a range in which a
+  -- fold refuses, and no fold refuses in a range before it.
   pub first_refuses : (jobs : List RangeJob) (made : List (Result (List (List RowEntry)) SlateDBError)) → length made ≡ length jobs
       → ((i : ℕ) (job : RangeJob) (d : Result (List (List RowEntry)) SlateDBError) → i < length jobs → FinishesRange merge sources size (get_or jobs i job) (get_or made i d)) → (e : SlateDBError) → e ≢ Memory → first_refusal made ≡ Some e → RefusesFirst merge sources jobs e
   first_refuses jobs [] same each e other is = absurd (cc is)

@@ -86,6 +86,7 @@ module _ (merge : Operator) (settings : Settings) (cursor : Option Cursor) (rows
   after taken new takes rest is =
       ap L (sym is) ∙ (filter-append (is_left cursor) s.rows rest ∙ (ap (λ (w : List Row). w ++ L rest) takes.rows ∙ append_assoc (rows_of taken) (L new.rows) (L rest)))
 
+  -- The rows that are taken are the first ones that the job makes after the cursor.
   first : (taken : List RowEntry) (new : IteratorState) → Takes most cursor s taken new → (b : Bool) → s.whole ≡ b → rows_of taken ≡ take most (L J.rows)
   first taken new takes true is =
       let count = length_rows taken in
@@ -123,6 +124,7 @@ module _ (merge : Operator) (settings : Settings) (cursor : Option Cursor) (rows
   all_shorter P Q [] all fewer = tt
   all_shorter P Q (q ∷ qs) all fewer = ((λ p. shorter (Q q) (all.0 p) fewer), all_shorter P Q qs all.1 fewer)
 
+  -- If taking rows is refused, the job's next table is refused with the same error.
   pub refuses_next : (e : SlateDBError) → RefusesTaking most cursor s e → RefusesTableUnless merge settings cursor rows (record { rows = L J.rows; whole = J.whole }) most e
   refuses_next e refuses other = by s.whole refl
     where

@@ -22,6 +22,7 @@ fresh_are_empty : (ranges : List (Ends (List ℕ))) → AllByRecursion (λ (part
 fresh_are_empty [] = tt
 fresh_are_empty (range ∷ ranges) = (refl, fresh_are_empty ranges)
 
+-- A context of a job's arguments and of fresh parts for the planned ranges is a planned one.
 pub is_planned : (args : StartCompactionJobArgs) (most floor : ℕ) (views : List View) (ranges : List (Ends (List ℕ))) (parts : List Part) (settings : Settings) (context : ContextParts)
     → args.retention_min_seq ≡ Some floor → views ≡ views_of args.l0_sst_views args.sorted_runs → ArePlanned most views (ranges_of ranges) → parts ≡ fresh_parts ranges → settings ≡ settings_with floor args
     → context ≡ context_with parts settings args.release → IsPlanned args most context

@@ -21,6 +21,7 @@ use Rattle.fleet_exec.proofs.Opened.{flat_in, merged_in, ordered}
 
 -- ---- if all rows of a merge have a property, so have all rows of its lists
 
+-- What holds of all rows of a merge holds of the rows of both lists.
 all_of_two : (P : Row → Type 0) (xs ys : List Row) → AllByRecursion P (merge_two Ascending xs ys) → AllByRecursion P xs × AllByRecursion P ys
 all_of_two P [] ys h = (tt, h)
 all_of_two P (x ∷ xs) [] h = ((h.0, (all_of_two P xs [] h.1).0), tt)

@@ -72,6 +72,8 @@ module _ (merge : Operator) (settings : Settings) (range : Range) (sources : Lis
 pub taken_are_first : (merge : Operator) → TakenAreFirst merge
 taken_are_first merge settings range sources sizes tables h taken = first_taken merge settings range sources h sizes tables taken
 
+-- If a range is taken table by table and then finished, the rows of its tables are all that a job makes
+-- of the range.
 pub taken_and_finished_make_all : (merge : Operator) → TakenAndFinishedMakeAll merge
 taken_and_finished_make_all merge settings sources turns h made =
     let j : JobRows = job_rows merge settings (rows_in turns.range (all_rows sources)) in

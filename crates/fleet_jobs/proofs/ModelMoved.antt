@@ -17,6 +17,7 @@ module _ (tables : Tables) where
   abbrev KeyFits : View → Type 0
   KeyFits view = first_key (table_rows tables view.sst.id) ≡ view.sst.first_key
 
+  -- A view that is put by its first key puts its table as the model does.
   put_is : (v : View) (vs : List View) → KeyFits v → AllByRecursion KeyFits vs → view_tables (put_view v vs) ≡ put_by_first_key tables v.sst.id (view_tables vs)
   put_is v [] fits all = refl
   put_is v (o ∷ os) fits all =
@@ -39,6 +40,7 @@ module _ (tables : Tables) where
   start_is [] all = refl
   start_is (v ∷ vs) all = put_is v (by_start vs) all.0 (all_start vs all.1) ∙ ap (put_by_first_key tables v.sst.id) (start_is vs all.1)
 
+-- The run of a move has the destination as its id, and the tables that the model's move gives it.
 pub moved_runs_are_the_models : MovedRunsAreTheModels
 moved_runs_are_the_models tables None views run fits is = absurd (cc is)
 moved_runs_are_the_models tables (Some id) views run fits is = by (is_nonempty (by_start views) && are_disjoint (by_start views)) is

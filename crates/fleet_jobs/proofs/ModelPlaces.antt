@@ -121,6 +121,7 @@ contain_both (y ∷ xs) ys x = by (name_is y) (contain_both xs ys x)
     by true e = refl
     by false e = e
 
+-- Names are apart from two lists together exactly if they are apart from both.
 apart_both : (xs ys zs : List NodeName) → is_apart xs (ys ++ zs) ≡ (is_apart xs ys && is_apart xs zs)
 apart_both [] ys zs = refl
 apart_both (x ∷ xs) ys zs =
@@ -138,6 +139,8 @@ apart_none : (xs : List NodeName) → is_apart xs [] ≡ true
 apart_none [] = refl
 apart_none (x ∷ xs) = apart_none xs
 
+-- A job touches no held node exactly if none of its nodes is among the held ones, given that no job with
+-- its id holds nodes.
 pub held_nodes_decide : HeldNodesDecide
 held_nodes_decide [] lost job none = apart_none (nodes_of job.spec)
 held_nodes_decide (other ∷ jobs) lost job none = by (reserves_nodes other || contains lost other.id) (job.id == other.id) none.0 (held_nodes_decide jobs lost job none.1)

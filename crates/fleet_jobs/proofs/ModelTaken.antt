@@ -109,6 +109,8 @@ taken_runs_are_the_models flushes spec core =
     let tree = tree_in (segment_of spec) core in
     runs_are (flushes (segment_of spec)) (l0_in tree) (runs_in tree) (sources_of spec) ∙ ap (source_nodes (run_names spec)) (sym (tree_is flushes (segment_of spec) (trees_with_prefix core)))
 
+-- If a job names its flushes before its runs, the tables that it takes are those of the model's source
+-- nodes.
 pub taken_tables_are_the_models : TakenTablesAreTheModels
 taken_tables_are_the_models flushes spec core in_order =
     let tree = tree_at (segment_of spec) (trees_of flushes core) in

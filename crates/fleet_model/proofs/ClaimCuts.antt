@@ -17,6 +17,8 @@ at_claim_or (Some worker) got later = got worker
 abbrev pub objects_got : Tables → (ℕ → JobSpec) → (job attempt : ℕ) → List Entry → (start : Objects) → Option Objects
 objects_got tables specs job attempt history start = objects_after_claim tables specs start (cut_at_claim job attempt history)
 
+-- The objects that a claim got are those at its worker's get if the first entry is the claim, and
+-- otherwise those that the later entries give.
 pub claim_step : (tables : Tables) (specs : ℕ → JobSpec) (job attempt : ℕ) (entry : Entry) (history : List Entry) (start : Objects)
     → let after = after_entry tables specs entry start in
     objects_got tables specs job attempt (entry ∷ history) start

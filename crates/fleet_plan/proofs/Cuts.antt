@@ -69,6 +69,7 @@ boundaries_rise anchors most least = either (IsStrictlySortedBy key_cmp) anchors
 
 -- ---- there are fewer cuts than ranges asked for
 
+-- If fewer cuts stand than there may be ranges, there are still fewer with all later cuts.
 cuts_few : (most target standing before threshold : ℕ) (last : List ℕ) (anchors : List Anchor) → standing < most → standing + length (cuts most target standing before threshold last anchors) < most
 cuts_few most target standing before threshold last [] room = omega (arith, room)
 cuts_few most target standing before threshold last (a ∷ anchors) room =

@@ -26,6 +26,7 @@ known_first l0 runs anchors size is top = (
   ap (λ n. max n (greatest_view_size (views_of [] runs))) top ∙ sym (greatest-append l0 (views_of [] runs)),
 )
 
+-- If one more run is taken, its anchors and its greatest size are known too.
 pub known_more : (all : List model.Anchor) (greatest : ℕ) (run : SortedRun) (left rest : List SortedRun) (anchors made : List model.Anchor) (size now : ℕ) → left ≡ run ∷ rest
     → made ≡ anchors ++ flat_map view_anchors run.views → now ≡ max size (greatest_view_size run.views) → Known all greatest anchors size left → Known all greatest made now rest
 known_more all greatest run left rest anchors made size now first more top known =

@@ -55,6 +55,7 @@ module _ {X : Type 0} (lt : X → X → Bool) (order : IsStrictWeakOrder lt) whe
   tail_same true y xs ys e = cc e
   tail_same false y xs ys e = e
 
+  -- Two rising lists are equal if their tied elements are the same ones in the same order.
   pub one_sorting : (ys zs : List X) → Rises ys → Rises zs → ((x : X) → filter (ties lt x) ys ≡ filter (ties lt x) zs) → ys ≡ zs
   one_sorting [] [] up up' same = refl
   one_sorting [] (z ∷ zs) up up' same =
@@ -132,6 +133,7 @@ module _ {X : Type 0} (lt : X → X → Bool) (order : IsStrictWeakOrder lt) whe
       second false true h = absurd (cc h)
       second false false h = refl
 
+  -- An element that is put into a list stands before the elements that are tied with it.
   put_keeps : (w x : X) (ys : List X) → filter (ties lt w) (put x ys) ≡ filter (ties lt w) (x ∷ ys)
   put_keeps w x [] = refl
   put_keeps w x (y ∷ ys) = by (lt y x) refl (put_keeps w x ys)

@@ -126,6 +126,8 @@ module _ (within : List ℕ → Bool) (stride end groups : ℕ) (some : 0 < grou
       ∙ ap (λ t. cond t (anchor_at end (block_of b) (blocks_of next) ∷ grouped within stride end (blocks_of next)) (grouped within stride end (blocks_of next))) (ap (λ (f : BlockMeta). within f.first_key) same ∙ out) in
       subst (SoFar within stride end blocks all anchors) (sym afterwards) (ap (λ more. anchors ++ more) (sym left) ∙ so_far.0, fewer b bs so_far.1)
 
+  -- If the next group begins within the range, its anchor is added, and the groups left give the other
+  -- anchors.
   pub with_group : (rest later : List BlockMeta) (made : List model.Anchor) → later ≡ drop stride rest → rest ≡ first ∷ drop 1 rest → within first.first_key ≡ true
       → made ≡ anchors ++ anchor_at end (block_of first) (blocks_of later) ∷ [] → SoFar within stride end blocks all anchors rest → SoFar within stride end blocks all made later
   with_group [] later made afterwards e inside more so_far = absurd (cc e)

@@ -46,6 +46,8 @@ chosen_records false one other same = refl
 raised_records : (world : World) → (raised world).store.records ≡ world.store.records
 raised_records world = chosen_records (world.store.manifest.version == world.store.manifest.version) _ world.store refl
 
+-- If the store has no records, the coordinator that has raised the manifest's epoch may put the first
+-- ones.
 records_fit_here : (who : Caller) (world : World) → who.party ≡ Coordinator 1 → world.store.records ≡ None
     → RecordsFit who.merge who.party (raised world) (RecordsEpoch (next_epoch world)) (next_epoch world) []
 records_fit_here who world by empty =

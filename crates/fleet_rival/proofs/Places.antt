@@ -20,6 +20,7 @@ module _ (place : List ℕ) (old new : StoreView) where
   pub made : (x : Exchange) (met : World) → IsMade x met old new → IsMade x met (at_place place old) (at_place place new)
   made x met is = record { room = is.room; leaves = is.leaves; spares = is.spares; no_fault = is.no_fault }
 
+  -- A call that has ended for a store has ended for the same store with a place.
   pub ended : {A : Type 0} (x : Exchange) (met : World) (Gives : A → Type 0) (Refuses : ℕ → Type 0) (result : Result A SlateDBError) → Ended x met old new Gives Refuses result → Ended x met (at_place place old) (at_place place new) Gives Refuses result
   ended x met Gives Refuses (Ok answer) is = (is.0, made x met is.1)
   ended x met Gives Refuses (Err StoreFault) is = record { counts = is.counts; stands = is.stands; leaves = is.leaves; strikes = is.strikes; fault = is.fault; one_fault = is.one_fault }

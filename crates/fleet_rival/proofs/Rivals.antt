@@ -175,6 +175,7 @@ module _ (who : Caller) (others : who.alone ≡ false) (old new : StoreView) (x 
     none = λ alone. absurd_alone (sym others ∙ alone);
   }
 
+  -- A lawful call of another party, however it ends, is a step of rivals.
   from_end : {A : Type 0} (Gives : A → Type 0) (Refuses : ℕ → Type 0) (result : Result A SlateDBError) → Ended x old.world old new Gives Refuses result → Rivals who old.world new.world
   from_end Gives Refuses (Ok answer) is = came_by None tt is.1.leaves
   from_end Gives Refuses (Err StoreFault) is = came_by (Some is.stands) is.counts is.leaves

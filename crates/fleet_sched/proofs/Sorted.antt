@@ -12,6 +12,7 @@ use Rattle.sched_model.specs.Picks.{Planned}
 use Rattle.sched_model.specs.SizeTiered.{by_flushes, put_by_flushes}
 use Rattle.fleet_plan.proofs.Sorting.{put, sorted, sorting_is}
 
+-- Comparing two numbers gives `Less` exactly if the first one is less.
 lt_is : (a b : ℕ) → is_lt (nat_cmp a b) ≡ nat_lt a b
 lt_is a b = by (nat_lt a b) refl
   where

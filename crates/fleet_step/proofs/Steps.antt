@@ -32,6 +32,7 @@ module _ {A : Type 0} where
   pub begins : (course : Course A) (view : StoreView) → Leads course view course view
   begins course view = record { same = same_itself view; rise = omega arith; no_fault = λ alone. refl; later = later_itself view.world.store; on = λ last left end ran. ran; lawful = λ lawful. lawful }
 
+  -- If a course leads to a middle one and that leads to a rest, the course leads to the rest.
   pub then_leads : {course middle rest : Course A} {old mid new : StoreView} → Leads course old middle mid → Leads middle mid rest new → Leads course old rest new
   then_leads {course = course} {middle = middle} {rest = rest} {old = old} {mid = mid} {new = new} one two =
       let who = one.same.who in

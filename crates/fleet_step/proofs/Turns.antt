@@ -124,6 +124,8 @@ module _ (version : ℕ) (value : own.Manifest) (why : own_change.ManifestChange
     one_fault = struck.one_fault;
   }
 
+  -- If the manifest that is put and the one in the course are alike for the store, the put has ended as
+  -- the one in the course.
   ended_alike : (P Q : ℕ → Type 0) (met : World) (old new : StoreView) → AreAlike met.store → (result : Result ℕ SlateDBError) → Ended (made_put met.store) met old new P Q result → Ended course_put met old new P Q result
   ended_alike P Q met old new same (Ok answer) ended = (ended.0, made_alike met old new same ended.1)
   ended_alike P Q met old new same (Err error.StoreFault) ended = struck_alike met old new same ended

@@ -59,6 +59,7 @@ module _ (jobs : List JobParts) (worker : ℕ) where
   abbrev LIVE : List AttemptParts → List Attempt
   LIVE xs = live_among jobs worker xs
 
+  -- The live attempts name a job exactly if one of them is at it.
   named_at : (xs : List AttemptParts) (id : ℕ) → contains (firsts (named_attempts (LIVE xs))) id ≡ is_some (live_at jobs worker xs id)
   named_at [] id = refl
   named_at (x ∷ xs) id = by (lives (attempt_of x)) (named_at xs id)
@@ -76,6 +77,7 @@ module _ (jobs : List JobParts) (worker : ℕ) where
       by true rest = here (x.job == id) _ _ rest
       by false rest = not_here (x.job == id) _ _ rest
 
+  -- The attempt at a job among the live ones is the worker's live attempt at it.
   found_at : (xs : List AttemptParts) (id : ℕ) → attempt_at id (LIVE xs) ≡ option_map attempt_of (live_at jobs worker xs id)
   found_at [] id = refl
   found_at (x ∷ xs) id = by (lives (attempt_of x)) (found_at xs id)

@@ -44,6 +44,8 @@ module _ (w : WorkerParts) (job number : ℕ) (ctx : ContextParts) where
   pub progress_wants : (attempts : List AttemptParts) (view : StoreView) → StepRan (runs_then attempts) (take_progress (live_of w) job number (context_of ctx)) view view (Err Memory)
   progress_wants attempts view = wants (runs_then attempts) (take_progress (live_of w) job number (context_of ctx)) view
 
+  -- If the tables of an attempt's new context are described, those of all attempts still are after the
+  -- progress.
   noted_next : (store : Store) (found : Option AttemptParts) → IfSome (option_map attempt_of found) (λ a. IsShownBy store ctx) → AreNoted w.attempts store → AreNoted (went_on ctx found w.attempts) store
   noted_next store None shown noted = noted
   noted_next store (Some a) shown noted = put (without_parts (a.job ∷ []) w.attempts) (some_noted store (λ b. not (contains (a.job ∷ []) b.job)) w.attempts noted)

@@ -7,6 +7,7 @@ use Rattle.fleet_exec.specs.Cut.{open_with}
 use Rattle.fleet_exec.specs.Taking.{left_after, ReadsOn}
 use Rattle.fleet_exec.proofs.finish.take_table.Given as goal
 
+-- The rows of this table and the tables that are cut from the rows left are the tables of all rows.
 abbrev pub invariant-rows : goal.invariant-rows
 invariant-rows g l =
     let s = g.T.RowSource.state l.source in
