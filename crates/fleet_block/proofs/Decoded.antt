@@ -56,6 +56,7 @@ stamp (Some s) others fits =
     ap (λ number. (Some (cast_signed w64 number.0), number.1)) (number_64 (cast_unsigned w64 s) others (bits_fit s fits))
     ∙ ap (λ t. (Some t, others)) (stamp_back s fits)
 
+-- A key that is written against the first key of its block is read back, with the bytes after it.
 key : (first k others : List ℕ) → length k ≤ 65535 → key_in first (key_bytes (shared_len first k) k ++ others) ≡ (k, others)
 key first k others fits =
     let within = shared_within first k in
@@ -71,6 +72,7 @@ key first k others fits =
 
 -- ---- rows
 
+-- A row that is written is read back, with the bytes after it.
 row : (first : List ℕ) (r : Row) (others : List ℕ) → IsWritable r → row_in first (row_bytes first r ++ others) ≡ (r, others)
 row first r others fits =
     let key_is = ap (key_in first) (row_parts first r others) ∙ key first r.key (after_key r others) fits.in_bounds.key in

@@ -8,6 +8,7 @@ use Rattle.row_model.specs.Written.TableBytes.{content_bytes, content_flag, fiel
 
 -- ---- flags
 
+-- The flags of a row tell whether it has a time of creation.
 created_flag : (x : Content) (created expires : Option ℤ) → is_some created ≡ ((content_flag x + stamp_flag 4 created + stamp_flag 8 expires) / 4 % 2 == 1)
 created_flag (Value bytes) None None = refl
 created_flag (Value bytes) None (Some e) = refl
@@ -22,6 +23,7 @@ created_flag Tombstone None (Some e) = refl
 created_flag Tombstone (Some s) None = refl
 created_flag Tombstone (Some s) (Some e) = refl
 
+-- The flags of a row tell whether it has an expiry.
 expires_flag : (x : Content) (created expires : Option ℤ) → is_some expires ≡ ((content_flag x + stamp_flag 4 created + stamp_flag 8 expires) / 8 % 2 == 1)
 expires_flag (Value bytes) None None = refl
 expires_flag (Value bytes) None (Some e) = refl
@@ -36,6 +38,7 @@ expires_flag Tombstone None (Some e) = refl
 expires_flag Tombstone (Some s) None = refl
 expires_flag Tombstone (Some s) (Some e) = refl
 
+-- The flags of a row tell the kind of its content.
 kind_flag : (x : Content) (created expires : Option ℤ) → (content_flag x + stamp_flag 4 created + stamp_flag 8 expires) % 4 ≡ content_flag x
 kind_flag (Value bytes) None None = refl
 kind_flag (Value bytes) None (Some e) = refl

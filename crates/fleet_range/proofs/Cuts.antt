@@ -25,6 +25,7 @@ from_start_cut R key (Excluded x) = strictly (R x key)
     strictly Equal = refl
     strictly Greater = refl
 
+-- A key lies before an end exactly if the cut of the end is above the key.
 to_end_cut : {K : Type 0} {R : K → K → Ordering} → IsTotalOrder R → (key : K) (end : Bound K) → is_to_end R end key ≡ past R key (end_cut end)
 to_end_cut o key Unbounded = refl
 to_end_cut {K} {R} o key (Included y) = up_to (R key y) (R y key) (o.antisymm y key)
@@ -43,6 +44,7 @@ to_end_cut {K} {R} o key (Excluded y) = short_of (R key y) (R y key) (o.antisymm
 pub in_cuts : {K : Type 0} {R : K → K → Ordering} → IsTotalOrder R → (start end : Bound K) (key : K) → is_in R (start, end) key ≡ (not (past R key (start_cut start)) && past R key (end_cut end))
 in_cuts {K} {R} o start end key = λ i. from_start_cut R key start i && to_end_cut o key end i
 
+-- A start and an end leave room exactly if the cut of the start is less than the cut of the end.
 pub room_cuts : {K : Type 0} (R : K → K → Ordering) (start end : Bound K) → leaves_room R start end ≡ is_lt (cut_cmp R (start_cut start) (end_cut end))
 room_cuts R Unbounded Unbounded = refl
 room_cuts R Unbounded (Included y) = refl

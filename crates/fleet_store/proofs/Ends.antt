@@ -105,6 +105,7 @@ module _ {A : Type 0} (merge : Operator) (lent : ℕ) (old new : StoreParts) (x 
   made : (answer : Result A SlateDBError) → Outcome None answer → IsMade (x old.world.store) old.world before after
   made answer is = record { room = is.room; leaves = is.world_is; spares = λ alone. spared _ old.waits new.waits is.strike_is is.waits_is; no_fault = λ alone. is.faults_are }
 
+  -- A call that was made has ended with its answer, or with `StoreFault` if a fault struck it.
   made_end : (strike : Strike) (answer : Result A SlateDBError) → Outcome strike answer → End (ended_of (Ok (strike, answer)))
   made_end None (Ok answer) is = (is.fits, made (Ok answer) is)
   made_end None (Err (Conflict seen)) is = (is.fits, made (Err (Conflict seen)) is)

@@ -84,6 +84,7 @@ module _ {A : Type 0} (x : Exchange) (met : World) (old new : StoreView) (Gives 
   made_later : (strike : Strike) → new.world ≡ after_call old.who.line old.who.party x strike met → IsLater met.store new.world.store
   made_later strike is = subst (λ (t : World). IsLater met.store t.store) (sym is) (call_later old.who.line old.who.party x strike met.store)
 
+  -- However a call ends, the store after it is later than the one that it met.
   ended_later : (result : Result A SlateDBError) → Ended x met old new Gives Refuses result → IsLater met.store new.world.store
   ended_later (Ok answer) is = made_later None is.1.leaves
   ended_later (Err StoreFault) is = made_later (Some is.stands) is.leaves

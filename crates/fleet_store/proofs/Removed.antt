@@ -118,6 +118,8 @@ without_others id k v (e ∷ es) other h = by (nat_cmp k e.0) refl (id == e.0) r
 abbrev others : ℕ → Tables → Tables
 others id tables = filter (λ table. not (id == table.0)) tables
 
+-- Removing a table after tables were inserted by their ids is the same as inserting the other tables
+-- alone.
 without_from : (id : ℕ) (es tables : Tables) → Rise es
     → without id (fold (λ held table. insert_entry nat_cmp held table.0 table.1) es tables) ≡ fold (λ held table. insert_entry nat_cmp held table.0 table.1) (without id es) (others id tables)
 without_from id es [] h = refl
@@ -139,6 +141,7 @@ without_by_id id tables = without_from id [] tables tt
 
 -- ---- deleted tables
 
+-- A list with one more number at its end contains what the list contains and that number.
 contains_last : (xs : List ℕ) (y n : ℕ) → contains (xs ++ y ∷ []) n ≡ (contains xs n || (y == n))
 contains_last [] y n = by (y == n)
   where

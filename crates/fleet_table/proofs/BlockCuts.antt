@@ -40,6 +40,7 @@ headed rest [] later first d offset cut both filled is = absurd (filled refl)
 headed rest (b ∷ bs) later first d offset cut both filled is =
     ap (λ (r : RowEntry). record { first_key = r.key; offset = offset } ∷ index_from (saturated_sum (offset + sum_by estimated_size (rows_of (b ∷ bs)))) cut) (sym (is ∙ ap (λ rs. slice_index_or rs 0 d) both))
 
+-- If one more block is listed, the blocks so far and those of the rest are still the blocks of all rows.
 pub listed : (all rest block later : List RowEntry) (first d : RowEntry) (key : List ℕ) (index more : List BlockMeta) (offset next : ℕ)
     → IsCutSoFar (rows_of all) (rows_of rest) (blocks_of index) offset
     → blocks_of_rows 0 (rows_of rest) ≡ rows_of block ∷ blocks_of_rows 0 (rows_of later) → rest ≡ block ++ later → block ≢ []

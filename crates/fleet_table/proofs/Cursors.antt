@@ -83,6 +83,7 @@ module _ (rows : List Row) where
   block_bytes_at before here after all place at =
       ap (λ bs. drop place (bytes_of_blocks bs)) all ∙ ap (λ n. drop n (bytes_of_blocks (before ++ here ∷ after))) at ∙ blocks_stand_in_bytes before after here
 
+  -- A cursor at the beginning of a block stands at the first row of that block.
   first_stands : (before : List (List Row)) (here : List Row) (after : List (List Row)) → blocks_of_rows 0 rows ≡ before ++ here ∷ after → here ≢ [] → (cursor : Cursor) → cursor.block ≡ length before → cursor.row ≡ length (joined_rows before)
       → drop cursor.place (table_bytes rows) ≡ rows_bytes here ++ flat_map rows_bytes after → StandsAt rows cursor
   first_stands before [] after all some cursor block row place = absurd (some refl)
@@ -281,6 +282,7 @@ index_names rows held listed before r here after block meta same index all at go
     ∙ index_key 0 before r here after some in
     cc one
 
+-- The index lists each block of the rows.
 pub index_there : (rows held : List Row) (listed : List BlockMeta) (before : List (List Row)) (r : Row) (here : List Row) (after : List (List Row)) (block : ℕ)
     → held ≡ rows → blocks_of listed ≡ blocks held → blocks_of_rows 0 rows ≡ before ++ (r ∷ here) ∷ after → block ≡ length before → slice_get listed block ≡ None → ⊥
 index_there rows held listed before r here after block same index all at got =

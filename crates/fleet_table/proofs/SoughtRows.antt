@@ -67,6 +67,7 @@ module _ (key : List ℕ) (range : Range) where
       let n : length later ≤ length (t ∷ later) - 1 = omega arith in
       ap (λ x. x ∷ later) (sym is) ∙ ap (λ rest. table ∷ rest) (sym (take_all (length (t ∷ later) - 1) later n))
 
+  -- If no row of a table is left, a seek goes on through the next table.
   pub sought_next : (left new : List Row) (later : List (List Row)) (table d all : List Row) → IsSought left later all → left ≡ [] → 1 ≤ length later → table ≡ slice_index_or later 0 d
       → new ≡ from_key key (rows_in range table) → IsSought new (take (length later - 1) (drop 1 later)) all
   sought_next left new later table d all sought none some is taken =

@@ -19,6 +19,7 @@ use Rattle.fleet_table.proofs.Spots.{before_is, after_is, failing_rows, passing_
 
 -- ---- the rows of a range
 
+-- The rows in a range are those between the place of its first row and the place after its last one.
 pub range_between : (range : Range) (rows : List Row) (start end : ℕ) → IsStrictlyOrdered rows → start ≡ prefix_len (is_before_range range) rows → end ≡ prefix_len (is_not_after_range range) rows → rows_between start end rows ≡ rows_in range rows
 range_between range rows start end ordered from to =
     let p = is_before_range range in

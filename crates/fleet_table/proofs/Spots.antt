@@ -39,6 +39,7 @@ module _ (p : Row → Bool) (closed : (r q : Row) → row_cmp r q ≡ Less → p
       let rest = passing rows ordered.1 i r got holds in
       omega (arith, all, rest)
 
+  -- No more rows pass a test at the front than there are before a row that fails it.
   pub failing : (rows : List Row) (i : ℕ) (r : Row) → slice_get rows i ≡ Some r → p r ≡ false → prefix_len p rows ≤ i
   failing [] i r got fails = absurd (cc got)
   failing (q ∷ rows) zero r got fails =

@@ -58,6 +58,7 @@ pub record ReadsLines (text : List ℕ) (lines : List Line) (started : Started) 
 pub reads_none : (text : List ℕ) (started : Started) → started.coordinator ≡ false → started.worker ≡ false → ReadsLines text [] started text
 reads_none text started c w = record { each = tt; starts = record { coordinator = c; worker = w }; whole = refl }
 
+-- If the next line of a text may follow the lines that were read, it is read too.
 pub reads_more : (text : List ℕ) (lines : List Line) (started after : Started) (rest front afterwards : List ℕ) (line : Line) → ReadsLines text lines started rest → rest ≡ front ++ 10 ∷ afterwards → MayFollow started (line_of line) × (front ≡ line_text (line_of line))
     → after.coordinator ≡ (started.coordinator || starts_coordinator (line_of line)) → after.worker ≡ (started.worker || starts_worker (line_of line)) → ReadsLines text (lines ++ line ∷ []) after afterwards
 reads_more text lines started after rest front afterwards line r cut read c w =

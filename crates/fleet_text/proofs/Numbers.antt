@@ -79,6 +79,8 @@ with_front (b ∷ bytes) some first = ap (λ x. x ∷ bytes) first
 below_zero : (n : ℕ) → pos 0 -ℤ pos (suc n) ≡ negsuc n
 below_zero n = omega (arith, ints)
 
+-- A word that is a minus and a number other than zero reads as the negated number, or as nothing if that
+-- does not fit.
 pub negative_from_number : (bytes : List ℕ) (n : ℕ) (r : Option ℤ) → 0 < length bytes → get_or bytes 0 0 ≡ 45 → n ≢ 0 → n < 2 ^ 64 → drop 1 bytes ≡ decimal n → SomeIff r (FitsSigned w64 (pos 0 -ℤ pos n)) (pos 0 -ℤ pos n) → Reads signed_decimal IsStamp bytes r
 negative_from_number bytes zero r some first above small read h = absurd (above refl)
 negative_from_number bytes (suc n) (Some z) some first above small read h =

@@ -57,6 +57,7 @@ module _ (prefix : List ℕ) (view : View) (seq : ℕ) where
   abbrev here : Bool → List ℕ × LsmTreeState → Bool × LsmTreeState
   here same s = cond same (true, s.1) (false, empty_tree)
 
+  -- A flushed tree that is put at the place of its prefix gives the segments that the flush leaves.
   pub flushed_at : (xs : Segments) → put_found (place_in xs) (tree_or_empty prefix (slice_get xs (place_in xs))) xs ≡ flushed_segments prefix view seq xs
   flushed_at [] = refl
   flushed_at (s ∷ xs) = by (key_cmp s.0 prefix) refl (flushed_at xs)
