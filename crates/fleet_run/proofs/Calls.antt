@@ -46,6 +46,7 @@ same_number n m h = grind (arith, nat_tests, h)
 name_stays : (store : Store) (e : Entry) → name_in e.event ≡ 0 → last_name (store.history ++ e ∷ []) ≡ last_name store.history
 name_stays store e h = omega (arith, last_name-append store.history e, h)
 
+-- If a call succeeds, what is held of the store after it is what the call makes of what was held before.
 held_one : (line : ℕ) (party : Party) (x : Exchange) (store : Store) → Succeeds x (held_parts store) → held_parts (after_answered line party x store) ≡ held_after x (held_parts store)
 held_one line party (Plain event) store h =
     ap (λ name. record (held_parts store) { name = name }) (name_stays store (record { line = line; party = party; event = event; answer = answer_of (Plain event) store }) h)

@@ -114,6 +114,8 @@ nothing_claimed attempts = record { begun = []; stopped = []; released = []; att
 abbrev one_begun : Attempt → Claimed
 one_begun a = record { begun = a ∷ []; stopped = []; released = []; attempts = a ∷ [] }
 
+-- If no job can be claimed and none is stopped, a claim leaves what is held as it is and reports that it
+-- claimed nothing.
 none_leads : (left seen : ℕ) (h : Held) (attempts : List Attempt) → claimed_jobs 4 (worker_of attempts) (jobs_in h.records) ≡ [] → stopped_jobs (worker_of attempts) (jobs_in h.records) ≡ []
     → filter (λ (a : Attempt). true) attempts ≡ attempts → Leads (tries (claim_try options 0 (worker_of attempts)) (suc left) seen) h h (Reports (nothing_claimed attempts))
 none_leads left seen h attempts none stops same =
@@ -138,6 +140,7 @@ none_leads left seen h attempts none stops same =
 abbrev claimed_records : Records → ℕ → Records
 claimed_records got id = record got { version = got.version + 1; jobs = trimmed_jobs (changed_jobs (claimed_by 1 0) (id ∷ []) got.jobs) }
 
+-- If one job can be claimed, a claim puts that job as claimed and reports that its attempt has begun.
 one_leads : (left seen : ℕ) (h : Held) (got : Records) (job : AskedJob) (a : Attempt) → h.records ≡ Some got → claimed_jobs 4 (worker_of []) got.jobs ≡ opened_job job ∷ [] → stopped_jobs (worker_of []) got.jobs ≡ []
     → can_start h.manifest (opened_job job) ≡ true → claimed_attempt (input_of h.manifest h.tables) (opened_job job) ≡ a
     → Leads (tries (claim_try options 0 (worker_of [])) (suc left) seen) h (record h { records = Some (claimed_records got job.id) }) (Reports (one_begun a))
@@ -329,6 +332,7 @@ module _ (number : ℕ) (fleet : FleetView) (store : Store) (holds : Holds fleet
       subst (λ on. Serves number fleet store (line_at s (parties_with on (attempts_by fleet.opened))) (claim_answer fleet) (after_claim fleet)) (sym off)
       (subst (λ text. Serves number fleet store (only_replies s no_such_party) text (after_claim fleet)) answer (subst (λ (f : FleetView). Serves number fleet store (only_replies s no_such_party) no_such_party f) same served))
 
+  -- The line of a claim gives the fleet's reply and leaves the fleet after it.
   pub claim_serves : Goal
   claim_serves = live fleet.worker refl
     where

@@ -72,6 +72,7 @@ put_above d run [] (m ∷ made) h =
     ap (λ b. cond b (run ∷ run_node m ∷ map run_node made) (run_node m ∷ put_run d run (map run_node made))) below
 put_above d run (f ∷ newer) made h = ap (λ t. node_of f ∷ t) (put_above d run newer made h)
 
+-- A join of the oldest flush takes it out of the root tree and puts the job's run above the other runs.
 pub stepped_root : (tables : Tables) (job : AskedJob) (out : Tables) (newer : Tables) (flush : ℕ × List Row) (made : List MadeRun) (more : Tables) → flush.0 ≡ job.source → AreFlushes ((newer ++ flush ∷ []) ++ more)
     → AllByRecursion (λ m. m.id < job.destination) made
     → stepped_tree tables (Join job.id) (spec_of job) (concat (firsts out ∷ [])) (tree (newer ++ flush ∷ []) made) ≡ tree newer (record { id = job.destination; tables = out; flush = flush } ∷ made)

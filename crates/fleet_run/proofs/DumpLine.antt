@@ -36,6 +36,7 @@ no_flush_node : (stored : Tables) (made : List MadeRun) (n : ℕ) → rows_of_no
 no_flush_node stored [] n = refl
 no_flush_node stored (m ∷ made) n = no_flush_node stored made n
 
+-- The stored rows of a flush's node are the rows of that flush.
 flush_found : (stored flushes : Tables) (made : List MadeRun) (n : ℕ) → AllByRecursion (IsStored stored) flushes → rows_of_node stored (node_named (L0 n) (tree flushes made)) ≡ flush_at n flushes
 flush_found stored [] made n h = no_flush_node stored made n
 flush_found stored (f ∷ flushes) made n h = by (f.0 == n) refl (flush_found stored flushes made n h.1)
@@ -58,6 +59,7 @@ piece_rows stored (t ∷ tables) h =
 abbrev run_in : ℕ → List (ℕ × Tables) → Option (List Row)
 run_in id runs = option_map rows_in (option_map (λ (run : ℕ × Tables). run.1) (find (λ (run : ℕ × Tables). run.0 == id) runs))
 
+-- The stored rows of a run's node are the rows of that run.
 run_found : (stored : Tables) (made : List MadeRun) (id : ℕ) → AllByRecursion (IsStored stored) (flat_map (λ m. m.tables) made) → rows_of_node stored (node_named (Run id) (map run_node made)) ≡ run_in id (map run_of made)
 run_found stored [] id h = refl
 run_found stored (m ∷ made) id h =
@@ -77,6 +79,7 @@ after_flushes stored (f ∷ flushes) made id = after_flushes stored flushes made
 
 -- ---- the line
 
+-- The stored rows of a node are the rows that the fleet has for it.
 rows_found : (fleet : FleetView) (store : Store) (holds : Holds fleet (held_parts store)) (name : NodeName) → rows_of_node store.tables (node_named name (tree fleet.flushes holds.made)) ≡ node_rows_or_none fleet name
 rows_found fleet store holds (L0 n) =
     let P : ℕ × List Row → Type 0 = IsStored store.tables in

@@ -96,6 +96,8 @@ asked_of job settings = record {
 abbrev finish_end : List ℕ → StepEnd FinishedJob
 finish_end outputs = Reports (record { outputs = outputs ∷ []; attempts = [] })
 
+-- If the attempt is live, the end of a finish puts the job as Compacted with its outputs, and reports
+-- them.
 ends_leads : (left seen : ℕ) (h : Held) (got : Records) (job : AskedJob) (settings : Settings) (outputs : List ℕ) → h.records ≡ Some got → is_live got.jobs 1 (attempt_of job settings) ≡ true
     → without_attempts (job.id ∷ []) (attempt_of job settings ∷ []) ≡ []
     → Leads (tries (end_try 0 (worker_of (attempt_of job settings ∷ [])) (attempt_of job settings) (outputs ∷ [])) (suc left) seen) h
@@ -174,6 +176,7 @@ module _ (merge : Operator) (number : ℕ) (fleet : FleetView) (store : Store) (
 
   -- ---- no such party
 
+  -- If the worker has no attempt at the job, the line of a finish gives the fleet's reply.
   none_runs : (job : ℕ) → attempt_in (parties_of fleet) job ≡ None → run_by fleet job ≡ None → FinishServes merge number fleet store job
   none_runs job none mine =
       let answer : no_such_party ≡ finish_answer fleet job = sym (ap (finish_reply fleet) mine) in
@@ -351,6 +354,7 @@ module _ (merge : Operator) (number : ℕ) (fleet : FleetView) (store : Store) (
 
   -- ---- any finish
 
+  -- The line of a finish gives the fleet's reply and leaves the fleet after it.
   pub finish_serves : (job : ℕ) → FinishServes merge number fleet store job
   finish_serves job = by fleet.worker refl
     where

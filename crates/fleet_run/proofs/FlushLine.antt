@@ -78,6 +78,7 @@ flushed_held h name floor tick rows = record h {
   name = max h.name (name_in (PutTable name (length rows)));
 }
 
+-- A flush without a fault leads to what is held with the flush in it.
 flushes_leads : (left seen : ℕ) (h : Held) (name floor : ℕ) (tick : ℤ) (rows : List Row) → fault_after_get h.manifest (ask_of name floor tick rows) ≡ None
     → Leads (flushes_from 0 0 (ask_of name floor tick rows) (suc left) false seen) h (flushed_held h name floor tick rows) (Reports tt)
 flushes_leads left seen h name floor tick rows none =

@@ -43,6 +43,7 @@ pub record Around (front : Jobs) (job : Job) (rest jobs : Jobs) : Type 0 where
   pub front_are : filter is_active before ≡ front
   pub rest_are : filter is_active after ≡ rest
 
+-- If a job is among the active ones, the stored jobs are split at it.
 pub around : (front : Jobs) (job : Job) (rest jobs : Jobs) → filter is_active jobs ≡ front ++ job ∷ rest → Around front job rest jobs
 around [] job rest [] e = absurd (cc)
 around (f ∷ front) job rest [] e = absurd (cc)
@@ -138,6 +139,8 @@ active_first : (b : Bool) (job : Job) (jobs : Jobs) → is_active job ≡ b → 
 active_first true job jobs e = ap (λ c. cond c (job ∷ filter is_active jobs) (filter is_active jobs)) e
 active_first false job jobs e = ap (λ c. cond c (job ∷ filter is_active jobs) (filter is_active jobs)) e
 
+-- A change of one active job changes it alone among the active jobs, and drops it if it is not active any
+-- more.
 pub one_changed : (f : Job → Job) (b : Bool) (front : Jobs) (job : Job) (rest : Jobs) (drawn : ℕ) (jobs : Jobs) → (f job).id ≡ job.id → is_active (f job) ≡ b
     → JobsAre (front ++ job ∷ rest) drawn jobs → JobsAre (front ++ if_active b (f job) rest) drawn (changed_jobs f (job.id ∷ []) jobs)
 one_changed f b front job rest drawn jobs keeps active h =

@@ -49,6 +49,7 @@ pub record DidNothing (p : PollState) : Type 0 where
   pub opened : p.opened ≡ []
   pub refused : p.refused ≡ []
 
+-- A poll whose change is nothing committed, opened and refused no job.
 pub did_nothing : (p : PollState) → is_nothing (change_of p) ≡ true → DidNothing p
 did_nothing p h =
     let c = change_of p in

@@ -17,6 +17,7 @@ lower : (a b hi : ℕ) (bs : List Block) → a ≤ b → Within b hi bs → With
 lower a b hi [] le h = tt
 lower a b hi (x ∷ bs) le h = (omega (arith, h.0, le), h.1)
 
+-- The blocks of rows lie between the offset at which they begin and the one at which the rows end.
 blocks_within : (offset filled : ℕ) (rows : List Row) → offset ≤ 2 ^ 64 - 1 → Within offset (saturated_sum (offset + sum_by estimated_size rows)) (blocks_from offset filled rows)
 blocks_within offset filled [] le = tt
 blocks_within offset filled (r ∷ rows) le =

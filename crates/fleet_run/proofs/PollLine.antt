@@ -117,6 +117,7 @@ module _ (stored : Tables) (manifest : Manifest) (records : Records) (fleet : Fl
       let all = all_refused stored manifest records fleet.flushes made fleet.last_seq watermark fleet.horizon (made_of made) tree_holds.flushes fleet.jobs_drawn joined o.job (open_jobs fleet.opened) fleet.asked (begin fleet) p held_parts are oldest at in
       ends_same (each (open_job input) (map asked_job fleet.asked) p) all.opened (subst (IfOpen fleet) (sym e) stands) all.at
 
+  -- If no job is open, a poll of the submitted jobs ends as the fleet judges them.
   ends_free : (p : PollState) → fleet.opened ≡ None → StartsAt fleet.opened p → PollEnds fleet made watermark joined last_judged (each (open_job input) (map asked_job fleet.asked) p)
   ends_free p e at = by (one_opened stored manifest records fleet.flushes made fleet.last_seq watermark fleet.horizon (made_of made) tree_holds.flushes fleet.jobs_drawn joined fleet.asked (begin fleet) p (ap held_by e) (subst (λ o. StartsAt o p) e at))
     where

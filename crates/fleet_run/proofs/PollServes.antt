@@ -227,6 +227,7 @@ module _ (merge : Operator) (number : ℕ) (fleet : FleetView) (store : Store) (
       by (Runs settings) none = refl
       by (Wrote tables cut) none = absurd (cc none)
 
+  -- If no job is done, a poll commits nothing.
   none_done : done_job fleet.opened ≡ None → filter (has_status Compacted) (open_jobs fleet.opened ++ map asked_job fleet.asked) ≡ [] → Commits fleet store fleet.flushes fleet.runs fleet.horizon fleet.opened holds.made holds.watermark
   none_done none idle =
       let trees = root fleet.flushes holds.made fleet.last_seq holds.watermark in
@@ -250,6 +251,7 @@ module _ (merge : Operator) (number : ℕ) (fleet : FleetView) (store : Store) (
 
   -- ---- polls when a job has finished
 
+  -- If the open job is done, a poll commits it: the job's run takes the place of its flush.
   one_done : (job : AskedJob) (out : Tables) (cut : ℕ) → fleet.opened ≡ Some (record { job = job; stage = Wrote out cut }) → (stands : OpenStands fleet (record { job = job; stage = Wrote out cut }))
       → Commits fleet store stands.newer ((job.destination, out) ∷ fleet.runs) (max fleet.horizon cut) None (record { id = job.destination; tables = out; flush = stands.flush } ∷ holds.made)
       (watermark_after (L0 job.source ∷ []) (tree (stands.newer ++ stands.flush ∷ []) holds.made) holds.watermark)
@@ -287,6 +289,7 @@ module _ (merge : Operator) (number : ℕ) (fleet : FleetView) (store : Store) (
   none_asked_done [] = refl
   none_asked_done (a ∷ asked) = none_asked_done asked
 
+  -- A poll of a live coordinator gives the fleet's reply and leaves the fleet after it.
   pub live_poll_serves : Serves number fleet store line (poll_answer fleet) (after_poll fleet)
   live_poll_serves = by fleet.opened refl holds.opened
     where

@@ -20,6 +20,7 @@ use Rattle.fleet_run.proofs.Polls.{quiet_input, At, none_freed}
 
 -- ---- which jobs have a status
 
+-- A status that is equal to an active one is active.
 status_active : (status other : Status) → cond (is_finished status) false true ≡ true → status_eq status other ≡ true → cond (is_finished other) false true ≡ true
 status_active Submitted Submitted h e = refl
 status_active Scheduled Scheduled h e = refl
@@ -75,6 +76,8 @@ submitted_are (Some o) asked = by o.stage
 
 -- ---- 2. a finished job is committed
 
+-- A poll that begins has reached the trees, the horizon and the active jobs of the store, and has done
+-- nothing.
 pub at_first : (trees : Trees) (horizon : ℕ) (active : Jobs) (drawn : ℕ) (jobs : Jobs) → JobsAre active drawn jobs → At trees horizon active drawn [] [] [] (poll_begun trees horizon jobs)
 at_first trees horizon active drawn jobs h = record {
   trees = refl;

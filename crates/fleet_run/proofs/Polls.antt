@@ -190,6 +190,7 @@ module _ (tables : Tables) (manifest : Manifest) (records : Records) (flushes : 
       ∙ ap (λ lost. submit_gate trees p.jobs (lost_to_scheduler lost) (λ spec. true) (asked_job a)) at.lost
       ∙ gate_is flushes made last_seq watermark more a j.held front asked drawn p.jobs sound are at.jobs (other_ids a j.held front asked drawn p.jobs are at.jobs)
 
+  -- If a submitted job fails a rule, the poll that refuses it has the other jobs left.
   refused_at : (a : AskedJob) (front : Jobs) (asked : List AskedJob) (j : Judged) (p : PollState) (rule : ℕ) → Reached (front ++ map asked_job (a ∷ asked)) j p
       → Reached (front ++ map asked_job asked) (judged_by j a (Some rule)) (open_by input (asked_job a) (Some rule) p)
   refused_at a front asked j p rule at = record {
@@ -212,6 +213,7 @@ module _ (tables : Tables) (manifest : Manifest) (records : Records) (flushes : 
       ap (λ ts. record (asked_job a) { status = Scheduled; source_tables = tables_now ts (spec_of a) }) at
       ∙ ap (λ pieces. record (asked_job a) { status = Scheduled; source_tables = pieces }) (pieces_are flushes made a.source there)
 
+  -- If a submitted job fails no rule, the poll that opens it has it among the active jobs.
   opened_at : (a : AskedJob) (asked : List AskedJob) (j : Judged) (p : PollState) → is_flush (firsts flushes) a.source ≡ true → Reached (map asked_job (a ∷ asked)) j p
       → Reached (opened_job a ∷ map asked_job asked) (judged_by j a None) (open_by input (asked_job a) None p)
   opened_at a asked j p there at = record {
@@ -236,6 +238,7 @@ module _ (tables : Tables) (manifest : Manifest) (records : Records) (flushes : 
     pub opened : (judge_all (firsts flushes) runs j asked).opened ≡ j.opened
     pub at : Reached (front ++ []) (judge_all (firsts flushes) runs j asked) (each (open_job input) (map asked_job asked) p)
 
+  -- If a job is open, a poll refuses all submitted jobs.
   pub all_refused : (held : AskedJob) (front : Jobs) (asked : List AskedJob) (j : Judged) (p : PollState) → j.held ≡ Some held → AreHeld j.held front → HeldOldest flushes (Some held) → Reached (front ++ map asked_job asked) j p
       → AllRefused front j asked p
   all_refused held front [] j p is are oldest at = record { held = refl; opened = refl; at = at }
@@ -269,6 +272,7 @@ module _ (tables : Tables) (manifest : Manifest) (records : Records) (flushes : 
     OneOpened : (a : AskedJob) → (passes : FailsNone flushes runs None a) → (held : (judge_all (firsts flushes) runs j asked).held ≡ Some a) → (opened : (judge_all (firsts flushes) runs j asked).opened ≡ j.opened ++ a.id ∷ [])
         → (at : Reached (opened_job a ∷ []) (judge_all (firsts flushes) runs j asked) (each (open_job input) (map asked_job asked) p)) → Outcome j asked p
 
+  -- If no job is open, a poll opens the first submitted job that fails no rule, and refuses the others.
   pub one_opened : (asked : List AskedJob) (j : Judged) (p : PollState) → j.held ≡ None → Reached (map asked_job asked) j p → Outcome j asked p
   one_opened [] j p is at = NoneOpened is refl at
   one_opened (a ∷ asked) j p is at = by (failed_rule (firsts flushes) runs j.held a) refl (λ (k : Judged) q. one_opened asked k q)

@@ -47,6 +47,8 @@ numbered_drawn drawn last (rows ∷ cut) h = (
 
 -- ---- what is found
 
+-- If the stored tables have lesser ids, the tables that a job writes after them are stored under their
+-- own.
 pub numbered_stored : (stored : Tables) (drawn : ℕ) (cut : List (List Row)) → AllByRecursion (λ (other : ℕ × List Row). other.0 ≤ 2 ^ 79 + drawn) stored → AllByRecursion (IsStored (stored ++ numbered_tables drawn cut)) (numbered_tables drawn cut)
 numbered_stored stored drawn [] h = tt
 numbered_stored stored drawn (rows ∷ cut) h =

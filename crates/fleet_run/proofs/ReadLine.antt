@@ -47,6 +47,7 @@ all_plain : (flushes : Tables) → AreFlushes flushes → AllByRecursion IsPlain
 all_plain [] sound = tt
 all_plain (flush ∷ older) sound = all_append IsPlain flush.1 (all_rows older) sound.0.plain (all_plain older sound.1)
 
+-- A read of the flushed rows gives the value of the newest row of all flushes.
 flushed_newest : (merge : Operator) (fleet : FleetView) (store : Store) (holds : Holds fleet (held_parts store)) (key : List ℕ) (seq : ℕ) (now : ℤ)
     → flushed_read merge store [] key seq now ≡ value_of (newest_row (all_flushes fleet holds.made) key seq)
 flushed_newest merge fleet store holds key seq now =
@@ -75,6 +76,7 @@ after : (flushes more : Tables) → AreFlushes (flushes ++ more) → AreFlushes 
 after [] more h = h
 after (f ∷ flushes) more h = after flushes more h.1
 
+-- From the horizon on, a read of the runs finds what a read of their flushes finds.
 runs_read : (horizon seq : ℕ) (key : List ℕ) (made : List MadeRun) → horizon ≤ seq → AreFlushes (made_of made) → AreKept horizon made
     → or_older (newest_row (run_tables (map run_of made)) key seq) None ≡ or_older (newest_row (made_of made) key seq) None
 runs_read horizon seq key [] low sound kept = refl
@@ -92,6 +94,7 @@ runs_read horizon seq key (m ∷ made) low sound kept =
     ∙ kept_reads settings seq rows older (omega (arith, kept.0.low, low)) oldest (all_of_key IsPlain key m.flush.1 sound.0.plain)
     ∙ sym (ap (λ o. or_older o None) (newest-cons m.flush (made_of made) key seq) ∙ or_both (slice_get (seen_at seq rows) 0) (newest_row (made_of made) key seq) None)
 
+-- From the horizon on, the newest stored row of a key has the value of the newest flushed one.
 stored_newest : (fleet : FleetView) (h : Held) (holds : Holds fleet h) (key : List ℕ) (seq : ℕ) → fleet.horizon ≤ seq → value_of (newest_row (all_flushes fleet holds.made) key seq) ≡ value_of (newest_stored fleet key seq)
 stored_newest fleet h holds key seq low =
     let first = newest_row fleet.flushes key seq in
@@ -104,6 +107,7 @@ stored_newest fleet h holds key seq low =
     ∙ sym (or_both first (newest_row (run_tables fleet.runs) key seq) None)
     ∙ sym (of_older (newest_stored fleet key seq))
 
+-- The line of a read gives the fleet's reply and leaves the fleet as it is.
 pub read_serves : (merge : Operator) (number : ℕ) (fleet : FleetView) (store : Store) → Holds fleet (held_parts store) → (key : List ℕ) (seq : ℕ) (now : ℤ)
     → Serves number fleet store (read_line (with_quiet_scheduler merge) [] key seq now (state_of fleet store)) (key_reply fleet key seq now) fleet
 read_serves merge number fleet store holds key seq now =

@@ -61,6 +61,7 @@ turned : (n m : ℕ) (b : Bool) → (n == m) ≡ b → (m == n) ≡ b
 turned n m true h = grind (arith, nat_tests, h)
 turned n m false h = grind (arith, nat_tests, h)
 
+-- A flush alone reaches the oldest flush exactly if it is the last one.
 pub whole_stretch : (flushes : Tables) (made : List MadeRun) (more : Tables) (n : ℕ) → AreFlushes (flushes ++ more) → is_flush (firsts flushes) n ≡ true → reach n (names (tree flushes made)) ≡ is_last n (firsts flushes)
 whole_stretch [] made more n sound there = absurd (cc there)
 whole_stretch (f ∷ []) made more n sound there = by (f.0 == n) refl there
@@ -98,6 +99,7 @@ pub record IsFound (n : ℕ) (t : Tree) : Type 0 where
   pub node : node_named (L0 n) t ≡ Some (node_of flush)
   pub named : flush.0 ≡ n
 
+-- Each flush of the fleet has a node in the root tree.
 pub node_found : (flushes : Tables) (made : List MadeRun) (n : ℕ) → is_flush (firsts flushes) n ≡ true → IsFound n (tree flushes made)
 node_found [] made n there = absurd (cc there)
 node_found (f ∷ flushes) made n there = by (f.0 == n) refl there (node_found flushes made n)

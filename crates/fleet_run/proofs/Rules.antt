@@ -77,6 +77,7 @@ held_clear a held job h other =
 other_ids : (n m : ℕ) (xs : List ℕ) → AllByRecursion (λ b. n < b) (m ∷ xs) → (m == n) ≡ false
 other_ids n m xs h = grind (arith, nat_tests, h.0)
 
+-- A submitted job touches no held node exactly if it is apart from the open job.
 pub is_clear_of : (a : AskedJob) (held : Option AskedJob) (front : Jobs) (asked : List AskedJob) (drawn : ℕ) (jobs : Jobs) → AreHeld held front
     → JobsAre (front ++ map asked_job (a ∷ asked)) drawn jobs → ((h : AskedJob) → held ≡ Some h → (a.id == h.id) ≡ false) → is_free jobs [] (asked_job a) ≡ is_apart_from held a
 is_clear_of a held front asked drawn jobs are h other =

@@ -24,6 +24,7 @@ pub record SoFar (merge : Operator) (lines : List Line) (fleet : FleetView) (old
   pub last : ran.last ≡ state_of fleet ran.last.store
   pub started : AreStarted lines fleet
 
+-- A fresh fleet holds what a fresh store has.
 fresh_holds : Holds fresh_fleet (held_parts (fresh_state default_options).store)
 fresh_holds = record {
   made = [];
@@ -76,6 +77,7 @@ run_next merge lines line fleet old mid so_far next =
     run-more inputs 1 (fresh_state default_options) lines ran.answers ran.last line (reply_to line fleet) new ran.run
     (subst (λ s. LineStep inputs (1 + length lines) s line (reply_to line fleet) new) (sym so_far.last) next.step)
 
+-- If the sink takes the fleet's reply to the next line, the lines up to that one were run.
 pub so_far_more : (merge : Operator) (lines : List Line) (line : Line) (fleet : FleetView) (old mid new : SinkView) → SoFar merge lines fleet old mid
     → job_grammar lines line → Took (reply_to line fleet) mid new → SoFar merge (lines ++ line ∷ []) (fleet_after line fleet) old new
 so_far_more merge lines line fleet old mid new so_far fits took =

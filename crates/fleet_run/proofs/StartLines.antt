@@ -58,6 +58,7 @@ unstarted h = record h { manifest = record h.manifest { epoch = 0 }; records = N
 abbrev started_held : Held → Held
 started_held h = record h { manifest = record h.manifest { epoch = 1; version = h.manifest.version + 1 }; records = Some (record { version = 1; epoch = 1; jobs = [] }) }
 
+-- A coordinator's start puts its epoch into the manifest and the records, and reports epoch 1.
 starts_leads : (left seen : ℕ) (h : Held) → Leads (tries start_try (suc left) seen) (unstarted h) (started_held h) (Reports 1)
 starts_leads left seen h =
     let first = unstarted h in
@@ -122,6 +123,7 @@ start_coordinator_serves number fleet store holds off =
 
 -- ---- the worker
 
+-- The line that starts a worker gives the reply `ok` and leaves a fleet with the worker.
 pub start_worker_serves : (number : ℕ) (fleet : FleetView) (store : Store) → Holds fleet (held_parts store) → fleet.worker ≡ false
     → Serves number fleet store (start_worker 1 None (state_of fleet store)) ok (record fleet { worker = true })
 start_worker_serves number fleet store holds off =

@@ -104,6 +104,7 @@ module _ (inputs : Inputs) (number coordinator worker : ℕ) (answer : List ℕ)
   no_step : (place : Place) (s : State) (reply : List ℕ) → next_turn coordinator worker place s ≡ Answers reply → (answer ≡ reply) × (new ≡ s) → RunFrom place s
   no_step place s reply is h = record { steps = []; lead = h.1; in_turn = is ∙ ap Answers (sym h.0) }
 
+  -- If the next turn takes a line and steps go on from the place after it, steps go on from this place.
   one_step : (line : Line) (place to : Place) (s : State) (Rest : State → Type 0) → next_turn coordinator worker place s ≡ Takes line to → ((after : State) → Rest after → RunFrom to after)
       → Step inputs number line s answer new Rest → RunFrom place s
   one_step line place to s Rest is goes step = by (is_ok step.replied) refl step.rest
