@@ -119,7 +119,7 @@ same_tree tree node run named order there name none = at (split_at tree node the
         itself = λ i. record { name = sym name i; flushes = append-nil node.flushes i; pieces = sym none i }
 
 -- A step whose only source is a run leaves the watermark as it is.
-same_mark : (run : ℕ) (tree : Tree) (mark : Option ℕ) → watermark_after (Run run ∷ []) tree mark ≡ mark
+pub same_mark : (run : ℕ) (tree : Tree) (mark : Option ℕ) → watermark_after (Run run ∷ []) tree mark ≡ mark
 same_mark run [] mark = refl
 same_mark run (node ∷ tree) mark = by node.name (same_mark run tree mark)
   where

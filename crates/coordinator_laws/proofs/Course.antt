@@ -88,14 +88,16 @@ reached_at who e m r h got ask drawn lawful g s fresh low =
 got_rise : (who : Caller) (e : ℕ) (m r : World) (got : Records) → Got who e m r got → Pairs (λ a b. a.id < b.id) got.jobs
 got_rise who e m r got g = subst (λ o. Pairs (λ (a b : Job). a.id < b.id) (jobs_in o)) g.is_got g.kept_second.stored.sound.job_ids
 
--- A poll that left all nodes and the horizon has the trees that it got: no watermark moved.
+-- A poll that left the names and the tables of all nodes and the horizon has the trees that it got.
 pub same_trees : (who : Caller) (e : ℕ) (m r d : World) (got : Records) (ask : PollAsk) (drawn : List (ℕ × JobSpec)) → IsLawful who.merge → Got who e m r got → Ready who e m r d → AreFresh who.party d drawn
     → let input = input_of ask r.store.tables m.store.manifest got in
     let p = last_steps ask input drawn (first_steps ask input) in
     is_unchanged m.store.manifest p ≡ true → records_epoch d.store.records ≤ e → p.trees ≡ m.store.manifest.trees
 same_trees who e m r d got ask drawn lawful g s fresh same low =
+    let c = case_at who e m r d got ask drawn lawful g s fresh low in
     let reached = reached_at who e m r d got ask drawn lawful g s fresh low in
-    unchanged_trees who.merge d who.party (own_specs got.jobs drawn) m.store.manifest.trees _ _ s.first.kept reached.trees.known reached.trees.fits reached.trees.are (both (pointwise same_tree m.store.manifest.trees _) _ same).0
+    unchanged_trees who.merge d who.party s.first.kept.stored.replay.specs (own_specs got.jobs drawn) m.store.manifest.trees _ c.horizon _ lawful (whole_of who.merge d s.first.kept).body c.midway
+    reached.trees.known reached.trees.fits reached.trees.are (both (pointwise same_tree m.store.manifest.trees _) _ same).0
 
 -- A poll that changed no tree puts the records at once.
 pub puts_unchanged : (who : Caller) (e : ℕ) (m r d : World) (got : Records) (ask : PollAsk) (drawn : List (ℕ × JobSpec)) → IsLawful who.merge → Got who e m r got → Ready who e m r d → AreFresh who.party d drawn

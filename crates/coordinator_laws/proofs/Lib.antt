@@ -12,6 +12,7 @@ pub mod Names
 pub mod Adoption
 pub mod Tries
 pub mod Since
+pub mod SameFlushes
 pub mod SameTrees
 pub mod Course
 pub mod OwnTrees

@@ -67,9 +67,9 @@ pub record PollAsk : Type 0 where
   pub moment : ℕ  -- in milliseconds
   pub commits_only : Bool  -- the poll takes its second step alone
 
--- Two nodes have the same name, flushes and tables.
+-- Two nodes have the same name and tables.
 abbrev pub node_eq : Node → Node → Bool
-node_eq a b = name_eq a.name b.name && ids_eq a.flushes b.flushes && ids_eq a.pieces b.pieces
+node_eq a b = name_eq a.name b.name && ids_eq a.pieces b.pieces
 
 -- Two segments have the same nodes in the same order.
 abbrev pub same_tree : Segment → Segment → Bool
