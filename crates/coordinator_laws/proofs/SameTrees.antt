@@ -1,6 +1,6 @@
 -- Steps that fit and leave the names and the tables of all nodes leave the trees as they are: no flush comes to another node, and no watermark moves.
-use Rattle.std.proofs.Common.{◌≡◌, refl, sym, ◌∙◌, ap, subst, ℕ, ◌<◌, List, [], ◌∷◌, map, Bool, true, false, inl, inr, ◌⊎◌, Option, Some, None, arith}
-use Rattle.std.specs.Prelude.{IsTrue, ◌&&◌, bytes_eq}
+use Rattle.std.proofs.Common.{◌≡◌, refl, sym, ap, subst, ℕ, ◌<◌, List, [], ◌∷◌, Bool, true, false, inl, inr, ◌⊎◌, Option, Some, None, arith}
+use Rattle.std.specs.Prelude.{IsTrue, bytes_eq}
 use Rattle.std.specs.List.{AllByRecursion, concat}
 use Rattle.std.specs.Cmp.Lexicographic.{pointwise}
 use Rattle.std.proofs.lemmas.Slice.Eq.{bytes_eq-Decides}
@@ -103,9 +103,10 @@ nodes_same (x ∷ xs) [] e t = absurd (cc e)
 nodes_same (x ∷ xs) (y ∷ ys) e t =
     let two = both (node_eq x y) (pointwise node_eq xs ys) e in
     let same = node_same x y two.0 in
+    let others : tags ys ≡ tags xs = cc t in
     let first : (y.name, y.flushes) ≡ (x.name, x.flushes) = cc t in
-    let flushes = ap (λ (p : NodeName × List ℕ). p.1) first in
-    let rest = nodes_same xs ys two.1 (cc t) in
+    let flushes : y.flushes ≡ x.flushes = ap (λ (p : NodeName × List ℕ). p.1) first in
+    let rest : ys ≡ xs = nodes_same xs ys two.1 others in
     λ i. record { name = sym same.0 i; flushes = flushes i; pieces = sym same.1 i } ∷ rest i
 
 same_segment : (a b : Segment) → Eased a b → same_tree a b ≡ true → b ≡ a

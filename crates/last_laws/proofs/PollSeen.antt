@@ -2,9 +2,10 @@
 use Rattle.std.proofs.Common.{◌≡◌, ◌≢◌, refl, sym, ◌∙◌, ap, subst, ℕ, zero, suc, List, [], ◌∷◌, ◌++◌, cond, Bool, true, false, Option, Some, None, ◌<◌, arith, ◌+◌, IsTrue, map}
 use Rattle.std.specs.Prelude.{◌==◌, ◌||◌, not, nat_lt, option_map}
 use Rattle.std.specs.List.{AllByRecursion}
+use Rattle.std.specs.Cmp.Lexicographic.{pointwise}
 use Rattle.std.proofs.lemmas.Bool.Decides.{Decides-eqb}
 use Rattle.row_model.specs.Lists.{Pairs}
-use Rattle.row_model.specs.Fold.{IsLawful}
+use Rattle.row_model.specs.Fold.{Operator, IsLawful}
 use Rattle.fleet_model.specs.Jobs.{Job, JobSpec, id_of, trimmed_jobs}
 use Rattle.fleet_model.specs.History.{Party, Coordinator, Entry, GetManifest, GetRecords, Commit, ManifestChange, Polled, PutRecords, PollChange}
 use Rattle.fleet_model.specs.Store.{Manifest, Records, Store, jobs_in, stored_jobs}
@@ -24,13 +25,15 @@ use Rattle.step_model.specs.Courses.Course.{Course, Ends, Calls, draws_jobs, get
 use Rattle.step_model.specs.Courses.Tries.{counted_tries}
 use Rattle.step_model.specs.Courses.CourseRuns.{Gives, Runs, IsLawfulCourse}
 use Rattle.step_model.specs.Courses.StepEnds.{StepEnd, Reports, GivesUp, Fenced, most_refused}
-use Rattle.step_model.specs.Steps.PollSteps.{PollAsk, poll, poll_try, polls_over, puts_trees, puts_polled, unless_fenced, records_or_none, first_steps, proposed_specs, merged_into, is_unchanged}
+use Rattle.step_model.specs.Steps.PollSteps.{PollAsk, poll, poll_try, polls_over, puts_trees, puts_polled, unless_fenced, records_or_none, first_steps, proposed_specs, merged_into, is_unchanged, same_tree}
 use Rattle.step_laws.specs.Runs.{CallsKeep}
 use Rattle.step_laws.proofs.Elements.{is_itself, all_at, all_to}
+use Rattle.course_laws.proofs.Calls.{both}
 use Rattle.course_laws.proofs.Puts.{party_itself}
 use Rattle.course_laws.proofs.Later.{entry_by, call_history}
 use Rattle.commit_laws.proofs.AllCalls.{calls_keep}
 use Rattle.coordinator_laws.proofs.Course.{polls_are_lawful}
+use Rattle.coordinator_laws.proofs.SameTrees.{unchanged_commit}
 use Rattle.coordinator_laws.proofs.Quiet.{HasEpoch}
 use Rattle.script_model.specs.Script.{Poll}
 use Rattle.script_model.specs.States.{Inputs, State}
@@ -40,7 +43,7 @@ use Rattle.script_model.specs.LineSteps.{OneCourse}
 use Rattle.script_model.specs.Lines.Settles.{is_ok, is_adding}
 use Rattle.line_laws.specs.Alone.{HadRoom}
 use Rattle.line_laws.specs.States.{StateKeeps}
-use Rattle.line_laws.specs.Lines.PollRuns.{input_at, reached_state, manifest_after, records_after}
+use Rattle.line_laws.specs.Lines.PollRuns.{input_at, reached_state, manifest_after, records_after, CommitPut}
 use Rattle.line_laws.proofs.Parties.{found}
 use Rattle.line_laws.proofs.Lines.{caller_of, world_of}
 use Rattle.line_laws.proofs.PollLines.{reported, whole_is}
@@ -290,8 +293,17 @@ pub record DidPoll (ask : PollAsk) (old new : Store) (p : PollState) : Type 0 wh
   pub each : map (λ d. d.1) drawn ≡ proposed_specs ask (input_at ask old) (first_steps ask (input_at ask old))
   pub is : p ≡ reached_state ask old drawn
   pub manifest : new.manifest ≡ manifest_after old.manifest p
+  pub unchanged : is_unchanged old.manifest p ≡ true → p.trees ≡ old.manifest.trees
   pub records : new.records ≡ records_after old.records p
   pub tables : new.tables ≡ old.tables
+
+-- A poll that put no manifest has the trees that it got.
+unchanged_by : (merge : Operator) (line : ℕ) (party : Party) (old : Store) (drawn : List (ℕ × JobSpec)) (p : PollState) → IsLawful merge → CommitPut merge line party old drawn p → is_unchanged old.manifest p ≡ true → p.trees ≡ old.manifest.trees
+unchanged_by merge line party old drawn p lawful put same =
+    let manifest = ap (λ (store : Store). store.manifest) put.is in
+    unchanged_commit merge put.at party p.steps (record put.at.store.manifest { trees = p.trees; horizon = p.horizon }) lawful put.kept put.fits
+    (ap (λ (m : Manifest). pointwise same_tree m.trees p.trees) manifest ∙ (both (pointwise same_tree old.manifest.trees p.trees) (old.manifest.horizon == p.horizon) same).0)
+    ∙ ap (λ (m : Manifest). m.trees) manifest
 
 -- A live coordinator polled and reached this state.
 pub record PolledLine (inputs : Inputs) (n : ℕ) (old new : State) : Type 0 where
@@ -316,7 +328,8 @@ poll_line_did inputs number n old new k answer lawful one room ok =
     let is : IsLawfulCourse who world (poll ask) = polls_are_lawful who world r.coordinator.number ask None lawful same k.fleet.store holds in
     let own : HasEpoch (Coordinator n) ask.epoch world = record { put = subst (λ party. IsTrue (did_put_epoch party old.store.history ask.epoch)) (sym same) holds.put; recorded = holds.recorded } in
     let going : Going who (poll ask) world r.step.left (Reports r.step.report) = record { kept = k.fleet.store; lawful = is; run = r.step.run } in
-    let d = (poll_did who ask world r.step.left r.step.report (calls_keep inputs.merge lawful) refl lawful holds.counted own going).did in
+    let all = poll_did who ask world r.step.left r.step.report (calls_keep inputs.merge lawful) refl lawful holds.counted own going in
+    let d = all.did in
     let s = poll_seen who ask world r.step.left r.step.report (calls_keep inputs.merge lawful) refl going in
     record {
       coordinator = r.coordinator;
@@ -326,6 +339,7 @@ poll_line_did inputs number n old new k answer lawful one room ok =
         each = s.each;
         is = s.is;
         manifest = ap (λ (store : Store). store.manifest) (sym r.step.stored) ∙ ap (λ (store : Store). store.manifest) d.left;
+        unchanged = unchanged_by inputs.merge number (Coordinator n) old.store _ r.step.report lawful all.put;
         records = ap (λ (store : Store). store.records) (sym r.step.stored) ∙ ap (λ (store : Store). store.records) d.left;
         tables = ap (λ (store : Store). store.tables) (sym r.step.stored) ∙ ap (λ (store : Store). store.tables) d.left;
       };

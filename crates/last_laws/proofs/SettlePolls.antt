@@ -1,13 +1,12 @@
 -- What a poll of a settle line does to the state.
 use Rattle.std.proofs.Common.{◌≡◌, ◌≢◌, refl, sym, ◌∙◌, ap, subst, ℕ, zero, suc, ◌+◌, ◌-◌, ◌≤◌, ◌<◌, List, [], ◌∷◌, ◌++◌, map, Bool, true, false, cond, ◌⊎◌, inl, inr, Option, None, Some, length, length-append, arith}
-use Rattle.std.specs.Prelude.{◌==◌, ◌||◌, not, IsTrue, filter, flat_map, take, count_by, option_map, IfSome}
+use Rattle.std.specs.Prelude.{◌||◌, not, IsTrue, filter, flat_map, take, count_by, option_map, IfSome}
 use Rattle.std.specs.List.{list_any, AllByRecursion}
-use Rattle.std.specs.Cmp.Lexicographic.{pointwise}
 use Rattle.std.proofs.lemmas.List.{append-nil}
 use Rattle.std.proofs.lemmas.List.Sums.{length-filter}
 use Rattle.row_model.specs.Lists.{Pairs, IsPrefixOf}
 use Rattle.row_model.specs.Fold.{IsLawful}
-use Rattle.fleet_model.specs.Nodes.{Node, Tables, Tree, Trees, Segment, names}
+use Rattle.fleet_model.specs.Nodes.{Node, Tables, Tree, Trees, names}
 use Rattle.fleet_model.specs.Jobs.{JobSpec, Job, Jobs, Status, Submitted, Scheduled, Running, Compacted, Completed, Failed, status_eq, has_status, is_finished, is_active, trimmed_jobs, finished_later, put_id, in_id_order, contains}
 use Rattle.fleet_model.specs.History.{Party, Coordinator, Entry, Event, PutRecords, Polled}
 use Rattle.fleet_model.specs.Store.{Manifest, Records, stored_jobs, jobs_in, records_epoch}
@@ -21,9 +20,9 @@ use Rattle.fleet_model.specs.Work.PollStates.{PollInput, PollState, poll_begun, 
 use Rattle.fleet_model.specs.Work.Polls.{proposals, each, commit_job, commit_finished, free_stale, add_drawn, open_submitted, change_of, is_nothing}
 use Rattle.fleet_model.specs.Exchanges.{records_version}
 use Rattle.step_model.specs.Entries.{party_eq, last_from, last_event}
-use Rattle.step_model.specs.Steps.PollSteps.{PollAsk, first_steps, is_unchanged, same_tree, node_eq}
+use Rattle.step_model.specs.Steps.PollSteps.{PollAsk, first_steps, is_unchanged}
 use Rattle.step_laws.proofs.Elements.{all_at, all_to, all_front}
-use Rattle.course_laws.proofs.Calls.{both, all_take}
+use Rattle.course_laws.proofs.Calls.{all_take}
 use Rattle.commit_laws.proofs.Stretches.{other_or, filter_none}
 use Rattle.script_model.specs.Script.{Line, Poll}
 use Rattle.script_model.specs.States.{Inputs, State}
@@ -47,7 +46,6 @@ use Rattle.last_laws.proofs.Rounds.{GoesBack}
 use Rattle.last_laws.proofs.Lasting.{one_grows}
 use Rattle.coordinator_laws.proofs.Reports.{put_some}
 use Rattle.coordinator_laws.proofs.PollReports.{got_jobs}
-use Rattle.coordinator_laws.proofs.SameTrees.{node_same}
 use Rattle.step_laws.proofs.TableReplays.{all_trimmed}
 
 -- ---- what is asked of the last state of a line
@@ -86,30 +84,15 @@ free_added party history p h named = by p.added refl
 
 -- ---- trees with the same nodes
 
-all_equal : {A B : Type 0} (test : A → A → Bool) (f : A → B) (xs ys : List A) → ((x y : A) → test x y ≡ true → f x ≡ f y) → pointwise test xs ys ≡ true → map f xs ≡ map f ys
-all_equal test f [] [] same e = refl
-all_equal test f [] (y ∷ ys) same e = absurd (cc e)
-all_equal test f (x ∷ xs) [] same e = absurd (cc e)
-all_equal test f (x ∷ xs) (y ∷ ys) same e =
-    let h = both (test x y) (pointwise test xs ys) e in
-    ap (λ z. z ∷ map f xs) (same x y h.0) ∙ ap (λ zs. f y ∷ zs) (all_equal test f xs ys same h.1)
-
-map_itself : {A : Type 0} (xs : List A) → map (λ x. x) xs ≡ xs
-map_itself [] = refl
-map_itself (x ∷ xs) = ap (λ ys. x ∷ ys) (map_itself xs)
-
-tree_same : (a b : Segment) → same_tree a b ≡ true → a.tree ≡ b.tree
-tree_same a b e = sym (map_itself a.tree) ∙ all_equal node_eq (λ node. node) a.tree b.tree node_same e ∙ map_itself b.tree
-
 abbrev nodes_in : Trees → List Tree
 nodes_in trees = map (λ s. s.tree) trees
 
 -- The manifest that a poll leaves has the nodes that the poll reached.
-reached_nodes : (m : Manifest) (p : PollState) → nodes_in (manifest_after m p).trees ≡ nodes_in p.trees
-reached_nodes m p = by (is_unchanged m p) refl
+reached_nodes : (m : Manifest) (p : PollState) → (is_unchanged m p ≡ true → p.trees ≡ m.trees) → nodes_in (manifest_after m p).trees ≡ nodes_in p.trees
+reached_nodes m p unchanged = by (is_unchanged m p) refl
   where
     by : (b : Bool) → is_unchanged m p ≡ b → nodes_in (cond b m (record m { version = m.version + 1; trees = p.trees; horizon = p.horizon })).trees ≡ nodes_in p.trees
-    by true e = all_equal same_tree (λ s. s.tree) m.trees p.trees tree_same (both (pointwise same_tree m.trees p.trees) (m.horizon == p.horizon) e).0
+    by true e = ap nodes_in (sym (unchanged e))
     by false e = refl
 
 weight_by : (trees : Trees) → trees_weight trees ≡ weight_of (flat_map names (nodes_in trees))
@@ -398,7 +381,7 @@ poll_settles inputs is_small number coordinator old answer new lawful settling r
     let parts = poll_parts inputs is_small coordinator old new settling ready fits l in
     let jobs : stored_jobs new.store ≡ cond (is_nothing (change_of l.p)) (stored_jobs old.store) (trimmed_jobs l.p.jobs) = ap jobs_in l.did.records ∙ jobs_left old.store.records l.p in
     let left : Leaves old l.p (stored_jobs new.store) = subst (Leaves old l.p) (sym jobs) (leaves inputs is_small coordinator old new l ready parts) in
-    let nodes : nodes_in l.p.trees ≡ nodes_in new.store.manifest.trees = sym (ap (λ (m : Manifest). nodes_in m.trees) l.did.manifest ∙ reached_nodes old.store.manifest l.p) in
+    let nodes : nodes_in l.p.trees ≡ nodes_in new.store.manifest.trees = sym (ap (λ (m : Manifest). nodes_in m.trees) l.did.manifest ∙ reached_nodes old.store.manifest l.p l.did.unchanged) in
     let heavy : trees_weight l.p.trees ≡ trees_weight new.store.manifest.trees = weight_by l.p.trees ∙ ap (λ trees. weight_of (flat_map names trees)) nodes ∙ sym (weight_by new.store.manifest.trees) in
     record {
       keeps = (course_leads inputs number old (Poll coordinator) answer new lawful tt one).keeps fits.room ready.keeps;

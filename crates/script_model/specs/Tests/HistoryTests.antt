@@ -12,7 +12,7 @@ use Rattle.fleet_model.specs.Past.Replay.{named_specs, replayed_objects, plain_o
 use Rattle.fleet_model.specs.Invariants.AttemptsFit.{was_beaten}
 use Rattle.fleet_model.specs.Invariants.JobsFit.{was_joined}
 use Rattle.fleet_model.specs.Exchanges.{records_version}
-use Rattle.step_model.specs.Steps.PollSteps.{same_tree}
+use Rattle.step_model.specs.Steps.PollSteps.{node_eq}
 use Rattle.step_model.specs.Kept.Faithful.{spec_or}
 use Rattle.step_model.specs.Entries.{drawn_jobs, drawn_tables, mentioned_in, was_named, claimed_attempts, put_tables, put_epochs, was_flushed}
 use Rattle.script_model.specs.Tests.TreeTests.{all_pairs}
@@ -30,9 +30,14 @@ same_seq None None = true
 same_seq (Some a) (Some b) = a == b
 same_seq _ _ = false
 
+-- Two nodes have the same name, tables and flushes.
+abbrev same_node : Node → Node → Bool
+same_node a b = node_eq a b && ids_eq a.flushes b.flushes
+
 abbrev same_segment : Segment → Segment → Bool
 same_segment a b =
-    bytes_eq a.prefix b.prefix && same_tree a b && same_seq a.last_seq b.last_seq && same_seq a.watermark b.watermark
+    bytes_eq a.prefix b.prefix && pointwise same_node a.tree b.tree && same_seq a.last_seq b.last_seq
+    && same_seq a.watermark b.watermark
 
 abbrev same_job : Job → Job → Bool
 same_job a b =
