@@ -71,11 +71,12 @@ pub record PollAsk : Type 0 where
 abbrev pub node_eq : Node → Node → Bool
 node_eq a b = name_eq a.name b.name && ids_eq a.pieces b.pieces
 
--- Two segments have the same nodes in the same order.
+-- The nodes of two segments have the same names and tables, in the same order.
 abbrev pub same_tree : Segment → Segment → Bool
 same_tree a b = pointwise node_eq a.tree b.tree
 
--- The poll's trees and horizon are those of the manifest that it got.
+-- The poll has the names and tables of all nodes, and the horizon, of the manifest that it got. If its
+-- steps fit, it then has that manifest's trees.
 abbrev pub is_unchanged : Manifest → PollState → Bool
 is_unchanged manifest p = pointwise same_tree manifest.trees p.trees && (manifest.horizon == p.horizon)
 
