@@ -37,3 +37,8 @@ pub mod CoordinatorRuns
 pub mod Goes
 pub mod Outputs
 pub mod WorkedRun
+pub mod ClaimSettings
+pub mod AloneEnds
+pub mod StepRefusals
+pub mod RefusedLines
+pub mod Conflicts

@@ -7,3 +7,6 @@ pub mod ClaimLines
 pub mod FinishLines
 pub mod FinishedJobs
 pub mod Outputs
+pub mod ClaimSettings
+pub mod Refused
+pub mod Conflicts

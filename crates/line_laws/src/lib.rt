@@ -5,6 +5,8 @@
 
 ghost use Rattle.line_laws.specs.Alone.{AloneRuns};
 ghost use Rattle.line_laws.specs.Lines.ClaimLines.{ClaimsTake};
+ghost use Rattle.line_laws.specs.Lines.ClaimSettings.{ClaimsGiveSettings};
+ghost use Rattle.line_laws.specs.Lines.Conflicts.{NoneConflicts};
 ghost use Rattle.line_laws.specs.Faults.{FaultsCut};
 ghost use Rattle.line_laws.specs.Lines.FinishLines.{FinishesEnd};
 ghost use Rattle.line_laws.specs.Lines.FinishedJobs.{FinishedJobsWait};
@@ -15,6 +17,7 @@ ghost use Rattle.line_laws.specs.Lines.PollCalls.{PollsCall};
 ghost use Rattle.line_laws.specs.Lines.PollLines.{PollsCommit};
 ghost use Rattle.line_laws.specs.Ran.{LinesRunCourses};
 ghost use Rattle.line_laws.specs.Lines.ReadLines.{ReadsAnswer};
+ghost use Rattle.line_laws.specs.Lines.Refused.{RefusalsLeave};
 ghost use Rattle.line_laws.specs.Scripts.{FirstLinesRun, ScriptsKeep};
 ghost use Rattle.line_laws.specs.Texts.{OptionsStay, TextsRun};
 ghost use Rattle.line_laws.specs.WorkedRun.{WorkedRuns};
@@ -58,6 +61,20 @@ pub fn lines_run_courses()
 /// line does.
 pub fn lines_go()
     ensures { LinesGo }
+{}
+
+/// No line replies that its puts were refused, since nobody else calls the store during a line.
+pub fn none_conflicts()
+    ensures { NoneConflicts }
+{}
+
+/// A refused line leaves manifest, records, tables, names and parties as they were, but for four
+/// refusals. A fault leaves the calls up to the struck one, and the caller is no longer live. A
+/// fenced coordinator is no longer live. An operator's refusal gives the attempt back, and its
+/// worker runs it no more. An attempt that is not live has put tables that nothing names, and its
+/// worker runs it no more.
+pub fn refusals_leave()
+    ensures { RefusalsLeave }
 {}
 
 /// The history alone says which coordinators are live, and with which epochs. A coordinator is live
@@ -123,6 +140,14 @@ pub fn finished_jobs_wait()
 /// that is stored, and replies with them.
 pub fn claims_take()
     ensures { ClaimsTake }
+{}
+
+/// An attempt that a claim begins has the settings that the claim read off the stored manifest at
+/// the moment of its line: floor, tick, cut, and whether the job makes the last run of its tree. If
+/// the job has a published context, the attempt has the settings of that. The history gives the
+/// same settings for the attempt, but for the cut.
+pub fn claims_give_settings()
+    ensures { ClaimsGiveSettings }
 {}
 
 /// A finish that is not refused, be it a line of its own or a step of a settle line, ends a live
