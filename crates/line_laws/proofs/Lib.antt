@@ -42,3 +42,8 @@ pub mod AloneEnds
 pub mod StepRefusals
 pub mod RefusedLines
 pub mod Conflicts
+pub mod OkLines
+pub mod NotedOutputs
+pub mod NamedOutputs
+pub mod NamedFinishes
+pub mod NamedCommits

@@ -45,11 +45,11 @@ use Rattle.line_laws.proofs.StepRefusals.{Reported, FlushEnds, SubmitEnds, Reque
 -- ---- lines that run a course
 
 -- A line was struck, or it ended so.
-data LineEnded (number : ℕ) (s : State) (c : LineCourse) (P : LineEnd → Store → Type 0) (answer : List ℕ) (new : State) : Type 0 where
+pub data LineEnded (number : ℕ) (s : State) (c : LineCourse) (P : LineEnd → Store → Type 0) (answer : List ℕ) (new : State) : Type 0 where
   LineStruck : answer ≡ reply (codes "storefault" ∷ []) → StruckIn number c.party (does_stand s.fault) c.course s.store new.store → new.parties ≡ c.struck → new.fault ≡ None → LineEnded number s c P answer new
   LineEnds : (end : LineEnd) → answer ≡ end.reply → new.parties ≡ end.parties → P end new.store → LineEnded number s c P answer new
 
-line_ended : (number : ℕ) (s : State) (c : LineCourse) (P : LineEnd → Store → Type 0) (answer : List ℕ) (new : State) → EndsSo number c.party c.course s.store P → run_line number s c ≡ (answer, new) → LineEnded number s c P answer new
+pub line_ended : (number : ℕ) (s : State) (c : LineCourse) (P : LineEnd → Store → Type 0) (answer : List ℕ) (new : State) → EndsSo number c.party c.course s.store P → run_line number s c ≡ (answer, new) → LineEnded number s c P answer new
 line_ended number s c P answer new so is = by (run_alone number c.party c.course s.fault s.store) (run_ends number c.party c.course s.fault s.store P so) is
   where
     by : (run : AloneEnd LineEnd) → RunEnds number c.party (does_stand s.fault) c.course s.store P run → after_line s (end_or_fault c.struck run.answer) run ≡ (answer, new) → LineEnded number s c P answer new
@@ -73,7 +73,7 @@ ends_reply number line s c P answer new same so is ends = by (line_ended number 
     by (LineEnds end printed parties p) = ends end printed parties p
 
 -- The end of a step, and of its line.
-abbrev OfStep : {A : Type 0} → (StepEnd A → LineEnd) → (StepEnd A → Store → Type 0) → LineEnd → Store → Type 0
+abbrev pub OfStep : {A : Type 0} → (StepEnd A → LineEnd) → (StepEnd A → Store → Type 0) → LineEnd → Store → Type 0
 OfStep {A} ends P end left = (of : StepEnd A) × (end ≡ ends of) × P of left
 
 -- A line of one step.
@@ -131,10 +131,10 @@ shows number line old s said answer new is okay = IsDone (ap is_ok (sym (ap (λ 
 
 -- ---- the worker and the attempt that a line names
 
-worker_number : (n : ℕ) (s : State) (w : LiveWorker) → worker_with n s.parties ≡ Some w → n ≡ w.number
+pub worker_number : (n : ℕ) (s : State) (w : LiveWorker) → worker_with n s.parties ≡ Some w → n ≡ w.number
 worker_number n s w e = (Decides-eqb n w.number).0 (found (λ (v : LiveWorker). n == v.number) s.parties.workers w e).passes
 
-job_number : (s : State) (n job : ℕ) (p : LiveWorker × Attempt) → job_at s n job ≡ Some p → n ≡ p.0.number
+pub job_number : (s : State) (n job : ℕ) (p : LiveWorker × Attempt) → job_at s n job ≡ Some p → n ≡ p.0.number
 job_number s n job p e = by (worker_with n s.parties) refl e
   where
     inner : (w : LiveWorker) → worker_with n s.parties ≡ Some w → (o : Option Attempt) → if_some o None (λ a. Some (w, a)) ≡ Some p → n ≡ p.0.number
@@ -146,7 +146,7 @@ job_number s n job p e = by (worker_with n s.parties) refl e
     by (Some w) there e = inner w there (attempt_numbered job w.attempts) e
 
 -- A worker with a range of an attempt runs the attempt.
-range_job : (s : State) (n job place : ℕ) (q : LiveWorker × Attempt × (Range × List ℕ)) → range_at s n job place ≡ Some q → job_at s n job ≡ Some (q.0, q.1)
+pub range_job : (s : State) (n job place : ℕ) (q : LiveWorker × Attempt × (Range × List ℕ)) → range_at s n job place ≡ Some q → job_at s n job ≡ Some (q.0, q.1)
 range_job s n job place q e = by (job_at s n job) e
   where
     inner : (p : LiveWorker × Attempt) → (o : Option (Range × List ℕ)) → if_some o None (λ range. Some (p.0, p.1, range)) ≡ Some q → Some p ≡ Some (q.0, q.1)

@@ -185,7 +185,7 @@ back_none w a old left like live = record {
 }
 
 -- A step that gives its attempt back ends with the message, and has given the attempt back.
-back_so : {A : Type 0} (line : ℕ) (party : Party) (w : LiveWorker) (a : Attempt) (message : List ℕ) (old store : Store) (P : StepEnd A → Store → Type 0) → IsLike old store → ((left : Store) → IsGivenBack w.number a old left → P (OperatorRefuses message) left)
+pub back_so : {A : Type 0} (line : ℕ) (party : Party) (w : LiveWorker) (a : Attempt) (message : List ℕ) (old store : Store) (P : StepEnd A → Store → Type 0) → IsLike old store → ((left : Store) → IsGivenBack w.number a old left → P (OperatorRefuses message) left)
     → EndsSo line party (gives_back w a message) store P
 back_so {A} line party w a message old store P like so = by store.records refl
   where

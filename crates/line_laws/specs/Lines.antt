@@ -10,3 +10,4 @@ pub mod Outputs
 pub mod ClaimSettings
 pub mod Refused
 pub mod Conflicts
+pub mod CommittedTables

@@ -6,6 +6,11 @@
 ghost use Rattle.line_laws.specs.Alone.{AloneRuns};
 ghost use Rattle.line_laws.specs.Lines.ClaimLines.{ClaimsTake};
 ghost use Rattle.line_laws.specs.Lines.ClaimSettings.{ClaimsGiveSettings};
+ghost use Rattle.line_laws.specs.Lines.CommittedTables.{
+  FinishesName,
+  NamedTablesAreCommitted,
+  OutputsNote,
+};
 ghost use Rattle.line_laws.specs.Lines.Conflicts.{NoneConflicts};
 ghost use Rattle.line_laws.specs.Faults.{FaultsCut};
 ghost use Rattle.line_laws.specs.Lines.FinishLines.{FinishesEnd};
@@ -162,6 +167,25 @@ pub fn finishes_end()
 /// source tables makes under the settings of one claim, however often the job was taken over.
 pub fn outputs_are_whole()
     ensures { OutputsAreWhole }
+{}
+
+/// An output that is not refused puts the next rows of a range as a table, replies with it, and
+/// notes it for the range. If no row was left, it puts none.
+pub fn outputs_note()
+    ensures { OutputsNote }
+{}
+
+/// A finish that is not refused replies with the tables of each range, and the history names these
+/// for the job from then on. They begin with the tables that the attempt had noted, and so with
+/// those that were published.
+pub fn finishes_name()
+    ensures { FinishesName }
+{}
+
+/// The run that a commit puts in place of the sources of a job has exactly the tables that the last
+/// finish of the job named, in the order of the ranges.
+pub fn named_tables_are_committed()
+    ensures { NamedTablesAreCommitted }
 {}
 
 /// A worked run, in which a settle line commits a job. So the premises of these laws can be met.

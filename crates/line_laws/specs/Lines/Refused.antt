@@ -106,8 +106,8 @@ pub record PollRefused (n : ℕ) (old : State) (answer : List ℕ) (new : State)
   pub store : IsAsBefore old.store new.store
   pub parties : new.parties ≡ without_coordinator n old.parties
 
--- The operator refused a fold of the attempt that the worker runs at this job. The attempt is given back, and the worker
--- runs it no more.
+-- The operator refused a fold of the attempt that the worker runs at this job. The attempt is given back, and the
+-- worker runs it no more.
 pub record CalledBack (n job : ℕ) (old : State) (answer : List ℕ) (new : State) : Type 0 where
   pub worker : LiveWorker
   pub attempt : Attempt
@@ -130,8 +130,8 @@ pub record NotOwned (n job : ℕ) (old : State) (answer : List ℕ) (new : State
 
 -- ---- the line
 
--- What a refusal leaves that is neither a fault nor a missing party, kind by kind. The other kinds of lines have no such
--- refusal. Reads and scans change nothing, whatever they reply.
+-- What a refusal leaves that is neither a fault nor a missing party, kind by kind. The other kinds of lines have no
+-- such refusal. Reads and scans change nothing, whatever they reply.
 abbrev pub RefusedSo : Line → State → List ℕ → State → Type 0
 RefusedSo (FlushRows name segment floor tick rows) old answer new = FlushRefused old answer new
 RefusedSo (ReadKey segment key seq now) old answer new = new ≡ old
