@@ -1,10 +1,10 @@
 -- How courses end that nobody disturbs, and what they leave in the store.
-use Rattle.std.proofs.Common.{◌≡◌, refl, sym, ◌∙◌, ap, subst, ℕ, List, [], ◌∷◌, ◌++◌, cond, Bool, true, false, inl, inr, Option, Some, None, arith}
-use Rattle.std.specs.Prelude.{max}
+use Rattle.std.proofs.Common.{◌≡◌, refl, sym, ◌∙◌, ap, subst, ℕ, ◌+◌, List, [], ◌∷◌, ◌++◌, cond, Bool, true, false, inl, inr, Option, Some, None, arith}
+use Rattle.std.specs.Prelude.{◌==◌, max}
 use Rattle.std.proofs.lemmas.Bool.Decides.{Decides-eqb}
 use Rattle.fleet_model.specs.Jobs.{Jobs}
 use Rattle.fleet_model.specs.History.{Party, Event, RecordChange, Entry}
-use Rattle.fleet_model.specs.Store.{Records, Store}
+use Rattle.fleet_model.specs.Store.{Records, Store, stored_jobs}
 use Rattle.fleet_model.specs.Exchanges.{Plain, PutsRecords, DrawsJob, Fault, event_of, answer_of, after_answered, strikes, waiting_after, struck_by, does_stand, records_version, next_job_id}
 use Rattle.step_model.specs.Courses.Course.{Course, Ends, Calls, then_course, calls_each, draws_jobs, puts_records}
 use Rattle.step_model.specs.Courses.Alone.{AloneEnd, run_alone}
@@ -101,6 +101,25 @@ pub put_so : {A : Type 0} (line : ℕ) (party : Party) (got : Records) (change :
 put_so line party got change epoch jobs next refused store P stored so =
     subst (λ (b : Bool). EndsSo line party (cond b next (refused (records_version store.records))) (after_answered line party (PutsRecords got.version change epoch jobs) store) P)
     (sym ((Decides-eqb got.version (records_version store.records)).1 (sym (ap records_version stored)))) so
+
+-- What a put of the records leaves: these jobs, and all else but the history.
+pub record PutLeft (old : Store) (these : Jobs) (left : Store) : Type 0 where
+  pub same : left ≡ record old { records = left.records; history = left.history }
+  pub jobs : stored_jobs left ≡ these
+
+-- A put of the records that are stored leaves its jobs.
+pub put_left : (line : ℕ) (party : Party) (got : Records) (change : RecordChange) (epoch : ℕ) (jobs : Jobs) (old store : Store) → IsLike old store → store.records ≡ Some got → PutLeft old jobs (after_answered line party (PutsRecords got.version change epoch jobs) store)
+put_left line party got change epoch jobs old store like stored = by (got.version == records_version store.records) ((Decides-eqb got.version (records_version store.records)).1 (sym (ap records_version stored)))
+  where
+    put : Store
+    put = record store { records = Some (record { version = got.version + 1; epoch = epoch; jobs = jobs }) }
+
+    left : Bool → Store
+    left b = record (cond b put store) { history = (after_answered line party (PutsRecords got.version change epoch jobs) store).history }
+
+    by : (b : Bool) → b ≡ true → PutLeft old jobs (left b)
+    by true e = record { same = ap (λ (s : Store). record s { records = (left true).records; history = (left true).history }) like; jobs = refl }
+    by false e = absurd (cc e)
 
 -- ---- draws
 

@@ -47,3 +47,5 @@ pub mod NotedOutputs
 pub mod NamedOutputs
 pub mod NamedFinishes
 pub mod NamedCommits
+pub mod BeatLines
+pub mod AttemptLines

@@ -28,14 +28,14 @@ use Rattle.line_laws.proofs.OkLines.{StepDid, step_did}
 use Rattle.line_laws.proofs.ClaimLines.{found_worker}
 
 -- What an output leaves that reports.
-record OutputLeft (merge : Operator) (tables : Tables) (ask : OutputAsk) (old : Store) (report : Written) (left : Store) : Type 0 where
-  has : rows_of report.table ≡ rows_written merge tables ask
-  put : left.tables ≡ old.tables ++ put_by report.table
-  manifest : left.manifest ≡ old.manifest
-  records : left.records ≡ old.records
-  attempts : report.attempts ≡ after_output ask.place report.table ask.attempt ask.worker.attempts
+pub record OutputLeft (merge : Operator) (tables : Tables) (ask : OutputAsk) (old : Store) (report : Written) (left : Store) : Type 0 where
+  pub has : rows_of report.table ≡ rows_written merge tables ask
+  pub put : left.tables ≡ old.tables ++ put_by report.table
+  pub manifest : left.manifest ≡ old.manifest
+  pub records : left.records ≡ old.records
+  pub attempts : report.attempts ≡ after_output ask.place report.table ask.attempt ask.worker.attempts
 
-abbrev Outputs : Operator → Tables → OutputAsk → Store → StepEnd Written → Store → Type 0
+abbrev pub Outputs : Operator → Tables → OutputAsk → Store → StepEnd Written → Store → Type 0
 Outputs merge tables ask old (Reports report) left = OutputLeft merge tables ask old report left
 Outputs merge tables ask old end left = ⊤
 
@@ -55,7 +55,7 @@ writes_left line party merge tables ask (r ∷ rows) old store like same = recor
   attempts = refl;
 }
 
-output_left : (line : ℕ) (party : Party) (merge : Operator) (tables : Tables) (ask : OutputAsk) (store : Store) → EndsSo line party (output merge tables ask) store (Outputs merge tables ask store)
+pub output_left : (line : ℕ) (party : Party) (merge : Operator) (tables : Tables) (ask : OutputAsk) (store : Store) → EndsSo line party (output merge tables ask) store (Outputs merge tables ask store)
 unfolding output
 output_left line party merge tables ask store =
     gets_so line party (gets_tables (filter (meets tables ask.range.0) ask.attempt.sources)) (unless_refused ask.worker ask.attempt ask.refusal (writes ask (rows_written merge tables ask))) store store (Outputs merge tables ask store) refl (λ left like. by ask.refusal left like)

@@ -1,7 +1,6 @@
 -- How each step ends that nobody disturbs: it reports, or it is refused as its kind may be. It never gives up.
-use Rattle.std.proofs.Common.{◌≡◌, refl, sym, ◌∙◌, ap, subst, ℕ, ◌+◌, List, [], ◌∷◌, ◌++◌, cond, Bool, true, false, Option, Some, None}
+use Rattle.std.proofs.Common.{◌≡◌, refl, sym, ◌∙◌, ap, subst, ℕ, List, [], ◌∷◌, ◌++◌, cond, Bool, true, false, Option, Some, None}
 use Rattle.std.specs.Prelude.{◌==◌, ⊤, not, nat_lt, map, filter, flat_map}
-use Rattle.std.proofs.lemmas.Bool.Decides.{Decides-eqb}
 use Rattle.std.proofs.lemmas.List.{append-nil, append_assoc}
 use Rattle.row_model.specs.Rows.{Row}
 use Rattle.row_model.specs.Fold.{Operator}
@@ -9,7 +8,7 @@ use Rattle.fleet_model.specs.Nodes.{Tables}
 use Rattle.fleet_model.specs.Jobs.{JobSpec, Jobs, ids}
 use Rattle.fleet_model.specs.History.{Party, Coordinator, Event, GetManifest, GetRecords, ManifestChange, Release, Flush}
 use Rattle.fleet_model.specs.Store.{Manifest, Records, Store, stored_jobs, jobs_in}
-use Rattle.fleet_model.specs.Exchanges.{Plain, PutsRecords, DrawsTable, PutsTable, PutsManifest, after_answered, records_version, next_table_id}
+use Rattle.fleet_model.specs.Exchanges.{Plain, PutsRecords, DrawsTable, PutsTable, PutsManifest, after_answered, next_table_id}
 use Rattle.fleet_model.specs.Work.Attempts.{ClaimInput}
 use Rattle.fleet_model.specs.Work.Parties.{Attempt, LiveWorker, live_attempts, is_live, with_attempts, without_attempts}
 use Rattle.fleet_model.specs.Work.PollStates.{PollState}
@@ -34,7 +33,7 @@ use Rattle.line_laws.specs.Lines.Refused.{IsAsBefore, given_back, IsGivenBack, H
 use Rattle.line_laws.specs.Lines.PollCalls.{reached_at}
 use Rattle.line_laws.proofs.PollCalls.{poll_made}
 use Rattle.line_laws.proofs.StartCalls.{start_made}
-use Rattle.line_laws.proofs.AloneEnds.{EndsSo, made_so, IsLike, like_got, gets_so, before_got, before_itself, put_so, draws_so}
+use Rattle.line_laws.proofs.AloneEnds.{EndsSo, made_so, IsLike, like_got, gets_so, before_got, before_itself, put_so, put_left, draws_so}
 
 -- ---- how steps end
 
@@ -75,9 +74,10 @@ OutputEnds w a old (Reports report) left = ⊤
 OutputEnds w a old (OperatorRefuses message) left = IsGivenBack w.number a old left
 OutputEnds w a old end left = ⊥
 
--- It reports, or the operator refuses a fold and the attempt is given back, or the attempt is not live.
-abbrev pub FinishEnds : {A : Type 0} → LiveWorker → Attempt → Store → StepEnd A → Store → Type 0
-FinishEnds w a old (Reports report) left = ⊤
+-- It reports and runs the attempt no more, or the operator refuses a fold and the attempt is given back, or the attempt is
+-- not live.
+abbrev pub FinishEnds : LiveWorker → Attempt → Store → StepEnd FinishedJob → Store → Type 0
+FinishEnds w a old (Reports report) left = report.attempts ≡ without_attempts (a.job ∷ []) w.attempts
 FinishEnds w a old (OperatorRefuses message) left = IsGivenBack w.number a old left
 FinishEnds w a old NotOwner left = (is_live (stored_jobs old) w.number a ≡ false) × HasPutTables old left
 FinishEnds w a old end left = ⊥
@@ -153,29 +153,16 @@ release_so line party w store = either (is_nonempty w.attempts)
 
 -- ---- attempts that are given back
 
--- A put of the records that are stored leaves these jobs, and all but records and history.
+-- The put of a release gives the attempt back, if it is live.
 back_put : (line : ℕ) (party : Party) (w : LiveWorker) (a : Attempt) (got : Records) (old store : Store) → IsLike old store → store.records ≡ Some got → is_live got.jobs w.number a ≡ true
     → IsGivenBack w.number a old (after_answered line party (PutsRecords got.version (Release w.number ((a.job, a.number) ∷ [])) got.epoch (jobs_after (at_moment 0) (Release w.number ((a.job, a.number) ∷ [])) got.jobs)) store)
-back_put line party w a got old store like stored live = by (got.version == records_version store.records) ((Decides-eqb got.version (records_version store.records)).1 (sym (ap records_version stored)))
-  where
-    jobs : Jobs
-    jobs = jobs_after (at_moment 0) (Release w.number ((a.job, a.number) ∷ [])) got.jobs
-
-    put : Store
-    put = record store { records = Some (record { version = got.version + 1; epoch = got.epoch; jobs = jobs }) }
-
-    left : Bool → Store
-    left b = record (cond b put store) { history = (after_answered line party (PutsRecords got.version (Release w.number ((a.job, a.number) ∷ [])) got.epoch jobs) store).history }
-
-    was : Some got ≡ old.records
-    was = sym stored ∙ ap (λ (s : Store). s.records) like
-
-    by : (b : Bool) → b ≡ true → IsGivenBack w.number a old (left b)
-    by true e = record {
-      same = ap (λ (s : Store). record s { records = (left true).records; history = (left true).history }) like;
-      jobs = ap (λ (b : Bool). cond b jobs got.jobs) (sym live) ∙ ap (λ (o : Option Records). given_back w.number a (jobs_in o)) was;
+back_put line party w a got old store like stored live =
+    let change = Release w.number ((a.job, a.number) ∷ []) in
+    let left = put_left line party got change got.epoch (jobs_after (at_moment 0) change got.jobs) old store like stored in
+    record {
+      same = left.same;
+      jobs = left.jobs ∙ ap (λ (b : Bool). cond b (jobs_after (at_moment 0) change got.jobs) got.jobs) (sym live) ∙ ap (λ (o : Option Records). given_back w.number a (jobs_in o)) (sym stored ∙ ap (λ (s : Store). s.records) like);
     }
-    by false e = absurd (cc e)
 
 -- The attempt is not live, so nothing is put.
 back_none : (w : LiveWorker) (a : Attempt) (old left : Store) → IsLike old left → is_live (stored_jobs old) w.number a ≡ false → IsGivenBack w.number a old left
@@ -276,7 +263,7 @@ end_so line party moment w a outputs old store put = by store.records refl
     is_old o e = sym (ap (λ (s : Store). s.records) put.same) ∙ e
 
     of : (got : Records) → store.records ≡ Some got → (b : Bool) → is_live got.jobs w.number a ≡ b → EndsSo line party (ends_job moment w a outputs got b again) got_now (FinishEnds w a old)
-    of got e true live = put_so line party got _ got.epoch _ _ again got_now (FinishEnds w a old) e tt
+    of got e true live = put_so line party got _ got.epoch _ _ again got_now (FinishEnds w a old) e refl
     of got e false live = (ap (λ (o : Option Records). is_live (jobs_in o) w.number a) (is_old (Some got) e) ∙ live, now)
 
     by : (o : Option Records) → store.records ≡ o → EndsSo line party (ends_job_by moment w a outputs o again) got_now (FinishEnds w a old)
@@ -285,7 +272,7 @@ end_so line party moment w a outputs old store put = by store.records refl
 
 pub finish_so : (line : ℕ) (party : Party) (merge : Operator) (tables : Tables) (ask : FinishAsk) (store : Store) → EndsSo line party (finish merge tables ask) store (FinishEnds ask.worker ask.attempt store)
 unfolding finish
-finish_so line party merge tables ask store = gets_so line party (gets_tables ask.attempt.sources) (unless_refused ask.worker ask.attempt ask.refusal (puts_and_ends ask (tables_left merge tables ask))) store store (FinishEnds {A = FinishedJob} ask.worker ask.attempt store) refl (λ left like. by ask.refusal left like)
+finish_so line party merge tables ask store = gets_so line party (gets_tables ask.attempt.sources) (unless_refused ask.worker ask.attempt ask.refusal (puts_and_ends ask (tables_left merge tables ask))) store store (FinishEnds ask.worker ask.attempt store) refl (λ left like. by ask.refusal left like)
   where
     by : (o : Option (List ℕ)) (left : Store) → IsLike store left → EndsSo line party (unless_refused ask.worker ask.attempt o (puts_and_ends ask (tables_left merge tables ask))) left (FinishEnds ask.worker ask.attempt store)
     by None left like = ranges_so line party ask.moment (tables_left merge tables ask) _ store left (FinishEnds ask.worker ask.attempt store) (put_itself store left like)

@@ -11,3 +11,5 @@ pub mod ClaimSettings
 pub mod Refused
 pub mod Conflicts
 pub mod CommittedTables
+pub mod BeatLines
+pub mod AttemptLines

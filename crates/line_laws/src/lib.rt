@@ -4,6 +4,8 @@
 #![tactic(auto)]
 
 ghost use Rattle.line_laws.specs.Alone.{AloneRuns};
+ghost use Rattle.line_laws.specs.Lines.AttemptLines.{AttemptsGoOn};
+ghost use Rattle.line_laws.specs.Lines.BeatLines.{BeatsPublish, StopsRelease};
 ghost use Rattle.line_laws.specs.Lines.ClaimLines.{ClaimsTake};
 ghost use Rattle.line_laws.specs.Lines.ClaimSettings.{ClaimsGiveSettings};
 ghost use Rattle.line_laws.specs.Lines.CommittedTables.{
@@ -167,6 +169,25 @@ pub fn finishes_end()
 /// source tables makes under the settings of one claim, however often the job was taken over.
 pub fn outputs_are_whole()
     ensures { OutputsAreWhole }
+{}
+
+/// What a worker runs changes by its own lines alone. Each attempt that it runs after a line went
+/// on from before, with the same number, source tables, settings and ranges and with all tables
+/// that were noted, or the line is the worker's claim and began it.
+pub fn attempts_go_on()
+    ensures { AttemptsGoOn }
+{}
+
+/// A heartbeat that is not refused beats for exactly the live attempts of its worker, publishes
+/// their contexts, and stops the other attempts. It replies with the jobs of both.
+pub fn beats_publish()
+    ensures { BeatsPublish }
+{}
+
+/// A line that stops a worker and is not refused gives exactly its live attempts back, and replies
+/// with their jobs.
+pub fn stops_release()
+    ensures { StopsRelease }
 {}
 
 /// An output that is not refused puts the next rows of a range as a table, replies with it, and
