@@ -26,3 +26,4 @@ pub mod PollSays
 pub mod PollReports
 pub mod CommitPuts
 pub mod GotObjects
+pub mod ManifestFirst

@@ -6,3 +6,4 @@ pub mod Coordinators
 pub mod Locals
 pub mod Merges
 pub mod Loops
+pub mod ManifestFirst

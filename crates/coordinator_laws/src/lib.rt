@@ -6,6 +6,7 @@ ghost use Rattle.coordinator_laws.specs.CommitPuts.{PollsPutTheirSteps};
 ghost use Rattle.coordinator_laws.specs.Coordinators.{PollsFit, StartsFit};
 ghost use Rattle.coordinator_laws.specs.Locals.{FinishedJobsMayDiffer, PollsFitLocally};
 ghost use Rattle.coordinator_laws.specs.Loops.{LoopsFit};
+ghost use Rattle.coordinator_laws.specs.ManifestFirst.{PollsPutTheManifestFirst};
 ghost use Rattle.coordinator_laws.specs.Merges.{GotObjectsMerge, LooksKeepFit, MergedJobsAreStored};
 ghost use Rattle.coordinator_laws.specs.PollReports.{PollsReport};
 ghost use Rattle.coordinator_laws.specs.Polls.{PollsAreLawful};
@@ -75,6 +76,13 @@ pub fn polls_report()
 /// specs of the jobs that it got or drew ids for, and by the stored outputs and cuts.
 pub fn polls_put_their_steps()
     ensures { PollsPutTheirSteps }
+{}
+
+/// A poll puts the manifest before the records, over any store and however it ends: with a report, a
+/// refusal, a fault or want of memory, and whatever calls of others come in between. So no put of
+/// the records comes before a put of the manifest among its calls.
+pub fn polls_put_the_manifest_first()
+    ensures { PollsPutTheManifestFirst }
 {}
 
 /// Under a lawful operator, the loop of a coordinator that fits is a lawful course, and the

@@ -49,3 +49,4 @@ pub mod NamedFinishes
 pub mod NamedCommits
 pub mod BeatLines
 pub mod AttemptLines
+pub mod UnnamedTables

@@ -13,3 +13,4 @@ pub mod Conflicts
 pub mod CommittedTables
 pub mod BeatLines
 pub mod AttemptLines
+pub mod UnnamedTables

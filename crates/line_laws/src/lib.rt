@@ -25,6 +25,7 @@ ghost use Rattle.line_laws.specs.Lines.PollLines.{PollsCommit};
 ghost use Rattle.line_laws.specs.Ran.{LinesRunCourses};
 ghost use Rattle.line_laws.specs.Lines.ReadLines.{ReadsAnswer};
 ghost use Rattle.line_laws.specs.Lines.Refused.{RefusalsLeave};
+ghost use Rattle.line_laws.specs.Lines.UnnamedTables.{UnownedTablesAreUnnamed};
 ghost use Rattle.line_laws.specs.Scripts.{FirstLinesRun, ScriptsKeep};
 ghost use Rattle.line_laws.specs.Texts.{OptionsStay, TextsRun};
 ghost use Rattle.line_laws.specs.WorkedRun.{WorkedRuns};
@@ -82,6 +83,12 @@ pub fn none_conflicts()
 /// worker runs it no more.
 pub fn refusals_leave()
     ensures { RefusalsLeave }
+{}
+
+/// A finish whose attempt is not live has put tables beside the old ones, and no node of a tree and
+/// no active job names them.
+pub fn unowned_tables_are_unnamed()
+    ensures { UnownedTablesAreUnnamed }
 {}
 
 /// The history alone says which coordinators are live, and with which epochs. A coordinator is live
