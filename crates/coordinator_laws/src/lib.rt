@@ -78,9 +78,9 @@ pub fn polls_put_their_steps()
     ensures { PollsPutTheirSteps }
 {}
 
-/// A poll puts the manifest before the records, over any store and however it ends: with a report, a
-/// refusal, a fault or want of memory, and whatever calls of others come in between. So no put of
-/// the records comes before a put of the manifest among its calls.
+/// A poll puts the manifest before the records, over any store and however it ends: with a report,
+/// a refusal, a fault or want of memory, and whatever calls of others come in between. So no put
+/// of the records comes before a put of the manifest among its calls.
 pub fn polls_put_the_manifest_first()
     ensures { PollsPutTheManifestFirst }
 {}
