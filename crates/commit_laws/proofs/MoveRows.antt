@@ -22,7 +22,7 @@ use Rattle.row_laws.proofs.KeyRows.{exact}
 use Rattle.row_laws.proofs.ApartRows.{lt_is}
 use Rattle.step_laws.proofs.Elements.{all_to, all_front, all_back, all_append, all_flat, all_unflat}
 use Rattle.commit_laws.proofs.Stretches.{never_both, pairs_second, pairs_across}
-use Rattle.commit_laws.proofs.TreeReads.{part_rows}
+use Rattle.fleet_laws.proofs.TreeRows.{part_rows}
 use Rattle.commit_laws.proofs.RunRows.{RunFits, nodes_apart, rows_of_pieces, flushes_of_run, held_rows, flush_rows, sorted_of_key}
 use Rattle.commit_laws.specs.RunReads.{run_for, AreTables}
 use Rattle.step_laws.proofs.TableReplays.{by_first_all}

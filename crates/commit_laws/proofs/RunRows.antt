@@ -30,7 +30,7 @@ use Rattle.row_laws.proofs.Sources.{all_put, filter-sorted_rows}
 use Rattle.step_laws.proofs.Elements.{all_at, all_from, all_to, all_front, all_back, all_append, all_flat}
 use Rattle.commit_laws.proofs.Stretches.{pairs_append}
 use Rattle.commit_laws.proofs.RunTrees.{Covered}
-use Rattle.commit_laws.proofs.TreeReads.{part_rows}
+use Rattle.fleet_laws.proofs.TreeRows.{part_rows}
 use Rattle.commit_laws.specs.RunReads.{run_for, JoinMakes}
 
 -- ---- lists of lists

@@ -19,7 +19,8 @@ use Rattle.step_laws.proofs.Held.{held_put}
 use Rattle.commit_laws.proofs.Stretches.{Named, InOrder, Between, never_both, in_names, names_no, node_in_names, node_of, pairs_names, names_pairs, pairs_first, pairs_second, pairs_filter, all_replaced, all_taken}
 use Rattle.commit_laws.proofs.OtherJobs.{in_filtered, in_replaced}
 use Rattle.commit_laws.proofs.RunTrees.{HaveRows, tree_named, tree_with_run}
-use Rattle.commit_laws.proofs.TreeReads.{part_rows, tree_to_part, part_to_tree, before_these, part_front, part_back, part_both, part_reads, fewer_reads}
+use Rattle.fleet_laws.proofs.TreeRows.{part_rows}
+use Rattle.commit_laws.proofs.TreeReads.{tree_to_part, part_to_tree, before_these, part_front, part_back, part_both, part_reads, fewer_reads}
 use Rattle.commit_laws.proofs.RunRows.{RunFits, flushes_of_run}
 use Rattle.commit_laws.specs.RunReads.{run_for, PartKeepsReads}
 use Rattle.step_laws.proofs.Flushes.{table_of}
