@@ -1,14 +1,17 @@
 -- A finish replies with the outputs that it names, and they begin with the tables of its attempt.
 use Rattle.std.proofs.Common.{◌≡◌, refl, sym, ◌∙◌, ap, subst, ℕ, List, [], ◌∷◌, ◌++◌, true, Option, Some, None}
 use Rattle.std.specs.Prelude.{codes, map, IfSome, ◌==◌}
+use Rattle.std.specs.List.{concat}
 use Rattle.std.proofs.lemmas.Bool.Decides.{Decides-eqb}
 use Rattle.std.proofs.lemmas.List.{append-nil, append_assoc}
 use Rattle.row_model.specs.Fold.{Operator}
+use Rattle.row_model.specs.JobRows.{JobRows, job_rows}
 use Rattle.row_model.specs.Lists.{IsPrefixOf}
 use Rattle.row_model.specs.Ranges.{Range}
 use Rattle.fleet_model.specs.Jobs.{Job, Context, job_with}
 use Rattle.fleet_model.specs.History.{Worker}
 use Rattle.fleet_model.specs.Store.{Store, stored_jobs}
+use Rattle.fleet_model.specs.Work.Attempts.{noted_rows, source_rows}
 use Rattle.fleet_model.specs.Work.Parties.{Attempt, LiveWorker, is_live, live_attempts, without_worker}
 use Rattle.fleet_model.specs.Invariants.AttemptsFit.{Extends, ContextExtends, AttemptFits, LiveFits}
 use Rattle.step_model.specs.Past.{World}
@@ -80,6 +83,10 @@ finish_is : (inputs : Inputs) (number : ℕ) (old new : State) (n job : ℕ) (an
 unfolding course_of
 finish_is inputs number old new n job answer one = ap (run_line number old) (sym one.does.is) ∙ one.ends
 
+-- All rows of these outputs.
+abbrev all_rows : Store → List (List ℕ) → JobRows
+all_rows store outputs = record { rows = noted_rows store.tables (concat outputs); whole = true }
+
 -- A finish that is not refused names the outputs that it prints.
 pub finishes_name : FinishesName
 finishes_name inputs old new n job answer c ok = by c.course.does.refusal (job_at old n job) refl c.course.does.may (finish_is inputs c.number old new n job answer c.course)
@@ -96,7 +103,7 @@ finishes_name inputs old new n job answer c ok = by c.course.does.refusal (job_a
         let fit : AttemptFits inputs.merge old.store specs stored a = subst (λ (o : Option Job). IfSome o (λ (job : Job). AttemptFits inputs.merge old.store specs job a)) is fits in
         fit.published
 
-    by : (refusal : Option (List ℕ)) (o : Option (LiveWorker × Attempt)) → job_at old n job ≡ o → FinishMay inputs old o refusal → run_line c.number old (finishing inputs old refusal o) ≡ (answer, new) → FinishNamed n job old answer new
+    by : (refusal : Option (List ℕ)) (o : Option (LiveWorker × Attempt)) → job_at old n job ≡ o → FinishMay inputs old o refusal → run_line c.number old (finishing inputs old refusal o) ≡ (answer, new) → FinishNamed inputs.merge n job old answer new
     by refusal None there may is = let same = ap (λ (p : List ℕ × State). p.0) is in absurd (cc (ap is_ok same ∙ ok))
     by refusal (Some p) there may is =
         let w = p.0 in
@@ -121,4 +128,6 @@ finishes_name inputs old new n job answer c ok = by c.course.does.refusal (job_a
           named = ap (λ (s : Store). outputs_named s.history a.job) (sym r.stored) ∙ finished_named inputs.merge r.left.store a.job r.report.outputs d.finished ∙ d.outputs;
           noted = begin_noted a.context.ranges d.made;
           published = λ stored is. published stored.context a.context d.made (extends w a at f.end.live stored is);
+          rows = ap (λ (s : Store). job_rows inputs.merge a.context.settings (source_rows s.tables a.sources)) (sym r.stored) ∙ d.rows
+              ∙ ap (λ (s : Store). all_rows s r.report.outputs) r.stored ∙ ap (all_rows new.store) d.outputs;
         }

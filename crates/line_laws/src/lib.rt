@@ -205,7 +205,7 @@ pub fn outputs_note()
 
 /// A finish that is not refused replies with the tables of each range, and the history names these
 /// for the job from then on. They begin with the tables that the attempt had noted, and so with
-/// those that were published.
+/// those that were published, and have all rows that the settings of the attempt make.
 pub fn finishes_name()
     ensures { FinishesName }
 {}

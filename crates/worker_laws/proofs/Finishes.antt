@@ -1,6 +1,6 @@
 -- A worker fits after its finish.
 use Rattle.std.proofs.Common.{◌≡◌, refl, sym, ◌∙◌, ap, subst, ℕ, zero, suc, ◌+◌, List, [], ◌∷◌, cond, Bool, true, false, inl, Option, Some, None, map}
-use Rattle.std.specs.Prelude.{IsTrue, ◌==◌, not}
+use Rattle.std.specs.Prelude.{IsTrue, IfSome, ◌==◌, not}
 use Rattle.std.specs.List.{AllByRecursion, concat}
 use Rattle.std.proofs.lemmas.Bool.Decides.{Decides-eqb}
 use Rattle.row_model.specs.Rows.{Row}
@@ -9,7 +9,9 @@ use Rattle.step_model.specs.Kept.Keeps.{Keeps}
 use Rattle.step_laws.specs.Runs.{CallsKeep}
 use Rattle.course_laws.specs.Outputs.{DoesRun}
 use Rattle.course_laws.specs.Finishes.{WholeUnless}
-use Rattle.fleet_model.specs.Jobs.{Job, Jobs, contains, changed_jobs, trimmed_jobs}
+use Rattle.fleet_model.specs.Jobs.{Job, Jobs, Context, Release, One, Two, knows_cut, contains, changed_jobs, trimmed_jobs, job_with}
+use Rattle.fleet_model.specs.Invariants.JobsFit.{cut_or}
+use Rattle.fleet_model.specs.Invariants.AttemptsFit.{CutFits, AttemptFits, AttemptStands, LiveFits}
 use Rattle.fleet_model.specs.History.{Worker, GetRecords, Finish}
 use Rattle.fleet_model.specs.Store.{Store, Records, jobs_in, stored_jobs}
 use Rattle.fleet_model.specs.Work.Records.{Unrecorded, no_contexts, finished_by, jobs_after}
@@ -19,7 +21,7 @@ use Rattle.fleet_model.specs.Exchanges.{Exchange, Plain, PutsRecords, records_ve
 use Rattle.step_model.specs.Past.{World}
 use Rattle.step_model.specs.Rivals.{Caller, after_call}
 use Rattle.step_model.specs.Kept.TablesKept.{AreApart}
-use Rattle.step_model.specs.Fits.{WorkerHolds, noted_tables}
+use Rattle.step_model.specs.Fits.{AttemptHeld, WorkerHolds, noted_tables}
 use Rattle.step_model.specs.Courses.Course.{Course, Ends}
 use Rattle.step_model.specs.Courses.Tries.{tries}
 use Rattle.step_model.specs.Courses.CourseRuns.{End, Gives, Runs, IsLawfulCourse}
@@ -40,7 +42,7 @@ use Rattle.course_laws.proofs.Finishes.{outputs_all, finishes_are_lawful}
 use Rattle.worker_laws.specs.OwnCalls.{SparesOwn}
 use Rattle.worker_laws.specs.Finishes.{FinishesKeepFit}
 use Rattle.worker_laws.specs.FinishReports.{FinishDid, FinishesReport}
-use Rattle.worker_laws.proofs.Merged.{one_merge}
+use Rattle.worker_laws.proofs.Merged.{merged_job}
 use Rattle.worker_laws.proofs.Attempts.{apart_two, holds_fewer}
 use Rattle.worker_laws.proofs.Live.{live_at}
 use Rattle.worker_laws.proofs.OwnPuts.{from_stored}
@@ -90,6 +92,23 @@ apart_outputs merge w world a made h there live lacks = all_from _ (live_attempt
     (outputs_all (λ t. IsIn t (noted_tables b) → ⊥) a.context.ranges made (all_from _ (noted_tables a) (λ t old more. apart_at (noted_tables a) (noted_tables b) t two old more))
     (all_to _ _ (all_of made) (λ p new none. none b found.0) lacks)) named))
 
+-- ---- the settings of an attempt
+
+-- The cut of an attempt's settings is the one that its finish keeps.
+cut_kept : (release : Release) (c : Context) → c.has_cut ≡ knows_cut release → CutFits c → c.settings.cut ≡ cut_or c.settings.floor (finish_cut release c)
+cut_kept One c has fits = fits has
+cut_kept Two c has fits = refl
+
+-- Without a cut, the cut of a live attempt is its floor.
+cut_fits : (merge : Operator) (world : World) (w : LiveWorker) (a : Attempt) → Keeps merge world → WorkerHolds merge world w → IsIn a w.attempts → is_live (stored_jobs world.store) w.number a ≡ true → CutFits a.context
+cut_fits merge world w a k holds there live =
+    let l = live_at w.number (stored_jobs world.store) a live in
+    let fits = all_at (LiveFits merge world.store k.stored.replay.specs) (live_attempts (stored_jobs world.store) w) a (holds.fits k.stored.replay.specs k.faithful).live (in_filter (is_live (stored_jobs world.store) w.number) w.attempts a there live) in
+    let fit : AttemptFits merge world.store k.stored.replay.specs l.job a = subst (λ (o : Option Job). IfSome o (λ (job : Job). AttemptFits merge world.store k.stored.replay.specs job a)) l.stored fits in
+    fit.context.cut
+
+-- ---- the end of the job, with its report
+
 -- From its get of the records on, the end of a job leaves a worker that fits and a right report, if another try does.
 ended_job : (who : Caller) (w : LiveWorker) (moment : ℕ) (a : Attempt) (made : List (List (ℕ × List Row))) (again : ℕ → Course (StepEnd FinishedJob)) → Relies who w → IsIn a w.attempts → AreUnnoted w (all_of made)
     → (new : World) (end : End (StepEnd FinishedJob)) → ((version : ℕ) (old : World) → After who moment w a (again version) old new end) → (met : World) (got : Records) → met.store.records ≡ Some got → (live : Bool) → is_live got.jobs w.number a ≡ live
@@ -134,6 +153,12 @@ ended_job who w moment a made again r there lacks new end tries met got is true 
         did e =
             let stored : m.met.store.records ≡ Some got = got_records met m.met (Some got) is (later_met who (Plain GetRecords) met met m.met (later_itself met) m.rivals) ((Decides-eqb got.version (records_version m.met.store.records)).0 e) in
             let world = put_world who.line who.party m.met got.version (Finish w.number a.job a.number outputs) got.epoch (jobs_after u (Finish w.number a.job a.number outputs) got.jobs) e in
+            let lives = ap (λ o. is_live (jobs_in o) w.number a) stored ∙ live in
+            let merged = merged_job who.merge m.met after w.number a u outputs (record { version = got.version + 1; epoch = got.epoch; jobs = jobs_after u (Finish w.number a.job a.number outputs) got.jobs })
+            (own_entry who.line who.party m.met (Finish w.number a.job a.number outputs)) m.fit.kept m.kept lives world
+            (ap (λ (t : World). stored_jobs t.store) world ∙ ap (λ o. jobs_after u (Finish w.number a.job a.number outputs) (jobs_in o)) (sym stored)) in
+            let sources_are : (job : Job) → job_with a.job (stored_jobs m.met.store) ≡ Some job → a.sources ≡ job.source_tables =
+            λ job is. subst (λ (o : Option Job). IfSome o (λ (j : Job). a.sources ≡ j.source_tables)) is (all_at (AttemptHeld m.met w.number) w.attempts a m.fit.holds.each there).sources in
             record {
               made = map ids_of made;
               outputs = refl;
@@ -144,9 +169,9 @@ ended_job who w moment a made again r there lacks new end tries met got is true 
               live = live;
               last = refl;
               over = over e;
-              finished = one_merge who.merge m.met after w.number a u outputs (record { version = got.version + 1; epoch = got.epoch; jobs = jobs_after u (Finish w.number a.job a.number outputs) got.jobs })
-                  (own_entry who.line who.party m.met (Finish w.number a.job a.number outputs)) m.fit.kept m.kept (ap (λ o. is_live (jobs_in o) w.number a) stored ∙ live) world
-                  (ap (λ (t : World). stored_jobs t.store) world ∙ ap (λ o. jobs_after u (Finish w.number a.job a.number outputs) (jobs_in o)) (sym stored));
+              finished = merged.finished;
+              rows = merged.under a.context.settings a.sources sources_are (all_at (AttemptStands who.merge after.store m.kept.stored.replay.specs) w.attempts a (holds.fits m.kept.stored.replay.specs m.kept.faithful).each there).claimed.settings
+                  (cut_kept w.release a.context (all_at _ w.attempts a (holds.fits m.kept.stored.replay.specs m.kept.faithful).cuts there) (cut_fits who.merge m.met w a m.fit.kept m.fit.holds there lives));
             }
 
         by : (b : Bool) → (got.version == records_version m.met.store.records) ≡ b → IsLawfulCourse who after (again_or (records_version m.met.store.records) b) → Runs who (again_or (records_version m.met.store.records) b) after new end → Left who w (λ (report : FinishedJob). report.attempts) (FinishDid who moment w a) new end

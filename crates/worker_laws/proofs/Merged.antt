@@ -1,13 +1,18 @@
 -- A job whose attempt is finished has outputs that are one merge.
-use Rattle.std.proofs.Common.{◌≡◌, refl, sym, ◌∙◌, ap, subst, ℕ, ◌<◌, List, [], ◌∷◌, cond, Bool, true, false, inl, inr, Some}
+use Rattle.std.proofs.Common.{◌≡◌, refl, sym, ◌∙◌, ap, subst, ℕ, ◌<◌, List, [], ◌∷◌, cond, Bool, true, false, inl, inr, Option, Some}
 use Rattle.std.specs.Prelude.{IsTrue, ◌==◌, ◌&&◌, ◌||◌, option_map}
-use Rattle.std.specs.List.{AllByRecursion}
+use Rattle.std.specs.List.{AllByRecursion, concat}
+use Rattle.std.proofs.lemmas.Bool.Decides.{Decides-eqb}
 use Rattle.row_model.specs.Lists.{Pairs}
 use Rattle.row_model.specs.Fold.{Operator}
+use Rattle.row_model.specs.Settings.{Settings}
+use Rattle.row_model.specs.JobRows.{job_rows}
 use Rattle.fleet_model.specs.Jobs.{Job, Jobs, Scheduled, Running, Compacted, has_status, is_active, changed_jobs, trimmed_jobs, job_with}
 use Rattle.fleet_model.specs.History.{Entry}
 use Rattle.fleet_model.specs.Store.{Records, stored_jobs, is_held}
-use Rattle.fleet_model.specs.Invariants.JobsFit.{OutputsFit, OpenedStands}
+use Rattle.fleet_model.specs.Past.Claimed.{settings_of, without_cut}
+use Rattle.fleet_model.specs.Work.Attempts.{noted_rows, source_rows}
+use Rattle.fleet_model.specs.Invariants.JobsFit.{OutputsFit, OpenedStands, cut_or}
 use Rattle.fleet_model.specs.Work.Parties.{Attempt, is_leased_to, is_live, runs_attempt}
 use Rattle.fleet_model.specs.Work.Records.{Unrecorded, finished_by}
 use Rattle.step_model.specs.Past.{World}
@@ -47,21 +52,48 @@ running worker number job runs = by (has_status Scheduled job) (has_status Runni
     by false true z v h = refl
     by false false z v h = absurd (cc h)
 
+-- ---- settings
+
+-- Settings are the same if they are so but for their cut, and both cuts are those that the job kept.
+same_settings : (s t : Settings) (kept : Option ℕ) → without_cut s ≡ without_cut t → s.cut ≡ cut_or s.floor kept → t.cut ≡ cut_or t.floor kept → s ≡ t
+same_settings s t kept e cut other =
+    ap (λ (x : Settings). record x { cut = s.cut }) e ∙ ap (λ (c : ℕ). record t { cut = c }) (cut ∙ ap (λ (x : Settings). cut_or x.floor kept) e ∙ sym other)
+
+-- The job of a live attempt is at its number.
+number_run : (worker number : ℕ) (job : Job) → IsTrue (runs_attempt worker number (Some job)) → number ≡ job.attempt
+number_run worker number job runs = (Decides-eqb number job.attempt).0 (by (has_status Running job) (is_leased_to worker job.lease) (number == job.attempt) runs)
+  where
+    by : (x y z : Bool) → (x && y && z) ≡ true → z ≡ true
+    by true true z h = h
+    by true false z h = absurd (cc h)
+    by false y z h = absurd (cc h)
+
+-- ---- the job after the put of a finish
+
+-- The job is finished with these outputs. They have all rows that the settings of the attempt make of its sources.
+pub record MergedJob (merge : Operator) (at new : World) (a : Attempt) (u : Unrecorded) (outputs : List (List ℕ)) (k : Keeps merge new) : Type 0 where
+  pub finished : IsFinished merge new.store a.job outputs
+  pub under : (s : Settings) (sources : List ℕ) → ((job : Job) → job_with a.job (stored_jobs at.store) ≡ Some job → sources ≡ job.source_tables)
+      → settings_of new.store.tables k.stored.replay.specs new.store.history a.job a.number ≡ Some (without_cut s) → s.cut ≡ cut_or s.floor u.kept_cut
+      → job_rows merge s (source_rows new.store.tables sources) ≡ record { rows = noted_rows new.store.tables (concat outputs); whole = true }
+
 -- After the put of a finish, its job has outputs that are one merge.
-pub one_merge : (merge : Operator) (at new : World) (worker : ℕ) (a : Attempt) (u : Unrecorded) (outputs : List (List ℕ)) (records : Records) (entry : Entry) → Keeps merge at → Keeps merge new → is_live (stored_jobs at.store) worker a ≡ true
-    → new ≡ with_records at records entry → stored_jobs new.store ≡ trimmed_jobs (changed_jobs (finished_by worker u outputs) (a.job ∷ []) (stored_jobs at.store)) → IsFinished merge new.store a.job outputs
-one_merge merge at new worker a u outputs records entry before k live is made = record {
-  job = job;
-  stored = stored;
-  waits = refl;
-  has = refl;
-  merged = record {
-    replay = k.stored.replay;
-    settings = fit.settings;
-    claimed = fit.claimed;
-    cut = fit.cut;
-    rows = fit.rows (all_true_from (is_held new.store) job.source_tables held);
+pub merged_job : (merge : Operator) (at new : World) (worker : ℕ) (a : Attempt) (u : Unrecorded) (outputs : List (List ℕ)) (records : Records) (entry : Entry) → Keeps merge at → (k : Keeps merge new) → is_live (stored_jobs at.store) worker a ≡ true
+    → new ≡ with_records at records entry → stored_jobs new.store ≡ trimmed_jobs (changed_jobs (finished_by worker u outputs) (a.job ∷ []) (stored_jobs at.store)) → MergedJob merge at new a u outputs k
+merged_job merge at new worker a u outputs records entry before k live is made = record {
+  finished = record {
+    job = job;
+    stored = stored;
+    waits = refl;
+    has = refl;
+    merged = record { replay = k.stored.replay; settings = fit.settings; claimed = fit.claimed; cut = fit.cut; rows = whole };
   };
+  under = λ s sources from claimed cut.
+      let both : Some (without_cut s) ≡ Some (without_cut fit.settings) =
+      sym claimed ∙ ap (λ (n : ℕ). settings_of new.store.tables k.stored.replay.specs new.store.history a.job n) (number_run worker a.number l.job l.runs)
+      ∙ ap (λ (id : ℕ). settings_of new.store.tables k.stored.replay.specs new.store.history id l.job.attempt) (sym was.same) ∙ fit.claimed in
+      let same : s ≡ fit.settings = same_settings s fit.settings u.kept_cut (cc both) cut fit.cut in
+      ap (λ (x : Settings). job_rows merge x (source_rows new.store.tables sources)) same ∙ ap (λ (xs : List ℕ). job_rows merge fit.settings (source_rows new.store.tables xs)) (from l.job l.stored) ∙ whole;
 }
   where
     l : IsLive worker (stored_jobs at.store) a
@@ -89,3 +121,6 @@ one_merge merge at new worker a u outputs records entry before k live is made = 
     held : AllByRecursion (λ id. IsTrue (is_held new.store id)) job.source_tables
     held = subst (λ (world : World). AllByRecursion (λ id. IsTrue (is_held world.store id)) l.job.source_tables) (sym is)
         (sources_held merge at before.stored.replay.specs l.job (whole_of merge at before).body ((all_at (OpenedStands at.store) (stored_jobs at.store) l.job before.stored.sources was.there).0 (running worker a.number l.job l.runs)))
+
+    whole : job_rows merge fit.settings (source_rows new.store.tables job.source_tables) ≡ record { rows = noted_rows new.store.tables (concat outputs); whole = true }
+    whole = fit.rows (all_true_from (is_held new.store) job.source_tables held)

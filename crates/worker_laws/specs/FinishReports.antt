@@ -52,7 +52,8 @@ finish_put moment w a outputs got =
 
 -- A finish that reports has for each range the tables that the attempt had noted, and then those that it
 -- made. The attempt was live as it put the records, and this was its last call. The attempt is over, and
--- its job waits for its commit. The worker runs its other attempts.
+-- its job waits for its commit. The outputs have all rows that the attempt's settings make of its sources.
+-- The worker runs its other attempts.
 pub record FinishDid (who : Caller) (moment : ℕ) (w : LiveWorker) (a : Attempt) (new : World) (report : FinishedJob)
     : Type 0 where
   pub made : List (List ℕ)
@@ -65,6 +66,8 @@ pub record FinishDid (who : Caller) (moment : ℕ) (w : LiveWorker) (a : Attempt
   pub last : new ≡ after_call who.line who.party (finish_put moment w a report.outputs got) None at
   pub over : is_live (stored_jobs new.store) w.number a ≡ false
   pub finished : IsFinished who.merge new.store a.job report.outputs
+  pub rows : job_rows who.merge a.context.settings (source_rows new.store.tables a.sources)
+      ≡ record { rows = noted_rows new.store.tables (concat report.outputs); whole = true }
 
 -- A finish of a worker that fits did so if it reports, under a lawful operator and if every lawful call
 -- keeps the invariant.

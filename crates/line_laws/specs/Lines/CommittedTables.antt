@@ -4,6 +4,8 @@ use Rattle.std.specs.List.{concat}
 use Rattle.std.specs.Option.{unwrap_or}
 use Rattle.row_model.specs.Lists.{IsPrefixOf}
 use Rattle.row_model.specs.Rows.{Row}
+use Rattle.row_model.specs.Fold.{Operator}
+use Rattle.row_model.specs.JobRows.{job_rows}
 use Rattle.row_model.specs.Ranges.{Range}
 use Rattle.fleet_model.specs.Nodes.{Tables, Trees}
 use Rattle.fleet_model.specs.Jobs.{Job, job_with}
@@ -11,6 +13,7 @@ use Rattle.fleet_model.specs.History.{Event, PutRecords, Finish, Join, Entry, st
 use Rattle.fleet_model.specs.Store.{Store, stored_jobs}
 use Rattle.fleet_model.specs.Trees.{stepped_in}
 use Rattle.fleet_model.specs.Invariants.JobsFit.{was_joined}
+use Rattle.fleet_model.specs.Work.Attempts.{noted_rows, source_rows}
 use Rattle.fleet_model.specs.Work.Parties.{Attempt, LiveWorker, worker_with}
 use Rattle.step_model.specs.Past.{World}
 use Rattle.step_model.specs.Steps.OutputSteps.{with_noted}
@@ -93,8 +96,9 @@ BeginWith (tables ∷ old) [] = ⊥
 BeginWith (tables ∷ old) (all ∷ new) = IsPrefixOf tables all × BeginWith old new
 
 -- A finish replied with tables for each range, and the history names these for the job from then on. They begin with
--- the tables that the attempt had noted, and so with those of the published context of its job, if there was one.
-pub record FinishNamed (n job : ℕ) (old : State) (answer : List ℕ) (new : State) : Type 0 where
+-- the tables that the attempt had noted, and so with those of the published context of its job, if there was one. They
+-- have all rows that the settings of the attempt make of its source tables.
+pub record FinishNamed (merge : Operator) (n job : ℕ) (old : State) (answer : List ℕ) (new : State) : Type 0 where
   pub worker : LiveWorker
   pub attempt : Attempt
   pub ran : job_at old n job ≡ Some (worker, attempt)
@@ -104,11 +108,14 @@ pub record FinishNamed (n job : ℕ) (old : State) (answer : List ℕ) (new : St
   pub noted : BeginWith (tables_by_range attempt.context) outputs
   pub published : (stored : Job) → job_with attempt.job (stored_jobs old.store) ≡ Some stored
       → IfSome stored.context (λ context. BeginWith (tables_by_range context) outputs)
+  pub rows : job_rows merge attempt.context.settings (source_rows new.store.tables attempt.sources)
+      ≡ record { rows = noted_rows new.store.tables (concat outputs); whole = true }
 
 -- Each course of a finish that is not refused does so.
 abbrev pub FinishesName : Type 0
 FinishesName = (inputs : Inputs) (old new : State) (n job : ℕ) (answer : List ℕ)
-    → CourseRan inputs old (FinishJob n job) answer new → is_ok answer ≡ true → FinishNamed n job old answer new
+    → CourseRan inputs old (FinishJob n job) answer new → is_ok answer ≡ true
+    → FinishNamed inputs.merge n job old answer new
 
 -- ---- commits
 
