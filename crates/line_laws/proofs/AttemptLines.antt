@@ -117,7 +117,7 @@ abbrev Fits : Line → ℕ → State → Parties → Type 0
 Fits line n s parties = (v : LiveWorker) → worker_with n parties ≡ Some v → AllByRecursion (HasCome line n s) v.attempts
 
 -- A worker that fits runs each job once.
-own_attempts : (merge : Operator) (s : State) (k : StateKeeps merge s) (n : ℕ) (w : LiveWorker) → worker_with n s.parties ≡ Some w → (a : Attempt) → IsIn a w.attempts → attempt_at a.job w.attempts ≡ Some a
+pub own_attempts : (merge : Operator) (s : State) (k : StateKeeps merge s) (n : ℕ) (w : LiveWorker) → worker_with n s.parties ≡ Some w → (a : Attempt) → IsIn a w.attempts → attempt_at a.job w.attempts ≡ Some a
 own_attempts merge s k n w live a there = found_attempt w.attempts a (is_worker merge s k n w live).holds.jobs_rise there
 
 fits_same : (merge : Operator) (line : Line) (n : ℕ) (s : State) → StateKeeps merge s → (parties : Parties) → parties.workers ≡ s.parties.workers → Fits line n s parties

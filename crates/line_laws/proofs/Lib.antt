@@ -50,3 +50,4 @@ pub mod NamedCommits
 pub mod BeatLines
 pub mod AttemptLines
 pub mod UnnamedTables
+pub mod AttemptRuns

@@ -9,3 +9,4 @@ pub mod Texts
 pub mod Live
 pub mod Goes
 pub mod WorkedRun
+pub mod AttemptRuns

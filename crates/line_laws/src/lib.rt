@@ -4,6 +4,7 @@
 #![tactic(auto)]
 
 ghost use Rattle.line_laws.specs.Alone.{AloneRuns};
+ghost use Rattle.line_laws.specs.AttemptRuns.{AttemptsStayOne};
 ghost use Rattle.line_laws.specs.Lines.AttemptLines.{AttemptsGoOn};
 ghost use Rattle.line_laws.specs.Lines.BeatLines.{BeatsPublish, StopsRelease};
 ghost use Rattle.line_laws.specs.Lines.ClaimLines.{ClaimsTake};
@@ -183,6 +184,12 @@ pub fn outputs_are_whole()
 /// that were noted, or the line is the worker's claim and began it.
 pub fn attempts_go_on()
     ensures { AttemptsGoOn }
+{}
+
+/// As long as a worker runs an attempt, it has the source tables, the settings and the ranges that
+/// its claim gave it, and all tables that were noted, whatever lines come between.
+pub fn attempts_stay_one()
+    ensures { AttemptsStayOne }
 {}
 
 /// A heartbeat that is not refused beats for exactly the live attempts of its worker, publishes
