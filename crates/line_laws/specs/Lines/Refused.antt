@@ -38,7 +38,7 @@ pub record IsGivenBack (worker : ℕ) (a : Attempt) (old new : Store) : Type 0 w
   pub same : new ≡ record old { records = new.records; history = new.history }
   pub jobs : stored_jobs new ≡ given_back worker a (stored_jobs old)
 
--- Tables were put beside the old ones. The manifest and the records are as before, so nothing names the new ones.
+-- Tables were put beside the old ones. The manifest and the records are as before.
 pub record HasPutTables (old new : Store) : Type 0 where
   pub same : new ≡ record old { tables = new.tables; tables_drawn = new.tables_drawn; history = new.history }
   pub made : Tables
@@ -117,8 +117,7 @@ pub record CalledBack (n job : ℕ) (old : State) (answer : List ℕ) (new : Sta
   pub store : IsGivenBack worker.number attempt old.store new.store
   pub parties : new.parties ≡ running worker old (without_attempt worker attempt)
 
--- The attempt that the worker runs at this job is not live. Its finish put tables that nothing names, and the worker
--- runs it no more.
+-- The attempt that the worker runs at this job is not live. Its finish put tables, and the worker runs it no more.
 pub record NotOwned (n job : ℕ) (old : State) (answer : List ℕ) (new : State) : Type 0 where
   pub worker : LiveWorker
   pub attempt : Attempt
