@@ -79,9 +79,9 @@ pub fn none_conflicts()
 
 /// A refused line leaves manifest, records, tables, names and parties as they were, but for four
 /// refusals. A fault leaves the calls up to the struck one, and the coordinator or worker that
-/// called is no longer live. A fenced coordinator is no longer live. An operator's refusal gives the
-/// attempt back, and its worker runs it no more. A finish of an attempt that is not live has put
-/// tables, and its worker runs it no more.
+/// called is no longer live. A fenced coordinator is no longer live. An operator's refusal gives
+/// the attempt back, and its worker runs it no more. A finish of an attempt that is not live has
+/// put tables, and its worker runs it no more.
 pub fn refusals_leave()
     ensures { RefusalsLeave }
 {}
