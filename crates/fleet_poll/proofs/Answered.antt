@@ -3,7 +3,7 @@ use Rattle.std.proofs.Common.{◌≡◌, refl, sym, ◌∙◌, ap, subst, ℕ, L
 use Rattle.std.specs.Prelude.{filter, IfOk, IfSome, Ok, Err, Option, Result, Some, None}
 use Rattle.std.specs.List.{AllByRecursion}
 use Rattle.std.specs.Option.{ForSome}
-use Rattle.fleet_model.specs.Work.Gates.{submit_gate}
+use Rattle.fleet_model.specs.Work.Gates.{commit_gate, submit_gate}
 use Rattle.fleet_model.specs.Jobs.{Jobs}
 use Rattle.fleet_model.specs.Nodes.{NodeName}
 use Rattle.fleet_model.specs.Work.Polls.{lost_to_scheduler, open_by, open_job}
@@ -31,7 +31,7 @@ use Rattle.fleet_gates.specs.Shown.{accepted_on, shown_trees}
 use Rattle.fleet_gates.specs.declared.rule.Rule.{Rule}
 use Rattle.fleet_poll.specs.Made.{flushes_opened, own_core}
 use Rattle.fleet_poll.specs.Polls.{poll_of}
-use Rattle.fleet_poll.specs.Shown.{rule_of_gate, shown}
+use Rattle.fleet_poll.specs.Shown.{commit_rule, rule_of_gate, shown}
 use Rattle.fleet_poll.specs.declared.poll.Poll.{Poll}
 
 view_is : (state : StateParts) (view : CompactorStateView) → view.manifest ≡ state.manifest → view.compactions ≡ Some (with_jobs (filter is_open (own_jobs state)) state.compactions) → view ≡ shown state
@@ -48,6 +48,15 @@ rule_in flushes state view s held jobs lost id job (Ok rule) manifest records fo
     subst (λ f. IfSome f (λ found. Decides held jobs lost (job_of found) → numbered rule ≡ submit_gate (trees_of flushes (own_core state)) jobs lost (accepted_on flushes (shown state) s) (job_of found))) (sym found)
     (λ decides. said decides ∙ ap (λ v. submit_gate (shown_trees flushes v) jobs lost (accepted_on flushes v s) (job_of job)) (view_is state view manifest records))
 rule_in flushes state view s held jobs lost id job (Err e) manifest records found said = tt
+
+pub commit_rule_in : (flushes : RunFlushes) (state : StateParts) (view : CompactorStateView) (s : Scheduler) (id : ℕ) (job : JobParts) (r : Result (Option Rule) SlateDBError)
+    → view.manifest ≡ state.manifest → view.compactions ≡ Some (with_jobs (filter is_open (own_jobs state)) state.compactions) → record_with id (own_jobs state) ≡ Some job
+    → IfOk r (λ rule. numbered rule ≡ commit_gate (shown_trees flushes view) (accepted_on flushes view s) (job_of job))
+    → IfOk r (λ failed. IfSome (record_with id (own_jobs state)) (λ found. numbered failed ≡ commit_rule flushes s state found))
+commit_rule_in flushes state view s id job (Ok rule) manifest records found said =
+    subst (λ f. IfSome f (λ found. numbered rule ≡ commit_rule flushes s state found)) (sym found)
+    (said ∙ ap (λ v. commit_gate (shown_trees flushes v) (accepted_on flushes v s) (job_of job)) (view_is state view manifest records))
+commit_rule_in flushes state view s id job (Err e) manifest records found said = tt
 
 -- What the gate says of the job that is found.
 abbrev Said : RunFlushes → StateParts → Scheduler → List NodeName → List ℕ → Option Rule → JobParts → Type 0

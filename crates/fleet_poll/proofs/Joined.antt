@@ -41,7 +41,7 @@ own_ids : (tables : List SsTableHandle) → view_tables (own_views tables) ≡ t
 own_ids [] = refl
 own_ids (table ∷ tables) = ap (λ ids. table.id ∷ ids) (own_ids tables)
 
-written_ids : (outputs : List (List SsTableHandle)) → table_ids (flat_map (λ tables. tables) outputs) ≡ concat (map table_ids outputs)
+pub written_ids : (outputs : List (List SsTableHandle)) → table_ids (flat_map (λ tables. tables) outputs) ≡ concat (map table_ids outputs)
 written_ids [] = refl
 written_ids (tables ∷ outputs) = map-append (λ (t : SsTableHandle). t.id) tables (flat_map (λ ts. ts) outputs) ∙ ap (λ ids. table_ids tables ++ ids) (written_ids outputs)
 

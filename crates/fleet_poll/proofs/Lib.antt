@@ -8,3 +8,14 @@ pub mod Joined
 pub mod Drained
 pub mod Opened
 pub mod Answered
+pub mod Told
+pub mod Taken
+pub mod Carried
+pub mod Alike
+pub mod Committed
+pub mod StillHeld
+pub mod Decided
+pub mod Opens
+pub mod Next
+pub mod Over
+pub mod Stepped

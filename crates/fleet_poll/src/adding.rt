@@ -10,6 +10,7 @@ ghost use Rattle.fleet_jobs.specs.Specs.{spec_of};
 ghost use Rattle.fleet_history.specs.Changes.{new_specs};
 ghost use Rattle.fleet_book.specs.Records.{record_with};
 ghost use Rattle.fleet_book.specs.States.{own_jobs};
+ghost use Rattle.fleet_poll.specs.Loops.{LostAreOver, StillSees};
 ghost use Rattle.fleet_poll.specs.Polls.{AreNew, HasSameObjects, poll_of};
 
 use crate::Poll;
@@ -34,6 +35,8 @@ impl Poll {
             → record_with id (own_jobs self.old.state) ≡ Some job
             → record_with id (own_jobs self.new.state) ≡ Some job) }
         ensures same { OnOk result (HasSameObjects self.old.state self.new.state) }
+        ensures sees { OnOk result (StillSees self.old.state self.new.state) }
+        ensures lost { OnOk result (LostAreOver self.old → LostAreOver self.new) }
         ensures memory { IsOkUnless result SlateDBError.Memory }
     {
         'drawn: for place in 0..drawn.len() {
@@ -61,6 +64,8 @@ impl Poll {
             → record_with other (own_jobs self.new.state)
             ≡ record_with other (own_jobs self.old.state)) }
         ensures same { OnOk result (HasSameObjects self.old.state self.new.state) }
+        ensures sees { OnOk result (StillSees self.old.state self.new.state) }
+        ensures lost { OnOk result (self.new.lost ≡ self.old.lost) }
         ensures memory { IsOkUnless result SlateDBError.Memory }
     {
         match self

@@ -20,6 +20,7 @@ ghost use Rattle.fleet_gates.specs.Shown.{accepted_on};
 ghost use Rattle.fleet_poll.specs.Made.{PrefixesRise, flushes_opened, own_core};
 ghost use Rattle.fleet_poll.specs.Shown.{rule_of_gate, shown};
 ghost use Rattle.fleet_poll.specs.Polls.{poll_of};
+ghost use Rattle.fleet_poll.specs.Loops.{IsDecision};
 
 use crate::Poll;
 use fleet_book::CompactorState;
@@ -59,6 +60,7 @@ impl Poll {
             (rule_of_gate input (job_of made) (poll_of flushes self.old))
             options.now.enable_trivial_move made (own_core self.old.state) flushes) self.new
             ≡ open_job input (job_of made) (poll_of flushes self.old))) }
+        ensures decision { OnOk result (IsDecision job self.old self.new) }
         ensures memory { IsOkUnless result SlateDBError.Memory }
     {
         let failed = failed_rule(alloc, scheduler, &self.state, held, job)?;

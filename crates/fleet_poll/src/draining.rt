@@ -33,6 +33,7 @@ impl Poll {
             ≡ drain_job input (job_of drained) (poll_of flushes self.old))) }
         ensures state { OnOk result (IfSome (record_with job (own_jobs self.old.state))
             (λ drained. self.new.state ≡ finished_state drained None self.old.state)) }
+        ensures lost { OnOk result (self.new.lost ≡ self.old.lost) }
         ensures memory { IsOkUnless result SlateDBError.Memory }
     {
         know_rising(self.state.compactions());

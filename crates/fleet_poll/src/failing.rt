@@ -1,6 +1,6 @@
 //! Jobs that a gate refuses.
 
-ghost use Rattle.std.specs.Prelude.{◌≡◌, [], ◌∷◌, is_some, map, IsOkUnless, OnErr, OnOk, Some};
+ghost use Rattle.std.specs.Prelude.{◌≡◌, ◌++◌, [], ◌∷◌, is_some, map, IsOkUnless, OnErr, OnOk, Some};
 ghost use Rattle.fleet_model.specs.Jobs.{Job};
 ghost use Rattle.fleet_model.specs.Work.Polls.{commit_by, open_by};
 ghost use Rattle.fleet_model.specs.Work.PollStates.{PollInput};
@@ -24,6 +24,8 @@ impl Poll {
             ≡ commit_by input lost (Some (number_of rule)) (poll_of flushes self.old)) }
         ensures jobs { OnOk result (own_jobs self.new.state
             ≡ map (changed_record failed (job ∷ [])) (own_jobs self.old.state)) }
+        ensures lost { OnOk result
+            (self.new.lost ≡ self.old.lost ++ (job, number_of rule) ∷ []) }
         ensures same { OnOk result (HasSameObjects self.old.state self.new.state) }
         ensures err { OnErr result (self.new ≡ self.old) }
         ensures memory { IsOkUnless result SlateDBError.Memory }
@@ -41,6 +43,7 @@ impl Poll {
             ≡ open_by input refused (Some (number_of rule)) (poll_of flushes self.old)) }
         ensures jobs { OnOk result (own_jobs self.new.state
             ≡ map (changed_record failed (job ∷ [])) (own_jobs self.old.state)) }
+        ensures lost { OnOk result (self.new.lost ≡ self.old.lost) }
         ensures same { OnOk result (HasSameObjects self.old.state self.new.state) }
         ensures err { OnErr result (self.new ≡ self.old) }
         ensures memory { IsOkUnless result SlateDBError.Memory }

@@ -35,6 +35,7 @@ impl Poll {
         ensures jobs { OnOk result (own_jobs self.new.state
             ≡ map (changed_record waiting self.new.freed) (own_jobs self.old.state)) }
         ensures same { OnOk result (HasSameObjects self.old.state self.new.state) }
+        ensures lost { OnOk result (self.new.lost ≡ self.old.lost) }
         ensures memory { IsOkUnless result SlateDBError.Memory }
     {
         let timeout = options.worker_heartbeat_timeout_ms;

@@ -17,8 +17,10 @@ ghost use Rattle.fleet_book.specs.States.{own_jobs};
 ghost use Rattle.fleet_gates.specs.Rules.{numbered};
 ghost use Rattle.fleet_poll.specs.Made.{EndsRise, PrefixesRise, flushes_committed, flushes_opened, is_drain_if_there, own_core, written_tables};
 ghost use Rattle.fleet_poll.specs.Polls.{poll_of};
+ghost use Rattle.fleet_poll.specs.Loops.{IsDecision, LostAreOver, OthersStay, StillSees};
 
 use crate::Poll;
+use crate::freeing::know_rising;
 use fleet_book::CompactorState;
 use fleet_gates::Rule;
 use fleet_rows::{SlateDBError, Ulid};
@@ -50,6 +52,9 @@ impl Poll {
             poll_of (flushes_committed (numbered failed) joined (own_core self.old.state) flushes)
             self.new
             ≡ commit_by input (job_of joined) (numbered failed) (poll_of flushes self.old))) }
+        ensures others { OnOk result (OthersStay job self.old.state self.new.state) }
+        ensures sees { OnOk result (StillSees self.old.state self.new.state) }
+        ensures lost { OnOk result (LostAreOver self.old → LostAreOver self.new) }
         ensures memory { IsOkUnless result SlateDBError.Memory }
     {
         match failed {
@@ -81,6 +86,7 @@ impl Poll {
             → poll_of (flushes_opened (numbered failed) options.now.enable_trivial_move made
             (own_core self.old.state) flushes) self.new
             ≡ open_by input (job_of made) (numbered failed) (poll_of flushes self.old))) }
+        ensures decision { OnOk result (IsDecision job self.old self.new) }
         ensures memory { IsOkUnless result SlateDBError.Memory }
     {
         match failed {
@@ -110,8 +116,10 @@ impl Poll {
             → poll_of (flushes_opened None options.now.enable_trivial_move made
             (own_core self.old.state) flushes) self.new
             ≡ open_by input (job_of made) None (poll_of flushes self.old))) }
+        ensures decision { OnOk result (IsDecision job self.old self.new) }
         ensures memory { IsOkUnless result SlateDBError.Memory }
     {
+        know_rising(self.state.compactions());
         if is_drain(&self.state, job) {
             return self.drain(alloc, job);
         }

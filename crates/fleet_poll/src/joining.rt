@@ -46,6 +46,7 @@ impl Poll {
             ≡ commit_by input (job_of joined) None (poll_of flushes self.old))) }
         ensures state { OnOk result (IfSome (record_with job (own_jobs self.old.state)) (λ joined.
             self.new.state ≡ finished_state joined (joined_run joined) self.old.state)) }
+        ensures lost { OnOk result (self.new.lost ≡ self.old.lost) }
         ensures memory { IsOkUnless result SlateDBError.Memory }
     {
         know_rising(self.state.compactions());

@@ -4,15 +4,18 @@
 
 mod adding;
 mod checked;
+mod committing;
 mod draining;
 mod failing;
 mod freeing;
 mod gated;
 mod joining;
+mod judging;
 mod moving;
 mod opening;
 mod poll;
 mod report;
+mod steps;
 
 pub use poll::Poll;
 pub use report::PollReport;

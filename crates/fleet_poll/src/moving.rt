@@ -1,6 +1,6 @@
 //! Jobs whose sources' tables are moved.
 
-ghost use Rattle.std.specs.Prelude.{◌≡◌, false, is_some, IfOk, IfSome, IsOkUnless, Some, true};
+ghost use Rattle.std.specs.Prelude.{◌≡◌, false, is_some, IfOk, IfSome, IsOkUnless, OnOk, Some, true};
 ghost use Rattle.std.specs.List.{AllByRecursion};
 ghost use Rattle.std.specs.Option.{ForSome};
 ghost use Rattle.fleet_model.specs.Jobs.{Compacted, has_status, is_drain};
@@ -48,6 +48,7 @@ impl Poll {
             → IfSome (record_with job (own_jobs self.old.state)) (λ moved.
             self.new.state ≡ finished_state moved
             (run_if_moved (Some moved) (own_core self.old.state)) self.old.state)) }
+        ensures lost { OnOk result (self.new.lost ≡ self.old.lost) }
         // If moves are allowed, the job is moved exactly if the model can move it.
         ensures can_move { (flushes : RunFlushes) (input : PollInput) → input.options.moves ≡ true
             → IfOk result (λ is_moved.

@@ -26,6 +26,7 @@ impl Poll {
             ≡ map (changed_record
             (opened (trees_of flushes self.old.state.manifest.manifest.core)) (job ∷ []))
             (own_jobs self.old.state)) }
+        ensures lost { OnOk result (self.new.lost ≡ self.old.lost) }
         ensures same { OnOk result (HasSameObjects self.old.state self.new.state) }
         ensures memory { IsOkUnless result SlateDBError.Memory }
     {

@@ -1,5 +1,7 @@
+use Rattle.std.proofs.Common.{◌∙◌}
 use Rattle.fleet_book.specs.States.{own_jobs}
 use Rattle.fleet_poll.proofs.Changed.{same_again}
+use Rattle.fleet_poll.proofs.Over.{kept_over}
 use Rattle.fleet_poll.proofs.Reached.{add_more, kept_more, new_more}
 use Rattle.fleet_poll.proofs.poll.Poll.add_drawn.Goals as goal
 
@@ -17,7 +19,13 @@ drawn-preserved c =
         same_again _ _ _ c.drawn.invariant.1.0 c.in_ok-add_proposal.ensures.same,
         (
           new_more drawn i d before after c.drawn-test.true c.index-drawn-place.is c.requires.once stay new,
-          λ id job found. kept_more drawn i d before after c.drawn-test.true c.index-drawn-place.is new stay id job (c.drawn.invariant.1.1.1 id job found),
+          (
+            λ id job found. kept_more drawn i d before after c.drawn-test.true c.index-drawn-place.is new stay id job (c.drawn.invariant.1.1.1.0 id job found),
+            (λ input s sees. c.in_ok-add_proposal.ensures.sees input s (c.drawn.invariant.1.1.1.1.0 input s sees), c.in_ok-add_proposal.ensures.lost ∙ c.drawn.invariant.1.1.1.1.1),
+          ),
         ),
       ),
     )
+
+pub returns-clause-lost : goal.returns-clause-lost
+returns-clause-lost c = kept_over c.args.self.now c.drawn.self c.drawn.invariant.1.1.1.0 c.drawn.invariant.1.1.1.1.1

@@ -7,6 +7,7 @@ use Rattle.fleet_jobs.specs.Specs.{spec_of}
 use Rattle.fleet_book.specs.Records.{record_with}
 use Rattle.fleet_book.specs.States.{is_taken, own_jobs}
 use Rattle.fleet_poll.specs.Polls.{HasSameObjects}
+use Rattle.fleet_poll.proofs.Carried.{added_sees}
 use Rattle.fleet_poll.proofs.Changed.{others_stay}
 use Rattle.fleet_poll.proofs.Reached.{must_be_taken, ok_anyway, on_ok, proposal_added, proposal_dropped, taken_is}
 use Rattle.fleet_poll.proofs.poll.Poll.add_proposal.Goals as goal
@@ -45,3 +46,6 @@ returns-in_ok-clone-in-Ok-clause-others c =
     let has_id = ap (λ job. job.id) c.new.ensures in
     ok_anyway c.push.result
     (λ other apart. ap (λ s. record_with other (own_jobs s)) c.in-Ok.ensures.ok ∙ others_stay c.new.result (own_jobs c.args.self.now.state) other (ap (λ id. id == other) has_id ∙ apart))
+
+pub returns-in_ok-clone-in-Ok-clause-sees : goal.returns-in_ok-clone-in-Ok-clause-sees
+returns-in_ok-clone-in-Ok-clause-sees c = ok_anyway c.push.result (added_sees c.args.self.now.state c.add_compaction.new.self c.new.result c.args.id _ c.new.ensures c.in-Ok.ensures.ok)

@@ -11,6 +11,8 @@ use Rattle.fleet_gates.specs.Rules.{number_of, numbered}
 use Rattle.fleet_poll.specs.Made.{flushes_opened, own_core}
 use Rattle.fleet_poll.specs.Polls.{poll_of}
 use Rattle.fleet_poll.proofs.Opened.{for_all_ok, refused_in}
+use Rattle.fleet_poll.proofs.Carried.{on_three}
+use Rattle.fleet_poll.proofs.Decided.{by_refusal}
 use Rattle.fleet_poll.proofs.poll.Poll.open.Goals as goal
 
 pub returns-in-Some-clause-poll : goal.returns-in-Some-clause-poll
@@ -32,3 +34,6 @@ returns-in-None-clause-poll c = λ flushes input rise same.
     subst (λ f. OnOk c.open_passed.result (IfSome found (λ made. AllByRecursion (EndsFit input.tables) (taken_tables made.spec (own_core poll.state))
     → poll_of (flushes_opened (numbered f) moves made (own_core poll.state) flushes) c.open_passed.new.self ≡ open_by input (job_of made) (numbered f) (poll_of flushes poll)))) (sym c.in-None.is)
     (c.open_passed.ensures.poll flushes input rise same)
+
+pub returns-in-Some-clause-decision : goal.returns-in-Some-clause-decision
+returns-in-Some-clause-decision c = on_three c.refuse.result (by_refusal c.args.job c.args.self.now c.refuse.new.self) c.refuse.ensures.same c.refuse.ensures.jobs c.refuse.ensures.lost

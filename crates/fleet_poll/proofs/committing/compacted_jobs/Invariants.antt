@@ -1,0 +1,8 @@
+use Rattle.std.proofs.Common.{◌≡◌, ◌++◌}
+use Rattle.std.specs.Prelude.{filter}
+use Rattle.fleet_jobs.specs.Jobs.{job_ids}
+use Rattle.fleet_poll.specs.Loops.{is_compacted}
+use Rattle.fleet_poll.proofs.committing.compacted_jobs.Given as goal
+
+abbrev pub invariant-jobs : goal.invariant-jobs
+invariant-jobs l = l.ids ++ job_ids (filter is_compacted l.job-iterator) ≡ job_ids (filter is_compacted l.records.compactions.jobs)

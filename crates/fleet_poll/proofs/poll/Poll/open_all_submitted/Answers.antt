@@ -1,0 +1,77 @@
+use Rattle.std.proofs.Common.{◌∙◌, [], ap, subst, sym}
+use Rattle.std.specs.Prelude.{filter}
+use Rattle.fleet_book.specs.Records.{AreRising}
+use Rattle.fleet_book.specs.States.{own_jobs}
+use Rattle.fleet_gates.specs.Held.{AreHeld}
+use Rattle.fleet_jobs.specs.Jobs.{job_ids, jobs_of}
+use Rattle.fleet_model.specs.Work.Polls.{lost_to_scheduler}
+use Rattle.fleet_poll.specs.Loops.{is_submitted}
+use Rattle.fleet_poll.proofs.Committed.{all_done, next_of}
+use Rattle.fleet_poll.proofs.Opens.{OpensOn, all_submitted, none_lost, opens_begin, opens_end, some_there, turned}
+use Rattle.fleet_poll.proofs.poll.Poll.open_all_submitted.Goals as goal
+
+pub jobs-init : goal.jobs-init
+jobs-init g c =
+    let s = (goal.CompactionScheduler-dyn g c.args.scheduler.now).answers c.args.scheduler.now.1 in
+    let initial = c.args.self.now in
+    let rising = subst (λ v. AreRising v.compactions.jobs) c.compactions.ensures c.know_rising.ensures in
+    opens_begin s c.args.options.now.enable_trivial_move initial c.in_ok-held.held rising c.requires.lost
+    (subst (λ lost. AreHeld c.in_ok-held.held (jobs_of (own_jobs initial.state)) (lost_to_scheduler lost)) c.as_slice.ensures c.in_ok-held.ensures)
+
+pub open_next-requires-clause-there : goal.open_next-requires-clause-there
+open_next-requires-clause-there g c =
+    let s = (goal.CompactionScheduler-dyn g c.args.scheduler.now).answers c.args.scheduler.now.1 in
+    let moves = c.args.options.now.enable_trivial_move in
+    let initial = c.args.self.now in
+    let jobs = filter is_submitted (own_jobs initial.state) in
+    let ids = c.as_slice-job-items.ensures ∙ c.in_ok-submitted.ensures.ids ∙ ap (λ v. job_ids (filter is_submitted v.compactions.jobs)) c.compactions-2.ensures in
+    let n = next_of jobs c.as_slice-job-items.result.now c.jobs.job-index c.job-item.result ids c.jobs-test.true c.job-item.is in
+    let on = subst (λ left. OpensOn s moves initial left c.jobs.self c.jobs.held) n.here c.jobs.invariant in
+    some_there s moves initial c.jobs.self n.first n.rest c.jobs.held c.job-item.result on n.named
+
+pub open_next-requires-clause-submitted : goal.open_next-requires-clause-submitted
+open_next-requires-clause-submitted g c =
+    let s = (goal.CompactionScheduler-dyn g c.args.scheduler.now).answers c.args.scheduler.now.1 in
+    let moves = c.args.options.now.enable_trivial_move in
+    let initial = c.args.self.now in
+    let jobs = filter is_submitted (own_jobs initial.state) in
+    let ids = c.as_slice-job-items.ensures ∙ c.in_ok-submitted.ensures.ids ∙ ap (λ v. job_ids (filter is_submitted v.compactions.jobs)) c.compactions-2.ensures in
+    let n = next_of jobs c.as_slice-job-items.result.now c.jobs.job-index c.job-item.result ids c.jobs-test.true c.job-item.is in
+    let on = subst (λ left. OpensOn s moves initial left c.jobs.self c.jobs.held) n.here c.jobs.invariant in
+    all_submitted s moves initial c.jobs.self n.first n.rest c.jobs.held c.job-item.result on n.named
+
+pub open_next-requires-clause-lost : goal.open_next-requires-clause-lost
+open_next-requires-clause-lost g c =
+    let s = (goal.CompactionScheduler-dyn g c.args.scheduler.now).answers c.args.scheduler.now.1 in
+    let moves = c.args.options.now.enable_trivial_move in
+    let initial = c.args.self.now in
+    let jobs = filter is_submitted (own_jobs initial.state) in
+    let ids = c.as_slice-job-items.ensures ∙ c.in_ok-submitted.ensures.ids ∙ ap (λ v. job_ids (filter is_submitted v.compactions.jobs)) c.compactions-2.ensures in
+    let n = next_of jobs c.as_slice-job-items.result.now c.jobs.job-index c.job-item.result ids c.jobs-test.true c.job-item.is in
+    let on = subst (λ left. OpensOn s moves initial left c.jobs.self c.jobs.held) n.here c.jobs.invariant in
+    none_lost s moves initial c.jobs.self n.first n.rest c.jobs.held c.job-item.result on n.named
+
+pub open_next-requires-clause-held : goal.open_next-requires-clause-held
+open_next-requires-clause-held g c = c.jobs.invariant.held_are
+
+pub jobs-preserved : goal.jobs-preserved
+jobs-preserved g c =
+    let s = (goal.CompactionScheduler-dyn g c.args.scheduler.now).answers c.args.scheduler.now.1 in
+    let moves = c.args.options.now.enable_trivial_move in
+    let initial = c.args.self.now in
+    let jobs = filter is_submitted (own_jobs initial.state) in
+    let ids = c.as_slice-job-items.ensures ∙ c.in_ok-submitted.ensures.ids ∙ ap (λ v. job_ids (filter is_submitted v.compactions.jobs)) c.compactions-2.ensures in
+    let n = next_of jobs c.as_slice-job-items.result.now c.jobs.job-index c.job-item.result ids c.jobs-test.true c.job-item.is in
+    let on = subst (λ left. OpensOn s moves initial left c.jobs.self c.jobs.held) n.here c.jobs.invariant in
+    subst (λ left. OpensOn s moves initial left c.open_next.new.self c.open_next.new.held) (sym n.later)
+    (turned s moves initial c.jobs.self n.first n.rest c.jobs.held c.job-item.result on n.named c.open_next.new.self c.open_next.new.held c.in_ok-open_next.ensures.decision c.in_ok-open_next.ensures.held c.in_ok-open_next.ensures.poll)
+
+pub returns-clause-poll : goal.returns-clause-poll
+returns-clause-poll g c = λ flushes input sees same.
+    let s = (goal.CompactionScheduler-dyn g c.args.scheduler.now).answers c.args.scheduler.now.1 in
+    let moves = c.args.options.now.enable_trivial_move in
+    let initial = c.args.self.now in
+    let jobs = filter is_submitted (own_jobs initial.state) in
+    let ids = c.as_slice-job-items.ensures ∙ c.in_ok-submitted.ensures.ids ∙ ap (λ v. job_ids (filter is_submitted v.compactions.jobs)) c.compactions-2.ensures in
+    let on = subst (λ left. OpensOn s moves initial left c.jobs.self c.jobs.held) (all_done jobs c.as_slice-job-items.result.now c.jobs.job-index ids c.jobs-test.false) c.jobs.invariant in
+    opens_end s moves initial c.jobs.self c.jobs.held flushes input on sees same
