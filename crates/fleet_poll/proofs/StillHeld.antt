@@ -136,7 +136,7 @@ module _ (id : ℕ) (old new : List JobParts) (lost : List ℕ) (nodes : List No
       let there = changed_found (to_scheduled tables_of) id old new job (λ j. refl) found is in
       let same : job.id ≡ id = found_has_id id old job found in
       let all = subst (λ n. AreHeld (nodes ++ nodes_of (job_of job).spec) (changed_jobs (to_scheduled tables_of) (n ∷ []) (jobs_of old)) lost) same
-          (opened_jobs_hold_their_nodes tables_of nodes (jobs_of old) lost (job_of job) held (is_among id old job rising found)) in
+      (opened_jobs_hold_their_nodes tables_of nodes (jobs_of old) lost (job_of job) held (is_among id old job rising found)) in
       subst (λ f. AreHeld (nodes ++ nodes_held f) (jobs_of new) lost) (sym there) (subst (λ js. AreHeld (nodes ++ nodes_of (job_of job).spec) js lost) (sym is) all)
 
 -- ---- the nodes that are held at first

@@ -135,11 +135,7 @@ fn reserved_nodes(alloc: Global, records: &VersionedCompactions) -> Result<NodeS
 }
 
 // Adds the nodes of a job whose commit failed, if it failed by rule 0.
-fn add_lost(
-    held: &mut NodeSet,
-    state: &CompactorState,
-    lost: (Ulid, u8),
-) -> Result<(), AllocError>
+fn add_lost(held: &mut NodeSet, state: &CompactorState, lost: (Ulid, u8)) -> Result<(), AllocError>
     ensures { OnOk result (held.new ≡ held.old
         ++ nodes_lost lost.1 (option_map job_of (record_with lost.0 (own_jobs state.now)))) }
 {
