@@ -1,0 +1,89 @@
+//! Whether a poll changed the manifest.
+
+ghost use Rattle.std.specs.Prelude.{◌≡◌, ◌==◌, Bool};
+ghost use Rattle.std.specs.Cmp.Lexicographic.{pointwise};
+ghost use Rattle.fleet_change.specs.Same.{same_flush, same_manifest, same_nodes, same_run, same_table, same_tree};
+
+use bytes::Bytes;
+use fleet_tree::{LsmTreeState, ManifestCore, SortedRun, SsTableView};
+
+// What is compared by names and tables.
+trait Same {
+    ghost same: { Self → Self → Bool };
+
+    fn is_same(&self, other: &Self) -> bool
+        ensures { result ≡ same self.now other.now };
+}
+
+impl Same for SsTableView {
+    ghost same = { same_flush };
+
+    fn is_same(&self, other: &SsTableView) -> bool {
+        self.id == other.id && self.sst.id == other.sst.id
+    }
+}
+
+impl Same for SortedRun {
+    ghost same = { same_run };
+
+    fn is_same(&self, other: &SortedRun) -> bool {
+        self.id == other.id && have_same_tables(self.sst_views(), other.sst_views())
+    }
+}
+
+impl Same for (Bytes, LsmTreeState) {
+    ghost same = { same_tree };
+
+    fn is_same(&self, other: &(Bytes, LsmTreeState)) -> bool {
+        have_same_nodes(&self.1, &other.1)
+    }
+}
+
+// There are as many things on both sides, and they are the same in their order.
+fn are_same<T: Same>(these: &[T], others: &[T]) -> bool
+    ensures { result ≡ pointwise T.same these.now others.now }
+{
+    if these.len() != others.len() {
+        return false;
+    }
+    'places: for place in 0..these.len() {
+        if !these[place].is_same(&others[place]) {
+            return false;
+        }
+    }
+    true
+}
+
+// The tables are the same in their order.
+fn have_same_tables(these: &[SsTableView], others: &[SsTableView]) -> bool
+    ensures { result ≡ pointwise same_table these.now others.now }
+{
+    if these.len() != others.len() {
+        return false;
+    }
+    'places: for place in 0..these.len() {
+        let (this, other) = (&these[place], &others[place]);
+        if this.sst.id != other.sst.id {
+            return false;
+        }
+    }
+    true
+}
+
+// The trees have the same nodes in the same order.
+fn have_same_nodes(tree: &LsmTreeState, other: &LsmTreeState) -> bool
+    ensures { result ≡ same_nodes tree.now other.now }
+{
+    are_same(tree.l0.as_slice(), other.l0.as_slice())
+        && are_same(tree.compacted.as_slice(), other.compacted.as_slice())
+}
+
+/// Whether both have the same nodes in the same order, tree by tree, and the same horizon. Nodes
+/// are compared by name and tables.
+pub fn is_unchanged(got: &ManifestCore, now: &ManifestCore) -> bool
+    ensures { result ≡ same_manifest got.now now.now }
+{
+    have_same_nodes(&got.tree, &now.tree)
+        && are_same(got.segments.as_slice(), now.segments.as_slice())
+        && got.horizon == now.horizon
+}
