@@ -51,3 +51,4 @@ pub mod BeatLines
 pub mod AttemptLines
 pub mod UnnamedTables
 pub mod AttemptRuns
+pub mod CausedLines

@@ -329,15 +329,15 @@ sweep_replies number s answer new is =
 
 -- ---- all lines
 
-said_jobs : (o : Option Records) → is_ok (if_some o absent_reply (λ records. jobs_reply records.jobs)) ≡ true
+pub said_jobs : (o : Option Records) → is_ok (if_some o absent_reply (λ records. jobs_reply records.jobs)) ≡ true
 said_jobs None = refl
 said_jobs (Some records) = refl
 
-said_tables : (tables : Tables) (o : Option Node) → is_ok (tables_reply tables o) ≡ true
+pub said_tables : (tables : Tables) (o : Option Node) → is_ok (tables_reply tables o) ≡ true
 said_tables tables None = refl
 said_tables tables (Some node) = refl
 
-said_rows : (tables : Tables) (o : Option Node) → is_ok (dump_reply tables o) ≡ true
+pub said_rows : (tables : Tables) (o : Option Node) → is_ok (dump_reply tables o) ≡ true
 said_rows tables None = refl
 said_rows tables (Some node) = refl
 

@@ -215,7 +215,7 @@ output_so line party merge tables ask store = gets_so line party (gets_tables (f
 
 -- ---- finishes
 
-put_itself : (old left : Store) → IsLike old left → HasPutTables old left
+pub put_itself : (old left : Store) → IsLike old left → HasPutTables old left
 put_itself old left like = record { same = ap (λ (s : Store). record s { tables = left.tables; tables_drawn = left.tables_drawn; history = left.history }) like; made = []; beside = ap (λ (s : Store). s.tables) like ∙ sym (append-nil old.tables) }
 
 put_more : (line : ℕ) (party : Party) (moment table : ℕ) (rows : List Row) (old store : Store) → HasPutTables old store → HasPutTables old (after_answered line party (PutsTable table rows) (after_answered line party (DrawsTable moment) store))
@@ -234,7 +234,7 @@ tables_so line party moment (rows ∷ tables) next old store P put so =
     let table = next_table_id moment store in
     tables_so line party moment tables (λ ids. next (table ∷ ids)) old (after_answered line party (PutsTable table rows) (after_answered line party (DrawsTable moment) store)) P (put_more line party moment table rows old store put) (λ ids left here. so (table ∷ ids) left here)
 
-ranges_so : {A : Type 0} (line : ℕ) (party : Party) (moment : ℕ) (ranges : List (List (List Row))) (next : List (List ℕ) → Course A) (old store : Store) (P : A → Store → Type 0) → HasPutTables old store
+pub ranges_so : {A : Type 0} (line : ℕ) (party : Party) (moment : ℕ) (ranges : List (List (List Row))) (next : List (List ℕ) → Course A) (old store : Store) (P : A → Store → Type 0) → HasPutTables old store
     → ((ids : List (List ℕ)) (left : Store) → HasPutTables old left → EndsSo line party (next ids) left P) → EndsSo line party (puts_ranges moment ranges next) store P
 ranges_so line party moment [] next old store P put so = so [] store put
 ranges_so line party moment (tables ∷ ranges) next old store P put so =
@@ -242,7 +242,7 @@ ranges_so line party moment (tables ∷ ranges) next old store P put so =
     (λ ids left here. ranges_so line party moment ranges (λ others. next (ids ∷ others)) old left P here (λ others last there. so (ids ∷ others) last there))
 
 -- A get leaves what was put.
-put_got : (line : ℕ) (party : Party) (event : Event) (old store : Store) → HasPutTables old store → HasPutTables old (after_answered line party (Plain event) store)
+pub put_got : (line : ℕ) (party : Party) (event : Event) (old store : Store) → HasPutTables old store → HasPutTables old (after_answered line party (Plain event) store)
 put_got line party event old store h = record { same = ap (λ (s : Store). record s { history = (after_answered line party (Plain event) store).history }) h.same; made = h.made; beside = h.beside }
 
 -- The end of a job reports, or the attempt is not live.
@@ -321,7 +321,7 @@ drawn_so : (line : ℕ) (party : Party) (moment : ℕ) (got : Records) (drawn : 
 drawn_so line party moment got [] again store P stored so = so [] store
 drawn_so line party moment got (p ∷ specs) again store P stored so = put_so line party got _ got.epoch _ _ again store P stored (so _ _)
 
-specs_so : (line : ℕ) (party : Party) (moment : ℕ) (got : Records) (specs : List JobSpec) (again : ℕ → Course (StepEnd (List ℕ))) (store : Store) (P : StepEnd (List ℕ) → Store → Type 0) → store.records ≡ Some got → ((ids : List ℕ) (left : Store) → P (Reports ids) left)
+pub specs_so : (line : ℕ) (party : Party) (moment : ℕ) (got : Records) (specs : List JobSpec) (again : ℕ → Course (StepEnd (List ℕ))) (store : Store) (P : StepEnd (List ℕ) → Store → Type 0) → store.records ≡ Some got → ((ids : List ℕ) (left : Store) → P (Reports ids) left)
     → EndsSo line party (submits_specs moment got specs again) store P
 specs_so line party moment got specs again store P stored so =
     draws_so line party moment specs (λ drawn. submits_drawn moment got drawn again) (Some got) store P stored (λ drawn left here. drawn_so line party moment got drawn again left P here so)

@@ -14,3 +14,4 @@ pub mod CommittedTables
 pub mod BeatLines
 pub mod AttemptLines
 pub mod UnnamedTables
+pub mod Causes

@@ -7,6 +7,7 @@ ghost use Rattle.line_laws.specs.Alone.{AloneRuns};
 ghost use Rattle.line_laws.specs.AttemptRuns.{AttemptsStayOne};
 ghost use Rattle.line_laws.specs.Lines.AttemptLines.{AttemptsGoOn};
 ghost use Rattle.line_laws.specs.Lines.BeatLines.{BeatsPublish, StopsRelease};
+ghost use Rattle.line_laws.specs.Lines.Causes.{CausesDecide};
 ghost use Rattle.line_laws.specs.Lines.ClaimLines.{ClaimsTake};
 ghost use Rattle.line_laws.specs.Lines.ClaimSettings.{ClaimsGiveSettings};
 ghost use Rattle.line_laws.specs.Lines.CommittedTables.{
@@ -75,6 +76,14 @@ pub fn lines_go()
 /// No line replies that its puts were refused, since nobody else calls the store during a line.
 pub fn none_conflicts()
     ensures { NoneConflicts }
+{}
+
+/// A line is refused exactly if a cause of its kind holds, with the refusal of the first one: a fault
+/// strikes one of its calls, its party is missing, or its step is refused by what the state stores or
+/// by the operator. Else it replies as a line that is served. A settle line is refused exactly if
+/// one of its parties is missing or its last step is refused, and then replies as that step does.
+pub fn causes_decide()
+    ensures { CausesDecide }
 {}
 
 /// A refused line leaves manifest, records, tables, names and parties as they were, but for four
