@@ -34,6 +34,7 @@ pub mod LiveCoordinators
 pub mod StartCalls
 pub mod CoordinatorLines
 pub mod CoordinatorRuns
+pub mod FoundRefusals
 pub mod Goes
 pub mod Outputs
 pub mod WorkedRun

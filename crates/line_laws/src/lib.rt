@@ -66,9 +66,9 @@ pub fn lines_run_courses()
     ensures { LinesRunCourses }
 {}
 
-/// Each line has a reply and a state that it leaves, unless the operator refuses a fold that the
-/// line needs. So a fleet that runs lines is never stuck at one. Nothing says yet what a together
-/// line does.
+/// Each line has a reply and a state that it leaves, also if the operator refuses a fold that it
+/// needs. So a fleet that runs lines is never stuck at one. Nothing says yet what a together line
+/// does.
 pub fn lines_go()
     ensures { LinesGo }
 {}
