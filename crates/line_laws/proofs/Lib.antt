@@ -53,3 +53,4 @@ pub mod AttemptLines
 pub mod UnnamedTables
 pub mod AttemptRuns
 pub mod CausedLines
+pub mod Counts

@@ -28,6 +28,8 @@ use Rattle.line_laws.proofs.Courses.{AllCalls, all_calls, runs_hold}
 use Rattle.line_laws.specs.Undrained.{FlushesCount}
 use Rattle.line_laws.proofs.FinishedJobs.{finished_holds}
 use Rattle.line_laws.proofs.Undrained.{flushes_hold}
+use Rattle.line_laws.specs.Counts.{JobsCount}
+use Rattle.line_laws.proofs.Counts.{counts_hold}
 use Rattle.line_laws.proofs.Parties.{others}
 use Rattle.line_laws.proofs.Others.{worker_holds, spared_worker_holds, coordinator_holds}
 
@@ -46,6 +48,7 @@ pub record Left (who : Caller) (parties : Parties) (new : World) : Type 0 where
   pub store : Keeps who.merge new
   pub finished : FinishedAreStored new.store
   pub flushes : FlushesCount new
+  pub counts : JobsCount new.store
   pub workers : (w : LiveWorker) → IsIn w parties.workers → IsOther who.party w → WorkerHolds who.merge new w
   pub coordinators : (c : LiveCoordinator) → IsIn c parties.coordinators → CoordinatorHolds new c None
 
@@ -63,6 +66,7 @@ leaves {A} who course parties old new end merge_lawful alone fleet lawful spares
       store = runs_keep who course keep old new end fleet.store lawful run;
       finished = runs_hold who (λ x. ⊤) (λ world. FinishedAreStored world.store) course alone keep (finished_holds who) (all_calls (λ x. ⊤) (λ x. tt) course) old new end fleet.store lawful run fleet.finished;
       flushes = runs_hold who (λ x. ⊤) FlushesCount course alone keep (flushes_hold who merge_lawful keep) (all_calls (λ x. ⊤) (λ x. tt) course) old new end fleet.store lawful run fleet.flushes;
+      counts = runs_hold who (λ x. ⊤) (λ world. JobsCount world.store) course alone keep (counts_hold who) (all_calls (λ x. ⊤) (λ x. tt) course) old new end fleet.store lawful run fleet.counts;
       workers = λ w there other. worker w there other who.party refl spares;
       coordinators = λ c there. runs_hold who (λ x. ⊤) (λ world. CoordinatorHolds world c None) course alone keep (coordinator_holds who c) (all_calls (λ x. ⊤) (λ x. tt) course) old new end fleet.store lawful run
           (all_at (λ c. CoordinatorHolds old c None) parties.coordinators c fleet.coordinators there);
@@ -124,6 +128,7 @@ all_stay merge number party old new parties other fleet left none = record {
   none_pending = none;
   finished = left.finished;
   flushes = left.flushes;
+  counts = left.counts;
 }
 
 -- The caller was a worker that is no longer live.
@@ -137,6 +142,7 @@ worker_gone merge number n old new parties fleet left none = record {
   none_pending = none;
   finished = left.finished;
   flushes = left.flushes;
+  counts = left.counts;
 }
   where
     number_of_worker : (n m : ℕ) → Worker n ≡ Worker m → n ≡ m
@@ -156,6 +162,7 @@ worker_stays merge number old new parties w fleet left none holds =
       none_pending = none;
       finished = left.finished;
       flushes = left.flushes;
+      counts = left.counts;
     }
 
 -- The caller was a coordinator that is no longer live.
@@ -170,6 +177,7 @@ coordinator_gone merge number n old new parties fleet left none = record {
   none_pending = none;
   finished = left.finished;
   flushes = left.flushes;
+  counts = left.counts;
 }
 
 -- The caller is a coordinator that is live and fits.
@@ -186,4 +194,5 @@ coordinator_comes merge number old new parties c fleet left none holds =
       none_pending = none;
       finished = left.finished;
       flushes = left.flushes;
+      counts = left.counts;
     }

@@ -232,7 +232,7 @@ fresh_flushes prefix = by (bytes_eq prefix [])
 pub fresh_state_keeps : (merge : Operator) (options : FleetOptions) → StateKeeps merge (fresh_state options)
 fresh_state_keeps merge options = record {
   past = fresh_world.past;
-  fleet = record { store = fresh_keeps merge; workers = tt; coordinators = tt; workers_differ = tt; coordinators_differ = tt; none_pending = λ table. refl; finished = λ id. refl; flushes = λ specs faithful prefix. fresh_flushes prefix };
+  fleet = record { store = fresh_keeps merge; workers = tt; coordinators = tt; workers_differ = tt; coordinators_differ = tt; none_pending = λ table. refl; finished = λ id. refl; flushes = λ specs faithful prefix. fresh_flushes prefix; counts = record { finished_once = tt; committed_once = tt; each = tt } };
 }
 
 pub scripts_keep : ScriptsKeep

@@ -10,3 +10,5 @@ pub mod Live
 pub mod Goes
 pub mod WorkedRun
 pub mod AttemptRuns
+pub mod Counts
+pub mod CountsOnce

@@ -13,6 +13,7 @@ use Rattle.step_model.specs.Kept.Keeps.{Keeps}
 use Rattle.step_model.specs.Fits.{WorkerHolds, CoordinatorHolds}
 use Rattle.script_model.specs.States.{State}
 use Rattle.line_laws.specs.Undrained.{FlushesCount}
+use Rattle.line_laws.specs.Counts.{JobsCount}
 
 -- The job has this id, and waits for its commit.
 abbrev pub awaits_commit : ℕ → Job → Bool
@@ -25,7 +26,8 @@ FinishedAreStored store = (id : ℕ) → is_finished_by store.history id ≡ lis
 -- The store keeps what lawful calls keep. Each live party fits it, and no two parties of a kind have
 -- the same number. A coordinator holds no local state between lines, since a poll in a script takes the
 -- objects that it gets. No flush is about to bring a table to a tree. The finished jobs of the history are
--- those that wait for their commit, and the flushes that the trees name are those that the history counts.
+-- those that wait for their commit, the flushes that the trees name are those that the history counts, and no job was
+-- finished or committed twice.
 pub record FleetKeeps (merge : Operator) (world : World) (parties : Parties) : Type 0 where
   pub store : Keeps merge world
   pub workers : AllByRecursion (WorkerHolds merge world) parties.workers
@@ -35,6 +37,7 @@ pub record FleetKeeps (merge : Operator) (world : World) (parties : Parties) : T
   pub none_pending : (table : ℕ) → is_pending world.store.history table ≡ false
   pub finished : FinishedAreStored world.store
   pub flushes : FlushesCount world
+  pub counts : JobsCount world.store
 
 -- The state keeps all of it with some past. The state itself has no past, because a history keeps no
 -- manifests.

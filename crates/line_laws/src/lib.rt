@@ -19,6 +19,7 @@ ghost use Rattle.line_laws.specs.Lines.Conflicts.{NoneConflicts};
 ghost use Rattle.line_laws.specs.Faults.{FaultsCut};
 ghost use Rattle.line_laws.specs.Lines.FinishLines.{FinishesEnd};
 ghost use Rattle.line_laws.specs.Lines.FinishedJobs.{FinishedJobsWait};
+ghost use Rattle.line_laws.specs.CountsOnce.{JobsCountOnce};
 ghost use Rattle.line_laws.specs.Goes.{LinesGo};
 ghost use Rattle.line_laws.specs.Live.{LiveCoordinators, LiveWorkers};
 ghost use Rattle.line_laws.specs.Lines.Outputs.{OutputsAreWhole};
@@ -157,6 +158,14 @@ pub fn polls_call()
 /// ids.
 pub fn finished_jobs_wait()
     ensures { FinishedJobsWait }
+{}
+
+/// In each state that keeps the invariant, and so after each line and each step of a settle line, no
+/// attempt was claimed twice, no job was finished twice, and no finished job was completed twice. So
+/// the claims and commits that a history counts are distinct, and with `histories_count` of
+/// `course_laws` they add up over any cut of it.
+pub fn jobs_count_once()
+    ensures { JobsCountOnce }
 {}
 
 /// A claim that is not refused, be it a line of its own or a step of a settle line, takes and stops
