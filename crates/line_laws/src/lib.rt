@@ -241,7 +241,8 @@ pub fn named_tables_are_committed()
     ensures { NamedTablesAreCommitted }
 {}
 
-/// A worked run, in which a settle line commits a job. So the premises of these laws can be met.
+/// A worked run with a kill, a fault, takeovers of a job and of a coordinator, a settle line that
+/// commits the job, a move, a drain and a sweep. So the premises of these laws can be met.
 pub fn a_worked_run()
     ensures { WorkedRuns }
 {}
