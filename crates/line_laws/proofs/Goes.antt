@@ -16,7 +16,7 @@ use Rattle.script_model.specs.LineSteps.{MayRefuse, OneCourse}
 use Rattle.script_model.specs.Lines.Settles.{is_ok, are_live, jobs_run, has_active, has_added, settled_reply, all_taken}
 use Rattle.script_model.proofs.Rounds.{settle_folds, EndsOr, Step, FinishesInTurn, AfterPoll, Rounds}
 use Rattle.script_model.specs.Follows.{SettleStep}
-use Rattle.line_laws.specs.Goes.{LinesGo}
+use Rattle.line_laws.specs.Goes.{LinesGo, ScriptsGo}
 use Rattle.line_laws.proofs.FoundRefusals.{range_refused}
 
 -- There is a reply and a state with this property.
@@ -150,6 +150,14 @@ settle_goes false inputs number old coordinator worker rounds = once inputs numb
 -- ---- all lines
 
 pub lines_go : LinesGo
-lines_go inputs number old (Settle coordinator worker rounds) = let g = settle_goes (are_live coordinator worker old) inputs number old coordinator worker rounds in record { answer = g.answer; new = g.new; step = g.has }
-lines_go inputs number old (Together workers turns) = tt
-lines_go inputs number old line = let g = once inputs number old line in record { answer = g.answer; new = g.new; step = g.has }
+lines_go inputs number old (Settle coordinator worker rounds) e =
+    let g = settle_goes (are_live coordinator worker old) inputs number old coordinator worker rounds in record { answer = g.answer; new = g.new; step = g.has }
+lines_go inputs number old (Together workers turns) e = absurd (cc e)
+lines_go inputs number old line e = let g = once inputs number old line in record { answer = g.answer; new = g.new; step = g.has }
+
+pub scripts_go : ScriptsGo
+scripts_go inputs number old [] each = record { answers = []; new = old; run = refl }
+scripts_go inputs number old (line ∷ lines) each =
+    let first = lines_go inputs number old line each.0 in
+    let rest = scripts_go inputs (number + 1) first.new lines each.1 in
+    record { answers = first.answer ∷ rest.answers; new = rest.new; run = (first.new, first.step, rest.run) }

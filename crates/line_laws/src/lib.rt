@@ -20,7 +20,7 @@ ghost use Rattle.line_laws.specs.Faults.{FaultsCut};
 ghost use Rattle.line_laws.specs.Lines.FinishLines.{FinishesEnd};
 ghost use Rattle.line_laws.specs.Lines.FinishedJobs.{FinishedJobsWait};
 ghost use Rattle.line_laws.specs.CountsOnce.{JobsCountOnce};
-ghost use Rattle.line_laws.specs.Goes.{LinesGo};
+ghost use Rattle.line_laws.specs.Goes.{LinesGo, ScriptsGo};
 ghost use Rattle.line_laws.specs.Live.{LiveCoordinators, LiveWorkers};
 ghost use Rattle.line_laws.specs.Lines.Outputs.{OutputsAreWhole};
 ghost use Rattle.line_laws.specs.Lines.PollCalls.{PollsCall};
@@ -72,6 +72,12 @@ pub fn lines_run_courses()
 /// does.
 pub fn lines_go()
     ensures { LinesGo }
+{}
+
+/// Lines one after the other have replies and a state that they leave, if none is a together line.
+/// So each such script has a run.
+pub fn scripts_go()
+    ensures { ScriptsGo }
 {}
 
 /// No line replies that its puts were refused, since nobody else calls the store during a line.
