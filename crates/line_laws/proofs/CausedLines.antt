@@ -138,6 +138,7 @@ abbrev flush_end : Option FlushFault → StepEnd ⊤
 flush_end None = Reports tt
 flush_end (Some fault) = BadFlush fault
 
+-- A flush ends with its first fault, or it reports.
 flush_made : (line : ℕ) (party : Party) (moment retention : ℕ) (ask : FlushAsk) (store : Store) → answer_made line party (flush moment retention (last_name store.history) ask) store ≡ flush_end (fault_of_flush ask store)
 unfolding flush
 flush_made line party moment retention ask store = before (fault_before_get (last_name store.history) ask)
@@ -173,6 +174,7 @@ flush_by : (o : Option FlushFault) → EndsBy (λ done. ok) (option_map bad_flus
 flush_by None = tt
 flush_by (Some fault) = refl
 
+-- A submission is refused exactly if there are no records.
 submit_by_records : (line : ℕ) (party : Party) (moment : ℕ) (specs : List JobSpec) (spell : List ℕ → List ℕ) (store : Store) → EndsBy spell (unless_records store.records) (answer_made line party (submit moment specs) store)
 unfolding submit
 submit_by_records line party moment specs spell store = by store.records refl
@@ -184,6 +186,7 @@ submit_by_records line party moment specs spell store = by store.records refl
     by None e = refl
     by (Some got) e = always line party (submit_by moment specs (Some got) again) spell (after_answered line party (Plain GetRecords) store) (specs_so line party moment got specs again (after_answered line party (Plain GetRecords) store) Reported e (λ ids left. tt))
 
+-- A request is refused exactly if there are no records, or as the scheduler refuses it.
 request_by_scheduler : (line : ℕ) (party : Party) (moment : ℕ) (asked : Scheduler) (request : Request) (spell : List ℕ → List ℕ) (store : Store) → EndsBy spell (request_refusal asked request store) (answer_made line party (submit_request moment asked request) store)
 unfolding submit_request
 request_by_scheduler line party moment asked request spell store = by store.records refl
@@ -207,6 +210,7 @@ request_by_scheduler line party moment asked request spell store = by store.reco
     by None e = refl
     by (Some got) e = of got e (asked.generate (shown_view store.tables store.manifest got got.jobs) request)
 
+-- A poll is refused exactly if a stored epoch is above its own.
 poll_by_epochs : (line : ℕ) (party : Party) (ask : PollAsk) (spell : PollState → List ℕ) (store : Store) → EndsBy spell (fence_of ask.epoch store) (answer_made line party (poll ask) store)
 poll_by_epochs line party ask spell store = subst (EndsBy spell (fence_of ask.epoch store)) (sym (poll_made line party ask store).answer_is) (by (nat_lt ask.epoch store.manifest.epoch) (nat_lt ask.epoch (records_or_none store.records).epoch))
   where
@@ -260,6 +264,7 @@ end_by line party moment w a outputs spell old store put = by store.records refl
     by None e = subst (λ (b : Bool). EndsBy spell (end_refusal None b) NotOwner) (sym (is_old None e)) refl
     by (Some got) e = of got e (is_live got.jobs w.number a) (is_old (Some got) e)
 
+-- A finish is refused exactly if the operator gives a message, or else if its attempt is not live.
 finish_by : (line : ℕ) (party : Party) (merge : Operator) (tables : Tables) (ask : FinishAsk) (spell : FinishedJob → List ℕ) (store : Store) → EndsBy spell (end_refusal ask.refusal (is_live (stored_jobs store) ask.worker.number ask.attempt)) (answer_made line party (finish merge tables ask) store)
 unfolding finish
 finish_by line party merge tables ask spell store = (so_made line party course store P (gets_so line party (gets_tables ask.attempt.sources) _ store store P refl (λ left like. by ask.refusal left (put_itself store left like)))).1
@@ -296,6 +301,7 @@ of_worker number line s o step spell reported okay so =
     of_party number line s o (λ w. worker_line w s (step w) spell reported w.attempts)
     (λ w. step_replies number line s (Worker w.number) (step w) (λ end. []) spell (λ report. running w s (reported report)) (running w s w.attempts) (without_worker w.number s.parties) None okay (always number (Worker w.number) (step w) spell s.store (so w)))
 
+-- The line of a poll.
 of_poll : (inputs : Inputs) (number : ℕ) (line : Line) (commits_only : Bool) (spell : PollState → List ℕ) (n : ℕ) (s : State) (o : Option LiveCoordinator) → ((report : PollState) → is_served line (spell report) ≡ true)
     → let gone = without_coordinator n s.parties in
     RepliesBy line (if_some o (Some no_party) (λ c. fence_of c.epoch s.store)) (reply_of number s (if_some o (no_such_party s) (λ c. step_line (Coordinator n) (poll (poll_ask inputs s c commits_only)) (line_end spell (λ reached. s.parties) gone) gone)))
@@ -304,6 +310,7 @@ of_poll inputs number line commits_only spell n s (Some c) okay =
     step_replies number line s (Coordinator n) (poll (poll_ask inputs s c commits_only)) (λ end. []) spell (λ reached. s.parties) (without_coordinator n s.parties) (without_coordinator n s.parties) (fence_of c.epoch s.store) okay
     (poll_by_epochs number (Coordinator n) (poll_ask inputs s c commits_only) spell s.store)
 
+-- The line of an output.
 of_output : (inputs : Inputs) (number n job place rows : ℕ) (message : Option (List ℕ)) (s : State) (o : Option (LiveWorker × Attempt × (Range × List ℕ)))
     → RepliesBy (Output n job place rows) (if_some o (Some no_party) (λ found. end_refusal message true)) (reply_of number s (if_some o (no_such_party s) (λ found. output_line inputs s (output_asked s place rows message found))))
 of_output inputs number n job place rows message s None = refl
@@ -321,6 +328,7 @@ of_output inputs number n job place rows message s (Some q) =
     said : (report : Written) → is_ok (spell report) ≡ true
     said report = by report.table
 
+-- The line of a finish.
 of_finish : (inputs : Inputs) (number n job : ℕ) (message : Option (List ℕ)) (s : State) (o : Option (LiveWorker × Attempt))
     → RepliesBy (FinishJob n job) (if_some o (Some no_party) (λ found. end_refusal message (is_live (stored_jobs s.store) found.0.number found.1))) (reply_of number s (if_some o (no_such_party s) (λ found. finish_line inputs s (finish_asked s message found))))
 of_finish inputs number n job message s None = refl
@@ -329,6 +337,7 @@ of_finish inputs number n job message s (Some p) =
     (without_worker p.0.number s.parties) (end_refusal message (is_live (stored_jobs s.store) p.0.number p.1)) (λ report. refl)
     (finish_by number (Worker p.0.number) inputs.merge s.store.tables (finish_asked s message p) (λ r. reply (codes "ok" ∷ ranges_text r.outputs ∷ [])) s.store)
 
+-- A line that submits.
 of_submit : (number : ℕ) (line : Line) (s : State) (step : Course (StepEnd (List ℕ))) (word : List ℕ) (refusal : Option (List ℕ)) → let spell = λ (jobs : List ℕ). reply (codes "ok" ∷ word ∷ jobs_text jobs ∷ []) in
     ((jobs : List ℕ) → is_served line (spell jobs) ≡ true) → EndsBy spell refusal (answer_made number Submitter step s.store)
     → RepliesBy line refusal (reply_of number s (step_line Submitter step (line_end spell (λ jobs. s.parties) s.parties) s.parties))
@@ -408,6 +417,7 @@ with_fault : (line : Line) (struck : Bool) (refusal : Option (List ℕ)) (made a
 with_fault line true refusal made answer is so = is
 with_fault line false refusal made answer is so = subst (λ (text : List ℕ). RepliesBy line refusal text) (sym is) so
 
+-- Each course of a line replies with its refusal, if there is one.
 pub one_by : (inputs : Inputs) (number : ℕ) (old : State) (line : Line) (answer : List ℕ) (new : State) (one : OneCourse inputs number old line answer new) → RepliesBy line (refusal_by inputs number line one.course one.does.refusal (prepared_state line old)) answer
 one_by inputs number old line answer new one =
     let s = prepared_state line old in
@@ -456,6 +466,7 @@ own_steps coordinator worker (HasPolled left begun) s line to is = claim_takes (
 own_steps coordinator worker (HasClaimed left begun) s line to is = finish_takes coordinator worker (jobs_run worker s) left begun line to is
 own_steps coordinator worker (ToFinish jobs left begun) s line to is = finish_takes coordinator worker jobs left begun line to is
 
+-- The steps of a settle line end so, from any of its places.
 steps_end : (inputs : Inputs) (number coordinator worker : ℕ) (place : Place) (s : State) (steps : List StepTaken) (answer : List ℕ) (new : State) → StepsLead inputs number s steps new → ComeInTurn coordinator worker place s steps answer
     → SettleEnds inputs number coordinator worker answer new
 steps_end inputs number coordinator worker place s [] answer new lead turn = AllServed (own_ok coordinator worker place s answer turn)

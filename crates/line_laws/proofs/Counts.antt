@@ -326,6 +326,7 @@ module _ (merge : Operator) (party : Party) (world : World) (u : Unrecorded) (ke
 
 -- ---- all calls
 
+-- Each lawful call keeps it so that no job is finished or committed twice.
 pub counts_hold : (who : Caller) → CallsHold who (λ x. ⊤) (λ world. JobsCount world.store)
 counts_hold who x strike world kept lawful may one counted = by (outcome who.merge x who.line who.party strike world lawful may)
   where

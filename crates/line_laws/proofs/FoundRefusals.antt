@@ -78,7 +78,7 @@ record IsOf (all : List Row) (key : List ℕ) (r : Row) : Type 0 where
   here : r.key ≡ key
   there : Contains (contents key all) r.content
 
--- What the operands and the base of a group have.
+-- What the operands of a group have.
 operands_there : (all : List Row) (key : List ℕ) (rows : List Row) → AllByRecursion (IsOf all key) rows → AllByRecursion (λ (x : List ℕ). Contains (contents key all) (Merge x)) (group_operands rows)
 operands_there all key [] of = tt
 operands_there all key (r ∷ rows) of = by r.content of.0.there (operands_there all key rows of.1)
@@ -96,6 +96,7 @@ operands_there all key (r ∷ rows) of = by r.content of.0.there (operands_there
 abbrev BaseIsOf : List Row → List ℕ → Option (List ℕ) → Type 0
 BaseIsOf all key existing = (existing ≡ None) ⊎ ((bytes : List ℕ) × (existing ≡ Some bytes) × Contains (contents key all) (Value bytes))
 
+-- What the base of a group has, if it has bytes.
 base_there : (all : List Row) (key : List ℕ) (rows : List Row) → AllByRecursion (IsOf all key) rows → BaseIsOf all key (base_bytes (group_base rows))
 base_there all key [] of = inl refl
 base_there all key (r ∷ rows) of = by r.content of.0.there (base_there all key rows of.1)

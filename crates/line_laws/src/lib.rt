@@ -85,10 +85,11 @@ pub fn none_conflicts()
     ensures { NoneConflicts }
 {}
 
-/// A line is refused exactly if a cause of its kind holds, with the refusal of the first one: a fault
-/// strikes one of its calls, its party is missing, or its step is refused by what the state stores or
-/// by the operator. Else it replies as a line that is served. A settle line is refused exactly if
-/// one of its parties is missing or its last step is refused, and then replies as that step does.
+/// A line is refused exactly if a cause of its kind holds, with the refusal of the first one: a
+/// fault strikes one of its calls, its party is missing, or its step is refused by what the state
+/// stores, by the scheduler or by the operator. Else it replies as a line that is served. A settle
+/// line is refused exactly if one of its parties is missing or its last step is refused, and then
+/// replies as that step does.
 pub fn causes_decide()
     ensures { CausesDecide }
 {}
@@ -166,10 +167,10 @@ pub fn finished_jobs_wait()
     ensures { FinishedJobsWait }
 {}
 
-/// In each state that keeps the invariant, and so after each line and each step of a settle line, no
-/// attempt was claimed twice, no job was finished twice, and no finished job was completed twice. So
-/// the claims and commits that a history counts are distinct, and with `histories_count` of
-/// `course_laws` they add up over any cut of it.
+/// In each state that keeps the invariant, and so after each line and each step of a settle line,
+/// no attempt was claimed twice, no job was finished twice, and no finished job was completed
+/// twice. So the claims and commits that a history counts are distinct, and with `histories_count`
+/// of `course_laws` they add up over any cut of it.
 pub fn jobs_count_once()
     ensures { JobsCountOnce }
 {}

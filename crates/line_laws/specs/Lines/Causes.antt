@@ -39,7 +39,7 @@ store_fault = reply (codes "storefault" ∷ [])
 
 -- ---- causes of steps, each as the reply prints it
 
--- The party that the line names is not there.
+-- The reply if the party that the line names is not live.
 abbrev pub no_party : List ℕ
 no_party = reply (codes "nosuchparty" ∷ [])
 
@@ -56,15 +56,18 @@ first_of (Some x) second = Some x
 -- The first fault of a flush over this store: in the name, the segment, the order, the sequences, the floor or the
 -- tick.
 abbrev pub fault_of_flush : FlushAsk → Store → Option FlushFault
-fault_of_flush ask store = first_of (fault_before_get (last_name store.history) ask) (fault_after_get store.manifest ask)
+fault_of_flush ask store =
+    first_of (fault_before_get (last_name store.history) ask) (fault_after_get store.manifest ask)
 
+-- The reply to a flush with this fault.
 abbrev pub bad_flush : FlushFault → List ℕ
 bad_flush fault = reply (codes "badflush" ∷ flush_fault_text fault ∷ [])
 
--- There are no records, so nothing can be submitted.
+-- The reply to a submission if there are no records.
 abbrev pub no_records : List ℕ
 no_records = reply (codes "invaliddbstate" ∷ [])
 
+-- The refusal for want of records, unless they are there.
 abbrev pub unless_records : Option Records → Option (List ℕ)
 unless_records None = Some no_records
 unless_records (Some records) = None
@@ -81,6 +84,7 @@ request_refusal asked request store =
     if_some store.records (Some no_records)
     (λ got. generate_refusal (asked.generate (shown_view store.tables store.manifest got got.jobs) request))
 
+-- The reply to a poll that met this epoch above the coordinator's.
 abbrev pub fenced : ℕ → List ℕ
 fenced stored = reply (codes "fenced" ∷ decimal stored ∷ [])
 
@@ -95,6 +99,7 @@ fence_of epoch store =
 abbrev pub poll_refusal : ℕ → State → Option (List ℕ)
 poll_refusal n s = if_some (coordinator_with n s.parties) (Some no_party) (λ c. fence_of c.epoch s.store)
 
+-- The reply if the operator refuses a fold with this message.
 abbrev pub callback : List ℕ → List ℕ
 callback message = reply (codes "callback" ∷ bytes_text message ∷ [])
 
