@@ -1,14 +1,15 @@
 -- Each line but a together line goes on, also if the operator refuses a fold.
-use Rattle.std.proofs.Common.{◌≡◌, refl, sym, subst, ℕ, zero, suc, ◌+◌, ◌<◌, ◌≤◌, List, [], ◌∷◌, length, cond, Bool, true, false, inl, inr, ◌⊎◌, Option, Some, None, arith}
+use Rattle.std.proofs.Common.{◌≡◌, refl, sym, subst, ℕ, zero, suc, ◌+◌, ◌<◌, ◌≤◌, List, [], ◌∷◌, ◌++◌, length, cond, Bool, true, false, inl, inr, ◌⊎◌, Option, Some, None, arith}
 use Rattle.std.specs.Prelude.{◌&&◌, nat_le, filter}
-use Rattle.std.specs.List.{list_all}
+use Rattle.std.specs.List.{AllByRecursion, concat, list_all}
 use Rattle.std.proofs.lemmas.Bool.Decides.{leb_tells}
 use Rattle.row_model.specs.Ranges.{Range}
 use Rattle.row_model.specs.Rows.{Row}
 use Rattle.fleet_model.specs.Work.Attempts.{source_rows}
 use Rattle.fleet_model.specs.Work.Parties.{Attempt, LiveWorker}
-use Rattle.script_model.specs.Script.{Line, Output, FinishJob, Settle, Poll, ClaimJobs, Together}
-use Rattle.script_model.specs.States.{Inputs, State}
+use Rattle.script_model.specs.Script.{Line, Output, FinishJob, Settle, Poll, ClaimJobs, Together, Grammar, AreLines, IsScript}
+use Rattle.script_model.specs.Grammars.{full_grammar, job_grammar, IsOfOneJob}
+use Rattle.script_model.specs.States.{Inputs, State, FleetOptions, fresh_state}
 use Rattle.script_model.specs.LineRuns.{run_line}
 use Rattle.script_model.specs.LineCourses.{prepared_state, course_of, job_at, range_at}
 use Rattle.script_model.specs.Refusals.{IsRefusal, OutputMay, FinishMay, left_in, is_whole, below, key_before}
@@ -16,7 +17,7 @@ use Rattle.script_model.specs.LineSteps.{MayRefuse, OneCourse}
 use Rattle.script_model.specs.Lines.Settles.{is_ok, are_live, jobs_run, has_active, has_added, settled_reply, all_taken}
 use Rattle.script_model.proofs.Rounds.{settle_folds, EndsOr, Step, FinishesInTurn, AfterPoll, Rounds}
 use Rattle.script_model.specs.Follows.{SettleStep}
-use Rattle.line_laws.specs.Goes.{LinesGo, ScriptsGo}
+use Rattle.line_laws.specs.Goes.{is_together, LinesGo, ScriptsGo, CanFollow, TextsGo}
 use Rattle.line_laws.proofs.FoundRefusals.{range_refused}
 
 -- There is a reply and a state with this property.
@@ -161,3 +162,25 @@ scripts_go inputs number old (line ∷ lines) each =
     let first = lines_go inputs number old line each.0 in
     let rest = scripts_go inputs (number + 1) first.new lines each.1 in
     record { answers = first.answer ∷ rest.answers; new = rest.new; run = (first.new, first.step, rest.run) }
+
+-- ---- texts
+
+-- A fleet can follow a script without together lines.
+can_follow : (grammar : Grammar) (inputs : Inputs) (options : FleetOptions) (text : List ℕ) (lines : List Line) → IsScript grammar text lines → AllByRecursion (λ line. is_together line ≡ false) lines → CanFollow grammar inputs options text
+can_follow grammar inputs options text lines script each =
+    let r = scripts_go inputs 1 (fresh_state options) lines each in
+    record { store = r.new.store; written = concat r.answers; follows = record { lines = lines; answers = r.answers; last = r.new; script = script; run = r.run; stored = refl; replies = refl } }
+
+one_job_alone : (line : Line) → IsOfOneJob line → is_together line ≡ false
+one_job_alone (Together workers turns) is = absurd is
+one_job_alone line is = refl
+
+jobs_alone : (before lines : List Line) → AreLines job_grammar before lines → AllByRecursion (λ line. is_together line ≡ false) lines
+jobs_alone before [] are = tt
+jobs_alone before (line ∷ lines) are = (one_job_alone line are.0.1, jobs_alone (before ++ line ∷ []) lines are.1)
+
+pub texts_go : TextsGo
+texts_go = record {
+  full = λ inputs options text lines script each. can_follow full_grammar inputs options text lines script each;
+  jobs = λ inputs options text lines script. can_follow job_grammar inputs options text lines script (jobs_alone [] lines script.each);
+}

@@ -1,9 +1,11 @@
 -- The laws on completeness: each line but a together line goes on, and so do lines one after the other.
 use Rattle.std.specs.Prelude.{◌≡◌, ℕ, Bool, true, false, List}
 use Rattle.std.specs.List.{AllByRecursion}
-use Rattle.script_model.specs.Script.{Line, Together}
-use Rattle.script_model.specs.States.{Inputs, State}
-use Rattle.script_model.specs.Follows.{LineStep, ScriptRun}
+use Rattle.fleet_model.specs.Store.{Store}
+use Rattle.script_model.specs.Script.{Line, Together, Grammar, IsScript}
+use Rattle.script_model.specs.Grammars.{full_grammar, job_grammar}
+use Rattle.script_model.specs.States.{Inputs, State, FleetOptions}
+use Rattle.script_model.specs.Follows.{LineStep, ScriptRun, Follows}
 
 -- Nothing says yet what a together line does.
 abbrev pub is_together : Line → Bool
@@ -32,3 +34,17 @@ pub record RunsToEnd (inputs : Inputs) (number : ℕ) (old : State) (lines : Lis
 abbrev pub ScriptsGo : Type 0
 ScriptsGo = (inputs : Inputs) (number : ℕ) (old : State) (lines : List Line)
     → AllByRecursion (λ line. is_together line ≡ false) lines → RunsToEnd inputs number old lines
+
+-- A fresh fleet with these options can follow the script: it has bytes to write and a store to leave.
+pub record CanFollow (grammar : Grammar) (inputs : Inputs) (options : FleetOptions) (text : List ℕ) : Type 0 where
+  pub store : Store
+  pub written : List ℕ
+  pub follows : Follows grammar inputs options text store written
+
+-- So it can follow each script of the grammar of jobs, and each script of the full grammar without together lines.
+pub record TextsGo : Type 0 where
+  pub full : (inputs : Inputs) (options : FleetOptions) (text : List ℕ) (lines : List Line)
+      → IsScript full_grammar text lines → AllByRecursion (λ line. is_together line ≡ false) lines
+      → CanFollow full_grammar inputs options text
+  pub jobs : (inputs : Inputs) (options : FleetOptions) (text : List ℕ) (lines : List Line)
+      → IsScript job_grammar text lines → CanFollow job_grammar inputs options text

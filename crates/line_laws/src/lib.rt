@@ -20,7 +20,7 @@ ghost use Rattle.line_laws.specs.Faults.{FaultsCut};
 ghost use Rattle.line_laws.specs.Lines.FinishLines.{FinishesEnd};
 ghost use Rattle.line_laws.specs.Lines.FinishedJobs.{FinishedJobsWait};
 ghost use Rattle.line_laws.specs.CountsOnce.{JobsCountOnce};
-ghost use Rattle.line_laws.specs.Goes.{LinesGo, ScriptsGo};
+ghost use Rattle.line_laws.specs.Goes.{LinesGo, ScriptsGo, TextsGo};
 ghost use Rattle.line_laws.specs.Live.{LiveCoordinators, LiveWorkers};
 ghost use Rattle.line_laws.specs.Lines.Outputs.{OutputsAreWhole};
 ghost use Rattle.line_laws.specs.Lines.PollCalls.{PollsCall};
@@ -78,6 +78,12 @@ pub fn lines_go()
 /// So each such script has a run.
 pub fn scripts_go()
     ensures { ScriptsGo }
+{}
+
+/// A fresh fleet can follow each script of the lines that the program serves, and each script of
+/// all lines but together lines: there are replies to write and a store to leave.
+pub fn texts_go()
+    ensures { TextsGo }
 {}
 
 /// No line replies that its puts were refused, since nobody else calls the store during a line.
