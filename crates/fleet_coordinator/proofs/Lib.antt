@@ -6,3 +6,5 @@ pub mod FlushPuts
 pub mod Flushes
 pub mod ShownViews
 pub mod Requests
+pub mod Merged
+pub mod RecordPuts

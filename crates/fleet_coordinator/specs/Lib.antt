@@ -1,3 +1,4 @@
 pub mod Starts
 pub mod Submits
 pub mod Flushes
+pub mod Recording

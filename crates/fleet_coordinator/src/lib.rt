@@ -4,6 +4,7 @@
 
 mod coordinator;
 mod flushing;
+mod recording;
 mod requesting;
 mod submission;
 
