@@ -34,29 +34,22 @@ use Rattle.fleet_poll.specs.Polls.{poll_of}
 use Rattle.fleet_poll.specs.Shown.{commit_rule, rule_of_gate, shown}
 use Rattle.fleet_poll.specs.declared.poll.Poll.{Poll}
 
-view_is : (state : StateParts) (view : CompactorStateView) → view.manifest ≡ state.manifest → view.compactions ≡ Some (with_jobs (filter is_open (own_jobs state)) state.compactions) → view ≡ shown state
+-- A view with the manifest and the open jobs of a state is what is shown of the state.
+pub view_is : (state : StateParts) (view : CompactorStateView) → view.manifest ≡ state.manifest → view.compactions ≡ Some (with_jobs (filter is_open (own_jobs state)) state.compactions) → view ≡ shown state
 view_is state view manifest jobs =
     let made : VersionedManifest → Option VersionedRecords → CompactorStateView = λ m c. record { manifest = m; compactions = c } in
     ap (λ m. made m view.compactions) manifest ∙ ap (made state.manifest) jobs
 
-pub rule_in : (flushes : RunFlushes) (state : StateParts) (view : CompactorStateView) (s : Scheduler) (held : List NodeName) (jobs : Jobs) (lost : List ℕ) (id : ℕ) (job : JobParts) (r : Result (Option Rule) SlateDBError)
-    → view.manifest ≡ state.manifest → view.compactions ≡ Some (with_jobs (filter is_open (own_jobs state)) state.compactions) → record_with id (own_jobs state) ≡ Some job
-    → (Decides held jobs lost (job_of job) → IfOk r (λ rule. numbered rule ≡ submit_gate (shown_trees flushes view) jobs lost (accepted_on flushes view s) (job_of job)))
-    → IfOk r (λ failed. IfSome (record_with id (own_jobs state)) (λ found. Decides held jobs lost (job_of found)
-    → numbered failed ≡ submit_gate (trees_of flushes (own_core state)) jobs lost (accepted_on flushes (shown state) s) (job_of found)))
-rule_in flushes state view s held jobs lost id job (Ok rule) manifest records found said =
-    subst (λ f. IfSome f (λ found. Decides held jobs lost (job_of found) → numbered rule ≡ submit_gate (trees_of flushes (own_core state)) jobs lost (accepted_on flushes (shown state) s) (job_of found))) (sym found)
-    (λ decides. said decides ∙ ap (λ v. submit_gate (shown_trees flushes v) jobs lost (accepted_on flushes v s) (job_of job)) (view_is state view manifest records))
-rule_in flushes state view s held jobs lost id job (Err e) manifest records found said = tt
+-- What the gate says of a job, if the premise holds of it, it says of the job that is found.
+pub said_if_found : (D : JobParts → Type 0) (P : Option Rule → JobParts → Type 0) (found : Option JobParts) (job : JobParts) (r : Result (Option Rule) SlateDBError)
+    → found ≡ Some job → (D job → IfOk r (λ failed. P failed job)) → IfOk r (λ failed. IfSome found (λ j. D j → P failed j))
+said_if_found D P found job (Ok failed) is said = subst (λ f. IfSome f (λ j. D j → P failed j)) (sym is) said
+said_if_found D P found job (Err e) is said = tt
 
-pub commit_rule_in : (flushes : RunFlushes) (state : StateParts) (view : CompactorStateView) (s : Scheduler) (id : ℕ) (job : JobParts) (r : Result (Option Rule) SlateDBError)
-    → view.manifest ≡ state.manifest → view.compactions ≡ Some (with_jobs (filter is_open (own_jobs state)) state.compactions) → record_with id (own_jobs state) ≡ Some job
-    → IfOk r (λ rule. numbered rule ≡ commit_gate (shown_trees flushes view) (accepted_on flushes view s) (job_of job))
-    → IfOk r (λ failed. IfSome (record_with id (own_jobs state)) (λ found. numbered failed ≡ commit_rule flushes s state found))
-commit_rule_in flushes state view s id job (Ok rule) manifest records found said =
-    subst (λ f. IfSome f (λ found. numbered rule ≡ commit_rule flushes s state found)) (sym found)
-    (said ∙ ap (λ v. commit_gate (shown_trees flushes v) (accepted_on flushes v s) (job_of job)) (view_is state view manifest records))
-commit_rule_in flushes state view s id job (Err e) manifest records found said = tt
+pub said_of_found : (P : Option Rule → JobParts → Type 0) (found : Option JobParts) (job : JobParts) (r : Result (Option Rule) SlateDBError)
+    → found ≡ Some job → IfOk r (λ failed. P failed job) → IfOk r (λ failed. IfSome found (P failed))
+said_of_found P found job (Ok failed) is said = subst (λ f. IfSome f (P failed)) (sym is) said
+said_of_found P found job (Err e) is said = tt
 
 -- What the gate says of the job that is found.
 abbrev Said : RunFlushes → StateParts → Scheduler → List NodeName → List ℕ → Option Rule → JobParts → Type 0

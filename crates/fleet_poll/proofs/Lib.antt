@@ -8,6 +8,7 @@ pub mod Joined
 pub mod Drained
 pub mod Opened
 pub mod Answered
+pub mod Proposed
 pub mod Told
 pub mod Taken
 pub mod Carried

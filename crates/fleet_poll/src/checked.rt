@@ -23,8 +23,9 @@ ghost use Rattle.fleet_poll.specs.Polls.{poll_of};
 ghost use Rattle.fleet_poll.specs.Loops.{IsDecision};
 
 use crate::Poll;
-use fleet_book::CompactorState;
-use fleet_gates::{Rule, submit_gate};
+use crate::asking::rule_of_scheduler;
+use fleet_book::{Compaction, CompactorState};
+use fleet_gates::{Rule, submit_rules};
 use fleet_jobs::NodeSet;
 use fleet_rows::{SlateDBError, Ulid};
 use fleet_sched::{CompactionScheduler, CompactorOptions};
@@ -83,9 +84,30 @@ fn failed_rule(
         (accepted_on flushes (shown state.now) (answers scheduler.now)) (job_of job))) }
     ensures memory { IsOkUnless result SlateDBError.Memory }
 {
-    let view = state.view(alloc)?;
     match state.compactions().compactions().get(&id) {
-        Some(job) => submit_gate(alloc, scheduler, &view, held, job),
+        Some(job) => submit_rule(alloc, scheduler, state, held, job),
         None => Ok(None),
+    }
+}
+
+// The rule that the job fails at the gate, if it fails one. The scheduler is asked last, and only
+// then the view is made that it is shown.
+fn submit_rule(
+    alloc: Global,
+    scheduler: &(dyn CompactionScheduler + Send + Sync),
+    state: &CompactorState,
+    held: &NodeSet,
+    job: &Compaction,
+) -> Result<Option<Rule>, SlateDBError>
+    ensures rule { (flushes : RunFlushes) (jobs : Jobs) (lost : List ℕ)
+        → Decides held.now jobs lost (job_of job.now)
+        → IfOk result (λ failed. numbered failed
+        ≡ submit_gate (trees_of flushes (own_core state.now)) jobs lost
+        (accepted_on flushes (shown state.now) (answers scheduler.now)) (job_of job.now)) }
+    ensures memory { IsOkUnless result SlateDBError.Memory }
+{
+    match submit_rules(alloc, state.manifest().core(), held, job)? {
+        Some(rule) => Ok(Some(rule)),
+        None => rule_of_scheduler(alloc, scheduler, state, job.spec()),
     }
 }

@@ -17,9 +17,10 @@ ghost use Rattle.fleet_poll.specs.Seen.{Sees};
 ghost use Rattle.fleet_poll.specs.Loops.{HasReached, LostAreOver, MayCommit, MayJoin, OthersStay, StillSees, is_compacted};
 
 use crate::Poll;
+use crate::asking::rule_of_scheduler;
 use crate::freeing::know_rising;
 use fleet_book::{Compaction, CompactionStatus, CompactorState, VersionedCompactions};
-use fleet_gates::{Rule, commit_gate};
+use fleet_gates::{Rule, commit_rules};
 use fleet_rows::{JobList, SlateDBError, Ulid};
 use fleet_sched::CompactionScheduler;
 use std::alloc::Global;
@@ -94,10 +95,27 @@ fn failed_rule(
         numbered failed ≡ commit_rule flushes (answers scheduler.now) state.now job)) }
     ensures memory { IsOkUnless result SlateDBError.Memory }
 {
-    let view = state.view(alloc)?;
     match state.compactions().compactions().get(&id) {
-        Some(job) => commit_gate(alloc, scheduler, &view, job),
+        Some(job) => commit_rule(alloc, scheduler, state, job),
         None => Ok(None),
+    }
+}
+
+// The rule that the Compacted job fails at the gate, if it fails one. The scheduler is asked last,
+// and only then the view is made that it is shown.
+fn commit_rule(
+    alloc: Global,
+    scheduler: &(dyn CompactionScheduler + Send + Sync),
+    state: &CompactorState,
+    job: &Compaction,
+) -> Result<Option<Rule>, SlateDBError>
+    ensures rule { (flushes : RunFlushes) → IfOk result (λ failed. numbered failed
+        ≡ commit_rule flushes (answers scheduler.now) state.now job.now) }
+    ensures memory { IsOkUnless result SlateDBError.Memory }
+{
+    match commit_rules(alloc, state.manifest().core(), job)? {
+        Some(rule) => Ok(Some(rule)),
+        None => rule_of_scheduler(alloc, scheduler, state, job.spec()),
     }
 }
 

@@ -3,6 +3,7 @@
 #![tactic(auto)]
 
 mod adding;
+mod asking;
 mod checked;
 mod committing;
 mod draining;
@@ -14,6 +15,7 @@ mod judging;
 mod moving;
 mod opening;
 mod poll;
+mod proposing;
 mod report;
 mod steps;
 
