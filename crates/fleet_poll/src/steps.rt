@@ -2,14 +2,14 @@
 
 ghost use Rattle.std.specs.Prelude.{◌≡◌, [], IsOkUnless, OnOk};
 ghost use Rattle.fleet_model.specs.Work.PollStates.{PollInput};
-ghost use Rattle.fleet_model.specs.Work.Polls.{add_drawn, commit_finished, open_submitted};
+ghost use Rattle.fleet_model.specs.Work.Polls.{commit_finished};
 ghost use Rattle.fleet_tree.specs.Trees.{RunFlushes};
 ghost use Rattle.fleet_history.specs.Changes.{new_specs};
 ghost use Rattle.fleet_book.specs.States.{own_jobs};
 ghost use Rattle.fleet_poll.specs.Loops.{HasReached, LostAreOver, StillSees};
 ghost use Rattle.fleet_poll.specs.Polls.{AreNew, poll_of};
 ghost use Rattle.fleet_poll.specs.Seen.{Sees};
-ghost use Rattle.fleet_poll.specs.Steps.{MayBegin, SeesStale, freed_unless};
+ghost use Rattle.fleet_poll.specs.Steps.{MayBegin, SeesStale, freed_unless, opened_unless};
 
 use crate::Poll;
 use fleet_book::CompactionSpec;
@@ -71,6 +71,7 @@ impl Poll {
         scheduler: &(dyn CompactionScheduler + Send + Sync),
         options: &CompactorOptions,
         drawn: &[(Ulid, CompactionSpec)],
+        commits_only: bool,
     ) -> Result<(), SlateDBError>
         requires drawn { AreNew drawn.now (own_jobs self.old.state) }
         requires lost { LostAreOver self.old }
@@ -78,10 +79,13 @@ impl Poll {
             → Sees input (answers scheduler.now) self.old.state
             → input.options.moves ≡ options.now.enable_trivial_move
             → OnOk result (HasReached self.new
-            (open_submitted input (add_drawn 1 (new_specs drawn.now) (poll_of flushes self.old)))) }
+            (opened_unless commits_only input (new_specs drawn.now) (poll_of flushes self.old))) }
         ensures memory { IsOkUnless result SlateDBError.Memory }
     {
-        self.add_drawn(alloc, drawn)?;
-        self.open_all_submitted(alloc, scheduler, options)
+        if !commits_only {
+            self.add_drawn(alloc, drawn)?;
+            self.open_all_submitted(alloc, scheduler, options)?;
+        }
+        Ok(())
     }
 }

@@ -1,11 +1,16 @@
-use Rattle.std.proofs.Common.{subst}
-use Rattle.std.specs.Prelude.{OnOk}
-use Rattle.fleet_model.specs.Work.Polls.{open_submitted}
-use Rattle.fleet_poll.specs.Loops.{HasReached}
+use Rattle.fleet_history.specs.Changes.{new_specs}
+use Rattle.fleet_poll.proofs.Stepped.{opens_after, stays_as_it_is}
+use Rattle.fleet_poll.proofs.poll.Poll.last_steps.Goals.{then-not-commits_only+in_ok-add_drawn+in_ok-open_all_submitted, else-not-commits_only}
 use Rattle.fleet_poll.proofs.poll.Poll.last_steps.Goals as goal
 
 pub returns-clause-poll : goal.returns-clause-poll
 returns-clause-poll g c = λ flushes input sees same.
     let s = (goal.CompactionScheduler-dyn g c.args.scheduler.now).answers c.args.scheduler.now.1 in
-    subst (λ p. OnOk c.open_all_submitted.result (HasReached c.open_all_submitted.new.self (open_submitted input p))) (c.in_ok-add_drawn.ensures.poll flushes)
-    (c.open_all_submitted.ensures.poll flushes input (c.in_ok-add_drawn.ensures.sees input s sees) same)
+    let drawn = new_specs c.args.drawn.now in
+    let here = c.if-not-commits_only.self in
+    elim c.if-not-commits_only.branch [
+      | then-not-commits_only+in_ok-add_drawn+in_ok-open_all_submitted w ↦
+          opens_after flushes input c.args.commits_only drawn c.args.self.now w.add_drawn.new.self w.open_all_submitted.new.self here w.if-not-commits_only.true (w.in_ok-add_drawn.ensures.poll flushes)
+          (w.in_ok-open_all_submitted.ensures.poll flushes input (w.in_ok-add_drawn.ensures.sees input s sees) same) w.self-is
+      | else-not-commits_only w ↦ stays_as_it_is flushes input c.args.commits_only drawn c.args.self.now here w.if-not-commits_only.false w.self-is
+    ]
