@@ -43,7 +43,8 @@ is_compacted job = has_status Compacted (job_of job)
 abbrev pub CommitsStand : PollInput → Jobs → PollState → Type 0
 CommitsStand input [] p = ⊤
 CommitsStand input (job ∷ jobs) p =
-    (commit_gate p.trees (accepts input p) job ≡ None → SourcesStand p.trees job) × CommitsStand input jobs (commit_job input job p)
+    (commit_gate p.trees (accepts input p) job ≡ None → SourcesStand p.trees job)
+    × CommitsStand input jobs (commit_job input job p)
 
 -- These jobs may be committed one after the other.
 pub record MayCommit (scheduler : Scheduler) (jobs : List JobParts) (poll : Poll) : Type 0 where
@@ -54,7 +55,8 @@ pub record MayCommit (scheduler : Scheduler) (jobs : List JobParts) (poll : Poll
 
 -- The step for the job with this id leaves the records of all other jobs as they are.
 abbrev pub OthersStay : ℕ → StateParts → StateParts → Type 0
-OthersStay id old new = (other : ℕ) → (id == other) ≡ false → record_with other (own_jobs new) ≡ record_with other (own_jobs old)
+OthersStay id old new =
+    (other : ℕ) → (id == other) ≡ false → record_with other (own_jobs new) ≡ record_with other (own_jobs old)
 
 -- What an input says of the state before a step, it says of the state after it.
 abbrev pub StillSees : StateParts → StateParts → Type 0
@@ -77,7 +79,8 @@ LostAreOver poll = AllByRecursion (λ lost. is_over_if_there (record_with lost.0
 pub data IsDecided (id : ℕ) (old new : Jobs) : Type 0 where
   Fails : new ≡ changed_jobs to_failed (id ∷ []) old → IsDecided id old new
   Ends : new ≡ changed_jobs to_completed (id ∷ []) old → IsDecided id old new
-  Waits : (tables_of : JobSpec → List ℕ) → new ≡ changed_jobs (to_scheduled tables_of) (id ∷ []) old → IsDecided id old new
+  Waits : (tables_of : JobSpec → List ℕ) → new ≡ changed_jobs (to_scheduled tables_of) (id ∷ []) old
+      → IsDecided id old new
 
 -- What step 4 for the job with this id leaves as it is, and what becomes of the jobs, whatever it decides.
 pub record IsDecision (id : ℕ) (old new : Poll) : Type 0 where

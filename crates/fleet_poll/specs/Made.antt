@@ -37,9 +37,9 @@ is_made (Some destination) run = destination == run
 -- its sources. Each other run has the flushes that it had.
 abbrev pub flushes_after : CompactionSpec → ManifestCore → RunFlushes → RunFlushes
 flushes_after spec core flushes prefix run =
+    let tree = tree_at (segment_of spec) (trees_of flushes core) in
     if bytes_eq (segment_of spec) prefix && is_made (destination_of spec) run
-    then flat_map (λ node. node.flushes) (source_nodes (names_of spec) (tree_at (segment_of spec) (trees_of flushes core)))
-    else flushes prefix run
+    then flat_map (λ node. node.flushes) (source_nodes (names_of spec) tree) else flushes prefix run
 
 -- The run that a move of the job makes, if there is a job and it can be moved.
 abbrev pub run_if_moved : Option JobParts → ManifestCore → Option SortedRun
@@ -76,7 +76,8 @@ flushes_committed None job core flushes = flushes_after job.spec core flushes
 -- moves are allowed.
 abbrev pub flushes_opened : Option ℕ → Bool → JobParts → ManifestCore → RunFlushes → RunFlushes
 flushes_opened (Some rule) moves job core flushes = flushes
-flushes_opened None moves job core flushes = if moves && is_some (run_if_moved (Some job) core) then flushes_after job.spec core flushes else flushes
+flushes_opened None moves job core flushes =
+    if moves && is_some (run_if_moved (Some job) core) then flushes_after job.spec core flushes else flushes
 
 -- True if there is a job and it is a drain.
 abbrev pub is_drain_if_there : Option JobParts → Bool

@@ -48,7 +48,10 @@ failed job = with_status own.Failed job
 
 -- The record of a job that was opened on these trees.
 abbrev pub opened : Trees → JobParts → JobParts
-opened trees job = record (with_status own.Scheduled job) { source_tables = tables_now trees (spec_of job.spec); ctx = None }
+opened trees job = record (with_status own.Scheduled job) {
+  source_tables = tables_now trees (spec_of job.spec);
+  ctx = None;
+}
 
 -- The record of a job after a change of the jobs with these ids.
 abbrev pub changed_record : (JobParts → JobParts) → List ℕ → JobParts → JobParts

@@ -44,7 +44,8 @@ without_trees manifest = record manifest { trees = []; horizon = 0 }
 
 -- The model's manifest with the contents of a program's manifest, without its trees and its horizon.
 abbrev pub rest_of : VersionedManifest → Manifest
-rest_of manifest = without_trees (manifest_of (λ prefix run. []) manifest.id manifest.manifest.compactor_epoch manifest.manifest.core)
+rest_of manifest =
+    without_trees (manifest_of (λ prefix run. []) manifest.id manifest.manifest.compactor_epoch manifest.manifest.core)
 
 -- The input has the scheduler of a program's poll. It has the program's manifest but for the trees and the horizon,
 -- and its records but for the jobs. The handles that the program has are those of the input's tables.

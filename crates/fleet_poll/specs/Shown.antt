@@ -17,7 +17,10 @@ use Rattle.fleet_poll.specs.Made.{own_core}
 
 -- The view that a coordinator with this state shows: the manifest, and the jobs that are not over.
 abbrev pub shown : StateParts → CompactorStateView
-shown state = record { manifest = state.manifest; compactions = Some (with_jobs (filter is_open (own_jobs state)) state.compactions) }
+shown state = record {
+  manifest = state.manifest;
+  compactions = Some (with_jobs (filter is_open (own_jobs state)) state.compactions);
+}
 
 -- What the model's gate for submitted jobs says of a job in step 4.
 abbrev pub rule_of_gate : PollInput → Job → PollState → Option ℕ
