@@ -1,7 +1,7 @@
 -- What the model's scheduler is shown is what a program shows.
-use Rattle.std.proofs.Common.{◌≡◌, refl, sym, ◌∙◌, ap, subst, ℕ, List, [], ◌∷◌, ◌++◌, map, Bool, true, false, not, cond, Option, Some, None}
+use Rattle.std.proofs.Common.{◌≡◌, refl, sym, ◌∙◌, ap, ℕ, List, [], ◌∷◌, ◌++◌, map, Bool, true, false, not, cond, Option, Some, None}
 use Rattle.std.specs.Prelude.{filter, flat_map, option_map}
-use Rattle.std.specs.List.{AllByRecursion, concat}
+use Rattle.std.specs.List.{AllByRecursion}
 use Rattle.std.proofs.lemmas.List.{map-append}
 use Rattle.fleet_model.specs.Handles.{Handle, context_tables, handles_of, job_tables, named_tables, tree_tables}
 use Rattle.fleet_model.specs.Jobs.{Jobs, JobSpec, is_active, is_finished}
@@ -21,13 +21,12 @@ use Rattle.fleet_jobs.specs.Contexts.{context_of, noted_range, ranges_in, table_
 use Rattle.fleet_jobs.specs.Parts.JobParts.{JobParts}
 use Rattle.fleet_jobs.specs.Jobs.{is_open, job_handles, job_of, jobs_of}
 use Rattle.fleet_jobs.specs.Status.{status_of}
-use Rattle.fleet_book.specs.StateParts.{StateParts}
 use Rattle.fleet_book.specs.States.{own_jobs}
 use Rattle.fleet_sched.specs.Views.{handles_in, tree_handles, view_of}
 use Rattle.fleet_gates.specs.Shown.{accepted_on}
 use Rattle.fleet_poll.specs.Made.{own_core}
 use Rattle.fleet_poll.specs.Polls.{poll_of}
-use Rattle.fleet_poll.specs.Seen.{AreTold, IsTold, JobsTold, Sees, TreesTold}
+use Rattle.fleet_poll.specs.Seen.{AreTold, IsTold, JobsTold, Sees}
 use Rattle.fleet_poll.specs.Shown.{shown}
 use Rattle.fleet_poll.specs.declared.poll.Poll.{Poll}
 use Rattle.fleet_poll.proofs.Joined.{written_ids}

@@ -3,8 +3,7 @@ use Rattle.std.proofs.Common.{◌≡◌, refl, sym, ◌∙◌, ap, subst, ℕ, L
 use Rattle.std.specs.Prelude.{filter, IfOk, IfSome, Ok, Err, Option, Result, Some, None}
 use Rattle.std.specs.List.{AllByRecursion}
 use Rattle.std.specs.Option.{ForSome}
-use Rattle.fleet_model.specs.Work.Gates.{commit_gate, submit_gate}
-use Rattle.fleet_model.specs.Jobs.{Jobs}
+use Rattle.fleet_model.specs.Work.Gates.{submit_gate}
 use Rattle.fleet_model.specs.Nodes.{NodeName}
 use Rattle.fleet_model.specs.Work.Polls.{lost_to_scheduler, open_by, open_job}
 use Rattle.fleet_model.specs.Work.PollStates.{PollInput, accepts}
@@ -19,7 +18,6 @@ use Rattle.fleet_jobs.specs.Places.{sources_stand}
 use Rattle.fleet_jobs.specs.Specs.{spec_of}
 use Rattle.fleet_jobs.specs.Taken.{taken_tables}
 use Rattle.fleet_jobs.proofs.ModelPlaces.{submitted_sources_stand}
-use Rattle.fleet_book.specs.Records.{record_with}
 use Rattle.fleet_book.specs.StateParts.{StateParts}
 use Rattle.fleet_book.specs.States.{own_jobs}
 use Rattle.fleet_book.specs.VersionedRecords.{VersionedRecords}
@@ -27,11 +25,11 @@ use Rattle.fleet_book.specs.Versions.{with_jobs}
 use Rattle.fleet_book.specs.declared.view.CompactorStateView.{CompactorStateView}
 use Rattle.fleet_gates.specs.Held.{Decides}
 use Rattle.fleet_gates.specs.Rules.{numbered}
-use Rattle.fleet_gates.specs.Shown.{accepted_on, shown_trees}
+use Rattle.fleet_gates.specs.Shown.{accepted_on}
 use Rattle.fleet_gates.specs.declared.rule.Rule.{Rule}
 use Rattle.fleet_poll.specs.Made.{flushes_opened, own_core}
 use Rattle.fleet_poll.specs.Polls.{poll_of}
-use Rattle.fleet_poll.specs.Shown.{commit_rule, rule_of_gate, shown}
+use Rattle.fleet_poll.specs.Shown.{rule_of_gate, shown}
 use Rattle.fleet_poll.specs.declared.poll.Poll.{Poll}
 
 -- A view with the manifest and the open jobs of a state is what is shown of the state.

@@ -1,14 +1,11 @@
 -- What a step for one job leaves as it is.
 use Rattle.std.proofs.Common.{◌≡◌, refl, sym, ◌∙◌, ap, subst, ℕ, List, [], ◌∷◌, map, Bool, true, false, cond}
 use Rattle.std.specs.Prelude.{◌==◌, IfSome, IsSome, Option, Some, None, OnOk, Result, Ok, Err}
-use Rattle.std.specs.List.{AllByRecursion}
 use Rattle.std.specs.List.Sorted.{IsStrictlySortedBy}
 use Rattle.std.proofs.lemmas.Bool.{eqb-true}
-use Rattle.std.proofs.lemmas.Cmp.{nat_eq_equiv}
 use Rattle.row_model.specs.Rows.{key_cmp}
 use Rattle.fleet_model.specs.Work.PollStates.{PollInput}
 use Rattle.fleet_model.specs.Work.Scheduler.{Scheduler}
-use Rattle.fleet_tree.specs.Trees.{trees_with_prefix}
 use Rattle.fleet_tree.specs.declared.manifest.ManifestCore.{ManifestCore}
 use Rattle.fleet_tree.specs.declared.manifest.VersionedManifest.{VersionedManifest}
 use Rattle.fleet_tree.specs.declared.run.SortedRun.{SortedRun}
@@ -25,7 +22,7 @@ use Rattle.fleet_book.specs.Versions.{with_jobs}
 use Rattle.fleet_poll.specs.Made.{PrefixesRise, joined_run, own_core}
 use Rattle.fleet_poll.specs.Loops.{OthersStay, StillSees}
 use Rattle.fleet_poll.specs.Polls.{HasSameObjects, changed_record, failed, waiting}
-use Rattle.fleet_poll.specs.Seen.{AreTold, IsTold, JobsTold, Sees, TreesTold, rest_of}
+use Rattle.fleet_poll.specs.Seen.{AreTold, JobsTold, Sees, TreesTold, rest_of}
 use Rattle.fleet_poll.proofs.Changed.{found_has_id, others_stay}
 use Rattle.fleet_poll.proofs.Told.{changed_hold, finished_trees_told, found_holds, joined_told, output_handles, put_holds, written_told}
 

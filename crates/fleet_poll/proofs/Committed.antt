@@ -1,6 +1,6 @@
 -- What a poll has reached after step 2 for one job, and for several.
-use Rattle.std.proofs.Common.{◌≡◌, refl, sym, ◌∙◌, ap, subst, ℕ, suc, zero, ◌+◌, ◌<◌, ◌≤◌, arith, length, get_or, drop, List, [], ◌∷◌, map, Bool, true, false, cond}
-use Rattle.std.specs.Prelude.{◌==◌, filter, IfSome, IsSome, OnOk, Ok, Err, Option, Result, Some, None}
+use Rattle.std.proofs.Common.{◌≡◌, refl, sym, ◌∙◌, ap, subst, ℕ, suc, zero, ◌+◌, ◌<◌, ◌≤◌, arith, length, get_or, drop, List, [], ◌∷◌, Bool, true, false, cond}
+use Rattle.std.specs.Prelude.{◌==◌, filter, IfSome, IsSome, Option, Some, None}
 use Rattle.std.specs.List.{AllByRecursion}
 use Rattle.std.specs.Option.{ForSome}
 use Rattle.std.proofs.lemmas.Bool.{eq-eqb, eqb-true}
@@ -10,13 +10,11 @@ use Rattle.fleet_model.specs.Jobs.{Compacted, has_status}
 use Rattle.fleet_model.specs.Nodes.{NodeName, Tree, Trees, tree_at}
 use Rattle.fleet_model.specs.Store.{Manifest}
 use Rattle.fleet_model.specs.Work.Gates.{commit_gate}
-use Rattle.fleet_model.specs.Work.PollStates.{PollInput, PollState, accepts}
+use Rattle.fleet_model.specs.Work.PollStates.{PollInput, accepts}
 use Rattle.fleet_model.specs.Work.Polls.{commit_by, commit_finished, commit_job, each}
 use Rattle.fleet_model.specs.Work.Scheduler.{Scheduler}
-use Rattle.fleet_rows.specs.declared.errors.SlateDBError.{SlateDBError}
 use Rattle.fleet_tree.specs.Trees.{RunFlushes, trees_of}
 use Rattle.fleet_tree.specs.declared.handle.SsTableHandle.{SsTableHandle}
-use Rattle.fleet_tree.specs.declared.manifest.ManifestCore.{ManifestCore}
 use Rattle.fleet_jobs.specs.Jobs.{job_handles, job_ids, job_of, jobs_of}
 use Rattle.fleet_jobs.specs.Laws.{names_of}
 use Rattle.fleet_jobs.specs.Parts.JobParts.{JobParts}
@@ -26,12 +24,11 @@ use Rattle.fleet_book.specs.Records.{AreRising, record_with}
 use Rattle.fleet_book.specs.StateParts.{StateParts}
 use Rattle.fleet_book.specs.States.{own_jobs}
 use Rattle.fleet_gates.specs.Rules.{numbered}
-use Rattle.fleet_gates.specs.Shown.{accepted_on}
 use Rattle.fleet_gates.specs.declared.rule.Rule.{Rule}
 use Rattle.fleet_poll.specs.Made.{EndsRise, flushes_committed, own_core, written_tables}
 use Rattle.fleet_poll.specs.Polls.{poll_of}
-use Rattle.fleet_poll.specs.Seen.{AreTold, IsTold, Sees}
-use Rattle.fleet_poll.specs.Shown.{PassesCommit, commit_rule, shown}
+use Rattle.fleet_poll.specs.Seen.{AreTold, Sees}
+use Rattle.fleet_poll.specs.Shown.{PassesCommit, commit_rule}
 use Rattle.fleet_poll.specs.Loops.{CommitsStand, HasReached, LostAreOver, MayCommit, MayJoin, OthersStay, StillSees, is_compacted}
 use Rattle.fleet_poll.specs.declared.poll.Poll.{Poll}
 use Rattle.fleet_poll.proofs.Alike.{accepted_alike}

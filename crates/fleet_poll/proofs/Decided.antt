@@ -1,7 +1,6 @@
 -- What step 4 for one job leaves as it is.
-use Rattle.std.proofs.Common.{◌≡◌, refl, sym, ◌∙◌, ap, subst, ℕ, List, [], ◌∷◌, map, Bool, true, false, cond}
-use Rattle.std.specs.Prelude.{is_some, IfSome, IsSome, Option, Some, None}
-use Rattle.std.specs.Option.{ForSome}
+use Rattle.std.proofs.Common.{◌≡◌, refl, sym, ◌∙◌, ap, subst, ℕ, [], ◌∷◌, map}
+use Rattle.std.specs.Prelude.{IfSome, IsSome, Option, Some, None}
 use Rattle.fleet_model.specs.Jobs.{changed_jobs}
 use Rattle.fleet_model.specs.Nodes.{Trees}
 use Rattle.fleet_model.specs.Trees.{tables_now}
@@ -16,9 +15,8 @@ use Rattle.fleet_jobs.specs.Specs.{destination_of}
 use Rattle.fleet_jobs.specs.Taken.{taken_tables}
 use Rattle.fleet_book.specs.Finishes.{finished_state}
 use Rattle.fleet_book.specs.Records.{AreRising, record_with}
-use Rattle.fleet_book.specs.StateParts.{StateParts}
 use Rattle.fleet_book.specs.States.{own_jobs}
-use Rattle.fleet_poll.specs.Loops.{IsDecided, IsDecision, StillSees, Fails, Ends, Waits}
+use Rattle.fleet_poll.specs.Loops.{IsDecision, StillSees, Fails, Ends, Waits}
 use Rattle.fleet_poll.specs.Made.{own_core, run_if_moved}
 use Rattle.fleet_poll.specs.Polls.{HasSameObjects, changed_record, failed, opened}
 use Rattle.fleet_poll.specs.Seen.{AreTold, Sees}

@@ -1,6 +1,6 @@
 -- What a poll has reached after step 4 for one submitted job.
-use Rattle.std.proofs.Common.{◌≡◌, refl, sym, ◌∙◌, ap, subst, ℕ, List, ◌++◌, Bool, true, false}
-use Rattle.std.specs.Prelude.{IfSome, IsSome, Ok, Err, OnOk, option_map, Option, Result, Some, None}
+use Rattle.std.proofs.Common.{◌≡◌, refl, sym, subst, ℕ, List, ◌++◌, Bool, true, false}
+use Rattle.std.specs.Prelude.{IfSome, IsSome, option_map, Option, Some, None}
 use Rattle.std.specs.List.{AllByRecursion}
 use Rattle.std.specs.Option.{ForSome}
 use Rattle.fleet_model.specs.Jobs.{Status, Submitted, Scheduled, Running, Compacted, Completed, Failed, contains, has_status, status_eq}

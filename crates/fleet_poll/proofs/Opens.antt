@@ -1,6 +1,6 @@
 -- What a poll has reached after step 4 for several jobs.
-use Rattle.std.proofs.Common.{◌≡◌, refl, sym, ◌∙◌, ap, subst, ℕ, List, [], ◌∷◌, map, Bool, true, false, not, cond}
-use Rattle.std.specs.Prelude.{◌==◌, filter, IfSome, IsSome, Ok, Err, OnOk, Option, Result, Some, None}
+use Rattle.std.proofs.Common.{◌≡◌, refl, sym, ◌∙◌, ap, subst, ℕ, List, [], ◌∷◌, Bool, true, false, not, cond}
+use Rattle.std.specs.Prelude.{◌==◌, filter, IfSome, IsSome, Some}
 use Rattle.std.specs.List.{AllByRecursion}
 use Rattle.std.specs.Option.{ForSome}
 use Rattle.std.proofs.lemmas.Bool.{eqb-true}
@@ -12,7 +12,7 @@ use Rattle.fleet_model.specs.Work.PollStates.{PollInput}
 use Rattle.fleet_model.specs.Work.Records.{firsts}
 use Rattle.fleet_model.specs.Work.Scheduler.{Scheduler}
 use Rattle.fleet_tree.specs.Trees.{RunFlushes}
-use Rattle.fleet_jobs.specs.Jobs.{is_open, job_of, jobs_of}
+use Rattle.fleet_jobs.specs.Jobs.{job_of, jobs_of}
 use Rattle.fleet_jobs.specs.Parts.JobParts.{JobParts}
 use Rattle.fleet_book.specs.Records.{AreRising, record_with}
 use Rattle.fleet_book.specs.States.{own_jobs}

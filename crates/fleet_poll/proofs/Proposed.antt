@@ -1,5 +1,5 @@
 -- What the scheduler proposes to a poll.
-use Rattle.std.proofs.Common.{◌≡◌, sym, ◌∙◌, ap, subst, ℕ, ◌-◌, List, map, take}
+use Rattle.std.proofs.Common.{◌≡◌, sym, ◌∙◌, ap, ℕ, ◌-◌, List, map, take}
 use Rattle.std.proofs.lemmas.List.{take-map}
 use Rattle.std.specs.Prelude.{count_by, IfOk, Ok, Err, Result, Vec}
 use Rattle.std.specs.Result.{IsOkUnless}
@@ -24,7 +24,6 @@ use Rattle.fleet_poll.specs.Seen.{Sees}
 use Rattle.fleet_poll.specs.Shown.{shown}
 use Rattle.fleet_poll.specs.declared.poll.Poll.{Poll}
 use Rattle.fleet_poll.proofs.Alike.{shown_is}
-use Rattle.fleet_poll.proofs.Answered.{view_is}
 
 -- What the scheduler proposes on a view, it proposes on what is shown of the state.
 pub proposed_on : (flushes : RunFlushes) (s : Scheduler) (state : StateParts) (view : CompactorStateView) (r : Result (Vec CompactionSpec Global) SlateDBError)

@@ -1,19 +1,17 @@
 -- What a poll reaches by several of its steps.
-use Rattle.std.proofs.Common.{◌≡◌, refl, sym, ◌∙◌, ap, subst, ℕ, List, [], ◌∷◌, Bool, true, false}
+use Rattle.std.proofs.Common.{◌≡◌, sym, ap, subst, ℕ, List, [], ◌∷◌, Bool, true, false}
 use Rattle.std.specs.Prelude.{filter}
 use Rattle.std.specs.List.{AllByRecursion}
 use Rattle.fleet_model.specs.Jobs.{Compacted, JobSpec, has_status}
 use Rattle.fleet_model.specs.Work.PollStates.{PollInput, PollState}
-use Rattle.fleet_model.specs.Work.Polls.{add_drawn, commit_finished, free_stale, open_submitted}
+use Rattle.fleet_model.specs.Work.Polls.{add_drawn, open_submitted}
 use Rattle.fleet_model.specs.Work.Scheduler.{Scheduler}
 use Rattle.fleet_sched.specs.declared.options.CompactorOptions.{CompactorOptions}
 use Rattle.fleet_tree.specs.Trees.{RunFlushes}
-use Rattle.fleet_jobs.specs.Jobs.{jobs_of}
 use Rattle.fleet_book.specs.Records.{record_with}
 use Rattle.fleet_book.specs.States.{own_jobs}
 use Rattle.fleet_poll.specs.Loops.{CommitsStand, HasReached, LostAreOver, MayCommit, StillSees, is_compacted, is_over_if_there}
 use Rattle.fleet_poll.specs.Polls.{poll_of}
-use Rattle.fleet_poll.specs.Seen.{Sees}
 use Rattle.fleet_poll.specs.Steps.{MayBegin, SeesStale, freed_unless, opened_unless}
 use Rattle.fleet_poll.specs.declared.poll.Poll.{Poll}
 use Rattle.fleet_poll.proofs.Committed.{compacted_are}

@@ -1,17 +1,16 @@
 -- Which nodes jobs hold after step 4 for one job.
-use Rattle.std.proofs.Common.{◌≡◌, refl, sym, ◌∙◌, ap, subst, ℕ, ◌+◌, ◌<◌, arith, length, get_or, take, suc, zero, List, [], ◌∷◌, ◌++◌, map, Bool, true, false, not, ◌||◌, cond}
-use Rattle.std.specs.Prelude.{◌==◌, filter, find, flat_map, IsSome, option_map, Option, Some, None}
+use Rattle.std.proofs.Common.{◌≡◌, refl, sym, ◌∙◌, ap, subst, ℕ, ◌+◌, ◌<◌, arith, length, get_or, take, suc, zero, List, [], ◌∷◌, ◌++◌, Bool, true, false, ◌||◌, cond}
+use Rattle.std.specs.Prelude.{◌==◌, filter, find, flat_map, option_map, Option, Some, None}
 use Rattle.std.specs.List.{AllByRecursion}
-use Rattle.std.proofs.lemmas.Bool.{eq-eqb, eqb-true}
+use Rattle.std.proofs.lemmas.Bool.{eqb-true}
 use Rattle.std.proofs.lemmas.Cmp.{nat_eq_equiv}
 use Rattle.std.proofs.lemmas.List.{append-nil, take_more}
-use Rattle.row_model.specs.Lists.{Pairs}
-use Rattle.fleet_model.specs.Jobs.{Job, JobSpec, Jobs, Status, Submitted, Scheduled, Running, Compacted, Completed, Failed, changed_jobs, contains, has_status, ids, nodes_of, status_eq}
+use Rattle.fleet_model.specs.Jobs.{Job, Jobs, Status, Submitted, Scheduled, Running, Compacted, Completed, Failed, changed_jobs, contains, ids, nodes_of, status_eq}
 use Rattle.fleet_model.specs.Nodes.{NodeName}
 use Rattle.fleet_model.specs.Work.Gates.{reserves_nodes}
 use Rattle.fleet_model.specs.Work.Polls.{lost_to_scheduler}
 use Rattle.fleet_model.specs.Work.Records.{firsts, to_completed, to_failed, to_scheduled}
-use Rattle.fleet_jobs.specs.Jobs.{is_open, job_of, jobs_of}
+use Rattle.fleet_jobs.specs.Jobs.{job_of, jobs_of}
 use Rattle.fleet_jobs.specs.Parts.JobParts.{JobParts}
 use Rattle.fleet_jobs.specs.Places.{held_nodes}
 use Rattle.fleet_book.specs.Records.{AreRising, record_with}

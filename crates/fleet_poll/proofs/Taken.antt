@@ -1,5 +1,5 @@
 -- The handles of the tables that a job takes from its tree.
-use Rattle.std.proofs.Common.{◌≡◌, refl, sym, ◌∙◌, ap, subst, ℕ, List, [], ◌∷◌, ◌++◌, map, Bool, true, false, ◌&&◌, cond}
+use Rattle.std.proofs.Common.{sym, ap, ℕ, List, [], ◌∷◌, map, Bool, true, false, ◌&&◌, cond}
 use Rattle.std.specs.Prelude.{◌==◌, bytes_eq, find, flat_map, option_map, Option, Some, None}
 use Rattle.std.specs.List.{AllByRecursion}
 use Rattle.std.specs.Option.{option_to_list}
@@ -16,7 +16,7 @@ use Rattle.fleet_tree.specs.declared.tree.LsmTreeState.{LsmTreeState}
 use Rattle.fleet_jobs.specs.Laws.{EndsFit}
 use Rattle.fleet_jobs.specs.Moves.{are_disjoint, by_start, moved_run, put_view}
 use Rattle.fleet_jobs.specs.Sources.{run_id_of, view_id_of}
-use Rattle.fleet_jobs.specs.Specs.{destination_of, segment_of, sources_of}
+use Rattle.fleet_jobs.specs.Specs.{segment_of, sources_of}
 use Rattle.fleet_jobs.specs.Taken.{l0_in, named_runs, named_views, run_with, runs_in, taken_tables, taken_views, taken_runs, view_with}
 use Rattle.fleet_jobs.specs.declared.source_id.SourceId.{SourceId}
 use Rattle.fleet_jobs.specs.declared.spec.CompactionSpec.{CompactionSpec}

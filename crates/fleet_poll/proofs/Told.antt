@@ -1,5 +1,5 @@
 -- The handles that trees and jobs name, after a job is finished or fails.
-use Rattle.std.proofs.Common.{◌≡◌, refl, sym, ◌∙◌, ap, subst, ℕ, List, [], ◌∷◌, ◌++◌, map, Bool, true, false, not, cond}
+use Rattle.std.proofs.Common.{◌≡◌, refl, sym, ap, subst, ℕ, List, [], ◌∷◌, ◌++◌, map, Bool, true, false, not, cond}
 use Rattle.std.specs.Prelude.{◌==◌, bytes_eq, flat_map, nat_lt, Option, Some, None}
 use Rattle.std.specs.List.{AllByRecursion}
 use Rattle.fleet_model.specs.Jobs.{contains}
@@ -20,7 +20,7 @@ use Rattle.fleet_book.specs.Records.{put_record, record_with}
 use Rattle.fleet_sched.specs.Views.{tree_handles}
 use Rattle.fleet_poll.specs.Made.{joined_run, own_views, run_of_tables, written_tables}
 use Rattle.fleet_poll.specs.Polls.{changed_record}
-use Rattle.fleet_poll.specs.Seen.{AreTold, IsTold, JobsTold, TreesTold}
+use Rattle.fleet_poll.specs.Seen.{AreTold, IsTold, TreesTold}
 
 pub all_both : {A : Type 0} (P : A → Type 0) (xs ys : List A) → AllByRecursion P xs → AllByRecursion P ys → AllByRecursion P (xs ++ ys)
 all_both P [] ys one two = two

@@ -1,5 +1,5 @@
 -- What a poll reaches by a step for each of several jobs, and when it may take it.
-use Rattle.std.specs.Prelude.{◌≡◌, ℕ, ◌==◌, Bool, true, false, not, List, [], ◌∷◌, filter, map, option_map, IsSome, Option, Some, None, ⊤, if◌then◌else◌}
+use Rattle.std.specs.Prelude.{◌≡◌, ℕ, ◌==◌, Bool, true, false, not, List, [], ◌∷◌, IsSome, Option, Some, None, ⊤, if◌then◌else◌}
 use Rattle.std.specs.List.{AllByRecursion}
 use Rattle.fleet_model.specs.Invariants.JobsFit.{SourcesStand}
 use Rattle.fleet_model.specs.Jobs.{Compacted, Job, JobSpec, Jobs, Submitted, changed_jobs, has_status, nodes_of}

@@ -2,7 +2,7 @@ use Rattle.std.proofs.Common.{subst}
 use Rattle.std.specs.Prelude.{OnOk}
 use Rattle.fleet_model.specs.Work.Polls.{commit_finished}
 use Rattle.fleet_poll.specs.Loops.{HasReached}
-use Rattle.fleet_poll.proofs.Stepped.{commits_after, none_lost}
+use Rattle.fleet_poll.proofs.Stepped.{commits_after}
 use Rattle.fleet_poll.proofs.poll.Poll.first_steps.Goals as goal
 
 pub commit_finished-requires : goal.commit_finished-requires

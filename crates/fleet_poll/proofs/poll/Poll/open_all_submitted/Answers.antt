@@ -1,4 +1,4 @@
-use Rattle.std.proofs.Common.{◌∙◌, [], ap, subst, sym}
+use Rattle.std.proofs.Common.{◌∙◌, ap, subst, sym}
 use Rattle.std.specs.Prelude.{filter}
 use Rattle.fleet_book.specs.Records.{AreRising}
 use Rattle.fleet_book.specs.States.{own_jobs}

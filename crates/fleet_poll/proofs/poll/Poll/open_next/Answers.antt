@@ -1,4 +1,4 @@
-use Rattle.std.proofs.Common.{◌∙◌, ap, refl, subst, sym}
+use Rattle.std.proofs.Common.{refl, subst}
 use Rattle.fleet_book.specs.Records.{AreRising, record_with}
 use Rattle.fleet_book.specs.States.{own_jobs}
 use Rattle.fleet_poll.proofs.Next.{all_decide, held_next, not_compacted, reached_next}
