@@ -82,7 +82,8 @@ impl Poll {
             (opened_unless commits_only input (new_specs drawn.now) (poll_of flushes self.old))) }
         ensures memory { IsOkUnless result SlateDBError.Memory }
     {
-        if !commits_only {
+        let opens = !commits_only;
+        if opens {
             self.add_drawn(alloc, drawn)?;
             self.open_all_submitted(alloc, scheduler, options)?;
         }
