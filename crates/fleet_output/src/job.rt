@@ -1,0 +1,34 @@
+//! Ranges that are resumed after the tables that were noted for them.
+
+ghost use Rattle.std.specs.Prelude.{◌≡◌, IfOk, IsOkUnless};
+ghost use Rattle.fleet_output.specs.Jobs.{cursor_of, resumed};
+
+use bytes::Bytes;
+use fleet_exec::RangeJob;
+use fleet_plan::Subcompaction;
+use fleet_rows::{Settings, SlateDBError};
+use fleet_tree::SsTableHandle;
+
+// The place of the last row of these tables, or None if there is no table.
+fn cursor_of(tables: &[SsTableHandle]) -> Result<Option<(Bytes, u64)>, SlateDBError>
+    ensures cursor { IfOk result (λ cursor. cursor ≡ cursor_of tables.now) }
+    ensures memory { IsOkUnless result SlateDBError.Memory }
+{
+    match tables.last() {
+        Some(table) => Ok(Some((table.last_key.clone()?, table.last_seq))),
+        None => Ok(None),
+    }
+}
+
+/// The range, resumed under these settings after the last row of the last table that is noted for
+/// it.
+pub fn range_job(settings: Settings, part: &Subcompaction) -> Result<RangeJob, SlateDBError>
+    ensures job { IfOk result (λ job. job ≡ resumed settings part.now) }
+    ensures memory { IsOkUnless result SlateDBError.Memory }
+{
+    Ok(RangeJob {
+        range: part.range().clone()?,
+        cursor: cursor_of(part.output_ssts())?,
+        settings,
+    })
+}
