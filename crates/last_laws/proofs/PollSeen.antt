@@ -1,6 +1,6 @@
 -- What the history says of a poll that is alone: whether it added a job, and that the jobs that it added are new.
-use Rattle.std.proofs.Common.{◌≡◌, ◌≢◌, refl, sym, ◌∙◌, ap, subst, ℕ, zero, suc, List, [], ◌∷◌, ◌++◌, cond, Bool, true, false, Option, Some, None, ◌<◌, arith, ◌+◌, IsTrue, map}
-use Rattle.std.specs.Prelude.{◌==◌, ◌||◌, not, nat_lt, option_map}
+use Rattle.std.proofs.Common.{◌≡◌, ◌≢◌, refl, sym, ◌∙◌, ap, subst, ℕ, zero, suc, List, [], ◌∷◌, ◌++◌, cond, Bool, true, false, Option, Some, None, ◌<◌, ◌≤◌, arith, ◌+◌, IsTrue, map}
+use Rattle.std.specs.Prelude.{◌==◌, ◌||◌, not, nat_lt, option_map, is_some, ⊤}
 use Rattle.std.specs.List.{AllByRecursion}
 use Rattle.std.specs.Cmp.Lexicographic.{pointwise}
 use Rattle.std.proofs.lemmas.Bool.Decides.{Decides-eqb}
@@ -8,7 +8,7 @@ use Rattle.row_model.specs.Lists.{Pairs}
 use Rattle.row_model.specs.Fold.{Operator, IsLawful}
 use Rattle.fleet_model.specs.Jobs.{Job, JobSpec, id_of, trimmed_jobs}
 use Rattle.fleet_model.specs.History.{Party, Coordinator, Entry, GetManifest, GetRecords, Commit, ManifestChange, Polled, PutRecords, PollChange}
-use Rattle.fleet_model.specs.Store.{Manifest, Records, Store, jobs_in, stored_jobs}
+use Rattle.fleet_model.specs.Store.{Manifest, Records, Store, jobs_in, stored_jobs, records_epoch}
 use Rattle.fleet_model.specs.Work.Records.{firsts}
 use Rattle.fleet_model.specs.Work.Gates.{is_nonempty}
 use Rattle.fleet_model.specs.Work.Parties.{LiveCoordinator}
@@ -19,6 +19,7 @@ use Rattle.step_model.specs.Past.{World}
 use Rattle.step_model.specs.Entries.{did_put_epoch, party_eq, last_from, last_event, was_named}
 use Rattle.step_model.specs.Kept.Keeps.{Keeps}
 use Rattle.step_model.specs.LawfulRecords.{AreNew}
+use Rattle.step_model.specs.LawfulTables.{DrawFits}
 use Rattle.step_model.specs.Fits.{CoordinatorHolds}
 use Rattle.step_model.specs.Rivals.{Caller, after_call}
 use Rattle.step_model.specs.Courses.Course.{Course, Ends, Calls, draws_jobs, gets_records, puts_manifest, puts_records}
@@ -31,6 +32,7 @@ use Rattle.step_laws.proofs.Elements.{is_itself, all_at, all_to}
 use Rattle.course_laws.proofs.Calls.{both}
 use Rattle.course_laws.proofs.Puts.{party_itself}
 use Rattle.course_laws.proofs.Later.{entry_by, call_history}
+use Rattle.course_laws.proofs.NewIds.{AreFresh, drawn_fresh, not_named}
 use Rattle.commit_laws.proofs.AllCalls.{calls_keep}
 use Rattle.coordinator_laws.proofs.Course.{polls_are_lawful}
 use Rattle.coordinator_laws.proofs.SameTrees.{unchanged_commit}
@@ -47,7 +49,7 @@ use Rattle.line_laws.specs.Lines.PollRuns.{input_at, reached_state, manifest_aft
 use Rattle.line_laws.proofs.Parties.{found}
 use Rattle.line_laws.proofs.Lines.{caller_of, world_of}
 use Rattle.line_laws.proofs.PollLines.{reported, whole_is}
-use Rattle.line_laws.proofs.PollRuns.{Going, alone_next, poll_did}
+use Rattle.line_laws.proofs.PollRuns.{Going, Gone, alone_next, poll_did}
 use Rattle.coordinator_laws.proofs.PollReports.{got_version}
 
 -- ---- what calls leave
@@ -196,12 +198,27 @@ trees_seen who epoch p reported left seen again world new keep alone none going 
           };
         }
 
--- The run goes on after the draws, with an id for each element. The ids rise, and no draw adds a job.
+-- No stored job has one of these ids.
+abbrev pub NewIds : {B : Type 0} → Store → List (ℕ × B) → Type 0
+NewIds store drawn = AllByRecursion (λ d. AllByRecursion (λ (job : Job). job.id ≢ d.0) (stored_jobs store)) drawn
+
+-- The next id that is drawn is no stored job's.
+next_is_new : (who : Caller) (world : World) (moment : ℕ) → CallsKeep who.merge → Keeps who.merge world → DrawFits world.store → AllByRecursion (λ (job : Job). job.id ≢ next_job_id moment world.store) (stored_jobs world.store)
+next_is_new who world moment keep k room =
+    let after = after_call who.line who.party (DrawsJob moment) None world in
+    let id = next_job_id moment world.store in
+    let none : AreFresh {B = ⊤} who.party world [] = record { drawn = tt; fresh = tt; once = tt } in
+    let drawn = drawn_fresh who world moment tt [] k room none in
+    let unnamed = not_named after.store.history id drawn.fresh.0 (was_named after.store.history id) refl in
+    all_to _ _ (stored_jobs world.store) (λ job there named same. let here = ap (was_named after.store.history) same in cc (here, named, unnamed)) (keep (DrawsJob moment) who.line who.party None world k room tt).facts.names.named
+
+-- The run goes on after the draws, with an id for each element. The ids are new and rise, and no draw adds a job.
 record DrawsSeen {A B : Type 0} (who : Caller) (moment : ℕ) (xs : List B) (next : List (ℕ × B) → Course A) (world new : World) (answer : A) : Type 0 where
   drawn : List (ℕ × B)
   each : map (λ d. d.1) drawn ≡ xs
   above : AllByRecursion (λ d. id_of moment world.store.jobs_drawn < d.0) drawn
   rise : Pairs (λ a b. a.0 < b.0) drawn
+  new_ids : NewIds world.store drawn
   mid : World
   same : SameObjects world.store mid.store
   none : AddedNone who mid
@@ -213,17 +230,20 @@ later_id moment number = omega arith
 -- The draws of a poll, one after the other.
 draws_seen : {A B : Type 0} (who : Caller) (moment : ℕ) (xs : List B) (next : List (ℕ × B) → Course A) (world new : World) (answer : A) → CallsKeep who.merge → who.alone ≡ true → AddedNone who world
     → Going who (draws_jobs moment xs next) world new answer → DrawsSeen who moment xs next world new answer
-draws_seen who moment [] next world new answer keep alone none going = record { drawn = []; each = refl; above = tt; rise = tt; mid = world; same = record { manifest = refl; records = refl; tables = refl }; none = none; going = going }
+draws_seen who moment [] next world new answer keep alone none going = record { drawn = []; each = refl; above = tt; rise = tt; new_ids = tt; mid = world; same = record { manifest = refl; records = refl; tables = refl }; none = none; going = going }
 draws_seen {A} {B} who moment (x ∷ xs) next world new answer keep alone none going =
-    further (draws_seen who moment xs (λ drawn. next ((next_job_id moment world.store, x) ∷ drawn)) (after_call who.line who.party (DrawsJob moment) None world) new answer keep alone (called_none who (DrawsJob moment) world refl)
-    (alone_next who (DrawsJob moment) (λ met. draws_jobs moment xs (λ drawn. next ((next_job_id moment met, x) ∷ drawn))) world new answer keep alone going).going)
+    further (draws_seen who moment xs (λ drawn. next ((next_job_id moment world.store, x) ∷ drawn)) (after_call who.line who.party (DrawsJob moment) None world) new answer keep alone (called_none who (DrawsJob moment) world refl) gone.going)
   where
+    gone : Gone who (DrawsJob moment) (λ met. draws_jobs moment xs (λ drawn. next ((next_job_id moment met, x) ∷ drawn))) world new answer
+    gone = alone_next who (DrawsJob moment) (λ met. draws_jobs moment xs (λ drawn. next ((next_job_id moment met, x) ∷ drawn))) world new answer keep alone going
+
     further : DrawsSeen who moment xs (λ drawn. next ((next_job_id moment world.store, x) ∷ drawn)) (after_call who.line who.party (DrawsJob moment) None world) new answer → DrawsSeen who moment (x ∷ xs) next world new answer
     further d = record {
       drawn = (next_job_id moment world.store, x) ∷ d.drawn;
       each = ap (λ ys. x ∷ ys) d.each;
       above = (later_id moment world.store.jobs_drawn, all_to _ _ d.drawn (λ other there low. let first = later_id moment world.store.jobs_drawn in omega (arith, first, low)) d.above);
       rise = (d.above, d.rise);
+      new_ids = (next_is_new who world moment keep going.kept gone.call, d.new_ids);
       mid = d.mid;
       same = record { manifest = d.same.manifest; records = d.same.records; tables = d.same.tables };
       none = d.none;
@@ -235,6 +255,7 @@ record PollSeen (party : Party) (ask : PollAsk) (old new : Store) (p : PollState
   drawn : List (ℕ × JobSpec)
   each : map (λ d. d.1) drawn ≡ proposed_specs ask (input_at ask old) (first_steps ask (input_at ask old))
   rise : Pairs (λ a b. a.0 < b.0) drawn
+  new_ids : NewIds old drawn
   is : p ≡ reached_state ask old drawn
   seen : AddsSeen party old new p
 
@@ -272,6 +293,7 @@ tries_seen who ask (suc left) seen world new p keep alone going =
           drawn = d.drawn;
           each = d.each;
           rise = d.rise;
+          new_ids = d.new_ids;
           is = all.is;
           seen = subst (AddsSeen who.party world.store new.store) (sym all.is) (record {
             added = all.seen.added;
@@ -311,8 +333,15 @@ pub record PolledLine (inputs : Inputs) (n : ℕ) (old new : State) : Type 0 whe
   pub p : PollState
   pub did : DidPoll (poll_ask inputs old coordinator false) old.store new.store p
   pub rise : Pairs (λ a b. a.0 < b.0) did.drawn
+  pub new_ids : NewIds old.store did.drawn
+  pub recorded : IsTrue (is_some old.store.records)
   pub seen : AddsSeen (Coordinator n) old.store new.store p
   pub parties : new.parties ≡ old.parties
+
+-- Records of some epoch are there.
+has_records : (epoch : ℕ) (records : Option Records) → 0 < epoch → epoch ≤ records_epoch records → IsTrue (is_some records)
+has_records epoch None counted low = absurd (omega (arith, counted, low))
+has_records epoch (Some records) counted low = refl
 
 -- A line by which a coordinator polls, if its reply is ok.
 pub poll_line_did : (inputs : Inputs) (number n : ℕ) (old new : State) (k : StateKeeps inputs.merge old) (answer : List ℕ) → IsLawful inputs.merge → OneCourse inputs number old (Poll n) answer new → HadRoom new.store → is_ok answer ≡ true
@@ -344,6 +373,8 @@ poll_line_did inputs number n old new k answer lawful one room ok =
         tables = ap (λ (store : Store). store.tables) (sym r.step.stored) ∙ ap (λ (store : Store). store.tables) d.left;
       };
       rise = s.rise;
+      new_ids = s.new_ids;
+      recorded = has_records r.coordinator.epoch old.store.records holds.counted holds.recorded;
       seen = subst (λ (store : Store). AddsSeen (Coordinator n) old.store store r.step.report) r.step.stored s.seen;
       parties = r.step.live;
     }

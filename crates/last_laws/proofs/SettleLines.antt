@@ -34,7 +34,7 @@ use Rattle.line_laws.proofs.FinishLines.{finishes_end}
 use Rattle.line_laws.proofs.Scripts.{course_leads}
 use Rattle.last_laws.specs.Weights.{Lightens, trees_weight}
 use Rattle.last_laws.specs.Rounds.{WentWell, FinishedAll, WorkedOn}
-use Rattle.last_laws.specs.Settling.{AreSmall, WaitsOrStands, Settling, SettledSmall, SettleLinesSettle}
+use Rattle.last_laws.specs.Settling.{AreSmall, WaitsOrStands, Settling, CalmLine, SettledSmall, SettleLinesSettle}
 use Rattle.last_laws.proofs.PollWeights.{commits_lighter}
 use Rattle.last_laws.proofs.Commits.{poll_commits}
 use Rattle.last_laws.proofs.Opens.{IsCalmNew}
@@ -364,27 +364,30 @@ refused inputs number old coordinator worker rounds answer new one ok =
 -- The count is at most the weight of the trees, so the rounds are enough. The last poll finds the trees small.
 pub settle_lines_settle : SettleLinesSettle
 unfolding count
-settle_lines_settle inputs is_small old coordinator worker rounds answer new h = by (are_live coordinator worker old) refl h.ran
+settle_lines_settle inputs is_small old coordinator worker rounds answer new h = by (are_live coordinator worker old) refl line.ran
   where
-    settled : are_live coordinator worker old ≡ true → SettleRun inputs h.number coordinator worker rounds old answer new → SettledSmall is_small old answer new
+    line : CalmLine inputs old coordinator worker rounds answer new
+    line = h.line
+
+    settled : are_live coordinator worker old ≡ true → SettleRun inputs line.number coordinator worker rounds old answer new → SettledSmall is_small old answer new
     settled e run =
         let there = is_there coordinator worker old e in
         let kept : Kept inputs worker old = record {
           ready = record {
-            keeps = h.keeps;
-            some_place = h.some_place;
-            calm = all_to _ _ (stored_jobs old.store) (λ job one over active. absurd (cc (active, over))) (none_active (stored_jobs old.store) h.none_active);
+            keeps = line.keeps;
+            some_place = line.some_place;
+            calm = all_to _ _ (stored_jobs old.store) (λ job one over active. absurd (cc (active, over))) (none_active (stored_jobs old.store) line.none_active);
           };
-          some_slot = h.some_slot;
+          some_slot = line.some_slot;
           w = there.w;
           live = there.live;
-          idle = h.idle there.w there.live;
+          idle = line.idle there.w there.live;
         } in
-        let fits : Fits new = record { room = h.had_room; free = h.free_ids } in
+        let fits : Fits new = record { room = line.had_room; free = line.free_ids } in
         let enough = h.enough in
-        let r = all_rounds_settle inputs h.number coordinator worker (Kept inputs worker) Fits count (fits_back inputs) (lower inputs is_small h.number coordinator worker h.lawful h.settling) rounds old answer new kept fits (omega (arith, enough)) (settle_unfolds inputs h.number coordinator worker rounds old answer new run) h.not_refused in
+        let r = all_rounds_settle inputs line.number coordinator worker (Kept inputs worker) Fits count (fits_back inputs) (lower inputs is_small line.number coordinator worker line.lawful h.settling) rounds old answer new kept fits (omega (arith, enough)) (settle_unfolds inputs line.number coordinator worker rounds old answer new run) line.not_refused in
         let last = r.polled in
-        let p = poll_settles inputs is_small h.number coordinator r.last last.replied last.after h.lawful h.settling r.kept.ready (subst Fits last.rest fits) last.does last.ok in
+        let p = poll_settles inputs is_small line.number coordinator r.last last.replied last.after line.lawful h.settling r.kept.ready (subst Fits last.rest fits) last.does last.ok in
         let time = r.in_time in
         record {
           round = r.round;
@@ -394,6 +397,6 @@ settle_lines_settle inputs is_small old coordinator worker rounds answer new h =
           small = subst (λ (s : State). AreSmall is_small s.store.tables s.store.manifest.trees) (sym last.rest) (p.quiet (ap (has_added coordinator) (sym last.rest) ∙ r.none_added) (ap has_active (sym last.rest) ∙ r.none_active));
         }
 
-    by : (b : Bool) → are_live coordinator worker old ≡ b → SettleStep b inputs h.number old coordinator worker rounds answer new → SettledSmall is_small old answer new
+    by : (b : Bool) → are_live coordinator worker old ≡ b → SettleStep b inputs line.number old coordinator worker rounds answer new → SettledSmall is_small old answer new
     by true e run = settled e run
-    by false e one = absurd (refused inputs h.number old coordinator worker rounds answer new one h.not_refused)
+    by false e one = absurd (refused inputs line.number old coordinator worker rounds answer new one line.not_refused)

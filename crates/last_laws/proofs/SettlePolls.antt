@@ -271,10 +271,11 @@ poll_parts inputs is_small coordinator old new settling ready fits l = record {
     refuses = ap (λ (p : PollState). p.refused) l.did.is ∙ settling.passes inputs.merge ask old.store l.did.drawn (record {
       asks = refl;
       whole = refl;
+      recorded = l.recorded;
       stored = ready.keeps.fleet.store.stored;
       jobs = ready.calm;
       each = l.did.each;
-      fresh = subst (λ (p : PollState). AllByRecursion (λ q. AllByRecursion (λ (job : Job). job.id ≢ q.0) (stored_jobs old.store)) p.added) l.did.is l.seen.fresh;
+      fresh = l.new_ids;
       rise = l.rise;
       free_ids = subst (λ (p : PollState). AllByRecursion HasFreeId p.added) l.did.is (free_added (Coordinator coordinator) new.store.history l.p fits.free l.seen.named);
     })

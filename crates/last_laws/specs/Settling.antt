@@ -1,5 +1,5 @@
 -- A settle line settles, if its scheduler sees to it.
-use Rattle.std.specs.Prelude.{◌≡◌, ◌≢◌, ℕ, ◌+◌, ◌<◌, ◌≤◌, Bool, true, false, ◌⊎◌, IsTrue, List, [], map, flat_map, Some, None}
+use Rattle.std.specs.Prelude.{◌≡◌, ◌≢◌, ℕ, ◌+◌, ◌<◌, ◌≤◌, Bool, true, false, ◌⊎◌, IsTrue, List, [], map, flat_map, Some, None, is_some}
 use Rattle.std.specs.List.{AllByRecursion}
 use Rattle.row_model.specs.Lists.{Pairs}
 use Rattle.row_model.specs.Fold.{Operator, IsLawful}
@@ -36,18 +36,18 @@ WaitsOrStands trees job = IsTrue (is_active job)
     × ((IsTrue (has_status Scheduled job) × (job.context ≡ None))
     ⊎ (IsTrue (has_status Compacted job) × SourcesStand trees job))
 
--- A poll of a store that keeps the invariant and has such jobs alone. The poll drew rising ids for what the
--- scheduler proposed. The jobs that it adds are new, and each of them has a free id of a run.
+-- A poll of a store that has records, keeps the invariant and has such jobs alone. The poll drew new and rising
+-- ids for what the scheduler proposed. Each job that it adds has a free id of a run.
 pub record CalmPoll (merge : Operator) (scheduler : Scheduler) (ask : PollAsk) (store : Store)
     (drawn : List (ℕ × JobSpec)) : Type 0 where
   pub asks : ask.scheduler ≡ scheduler
   pub whole : ask.commits_only ≡ false
+  pub recorded : IsTrue (is_some store.records)
   pub stored : StoreInvariant merge store
   pub jobs : AllByRecursion (WaitsOrStands store.manifest.trees) (stored_jobs store)
   pub each : map (λ d. d.1) drawn ≡ proposed_specs ask (input_at ask store) (first_steps ask (input_at ask store))
   pub rise : Pairs (λ a b. a.0 < b.0) drawn
-  pub fresh : AllByRecursion (λ q. AllByRecursion (λ job. job.id ≢ q.0) (stored_jobs store))
-      (reached_state ask store drawn).added
+  pub fresh : AllByRecursion (λ d. AllByRecursion (λ job. job.id ≢ d.0) (stored_jobs store)) drawn
   pub free_ids : AllByRecursion HasFreeId (reached_state ask store drawn).added
 
 -- A scheduler settles trees to sizes that this test gives, if it accepts each job, and if all that it proposes is
@@ -68,14 +68,12 @@ abbrev pub AreSmall : (List Handle → Tree → Bool) → Tables → Trees → T
 AreSmall is_small tables trees =
     AllByRecursion (λ s. IsTrue (is_small (handles_of tables (flat_map tree_tables trees)) s.tree)) trees
 
--- A settle line ran from a state that keeps the invariant, and no step of it was refused. The scheduler is
--- settling, a poll may add a job, and the worker has a slot. Before the line no job is active, and the worker
--- runs none. No poll adds a job that makes the greatest run. There are more rounds than the trees weigh, which is
--- twice their flushes and their runs.
-pub record SettleLine (inputs : Inputs) (is_small : List Handle → Tree → Bool) (old : State)
-    (coordinator worker rounds : ℕ) (answer : List ℕ) (new : State) : Type 0 where
+-- A settle line ran from a state that keeps the invariant, and no step of it was refused. A poll may add a job,
+-- and the worker has a slot. Before the line no job is active, and the worker runs none. No poll adds a job that
+-- makes the greatest run.
+pub record CalmLine (inputs : Inputs) (old : State) (coordinator worker rounds : ℕ) (answer : List ℕ) (new : State)
+    : Type 0 where
   pub lawful : IsLawful inputs.merge
-  pub settling : Settling inputs.scheduler is_small
   pub keeps : StateKeeps inputs.merge old
   pub number : ℕ
   pub ran : LineStep inputs number old (Settle coordinator worker rounds) answer new
@@ -86,6 +84,13 @@ pub record SettleLine (inputs : Inputs) (is_small : List Handle → Tree → Boo
   pub none_active : has_active old ≡ false
   pub idle : (w : LiveWorker) → worker_with worker old.parties ≡ Some w → w.attempts ≡ []
   pub free_ids : AllByRecursion (λ entry. AllByRecursion HasFreeId (named_specs entry.event)) new.store.history
+
+-- The scheduler of such a line is settling. There are more rounds than the trees weigh, which is twice their
+-- flushes and their runs.
+pub record SettleLine (inputs : Inputs) (is_small : List Handle → Tree → Bool) (old : State)
+    (coordinator worker rounds : ℕ) (answer : List ℕ) (new : State) : Type 0 where
+  pub settling : Settling inputs.scheduler is_small
+  pub line : CalmLine inputs old coordinator worker rounds answer new
   pub enough : trees_weight old.store.manifest.trees < rounds
 
 -- The line settled in time. No job is active, and each tree passes the test.
