@@ -12,3 +12,5 @@ pub mod RoundWorks
 pub mod SettlePolls
 pub mod SettleLines
 pub mod Rounds
+pub mod LevelPicks
+pub mod LevelSettles

@@ -56,7 +56,7 @@ waits_now job calm active = by (calm active)
     by (l, inl waits) = (l, waits)
     by (l, inr ends) = absurd (cc (ends.1))
 
-none_submitted : (job : Job) → IsCalmTill [] job → has_status Submitted job ≡ false
+pub none_submitted : (job : Job) → IsCalmTill [] job → has_status Submitted job ≡ false
 none_submitted job calm = other_or (has_status Submitted job) (λ new. submitted_waits job.status new (waits_now job calm (submitted_active job.status new)).1.0)
 
 pub none_active : (jobs : Jobs) → list_any is_active jobs ≡ false → AllByRecursion (λ job. is_active job ≡ false) jobs

@@ -128,7 +128,7 @@ calm_of trees job h active = by (h active)
     by (l, inl waits) = (l, inl waits)
     by (l, inr ends) = (l, inr (ends.0, stands_pass trees job ends.1))
 
-active_status : (s : Status) → (IsTrue (status_eq Submitted s) → (IsTrue (cond (is_finished s) false true)) × ((IsTrue (status_eq Scheduled s) → ⊥) × (IsTrue (status_eq Compacted s) → ⊥)))
+pub active_status : (s : Status) → (IsTrue (status_eq Submitted s) → (IsTrue (cond (is_finished s) false true)) × ((IsTrue (status_eq Scheduled s) → ⊥) × (IsTrue (status_eq Compacted s) → ⊥)))
     × ((IsTrue (status_eq Compacted s) → IsTrue (cond (is_finished s) false true)) × (IsTrue (status_eq Running s) → IsTrue (cond (is_finished s) false true)))
 active_status Submitted = (λ h. (refl, (λ k. cc k, λ k. cc k)), (λ h. refl, λ h. refl))
 active_status Scheduled = (λ h. absurd (cc h), (λ h. refl, λ h. refl))
@@ -183,7 +183,7 @@ take_nothing zero xs low h = absurd (omega (arith, low))
 take_nothing (suc n) [] low h = refl
 take_nothing (suc n) (x ∷ xs) low h = absurd (cc h)
 
-all_second : (P : JobSpec → Type 0) (drawn : List (ℕ × JobSpec)) → AllByRecursion P (map (λ d. d.1) drawn) → AllByRecursion (λ d. P d.1) drawn
+pub all_second : (P : JobSpec → Type 0) (drawn : List (ℕ × JobSpec)) → AllByRecursion P (map (λ d. d.1) drawn) → AllByRecursion (λ d. P d.1) drawn
 all_second P [] h = tt
 all_second P (d ∷ drawn) h = (h.0, all_second P drawn h.1)
 

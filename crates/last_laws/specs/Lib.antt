@@ -4,3 +4,4 @@ pub mod ScriptSweeps
 pub mod Weights
 pub mod Rounds
 pub mod Settling
+pub mod Levels

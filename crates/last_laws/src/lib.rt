@@ -2,6 +2,7 @@
 //! law about every run of lines from a fresh fleet, or about what such lines reply.
 #![tactic(auto)]
 
+ghost use Rattle.last_laws.specs.Levels.{LevelLinesSettle, LevelsSettle, WeightsCount};
 ghost use Rattle.last_laws.specs.Pages.{ScansResume};
 ghost use Rattle.last_laws.specs.Rounds.{CountedRoundsSettle};
 ghost use Rattle.last_laws.specs.ScanLines.{ScansAnswer};
@@ -52,4 +53,22 @@ pub fn counted_rounds_settle()
 /// no job is active, and each tree is within the sizes of the scheduler.
 pub fn settle_lines_settle()
     ensures { SettleLinesSettle }
+{}
+
+/// The trees weigh twice their flushes and their runs.
+pub fn weights_count()
+    ensures { WeightsCount }
+{}
+
+/// The levelled scheduler is settling: each job that it proposes makes the trees lighter, and it
+/// rests beside no jobs only where each tree is within its sizes. A poll refuses none of its jobs,
+/// unless they make the run 4,294,967,295.
+pub fn levels_settle()
+    ensures { LevelsSettle }
+{}
+
+/// With the levelled scheduler, a settle line of more rounds than twice the flushes and the runs
+/// settles, if no step is refused. By then no job is active, and each tree is within its sizes.
+pub fn level_lines_settle()
+    ensures { LevelLinesSettle }
 {}
