@@ -14,3 +14,4 @@ pub mod SettleLines
 pub mod Rounds
 pub mod LevelPicks
 pub mod LevelSettles
+pub mod WorkedSettling

@@ -5,3 +5,4 @@ pub mod Weights
 pub mod Rounds
 pub mod Settling
 pub mod Levels
+pub mod WorkedSettling

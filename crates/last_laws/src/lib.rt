@@ -9,6 +9,7 @@ ghost use Rattle.last_laws.specs.ScanLines.{ScansAnswer};
 ghost use Rattle.last_laws.specs.ScriptSweeps.{ScriptsSweepClean};
 ghost use Rattle.last_laws.specs.Settling.{SettleLinesSettle};
 ghost use Rattle.last_laws.specs.Weights.{PollsLighten, StepsLighten};
+ghost use Rattle.last_laws.specs.WorkedSettling.{WorkedSettling};
 
 /// A scan is refused below the horizon and before the tick. Each other scan prints the first
 /// answers over the rows that were flushed into its segment and not drained. These are the answers
@@ -71,4 +72,10 @@ pub fn levels_settle()
 /// settles, if no step is refused. By then no job is active, and each tree is within its sizes.
 pub fn level_lines_settle()
     ensures { LevelLinesSettle }
+{}
+
+/// A settle line with the levelled scheduler that joins two flushes and then two runs. So the
+/// premises of its law can be met.
+pub fn a_worked_settle_line()
+    ensures { WorkedSettling }
 {}
