@@ -25,7 +25,7 @@ use Rattle.fleet_tree.specs.declared.manifest.VersionedManifest.{VersionedManife
 use Rattle.fleet_tree.specs.declared.manifest.ManifestCore.{ManifestCore}
 use Rattle.fleet_plan.specs.Parts.{Part}
 use Rattle.fleet_jobs.specs.Parts.ContextParts.{ContextParts}
-use Rattle.fleet_jobs.specs.Contexts.{context_of, noted_range, ranges_in}
+use Rattle.fleet_jobs.specs.Contexts.{context_of, noted_range, ranges_in, table_ids}
 use Rattle.fleet_jobs.specs.Parts.JobParts.{JobParts}
 use Rattle.fleet_jobs.specs.Jobs.{job_handles, job_of, jobs_of}
 use Rattle.fleet_jobs.specs.Laws.{view_tables}
@@ -34,21 +34,22 @@ use Rattle.fleet_jobs.specs.Sources.{name_of}
 use Rattle.fleet_jobs.specs.Specs.{segment_of, sources_of}
 use Rattle.fleet_jobs.specs.declared.source_id.SourceId.{SourceId}
 use Rattle.fleet_jobs.specs.declared.spec.CompactionSpec.{CompactionSpec}
+use Rattle.fleet_tree.specs.Trees.{trees_with_prefix}
 use Rattle.fleet_tree.specs.Views.{View}
 use Rattle.fleet_jobs.specs.Workers.{release_of}
 use Rattle.fleet_jobs.specs.declared.release.Release.{Release}
 use Rattle.fleet_history.specs.declared.note.Note.{Note}
-use Rattle.fleet_store.specs.Handles.{IsDescribed}
+use Rattle.fleet_store.specs.Handles.{IsDescribed, NamesTable}
 use Rattle.fleet_store.specs.Manifests.{IsManifest}
 use Rattle.fleet_store.specs.Records.{DescribeTables}
 use Rattle.step_laws.proofs.Elements.{all_append, all_back, all_front, all_unflat}
-use Rattle.fleet_claim.specs.Beginnings.{Adds, AreStarts, Begins, IsBeginning, IsShown, StartsAre, can_begin, claimed_of, input_of, noted_events, notes_of, released_at, settings_at}
+use Rattle.fleet_claim.specs.Beginnings.{Adds, AreStarts, Begins, IsBeginning, IsShown, KnowsSources, StartsAre, can_begin, claimed_of, input_of, noted_events, notes_of, released_at, settings_at}
 use Rattle.fleet_claim.specs.Contexts.{IsContext, fresh_parts}
 use Rattle.fleet_claim.specs.Sources.{source_views}
 use Rattle.fleet_claim.specs.declared.beginning.ClaimedAttempt.{ClaimedAttempt}
 use Rattle.fleet_claim.specs.declared.beginning.Starts.{Starts}
 use Rattle.fleet_claim.specs.declared.options.CompactionWorkerOptions.{CompactionWorkerOptions}
-use Rattle.fleet_claim.proofs.Bare.{names_are, pieces_are}
+use Rattle.fleet_claim.proofs.Bare.{names_are, of_sources, pieces_are}
 use Rattle.fleet_claim.proofs.ModelContexts.{fresh_is, taken_is}
 
 -- ---- one job
@@ -165,12 +166,41 @@ starts_more input jobs job old new begun notes released were one more_begun more
     CANNOT : Job → Bool
     CANNOT = λ job. not (can_start input.manifest job)
 
+-- ---- the descriptions of the source tables
+
+views_described : (store : Store) (views : List View) → AllByRecursion (NamesTable store.tables) views → AllByRecursion (IsDescribed store.tables) (map (λ view. view.sst) views)
+views_described store [] all = tt
+views_described store (view ∷ views) all = (all.0.described, views_described store views all.1)
+
+ids_described : (views : List View) → table_ids (map (λ view. view.sst) views) ≡ view_tables views
+ids_described [] = refl
+ids_described (view ∷ views) = ap (λ ids. view.sst.id ∷ ids) (ids_described views)
+
+-- An attempt that begins under a manifest knows its source tables.
+known_is : (release : Release) (options : CompactionWorkerOptions) (moment : ℕ) (manifest : VersionedManifest) (job : JobParts) (found : Option ClaimedAttempt) → IsBeginning release options moment manifest.manifest.core job found
+    → (store : Store) → IsManifest manifest store → AllByRecursion (KnowsSources store) (option_to_list found)
+known_is release options moment manifest job None cannot store is = tt
+known_is release options moment manifest job (Some a) begins store is =
+    let core = manifest.manifest.core in
+    let views = source_views job.spec core in (
+      record {
+        are =
+            ap table_ids begins.described ∙ ids_described views
+            ∙ (bytes_eq-Decides (view_tables views) job.source_tables).0 (both_true _ _ begins.can) ∙ sym begins.tables;
+        described =
+            subst (AllByRecursion (IsDescribed store.tables)) (sym begins.described)
+            (views_described store views (of_sources (NamesTable store.tables) (segment_of job.spec) (trees_with_prefix core) (sources_of job.spec) is.views));
+      },
+      tt,
+    )
+
 module _ (release : Release) (options : CompactionWorkerOptions) (moment : ℕ) (manifest : VersionedManifest) where
   -- No job began so far.
   pub starts_none : (starts : Starts) → starts.begun.items ≡ [] → starts.notes.items ≡ [] → starts.released.items ≡ [] → AreStarts release options moment manifest [] starts
   starts_none starts a b c = record {
     model = λ store is tables may. record { attempts = ap (map claimed_of) a; plans = ap noted_events b; others = c };
     shown = λ store all. rw a tt;
+    known = λ store is. rw a tt;
   }
 
   -- One more job began.
@@ -186,6 +216,9 @@ module _ (release : Release) (options : CompactionWorkerOptions) (moment : ℕ) 
         subst (AllByRecursion (IsShown store)) (sym adds.more_begun)
         (all_append (IsShown store) old.begun.items (option_to_list adds.found) (were.shown store (all_front (IsDescribed store.tables) (flat_map job_handles jobs) _ described))
         (shown_is release options moment manifest.manifest.core job adds.found adds.is store (all_back (IsDescribed store.tables) (flat_map job_handles jobs) _ described)));
+    known = λ store is.
+        subst (AllByRecursion (KnowsSources store)) (sym adds.more_begun)
+        (all_append (KnowsSources store) old.begun.items (option_to_list adds.found) (were.known store is) (known_is release options moment manifest job adds.found adds.is store is));
   }
 
 -- ---- whether one job can start
@@ -207,13 +240,14 @@ can_is_test core job spec segment nodes sources views tables a b c d e f =
 
 -- The attempt that was made of these parts.
 pub begins_as : (release : Release) (options : CompactionWorkerOptions) (moment : ℕ) (core : ManifestCore) (job : JobParts) (spec : CompactionSpec) (nodes : List NodeName) (views : List View) (settings : Settings) (published : Option ContextParts) (a : ClaimedAttempt)
-    → can_begin core job ≡ true → a.job ≡ job.id → a.number ≡ job.attempt + 1 → a.sources ≡ job.source_tables → spec ≡ job.spec → nodes ≡ nodes_at (segment_of spec) core → views ≡ source_views spec core → settings ≡ settings_at core options moment spec nodes → published ≡ job.ctx
+    → can_begin core job ≡ true → a.job ≡ job.id → a.number ≡ job.attempt + 1 → a.sources ≡ job.source_tables → a.tables ≡ map (λ view. view.sst) views → spec ≡ job.spec → nodes ≡ nodes_at (segment_of spec) core → views ≡ source_views spec core → settings ≡ settings_at core options moment spec nodes → published ≡ job.ctx
     → IsContext views options.max_subcompactions settings release published a.ctx → Begins release options moment core job a
-begins_as release options moment core job spec nodes views settings published a can same next tables of_spec are_nodes are_views are_settings is_published context = record {
+begins_as release options moment core job spec nodes views settings published a can same next tables described of_spec are_nodes are_views are_settings is_published context = record {
   can = can;
   same = same;
   next = next;
   tables = tables;
+  described = described ∙ ap (map (λ view. view.sst)) (are_views ∙ ap (λ s. source_views s core) of_spec);
   context =
       subst (λ c. HasContext release options moment core job a c) is_published
       (subst (λ s. IsContext (source_views job.spec core) options.max_subcompactions s release published a.ctx) (are_settings ∙ ap (λ ns. settings_at core options moment spec ns) are_nodes ∙ ap (λ s. settings_at core options moment s (nodes_at (segment_of s) core)) of_spec)

@@ -16,7 +16,7 @@ use Rattle.fleet_tree.specs.Manifests.{cut_of}
 use Rattle.fleet_tree.specs.declared.manifest.ManifestCore.{ManifestCore}
 use Rattle.fleet_tree.specs.declared.manifest.VersionedManifest.{VersionedManifest}
 use Rattle.fleet_jobs.specs.Parts.ContextParts.{ContextParts}
-use Rattle.fleet_jobs.specs.Contexts.{context_of}
+use Rattle.fleet_jobs.specs.Contexts.{context_of, table_ids}
 use Rattle.fleet_jobs.specs.Parts.JobParts.{JobParts}
 use Rattle.fleet_jobs.specs.Jobs.{job_of, jobs_of}
 use Rattle.fleet_jobs.specs.Laws.{view_tables}
@@ -87,6 +87,7 @@ pub record Begins (release : Release) (options : CompactionWorkerOptions) (momen
   pub same : a.job ≡ job.id
   pub next : a.number ≡ job.attempt + 1
   pub tables : a.sources ≡ job.source_tables
+  pub described : a.tables ≡ map (λ view. view.sst) (source_views job.spec core)
   pub context : IsContext (source_views job.spec core) options.max_subcompactions
       (settings_at core options moment job.spec (nodes_at (segment_of job.spec) core)) release job.ctx a.ctx
 
@@ -138,6 +139,11 @@ pub record StartsAre (input : ClaimInput) (jobs : Jobs) (starts : Starts) : Type
 abbrev pub IsShown : Store → ClaimedAttempt → Type 0
 IsShown store a = AllByRecursion (λ part. AllByRecursion (IsDescribed store.tables) part.output_ssts) a.ctx.ranges
 
+-- The attempt has the descriptions of its source tables, as they were put.
+pub record KnowsSources (store : Store) (a : ClaimedAttempt) : Type 0 where
+  pub are : table_ids a.tables ≡ a.sources
+  pub described : AllByRecursion (IsDescribed store.tables) a.tables
+
 -- Over each store whose manifest this is, the jobs begin as in the model, if the release may take them. What their
 -- attempts have noted is described if their records are.
 pub record AreStarts (release : Release) (options : CompactionWorkerOptions) (moment : ℕ)
@@ -146,3 +152,4 @@ pub record AreStarts (release : Release) (options : CompactionWorkerOptions) (mo
       → AllByRecursion (λ job. may_take (release_of release) (job_of job) ≡ true) jobs
       → StartsAre (input_of release options moment store) (jobs_of jobs) starts
   pub shown : (store : Store) → DescribeTables jobs store → AllByRecursion (IsShown store) starts.begun.items
+  pub known : (store : Store) → IsManifest manifest store → AllByRecursion (KnowsSources store) starts.begun.items

@@ -11,7 +11,7 @@ use crate::sources::{are_there, is_last_run, source_views};
 use fleet_history::Note;
 use fleet_jobs::{Compaction, CompactionContext, CompactionSpec, Release, SourceId, nodes_at};
 use fleet_rows::{JobList, Settings, SlateDBError, Ulid};
-use fleet_tree::{ManifestCore, VersionedManifest};
+use fleet_tree::{ManifestCore, SsTableView, TableList, VersionedManifest};
 use std::alloc::{AllocError, Global};
 
 /// An attempt that a claim begins: its job, its number, the job's source tables, and its context.
@@ -20,6 +20,8 @@ pub struct ClaimedAttempt {
     pub job: Ulid,
     pub number: u64,
     pub sources: JobList,
+    /// The descriptions of the source tables, in the same order.
+    pub tables: TableList,
     pub ctx: CompactionContext,
 }
 
@@ -59,6 +61,18 @@ fn copied(alloc: Global, ids: &[Ulid]) -> Result<JobList, AllocError>
     Ok(JobList::from_vec(copy))
 }
 
+// Copies of the descriptions that the views have.
+fn described(alloc: Global, views: &[SsTableView]) -> Result<TableList, SlateDBError>
+    ensures tables { IfOk result (λ tables. tables ≡ map (λ view. view.sst) views.now) }
+    ensures memory { IsOkUnless result SlateDBError.Memory }
+{
+    let mut tables = Vec::with_capacity(alloc, views.len())?;
+    'views: for view in views {
+        tables.push(view.sst.clone()?)?;
+    }
+    Ok(TableList::from_vec(alloc, tables)?)
+}
+
 // The attempt at the claimed job that begins under this manifest, or None if the job cannot start.
 fn begin(
     alloc: Global,
@@ -87,6 +101,7 @@ fn begin(
         number: next_attempt(job.attempt())?,
         sources: copied(alloc, tables)?,
         ctx: context(alloc, job.ctx(), &views, most, settings, release)?,
+        tables: described(alloc, &views)?,
     }))
 }
 

@@ -23,5 +23,6 @@ returns-clause-begins c =
     c.spec-spec.ensures (c.as_slice.ensures ∙ c.segment.ensures) nodes c.sources.ensures (c.deref-2.ensures.value ∙ c.in_ok-views.ensures) c.source_tables-tables.ensures in
     begins_as c.args.release c.args.options.now c.args.moment core job spec (map name_of c.deref-3.result.now) c.deref-4.result.now c.settings-settings.result _ _
     (sym there ∙ c.if-not-there.false) c.id.ensures (c.in_ok-next_attempt.ensures.next ∙ ap (λ n. n + 1) c.attempt.ensures) (c.in_ok-copied.ensures ∙ c.source_tables-tables.ensures)
+    (c.in_ok-described.ensures.tables ∙ ap (map (λ view. view.sst)) (c.deref-5.ensures.value ∙ sym c.deref-4.ensures.value))
     c.spec-spec.ensures (ap (map name_of) c.deref-3.ensures.value ∙ c.in_ok-nodes.ensures ∙ ap (λ s. nodes_at s core) (c.as_slice.ensures ∙ c.segment.ensures)) (c.deref-4.ensures.value ∙ c.in_ok-views.ensures) c.settings-settings.ensures c.ctx.ensures
     c.in_ok-context.ensures.context
