@@ -8,7 +8,6 @@ use Rattle.std.specs.declared.cmp.Ordering.TheVariants.{Less, Equal, Greater}
 use Rattle.std.proofs.lemmas.List.{append-nil}
 use Rattle.row_model.specs.Rows.{IsStrictlyOrdered, Row, insert_row, row_cmp, sorted_rows}
 use Rattle.row_laws.specs.Merges.{AreApart}
-use Rattle.row_laws.proofs.ApartRows.{lt_is}
 use Rattle.row_laws.proofs.Elements.{all_weaken}
 use Rattle.row_laws.proofs.Order.{row_total}
 use Rattle.fleet_model.specs.Invariants.TreesFit.{IsTable}
@@ -109,3 +108,8 @@ are_sources tables keep ids all ordered = record {
   ordered = each_ordered tables (filter keep ids) all;
   apart = subst AreApart (sym (flat_sources tables (filter keep ids))) (apart_fewer (table_rows tables) keep ids (sorted_apart (flat_map (table_rows tables) ids) ordered));
 }
+
+-- So are all tables.
+pub all_sources : (tables : Tables) (ids : List ℕ) → AllByRecursion (λ id. IsTable (table_rows tables id)) ids → IsStrictlyOrdered (sorted_rows (flat_map (table_rows tables) ids)) → AreSources (sources_at tables ids)
+all_sources tables ids all ordered =
+    record { ordered = each_ordered tables ids all; apart = subst AreApart (sym (flat_sources tables ids)) (sorted_apart (flat_map (table_rows tables) ids) ordered) }

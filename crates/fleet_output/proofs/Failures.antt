@@ -1,5 +1,5 @@
 -- Which errors gets and puts of tables give.
-use Rattle.std.proofs.Common.{◌≡◌, refl, ap, ℕ, inl, inr, List, [], ◌∷◌, None, Result, Ok, Err}
+use Rattle.std.proofs.Common.{◌≡◌, ◌≢◌, refl, ap, ℕ, inl, inr, List, [], ◌∷◌, None, Err}
 use Rattle.std.specs.Prelude.{◌⊎◌}
 use Rattle.row_model.specs.Rows.{Row}
 use Rattle.fleet_model.specs.Exchanges.{Exchange}
@@ -57,3 +57,20 @@ puts_stop moment rows old new e (inr (inr failed)) = by failed.stopped
 pub none_refused : (A : Type 0) (e : SlateDBError) → IsStopped e → refused_at {A = A} (Err e) ≡ None
 none_refused A e (inl same) = ap (λ e. refused_at {A = A} (Err e)) same
 none_refused A e (inr same) = ap (λ e. refused_at {A = A} (Err e)) same
+
+-- An error is out of memory or another one.
+pub memory_or : (e : SlateDBError) → (e ≡ Memory) ⊎ (e ≢ Memory)
+memory_or Memory = inl refl
+memory_or StoreFault = inr (λ e. cc e)
+memory_or (Conflict seen) = inr (λ e. cc e)
+memory_or IteratorNotInitialized = inr (λ e. cc e)
+memory_or IteratorFailed = inr (λ e. cc e)
+memory_or MergeOperatorMissing = inr (λ e. cc e)
+memory_or (InvalidSequenceOrder current after) = inr (λ e. cc e)
+memory_or (MergeOperator error) = inr (λ e. cc e)
+memory_or (CompactionFilter error) = inr (λ e. cc e)
+memory_or InvalidCompaction = inr (λ e. cc e)
+memory_or InvalidDBState = inr (λ e. cc e)
+memory_or (Fenced stored) = inr (λ e. cc e)
+memory_or NotOwner = inr (λ e. cc e)
+memory_or (Generate message) = inr (λ e. cc e)

@@ -1,5 +1,5 @@
 -- Gets of source tables as turns of a step.
-use Rattle.std.proofs.Common.{◌≡◌, refl, sym, ◌∙◌, ap, subst, ℕ, zero, suc, ◌+◌, ◌<◌, ◌≤◌, length, take, drop, get_or, arith, append_assoc, cond, Bool, true, false, inl, inr, List, [], ◌∷◌, ◌++◌, ◌&&◌, map, Option, Some, None, option_map, Ok, Err, eq-eqb}
+use Rattle.std.proofs.Common.{◌≡◌, refl, sym, ◌∙◌, ap, subst, ℕ, zero, suc, ◌+◌, ◌<◌, ◌≤◌, length, take, drop, get_or, arith, append_assoc, cond, Bool, true, false, inl, inr, List, [], ◌∷◌, ◌++◌, ◌&&◌, Option, Some, None, option_map, Ok, Err, eq-eqb}
 use Rattle.std.specs.Prelude.{◌==◌, ◌||◌, ◌⊎◌, IsTrue, filter, find, not}
 use Rattle.std.specs.List.{AllByRecursion}
 use Rattle.std.proofs.lemmas.Bool.{eqb-true, ne_eqb}

@@ -4,3 +4,8 @@ pub mod Resumed
 pub mod Puts
 pub mod NextRows
 pub mod Failures
+pub mod LeftRows
+pub mod PutsInOrder
+pub mod FinishCourse
+pub mod NotedTables
+pub mod LeftWritten

@@ -1,5 +1,5 @@
 -- How the next rows of a range are read.
-use Rattle.std.proofs.Common.{◌≡◌, ◌≢◌, refl, sym, ◌∙◌, ap, subst, ℕ, inl, inr, List, [], Option, Err}
+use Rattle.std.proofs.Common.{◌≡◌, refl, sym, ◌∙◌, ap, subst, ℕ, inl, inr, List, [], Option, Err}
 use Rattle.row_model.specs.Fold.{Operator}
 use Rattle.fleet_model.specs.Store.{AreHeld}
 use Rattle.step_model.specs.Views.{StoreView}
@@ -15,7 +15,7 @@ use Rattle.fleet_exec.specs.Tables.{GivesTable, RefusesJobTable}
 use Rattle.fleet_exec.specs.declared.range_job.RangeJob.{RangeJob}
 use Rattle.fleet_output.specs.Gets.{GotAll, GotEach, GotUntil, ids_in, sources_at}
 use Rattle.fleet_output.specs.Jobs.{resumed}
-use Rattle.fleet_output.specs.Next.{CanResume, GivesNext, ReadsNext, Refuses}
+use Rattle.fleet_output.specs.Next.{CanResume, GivesNext, ReadsNext}
 use Rattle.fleet_output.proofs.Resumed.{gives_left, ids_held, refuses_left, sources_are}
 
 module _ (merge : Operator) (settings : Settings) (tables : List SsTableHandle) (part : Part) (most : ℕ) (old new : StoreView) where

@@ -1,8 +1,8 @@
 -- The put of a table under a new id as turns of a step.
-use Rattle.std.proofs.Common.{◌≡◌, refl, sym, ◌∙◌, ap, subst, ℕ, cond, Bool, true, false, inl, inr, List, [], ◌∷◌, ◌++◌, Some, None, Ok, Err, eq-eqb}
+use Rattle.std.proofs.Common.{◌≡◌, refl, sym, ◌∙◌, ap, subst, ℕ, cond, Bool, true, false, inl, inr, List, [], ◌∷◌, ◌++◌, Some, Ok, Err, eq-eqb}
 use Rattle.std.specs.Prelude.{◌==◌, ◌||◌, ◌⊎◌, IsTrue, find, ⊤}
 use Rattle.row_model.specs.Rows.{Row}
-use Rattle.fleet_model.specs.Exchanges.{DrawsTable, PutsTable, next_table_id}
+use Rattle.fleet_model.specs.Exchanges.{PutsTable, next_table_id}
 use Rattle.fleet_model.specs.Handles.{Handle, describe}
 use Rattle.fleet_model.specs.Nodes.{Tables, is_among, rows_or_none, table_rows}
 use Rattle.step_model.specs.Past.{World}
@@ -10,7 +10,6 @@ use Rattle.step_model.specs.LawfulTables.{TableFits}
 use Rattle.step_model.specs.Rivals.{Caller, Rivals}
 use Rattle.step_model.specs.Lawful.{Lawful}
 use Rattle.step_model.specs.Courses.Course.{Course, Calls, Ends, puts_table}
-use Rattle.step_model.specs.Courses.CourseRuns.{IsLawfulCourse}
 use Rattle.step_model.specs.Courses.StepEnds.{StepEnd}
 use Rattle.step_model.specs.Views.{StoreView}
 use Rattle.fleet_rows.specs.declared.errors.SlateDBError.{SlateDBError}
@@ -22,7 +21,7 @@ use Rattle.fleet_store.specs.Handles.{IsDescribed}
 use Rattle.fleet_step.specs.Steps.{Leads, TryRan}
 use Rattle.fleet_step.proofs.Steps.{call_leads, then_leads, then_tried, tried, wants}
 use Rattle.fleet_step.proofs.Turns.{get_fails}
-use Rattle.fleet_output.specs.Puts.{FailedPut, MayPutNew, PutNew, PutsNew, puts_only}
+use Rattle.fleet_output.specs.Puts.{MayPutNew, PutNew, PutsNew, puts_only}
 
 -- An id was drawn, and the put follows.
 pub drew : {A : Type 0} (moment id : ℕ) (rows : List Row) (old new : StoreView) → DrawsTableId old new moment (Ok id) → (next : ℕ → Course A)

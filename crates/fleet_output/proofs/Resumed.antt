@@ -74,7 +74,7 @@ module _ (stored : Tables) (sound : AllByRecursion (λ table. IsTable table.1) s
       ∙ ap (λ n. option_map place_of (slice_get (next ∷ tables) n)) here ∙ sym (ap (λ n. option_map place_of (slice_get (table ∷ next ∷ tables) n)) later)
 
   -- The cursor is after the noted rows.
-  cursor_is : (tables : List SsTableHandle) → AllByRecursion (IsDescribed stored) tables → cursor_of tables ≡ cursor_after None (noted_rows stored (table_ids tables))
+  pub cursor_is : (tables : List SsTableHandle) → AllByRecursion (IsDescribed stored) tables → cursor_of tables ≡ cursor_after None (noted_rows stored (table_ids tables))
   cursor_is [] all = refl
   cursor_is (table ∷ tables) all = sym (after_tables None table tables all)
 
@@ -152,11 +152,11 @@ module _ (stored : Tables) (range : Range) where
   made_kept merge settings None ids all = ap (λ rows. job_rows merge settings (sorted_rows rows)) (flat_kept (λ rows. rows) refl ids all)
   made_kept merge settings (Some cursor) ids all = ap (λ rows. unwritten_rows cursor (job_rows merge settings (sorted_rows rows))) (flat_kept (filter (is_from cursor.0)) refl ids all)
 
-  ranged : (ids : List ℕ) → ranged_sources range (sources_at stored ids) ≡ map (rows_in range) (map (table_rows stored) ids)
+  pub ranged : (ids : List ℕ) → ranged_sources range (sources_at stored ids) ≡ map (rows_in range) (map (table_rows stored) ids)
   ranged [] = refl
   ranged (id ∷ ids) = ap (λ rows. rows_in range rows ∷ ranged_sources range (sources_at stored ids)) (append-nil (table_rows stored id)) ∙ ap (λ rest. rows_in range (table_rows stored id) ∷ rest) (ranged ids)
 
-  flat_map_is : (ids : List ℕ) → flat_map (λ rows. rows) (map (table_rows stored) ids) ≡ flat_map (table_rows stored) ids
+  pub flat_map_is : (ids : List ℕ) → flat_map (λ rows. rows) (map (table_rows stored) ids) ≡ flat_map (table_rows stored) ids
   flat_map_is [] = refl
   flat_map_is (id ∷ ids) = ap (λ rows. table_rows stored id ++ rows) (flat_map_is ids)
 
@@ -166,7 +166,7 @@ module _ (stored : Tables) (range : Range) where
       ∙ sources_may_be_cut (λ r. is_in_range range r.key) (map (table_rows stored) ids)
       ∙ ap (λ rows. rows_in range (sorted_rows rows)) (flat_map_is ids)
 
-  source_lists : (ids : List ℕ) → map source_rows (sources_at stored ids) ≡ map (table_rows stored) ids
+  pub source_lists : (ids : List ℕ) → map source_rows (sources_at stored ids) ≡ map (table_rows stored) ids
   source_lists [] = refl
   source_lists (id ∷ ids) = ap (λ rows. rows ∷ map source_rows (sources_at stored ids)) (append-nil (table_rows stored id)) ∙ ap (λ rest. table_rows stored id ∷ rest) (source_lists ids)
 

@@ -1,5 +1,5 @@
 -- Gets of source tables, one after the other.
-use Rattle.std.specs.Prelude.{◌≡◌, ◌⊎◌, ◌&&◌, ◌++◌, ℕ, Bool, List, [], ◌∷◌, filter, map, Option, Some, Result, Ok, Err}
+use Rattle.std.specs.Prelude.{◌≡◌, ◌⊎◌, ◌&&◌, ◌++◌, ℕ, Bool, List, [], ◌∷◌, filter, map, Some, Result, Ok, Err}
 use Rattle.row_model.specs.Ranges.{Range, is_after_start, is_before_end}
 use Rattle.row_model.specs.Rows.{Row}
 use Rattle.fleet_model.specs.Nodes.{Tables, table_rows}

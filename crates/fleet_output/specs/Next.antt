@@ -1,5 +1,5 @@
 -- The next rows of a range, made of source tables that are got for it.
-use Rattle.std.specs.Prelude.{◌≢◌, ◌⊎◌, ℕ, List, Option, option_map, Result, Ok, Err}
+use Rattle.std.specs.Prelude.{◌≢◌, ◌⊎◌, ℕ, List, Option, Result, Ok, Err}
 use Rattle.std.specs.List.{AllByRecursion}
 use Rattle.row_model.specs.Fold.{Operator}
 use Rattle.row_model.specs.JobRows.{JobRows}

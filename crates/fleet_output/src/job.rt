@@ -1,6 +1,6 @@
 //! Ranges that are resumed after the tables that were noted for them.
 
-ghost use Rattle.std.specs.Prelude.{◌≡◌, IfOk, IsOkUnless};
+ghost use Rattle.std.specs.Prelude.{◌≡◌, IfOk, IsOkUnless, map};
 ghost use Rattle.fleet_output.specs.Jobs.{cursor_of, resumed};
 
 use bytes::Bytes;
@@ -8,6 +8,7 @@ use fleet_exec::RangeJob;
 use fleet_plan::Subcompaction;
 use fleet_rows::{Settings, SlateDBError};
 use fleet_tree::SsTableHandle;
+use std::alloc::Global;
 
 // The place of the last row of these tables, or None if there is no table.
 fn cursor_of(tables: &[SsTableHandle]) -> Result<Option<(Bytes, u64)>, SlateDBError>
@@ -31,4 +32,22 @@ pub fn range_job(settings: Settings, part: &Subcompaction) -> Result<RangeJob, S
         cursor: cursor_of(part.output_ssts())?,
         settings,
     })
+}
+
+/// These ranges in order, each resumed under these settings after the last row of the last table
+/// that is noted for it.
+pub fn range_jobs(
+    alloc: Global,
+    settings: Settings,
+    parts: &[Subcompaction],
+) -> Result<Vec<RangeJob>, SlateDBError>
+    ensures jobs { IfOk result (λ jobs. jobs.items ≡ map (resumed settings) parts.now) }
+    ensures memory { IsOkUnless result SlateDBError.Memory }
+{
+    let mut jobs = Vec::with_capacity(alloc, parts.len())?;
+    'parts: for part in parts {
+        let job = range_job(settings, part)?;
+        jobs.push(job)?;
+    }
+    Ok(jobs)
 }

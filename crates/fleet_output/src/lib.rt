@@ -1,15 +1,29 @@
 //! The tables that a worker writes: it gets the source tables, makes the next rows of a range from
-//! them, and puts them as a table.
+//! them, and puts them as a table. At the end of a job it makes all that is left of each range, and
+//! puts it table by table.
 #![tactic(auto)]
 
+mod finish;
 mod gets;
 mod job;
+mod left;
 mod next;
+mod outputs;
 mod put;
+mod ranges;
 mod write;
 
+pub use finish::finish_left;
+use fleet_exec::RangeTables;
+use fleet_rows::ListOf;
 pub use gets::{get_tables, tables_in};
-pub use job::range_job;
+pub use job::{range_job, range_jobs};
+pub use left::read_left;
 pub use next::read_next;
+pub use outputs::all_outputs;
 pub use put::put_output;
+pub use ranges::put_ranges;
 pub use write::write_next;
+
+/// The tables of ranges, in the order of the ranges. Each table is its rows.
+pub type LeftTables = ListOf<RangeTables>;

@@ -1,4 +1,4 @@
-use Rattle.std.proofs.Common.{◌∙◌, ◌∷◌, [], ap, subst, inr, Ok, Some}
+use Rattle.std.proofs.Common.{◌∙◌, ◌∷◌, [], ap, subst, inr, Ok}
 use Rattle.std.proofs.lemmas.Result.{err_from_is_err_and}
 use Rattle.fleet_store.specs.Asks.{GetsTable}
 use Rattle.fleet_output.proofs.GotTables.{answers_rows, is_answered}

@@ -1,4 +1,4 @@
-use Rattle.std.proofs.Common.{◌∙◌, sym, ap, subst, take, inl, inr}
+use Rattle.std.proofs.Common.{◌∙◌, sym, ap, subst, take, inr}
 use Rattle.std.specs.Prelude.{IsTrue}
 use Rattle.std.proofs.lemmas.Result.{err_from_is_err_and}
 use Rattle.fleet_model.specs.Store.{is_held}
