@@ -20,7 +20,8 @@ noted_and [] new = []
 noted_and (part ∷ parts) [] = part.output_ssts ∷ noted_and parts []
 noted_and (part ∷ parts) (tables ∷ new) = (part.output_ssts ++ tables) ∷ noted_and parts new
 
-module _ (merge : Operator) (settings : Settings) (tables : List SsTableHandle) (parts : List Part) (size moment : ℕ) where
+module _ (merge : Operator) (settings : Settings) (tables : List SsTableHandle) (parts : List Part)
+    (size moment : ℕ) where
   -- Of this store, the tables of what is left of each range.
   abbrev pub tables_left : StoreView → List (List (List Row))
   tables_left view = tables_for merge view.world.store.tables settings tables size parts

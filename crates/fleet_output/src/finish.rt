@@ -19,11 +19,11 @@ use std::thread::Threads;
 
 /// Writes all that is left of each range: gets all source tables, each once, makes the tables as
 /// `read_left` does, and puts them range after range, each under an id that is drawn with this
-/// moment in milliseconds. The answer describes all tables of each range, first those that are noted
-/// for it. `tables` describe all source tables, in source order.
+/// moment in milliseconds. The answer describes all tables of each range, first those that are
+/// noted for it. `tables` describe all source tables, in source order.
 ///
-/// Where the operator refuses a fold, the error is its own, and nothing is drawn. After `Memory` and
-/// `StoreFault` some of the tables may be put.
+/// Where the operator refuses a fold, the error is its own, and nothing is drawn. After `Memory`
+/// and `StoreFault` some of the tables may be put.
 pub fn finish_left<R: Threads + Sync, S: Store, O: MergeOperator, G: RangeGate>(
     rt: &R,
     alloc: Global,

@@ -4,17 +4,19 @@ ghost use Rattle.std.specs.Prelude.{◌≡◌, ◌<◌, ◌^◌, IfOk, IsOkUnles
 ghost use Rattle.fleet_jobs.specs.Contexts.{table_ids};
 ghost use Rattle.fleet_output.specs.Left.{CanFinish, ReadsLeft};
 
-use crate::LeftTables;
 use crate::gets::get_tables;
 use crate::job::range_jobs;
-use fleet_exec::{RangeGate, finish_ranges};
+use fleet_exec::{RangeGate, RangeTables, finish_ranges};
 use fleet_fold::MergeOperator;
 use fleet_plan::Subcompaction;
-use fleet_rows::{IdList, Settings, SlateDBError};
+use fleet_rows::{IdList, ListOf, Settings, SlateDBError};
 use fleet_store::Store;
 use fleet_tree::SsTableHandle;
 use std::alloc::Global;
 use std::thread::Threads;
+
+/// The tables of ranges, in the order of the ranges. Each table is its rows.
+pub type LeftTables = ListOf<RangeTables>;
 
 // The ids of these tables.
 fn ids_of(alloc: Global, tables: &[SsTableHandle]) -> Result<IdList, SlateDBError>

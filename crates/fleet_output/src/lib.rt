@@ -14,16 +14,11 @@ mod ranges;
 mod write;
 
 pub use finish::finish_left;
-use fleet_exec::RangeTables;
-use fleet_rows::ListOf;
 pub use gets::{get_tables, tables_in};
 pub use job::{range_job, range_jobs};
-pub use left::read_left;
+pub use left::{LeftTables, read_left};
 pub use next::read_next;
 pub use outputs::all_outputs;
 pub use put::put_output;
 pub use ranges::put_ranges;
 pub use write::write_next;
-
-/// The tables of ranges, in the order of the ranges. Each table is its rows.
-pub type LeftTables = ListOf<RangeTables>;

@@ -13,7 +13,7 @@ ghost use Rattle.fleet_output.specs.RangePuts.{
   PutsRanges,
 };
 
-use crate::LeftTables;
+use crate::left::LeftTables;
 use crate::put::put_output;
 use fleet_exec::RangeTables;
 use fleet_rows::{ListOf, SlateDBError};
