@@ -1,10 +1,13 @@
 -- When a poll leaves the manifest as it is.
-use Rattle.std.specs.Prelude.{◌==◌, ◌&&◌, ℕ, Bool, List}
+use Rattle.std.specs.Prelude.{◌≡◌, ◌==◌, ◌&&◌, ℕ, Bool, List, [], map}
 use Rattle.std.specs.Cmp.Lexicographic.{pointwise}
+use Rattle.fleet_model.specs.Store.{Manifest}
+use Rattle.fleet_tree.specs.Trees.{trees_of}
 use Rattle.fleet_tree.specs.Views.{View}
 use Rattle.fleet_tree.specs.declared.run.SortedRun.{SortedRun}
 use Rattle.fleet_tree.specs.declared.tree.LsmTreeState.{LsmTreeState}
 use Rattle.fleet_tree.specs.declared.manifest.ManifestCore.{ManifestCore}
+use Rattle.fleet_store.specs.Manifests.{bare_segment}
 
 -- Both views are of the same table.
 abbrev pub same_table : View → View → Bool
@@ -29,3 +32,8 @@ same_tree a b = same_nodes a.1 b.1
 -- Two manifests have the same nodes in the same order, tree by tree, and the same horizon.
 abbrev pub same_manifest : ManifestCore → ManifestCore → Bool
 same_manifest a b = same_nodes a.tree b.tree && pointwise same_tree a.segments b.segments && (a.horizon == b.horizon)
+
+-- The model's manifest has the program's horizon and trees, whichever flushes went into the nodes of the trees.
+pub record HasTreesOf (core : ManifestCore) (manifest : Manifest) : Type 0 where
+  pub trees : map bare_segment (trees_of (λ prefix run. []) core) ≡ map bare_segment manifest.trees
+  pub horizon : core.horizon ≡ manifest.horizon

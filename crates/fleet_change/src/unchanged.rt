@@ -2,7 +2,11 @@
 
 ghost use Rattle.std.specs.Prelude.{◌≡◌, ◌==◌, Bool};
 ghost use Rattle.std.specs.Cmp.Lexicographic.{pointwise};
-ghost use Rattle.fleet_change.specs.Same.{same_flush, same_manifest, same_nodes, same_run, same_table, same_tree};
+ghost use Rattle.fleet_model.specs.Store.{Manifest};
+ghost use Rattle.fleet_model.specs.Work.PollStates.{PollState};
+ghost use Rattle.step_model.specs.Steps.PollSteps.{is_unchanged};
+ghost use Rattle.fleet_tree.specs.Trees.{RunFlushes, trees_of};
+ghost use Rattle.fleet_change.specs.Same.{HasTreesOf, same_flush, same_manifest, same_nodes, same_run, same_table, same_tree};
 
 use bytes::Bytes;
 use fleet_tree::{LsmTreeState, ManifestCore, SortedRun, SsTableView};
@@ -78,12 +82,22 @@ fn have_same_nodes(tree: &LsmTreeState, other: &LsmTreeState) -> bool
         && are_same(tree.compacted.as_slice(), other.compacted.as_slice())
 }
 
-/// Whether both have the same nodes in the same order, tree by tree, and the same horizon. Nodes
-/// are compared by name and tables.
-pub fn is_unchanged(got: &ManifestCore, now: &ManifestCore) -> bool
+// The manifests have the same nodes in the same order, tree by tree, and the same horizon.
+fn are_alike(got: &ManifestCore, now: &ManifestCore) -> bool
     ensures { result ≡ same_manifest got.now now.now }
 {
     have_same_nodes(&got.tree, &now.tree)
         && are_same(got.segments.as_slice(), now.segments.as_slice())
         && got.horizon == now.horizon
+}
+
+/// Whether both have the same nodes in the same order, tree by tree, and the same horizon. Nodes
+/// are compared by name and tables.
+pub fn is_unchanged(got: &ManifestCore, now: &ManifestCore) -> bool
+    ensures same { result ≡ same_manifest got.now now.now }
+    ensures model { (flushes : RunFlushes) (manifest : Manifest) (p : PollState)
+        → HasTreesOf got.now manifest → p.trees ≡ trees_of flushes now.now
+        → p.horizon ≡ now.now.horizon → result ≡ is_unchanged manifest p }
+{
+    are_alike(got, now)
 }
