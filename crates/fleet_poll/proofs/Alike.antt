@@ -26,11 +26,15 @@ use Rattle.fleet_sched.specs.Views.{handles_in, tree_handles, view_of}
 use Rattle.fleet_gates.specs.Shown.{accepted_on}
 use Rattle.fleet_poll.specs.Made.{own_core}
 use Rattle.fleet_poll.specs.Polls.{poll_of}
-use Rattle.fleet_poll.specs.Seen.{AreTold, IsTold, JobsTold, Sees}
+use Rattle.fleet_poll.specs.Seen.{AreTold, IsTold, JobsTold, Sees, ViewTold, ViewsTold, views_of}
 use Rattle.fleet_poll.specs.Shown.{shown}
 use Rattle.fleet_poll.specs.declared.poll.Poll.{Poll}
 use Rattle.fleet_poll.proofs.Joined.{written_ids}
-use Rattle.fleet_poll.proofs.Told.{all_both, run_handles}
+use Rattle.fleet_poll.proofs.Told.{all_back, all_both, all_front}
+
+-- The handles of the tables of a run.
+abbrev run_handles : SortedRun → List SsTableHandle
+run_handles run = map (λ view. view.sst) run.views
 
 -- ---- ids of tables
 
@@ -89,6 +93,25 @@ told_handles : (tables : Tables) (handles : List SsTableHandle) → AreTold tabl
 told_handles tables [] told = refl
 told_handles tables (handle ∷ handles) told = rw (told.0.describes, told_handles tables handles told.1) refl
 
+view_handles_told : (tables : Tables) (views : List own.View) → ViewsTold tables views → AreTold tables (map (λ view. view.sst) views)
+view_handles_told tables [] told = tt
+view_handles_told tables (view ∷ views) told = (told.0.handle, view_handles_told tables views told.1)
+
+run_handles_told : (tables : Tables) (runs : List SortedRun) → ViewsTold tables (flat_map (λ run. run.views) runs) → AreTold tables (flat_map run_handles runs)
+run_handles_told tables [] told = tt
+run_handles_told tables (run ∷ runs) told =
+    all_both (IsTold tables) (run_handles run) (flat_map run_handles runs) (view_handles_told tables run.views (all_front (ViewTold tables) run.views (flat_map (λ r. r.views) runs) told))
+    (run_handles_told tables runs (all_back (ViewTold tables) run.views (flat_map (λ r. r.views) runs) told))
+
+tree_handles_told : (tables : Tables) (tree : LsmTreeState) → ViewsTold tables (views_of tree) → AreTold tables (tree_handles tree)
+tree_handles_told tables tree told =
+    all_both (IsTold tables) (map (λ view. view.sst) tree.l0) (flat_map run_handles tree.compacted) (view_handles_told tables tree.l0 (all_front (ViewTold tables) tree.l0 (flat_map (λ r. r.views) tree.compacted) told))
+    (run_handles_told tables tree.compacted (all_back (ViewTold tables) tree.l0 (flat_map (λ r. r.views) tree.compacted) told))
+
+all_trees_told : (tables : Tables) (trees : List (List ℕ × LsmTreeState)) → AllByRecursion (λ s. ViewsTold tables (views_of s.1)) trees → AreTold tables (flat_map (λ s. tree_handles s.1) trees)
+all_trees_told tables [] told = tt
+all_trees_told tables (s ∷ trees) told = all_both (IsTold tables) (tree_handles s.1) (flat_map (λ t. tree_handles t.1) trees) (tree_handles_told tables s.1 told.0) (all_trees_told tables trees told.1)
+
 all_flat : {A : Type 0} (tables : Tables) (f : A → List SsTableHandle) (xs : List A) → AllByRecursion (λ x. AreTold tables (f x)) xs → AreTold tables (flat_map f xs)
 all_flat tables f [] told = tt
 all_flat tables f (x ∷ xs) told = all_both (IsTold tables) (f x) (flat_map f xs) told.0 (all_flat tables f xs told.1)
@@ -143,7 +166,7 @@ module _ (flushes : RunFlushes) (input : PollInput) (s : Scheduler) (poll : Poll
   handles_are =
       told_handles input.tables (handles_in (shown poll.state))
       (all_both (IsTold input.tables) (flat_map (λ s. tree_handles s.1) (trees_with_prefix (own_core poll.state))) (flat_map job_handles (filter is_open still_open))
-      (all_flat input.tables (λ s. tree_handles s.1) (trees_with_prefix (own_core poll.state)) sees.trees)
+      (all_trees_told input.tables (trees_with_prefix (own_core poll.state)) sees.trees)
       (all_flat input.tables job_handles (filter is_open still_open) (open_told input.tables still_open (open_told input.tables (own_jobs poll.state) sees.jobs))))
       ∙ ap (handles_of input.tables) ids_are
 

@@ -22,9 +22,9 @@ use Rattle.fleet_book.specs.Versions.{with_jobs}
 use Rattle.fleet_poll.specs.Made.{PrefixesRise, joined_run, own_core}
 use Rattle.fleet_poll.specs.Loops.{OthersStay, StillSees}
 use Rattle.fleet_poll.specs.Polls.{HasSameObjects, changed_record, failed, waiting}
-use Rattle.fleet_poll.specs.Seen.{AreTold, JobsTold, Sees, TreesTold, rest_of}
+use Rattle.fleet_poll.specs.Seen.{AreTold, JobsTold, Sees, TreesTold, ViewsTold, rest_of}
 use Rattle.fleet_poll.proofs.Changed.{found_has_id, others_stay}
-use Rattle.fleet_poll.proofs.Told.{changed_hold, finished_trees_told, found_holds, joined_told, output_handles, put_holds, written_told}
+use Rattle.fleet_poll.proofs.Told.{changed_hold, finished_trees_told, found_holds, joined_told, output_views, put_holds, written_told}
 
 -- ---- a job that is finished
 
@@ -41,7 +41,7 @@ finished_others id job output old new same is = λ other apart.
 
 -- What an input says of the state, it says of the state after a job is finished with told tables.
 pub finished_sees : (job : JobParts) (output : Option SortedRun) (old : StateParts) (id : ℕ) → record_with id (own_jobs old) ≡ Some job
-    → ((input : PollInput) (scheduler : Scheduler) → Sees input scheduler old → AreTold input.tables (job_handles job) → AreTold input.tables (output_handles output))
+    → ((input : PollInput) (scheduler : Scheduler) → Sees input scheduler old → AreTold input.tables (job_handles job) → ViewsTold input.tables (output_views output))
     → StillSees old (finished_state job output old)
 finished_sees job output old id found made input scheduler sees =
     let told = found_holds (λ j. AreTold input.tables (job_handles j)) id (own_jobs old) job found sees.jobs in

@@ -19,14 +19,14 @@ use Rattle.fleet_book.specs.States.{own_jobs}
 use Rattle.fleet_poll.specs.Loops.{IsDecision, StillSees, Fails, Ends, Waits}
 use Rattle.fleet_poll.specs.Made.{own_core, run_if_moved}
 use Rattle.fleet_poll.specs.Polls.{HasSameObjects, changed_record, failed, opened}
-use Rattle.fleet_poll.specs.Seen.{AreTold, Sees}
+use Rattle.fleet_poll.specs.Seen.{AreTold, Sees, ViewsTold}
 use Rattle.fleet_poll.specs.declared.poll.Poll.{Poll}
 use Rattle.fleet_poll.proofs.Carried.{NamesNoMore, changed_others, changed_sees, failed_names, finished_others, finished_sees}
 use Rattle.fleet_poll.proofs.Changed.{found_has_id}
 use Rattle.fleet_poll.proofs.Finished.{completed_jobs}
 use Rattle.fleet_poll.proofs.Records.{failed_are, opened_are}
 use Rattle.fleet_poll.proofs.Taken.{moved_told, taken_told}
-use Rattle.fleet_poll.proofs.Told.{output_handles, written_told}
+use Rattle.fleet_poll.proofs.Told.{output_views, written_told}
 
 opened_names : (trees : Trees) → NamesNoMore (opened trees)
 opened_names trees = record { id = λ job. refl; told = λ input job told. written_told input.tables job told }
@@ -52,7 +52,7 @@ by_opening id old new same jobs lost =
 
 -- A job that is finished at once, with told tables.
 finished_is : (id : ℕ) (old new : Poll) (job : JobParts) (output : Option SortedRun) → AreRising (own_jobs old.state) → record_with id (own_jobs old.state) ≡ Some job → new.state ≡ finished_state job output old.state
-    → ((input : PollInput) (scheduler : Scheduler) → Sees input scheduler old.state → AreTold input.tables (job_handles job) → AreTold input.tables (output_handles output))
+    → ((input : PollInput) (scheduler : Scheduler) → Sees input scheduler old.state → AreTold input.tables (job_handles job) → ViewsTold input.tables (output_views output))
     → new.lost ≡ old.lost → IsDecision id old new
 finished_is id old new job output rising found is told lost =
     let same : job.id ≡ id = found_has_id id (own_jobs old.state) job found in

@@ -116,6 +116,9 @@ pub opens_end : (s : Scheduler) (moves : Bool) (initial now : Poll) (held : List
     → HasReached now (open_submitted input (poll_of flushes initial))
 opens_end s moves initial now held flushes input c sees same = let goes = c.going flushes input sees same in record { flushes = goes.own; is = goes.is }
 
+pub opens_see : (s : Scheduler) (moves : Bool) (initial now : Poll) (held : List NodeName) (input : PollInput) → OpensOn s moves initial [] now held → Sees input s initial.state → input.options.moves ≡ moves → Sees input s now.state
+opens_see s moves initial now held input c sees same = (c.going (λ prefix run. []) input sees same).sees
+
 -- ---- the turn of a job
 
 module _ (s : Scheduler) (moves : Bool) (initial now : Poll) (job : JobParts) (rest : List JobParts) (held : List NodeName) (id : ℕ) (c : OpensOn s moves initial (job ∷ rest) now held) (same : job.id ≡ id) where

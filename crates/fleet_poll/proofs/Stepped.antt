@@ -12,6 +12,7 @@ use Rattle.fleet_book.specs.Records.{record_with}
 use Rattle.fleet_book.specs.States.{own_jobs}
 use Rattle.fleet_poll.specs.Loops.{CommitsStand, HasReached, LostAreOver, MayCommit, StillSees, is_compacted, is_over_if_there}
 use Rattle.fleet_poll.specs.Polls.{poll_of}
+use Rattle.fleet_poll.specs.Seen.{Sees}
 use Rattle.fleet_poll.specs.Steps.{MayBegin, SeesStale, freed_unless, opened_unless}
 use Rattle.fleet_poll.specs.declared.poll.Poll.{Poll}
 use Rattle.fleet_poll.proofs.Committed.{compacted_are}
@@ -46,3 +47,7 @@ opens_after flushes input false drawn before added after here opens added_is rea
 pub stays_as_it_is : (flushes : RunFlushes) (input : PollInput) (commits_only : Bool) (drawn : List (ℕ × JobSpec)) (before here : Poll) → commits_only ≡ true → here ≡ before → HasReached here (opened_unless commits_only input drawn (poll_of flushes before))
 stays_as_it_is flushes input true drawn before here only is = record { flushes = flushes; is = ap (poll_of flushes) is }
 stays_as_it_is flushes input false drawn before here only is = absurd (cc only)
+
+-- What a step sees is seen by the poll that is the same after it.
+pub sees_after : (input : PollInput) (s : Scheduler) (after here : Poll) → Sees input s after.state → here ≡ after → Sees input s here.state
+sees_after input s after here sees is = subst (λ (poll : Poll). Sees input s poll.state) (sym is) sees

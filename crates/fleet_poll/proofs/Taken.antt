@@ -1,5 +1,5 @@
--- The handles of the tables that a job takes from its tree.
-use Rattle.std.proofs.Common.{sym, ap, ℕ, List, [], ◌∷◌, map, Bool, true, false, ◌&&◌, cond}
+-- The tables that a job takes from its tree.
+use Rattle.std.proofs.Common.{sym, ap, ℕ, List, [], ◌∷◌, Bool, true, false, ◌&&◌, cond}
 use Rattle.std.specs.Prelude.{◌==◌, bytes_eq, find, flat_map, option_map, Option, Some, None}
 use Rattle.std.specs.List.{AllByRecursion}
 use Rattle.std.specs.Option.{option_to_list}
@@ -20,55 +20,39 @@ use Rattle.fleet_jobs.specs.Specs.{segment_of, sources_of}
 use Rattle.fleet_jobs.specs.Taken.{l0_in, named_runs, named_views, run_with, runs_in, taken_tables, taken_views, taken_runs, view_with}
 use Rattle.fleet_jobs.specs.declared.source_id.SourceId.{SourceId}
 use Rattle.fleet_jobs.specs.declared.spec.CompactionSpec.{CompactionSpec}
-use Rattle.fleet_sched.specs.Views.{tree_handles}
-use Rattle.fleet_poll.specs.Seen.{AreTold, IsTold, TreesTold}
-use Rattle.fleet_poll.proofs.Told.{all_back, all_both, all_front, output_handles, run_handles}
+use Rattle.fleet_poll.specs.Seen.{TreesTold, ViewTold, ViewsTold, views_of}
+use Rattle.fleet_poll.proofs.Told.{all_back, all_both, all_front, output_views}
 
 module _ (tables : Tables) where
-  -- The handle of the view's table is told.
-  abbrev pub ViewTold : View → Type 0
-  ViewTold view = IsTold tables view.sst
-
-  abbrev ViewsTold : List View → Type 0
-  ViewsTold views = AllByRecursion ViewTold views
-
   abbrev RunsTold : List SortedRun → Type 0
-  RunsTold runs = AllByRecursion (λ run. ViewsTold run.views) runs
+  RunsTold runs = AllByRecursion (λ run. ViewsTold tables run.views) runs
 
-  from_handles : (views : List View) → AreTold tables (map (λ view. view.sst) views) → ViewsTold views
-  from_handles [] told = tt
-  from_handles (view ∷ views) told = (told.0, from_handles views told.1)
-
-  to_handles : (views : List View) → ViewsTold views → AreTold tables (map (λ view. view.sst) views)
-  to_handles [] told = tt
-  to_handles (view ∷ views) told = (told.0, to_handles views told.1)
-
-  runs_told : (runs : List SortedRun) → AreTold tables (flat_map run_handles runs) → RunsTold runs
+  runs_told : (runs : List SortedRun) → ViewsTold tables (flat_map (λ run. run.views) runs) → RunsTold runs
   runs_told [] told = tt
   runs_told (run ∷ runs) told =
-      (from_handles run.views (all_front (IsTold tables) (run_handles run) (flat_map run_handles runs) told), runs_told runs (all_back (IsTold tables) (run_handles run) (flat_map run_handles runs) told))
+      (all_front (ViewTold tables) run.views (flat_map (λ r. r.views) runs) told, runs_told runs (all_back (ViewTold tables) run.views (flat_map (λ r. r.views) runs) told))
 
   -- ---- what is found
 
-  tree_found : (p : List ℕ × LsmTreeState → Bool) (trees : List (List ℕ × LsmTreeState)) → AllByRecursion (λ s. AreTold tables (tree_handles s.1)) trees
-      → ViewsTold (l0_in (option_map (λ s. s.1) (find p trees))) × RunsTold (runs_in (option_map (λ s. s.1) (find p trees)))
+  tree_found : (p : List ℕ × LsmTreeState → Bool) (trees : List (List ℕ × LsmTreeState)) → AllByRecursion (λ s. ViewsTold tables (views_of s.1)) trees
+      → ViewsTold tables (l0_in (option_map (λ s. s.1) (find p trees))) × RunsTold (runs_in (option_map (λ s. s.1) (find p trees)))
   tree_found p [] told = (tt, tt)
   tree_found p (s ∷ trees) told = by (p s) (tree_found p trees told.1)
     where
-      by : (b : Bool) → ViewsTold (l0_in (option_map (λ s. s.1) (find p trees))) × RunsTold (runs_in (option_map (λ s. s.1) (find p trees)))
-          → ViewsTold (l0_in (option_map (λ s. s.1) (cond b (Some s) (find p trees)))) × RunsTold (runs_in (option_map (λ s. s.1) (cond b (Some s) (find p trees))))
+      by : (b : Bool) → ViewsTold tables (l0_in (option_map (λ s. s.1) (find p trees))) × RunsTold (runs_in (option_map (λ s. s.1) (find p trees)))
+          → ViewsTold tables (l0_in (option_map (λ s. s.1) (cond b (Some s) (find p trees)))) × RunsTold (runs_in (option_map (λ s. s.1) (cond b (Some s) (find p trees))))
       by true rest = (
-        from_handles s.1.l0 (all_front (IsTold tables) (map (λ view. view.sst) s.1.l0) (flat_map run_handles s.1.compacted) told.0),
-        runs_told s.1.compacted (all_back (IsTold tables) (map (λ view. view.sst) s.1.l0) (flat_map run_handles s.1.compacted) told.0),
+        all_front (ViewTold tables) s.1.l0 (flat_map (λ run. run.views) s.1.compacted) told.0,
+        runs_told s.1.compacted (all_back (ViewTold tables) s.1.l0 (flat_map (λ run. run.views) s.1.compacted) told.0),
       )
       by false rest = rest
 
-  view_found : (id : Option ℕ) (views : List View) → ViewsTold views → ViewsTold (option_to_list (view_with id views))
+  view_found : (id : Option ℕ) (views : List View) → ViewsTold tables views → ViewsTold tables (option_to_list (view_with id views))
   view_found None views told = tt
   view_found (Some id) [] told = tt
   view_found (Some id) (view ∷ views) told = by (view.id == id) (view_found (Some id) views told.1)
     where
-      by : (b : Bool) → ViewsTold (option_to_list (view_with (Some id) views)) → ViewsTold (option_to_list (cond b (Some view) (view_with (Some id) views)))
+      by : (b : Bool) → ViewsTold tables (option_to_list (view_with (Some id) views)) → ViewsTold tables (option_to_list (cond b (Some view) (view_with (Some id) views)))
       by true rest = (told.0, tt)
       by false rest = rest
 
@@ -81,52 +65,52 @@ module _ (tables : Tables) where
       by true rest = (told.0, tt)
       by false rest = rest
 
-  views_named : (sources : List SourceId) (views : List View) → ViewsTold views → ViewsTold (named_views sources views)
+  views_named : (sources : List SourceId) (views : List View) → ViewsTold tables views → ViewsTold tables (named_views sources views)
   views_named [] views told = tt
-  views_named (source ∷ sources) views told = all_both ViewTold (option_to_list (view_with (view_id_of source) views)) (named_views sources views) (view_found (view_id_of source) views told) (views_named sources views told)
+  views_named (source ∷ sources) views told = all_both (ViewTold tables) (option_to_list (view_with (view_id_of source) views)) (named_views sources views) (view_found (view_id_of source) views told) (views_named sources views told)
 
   runs_named : (sources : List SourceId) (runs : List SortedRun) → RunsTold runs → RunsTold (named_runs sources runs)
   runs_named [] runs told = tt
   runs_named (source ∷ sources) runs told =
-      all_both (λ run. ViewsTold run.views) (option_to_list (run_with (run_id_of source) runs)) (named_runs sources runs) (run_found (run_id_of source) runs told) (runs_named sources runs told)
+      all_both (λ run. ViewsTold tables run.views) (option_to_list (run_with (run_id_of source) runs)) (named_runs sources runs) (run_found (run_id_of source) runs told) (runs_named sources runs told)
 
-  run_views : (runs : List SortedRun) → RunsTold runs → ViewsTold (flat_map (λ run. run.views) runs)
+  run_views : (runs : List SortedRun) → RunsTold runs → ViewsTold tables (flat_map (λ run. run.views) runs)
   run_views [] told = tt
-  run_views (run ∷ runs) told = all_both ViewTold run.views (flat_map (λ r. r.views) runs) told.0 (run_views runs told.1)
+  run_views (run ∷ runs) told = all_both (ViewTold tables) run.views (flat_map (λ r. r.views) runs) told.0 (run_views runs told.1)
 
-  -- What a job takes of trees whose handles are told has told handles.
-  pub taken_told : (spec : CompactionSpec) (core : ManifestCore) → TreesTold tables core → AllByRecursion ViewTold (taken_tables spec core)
+  -- What a job takes of trees whose tables are told is told.
+  pub taken_told : (spec : CompactionSpec) (core : ManifestCore) → TreesTold tables core → ViewsTold tables (taken_tables spec core)
   taken_told spec core told =
       let found = tree_found (λ s. bytes_eq (segment_of spec) s.0) (trees_with_prefix core) told in
-      all_both ViewTold (taken_views spec core) (flat_map (λ run. run.views) (taken_runs spec core)) (views_named (sources_of spec) _ found.0) (run_views (taken_runs spec core) (runs_named (sources_of spec) _ found.1))
+      all_both (ViewTold tables) (taken_views spec core) (flat_map (λ run. run.views) (taken_runs spec core)) (views_named (sources_of spec) _ found.0) (run_views (taken_runs spec core) (runs_named (sources_of spec) _ found.1))
 
   -- ---- moves
 
-  put_start : (view : View) (views : List View) → ViewTold view → ViewsTold views → ViewsTold (put_view view views)
+  put_start : (view : View) (views : List View) → ViewTold tables view → ViewsTold tables views → ViewsTold tables (put_view view views)
   put_start view [] one told = (one, tt)
   put_start view (other ∷ others) one told = by (is_lt (key_cmp other.sst.first_key view.sst.first_key)) (put_start view others one told.1)
     where
-      by : (b : Bool) → ViewsTold (put_view view others) → ViewsTold (cond b (other ∷ put_view view others) (view ∷ other ∷ others))
+      by : (b : Bool) → ViewsTold tables (put_view view others) → ViewsTold tables (cond b (other ∷ put_view view others) (view ∷ other ∷ others))
       by true rest = (told.0, rest)
       by false rest = (one, told)
 
-  start_told : (views : List View) → ViewsTold views → ViewsTold (by_start views)
+  start_told : (views : List View) → ViewsTold tables views → ViewsTold tables (by_start views)
   start_told [] told = tt
   start_told (view ∷ views) told = put_start view (by_start views) told.0 (start_told views told.1)
 
-  pub moved_told : (destination : Option ℕ) (views : List View) → AllByRecursion ViewTold views → AreTold tables (output_handles (moved_run destination views))
+  pub moved_told : (destination : Option ℕ) (views : List View) → ViewsTold tables views → ViewsTold tables (output_views (moved_run destination views))
   moved_told None views told = tt
   moved_told (Some id) views told = by (is_nonempty (by_start views) && are_disjoint (by_start views))
     where
-      by : (b : Bool) → AreTold tables (output_handles (cond b (Some (record { id = id; views = by_start views })) None))
-      by true = to_handles (by_start views) (start_told views told)
+      by : (b : Bool) → ViewsTold tables (output_views (cond b (Some (record { id = id; views = by_start views })) None))
+      by true = start_told views told
       by false = tt
 
   -- ---- ends
 
-  pub ends_fit : (views : List View) → AllByRecursion ViewTold views → AllByRecursion (EndsFit tables) views
+  pub ends_fit : (views : List View) → ViewsTold tables views → AllByRecursion (EndsFit tables) views
   ends_fit [] told = tt
   ends_fit (view ∷ views) told = (
-    record { first = sym (ap (λ (h : Handle). h.first_key) told.0.describes); last = sym (ap (λ (h : Handle). h.last_key) told.0.describes); rising = told.0.rising },
+    record { first = sym (ap (λ (h : Handle). h.first_key) told.0.handle.describes); last = sym (ap (λ (h : Handle). h.last_key) told.0.handle.describes); rising = told.0.handle.rising },
     ends_fit views told.1,
   )

@@ -1,5 +1,5 @@
--- The handles that trees and jobs name, after a job is finished or fails.
-use Rattle.std.proofs.Common.{◌≡◌, refl, sym, ap, subst, ℕ, List, [], ◌∷◌, ◌++◌, map, Bool, true, false, not, cond}
+-- The tables that trees and jobs name, after a job is finished or fails.
+use Rattle.std.proofs.Common.{◌≡◌, refl, subst, ℕ, List, [], ◌∷◌, ◌++◌, map, Bool, true, false, not, cond}
 use Rattle.std.specs.Prelude.{◌==◌, bytes_eq, flat_map, nat_lt, Option, Some, None}
 use Rattle.std.specs.List.{AllByRecursion}
 use Rattle.fleet_model.specs.Jobs.{contains}
@@ -17,10 +17,9 @@ use Rattle.fleet_jobs.specs.declared.source_id.SourceId.{SourceId}
 use Rattle.fleet_jobs.specs.declared.spec.CompactionSpec.{CompactionSpec}
 use Rattle.fleet_book.specs.Finishes.{core_after, finished_tree, is_named, kept_runs, kept_views, put_run, segment_after, tree_after, with_output}
 use Rattle.fleet_book.specs.Records.{put_record, record_with}
-use Rattle.fleet_sched.specs.Views.{tree_handles}
 use Rattle.fleet_poll.specs.Made.{joined_run, own_views, run_of_tables, written_tables}
 use Rattle.fleet_poll.specs.Polls.{changed_record}
-use Rattle.fleet_poll.specs.Seen.{AreTold, IsTold, TreesTold}
+use Rattle.fleet_poll.specs.Seen.{AreTold, IsTold, TreesTold, ViewTold, ViewsTold, views_of}
 
 pub all_both : {A : Type 0} (P : A → Type 0) (xs ys : List A) → AllByRecursion P xs → AllByRecursion P ys → AllByRecursion P (xs ++ ys)
 all_both P [] ys one two = two
@@ -34,86 +33,82 @@ pub all_back : {A : Type 0} (P : A → Type 0) (xs ys : List A) → AllByRecursi
 all_back P [] ys all = all
 all_back P (x ∷ xs) ys all = all_back P xs ys all.1
 
--- The handles of the tables of a run.
-abbrev pub run_handles : SortedRun → List SsTableHandle
-run_handles run = map (λ view. view.sst) run.views
-
--- The handles of the tables of a run, if there is a run.
-abbrev pub output_handles : Option SortedRun → List SsTableHandle
-output_handles None = []
-output_handles (Some run) = run_handles run
+-- The tables of a run, if there is one.
+abbrev pub output_views : Option SortedRun → List View
+output_views None = []
+output_views (Some run) = run.views
 
 -- ---- trees
 
 module _ (tables : Tables) (sources : List SourceId) where
-  views_kept : (views : List View) → AreTold tables (map (λ view. view.sst) views) → AreTold tables (map (λ view. view.sst) (kept_views sources views))
+  views_kept : (views : List View) → ViewsTold tables views → ViewsTold tables (kept_views sources views)
   views_kept [] told = tt
   views_kept (view ∷ views) told = by (is_named sources (L0 view.id)) (views_kept views told.1)
     where
-      by : (b : Bool) → AreTold tables (map (λ v. v.sst) (kept_views sources views)) → AreTold tables (map (λ v. v.sst) (cond (not b) (view ∷ kept_views sources views) (kept_views sources views)))
+      by : (b : Bool) → ViewsTold tables (kept_views sources views) → ViewsTold tables (cond (not b) (view ∷ kept_views sources views) (kept_views sources views))
       by true rest = rest
       by false rest = (told.0, rest)
 
-  runs_kept : (runs : List SortedRun) → AreTold tables (flat_map run_handles runs) → AreTold tables (flat_map run_handles (kept_runs sources runs))
+  runs_kept : (runs : List SortedRun) → ViewsTold tables (flat_map (λ run. run.views) runs) → ViewsTold tables (flat_map (λ run. run.views) (kept_runs sources runs))
   runs_kept [] told = tt
-  runs_kept (run ∷ runs) told = by (is_named sources (Run run.id)) (runs_kept runs (all_back (IsTold tables) (run_handles run) (flat_map run_handles runs) told))
+  runs_kept (run ∷ runs) told = by (is_named sources (Run run.id)) (runs_kept runs (all_back (ViewTold tables) run.views (flat_map (λ r. r.views) runs) told))
     where
-      by : (b : Bool) → AreTold tables (flat_map run_handles (kept_runs sources runs)) → AreTold tables (flat_map run_handles (cond (not b) (run ∷ kept_runs sources runs) (kept_runs sources runs)))
+      by : (b : Bool) → ViewsTold tables (flat_map (λ r. r.views) (kept_runs sources runs)) → ViewsTold tables (flat_map (λ r. r.views) (cond (not b) (run ∷ kept_runs sources runs) (kept_runs sources runs)))
       by true rest = rest
-      by false rest = all_both (IsTold tables) (run_handles run) (flat_map run_handles (kept_runs sources runs)) (all_front (IsTold tables) (run_handles run) (flat_map run_handles runs) told) rest
+      by false rest = all_both (ViewTold tables) run.views (flat_map (λ r. r.views) (kept_runs sources runs)) (all_front (ViewTold tables) run.views (flat_map (λ r. r.views) runs) told) rest
 
-  put_told : (run : SortedRun) (runs : List SortedRun) → AreTold tables (run_handles run) → AreTold tables (flat_map run_handles runs) → AreTold tables (flat_map run_handles (put_run run runs))
-  put_told run [] one told = all_both (IsTold tables) (run_handles run) [] one tt
-  put_told run (other ∷ others) one told = by (nat_lt other.id run.id) (put_told run others one (all_back (IsTold tables) (run_handles other) (flat_map run_handles others) told))
+  put_told : (run : SortedRun) (runs : List SortedRun) → ViewsTold tables run.views → ViewsTold tables (flat_map (λ r. r.views) runs) → ViewsTold tables (flat_map (λ r. r.views) (put_run run runs))
+  put_told run [] one told = all_both (ViewTold tables) run.views [] one tt
+  put_told run (other ∷ others) one told = by (nat_lt other.id run.id) (put_told run others one (all_back (ViewTold tables) other.views (flat_map (λ r. r.views) others) told))
     where
-      by : (b : Bool) → AreTold tables (flat_map run_handles (put_run run others)) → AreTold tables (flat_map run_handles (cond b (run ∷ other ∷ others) (other ∷ put_run run others)))
-      by true rest = all_both (IsTold tables) (run_handles run) (flat_map run_handles (other ∷ others)) one told
-      by false rest = all_both (IsTold tables) (run_handles other) (flat_map run_handles (put_run run others)) (all_front (IsTold tables) (run_handles other) (flat_map run_handles others) told) rest
+      by : (b : Bool) → ViewsTold tables (flat_map (λ r. r.views) (put_run run others)) → ViewsTold tables (flat_map (λ r. r.views) (cond b (run ∷ other ∷ others) (other ∷ put_run run others)))
+      by true rest = all_both (ViewTold tables) run.views (flat_map (λ r. r.views) (other ∷ others)) one told
+      by false rest = all_both (ViewTold tables) other.views (flat_map (λ r. r.views) (put_run run others)) (all_front (ViewTold tables) other.views (flat_map (λ r. r.views) others) told) rest
 
-  output_told : (output : Option SortedRun) (runs : List SortedRun) → AreTold tables (output_handles output) → AreTold tables (flat_map run_handles runs) → AreTold tables (flat_map run_handles (with_output output runs))
+  output_told : (output : Option SortedRun) (runs : List SortedRun) → ViewsTold tables (output_views output) → ViewsTold tables (flat_map (λ r. r.views) runs) → ViewsTold tables (flat_map (λ r. r.views) (with_output output runs))
   output_told None runs one told = told
   output_told (Some run) runs one told = put_told run runs one told
 
-  finished_tree_told : (output : Option SortedRun) (tree : LsmTreeState) → AreTold tables (output_handles output) → AreTold tables (tree_handles tree) → AreTold tables (tree_handles (finished_tree sources output tree))
+  finished_tree_told : (output : Option SortedRun) (tree : LsmTreeState) → ViewsTold tables (output_views output) → ViewsTold tables (views_of tree) → ViewsTold tables (views_of (finished_tree sources output tree))
   finished_tree_told output tree one told =
-      let flushes = map (λ view. view.sst) tree.l0 in
-      let runs = flat_map run_handles tree.compacted in
-      all_both (IsTold tables) (map (λ view. view.sst) (kept_views sources tree.l0)) (flat_map run_handles (with_output output (kept_runs sources tree.compacted)))
-      (views_kept tree.l0 (all_front (IsTold tables) flushes runs told))
-      (output_told output (kept_runs sources tree.compacted) one (runs_kept tree.compacted (all_back (IsTold tables) flushes runs told)))
+      let runs = flat_map (λ (r : SortedRun). r.views) tree.compacted in
+      all_both (ViewTold tables) (kept_views sources tree.l0) (flat_map (λ r. r.views) (with_output output (kept_runs sources tree.compacted)))
+      (views_kept tree.l0 (all_front (ViewTold tables) tree.l0 runs told))
+      (output_told output (kept_runs sources tree.compacted) one (runs_kept tree.compacted (all_back (ViewTold tables) tree.l0 runs told)))
 
-module _ (tables : Tables) (spec : CompactionSpec) (output : Option SortedRun) (one : AreTold tables (output_handles output)) where
-  tree_told : (prefix : List ℕ) (tree : LsmTreeState) → AreTold tables (tree_handles tree) → AreTold tables (tree_handles (tree_after spec output prefix tree))
+module _ (tables : Tables) (spec : CompactionSpec) (output : Option SortedRun) (one : ViewsTold tables (output_views output)) where
+  tree_told : (prefix : List ℕ) (tree : LsmTreeState) → ViewsTold tables (views_of tree) → ViewsTold tables (views_of (tree_after spec output prefix tree))
   tree_told prefix tree told = by (bytes_eq (segment_of spec) prefix)
     where
-      by : (b : Bool) → AreTold tables (tree_handles (cond b (finished_tree (sources_of spec) output tree) tree))
+      by : (b : Bool) → ViewsTold tables (views_of (cond b (finished_tree (sources_of spec) output tree) tree))
       by true = finished_tree_told tables (sources_of spec) output tree one told
       by false = told
 
-  segments_told : (segments : List (List ℕ × LsmTreeState)) → AllByRecursion (λ s. AreTold tables (tree_handles s.1)) segments → AllByRecursion (λ s. AreTold tables (tree_handles s.1)) (map (segment_after spec output) segments)
+  segments_told : (segments : List (List ℕ × LsmTreeState)) → AllByRecursion (λ s. ViewsTold tables (views_of s.1)) segments → AllByRecursion (λ s. ViewsTold tables (views_of s.1)) (map (segment_after spec output) segments)
   segments_told [] told = tt
   segments_told (s ∷ segments) told = (tree_told s.0 s.1 told.0, segments_told segments told.1)
 
--- If the handles of the trees are told, and those of the run that is made, then so are those of the trees after it.
-pub finished_trees_told : (tables : Tables) (job : JobParts) (output : Option SortedRun) (core : ManifestCore) → AreTold tables (output_handles output) → TreesTold tables core → TreesTold tables (core_after job output core)
+-- If the tables of the trees are told, and those of the run that is made, then so are those of the trees after it.
+pub finished_trees_told : (tables : Tables) (job : JobParts) (output : Option SortedRun) (core : ManifestCore) → ViewsTold tables (output_views output) → TreesTold tables core → TreesTold tables (core_after job output core)
 finished_trees_told tables job output core one told = (tree_told tables job.spec output one [] core.tree told.0, segments_told tables job.spec output one core.segments told.1)
 
 -- ---- jobs
 
-own_handles : (tables : List SsTableHandle) → map (λ view. view.sst) (own_views tables) ≡ tables
-own_handles [] = refl
-own_handles (table ∷ tables) = ap (λ ts. table ∷ ts) (own_handles tables)
+-- A run names its own tables by their own ids.
+own_told : (tables : Tables) (handles : List SsTableHandle) → AreTold tables handles → ViewsTold tables (own_views handles)
+own_told tables [] told = tt
+own_told tables (handle ∷ handles) told = (record { identity = refl; handle = told.0 }, own_told tables handles told.1)
 
 -- The tables that a job's worker wrote are among those that its record names.
 pub written_told : (tables : Tables) (job : JobParts) → AreTold tables (job_handles job) → AreTold tables (written_tables job)
 written_told tables job told = all_back (IsTold tables) (flat_map (λ range. range.output_ssts) (ranges_in job.ctx)) (written_tables job) told
 
-pub joined_told : (tables : Tables) (job : JobParts) → AreTold tables (job_handles job) → AreTold tables (output_handles (joined_run job))
+pub joined_told : (tables : Tables) (job : JobParts) → AreTold tables (job_handles job) → ViewsTold tables (output_views (joined_run job))
 joined_told tables job told = by (destination_of job.spec)
   where
-    by : (destination : Option ℕ) → AreTold tables (output_handles (run_of_tables destination (written_tables job)))
+    by : (destination : Option ℕ) → ViewsTold tables (output_views (run_of_tables destination (written_tables job)))
     by None = tt
-    by (Some id) = subst (AreTold tables) (sym (own_handles (written_tables job))) (written_told tables job told)
+    by (Some id) = own_told tables (written_tables job) (written_told tables job told)
 
 -- What holds of all jobs holds of the one that is found.
 pub found_holds : (P : JobParts → Type 0) (id : ℕ) (jobs : List JobParts) (job : JobParts) → record_with id jobs ≡ Some job → AllByRecursion P jobs → P job

@@ -1,28 +1,31 @@
 -- What the model's poll is given, compared with what a program's poll has.
-use Rattle.std.specs.Prelude.{◌≡◌, true, List, []}
+use Rattle.std.specs.Prelude.{◌≡◌, ◌++◌, IsTrue, flat_map, true, List, []}
 use Rattle.std.specs.List.{AllByRecursion}
 use Rattle.std.specs.Ordering.{is_le}
 use Rattle.row_model.specs.Rows.{key_cmp}
 use Rattle.fleet_model.specs.Handles.{describe}
-use Rattle.fleet_model.specs.Nodes.{Tables, table_rows}
+use Rattle.fleet_model.specs.Nodes.{Tables, is_among, table_rows}
 use Rattle.fleet_model.specs.Store.{Manifest}
 use Rattle.fleet_model.specs.Work.PollStates.{PollInput}
 use Rattle.fleet_model.specs.Work.Scheduler.{Scheduler}
 use Rattle.fleet_tree.specs.Handles.{handle_of}
 use Rattle.fleet_tree.specs.Manifests.{manifest_of}
 use Rattle.fleet_tree.specs.Trees.{trees_with_prefix}
+use Rattle.fleet_tree.specs.Views.{View}
 use Rattle.fleet_tree.specs.declared.handle.SsTableHandle.{SsTableHandle}
 use Rattle.fleet_tree.specs.declared.manifest.ManifestCore.{ManifestCore}
 use Rattle.fleet_tree.specs.declared.manifest.VersionedManifest.{VersionedManifest}
+use Rattle.fleet_tree.specs.declared.tree.LsmTreeState.{LsmTreeState}
 use Rattle.fleet_jobs.specs.Jobs.{job_handles}
 use Rattle.fleet_jobs.specs.Parts.JobParts.{JobParts}
 use Rattle.fleet_book.specs.StateParts.{StateParts}
 use Rattle.fleet_book.specs.States.{own_jobs}
-use Rattle.fleet_sched.specs.Views.{tree_handles}
 use Rattle.fleet_poll.specs.Made.{PrefixesRise, own_core}
 
--- The handle describes the rows of the table with its id. The table's first key is not above its last one.
+-- The handle describes the rows of the table with its id, which was put. The table's first key is not above its last
+-- one.
 pub record IsTold (tables : Tables) (handle : SsTableHandle) : Type 0 where
+  pub put : IsTrue (is_among tables handle.id)
   pub describes : handle_of handle ≡ describe handle.id (table_rows tables handle.id)
   pub rising : is_le (key_cmp handle.first_key handle.last_key) ≡ true
 
@@ -30,9 +33,22 @@ pub record IsTold (tables : Tables) (handle : SsTableHandle) : Type 0 where
 abbrev pub AreTold : Tables → List SsTableHandle → Type 0
 AreTold tables handles = AllByRecursion (IsTold tables) handles
 
--- The handles of all tables of the trees are as `IsTold` says.
+-- A table is named by its own id, and its handle is as `IsTold` says.
+pub record ViewTold (tables : Tables) (view : View) : Type 0 where
+  pub identity : view.id ≡ view.sst.id
+  pub handle : IsTold tables view.sst
+
+-- Each view is as `ViewTold` says.
+abbrev pub ViewsTold : Tables → List View → Type 0
+ViewsTold tables views = AllByRecursion (ViewTold tables) views
+
+-- The tables of a tree, as it names them.
+abbrev pub views_of : LsmTreeState → List View
+views_of tree = tree.l0 ++ flat_map (λ run. run.views) tree.compacted
+
+-- The tables of all trees are as `ViewTold` says.
 abbrev pub TreesTold : Tables → ManifestCore → Type 0
-TreesTold tables core = AllByRecursion (λ s. AreTold tables (tree_handles s.1)) (trees_with_prefix core)
+TreesTold tables core = AllByRecursion (λ s. ViewsTold tables (views_of s.1)) (trees_with_prefix core)
 
 -- The handles of all tables that jobs name are as `IsTold` says.
 abbrev pub JobsTold : Tables → List JobParts → Type 0

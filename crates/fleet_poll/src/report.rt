@@ -1,6 +1,9 @@
 //! What a poll did.
 
+ghost use Rattle.std.specs.Prelude.{◌≡◌, []};
+
 use fleet_rows::{JobList, PlaceList, RuleList};
+use std::alloc::Global;
 
 /// What a poll did. A rule is given by its number.
 #[derive(Debug, Drop, PartialEq, Eq)]
@@ -23,4 +26,33 @@ pub struct PollReport {
     pub drained: JobList,
     /// Jobs that the gate for submitted jobs refused, each with the rule that it failed.
     pub refused: RuleList,
+}
+
+impl PollReport {
+    /// The report of a poll that did nothing. It takes no memory.
+    pub fn new(alloc: Global) -> PollReport
+        ensures { result ≡ record {
+          freed = [];
+          committed = [];
+          lost = [];
+          added = [];
+          dropped = [];
+          opened = [];
+          moved = [];
+          drained = [];
+          refused = [];
+        } }
+    {
+        PollReport {
+            freed: JobList::new(alloc),
+            committed: JobList::new(alloc),
+            lost: RuleList::new(alloc),
+            added: JobList::new(alloc),
+            dropped: PlaceList::new(alloc),
+            opened: JobList::new(alloc),
+            moved: JobList::new(alloc),
+            drained: JobList::new(alloc),
+            refused: RuleList::new(alloc),
+        }
+    }
 }

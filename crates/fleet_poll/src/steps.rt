@@ -80,6 +80,9 @@ impl Poll {
             → input.options.moves ≡ options.now.enable_trivial_move
             → OnOk result (HasReached self.new
             (opened_unless commits_only input (new_specs drawn.now) (poll_of flushes self.old))) }
+        ensures sees { (input : PollInput) → Sees input (answers scheduler.now) self.old.state
+            → input.options.moves ≡ options.now.enable_trivial_move
+            → OnOk result (Sees input (answers scheduler.now) self.new.state) }
         ensures memory { IsOkUnless result SlateDBError.Memory }
     {
         let opens = !commits_only;

@@ -7,7 +7,7 @@ use Rattle.fleet_jobs.specs.Jobs.{job_ids, jobs_of}
 use Rattle.fleet_model.specs.Work.Polls.{lost_to_scheduler}
 use Rattle.fleet_poll.specs.Loops.{is_submitted}
 use Rattle.fleet_poll.proofs.Committed.{all_done, next_of}
-use Rattle.fleet_poll.proofs.Opens.{OpensOn, all_submitted, none_lost, opens_begin, opens_end, some_there, turned}
+use Rattle.fleet_poll.proofs.Opens.{OpensOn, all_submitted, none_lost, opens_begin, opens_end, opens_see, some_there, turned}
 use Rattle.fleet_poll.proofs.poll.Poll.open_all_submitted.Goals as goal
 
 pub jobs-init : goal.jobs-init
@@ -75,3 +75,13 @@ returns-clause-poll g c = λ flushes input sees same.
     let ids = c.as_slice-job-items.ensures ∙ c.in_ok-submitted.ensures.ids ∙ ap (λ v. job_ids (filter is_submitted v.compactions.jobs)) c.compactions-2.ensures in
     let on = subst (λ left. OpensOn s moves initial left c.jobs.self c.jobs.held) (all_done jobs c.as_slice-job-items.result.now c.jobs.job-index ids c.jobs-test.false) c.jobs.invariant in
     opens_end s moves initial c.jobs.self c.jobs.held flushes input on sees same
+
+pub returns-clause-sees : goal.returns-clause-sees
+returns-clause-sees g c = λ input sees same.
+    let s = (goal.CompactionScheduler-dyn g c.args.scheduler.now).answers c.args.scheduler.now.1 in
+    let moves = c.args.options.now.enable_trivial_move in
+    let initial = c.args.self.now in
+    let jobs = filter is_submitted (own_jobs initial.state) in
+    let ids = c.as_slice-job-items.ensures ∙ c.in_ok-submitted.ensures.ids ∙ ap (λ v. job_ids (filter is_submitted v.compactions.jobs)) c.compactions-2.ensures in
+    let on = subst (λ left. OpensOn s moves initial left c.jobs.self c.jobs.held) (all_done jobs c.as_slice-job-items.result.now c.jobs.job-index ids c.jobs-test.false) c.jobs.invariant in
+    opens_see s moves initial c.jobs.self c.jobs.held input on sees same
