@@ -1,0 +1,7 @@
+mod Keys
+mod KeyByKey
+mod Parts
+mod Folds
+mod Steps
+mod Calls
+mod Ranged

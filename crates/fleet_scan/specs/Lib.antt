@@ -1,0 +1,6 @@
+pub mod Answers
+pub mod Answered
+pub mod KeyRows
+pub mod Walk
+pub mod Sources
+pub mod ScanState
