@@ -1,0 +1,31 @@
+-- A fresh fleet may run a line.
+use Rattle.std.proofs.Common.{◌≡◌, refl, ℕ, List, [], cond, Bool, true, false, Some, None}
+use Rattle.std.specs.Prelude.{◌<◌, ◌^◌, bytes_eq}
+use Rattle.row_model.specs.Fold.{Operator}
+use Rattle.fleet_model.specs.Nodes.{tree_at, tree_or_empty}
+use Rattle.fleet_model.specs.Trees.{empty_segment}
+use Rattle.step_model.specs.Past.{fresh_world}
+use Rattle.step_laws.proofs.Fresh.{fresh_keeps}
+use Rattle.line_laws.specs.Undrained.{flushes_in}
+use Rattle.fleet_store.specs.Memory.{StoreParts}
+use Rattle.fleet_lines.specs.Fleets.{IsServing}
+use Rattle.fleet_lines.specs.declared.options.FleetOptions.{FleetOptions}
+
+-- A fresh store has no flush.
+no_flushes : (prefix : List ℕ) → flushes_in (tree_at prefix fresh_world.store.manifest.trees) ≡ []
+no_flushes prefix = by (bytes_eq prefix [])
+  where
+    by : (b : Bool) → flushes_in (tree_or_empty (cond b (Some (empty_segment [])) None)) ≡ []
+    by true = refl
+    by false = refl
+
+pub fresh_serves : (merge : Operator) (options : FleetOptions) (store : StoreParts) → options.worker.max_subcompactions < 2 ^ 32 → store.world ≡ fresh_world
+    → IsServing merge (record { options = options; moment = 0; last_name = 0; store = store; coordinators = []; workers = [] })
+fresh_serves merge options store few fresh = rw fresh (record {
+  stands = record {
+    keeps = record { store = fresh_keeps merge; workers = tt; coordinators = tt; workers_differ = tt; coordinators_differ = tt; none_pending = λ table. refl; finished = λ id. refl; flushes = λ specs faithful prefix. no_flushes prefix; counts = record { finished_once = tt; committed_once = tt; each = tt } };
+    up = tt;
+    few = few;
+  };
+  named = refl;
+})

@@ -1,0 +1,184 @@
+-- The lines of workers.
+use Rattle.std.proofs.Common.{◌≡◌, refl, sym, ◌∙◌, ap, subst, ℕ, List, ◌∷◌, cond, Bool, true, false, Option, Some, None, Result, Ok, Err}
+use Rattle.std.specs.Prelude.{◌==◌, not, filter, find, map, option_map, OnErr}
+use Rattle.std.specs.Bool.{OnFalse}
+use Rattle.std.specs.List.{AllByRecursion}
+use Rattle.row_model.specs.Fold.{Operator, IsLawful}
+use Rattle.fleet_model.specs.Exchanges.{Fault, does_stand}
+use Rattle.fleet_model.specs.History.{Worker}
+use Rattle.fleet_model.specs.Work.Parties.{Attempt, LiveWorker, Parties, worker_with, without_worker}
+use Rattle.step_model.specs.Past.{World}
+use Rattle.step_model.specs.Courses.Course.{Course}
+use Rattle.step_model.specs.Courses.CourseRuns.{End, Gives, MeetsFault, IsLawfulCourse}
+use Rattle.step_model.specs.Courses.Ran.{Ran}
+use Rattle.step_model.specs.Courses.Alone.{AloneEnd, run_alone}
+use Rattle.step_model.specs.Courses.StepEnds.{StepEnd, Reports, GivesUp, Fenced, NotOwner, NoRecords, Invalid, Declined, OperatorRefuses}
+use Rattle.step_model.specs.Steps.BeatSteps.{Beaten, heartbeat}
+use Rattle.step_laws.proofs.RanLaws.{ran_runs, ran_alone}
+use Rattle.commit_laws.proofs.AllCalls.{calls_keep}
+use Rattle.course_laws.proofs.Beats.{beats_are_lawful}
+use Rattle.script_model.specs.LineRuns.{LineCourse, if_some, no_such_party, step_parties}
+use Rattle.script_model.specs.Lines.WorkLines.{running, worker_line, heartbeat_line}
+use Rattle.script_model.specs.Replies.{beat_reply}
+use Rattle.line_laws.specs.States.{FleetKeeps}
+use Rattle.line_laws.proofs.AloneEnds.{EndsSo, RunEnds, RunStruck, RunEnded, run_ends}
+use Rattle.line_laws.proofs.Lines.{caller_of}
+use Rattle.line_laws.proofs.StepRefusals.{Reported, beat_so}
+use Rattle.fleet_rows.specs.declared.errors.MergeOperatorError.TheVariants as merge_error
+use Rattle.fleet_rows.specs.declared.errors.SlateDBError.{SlateDBError}
+use Rattle.fleet_rows.specs.declared.errors.SlateDBError.TheVariants as error
+use Rattle.fleet_history.specs.declared.party.Party.TheVariants as party
+use Rattle.fleet_store.specs.Memory.{StoreParts}
+use Rattle.fleet_step.specs.Steps.{end_of, stops}
+use Rattle.step_model.specs.LawfulRecords.{OfSome}
+use Rattle.fleet_worker.specs.Beats.{beat_ends, beaten_with}
+use Rattle.fleet_worker.specs.Workers.{AttemptParts, WorkerParts, attempt_of, live_of}
+use Rattle.fleet_worker.specs.declared.beat.BeatReport.{BeatReport}
+use Rattle.fleet_lines.specs.Fleets.{FleetParts, IsUp, Stands, options_of, parties_of, state_of}
+use Rattle.fleet_lines.specs.Lines.{Runs}
+use Rattle.fleet_lines.specs.Steps.{Made, MayWork, Says, end_reply}
+use Rattle.fleet_lines.proofs.Lists.{find_map}
+use Rattle.fleet_lines.proofs.Made.{ran_later, step_ends}
+use Rattle.fleet_lines.proofs.NoteLines.{others, others_live}
+use Rattle.fleet_lines.proofs.Runs.{state_at}
+use Rattle.fleet_lines.proofs.Kept.{worker_goes, worker_goes_on}
+use Rattle.fleet_lines.proofs.Standing.{still_up, some_up, is_found}
+
+-- ---- the worker that a line names
+
+-- A line that names a worker that is live.
+pub at_found : (n : ℕ) (fleet : FleetParts) (w : WorkerParts) (none : LineCourse) (act : LiveWorker → LineCourse) → find (λ (w : WorkerParts). n == w.number) fleet.workers ≡ Some w → if_some (worker_with n (parties_of fleet)) none act ≡ act (live_of w)
+at_found n fleet w none act e = ap (λ (o : Option LiveWorker). if_some o none act) (find_map live_of (λ (w : LiveWorker). n == w.number) fleet.workers ∙ ap (option_map live_of) e)
+
+-- A line that names a worker that is not live.
+pub at_none : (n : ℕ) (fleet : FleetParts) (none : LineCourse) (act : LiveWorker → LineCourse) → find (λ (w : WorkerParts). n == w.number) fleet.workers ≡ None → if_some (worker_with n (parties_of fleet)) none act ≡ none
+at_none n fleet none act e = ap (λ (o : Option LiveWorker). if_some o none act) (find_map live_of (λ (w : LiveWorker). n == w.number) fleet.workers ∙ ap (option_map live_of) e)
+
+-- ---- steps that are never fenced
+
+-- A step that reports whenever nobody disturbs it is not fenced.
+unfenced : {A : Type 0} (merge : Operator) (number n stored : ℕ) (step : Course (StepEnd A)) (old new : World) (waits left : Option Fault) → EndsSo number (Worker n) step old.store Reported
+    → Ran (caller_of merge number (Worker n)) step old new waits left (Gives (Fenced stored)) → ⊥
+unfenced {A} merge number n stored step old new waits left so ran =
+    by (run_alone number (Worker n) step waits old.store) (ran_alone (caller_of merge number (Worker n)) step old new waits left (Gives (Fenced stored)) refl ran) (does_stand waits) (run_ends number (Worker n) step waits old.store Reported so)
+  where
+    by : (run : AloneEnd (StepEnd A)) → run ≡ record { answer = Some (Fenced stored); store = new.store; fault = left } → (stands : Bool) → RunEnds number (Worker n) stands step old.store Reported run → ⊥
+    by run is stands (RunStruck none gone struck) = absurd (cc (sym none ∙ ap (λ (r : AloneEnd (StepEnd A)). r.answer) is))
+    by run is stands (RunEnded answer gives reported) = at answer reported (the_answer answer (Fenced stored) (sym gives ∙ ap (λ (r : AloneEnd (StepEnd A)). r.answer) is))
+      where
+        the_answer : (a b : StepEnd A) → Some a ≡ Some b → a ≡ b
+        the_answer a b e = cc e
+
+        at : (a : StepEnd A) → Reported a run.store → a ≡ Fenced stored → ⊥
+        at a reported same = subst (λ (e : StepEnd A). Reported e run.store) same reported
+
+-- ---- a line of one step
+
+-- A line of one step of a worker. `attempts` and `stopped` are the worker's after the step.
+module _ {A B : Type 0} (merge : Operator) (number : ℕ) (old : FleetParts) (w : WorkerParts) (attempts : List AttemptParts) (stopped : Bool) (store : StoreParts) (ends : A → StepEnd B) (spell : B → List ℕ) (reported : B → List Attempt) (step : Course (StepEnd B)) (answer : List ℕ)
+    (lawful : IsLawful merge) (stands : Stands merge old) (n : ℕ) (is_number : n ≡ w.number) (is : IsLawfulCourse (caller_of merge number (Worker w.number)) old.store.world step) (so : EndsSo number (Worker w.number) step old.store.world.store Reported)
+    (may : OnFalse stopped (MayWork merge store.world (record w { attempts = attempts; stopped = stopped }))) where
+  abbrev left_over : Bool → List WorkerParts
+  left_over stopped = cond stopped (others n old.workers) (record w { attempts = attempts; stopped = stopped } ∷ others n old.workers)
+
+  abbrev after : Bool → FleetParts
+  after stopped = record old { store = store; workers = left_over stopped }
+
+  abbrev the_line : LineCourse
+  the_line = worker_line (live_of w) (state_of old) step spell reported (map attempt_of w.attempts)
+
+  others_are : filter (λ (v : LiveWorker). not (w.number == v.number)) (map live_of old.workers) ≡ map live_of (others n old.workers)
+  others_are = subst (λ (m : ℕ). filter (λ (v : LiveWorker). not (m == v.number)) (map live_of old.workers) ≡ map live_of (others n old.workers)) is_number (others_live n old.workers)
+
+  up_after : (end : End (StepEnd B)) → Ran (caller_of merge number (Worker w.number)) step old.store.world store.world old.store.waits store.waits end → AllByRecursion (IsUp store.world.store) (others n old.workers)
+  up_after end ran = still_up old.store.world.store store.world.store (others n old.workers) (ran_later merge number (party.Worker w.number) step old.store.world store.world old.store.waits store.waits end ran)
+      (some_up old.store.world.store (λ v. not (n == v.number)) old.workers stands.up)
+
+  -- The worker is no longer live.
+  gone : stopped ≡ true → Ran (caller_of merge number (Worker w.number)) step old.store.world store.world old.store.waits store.waits MeetsFault → end_reply spell MeetsFault ≡ Some answer → Runs merge number (state_of old) the_line old (after stopped) answer
+  gone e ran says = subst (λ (b : Bool). Runs merge number (state_of old) the_line old (after b) answer) (sym e) (record {
+    ends =
+        step_ends merge number (options_of old.options) old.moment (parties_of old) (party.Worker w.number) step spell (λ report. running (live_of w) (state_of old) (reported report)) (running (live_of w) (state_of old) (map attempt_of w.attempts)) (without_worker w.number (parties_of old))
+        old.store.world store.world old.store.waits store.waits answer MeetsFault ran says
+        ∙ ap (λ (ws : List LiveWorker). (answer, state_at (options_of old.options) old.moment store.world store.waits (record { coordinators = old.coordinators; workers = ws }))) others_are;
+    stands = record {
+      keeps = subst (λ (ws : List LiveWorker). FleetKeeps merge store.world (record { coordinators = old.coordinators; workers = ws })) others_are
+          (worker_goes merge number w.number old.store.world store.world (parties_of old) step MeetsFault lawful stands.keeps is (ran_runs (caller_of merge number (Worker w.number)) step old.store.world store.world old.store.waits store.waits MeetsFault ran));
+      up = up_after MeetsFault ran;
+      few = stands.few;
+    };
+    same_name = refl;
+  })
+
+  -- The worker is live and runs these attempts.
+  goes_on : (end : StepEnd B) → stopped ≡ false → Ran (caller_of merge number (Worker w.number)) step old.store.world store.world old.store.waits store.waits (Gives end) → end_reply spell (Gives end) ≡ Some answer
+      → step_parties (λ report. running (live_of w) (state_of old) (reported report)) (running (live_of w) (state_of old) (map attempt_of w.attempts)) end ≡ running (live_of w) (state_of old) (map attempt_of attempts)
+      → Runs merge number (state_of old) the_line old (after stopped) answer
+  goes_on end e ran says same = subst (λ (b : Bool). Runs merge number (state_of old) the_line old (after b) answer) (sym e) (record {
+    ends =
+        step_ends merge number (options_of old.options) old.moment (parties_of old) (party.Worker w.number) step spell (λ report. running (live_of w) (state_of old) (reported report)) (running (live_of w) (state_of old) (map attempt_of w.attempts)) (without_worker w.number (parties_of old))
+        old.store.world store.world old.store.waits store.waits answer (Gives end) ran says
+        ∙ ap (λ (parties : Parties). (answer, state_at (options_of old.options) old.moment store.world store.waits parties)) same
+        ∙ ap (λ (ws : List LiveWorker). (answer, state_at (options_of old.options) old.moment store.world store.waits (record { coordinators = old.coordinators; workers = record (live_of w) { attempts = map attempt_of attempts } ∷ ws }))) others_are;
+    stands = record {
+      keeps = subst (λ (ws : List LiveWorker). FleetKeeps merge store.world (record { coordinators = old.coordinators; workers = record (live_of w) { attempts = map attempt_of attempts } ∷ ws })) others_are
+          (worker_goes_on merge number (record (live_of w) { attempts = map attempt_of attempts }) old.store.world store.world (parties_of old) step (Gives end) lawful stands.keeps is
+          (ran_runs (caller_of merge number (Worker w.number)) step old.store.world store.world old.store.waits store.waits (Gives end) ran) may_work.holds);
+      up = (record { runs = refl; noted = may_work.noted }, up_after (Gives end) ran);
+      few = stands.few;
+    };
+    same_name = refl;
+  })
+    where
+      may_work : MayWork merge store.world (record w { attempts = attempts; stopped = false })
+      may_work = subst (λ (b : Bool). OnFalse b (MayWork merge store.world (record w { attempts = attempts; stopped = b }))) e may
+
+  -- However the step ended.
+  pub work_runs : (result : Result A SlateDBError) → stopped ≡ stops result → OnErr result (attempts ≡ w.attempts) → ((report : B) (a : A) → result ≡ Ok a → ends a ≡ Reports report → reported report ≡ map attempt_of attempts)
+      → ((a : A) → (report : B) × (ends a ≡ Reports report)) → Made ends step merge number (party.Worker w.number) old.store store result → Says ends spell result answer → Runs merge number (state_of old) the_line old (after stopped) answer
+  work_runs result is_stopped same reports report_of made says = by result is_stopped same reports made.ran says.says
+    where
+      refused : (end : StepEnd B) → stopped ≡ false → attempts ≡ w.attempts → Ran (caller_of merge number (Worker w.number)) step old.store.world store.world old.store.waits store.waits (Gives end) → end_reply spell (Gives end) ≡ Some answer
+          → step_parties (λ report. running (live_of w) (state_of old) (reported report)) (running (live_of w) (state_of old) (map attempt_of w.attempts)) end ≡ running (live_of w) (state_of old) (map attempt_of w.attempts)
+          → Runs merge number (state_of old) the_line old (after stopped) answer
+      refused end e same ran says parties = goes_on end e ran says (parties ∙ ap (λ (kept : List AttemptParts). running (live_of w) (state_of old) (map attempt_of kept)) (sym same))
+
+      by : (result : Result A SlateDBError) → stopped ≡ stops result → OnErr result (attempts ≡ w.attempts) → ((report : B) (a : A) → result ≡ Ok a → ends a ≡ Reports report → reported report ≡ map attempt_of attempts)
+          → OfSome (Ran (caller_of merge number (Worker w.number)) step old.store.world store.world old.store.waits store.waits) (end_of ends result) → OfSome (λ end. end_reply spell end ≡ Some answer) (end_of ends result)
+          → Runs merge number (state_of old) the_line old (after stopped) answer
+      by (Ok a) e same reports runs said =
+          let r = report_of a in
+          goes_on (ends a) e runs said (ap (step_parties (λ report. running (live_of w) (state_of old) (reported report)) (running (live_of w) (state_of old) (map attempt_of w.attempts))) r.1 ∙ ap (running (live_of w) (state_of old)) (reports r.0 a refl r.1))
+      by (Err error.StoreFault) e same reports runs said = gone e runs said
+      by (Err error.Memory) e same reports runs said = absurd (cc said)
+      by (Err (error.Conflict seen)) e same reports runs said = refused (GivesUp seen) e same runs said refl
+      by (Err (error.Fenced stored)) e same reports runs said = absurd (unfenced merge number w.number stored step old.store.world store.world old.store.waits store.waits so runs)
+      by (Err error.NotOwner) e same reports runs said = refused NotOwner e same runs said refl
+      by (Err error.InvalidDBState) e same reports runs said = refused NoRecords e same runs said refl
+      by (Err error.InvalidCompaction) e same reports runs said = refused Invalid e same runs said refl
+      by (Err (error.Generate message)) e same reports runs said = refused (Declined message) e same runs said refl
+      by (Err (error.MergeOperator (merge_error.Callback message))) e same reports runs said = refused (OperatorRefuses message) e same runs said refl
+      by (Err (error.MergeOperator merge_error.EmptyBatch)) e same reports runs said = absurd runs
+      by (Err (error.MergeOperator merge_error.Memory)) e same reports runs said = absurd runs
+      by (Err error.IteratorNotInitialized) e same reports runs said = absurd runs
+      by (Err error.IteratorFailed) e same reports runs said = absurd runs
+      by (Err error.MergeOperatorMissing) e same reports runs said = absurd runs
+      by (Err (error.InvalidSequenceOrder current after)) e same reports runs said = absurd runs
+      by (Err (error.CompactionFilter cause)) e same reports runs said = absurd runs
+
+-- ---- heartbeats
+
+pub beat_runs : (merge : Operator) (number n : ℕ) (old : FleetParts) (w : WorkerParts) (attempts : List AttemptParts) (stopped : Bool) (store : StoreParts) (result : Result BeatReport SlateDBError) (answer : List ℕ) → IsLawful merge → Stands merge old
+    → find (λ (w : WorkerParts). n == w.number) old.workers ≡ Some w → stopped ≡ stops result → OnErr result (attempts ≡ w.attempts) → OnFalse stopped (MayWork merge store.world (record w { attempts = attempts; stopped = stopped }))
+    → Made (beat_ends attempts) (heartbeat old.moment (live_of w)) merge number (party.Worker w.number) old.store store result → Says (beat_ends attempts) (λ r. beat_reply r.beat r.not_owner) result answer
+    → Runs merge number (state_of old) (heartbeat_line n (state_of old)) old (record old { store = store; workers = cond stopped (others n old.workers) (record w { attempts = attempts; stopped = stopped } ∷ others n old.workers) }) answer
+beat_runs merge number n old w attempts stopped store result answer lawful stands there is_stopped same may made says =
+    let f = is_found merge old n w stands there in
+    subst (λ (c : LineCourse). Runs merge number (state_of old) c old (record old { store = store; workers = cond stopped (others n old.workers) (record w { attempts = attempts; stopped = stopped } ∷ others n old.workers) }) answer)
+    (sym (at_found n old w (no_such_party (state_of old)) (λ w. worker_line w (state_of old) (heartbeat old.moment w) (λ r. beat_reply r.beat r.not_owner) (λ r. r.attempts) w.attempts) there))
+    (work_runs merge number old w attempts stopped store (beat_ends attempts) (λ r. beat_reply r.beat r.not_owner) (λ r. r.attempts) (heartbeat old.moment (live_of w)) answer lawful stands n f.number
+    (beats_are_lawful (caller_of merge number (Worker w.number)) old.store.world old.moment (live_of w) (calls_keep merge lawful) refl stands.keeps.store f.may.holds) (beat_so number (Worker w.number) old.moment (live_of w) old.store.world.store) may
+    result is_stopped same (λ report a ok is. the_attempts report a is) (λ a. (beaten_with attempts a, refl)) made says)
+  where
+    the_attempts : (report : Beaten) (a : BeatReport) → beat_ends attempts a ≡ Reports report → report.attempts ≡ map attempt_of attempts
+    the_attempts report a is = let same : beaten_with attempts a ≡ report = cc is in sym (ap (λ (r : Beaten). r.attempts) same)

@@ -1,0 +1,4 @@
+pub mod Fleets
+pub mod Steps
+pub mod Lines
+pub mod Looks
