@@ -1,0 +1,4 @@
+//! Small uses of the crates, each of one crate by itself. They are proved.
+#![tactic(auto)]
+
+pub mod scanning;
