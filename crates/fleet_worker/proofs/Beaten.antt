@@ -143,7 +143,7 @@ module _ (jobs : List JobParts) (worker : ℕ) where
             → AllByRecursion (IsDescribed store.tables) (job_handles (beaten_record worker moment o job))
         by None noted all = all
         by (Some a) noted all =
-            all_append (IsDescribed store.tables) (flat_map (λ part. part.output_ssts) a.ctx.ranges) _ (all_ranges (IsDescribed store.tables) a.ctx.ranges noted)
+            all_append (IsDescribed store.tables) (flat_map (λ part. part.output_ssts) a.ctx.ranges) _ (all_ranges (IsDescribed store.tables) a.ctx.ranges noted.noted)
             (all_back (IsDescribed store.tables) (flat_map (λ part. part.output_ssts) (ranges_in job.ctx)) _ all)
 
 -- ---- the report, and the course

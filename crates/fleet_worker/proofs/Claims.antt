@@ -22,6 +22,7 @@ use Rattle.step_model.specs.Past.{World}
 use Rattle.step_model.specs.Rivals.{Caller, Rivals}
 use Rattle.step_model.specs.Courses.StepEnds.{StepEnd, Reports}
 use Rattle.step_model.specs.Courses.Tries.{tries}
+use Rattle.step_model.specs.Later.{IsLater}
 use Rattle.step_model.specs.Views.{StoreView}
 use Rattle.step_laws.proofs.Elements.{all_flat, all_to, all_unflat, pairs_map}
 use Rattle.step_laws.proofs.Runs.{rivals_keep}
@@ -44,8 +45,9 @@ use Rattle.fleet_tree.specs.declared.manifest.VersionedManifest.{VersionedManife
 use Rattle.fleet_store.specs.Asks.{GetsManifest, MayCall, Notes}
 use Rattle.fleet_store.specs.Exchanges.{noted_exchange, records_put}
 use Rattle.fleet_store.specs.Handles.{IsDescribed}
+use Rattle.fleet_store.specs.Manifests.{IsManifest}
 use Rattle.fleet_store.specs.Records.{DescribeTables}
-use Rattle.fleet_claim.specs.Beginnings.{AreStarts, IsShown, StartsAre, claimed_of, input_of, noted_events, options_of}
+use Rattle.fleet_claim.specs.Beginnings.{AreStarts, IsShown, KnowsSources, StartsAre, claimed_of, input_of, noted_events, options_of}
 use Rattle.fleet_claim.specs.Choices.{AreClaimed, AreStopped, is_taken}
 use Rattle.fleet_claim.specs.Puts.{ClaimsRecords, next_numbers}
 use Rattle.fleet_claim.specs.declared.beginning.ClaimedAttempt.{ClaimedAttempt}
@@ -60,6 +62,7 @@ use Rattle.fleet_worker.specs.declared.claim.ClaimPut.{ClaimPut}
 use Rattle.fleet_worker.specs.declared.claim.ClaimReport.{ClaimReport}
 use Rattle.fleet_worker.specs.declared.claim.ClaimStart.{ClaimStart}
 use Rattle.fleet_worker.proofs.Inserted.{begun_at, begun_same, next_same, without_none, without_same}
+use Rattle.fleet_store.proofs.Later.{all_described}
 use Rattle.fleet_worker.proofs.Later.{some_noted}
 use Rattle.fleet_worker.proofs.Ready.{IsSafe}
 
@@ -322,13 +325,14 @@ claim_start options moment w manifest claimed stopped release starts start jobs 
 
 -- What the attempts that the worker runs then have noted is described.
 pub noted_then : (options : CompactionWorkerOptions) (moment : ℕ) (w : WorkerParts) (manifest : VersionedManifest) (claimed : List JobParts) (stopped : List ℕ) (start : ClaimStart) → IsClaimStart options moment w manifest claimed stopped start
-    → (store : Store) → DescribeTables claimed store → AreNoted w.attempts store → AreNoted start.attempts store
-noted_then options moment w manifest claimed stopped start is store described noted =
-    subst (λ xs. AreNoted xs store) (sym is.next) (with_noted (map parts_of is.starts.begun.items) _ (shown is.starts.begun.items (is.are.shown store described)) (some_noted store (λ a. not (contains stopped a.job)) w.attempts noted))
+    → (got : Store) → IsManifest manifest got → (store : Store) → IsLater got store → DescribeTables claimed store → AreNoted w.attempts store → AreNoted start.attempts store
+noted_then options moment w manifest claimed stopped start is got stored store later described noted =
+    subst (λ xs. AreNoted xs store) (sym is.next) (with_noted (map parts_of is.starts.begun.items) _ (shown is.starts.begun.items (is.are.shown store described) (is.are.known got stored)) (some_noted store (λ a. not (contains stopped a.job)) w.attempts noted))
   where
-    shown : (begun : List ClaimedAttempt) → AllByRecursion (IsShown store) begun → AreNoted (map parts_of begun) store
-    shown [] all = tt
-    shown (a ∷ begun) all = (all.0, shown begun all.1)
+    shown : (begun : List ClaimedAttempt) → AllByRecursion (IsShown store) begun → AllByRecursion (KnowsSources got) begun → AreNoted (map parts_of begun) store
+    shown [] all known = tt
+    shown (a ∷ begun) all known =
+        (record { sources = known.0.are; described = all_described got store later a.tables known.0.described; noted = all.0 }, shown begun all.1 known.1)
 
     put_noted : (a : AttemptParts) (xs : List AttemptParts) → IsNoted store a → AreNoted xs store → AreNoted (put_part a xs) store
     put_noted a [] one all = (one, tt)

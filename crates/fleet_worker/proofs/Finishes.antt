@@ -155,7 +155,7 @@ module _ (moment : ℕ) (w : WorkerParts) (job number : ℕ) (outputs : Outputs)
   left_ran old new (Err (error.CompactionFilter cause)) ran = record { to_end = ran.to_end }
 
 -- A worker that is ready is ready with fewer attempts.
-fewer_ready : (view : StoreView) (w : WorkerParts) (stopped : Bool) (jobs : List ℕ) → OnFalse stopped (IsReady view (record w { stopped = stopped })) → OnFalse stopped (IsReady view (record w { attempts = without_parts jobs w.attempts; stopped = stopped }))
+pub fewer_ready : (view : StoreView) (w : WorkerParts) (stopped : Bool) (jobs : List ℕ) → OnFalse stopped (IsReady view (record w { stopped = stopped })) → OnFalse stopped (IsReady view (record w { attempts = without_parts jobs w.attempts; stopped = stopped }))
 fewer_ready view w true jobs ready = tt
 fewer_ready view w false jobs ready = record {
   may = record {

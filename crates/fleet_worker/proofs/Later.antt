@@ -22,7 +22,14 @@ runs_later course old new end runs = (runs_come old.who course old.world new.wor
 -- What attempts have noted is still described in a later store.
 pub still_noted : (old new : Store) (attempts : List AttemptParts) → IsLater old new → AreNoted attempts old → AreNoted attempts new
 still_noted old new [] later all = tt
-still_noted old new (a ∷ attempts) later all = (parts a.ctx.ranges all.0, still_noted old new attempts later all.1)
+still_noted old new (a ∷ attempts) later all = (
+  record {
+    sources = all.0.sources;
+    described = all_described old new later a.tables all.0.described;
+    noted = parts a.ctx.ranges all.0.noted;
+  },
+  still_noted old new attempts later all.1,
+)
   where
     parts : (ranges : List Part) → AllByRecursion (λ part. AllByRecursion (IsDescribed old.tables) part.output_ssts) ranges → AllByRecursion (λ part. AllByRecursion (IsDescribed new.tables) part.output_ssts) ranges
     parts [] h = tt

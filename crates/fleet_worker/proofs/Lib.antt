@@ -12,3 +12,10 @@ pub mod TryClaims
 pub mod Returns
 pub mod Progress
 pub mod Finishes
+pub mod Refused
+pub mod RunAttempts
+pub mod Outputs
+pub mod OutputRuns
+pub mod OutputEnds
+pub mod Noting
+pub mod OutputParts

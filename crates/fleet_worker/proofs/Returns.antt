@@ -41,7 +41,7 @@ use Rattle.fleet_worker.proofs.Ready.{IsSafe}
 
 -- ---- the attempt
 
-found_same : (xs : List AttemptParts) (job : ℕ) → attempt_at job (map attempt_of xs) ≡ option_map attempt_of (run_at xs job)
+pub found_same : (xs : List AttemptParts) (job : ℕ) → attempt_at job (map attempt_of xs) ≡ option_map attempt_of (run_at xs job)
 found_same [] job = refl
 found_same (x ∷ xs) job = ap (λ b. cond b (Some (attempt_of x)) (attempt_at job (map attempt_of xs))) (nat_eq_equiv.symm job x.job) ∙ by (x.job == job) (found_same xs job)
   where

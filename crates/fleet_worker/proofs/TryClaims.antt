@@ -12,7 +12,7 @@ use Rattle.step_model.specs.Later.{IsLater}
 use Rattle.step_model.specs.Courses.StepEnds.{StepEnd}
 use Rattle.step_model.specs.Courses.Tries.{tries}
 use Rattle.step_model.specs.Views.{StoreView}
-use Rattle.step_laws.proofs.Later.{later_then}
+use Rattle.step_laws.proofs.Later.{later_itself, later_then}
 use Rattle.fleet_rows.specs.declared.errors.SlateDBError.{SlateDBError}
 use Rattle.fleet_rows.specs.declared.errors.SlateDBError.TheVariants.{Memory}
 use Rattle.fleet_jobs.specs.Parts.JobParts.{JobParts}
@@ -101,11 +101,11 @@ module _ (options : CompactionWorkerOptions) (moment : ℕ) (w : WorkerParts) wh
           pub starts_then : (last : StoreView) (result : Result (ClaimReport × List AttemptParts) SlateDBError) (again : ℕ → Course (StepEnd Claimed)) → TryRan claim_ends_with next again new last result → TryRan claim_ends_with (TRY again) again old last result
           starts_then last result again ran = then_tried claim_ends_with (to_start again) ran
 
-          pub noted_at_end : (last : StoreView) (result : Result (ClaimReport × List AttemptParts) SlateDBError) → TryRan claim_ends_with next more new last result → IfOk result (λ end. (store : Store) → DescribeTables claimed store → AreNoted w.attempts store → AreNoted end.1 store) → IsReady old w
+          pub noted_at_end : (last : StoreView) (result : Result (ClaimReport × List AttemptParts) SlateDBError) → TryRan claim_ends_with next more new last result → IfOk result (λ end. (store : Store) → IsLater last.world.store store → DescribeTables claimed store → AreNoted w.attempts store → AreNoted end.1 store) → IsReady old w
               → IfOk result (λ end. AreNoted end.1 last.world.store)
           noted_at_end last (Ok end) ran shown ready =
               let later = step_later claim_ends_with new last next (Ok end) (ran.ended refl) in
               let on = later_then _ _ _ (put_leads mid new put.version put.value put.why next more version done).later later in
-              shown last.world.store (describe_claimed options w got.compactions.jobs claimed stopped choice last.world.store (got_described gets last.world.store on))
+              shown last.world.store (later_itself last.world.store) (describe_claimed options w got.compactions.jobs claimed stopped choice last.world.store (got_described gets last.world.store on))
               (still_noted old.world.store last.world.store w.attempts (later_then _ _ _ (to_start more).later later) ready.noted)
           noted_at_end last (Err error) ran shown ready = tt

@@ -38,7 +38,7 @@ use Rattle.fleet_worker.specs.declared.claim.ClaimStart.{ClaimStart}
 
 -- The attempt that a claim begins, as the worker runs it.
 abbrev pub parts_of : ClaimedAttempt → AttemptParts
-parts_of a = record { job = a.job; number = a.number; sources = a.sources; ctx = a.ctx }
+parts_of a = record { job = a.job; number = a.number; sources = a.sources; tables = a.tables; ctx = a.ctx }
 
 -- Inserts an attempt in front of the first attempt at a job with a greater id.
 abbrev pub put_part : AttemptParts → List AttemptParts → List AttemptParts

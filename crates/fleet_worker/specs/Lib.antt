@@ -1,3 +1,4 @@
+pub mod Outputs
 pub mod Workers
 pub mod Releases
 pub mod Beats

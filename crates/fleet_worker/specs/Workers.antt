@@ -8,17 +8,19 @@ use Rattle.step_model.specs.Kept.Keeps.{Keeps}
 use Rattle.step_model.specs.Fits.{WorkerHolds}
 use Rattle.step_model.specs.Views.{StoreView}
 use Rattle.fleet_jobs.specs.Parts.ContextParts.{ContextParts}
-use Rattle.fleet_jobs.specs.Contexts.{context_of}
+use Rattle.fleet_jobs.specs.Contexts.{context_of, table_ids}
 use Rattle.fleet_jobs.specs.Workers.{release_of}
 use Rattle.fleet_jobs.specs.declared.release.Release.{Release}
+use Rattle.fleet_tree.specs.declared.handle.SsTableHandle.{SsTableHandle}
 use Rattle.fleet_store.specs.Handles.{IsDescribed}
 
--- What an attempt that runs shows: its job, its number, its source tables, and its context with the tables that
--- were noted so far.
+-- What an attempt that runs shows: its job, its number, its source tables with their descriptions, and its context
+-- with the tables that were noted so far.
 pub record AttemptParts : Type 0 where
   pub job : ℕ
   pub number : ℕ
   pub sources : List ℕ
+  pub tables : List SsTableHandle
   pub ctx : ContextParts
 
 -- What a worker shows: its number, its release, the attempts that it runs, and whether it is stopped.
@@ -47,9 +49,11 @@ run_at attempts job = find (λ a. a.job == job) attempts
 abbrev pub ranges_at : List AttemptParts → ℕ → Option ℕ
 ranges_at attempts job = option_map (λ a. length a.ctx.ranges) (run_at attempts job)
 
--- The tables that the attempt has noted are described as they were put.
-abbrev pub IsNoted : Store → AttemptParts → Type 0
-IsNoted store a = AllByRecursion (λ part. AllByRecursion (IsDescribed store.tables) part.output_ssts) a.ctx.ranges
+-- The source tables of the attempt and the tables that it has noted are described as they were put.
+pub record IsNoted (store : Store) (a : AttemptParts) : Type 0 where
+  pub sources : table_ids a.tables ≡ a.sources
+  pub described : AllByRecursion (IsDescribed store.tables) a.tables
+  pub noted : AllByRecursion (λ part. AllByRecursion (IsDescribed store.tables) part.output_ssts) a.ctx.ranges
 
 -- So it is with each of these attempts.
 abbrev pub AreNoted : List AttemptParts → Store → Type 0
@@ -62,7 +66,7 @@ pub record MayStep (view : StoreView) (w : LiveWorker) : Type 0 where
   pub keeps : Keeps view.who.merge view.world
   pub holds : WorkerHolds view.who.merge view.world w
 
--- A worker is ready for a step over this store: its step may be made, and what it has noted is described.
+-- A worker is ready for a step over this store: its step may be made, and its attempts' tables are described.
 pub record IsReady (view : StoreView) (w : WorkerParts) : Type 0 where
   pub may : MayStep view (live_of w)
   pub noted : AreNoted w.attempts view.world.store

@@ -15,6 +15,7 @@ use fleet_book::Compactions;
 use fleet_claim::ClaimedAttempt;
 use fleet_jobs::{Compaction, CompactionContext, CompactionStatus, WorkerSpec};
 use fleet_rows::{AttemptList, IdList, SlateDBError, Ulid};
+use fleet_tree::{SsTableHandle, TableList};
 use std::alloc::Global;
 use std::marker::Model;
 
@@ -24,6 +25,7 @@ pub struct RunAttempt {
     job: Ulid,
     number: u64,
     sources: IdList,
+    tables: TableList,
     ctx: CompactionContext,
 }
 
@@ -36,6 +38,7 @@ impl Model for RunAttempt {
       job = a.job;
       number = a.number;
       sources = a.sources;
+      tables = a.tables;
       ctx = a.ctx;
     } };
 }
@@ -49,6 +52,7 @@ impl RunAttempt {
             job: attempt.job,
             number: attempt.number,
             sources: attempt.sources,
+            tables: attempt.tables,
             ctx: attempt.ctx,
         }
     }
@@ -62,6 +66,7 @@ impl RunAttempt {
             job: self.job,
             number: self.number,
             sources: self.sources.clone()?,
+            tables: self.tables.clone()?,
             ctx: self.ctx.clone()?,
         })
     }
@@ -75,6 +80,7 @@ impl RunAttempt {
             job: self.job,
             number: self.number,
             sources: self.sources.clone()?,
+            tables: self.tables.clone()?,
             ctx,
         })
     }
@@ -98,6 +104,13 @@ impl RunAttempt {
         ensures { result.now ≡ self.now.sources }
     {
         self.sources.as_slice()
+    }
+
+    /// The descriptions of the source tables, in the same order.
+    pub fn tables(&self) -> &[SsTableHandle]
+        ensures { result.now ≡ self.now.tables }
+    {
+        self.tables.as_slice()
     }
 
     /// The context, with the tables that were noted so far.

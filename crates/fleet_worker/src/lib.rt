@@ -7,6 +7,7 @@ mod claim;
 mod finish;
 mod handle;
 mod held;
+mod output;
 mod release;
 mod worker;
 

@@ -8,6 +8,7 @@ ghost use Rattle.step_model.specs.Steps.BeatSteps.{beat_try, heartbeat, release_
 ghost use Rattle.step_model.specs.Steps.ClaimSteps.{claim, claim_try};
 ghost use Rattle.step_model.specs.Courses.CourseRuns.{IsLawfulCourse};
 ghost use Rattle.step_model.specs.Kept.Keeps.{Keeps};
+ghost use Rattle.step_model.specs.Later.{IsLater};
 ghost use Rattle.step_model.specs.Steps.MessageSteps.{take_failed, take_progress};
 ghost use Rattle.step_model.specs.Courses.StepEnds.{Reports};
 ghost use Rattle.step_model.specs.Views.{StoreView};
@@ -53,7 +54,7 @@ pub struct Worker {
     pub(crate) alloc: Global,
     id: u64,
     release: Release,
-    attempts: ListOf<RunAttempt>,
+    pub(crate) attempts: ListOf<RunAttempt>,
     pub(crate) stopped: bool,
 }
 
@@ -456,7 +457,8 @@ impl Worker {
             (after_put (options_of options.now) moment (live_of self.now)
             (jobs_of claimed.now) stopped) again
             (S.view store.old) (S.view store.new) result }
-        ensures noted { IfOk result (λ end. (later : model.Store) → DescribeTables claimed.now later
+        ensures noted { IfOk result (λ end. (later : model.Store)
+            → IsLater (S.view store.new).world.store later → DescribeTables claimed.now later
             → AreNoted self.now.attempts later → AreNoted end.1 later) }
     {
         let manifest = store.get_manifest()?;
@@ -609,7 +611,12 @@ impl Worker {
     }
 
     // The tries to give the attempt at the job with this number back.
-    fn returns<S: Store>(&self, store: &mut S, job: Ulid, number: u64) -> Result<(), SlateDBError>
+    pub(crate) fn returns<S: Store>(
+        &self,
+        store: &mut S,
+        job: Ulid,
+        number: u64,
+    ) -> Result<(), SlateDBError>
         requires ready { IsReady (S.view store.old) self.now }
         ensures { StepRan (runs_then (without_parts (job ∷ []) self.now.attempts))
             (take_failed (live_of self.now) job number)
@@ -678,7 +685,7 @@ impl Worker {
     }
 
     // The attempts after the progress of the attempt at the job with this number.
-    fn went_on(
+    pub(crate) fn went_on(
         &self,
         job: Ulid,
         number: u64,

@@ -1,8 +1,9 @@
 use Rattle.std.proofs.lemmas.Result.{err_from_is_err_and}
 use Rattle.std.proofs.Common.{refl}
 use Rattle.step_model.specs.Courses.Course.{Ends}
+use Rattle.step_laws.proofs.Later.{later_then}
 use Rattle.fleet_step.proofs.Steps.{then_leads, then_tried}
-use Rattle.fleet_step.proofs.Turns.{ends_with, wants_memory}
+use Rattle.fleet_step.proofs.Turns.{ends_with, manifest_is, wants_memory}
 use Rattle.fleet_worker.specs.Claims.{claim_ends_with}
 use Rattle.fleet_worker.proofs.Claims.{got_here, may_note, noted_then, to_notes}
 use Rattle.fleet_worker.proofs.worker.Worker.start_claimed.Goals as goal
@@ -36,4 +37,7 @@ returns-clause-ran g c = λ again.
     (start.report, start.attempts) refl
 
 pub returns-clause-noted : goal.returns-clause-noted
-returns-clause-noted g c = noted_then c.args.options.now c.args.moment c.args.self.now c.in_ok-manifest.manifest c.args.claimed.now c.args.stopped c.in_ok-start.start c.in_ok-start.ensures.start
+returns-clause-noted g c = λ later after.
+    let start = c.in_ok-start.start in
+    let made = c.in_ok-note_each.ensures (Ends (claim_ends_with (start.report, start.attempts))) in
+    noted_then c.args.options.now c.args.moment c.args.self.now c.in_ok-manifest.manifest c.args.claimed.now c.args.stopped start c.in_ok-start.ensures.start _ (manifest_is c.in_ok-manifest.ensures) later (later_then _ _ later made.later after)
