@@ -3,6 +3,7 @@ pub mod Hexes
 pub mod Lines
 pub mod Each
 pub mod Fields
+pub mod Between
 pub mod Cuts
 pub mod Filled
 pub mod Nodes

@@ -6,11 +6,20 @@ use Rattle.fleet_tree.specs.declared.handle.SsTableHandle.{SsTableHandle}
 use Rattle.fleet_tree.specs.declared.run.SortedRun.{SortedRun}
 use Rattle.fleet_tree.specs.declared.tree.LsmTreeState.{LsmTreeState}
 use Rattle.fleet_jobs.specs.Contexts.{table_ids}
-use Rattle.script_model.specs.Words.{bytes_text, nodes_text, list_text, comma}
+use Rattle.script_model.specs.Words.{bytes_text, kind_text, content_text, nodes_text, list_text, comma}
+use Rattle.row_model.specs.Rows.{Content}
 use Rattle.script_model.specs.Replies.{reply, jobs_text, rules_text, counted_text, ranges_text, begun_text}
 use Rattle.fleet_text.specs.Places.{places_text}
 use Rattle.fleet_text.specs.declared.report.PollReport.{PollReport}
 use Rattle.fleet_text.specs.declared.report.Begun.{Begun}
+
+-- A field of a row after the first one: a colon and its text.
+abbrev pub field : List ℕ → List ℕ
+field text = codes ":" ++ text
+
+-- The two fields of a row's content: its kind and its bytes.
+abbrev pub content_fields : Content → List ℕ
+content_fields content = field (kind_text content) ++ field (content_text content)
 
 -- The nodes of a tree: its flushes, newest first, and then its runs.
 abbrev pub tree_nodes : LsmTreeState → List NodeName

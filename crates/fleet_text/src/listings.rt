@@ -20,7 +20,7 @@ use crate::prints::Prints;
 use crate::reply::Reply;
 use crate::report::{Begun, Page, PollReport, ScanEnd};
 use crate::shown::segment_text;
-use crate::texts::bytes_text;
+use crate::texts::{append_bytes, bytes_text};
 use bytes::Bytes;
 use fleet_jobs::Compaction;
 use fleet_rows::{IdList, JobList, NamesList, RowEntry, RuleList, SlateDBError};
@@ -189,7 +189,7 @@ fn trees_text(alloc: Global, core: &ManifestCore) -> Result<String, AllocError>
     let mut words = Vec::new(alloc);
     words.push(segment_text(alloc, &[], &core.tree)?)?;
     'segments: for segment in core.segments.as_slice() {
-        words.push(segment.print(alloc)?)?;
+        words.push(segment_text(alloc, &segment.0, &segment.1)?)?;
     }
     listed_apart(alloc, &words)
 }
@@ -223,11 +223,10 @@ pub fn jobs(alloc: Global, jobs: &[Compaction]) -> Result<Reply, SlateDBError>
 impl Prints for (Bytes, Bytes) {
     ghost text = { pair_text };
 
-    fn print(&self, alloc: Global) -> Result<String, AllocError> {
-        let mut text = bytes_text(alloc, &self.0)?;
-        text.push_str(":")?;
-        text.push_str(bytes_text(alloc, &self.1)?.as_str())?;
-        Ok(text)
+    fn print(&self, alloc: Global, out: &mut String) -> Result<(), AllocError> {
+        append_bytes(alloc, &self.0, out)?;
+        out.push_str(":")?;
+        append_bytes(alloc, &self.1, out)
     }
 }
 

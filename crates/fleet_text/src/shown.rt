@@ -105,7 +105,7 @@ fn context_or_none(alloc: Global, context: Option<&CompactionContext>) -> Result
 impl Prints for Compaction {
     ghost text = { λ job. replies.job_text (job_of job) };
 
-    fn print(&self, alloc: Global) -> Result<String, AllocError> {
+    fn print(&self, alloc: Global, out: &mut String) -> Result<(), AllocError> {
         let number = job_text(alloc, self.id())?;
         let attempt = self.attempt().to_string(alloc)?;
         let worker = worker_text(alloc, self.worker())?;
@@ -117,20 +117,29 @@ impl Prints for Compaction {
             worker.as_str(),
             context.as_str(),
         ];
-        fields.join(alloc, ":")
+        out.push_str(fields.join(alloc, ":")?.as_str())
     }
 }
 
-impl Prints for Begun {
-    ghost text = { attempt_begun };
-
-    fn print(&self, alloc: Global) -> Result<String, AllocError> {
+impl Begun {
+    // The text of the attempt.
+    fn text(&self, alloc: Global) -> Result<String, AllocError>
+        ensures { IfOk result (λ text. string_bytes text ≡ attempt_begun self.now) }
+    {
         let mut text = job_text(alloc, self.job)?;
         text.push_str(".")?;
         text.push_str(self.number.to_string(alloc)?.as_str())?;
         text.push_str(":")?;
         text.push_str(listed_ranges(alloc, self.tables.as_slice())?.as_str())?;
         Ok(text)
+    }
+}
+
+impl Prints for Begun {
+    ghost text = { attempt_begun };
+
+    fn print(&self, alloc: Global, out: &mut String) -> Result<(), AllocError> {
+        out.push_str(self.text(alloc)?.as_str())
     }
 }
 
@@ -150,7 +159,7 @@ pub fn nodes_text(alloc: Global, tree: &LsmTreeState) -> Result<String, AllocErr
         nodes.push(flush_text(alloc, view.id)?)?;
     }
     'runs: for run in tree.compacted.as_slice() {
-        nodes.push(NodeName::Run(run.id).print(alloc)?)?;
+        nodes.push(lettered(alloc, "r", run.id as u128)?)?;
     }
     listed(alloc, &nodes)
 }
@@ -168,7 +177,7 @@ pub fn segment_text(alloc: Global, prefix: &[u8], tree: &LsmTreeState) -> Result
 impl Prints for (Bytes, LsmTreeState) {
     ghost text = { tree_text };
 
-    fn print(&self, alloc: Global) -> Result<String, AllocError> {
-        segment_text(alloc, &self.0, &self.1)
+    fn print(&self, alloc: Global, out: &mut String) -> Result<(), AllocError> {
+        out.push_str(segment_text(alloc, &self.0, &self.1)?.as_str())
     }
 }

@@ -1,12 +1,13 @@
 //! Prints the single items of lists in replies.
 
-ghost use Rattle.std.specs.Prelude.{◌≡◌, ◌++◌, IfOk, decimal, string_bytes};
+ghost use Rattle.std.specs.Prelude.{◌≡◌, ◌++◌, IfOk, OnOk, decimal, string_bytes};
 ghost use Rattle.fleet_model.specs.Jobs as jobs;
 ghost use Rattle.fleet_rows.specs.Row.{content_of, row_of};
 ghost use Rattle.script_model.specs.Replies as replies;
 ghost use Rattle.script_model.specs.Words as words;
 ghost use Rattle.fleet_text.specs.Lines.{node_of};
 ghost use Rattle.fleet_text.specs.Places as places;
+ghost use Rattle.fleet_text.specs.Printed as printed;
 
 use crate::node::NodeName;
 use crate::prints::Prints;
@@ -83,18 +84,18 @@ pub fn counted_text(alloc: Global, table: Ulid, rows: u64) -> Result<String, All
 impl Prints for SsTableHandle {
     ghost text = { λ table. replies.counted_text (table.id, table.rows) };
 
-    fn print(&self, alloc: Global) -> Result<String, AllocError> {
-        counted_text(alloc, self.id, self.rows)
+    fn print(&self, alloc: Global, out: &mut String) -> Result<(), AllocError> {
+        out.push_str(counted_text(alloc, self.id, self.rows)?.as_str())
     }
 }
 
 impl Prints for NodeName {
     ghost text = { λ node. words.node_text (node_of node) };
 
-    fn print(&self, alloc: Global) -> Result<String, AllocError> {
+    fn print(&self, alloc: Global, out: &mut String) -> Result<(), AllocError> {
         match self {
-            NodeName::L0(name) => lettered(alloc, "l", *name as u128),
-            NodeName::Run(id) => lettered(alloc, "r", *id as u128),
+            NodeName::L0(name) => append_lettered("l", *name as u128, out),
+            NodeName::Run(id) => append_lettered("r", *id as u128, out),
         }
     }
 }
@@ -102,33 +103,42 @@ impl Prints for NodeName {
 impl Prints for (Ulid, u8) {
     ghost text = { replies.rule_text };
 
-    fn print(&self, alloc: Global) -> Result<String, AllocError> {
-        rule_text(alloc, self.0, self.1)
+    fn print(&self, alloc: Global, out: &mut String) -> Result<(), AllocError> {
+        out.push_str(rule_text(alloc, self.0, self.1)?.as_str())
     }
 }
 
 impl Prints for (u64, u8) {
     ghost text = { places.place_text };
 
-    fn print(&self, alloc: Global) -> Result<String, AllocError> {
-        place_text(alloc, self.0, self.1)
+    fn print(&self, alloc: Global, out: &mut String) -> Result<(), AllocError> {
+        out.push_str(place_text(alloc, self.0, self.1)?.as_str())
     }
 }
 
 impl Prints for RowEntry {
     ghost text = { λ row. words.row_text (row_of row) };
 
-    fn print(&self, alloc: Global) -> Result<String, AllocError> {
-        row_text(alloc, self)
+    fn print(&self, alloc: Global, out: &mut String) -> Result<(), AllocError> {
+        append_row(alloc, self, out)
     }
+}
+
+// Appends a letter and a number.
+fn append_lettered(letter: &str, number: u128, out: &mut String) -> Result<(), AllocError>
+    ensures { OnOk result
+        (string_bytes out.new ≡ string_bytes out.old ++ letter.now ++ decimal number) }
+{
+    out.push_str(letter)?;
+    out.write(number)
 }
 
 /// Prints a letter and a number.
 pub fn lettered(alloc: Global, letter: &str, number: u128) -> Result<String, AllocError>
     ensures { IfOk result (λ text. string_bytes text ≡ letter.now ++ decimal number) }
 {
-    let mut text = String::from_str(alloc, letter)?;
-    text.push_str(number.to_string(alloc)?.as_str())?;
+    let mut text = String::new(alloc);
+    append_lettered(letter, number, &mut text)?;
     Ok(text)
 }
 
@@ -142,41 +152,59 @@ fn kind_text(value: &ValueDeletable) -> &'static str
     }
 }
 
-fn content_text(alloc: Global, value: &ValueDeletable) -> Result<String, AllocError>
-    ensures { IfOk result (λ text. string_bytes text ≡ words.content_text (content_of value.now)) }
+/// Appends bytes in lower-case hexadecimal digits, or `-` for no bytes.
+pub fn append_bytes(alloc: Global, bytes: &[u8], out: &mut String) -> Result<(), AllocError>
+    ensures { OnOk result
+        (string_bytes out.new ≡ string_bytes out.old ++ words.bytes_text bytes.now) }
 {
+    out.push_str(bytes_text(alloc, bytes)?.as_str())
+}
+
+// Appends a colon, the letter of the kind, a colon, and the bytes of a value or an operand.
+fn append_content(alloc: Global, value: &ValueDeletable, out: &mut String) -> Result<(), AllocError>
+    ensures { OnOk result (string_bytes out.new ≡ string_bytes out.old
+        ++ printed.content_fields (content_of value.now)) }
+{
+    out.push_str(":")?;
+    out.push_str(kind_text(value))?;
+    out.push_str(":")?;
     match value {
-        ValueDeletable::Value(bytes) | ValueDeletable::Merge(bytes) => bytes_text(alloc, bytes),
-        ValueDeletable::Tombstone => String::from_str(alloc, "-"),
+        ValueDeletable::Value(bytes) | ValueDeletable::Merge(bytes) => {
+            append_bytes(alloc, bytes, out)
+        }
+        ValueDeletable::Tombstone => out.push_str("-"),
     }
 }
 
-// Prints a time stamp in decimal digits, or `-` if there is none.
-fn stamp_text(alloc: Global, stamp: Option<i64>) -> Result<String, AllocError>
-    ensures { IfOk result (λ text. string_bytes text ≡ words.stamp_text stamp) }
+// Appends a colon and a number.
+fn append_number(number: u64, out: &mut String) -> Result<(), AllocError>
+    ensures { OnOk result
+        (string_bytes out.new ≡ string_bytes out.old ++ printed.field (decimal number)) }
 {
+    out.push_str(":")?;
+    out.write(number)
+}
+
+// Appends a colon and a time stamp in decimal digits, or a colon and `-` if there is none.
+fn append_stamp(stamp: Option<i64>, out: &mut String) -> Result<(), AllocError>
+    ensures { OnOk result
+        (string_bytes out.new ≡ string_bytes out.old ++ printed.field (words.stamp_text stamp)) }
+{
+    out.push_str(":")?;
     match stamp {
-        Some(stamp) => stamp.to_string(alloc),
-        None => String::from_str(alloc, "-"),
+        Some(stamp) => out.write(stamp),
+        None => out.push_str("-"),
     }
 }
 
-/// Prints a row: key, kind, value, sequence and two time stamps, with colons between them.
-pub fn row_text(alloc: Global, row: &RowEntry) -> Result<String, AllocError>
-    ensures { IfOk result (λ text. string_bytes text ≡ words.row_text (row_of row.now)) }
+// Appends a row: key, kind, value, sequence and two time stamps, with colons between them.
+fn append_row(alloc: Global, row: &RowEntry, out: &mut String) -> Result<(), AllocError>
+    ensures { OnOk result
+        (string_bytes out.new ≡ string_bytes out.old ++ words.row_text (row_of row.now)) }
 {
-    let key = bytes_text(alloc, &row.key)?;
-    let value = content_text(alloc, &row.value)?;
-    let seq = row.seq.to_string(alloc)?;
-    let created = stamp_text(alloc, row.create_ts)?;
-    let expires = stamp_text(alloc, row.expire_ts)?;
-    let fields = [
-        key.as_str(),
-        kind_text(&row.value),
-        value.as_str(),
-        seq.as_str(),
-        created.as_str(),
-        expires.as_str(),
-    ];
-    fields.join(alloc, ":")
+    append_bytes(alloc, &row.key, out)?;
+    append_content(alloc, &row.value, out)?;
+    append_number(row.seq, out)?;
+    append_stamp(row.create_ts, out)?;
+    append_stamp(row.expire_ts, out)
 }
