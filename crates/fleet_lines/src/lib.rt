@@ -1,4 +1,4 @@
-//! A fleet, as the lines of a script see it.
+//! The options of a fleet, and the replies to steps that failed.
 #![tactic(auto)]
 
 mod options;
