@@ -1,5 +1,6 @@
 //! Schedulers: which compaction jobs are proposed, which are accepted, and which a request of a
-//! user gives.
+//! user gives. Two calls serve schedulers of one's own: how many jobs may come beside those under
+//! way, and which id a fresh run gets.
 #![tactic(auto)]
 
 mod defaults;
@@ -16,6 +17,7 @@ mod validation;
 
 pub use defaults::{default_generate, default_validate};
 pub use options::{CompactorOptions, SizeTieredCompactionSchedulerOptions};
+pub use planning::{free_slots, fresh_run_id};
 pub use scheduler::CompactionScheduler;
 pub use size_tiered::SizeTieredCompactionScheduler;
 pub use supplier::{CompactionSchedulerSupplier, SizeTieredCompactionSchedulerSupplier};

@@ -120,7 +120,8 @@ fn is_of(spec: &CompactionSpec, segment: &[u8]) -> bool
     segment == spec.segment().as_slice()
 }
 
-/// How many jobs may be added to those under way.
+/// How many jobs may be added to those that are shown, if at most this many may be Submitted,
+/// Scheduled or Running at once.
 pub fn free_slots(most: u64, state: &CompactorStateView) -> u64
     ensures { result ≡ free_slots most (shown_jobs state.now) }
 {
