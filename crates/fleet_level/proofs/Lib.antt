@@ -1,0 +1,11 @@
+pub mod OptionWords
+pub mod SamePicks
+pub mod FirstSizes
+pub mod RunSizes
+pub mod TreeParts
+pub mod SameSizes
+pub mod Limits
+pub mod RunsLeft
+pub mod TreesLooked
+pub mod Proposed
+pub mod Picked

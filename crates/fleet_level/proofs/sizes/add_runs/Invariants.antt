@@ -1,0 +1,9 @@
+use Rattle.std.proofs.Common.{◌≡◌, ℕ, take}
+use Rattle.std.specs.BTreeMap.{get}
+use Rattle.std.specs.Option.{option_or}
+use Rattle.std.specs.Ordering.{nat_cmp}
+use Rattle.fleet_level.specs.Sizes.{first_size, tables_of_runs}
+use Rattle.fleet_level.proofs.sizes.add_runs.Given as goal
+
+abbrev pub invariant-runs : goal.invariant-runs
+invariant-runs l = (id : ℕ) → get nat_cmp l.sizes id ≡ option_or (get nat_cmp l.initial.sizes id) (first_size id (tables_of_runs (take l.run-index l.runs)))

@@ -1,0 +1,7 @@
+use Rattle.std.proofs.Common.{◌≡◌, map, take}
+use Rattle.fleet_model.specs.Nodes.{L0}
+use Rattle.fleet_jobs.specs.Sources.{name_of}
+use Rattle.fleet_level.proofs.used.flush_sources.Given as goal
+
+abbrev pub invariant-flushes : goal.invariant-flushes
+invariant-flushes l = map name_of l.sources.items ≡ map (λ view. L0 view.id) (take l.flush-index l.flushes)

@@ -1,0 +1,4 @@
+pub mod Options
+pub mod LevelParts
+pub mod Sizes
+pub mod Picks
