@@ -1,1 +1,2 @@
+mod FewFlushes
 mod Taken
