@@ -3,5 +3,6 @@ mod KeyByKey
 mod Parts
 mod Folds
 mod Steps
+mod KeyTaken
 mod Calls
 mod Ranged

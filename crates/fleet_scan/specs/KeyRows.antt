@@ -1,7 +1,8 @@
 -- What the rows of a key that were taken so far leave for a read.
-use Rattle.std.specs.Prelude.{◌≡◌, ℕ, ℤ, Bool, if◌then◌else◌, List, [], ◌∷◌, ◌++◌, Option, Some, None, reverse}
+use Rattle.std.specs.Prelude.{◌≡◌, ℕ, ℤ, Bool, true, false, if◌then◌else◌, List, [], ◌∷◌, ◌++◌, Option, Some, None, reverse}
 use Rattle.row_model.specs.Rows.{Content, Row}
 use Rattle.row_model.specs.Read.{base, operands, seen_at}
+use Rattle.fleet_scan.specs.KeyReads.{KeyReading}
 use Rattle.fleet_scan.specs.declared.key_rows.Ground.{Ground}
 use Rattle.fleet_scan.specs.declared.key_rows.Ground.TheVariants.{Older, Value, Nothing}
 use Rattle.fleet_scan.specs.declared.key_rows.KeyRows.{KeyRows}
@@ -55,3 +56,20 @@ pub record Takes (point : ReadPoint) (old : KeyRows) (content : Content) (seq : 
   pub key : new.key ≡ old.key
   pub parts : (r : Row) → r.content ≡ content → r.seq ≡ seq → r.expires ≡ expires → (later : List Row)
       → parts_with point new later ≡ parts_with point old (r ∷ later)
+
+-- A value or a tombstone hides all older rows.
+abbrev pub is_hiding : Ground → Bool
+is_hiding Older = false
+is_hiding (Value bytes) = true
+is_hiding Nothing = true
+
+-- The read that has taken these rows.
+abbrev pub reading_of : ReadPoint → KeyRows → KeyReading
+reading_of point taken = record {
+  key = taken.key;
+  seq = point.seq;
+  moment = point.moment;
+  hides = is_hiding taken.ground;
+  base = base_of taken.ground;
+  operands = reverse taken.operands.items;
+}

@@ -6,7 +6,7 @@ ghost use Rattle.row_model.specs.Rows.{is_reached};
 ghost use Rattle.fleet_rows.specs.Row.{content_of, row_of};
 ghost use Rattle.fleet_rows.specs.declared.errors.SlateDBError.TheVariants as SlateDBError;
 ghost use Rattle.fleet_scan.specs.Answered.{pair_of};
-ghost use Rattle.fleet_scan.specs.KeyRows.{Adds, IsBegun, Takes, base_of, ground_of};
+ghost use Rattle.fleet_scan.specs.KeyRows.{Adds, IsBegun, Takes, base_of, ground_of, is_hiding};
 
 use crate::KeyAnswer;
 use bytes::Bytes;
@@ -81,6 +81,19 @@ pub(crate) struct KeyRows {
 }
 
 impl KeyRows {
+    /// No row of the key is taken.
+    pub(crate) fn none(alloc: Global, key: Bytes) -> KeyRows
+        ensures key { result.key ≡ key }
+        ensures ground { result.ground ≡ Ground.Older }
+        ensures operands { result.operands.items ≡ [] }
+    {
+        KeyRows {
+            key,
+            operands: Vec::new(alloc),
+            ground: Ground::Older,
+        }
+    }
+
     /// The key's newest row is taken.
     pub(crate) fn new(
         alloc: Global,
@@ -96,13 +109,19 @@ impl KeyRows {
             create_ts: _,
             expire_ts,
         } = first;
-        let mut rows = KeyRows {
-            key,
-            operands: Vec::new(alloc),
-            ground: Ground::Older,
-        };
+        let mut rows = KeyRows::none(alloc, key);
         rows.take(point, value, seq, expire_ts)?;
         Ok(rows)
+    }
+
+    /// Whether a row that was taken hides all older ones.
+    pub(crate) fn is_hiding(&self) -> bool
+        ensures { result ≡ is_hiding self.now.ground }
+    {
+        match self.ground {
+            Ground::Older => false,
+            Ground::Value(_) | Ground::Nothing => true,
+        }
     }
 
     /// Whether a row has the key.
