@@ -10,3 +10,4 @@ pub mod WorkedRetention
 pub mod WorkedSweeps
 pub mod WorkedScans
 pub mod WorkedLevels
+pub mod WorkedGenerated

@@ -2,10 +2,13 @@
 //! of a fresh fleet. The scripts are in specs/, in the files whose names begin with Worked. A fleet
 //! gives no other replies to a script of `MustReply`.
 
+ghost use Rattle.std.specs.Prelude.{◌≡◌, map};
+ghost use Rattle.std.specs.List.{concat};
 ghost use Rattle.row_model.specs.Append.{append};
 ghost use Rattle.script_model.specs.Defaults.{with_quiet_scheduler};
-ghost use Rattle.script_model.specs.Examples.Worked.{MayReply, MustReply};
+ghost use Rattle.script_model.specs.Examples.Worked.{MayReply, MustReply, newline};
 ghost use Rattle.script_model.specs.Examples.WorkedCoordinators.{fence, moved_run_takeover, standing_put, takeover};
+ghost use Rattle.script_model.specs.Examples.WorkedGenerated.{generated_from_seven};
 ghost use Rattle.script_model.specs.Examples.WorkedInputs.{append_unmarked, with_levels, with_one_proposed_twice, with_two_picks};
 ghost use Rattle.script_model.specs.Examples.WorkedJobs.{destinations, drains, moved_tables, no_records, oldest_flush, proposed_twice, shared_source, two_segments};
 ghost use Rattle.script_model.specs.Examples.WorkedParties.{boundary_of_silence, cut_inside_a_key, older_attempt, stopped_worker};
@@ -15,6 +18,8 @@ ghost use Rattle.script_model.specs.Examples.WorkedRetention.{horizon_alone, job
 ghost use Rattle.script_model.specs.Examples.WorkedRows.{deleted_key, expiry_classes, fold_before_expiry, no_resurrection, refused_flushes, struck_flush};
 ghost use Rattle.script_model.specs.Examples.WorkedScans.{scanned_pages, scanned_to_refusal};
 ghost use Rattle.script_model.specs.Examples.WorkedSweeps.{struck_sweep, swept, swept_beside_worker};
+ghost use Rattle.script_model.specs.Generated.{generated};
+ghost use Rattle.script_model.specs.Script.{script_text};
 
 /// A job compacts a tombstone and two values of a key into the last run, under floor 3. Reads from
 /// the floor on answer as before. The oldest version is gone, and a read below the horizon is
@@ -239,4 +244,9 @@ pub fn struck_settle()
 /// A settle line whose parties are not live is refused.
 pub fn settled_by_nobody()
     ensures { MustReply (with_quiet_scheduler append) settled_by_nobody }
+{}
+
+/// The script of two rounds that the number 7 makes.
+pub fn generated_from_seven()
+    ensures { script_text (generated 7 2) ≡ concat (map newline generated_from_seven) }
 {}
