@@ -5,13 +5,12 @@
 ghost use Rattle.row_model.specs.Fold.{Operator};
 ghost use Rattle.step_model.specs.Kept.Keeps.{Keeps};
 ghost use Rattle.step_model.specs.Past.{fresh_world};
-ghost use Rattle.step_laws.specs.CallLaws.{DrawsKeep, EpochsKeep, FlushesKeep, JobPutsKeep, LooksKeep, OtherCallsKeep, TableCallsKeep, VainPutsKeep, WorkerPutsKeep};
+ghost use Rattle.step_laws.specs.CallLaws.{OtherCallsKeep};
 ghost use Rattle.step_laws.specs.Later.{CallsLeadLater};
 ghost use Rattle.step_laws.specs.Midway.{midway_world};
 ghost use Rattle.step_laws.specs.MidwayCalls.{MidwayIsReached};
 ghost use Rattle.step_laws.specs.RanLaws.{StepsRan};
 ghost use Rattle.step_laws.specs.Replays.{FaithfulAlike};
-ghost use Rattle.step_laws.specs.Runs.{LawfulRunsKeep};
 
 /// A fresh store meets the invariant and the facts that lawful calls keep.
 pub fn fresh_keeps()
@@ -35,58 +34,6 @@ pub fn midway_is_reached()
 /// Any two faithful choices of specs give the same replay after each part of the history.
 pub fn faithful_alike()
     ensures { FaithfulAlike }
-{}
-
-/// Gets, notes and lists of the held tables keep the invariant, if they are lawful.
-pub fn looks_keep()
-    ensures { (merge : Operator) → LooksKeep merge }
-{}
-
-/// Draws keep the invariant, if they are lawful. No id is drawn twice.
-pub fn draws_keep()
-    ensures { (merge : Operator) → DrawsKeep merge }
-{}
-
-/// Puts that change nothing keep the invariant, whether they are lost or refused. If they are puts
-/// of the records, they must be fit to name the jobs that their entries name.
-pub fn vain_puts_keep()
-    ensures { (merge : Operator) → VainPutsKeep merge }
-{}
-
-/// If each lawful call keeps the invariant, then so do calls of others, and so does each run of a
-/// lawful course, whatever calls of others come in between and however the run ends.
-pub fn lawful_runs_keep()
-    ensures { LawfulRunsKeep }
-{}
-
-/// Puts and deletions of tables keep the invariant, if they are lawful. A table that is put later
-/// changes nothing that the history says, and a deletion takes no table that is still needed.
-pub fn table_calls_keep()
-    ensures { (merge : Operator) → TableCallsKeep merge }
-{}
-
-/// Puts of epochs keep the invariant, if they are lawful. The epoch of the records stays at most
-/// that of the manifest, and no epoch is put twice.
-pub fn epochs_keep()
-    ensures { (merge : Operator) → EpochsKeep merge }
-{}
-
-/// Flushes keep the invariant, if they are lawful. The new node is newer than all others of its
-/// tree, the sources of jobs stay where they are, and floor and tick do not fall.
-pub fn flushes_keep()
-    ensures { (merge : Operator) → FlushesKeep merge }
-{}
-
-/// Claims, heartbeats, finishes and releases keep the invariant, if they are lawful. No attempt is
-/// claimed twice, a published context stays that of its attempt, and each table has one use.
-pub fn worker_puts_keep()
-    ensures { (merge : Operator) → WorkerPutsKeep merge }
-{}
-
-/// Submissions and the changes that polls make of the records keep the invariant, if they are
-/// lawful. A poll may free, open and end jobs in one put.
-pub fn job_puts_keep()
-    ensures { (merge : Operator) → JobPutsKeep merge }
 {}
 
 /// Every lawful call that is no commit keeps the invariant, under any operator and whether a fault
