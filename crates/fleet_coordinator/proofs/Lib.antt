@@ -8,3 +8,14 @@ pub mod ShownViews
 pub mod Requests
 pub mod Merged
 pub mod RecordPuts
+pub mod PollStands
+pub mod StepJobs
+pub mod PutsAlike
+pub mod PollFacts
+pub mod PollGets
+pub mod PollBegins
+pub mod PollReaches
+pub mod PollPuts
+pub mod PollTries
+pub mod PollRuns
+pub mod Handled

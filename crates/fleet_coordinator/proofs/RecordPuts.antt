@@ -135,7 +135,7 @@ module _ (epoch : ℕ) (old new : StoreView) (got : Option VersionedRecords) (ge
 -- ---- all puts
 
 -- An error tells of the same end, whatever the step would have answered.
-same_error : {A C B : Type 0} (ends : A → StepEnd B) (others : C → StepEnd B) (e : SlateDBError) → end_of ends (Err e) ≡ end_of others (Err e)
+pub same_error : {A C B : Type 0} (ends : A → StepEnd B) (others : C → StepEnd B) (e : SlateDBError) → end_of ends (Err e) ≡ end_of others (Err e)
 same_error ends others error.StoreFault = refl
 same_error ends others error.Memory = refl
 same_error ends others (error.Conflict seen) = refl
@@ -154,7 +154,7 @@ same_error ends others error.MergeOperatorMissing = refl
 same_error ends others (error.InvalidSequenceOrder current after) = refl
 
 -- A step that goes on and then fails, ends so. After a refused put it gives up.
-ends_so : {A B : Type 0} (ends : A → StepEnd B) {course rest : Course (StepEnd B)} {old mid new : StoreView} → Leads course old rest mid → (e : SlateDBError)
+pub ends_so : {A B : Type 0} (ends : A → StepEnd B) {course rest : Course (StepEnd B)} {old mid new : StoreView} → Leads course old rest mid → (e : SlateDBError)
     → TryRan ends rest (λ seen. Ends (GivesUp seen)) mid new (Err e) → StepRan ends course old new (Err e)
 ends_so ends {new = new} lead (error.Conflict seen) ran = then_ran ends (then_leads lead (ran.refused seen refl)) (gives_up ends (Ends (GivesUp seen)) new seen refl)
 ends_so ends lead error.StoreFault ran = then_ran ends lead (ran.ended refl)
@@ -176,7 +176,7 @@ abbrev after_refusal : ℕ → PollState → ℕ → ℕ → Course (StepEnd Pol
 after_refusal epoch p left seen = if left == 0 then Ends (GivesUp seen) else gets_newer epoch (λ records. puts_polled epoch (merged_into p records.jobs) records left seen)
 
 -- A poll takes nothing but version and epoch of the records that it got.
-same_got : (epoch : ℕ) (p : PollState) (got other : Records) (left seen : ℕ) → got.version ≡ other.version → got.epoch ≡ other.epoch → puts_polled epoch p got left seen ≡ puts_polled epoch p other left seen
+pub same_got : (epoch : ℕ) (p : PollState) (got other : Records) (left seen : ℕ) → got.version ≡ other.version → got.epoch ≡ other.epoch → puts_polled epoch p got left seen ≡ puts_polled epoch p other left seen
 same_got epoch p got other zero seen version epochs = refl
 same_got epoch p got other (suc left) seen version epochs =
     ap (λ (call : ℕ × ℕ). cond (is_nothing (change_of p)) (Ends (Reports p)) (Calls (PutsRecords call.0 (Polled (change_of p)) call.1 (trimmed_jobs p.jobs)) (put_then call.0 (Ends (Reports p)) (after_refusal epoch p left))))

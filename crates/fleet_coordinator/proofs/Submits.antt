@@ -123,14 +123,14 @@ module _ {old mid : StoreView} {got : VersionedRecords} (gets : GetsRecords old 
 
 -- ---- the draws
 
-abbrev marked : List ℕ → List (ℕ × ⊤)
+abbrev pub marked : List ℕ → List (ℕ × ⊤)
 marked ids = map (λ id. (id, tt)) ids
 
 -- The store is later than the start, it meets the invariant, and the ids that were drawn are new.
-record Drawing (start : World) (view : StoreView) (pairs : List (ℕ × ⊤)) : Type 0 where
-  kept : Keeps view.who.merge view.world
-  later : Later start view.world
-  fresh : AreFresh view.who.party view.world pairs
+pub record Drawing (start : World) (view : StoreView) (pairs : List (ℕ × ⊤)) : Type 0 where
+  pub kept : Keeps view.who.merge view.world
+  pub later : Later start view.world
+  pub fresh : AreFresh view.who.party view.world pairs
 
 module _ (start : World) (moment : ℕ) where
   -- If one more job id is drawn, all drawn ids are new, and the store is still later than the start.
@@ -151,7 +151,7 @@ module _ (start : World) (moment : ℕ) where
             (subst (λ world. AreFresh {B = ⊤} who.party world (pairs ++ (next_job_id moment draw.met.store, tt) ∷ [])) (sym draw.ended.1.leaves) fresh));
       }
 
-  drew_all : (ids : List ℕ) (pairs : List (ℕ × ⊤)) (old new : StoreView) → IsLawful old.who.merge → Drew moment ids old new → Drawing start old pairs → Drawing start new (pairs ++ marked ids)
+  pub drew_all : (ids : List ℕ) (pairs : List (ℕ × ⊤)) (old new : StoreView) → IsLawful old.who.merge → Drew moment ids old new → Drawing start old pairs → Drawing start new (pairs ++ marked ids)
   drew_all [] pairs old new merges same so_far = subst (Drawing start new) (sym (append-nil pairs)) (subst (λ v. Drawing start v pairs) (sym same) so_far)
   drew_all (id ∷ ids) pairs old new merges (mid, (draw, rest)) so_far =
       subst (Drawing start new) (append_assoc pairs ((id, tt) ∷ []) (marked ids))
@@ -168,7 +168,7 @@ module _ (history : List Entry) (jobs : List JobParts) where
       by true e rest = absurd (refused (was_named history id) (not_named history id fresh (was_named history id) refl) (subst (λ n. IsTrue (was_named history n)) ((Decides-eqb job.id id).0 e) named.0))
       by false e rest = rest
 
-  all_unused : AllByRecursion (λ job. IsTrue (was_named history job.id)) (jobs_of jobs) → (ids : List ℕ) → AllByRecursion (λ p. is_mentioned history p.0 ≡ false) (marked ids) → AllByRecursion (λ id. record_with id jobs ≡ None) ids
+  pub all_unused : AllByRecursion (λ job. IsTrue (was_named history job.id)) (jobs_of jobs) → (ids : List ℕ) → AllByRecursion (λ p. is_mentioned history p.0 ≡ false) (marked ids) → AllByRecursion (λ id. record_with id jobs ≡ None) ids
   all_unused named [] fresh = tt
   all_unused named (id ∷ ids) fresh = (unused id fresh.0 jobs named, all_unused named ids fresh.1)
 
@@ -176,7 +176,7 @@ differ : (id : ℕ) (ids : List ℕ) → AllByRecursion (λ (q : ℕ × ⊤). id
 differ id [] all = tt
 differ id (other ∷ ids) all = (all.0, differ id ids all.1)
 
-each_once : (ids : List ℕ) → Pairs (λ (p q : ℕ × ⊤). p.0 ≢ q.0) (marked ids) → Pairs (λ a b. a ≢ b) ids
+pub each_once : (ids : List ℕ) → Pairs (λ (p q : ℕ × ⊤). p.0 ≢ q.0) (marked ids) → Pairs (λ a b. a ≢ b) ids
 each_once [] once = tt
 each_once (id ∷ ids) once = (differ id ids once.0, each_once ids once.1)
 
@@ -204,7 +204,7 @@ pub some_specs : (specs : List CompactionSpec) → (length specs == 0) ≡ false
 some_specs [] some none = absurd (cc some)
 some_specs (spec ∷ specs) some none = absurd (cc none)
 
-many_specs : (specs : List CompactionSpec) → length specs ≡ length (map spec_of specs)
+pub many_specs : (specs : List CompactionSpec) → length specs ≡ length (map spec_of specs)
 many_specs [] = refl
 many_specs (spec ∷ specs) = ap suc (many_specs specs)
 

@@ -4,11 +4,15 @@
 
 mod coordinator;
 mod flushing;
+mod handling;
+mod polling;
 mod recording;
 mod requesting;
+pub mod stats;
 mod submission;
 
 pub use coordinator::start;
 pub use flushing::{FlushAsk, FlushFault, flush};
+pub use handling::{CompactorMessage, Coordinator};
 pub use requesting::submit_request;
 pub use submission::submit;

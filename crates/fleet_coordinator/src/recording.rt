@@ -25,8 +25,8 @@ use fleet_step::{put_answer, refused_at};
 use fleet_store::Store;
 use std::alloc::Global;
 
-// The records, or those of version 0 if there are none.
-fn or_none(alloc: Global, records: Option<VersionedCompactions>) -> VersionedCompactions
+/// The records, or those of version 0 if there are none.
+pub(crate) fn or_none(alloc: Global, records: Option<VersionedCompactions>) -> VersionedCompactions
     ensures records { records_of result ≡ records_or_none (option_map records_of records) }
     ensures jobs { result.compactions.jobs ≡ jobs_or_none records }
 {

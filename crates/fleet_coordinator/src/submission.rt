@@ -29,8 +29,8 @@ struct SubmitPut {
     why: RecordChange,
 }
 
-// Copies of the specs, each with the id of its job.
-fn with_ids(
+/// Copies of the specs, each with the id of its job.
+pub(crate) fn with_ids(
     alloc: Global,
     ids: &[Ulid],
     specs: &[CompactionSpec],
