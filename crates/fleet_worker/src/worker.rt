@@ -22,7 +22,7 @@ ghost use Rattle.fleet_worker.specs.Held.{all_held};
 ghost use Rattle.fleet_worker.specs.Messages.{IsReturnOf, StaysReady, attempt_with, gone_ends, one_return, runs_then, went_on};
 ghost use Rattle.fleet_worker.specs.Releases.{IsReleaseOf, is_over, one_release};
 ghost use Rattle.fleet_step.specs.Steps.{StepRan, TryRan, stops};
-ghost use Rattle.fleet_worker.specs.Workers.{AreNoted, IsReady, IsReadyAnywhere, attempt_of, live_of, ranges_at, started};
+ghost use Rattle.fleet_worker.specs.Workers.{AreNoted, IsReady, IsReadyAnywhere, attempt_of, live_of, ranges_at, run_at, started};
 
 use crate::RunAttempt;
 use crate::attempt::{if_numbered, is_elsewhere, is_live, live_attempts, one_named, run_at};
@@ -105,6 +105,13 @@ impl Worker {
         ensures { result ≡ self.now.release }
     {
         self.release
+    }
+
+    /// The worker's attempt at the job, or None if the worker does not run the job.
+    pub fn attempt(&self, job: Ulid) -> Option<&RunAttempt>
+        ensures { option_copied result ≡ run_at self.now.attempts job }
+    {
+        run_at(self.attempts.as_slice(), job)
     }
 
     /// How many ranges the worker's attempt at the job has, or None if the worker does not run the
