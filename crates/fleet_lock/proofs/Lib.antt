@@ -1,0 +1,9 @@
+pub mod Fronts
+pub mod Totals
+pub mod Moves
+pub mod Chains
+pub mod Lone
+pub mod Shared
+pub mod PassCalls
+pub mod Passes
+pub mod Places
