@@ -154,3 +154,7 @@ on_false false p = p
 -- A coordinator is ready after a message by which it polled.
 pub ready_after : (old new : StoreView) (ask : PollAsk) (result : Result PollReport SlateDBError) (stopped : Bool) (epoch : ℕ) → epoch ≡ ask.epoch → IsLawful old.who.merge → MayPoll old ask.epoch → HasHandled (poll ask) old new result → OnFalse stopped (MayPoll new epoch)
 ready_after old new ask result stopped epoch same merges may handled = on_false stopped (subst (MayPoll new) (sym same) (may_again old new ask merges may (λ report. Reports handled.reached) result handled.ran))
+
+-- The store meets the invariant after such a message, however the poll ended.
+pub keeps_after : (old new : StoreView) (ask : PollAsk) (result : Result PollReport SlateDBError) → IsLawful old.who.merge → MayPoll old ask.epoch → HasHandled (poll ask) old new result → Keeps new.who.merge new.world
+keeps_after old new ask result merges may handled = (may_again old new ask merges may (λ report. Reports handled.reached) result handled.ran).keeps

@@ -152,6 +152,7 @@ impl Coordinator {
         ensures stopped { self.new.stopped ≡ stops result }
         ensures epoch { self.new.epoch ≡ self.old.epoch }
         ensures ready { OnFalse self.new.stopped (IsReady (S.view store.new) self.new) }
+        ensures keeps { Keeps (S.view store.new).who.merge (S.view store.new).world }
     {
         let commits_only = match message {
             CompactorMessage::LogStats => return Ok(PollReport::new(self.alloc)),
