@@ -34,7 +34,7 @@ use Rattle.fleet_finish.specs.declared.put.FinishPut.{FinishPut}
 use Rattle.fleet_step.specs.Steps.{Leads, RunsTo, StepRan, TryRan, puts_and, stops}
 use Rattle.fleet_step.proofs.Steps.{begins, gives, then_tried, tried}
 use Rattle.fleet_worker.specs.Claims.{without_parts}
-use Rattle.fleet_worker.specs.Finishes.{Finishes, IsResult, MayFinish, disowns, done_ends, ended_by, finish_ends, finished_job, left_after, one_finish}
+use Rattle.fleet_worker.specs.Finishes.{Finishes, IsResult, MayFinish, disowns, done_ends, end_of_job, ended_by, finish_ends, finished_job, left_after, one_finish}
 use Rattle.fleet_worker.specs.Messages.{attempt_with}
 use Rattle.fleet_worker.specs.Workers.{AttemptParts, IsReady, MayStep, WorkerParts, attempt_of, live_of}
 use Rattle.fleet_worker.proofs.Inserted.{without_same}
@@ -71,6 +71,23 @@ still_shown old new (tables ∷ outputs) later all = (all_described old new late
 
 -- ---- tries
 
+-- The end of the job of an attempt with these tables.
+module _ (moment : ℕ) (w : WorkerParts) (a : AttemptParts) (outputs : Outputs) where
+  end_is : end_of_job moment w a outputs ≡ tries (one_finish moment w a outputs) 64 0
+  unfolding end_job
+  end_is = refl
+
+  pub first_end : (view : StoreView) → Leads (end_of_job moment w a outputs) view (tries (one_finish moment w a outputs) 64 0) view
+  first_end view = subst (λ (course : Course (StepEnd FinishedJob)). Leads (end_of_job moment w a outputs) view course view) end_is (begins (end_of_job moment w a outputs) view)
+
+  -- The next try may be made.
+  pub may_finish : (old view : StoreView) (left seen after : ℕ) → IsLawfulCourse old.who old.world (end_of_job moment w a outputs) → Leads (end_of_job moment w a outputs) old (tries (one_finish moment w a outputs) left seen) view → left ≡ after + 1 → MayFinish view moment w a outputs
+  may_finish old view left seen after lawful lead more = (
+    tries (one_finish moment w a outputs) after,
+    subst (λ (who : Caller). IsLawfulCourse who view.world (tries (one_finish moment w a outputs) (suc after) seen)) (sym lead.same.who)
+        (subst (λ n. IsLawfulCourse old.who view.world (tries (one_finish moment w a outputs) n seen)) (more ∙ add-one after) (lead.lawful lawful)),
+  )
+
 module _ (moment : ℕ) (w : WorkerParts) (job number : ℕ) (outputs : Outputs) where
   abbrev ends_it : Course (StepEnd FinishedJob)
   ends_it = take_finished moment (live_of w) job number (map table_ids outputs)
@@ -91,24 +108,17 @@ module _ (moment : ℕ) (w : WorkerParts) (job number : ℕ) (outputs : Outputs)
     is_run : attempt_run (live_of w) job number ≡ Some (attempt_of a)
     is_run = run_same w job number ∙ ap (option_map attempt_of) run
 
-    is_tries : ends_it ≡ tries (one_finish moment w a outputs) 64 0
-    unfolding take_finished end_job
-    is_tries = ap (ends_run moment (live_of w) (map table_ids outputs)) is_run
+    is_end : ends_it ≡ end_of_job moment w a outputs
+    unfolding take_finished
+    is_end = ap (ends_run moment (live_of w) (map table_ids outputs)) is_run
 
-    pub first_finish : (view : StoreView) → Leads ends_it view (tries (one_finish moment w a outputs) 64 0) view
-    first_finish view = subst (λ course. Leads ends_it view course view) is_tries (begins ends_it view)
+    -- The end of the job is lawful if the step is.
+    pub lawful_end : (view : StoreView) → IsLawfulCourse view.who view.world ends_it → IsLawfulCourse view.who view.world (end_of_job moment w a outputs)
+    lawful_end view lawful = subst (λ (course : Course (StepEnd FinishedJob)). IsLawfulCourse view.who view.world course) is_end lawful
 
     -- The tables are described.
     pub shown_at : (view : StoreView) → IsResult view w job number outputs → AreShown outputs view.world.store
     shown_at view fits = subst (λ found. IfSome found (λ (b : Attempt). AreShown outputs view.world.store)) is_run fits.shown
-
-    -- The next try may be made.
-    pub may_finish : (old view : StoreView) (left seen after : ℕ) → IsLawfulCourse old.who old.world ends_it → Leads ends_it old (tries (one_finish moment w a outputs) left seen) view → left ≡ after + 1 → MayFinish view moment w a outputs
-    may_finish old view left seen after lawful lead more = (
-      tries (one_finish moment w a outputs) after,
-      subst (λ (who : Caller). IsLawfulCourse who view.world (tries (one_finish moment w a outputs) (suc after) seen)) (sym lead.same.who)
-          (subst (λ n. IsLawfulCourse old.who view.world (tries (one_finish moment w a outputs) n seen)) (more ∙ add-one after) (lead.lawful lawful)),
-    )
 
     -- The end of the step, as the worker is then.
     ends_same : done_ends w a outputs ≡ finish_ends outputs (without_parts (job ∷ []) w.attempts)
@@ -116,8 +126,10 @@ module _ (moment : ℕ) (w : WorkerParts) (job number : ℕ) (outputs : Outputs)
         ap (λ j done. Reports (finished_job outputs (filter (λ b. not (contains (j ∷ []) b.job)) (live_of w).attempts))) (at_job w job number a run)
         ∙ ap (λ xs done. Reports (finished_job outputs xs)) (sym (without_same (job ∷ []) w.attempts))
 
-    pub ended_so : {old new : StoreView} {result : Result (Unit {0}) SlateDBError} → StepRan (done_ends w a outputs) ends_it old new result → StepRan (finish_ends outputs (without_parts (job ∷ []) w.attempts)) ends_it old new result
-    ended_so {old = old} {new = new} {result = result} ran = subst (λ ends. StepRan ends ends_it old new result) ends_same ran
+    pub ended_so : (old new : StoreView) (result : Result (Unit {0}) SlateDBError) → StepRan (done_ends w a outputs) (end_of_job moment w a outputs) old new result → StepRan (finish_ends outputs (without_parts (job ∷ []) w.attempts)) ends_it old new result
+    ended_so old new result ran =
+        subst (λ ends. StepRan ends ends_it old new result) ends_same
+        (subst (λ (course : Course (StepEnd FinishedJob)). StepRan (done_ends w a outputs) course old new result) (sym is_end) ran)
 
   -- ---- after the step
 

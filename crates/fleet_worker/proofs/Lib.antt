@@ -19,3 +19,5 @@ pub mod OutputRuns
 pub mod OutputEnds
 pub mod Noting
 pub mod OutputParts
+pub mod FinishTurns
+pub mod FinishEnds

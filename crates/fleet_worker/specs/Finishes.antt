@@ -6,7 +6,7 @@ use Rattle.fleet_model.specs.Store.{Store}
 use Rattle.step_model.specs.Courses.Course.{Course, Ends}
 use Rattle.step_model.specs.Courses.CourseRuns.{IsLawfulCourse}
 use Rattle.step_model.specs.Steps.MessageSteps.{attempt_run}
-use Rattle.step_model.specs.Steps.FinishSteps.{FinishedJob, end_try, ends_job_by}
+use Rattle.step_model.specs.Steps.FinishSteps.{FinishedJob, end_job, end_try, ends_job_by}
 use Rattle.step_model.specs.Courses.StepEnds.{StepEnd, NotOwner, Reports}
 use Rattle.step_model.specs.Courses.Tries.{Try}
 use Rattle.step_model.specs.Views.{StoreView}
@@ -48,6 +48,10 @@ finish_ends outputs attempts done = Reports (finished_job outputs (map attempt_o
 -- The end of a step that ended the job of this attempt.
 abbrev pub done_ends : WorkerParts → AttemptParts → Outputs → Unit {0} → StepEnd FinishedJob
 done_ends w a outputs done = Reports (finished_job outputs (without_attempts (a.job ∷ []) (live_of w).attempts))
+
+-- The end of the job of the attempt, once it has these tables.
+abbrev pub end_of_job : (moment : ℕ) → WorkerParts → AttemptParts → Outputs → Course (StepEnd FinishedJob)
+end_of_job moment w a outputs = end_job moment (live_of w) (attempt_of a) (map table_ids outputs)
 
 -- One try to end the job of the attempt.
 abbrev pub one_finish : (moment : ℕ) → WorkerParts → AttemptParts → Outputs → Try FinishedJob

@@ -6,4 +6,5 @@ pub mod Held
 pub mod Claims
 pub mod Messages
 pub mod Finishes
+pub mod Finishing
 pub mod Handles

@@ -2,13 +2,14 @@
 
 ghost use Rattle.std.specs.Prelude.{◌≡◌, [], ◌∷◌, map, false, IfOk, IsOkUnless};
 ghost use Rattle.std.specs.Bool.{OnFalse};
+ghost use Rattle.step_model.specs.Courses.CourseRuns.{IsLawfulCourse};
 ghost use Rattle.step_model.specs.Steps.MessageSteps.{take_finished};
 ghost use Rattle.step_model.specs.Steps.FinishSteps.{end_try};
 ghost use Rattle.fleet_jobs.specs.Contexts.{table_ids};
 ghost use Rattle.fleet_finish.specs.Puts.{AreShown};
 ghost use Rattle.fleet_step.specs.Steps.{StepRan, TryRan, stops};
 ghost use Rattle.fleet_worker.specs.Claims.{without_parts};
-ghost use Rattle.fleet_worker.specs.Finishes.{IsFinishOf, IsResult, MayFinish, done_ends, ended_by, ends_attempt, finish_ends, left_after};
+ghost use Rattle.fleet_worker.specs.Finishes.{IsFinishOf, IsResult, MayFinish, done_ends, end_of_job, ended_by, ends_attempt, finish_ends, left_after};
 ghost use Rattle.fleet_worker.specs.Workers.{IsReady, attempt_of, live_of};
 
 use crate::attempt::is_live;
@@ -22,10 +23,10 @@ use fleet_tree::OutputList;
 
 // Whether the worker runs its attempt no more after the step that ends it had this result: the job
 // ended, or the worker does not own it.
-fn ends_attempt(ended: &Result<(), SlateDBError>) -> bool
+pub(crate) fn ends_attempt<T>(ended: &Result<T, SlateDBError>) -> bool
     ensures { result ≡ ends_attempt ended.now }
 {
-    matches!(ended, Ok(()) | Err(SlateDBError::NotOwner))
+    matches!(ended, Ok(_) | Err(SlateDBError::NotOwner))
 }
 
 impl Worker {
@@ -87,6 +88,32 @@ impl Worker {
         put_answer(made, ())
     }
 
+    // The tries to end the job of the attempt.
+    pub(crate) fn end_tries<S: Store>(
+        &self,
+        store: &mut S,
+        moment: u64,
+        attempt: &RunAttempt,
+        outputs: &OutputList,
+    ) -> Result<(), SlateDBError>
+        requires lawful { IsLawfulCourse (S.view store.old).who (S.view store.old).world
+            (end_of_job moment self.now attempt.now outputs.now) }
+        requires shown { AreShown outputs.now (S.view store.old).world.store }
+        ensures { StepRan (done_ends self.now attempt.now outputs.now)
+            (end_of_job moment self.now attempt.now outputs.now)
+            (S.view store.old) (S.view store.new) result }
+    {
+        let mut seen = 0;
+        'tries: for tries in 0..MOST_REFUSED {
+            let tried = self.try_finish(store, moment, attempt, outputs);
+            let Some(version) = refused_at(&tried) else {
+                return tried;
+            };
+            seen = version;
+        }
+        Err(SlateDBError::Conflict { seen })
+    }
+
     // The tries to end the job of the attempt with this number.
     fn finishes<S: Store>(
         &self,
@@ -106,15 +133,7 @@ impl Worker {
         let Some(attempt) = self.attempt_with(job, number) else {
             return Err(SlateDBError::NotOwner);
         };
-        let mut seen = 0;
-        'tries: for tries in 0..MOST_REFUSED {
-            let tried = self.try_finish(store, moment, attempt, outputs);
-            let Some(version) = refused_at(&tried) else {
-                return tried;
-            };
-            seen = version;
-        }
-        Err(SlateDBError::Conflict { seen })
+        self.end_tries(store, moment, attempt, outputs)
     }
 
     // Drops the attempt at the job if it has this number and the step with this result ended it.

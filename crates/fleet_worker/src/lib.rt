@@ -5,6 +5,7 @@ mod attempt;
 mod beat;
 mod claim;
 mod finish;
+mod finishing;
 mod handle;
 mod held;
 mod output;

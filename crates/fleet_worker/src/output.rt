@@ -26,7 +26,7 @@ use fleet_store::Store;
 use fleet_tree::SsTableHandle;
 
 // Whether the operator refused a fold.
-fn is_refusal<T>(ended: &Result<T, SlateDBError>) -> bool
+pub(crate) fn is_refusal<T>(ended: &Result<T, SlateDBError>) -> bool
     ensures { result ≡ is_refusal ended.now }
 {
     matches!(ended, Err(SlateDBError::MergeOperator(_)))
