@@ -1,26 +1,25 @@
 -- Calls one after the other: each keeps the invariant, and together they are calls of others.
-use Rattle.std.proofs.Common.{◌≡◌, ◌≢◌, ◌⊎◌, ℕ, ◌+◌, ◌-◌, ◌≤◌, ◌<◌, ◌==◌, ◌&&◌, List, [], ◌∷◌, ◌++◌, length, Bool, true, false, Option, Some, None, IsTrue, refl, sym, ap, ◌∙◌, subst, arith, length-append}
+use Rattle.std.proofs.Common.{◌≡◌, ◌≢◌, ℕ, ◌+◌, ◌≤◌, ◌==◌, ◌&&◌, List, [], ◌∷◌, ◌++◌, length, Bool, true, false, Option, Some, None, IsTrue, refl, sym, ap, ◌∙◌, subst, arith, length-append}
 use Rattle.std.specs.Prelude.{if◌then◌else◌, IfSome}
 use Rattle.std.specs.List.{AllByRecursion}
 use Rattle.row_model.specs.Fold.{Operator, IsLawful}
-use Rattle.fleet_model.specs.History.{Event, Entry, Party, is_get_or_put}
-use Rattle.fleet_model.specs.Exchanges.{Exchange, Fault, answer_of, event_of, strikes, waiting_after, does_stand, records_version}
+use Rattle.fleet_model.specs.History.{Event, Entry, is_get_or_put}
+use Rattle.fleet_model.specs.Exchanges.{Fault, answer_of, event_of, does_stand, records_version}
 use Rattle.fleet_model.specs.Store.{Store}
 use Rattle.step_model.specs.Past.{World}
 use Rattle.step_model.specs.Kept.Keeps.{Keeps}
-use Rattle.step_model.specs.Rivals.{Caller, RivalCall, Rivals, RivalsFrom, IsRival, MayStrike, Strike, after_call, after_rival}
+use Rattle.step_model.specs.Rivals.{Caller, RivalCall, Rivals, RivalsFrom, IsRival, Strike}
 use Rattle.step_model.specs.Entries.{claimed_attempts}
-use Rattle.step_laws.specs.Later.{CallsLeadLater}
 use Rattle.commit_laws.proofs.AllCalls.{calls_keep}
-use Rattle.course_laws.specs.Histories.{committed_jobs, committed_from, finished_jobs}
+use Rattle.course_laws.specs.Histories.{committed_jobs}
 use Rattle.course_laws.proofs.Histories.{histories_count}
 use Rattle.course_laws.specs.Afterwards.{ComesAfter}
 use Rattle.course_laws.proofs.Afterwards.{comes_by, comes_itself, comes_then}
 use Rattle.fleet_history.specs.Parties.{party_of}
 use Rattle.fleet_store.specs.Memory.{StoreParts}
-use Rattle.fleet_store.specs.Strikes.{answer_under, performed_under, strike_by, waits_after, faults_after}
+use Rattle.fleet_store.specs.Strikes.{answer_under, performed_under, strike_by, faults_after}
 use Rattle.fleet_store.proofs.Calls.{called_is, same_history_under}
-use Rattle.fleet_lock.specs.Held.{HeldValue, last_from, store_of}
+use Rattle.fleet_lock.specs.Held.{last_from}
 use Rattle.fleet_lock.specs.Counts.{claims_of, commits_of, length_of}
 use Rattle.fleet_lock.specs.Steps.{IsStep, AreSteps}
 

@@ -1,14 +1,14 @@
 -- A call of the held store is a lawful call.
-use Rattle.std.proofs.Common.{◌≡◌, ◌≢◌, ◌⊎◌, ℕ, ◌+◌, ◌==◌, ◌&&◌, List, [], ◌∷◌, ◌++◌, Bool, true, false, if◌then◌else◌, Option, Some, None, IsTrue, Result, Ok, Err, refl, sym, ap, ◌∙◌, subst, inl, inr, arith, true≢false}
+use Rattle.std.proofs.Common.{◌≡◌, ℕ, List, [], ◌∷◌, ◌++◌, Bool, true, false, if◌then◌else◌, Option, Some, None, IsTrue, Result, Ok, Err, refl, sym, ap, ◌∙◌, subst, arith, true≢false}
 use Rattle.row_model.specs.Fold.{Operator, IsLawful}
 use Rattle.fleet_model.specs.History.{Event, is_get_or_put}
-use Rattle.fleet_model.specs.Exchanges.{Exchange, Plain, DrawsJob, DrawsTable, PutsTable, PutsManifest, PutsRecords, ListsTables, DeletesTable, Fault, event_of, strikes, waiting_after, does_stand, records_version}
+use Rattle.fleet_model.specs.Exchanges.{Exchange, Plain, DrawsJob, DrawsTable, PutsTable, PutsManifest, PutsRecords, ListsTables, DeletesTable, Fault, event_of, waiting_after, does_stand, records_version}
 use Rattle.fleet_model.specs.Store.{Store}
 use Rattle.step_model.specs.Past.{World}
 use Rattle.step_model.specs.Kept.Keeps.{Keeps}
 use Rattle.step_model.specs.Lawful.{Lawful}
-use Rattle.step_model.specs.Rivals.{Caller, Rivals, Strike, after_call, is_deletion}
-use Rattle.step_model.specs.Views.{StoreView, SameCaller}
+use Rattle.step_model.specs.Rivals.{Caller, Strike, after_call, is_deletion}
+use Rattle.step_model.specs.Views.{StoreView}
 use Rattle.step_model.specs.Courses.CourseRuns.{HasRoom}
 use Rattle.step_model.specs.Courses.Ran.{Spares, Strikes}
 use Rattle.step_laws.proofs.RanLaws.{only_met}
@@ -25,9 +25,9 @@ use Rattle.fleet_store.specs.Exchanges.{records_put}
 use Rattle.fleet_store.specs.Memory.{StoreParts}
 use Rattle.fleet_store.specs.Strikes.{strike_by, waits_after, faults_after}
 use Rattle.fleet_store.specs.Under.{view_of}
-use Rattle.fleet_lock.specs.Held.{HeldValue, last_from, store_of, held_store}
-use Rattle.fleet_lock.specs.Calls.{is_made, Alone, Grows, GrowsBy, MayAlone, lone_view}
-use Rattle.fleet_lock.specs.Steps.{IsStep, AreSteps, IsHeld}
+use Rattle.fleet_lock.specs.Held.{HeldValue, store_of}
+use Rattle.fleet_lock.specs.Calls.{is_made, Alone, Grows, MayAlone, lone_view}
+use Rattle.fleet_lock.specs.Steps.{IsStep, IsHeld}
 use Rattle.fleet_lock.proofs.Chains.{last_push, steps_push, step_keeps}
 
 -- ---- which fault strikes

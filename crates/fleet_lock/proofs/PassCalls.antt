@@ -1,10 +1,8 @@
 -- A call through a pass, as the methods of its store have it.
-use Rattle.std.proofs.Common.{◌≡◌, ℕ, ◌+◌, ◌≤◌, ◌<◌, List, [], ◌∷◌, Bool, Option, Result, refl, sym, ap, ◌∙◌, subst}
+use Rattle.std.proofs.Common.{◌≡◌, ℕ, ◌+◌, ◌≤◌, List, [], ◌∷◌, Bool, Option, Result, sym, ap, ◌∙◌, subst}
 use Rattle.row_model.specs.Fold.{Operator}
 use Rattle.fleet_model.specs.Exchanges.{Exchange}
 use Rattle.fleet_model.specs.Store.{Store}
-use Rattle.step_model.specs.Views.{StoreView}
-use Rattle.atomic_table.specs.Seated.{TableId}
 use Rattle.fleet_tree.specs.declared.manifest.Manifest.{Manifest}
 use Rattle.fleet_jobs.specs.Parts.JobParts.{JobParts}
 use Rattle.fleet_book.specs.VersionedRecords.{VersionedRecords}

@@ -1,14 +1,13 @@
 -- What passes keep that are made, split and joined.
-use Rattle.std.proofs.Common.{◌≡◌, ◌≢◌, ℕ, ◌+◌, ◌-◌, ◌<◌, ◌≤◌, ◌==◌, List, [], ◌∷◌, ◌++◌, length, max, Bool, true, false, refl, sym, ap, ◌∙◌, subst, arith}
-use Rattle.std.specs.Prelude.{nat_lt, if◌then◌else◌}
+use Rattle.std.proofs.Common.{◌≡◌, ◌≢◌, ℕ, ◌+◌, ◌-◌, ◌<◌, ◌≤◌, ◌==◌, List, [], ◌∷◌, max, Bool, true, false, refl, sym, ap, subst, arith}
+use Rattle.std.specs.Prelude.{if◌then◌else◌}
 use Rattle.std.proofs.lemmas.Bool.{eqb-true}
 use Rattle.fleet_history.specs.Parties.{party_of}
 use Rattle.fleet_history.specs.declared.party.Party.{Party}
-use Rattle.fleet_store.specs.Memory.{StoreParts}
-use Rattle.fleet_lock.specs.Held.{HeldValue, last_from}
+use Rattle.fleet_lock.specs.Held.{last_from}
 use Rattle.fleet_lock.specs.Names.{name_of}
 use Rattle.fleet_lock.specs.Counts.{count, length_of, times}
-use Rattle.fleet_lock.specs.Rule.{HoldsName, IsFront, held, joined, keeps_less, longer, newcomer, opener, seen_of, sees_less, shorter}
+use Rattle.fleet_lock.specs.Rule.{HoldsName, held, joined, keeps_less, seen_of, sees_less}
 use Rattle.fleet_lock.specs.Passes.{IsPass, first_view}
 use Rattle.fleet_lock.specs.declared.sight.Sight.{Sight}
 use Rattle.fleet_lock.proofs.Fronts.{below, not_below}

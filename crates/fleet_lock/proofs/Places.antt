@@ -1,10 +1,9 @@
 -- Passes with one place are alike.
-use Rattle.std.proofs.Common.{◌≡◌, ℕ, ◌+◌, ◌-◌, List, [], ◌∷◌, ◌++◌, length, refl, sym, ap, ◌∙◌, arith}
+use Rattle.std.proofs.Common.{◌≡◌, ℕ, ◌+◌, ◌-◌, List, [], ◌∷◌, ◌++◌, length, refl, ap, arith}
 use Rattle.step_model.specs.Rivals.{Caller}
 use Rattle.atomic_table.specs.Seated.{TableId}
 use Rattle.fleet_lock.specs.Counts.{times}
-use Rattle.fleet_lock.specs.Rule.{held}
-use Rattle.fleet_lock.specs.Passes.{PassValue, SamePass, CallersKeepPasses, counted, names_in, table_numbers}
+use Rattle.fleet_lock.specs.Passes.{CallersKeepPasses, counted, names_in, table_numbers}
 
 -- Equal lists whose fronts have one length have equal fronts and equal rests.
 cut : (xs ys us vs : List ℕ) → length xs ≡ length us → xs ++ ys ≡ us ++ vs → (xs ≡ us) × (ys ≡ vs)

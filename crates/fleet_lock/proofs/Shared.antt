@@ -1,5 +1,5 @@
 -- A call of the held store is a call of the store that a pass shows.
-use Rattle.std.proofs.Common.{◌≡◌, ◌≢◌, ℕ, ◌+◌, ◌-◌, ◌≤◌, ◌<◌, List, [], ◌∷◌, ◌++◌, length, Bool, true, false, true≢false, Option, Some, None, IsTrue, Result, Ok, Err, refl, sym, ap, ◌∙◌, subst, arith, append_assoc, length-append}
+use Rattle.std.proofs.Common.{◌≡◌, ◌≢◌, ℕ, ◌+◌, ◌-◌, ◌≤◌, ◌<◌, List, [], ◌∷◌, ◌++◌, length, Bool, true, false, true≢false, Option, Some, None, Result, Ok, Err, refl, sym, ap, ◌∙◌, subst, arith, length-append}
 use Rattle.std.specs.Prelude.{IfOk, nat_lt, if◌then◌else◌}
 use Rattle.std.specs.List.{AllByRecursion}
 use Rattle.row_model.specs.Fold.{Operator}
@@ -9,7 +9,7 @@ use Rattle.fleet_model.specs.Store.{Store}
 use Rattle.step_model.specs.Past.{World}
 use Rattle.step_model.specs.Lawful.{Lawful}
 use Rattle.step_model.specs.Rivals.{Caller, Rivals, Strike, after_call}
-use Rattle.step_model.specs.Views.{StoreView, SameCaller}
+use Rattle.step_model.specs.Views.{StoreView}
 use Rattle.step_laws.proofs.RanLaws.{only_met}
 use Rattle.fleet_tree.specs.declared.manifest.Manifest.{Manifest}
 use Rattle.fleet_jobs.specs.Parts.JobParts.{JobParts}
@@ -23,7 +23,7 @@ use Rattle.fleet_history.specs.declared.party.Party.{Party}
 use Rattle.fleet_rows.specs.declared.errors.SlateDBError.{SlateDBError}
 use Rattle.fleet_rows.specs.declared.errors.SlateDBError.TheVariants.{IteratorNotInitialized, IteratorFailed, MergeOperatorMissing, InvalidSequenceOrder, MergeOperator, CompactionFilter, InvalidCompaction, InvalidDBState, Fenced, StoreFault, NotOwner, Conflict, Generate, Memory}
 use Rattle.fleet_store.specs.Asks.{MayCall, ManifestPutFits, RecordsPutFit, GetsRecords, PutsRecords}
-use Rattle.fleet_store.specs.Called.{Called, Ended, IsMade, IsStruck, IsNotMade, Never, PutsNext, ShowsStored}
+use Rattle.fleet_store.specs.Called.{Called, Ended, IsMade, IsStruck, Never, PutsNext, ShowsStored}
 use Rattle.fleet_store.specs.Exchanges.{manifest_put, records_put}
 use Rattle.fleet_store.specs.Manifests.{HasTrees}
 use Rattle.fleet_store.specs.Records.{AreRecords, DescribeTables, jobs_or_none, processed_by}
@@ -31,9 +31,9 @@ use Rattle.fleet_store.specs.Memory.{StoreParts}
 use Rattle.fleet_lock.specs.Held.{HeldValue, last_from, store_of}
 use Rattle.fleet_lock.specs.Names.{name_of, name_at}
 use Rattle.fleet_lock.specs.Counts.{claims_of, commits_of, length_of, times}
-use Rattle.fleet_lock.specs.Rule.{seen_of, held, HoldsName, Front, IsLong, Follows, IsFoundBy, place_of, with_ticket, with_turn, after_serving}
-use Rattle.fleet_lock.specs.Passes.{PassValue, IsPass, IsIdle, first_view, pass_view, place_in}
-use Rattle.fleet_lock.specs.Calls.{Alone, CallStands, Grows, GrowsBy, Finds, StandsAfter, StandsNowhere, is_made, lone_view, place_after, struck_by}
+use Rattle.fleet_lock.specs.Rule.{seen_of, held, HoldsName, Front, IsLong, Follows, place_of, with_ticket, with_turn, after_serving}
+use Rattle.fleet_lock.specs.Passes.{PassValue, IsPass, pass_view}
+use Rattle.fleet_lock.specs.Calls.{Alone, CallStands, Grows, GrowsBy, Finds, StandsAfter, StandsNowhere, is_made, lone_view, struck_by}
 use Rattle.fleet_lock.specs.Steps.{IsStep, AreSteps}
 use Rattle.fleet_lock.specs.declared.sight.Sight.{Sight}
 use Rattle.fleet_lock.proofs.Fronts.{all_then, append_nil, not_below, below_strictly}

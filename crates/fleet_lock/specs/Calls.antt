@@ -1,5 +1,5 @@
 -- What a call of the held store does, and what its pass knows of it.
-use Rattle.std.specs.Prelude.{◌≡◌, ℕ, ◌+◌, Bool, true, false, List, [], ◌∷◌, ◌++◌, length, Result, Ok, Err}
+use Rattle.std.specs.Prelude.{◌≡◌, ℕ, ◌+◌, Bool, true, false, List, [], ◌∷◌, ◌++◌, length, Result, Err}
 use Rattle.row_model.specs.Fold.{Operator}
 use Rattle.step_model.specs.Kept.Keeps.{Keeps}
 use Rattle.step_model.specs.Views.{StoreView}
@@ -26,7 +26,8 @@ struck_by (Err StoreFault) = 1
 struck_by _ = 0
 
 -- A lawful call leads from the old value to this state, with the line and the party of the call.
-pub record GrowsBy (merge : Operator) (line : ℕ) (party : Party) (old new : HeldValue) (state : StoreParts) : Type 0 where
+pub record GrowsBy (merge : Operator) (line : ℕ) (party : Party) (old new : HeldValue) (state : StoreParts)
+    : Type 0 where
   pub trace : new.trace ≡ old.trace ++ state ∷ []
   pub line_is : state.line ≡ line
   pub party_is : party_of state.party ≡ party_of party

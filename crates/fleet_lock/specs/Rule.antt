@@ -222,7 +222,8 @@ after_serving v h = record v {
   turn = false;
 }
 
--- The value that the view gives back has what the view saw, and at most one state more, which is by a party whose name the view holds.
+-- The value that the view gives back has what the view saw, and at most one state more, which is by a party whose name
+-- the view holds.
 pub record Follows (v : Sight) (h : HeldValue) : Type 0 where
   pub base : h.base ≡ v.base
   pub settings : h.settings ≡ v.settings

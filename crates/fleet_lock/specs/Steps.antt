@@ -17,7 +17,8 @@ pub record IsStep (merge : Operator) (old new : StoreParts) : Type 0 where
   pub lawful : Lawful merge (party_of new.party) old.world exchange
   pub deletes_none : is_deletion exchange ≡ false
   pub leaves : new.world
-      ≡ after_call new.line (party_of new.party) exchange (strike_by (event_of exchange old.world.store) old.waits) old.world
+      ≡ after_call new.line (party_of new.party) exchange
+      (strike_by (event_of exchange old.world.store) old.waits) old.world
   pub waits : new.waits ≡ waits_after (event_of exchange old.world.store) old.waits
   pub faults : new.faults ≡ faults_after (strike_by (event_of exchange old.world.store) old.waits) old.faults
   pub whole : records_version old.world.store.records ≡ records_version new.world.store.records

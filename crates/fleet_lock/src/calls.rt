@@ -69,7 +69,8 @@ pub(crate) fn put_records<F: Fold + Sync, O: Folds>(
     records: Compactions,
     why: RecordChange,
 ) -> Result<u64, SlateDBError>
-    requires fits { (lent : ℕ) → asks.RecordsPutFit (view_of F.fold lent store.old) version records why }
+    requires fits { (lent : ℕ)
+        → asks.RecordsPutFit (view_of F.fold lent store.old) version records why }
     ensures { (lent : ℕ) × asks.PutsRecords (view_of F.fold lent store.old)
         (view_of F.fold lent store.new) version records why result }
 {

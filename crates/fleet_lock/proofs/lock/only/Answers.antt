@@ -1,4 +1,4 @@
-use Rattle.std.proofs.Common.{◌≡◌, ◌∙◌, ◌∷◌, [], ◌++◌, List, length, Option, Some, None, ap, arith, sym, length-append}
+use Rattle.std.proofs.Common.{◌≡◌, ◌∙◌, ◌∷◌, [], ◌++◌, List, length, ap, arith, sym, length-append}
 use Rattle.fleet_lock.proofs.lock.only.Goals as goal
 
 -- The last item of a list with one item.

@@ -1,4 +1,4 @@
-use Rattle.std.proofs.Common.{arith, refl, sym, subst}
+use Rattle.std.proofs.Common.{arith, sym, subst}
 use Rattle.fleet_lock.specs.Rule.{HoldsName}
 use Rattle.fleet_lock.proofs.Moves.{splits}
 use Rattle.fleet_lock.proofs.lock.Lock.cut.Goals as goal

@@ -1,4 +1,4 @@
-use Rattle.std.proofs.Common.{◌≡◌, ◌∷◌, Some, arith, refl, sym, ap, subst, ◌∙◌, true}
+use Rattle.std.proofs.Common.{◌≡◌, ◌∷◌, Some, arith, sym, ap, subst, ◌∙◌}
 use Rattle.atomic_table.specs.Table.{rest}
 use Rattle.fleet_lock.specs.declared.sight.Sight.{Sight}
 use Rattle.fleet_lock.specs.Rule.{Follows}
