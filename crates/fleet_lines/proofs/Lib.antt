@@ -7,7 +7,9 @@ pub mod Lent
 pub mod Standing
 pub mod SubmitLines
 pub mod FlushLines
+pub mod FlushAsks
 pub mod NoteLines
+pub mod Noting
 pub mod WorkLines
 pub mod StopLines
 pub mod StartLines

@@ -199,6 +199,11 @@ tables_said store n segment handles answer (There found_handles node named piece
     ∙ (ap (λ (texts : List (List ℕ)). reply (codes "ok" ∷ list_text comma texts ∷ [])) (counted store.tables found_handles described ∙ ap (map (held_text store.tables)) pieces)
     ∙ ap (tables_reply store.tables) (sym named))
 
+-- The same of a list that is equal to theirs.
+pub shown_said : (store : Store) (n : NodeName) (segment : List ℕ) (handles shown : List SsTableHandle) (answer : List ℕ) → IsLook store n segment (Some handles) → shown ≡ handles → answer ≡ reply (codes "ok" ∷ counted_tables shown ∷ [])
+    → answer ≡ tables_reply store.tables (node_named n (tree_at segment store.manifest.trees))
+shown_said store n segment handles shown answer is same says = tables_said store n segment handles answer is (says ∙ ap (λ (hs : List SsTableHandle). reply (codes "ok" ∷ counted_tables hs ∷ [])) same)
+
 -- ---- rows
 
 module _ (deleted : List ℕ) (id : ℕ) where

@@ -6,6 +6,8 @@ use Rattle.fleet_model.specs.Exchanges.{Fault}
 use Rattle.fleet_model.specs.Work.Parties.{Parties}
 use Rattle.step_model.specs.Past.{World}
 use Rattle.step_model.specs.LawfulRecords.{OfSome}
+use Rattle.step_model.specs.Kept.Keeps.{Keeps}
+use Rattle.step_model.specs.Rivals.{Caller}
 use Rattle.step_model.specs.Courses.Course.{Course, Ends}
 use Rattle.step_model.specs.Courses.CourseRuns.{End, Gives, MeetsFault, LacksMemory}
 use Rattle.step_model.specs.Courses.Ran.{Ran}
@@ -84,6 +86,15 @@ made_lent {A} {B} ends course merge mine number party lent old mid new last resu
     by : (o : Option (End (StepEnd B))) → OfSome (RunsTo course (view_of merge lent (at_line number party old)) last) o → OfSome (Ran (caller_of merge number (party_of party)) course old.world new.world old.waits new.waits) o
     by None runs = absurd runs
     by (Some end) runs = rw (sym world, sym waits) runs.ran
+
+-- A store that keeps the invariant after a step over it, while it is lent, keeps it after that.
+pub keeps_back : {A B : Type 0} (ends : A → StepEnd B) (course : Course (StepEnd B)) (merge mine : Operator) (lent : ℕ) (mid new : StoreParts) (last : StoreView) (result : Result A SlateDBError) → mine ≡ merge → last.world ≡ new.world → StepRan ends course (view_of mine lent mid) last result
+    → Keeps last.who.merge last.world → Keeps merge new.world
+keeps_back {A} {B} ends course merge mine lent mid new last result same world ran keeps = by (end_of ends result) ran.to_end
+  where
+    by : (o : Option (End (StepEnd B))) → OfSome (RunsTo course (view_of mine lent mid) last) o → Keeps merge new.world
+    by None runs = absurd runs
+    by (Some end) runs = subst (λ (w : World). Keeps merge w) world (subst (λ (o : Operator). Keeps o last.world) (ap (λ (w : Caller). w.merge) runs.same.who ∙ same) keeps)
 
 -- ---- the end of a line
 

@@ -1,7 +1,8 @@
 -- The names of flushes in the entries of a history.
-use Rattle.std.proofs.Common.{◌≡◌, sym, ◌∙◌, ap, ℕ, List, [], ◌∷◌, drop, length, length-append, arith}
+use Rattle.std.proofs.Common.{◌≡◌, sym, ◌∙◌, ap, subst, ℕ, ◌-◌, List, [], ◌∷◌, drop, length, take, length-append, arith}
 use Rattle.std.specs.Prelude.{◌≤◌, fold, max}
-use Rattle.std.proofs.lemmas.List.{drop_at, drop-map, length-map}
+use Rattle.std.proofs.lemmas.List.{drop_at, drop-map, length-drop, length-map}
+use Rattle.std.proofs.Math.Seq.{take-length}
 use Rattle.fleet_model.specs.History.{Entry}
 use Rattle.step_model.specs.Entries.{last_name, name_in}
 use Rattle.script_model.specs.Script.{Line}
@@ -15,6 +16,13 @@ use Rattle.fleet_lines.proofs.Histories.{GoesOn, line_goes_on, last_name_append}
 pub fold_names : (entries : List HistoryEntry) (last : ℕ) → fold (λ (last : ℕ) (entry : HistoryEntry). max last (name_in (event_of entry.event))) last entries ≡ max last (last_name (history_of entries))
 fold_names [] last = omega arith
 fold_names (entry ∷ entries) last = let rest = fold_names entries (max last (name_in (event_of entry.event))) in omega (arith, rest)
+
+-- The same over all entries from a place on.
+pub fold_rest : (from : ℕ) (entries : List HistoryEntry) (last : ℕ)
+    → fold (λ (last : ℕ) (entry : HistoryEntry). max last (name_in (event_of entry.event))) last (take (length entries - from) (drop from entries)) ≡ max last (last_name (history_of (drop from entries)))
+fold_rest from entries last =
+    ap (λ (es : List HistoryEntry). fold (λ (last : ℕ) (entry : HistoryEntry). max last (name_in (event_of entry.event))) last es) (subst (λ (n : ℕ). take n (drop from entries) ≡ drop from entries) (length-drop from entries) (take-length (drop from entries)))
+    ∙ fold_names (drop from entries) last
 
 module _ (inputs : Inputs) (number : ℕ) (old : State) (line : Line) (answer : List ℕ) (new : State) (before after : List HistoryEntry) (one : OneCourse inputs number old line answer new) (were : history_of before ≡ old.store.history) (are : history_of after ≡ new.store.history) where
   goes_on : GoesOn old.store.history new.store.history

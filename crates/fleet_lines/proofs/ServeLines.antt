@@ -1,6 +1,6 @@
 -- The run of a line's course serves the line.
-use Rattle.std.proofs.Common.{◌≡◌, refl, sym, ◌∙◌, ap, ℕ, List, Option, Some, None, arith}
-use Rattle.std.specs.Prelude.{ℤ, Bool}
+use Rattle.std.proofs.Common.{◌≡◌, refl, sym, ◌∙◌, ap, subst, ℕ, List, Option, Some, None, Result, Ok, Err, arith}
+use Rattle.std.specs.Prelude.{ℤ, Bool, IfOk, drop, length, max}
 use Rattle.std.specs.Option.{unwrap_or}
 use Rattle.row_model.specs.Rows.{Row}
 use Rattle.fleet_model.specs.Nodes.{NodeName, node_named, tree_at}
@@ -15,8 +15,13 @@ use Rattle.script_model.specs.States.{Inputs, State}
 use Rattle.script_model.specs.LineRuns.{LineCourse, if_some, only_replies}
 use Rattle.script_model.specs.LineCourses.{prepared_state, course_of}
 use Rattle.script_model.specs.LineSteps.{MayRefuse}
-use Rattle.fleet_lines.specs.Fleets.{FleetParts, Stands, state_of}
+use Rattle.fleet_rows.specs.declared.errors.SlateDBError.{SlateDBError}
+use Rattle.step_model.specs.Entries.{last_name}
+use Rattle.fleet_history.specs.Entries.{history_of}
+use Rattle.fleet_history.specs.declared.entry.HistoryEntry.{HistoryEntry}
+use Rattle.fleet_lines.specs.Fleets.{FleetParts, IsServing, Stands, state_of}
 use Rattle.fleet_lines.specs.Lines.{Runs, Serves}
+use Rattle.fleet_lines.proofs.NamesAfter.{named_after}
 
 -- A line whose course ran.
 serves : (inputs : Inputs) (number : ℕ) (line : Line) (old new : FleetParts) (answer : List ℕ) (course : LineCourse) → MayRefuse inputs line (prepared_state line (state_of old)) None → course ≡ course_of inputs line None (prepared_state line (state_of old))
@@ -33,6 +38,13 @@ replies : (inputs : Inputs) (number : ℕ) (line : Line) (old new : FleetParts) 
 replies inputs number line old new said answer may is state stands same says =
     serves inputs number line old new answer (only_replies (prepared_state line (state_of old)) said) may is
     (record { ends = ap (λ (a : List ℕ). (a, prepared_state line (state_of old))) (sym says) ∙ ap (λ (s : State). (answer, s)) (sym state); stands = stands; same_name = same })
+
+-- A line of the program serves as the line of the model that it is.
+pub served_as : (inputs : Inputs) (number : ℕ) (line is : Line) (old new last : FleetParts) (P : List ℕ → Type 0) (result : Result (List ℕ) SlateDBError) → line ≡ is → new ≡ last → ((answer : List ℕ) → P answer → Serves inputs number is old last answer) → IfOk result P
+    → IfOk result (Serves inputs number line old new)
+served_as inputs number line is old new last P (Err e) same leaves serves says = tt
+served_as inputs number line is old new last P (Ok answer) same leaves serves says =
+    subst (λ (f : FleetParts). Serves inputs number line old f answer) (sym leaves) (subst (λ (l : Line). Serves inputs number l old last answer) (sym same) (serves answer says))
 
 module _ (inputs : Inputs) (number : ℕ) (old : FleetParts) (answer : List ℕ) where
   -- ---- lines that set something
@@ -132,3 +144,17 @@ module _ (inputs : Inputs) (number : ℕ) (old : FleetParts) (answer : List ℕ)
   pub heartbeat_serves : (n : ℕ) (new : FleetParts) → Runs inputs.merge number (state_of old) (heartbeat_line n (state_of old)) old new answer → Serves inputs number (Heartbeat n) old new answer
   unfolding course_of
   heartbeat_serves n new runs = serves inputs number (Heartbeat n) old new answer _ refl refl runs
+
+-- ---- after the line
+
+-- The fleet may run the next line, once it knows the greatest name after this one.
+pub serving_after : (inputs : Inputs) (number : ℕ) (line : Line) (old new seen : FleetParts) (answer : List ℕ) (before after : List HistoryEntry) (name : ℕ) → IsServing inputs.merge old → Serves inputs number line old new answer → seen ≡ new → history_of before ≡ old.store.world.store.history
+    → history_of after ≡ seen.store.world.store.history → name ≡ max seen.last_name (last_name (history_of (drop (length before) after))) → IsServing inputs.merge (record seen { last_name = name })
+serving_after inputs number line old new seen answer before after name serving served same were are is =
+    let stands = subst (Stands inputs.merge) (sym same) served.stands in
+    record {
+      stands = record { keeps = stands.keeps; up = stands.up; few = stands.few };
+      named =
+          named_after inputs number (state_of old) line answer (state_of new) before after served.course were (are ∙ ap (λ (f : FleetParts). f.store.world.store.history) same) seen.last_name name (ap (λ (f : FleetParts). f.last_name) same ∙ (served.same_name ∙ serving.named)) is
+          ∙ ap (λ (f : FleetParts). last_name f.store.world.store.history) (sym same);
+    }

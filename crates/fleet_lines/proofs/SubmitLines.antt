@@ -1,9 +1,10 @@
 -- The lines that submit jobs.
-use Rattle.std.proofs.Common.{◌≡◌, refl, ◌∙◌, ap, subst, ℕ, List, [], ◌∷◌, Option, Result}
-use Rattle.std.specs.Prelude.{codes}
+use Rattle.std.proofs.Common.{◌≡◌, refl, sym, ◌∙◌, ap, subst, ℕ, List, [], ◌∷◌, Option, Result, Ok, Err}
+use Rattle.std.specs.Prelude.{codes, IfOk}
 use Rattle.row_model.specs.Fold.{Operator, IsLawful}
 use Rattle.fleet_model.specs.Jobs.{JobSpec}
 use Rattle.fleet_model.specs.Work.Parties.{Parties}
+use Rattle.fleet_model.specs.Work.Scheduler.{Request, Scheduler}
 use Rattle.step_model.specs.Courses.Course.{Course}
 use Rattle.step_model.specs.Courses.CourseRuns.{End, Gives, MeetsFault, LacksMemory, IsLawfulCourse}
 use Rattle.step_model.specs.Courses.StepEnds.{StepEnd, Reports}
@@ -65,3 +66,14 @@ pub full_runs : (inputs : Inputs) (number : ℕ) (segment : Option (List ℕ)) (
 full_runs inputs number segment old store result answer lawful stands made says =
     submitter_runs inputs.merge number (codes "jobs") (submit_request old.moment inputs.scheduler (request_of segment)) old store result answer lawful stands
     ((submits_are_lawful (caller_of inputs.merge number Submitter) old.store.world).requests old.moment inputs.scheduler (request_of segment) (calls_keep inputs.merge lawful) stands.keeps.store refl) made says
+
+-- The same for the code's reply, if the fleet is seen so.
+pub full_said : (merge : Operator) (scheduler : Scheduler) (number : ℕ) (segment : Option (List ℕ)) (request : Request) (old seen : FleetParts) (store : StoreParts) (result said : Result (List ℕ) SlateDBError) → IsLawful merge → Stands merge old → seen ≡ old → request ≡ request_of segment
+    → Made Reports (submit_request seen.moment scheduler request) merge number party.Submitter seen.store store result → IfOk said (Says Reports (jobs_said (codes "jobs")) result)
+    → IfOk said (Runs merge number (state_of old) (full_line (record { merge = merge; scheduler = scheduler }) segment (state_of old)) old (record seen { store = store }))
+full_said merge scheduler number segment request old seen store result (Err e) lawful stands same asks made says = tt
+full_said merge scheduler number segment request old seen store result (Ok answer) lawful stands same asks made says =
+    subst (λ (f : FleetParts). Runs merge number (state_of old) (full_line (record { merge = merge; scheduler = scheduler }) segment (state_of old)) old (record f { store = store }) answer) (sym same)
+    (full_runs (record { merge = merge; scheduler = scheduler }) number segment old store result answer lawful stands
+    (subst (λ (r : Request). Made Reports (submit_request old.moment scheduler r) merge number party.Submitter old.store store result) asks
+    (subst (λ (f : FleetParts). Made Reports (submit_request f.moment scheduler request) merge number party.Submitter f.store store result) same made)) says)

@@ -1,8 +1,16 @@
-//! The options of a fleet, and the replies to steps that failed.
+//! A fleet, and each line of a script as one call on it.
 #![tactic(auto)]
 
+mod fleet;
+mod flushes;
+mod looks;
+mod names;
 mod options;
+mod parties;
 mod refusals;
+mod settings;
+mod steps;
+mod submits;
 
+pub use fleet::Fleet;
 pub use options::FleetOptions;
-pub use refusals::refused;

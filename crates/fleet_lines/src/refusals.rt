@@ -8,9 +8,8 @@ use fleet_rows::{MergeOperatorError, SlateDBError};
 use fleet_text::{Reply, answers};
 use std::alloc::Global;
 
-/// The reply of a line whose step ended with this error. Out of memory is no reply, and an error
-/// with which no step ends is answered as out of memory.
-pub fn refused(alloc: Global, error: SlateDBError) -> Result<Reply, SlateDBError>
+/// The reply of a line whose step ended with this error. Out of memory is no reply.
+pub(crate) fn refused(alloc: Global, error: SlateDBError) -> Result<Reply, SlateDBError>
     ensures reply { IfOk result (λ answer. error_reply error ≡ Some answer) }
     ensures memory { IsOkUnless result SlateDBError.Memory }
 {

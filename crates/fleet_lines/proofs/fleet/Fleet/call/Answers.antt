@@ -1,0 +1,37 @@
+use Rattle.std.proofs.Common.{rules, ◌∙◌, refl, ap, subst, List, Some, None}
+use Rattle.fleet_model.specs.Jobs.{JobSpec}
+use Rattle.script_model.specs.Lines.Submits.{submit_line}
+use Rattle.script_model.specs.Script as model
+use Rattle.fleet_text.specs.Lines.{line_of, nodes_of}
+use Rattle.fleet_text.specs.declared.node.NodeName.{NodeName}
+use Rattle.fleet_lines.specs.Fleets.{state_of}
+use Rattle.fleet_lines.specs.Lines.{Runs}
+use Rattle.fleet_lines.proofs.ServeLines.{drain_serves, full_serves, served_as, submit_serves}
+use Rattle.fleet_lines.proofs.fleet.Fleet.call.Goals as goal
+
+pub returns-in_ok-spec-in-Submit-clause-served : goal.returns-in_ok-spec-in-Submit-clause-served
+returns-in_ok-spec-in-Submit-clause-served g c =
+    let old = c.args.self.now in
+    let i = c.in-Submit in
+    served_as _ c.args.number _ (model.SubmitJob i.segment i.destination (nodes_of i.sources)) old c.submit.new.self c.submit.new.self _ c.submit.result (ap line_of i.is) refl
+    (λ answer ran. submit_serves _ c.args.number old answer i.segment i.destination (nodes_of i.sources) c.submit.new.self
+    (subst (λ (spec : JobSpec). Runs (g.O.MergeOperator.merged (g.O.MergeOperator.settings c.args.operator.now)) c.args.number (state_of old) (submit_line spec (state_of old)) old c.submit.new.self answer)
+    (c.in_ok-spec-in-Submit.ensures.spec ∙ ap (λ (nodes : List NodeName). record { segment = i.segment; sources = nodes_of nodes; destination = Some i.destination }) (search rules)) ran))
+    c.submit.ensures.ran
+
+pub returns-in_ok-spec-in-Drain-clause-served : goal.returns-in_ok-spec-in-Drain-clause-served
+returns-in_ok-spec-in-Drain-clause-served g c =
+    let old = c.args.self.now in
+    let i = c.in-Drain in
+    served_as _ c.args.number _ (model.SubmitDrain i.segment (nodes_of i.sources)) old c.submit-in-Drain.new.self c.submit-in-Drain.new.self _ c.submit-in-Drain.result (ap line_of i.is) refl
+    (λ answer ran. drain_serves _ c.args.number old answer i.segment (nodes_of i.sources) c.submit-in-Drain.new.self
+    (subst (λ (spec : JobSpec). Runs (g.O.MergeOperator.merged (g.O.MergeOperator.settings c.args.operator.now)) c.args.number (state_of old) (submit_line spec (state_of old)) old c.submit-in-Drain.new.self answer)
+    (c.in_ok-spec-in-Drain.ensures.spec ∙ ap (λ (nodes : List NodeName). record { segment = i.segment; sources = nodes_of nodes; destination = None }) (search rules)) ran))
+    c.submit-in-Drain.ensures.ran
+
+pub returns-in-Full-clause-served : goal.returns-in-Full-clause-served
+returns-in-Full-clause-served g c =
+    let old = c.args.self.now in
+    served_as _ c.args.number _ (model.SubmitFull c.in-Full.segment) old c.full.new.self c.full.new.self _ c.full.result (ap line_of c.in-Full.is) refl
+    (λ answer ran. full_serves _ c.args.number old answer c.in-Full.segment c.full.new.self ran)
+    c.full.ensures.ran
