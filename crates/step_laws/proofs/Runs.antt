@@ -9,7 +9,7 @@ use Rattle.step_model.specs.Rivals.{Caller, RivalCall, RivalsFrom, Rivals, after
 use Rattle.step_model.specs.Kept.Keeps.{Keeps}
 use Rattle.step_model.specs.Courses.Course.{Course, Ends, Calls}
 use Rattle.step_model.specs.Courses.CourseRuns.{End, Gives, MeetsFault, LacksMemory, HasRoom, StopsAt, Runs, IsLawfulCourse}
-use Rattle.step_laws.specs.Runs.{CallsKeep}
+use Rattle.step_laws.specs.Runs.{CallsKeep, CoursesKeep, LawfulRunsKeep}
 
 pub rivals_from_keep : (who : Caller) → CallsKeep who.merge → (calls : List RivalCall) (old new : World) → Keeps who.merge old → RivalsFrom who calls old new → Keeps who.merge new
 rivals_from_keep who keep [] old new kept same = subst (Keeps who.merge) same kept
@@ -40,3 +40,21 @@ runs_keep who (Ends answer) keep old new end kept lawful run = subst (Keeps who.
 runs_keep who (Calls x next) keep old new end kept lawful (met, (rivals, inl stops)) = stop_keeps who x met new end keep (rivals_keep who old met keep kept rivals) (λ room. (lawful met rivals room).0) stops
 runs_keep who (Calls x next) keep old new end kept lawful (met, (rivals, inr (room, run))) =
     runs_keep who (next met.store) keep _ new end (keep x who.line who.party None met (rivals_keep who old met keep kept rivals) (lawful met rivals room).0 tt) (lawful met rivals room).1 run
+
+keep_all : {A : Type 0} → CoursesKeep A
+keep_all who course keep old new end kept lawful run = runs_keep who course keep old new end kept lawful run
+
+-- If every lawful call keeps the invariant, so do calls of others and the runs of lawful courses.
+pub lawful_runs_keep : LawfulRunsKeep
+lawful_runs_keep = record {
+  rivals = λ who old new keep kept rivals. rivals_keep who old new keep kept rivals;
+  starts = keep_all;
+  polls = keep_all;
+  submits = keep_all;
+  claims = keep_all;
+  beats = keep_all;
+  outputs = keep_all;
+  finishes = keep_all;
+  flushes = keep_all;
+  sweeps = keep_all;
+}
