@@ -10,6 +10,5 @@ pub mod Nodes
 pub mod First
 pub mod Joined
 pub mod Places
-pub mod PlainRows
 pub mod Parts
 pub mod Polled

@@ -1,6 +1,6 @@
 pub mod Reading
 pub mod Lines
-pub mod Starts
+pub mod Served
 pub mod Places
 pub mod Printed
 pub mod Faults

@@ -4,8 +4,7 @@ use Rattle.std.specs.List.{join_with_byte}
 use Rattle.row_model.specs.Rows.{Row, Content}
 use Rattle.row_model.specs.Bounds.{AreBytes, AreRows}
 use Rattle.script_model.specs.Words.{bytes_text, kind_text, content_text, stamp_text}
-use Rattle.script_model.specs.Script.{Line, words, IsInBounds}
-use Rattle.script_model.specs.Grammars.{IsOfOneJob}
+use Rattle.script_model.specs.Script.{Line, words}
 
 -- The result of reading a text: a value that fits and is spelt as this text, or None if no value
 -- that fits is spelt so.
@@ -40,10 +39,6 @@ row_words r = bytes_text r.key ∷ kind_text r.content ∷ content_text r.conten
 -- The rows of a flush: at least one, each in bounds.
 abbrev pub AreSomeRows : List Row → Type 0
 AreSomeRows rows = (0 < length rows) × AreRows rows
-
--- A line that some script of the job grammar may have.
-abbrev pub IsJobLine : Line → Type 0
-IsJobLine line = IsInBounds line × IsOfOneJob line
 
 -- The text of a line without its newline.
 abbrev pub line_text : Line → List ℕ

@@ -16,7 +16,6 @@ mod row;
 mod script;
 mod served;
 mod shown;
-mod started;
 mod texts;
 mod tree_forms;
 mod word;

@@ -1,52 +1,46 @@
 //! Reads a whole script.
 
-ghost use Rattle.std.specs.Prelude.{◌≡◌, ℕ, ◌+◌, List, length, IfOk, Err, ◌⊎◌, IfErr};
+ghost use Rattle.std.specs.Prelude.{◌≡◌, ◌==◌, ℕ, ◌+◌, List, length, IfOk, Err, ◌⊎◌, IfErr};
 ghost use Rattle.script_model.specs.Script.{IsScript, IsBadAt};
 ghost use Rattle.script_model.specs.Script as model;
-ghost use Rattle.script_model.specs.Grammars.{job_grammar};
+ghost use Rattle.script_model.specs.Grammars.{served_grammar};
 ghost use Rattle.fleet_text.specs.Lines.{line_of, lines_of};
 ghost use Rattle.fleet_text.specs.Reading.{ReadsAs, line_text};
-ghost use Rattle.fleet_text.specs.Starts.{MayFollow};
+ghost use Rattle.fleet_text.specs.Served.{MayStand};
 
 use crate::TextError;
 use crate::forms::line_by;
 use crate::line::{Line, LineList};
-use crate::served::is_of_one_job;
-use crate::started::Started;
+use crate::served::may_stand;
 use crate::word::cut;
 use std::alloc::{AllocError, Global};
 
 /// Reads the lines of a script. Each line ends with a newline, so bytes after the last newline are
 /// a bad line.
 pub fn read_script(alloc: Global, text: &[u8]) -> Result<LineList, TextError>
-    ensures found { IfOk result (λ lines. IsScript job_grammar text.now (lines_of lines)) }
-    ensures bad { (n : ℕ) → result ≡ Err (TextError.BadLine n) → IsBadAt job_grammar text.now n }
+    ensures found { IfOk result (λ lines. IsScript served_grammar text.now (lines_of lines)) }
+    ensures bad { (n : ℕ) → result ≡ Err (TextError.BadLine n) → IsBadAt served_grammar text.now n }
     // If a line is the first outside the grammar, the error names it, except when out of memory.
-    ensures exact { (n : ℕ) → IsBadAt job_grammar text.now n
+    ensures exact { (n : ℕ) → IsBadAt served_grammar text.now n
         → (result ≡ Err (TextError.BadLine n)) ⊎ (result ≡ Err TextError.Memory) }
     // A script is read, except when out of memory.
     ensures valid { (lines : List model.Line)
-        → IsScript job_grammar text.now lines → IfErr result (λ e. e ≡ TextError.Memory) }
+        → IsScript served_grammar text.now lines → IfErr result (λ e. e ≡ TextError.Memory) }
 {
     read_lines(alloc, text)
 }
 
 fn read_lines(alloc: Global, text: &[u8]) -> Result<LineList, TextError>
-    ensures found { IfOk result (λ lines. IsScript job_grammar text.now (lines_of lines)) }
-    ensures bad { (n : ℕ) → result ≡ Err (TextError.BadLine n) → IsBadAt job_grammar text.now n }
+    ensures found { IfOk result (λ lines. IsScript served_grammar text.now (lines_of lines)) }
+    ensures bad { (n : ℕ) → result ≡ Err (TextError.BadLine n) → IsBadAt served_grammar text.now n }
 {
     let mut lines = Vec::new(alloc);
-    let mut started = Started {
-        coordinator: false,
-        worker: false,
-    };
     let mut words = Vec::new(alloc);
     let mut rest = text;
     'lines: while let Some((front, after)) = cut(rest, b'\n') {
-        let Some(line) = line_after(alloc, &mut words, front, started)? else {
+        let Some(line) = line_after(alloc, &mut words, front, are_none(lines.as_slice()))? else {
             return Err(bad_after(&lines));
         };
-        started = started.with(&line);
         lines.push(line)?;
         rest = after;
     }
@@ -56,23 +50,30 @@ fn read_lines(alloc: Global, text: &[u8]) -> Result<LineList, TextError>
     Ok(LineList::from_vec(lines))
 }
 
-// Reads a line that the program serves and that does not start a party a second time. The list is for
-// its words.
+// Reads a line that the program serves, as the first line of a script or as a later one. The list is
+// for its words.
 fn line_after<'a>(
     alloc: Global,
     words: &mut Vec<&'a [u8]>,
     text: &'a [u8],
-    started: Started,
+    is_first: bool,
 ) -> Result<Option<Line>, AllocError>
-    ensures { IfOk result (ReadsAs line_of line_text (MayFollow started) text.now) }
+    ensures { IfOk result (ReadsAs line_of line_text (MayStand is_first) text.now) }
 {
     let Some(line) = line_by(alloc, words, text)? else {
         return Ok(None);
     };
-    if !is_of_one_job(&line) || started.is_again(&line) {
+    if !may_stand(&line, is_first) {
         return Ok(None);
     }
     Ok(Some(line))
+}
+
+// Whether there are no lines.
+fn are_none(lines: &[Line]) -> bool
+    ensures { result ≡ (length lines.now == 0) }
+{
+    lines.is_empty()
 }
 
 // The error for the line after these lines.

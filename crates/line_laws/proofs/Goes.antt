@@ -8,7 +8,7 @@ use Rattle.row_model.specs.Rows.{Row}
 use Rattle.fleet_model.specs.Work.Attempts.{source_rows}
 use Rattle.fleet_model.specs.Work.Parties.{Attempt, LiveWorker}
 use Rattle.script_model.specs.Script.{Line, Output, FinishJob, Settle, Poll, ClaimJobs, Together, Grammar, AreLines, IsScript}
-use Rattle.script_model.specs.Grammars.{full_grammar, job_grammar, IsOfOneJob}
+use Rattle.script_model.specs.Grammars.{full_grammar, served_grammar, is_served}
 use Rattle.script_model.specs.States.{Inputs, State, FleetOptions, fresh_state}
 use Rattle.script_model.specs.LineRuns.{run_line}
 use Rattle.script_model.specs.LineCourses.{prepared_state, course_of, job_at, range_at}
@@ -171,16 +171,16 @@ can_follow grammar inputs options text lines script each =
     let r = scripts_go inputs 1 (fresh_state options) lines each in
     record { store = r.new.store; written = concat r.answers; follows = record { lines = lines; answers = r.answers; last = r.new; script = script; run = r.run; stored = refl; replies = refl } }
 
-one_job_alone : (line : Line) → IsOfOneJob line → is_together line ≡ false
-one_job_alone (Together workers turns) is = absurd is
-one_job_alone line is = refl
+served_alone : (line : Line) → is_served line ≡ true → is_together line ≡ false
+served_alone (Together workers turns) is = absurd (cc is)
+served_alone line is = refl
 
-jobs_alone : (before lines : List Line) → AreLines job_grammar before lines → AllByRecursion (λ line. is_together line ≡ false) lines
-jobs_alone before [] are = tt
-jobs_alone before (line ∷ lines) are = (one_job_alone line are.0.1, jobs_alone (before ++ line ∷ []) lines are.1)
+all_alone : (before lines : List Line) → AreLines served_grammar before lines → AllByRecursion (λ line. is_together line ≡ false) lines
+all_alone before [] are = tt
+all_alone before (line ∷ lines) are = (served_alone line are.0.1, all_alone (before ++ line ∷ []) lines are.1)
 
 pub texts_go : TextsGo
 texts_go = record {
   full = λ inputs options text lines script each. can_follow full_grammar inputs options text lines script each;
-  jobs = λ inputs options text lines script. can_follow job_grammar inputs options text lines script (jobs_alone [] lines script.each);
+  served = λ inputs options text lines script. can_follow served_grammar inputs options text lines script (all_alone [] lines script.each);
 }

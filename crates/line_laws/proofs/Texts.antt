@@ -3,8 +3,8 @@ use Rattle.std.proofs.Common.{◌≡◌, ◌≢◌, refl, sym, subst, ℕ, List,
 use Rattle.std.specs.List.{AllByRecursion}
 use Rattle.row_model.specs.Fold.{IsLawful}
 use Rattle.fleet_model.specs.Store.{Store}
-use Rattle.script_model.specs.Script.{Line, Options, Grammar, AreLines, IsInBounds}
-use Rattle.script_model.specs.Grammars.{is_options, full_grammar, IsOfOneJob}
+use Rattle.script_model.specs.Script.{Line, Grammar, AreLines, IsInBounds}
+use Rattle.script_model.specs.Grammars.{is_options, full_grammar}
 use Rattle.script_model.specs.States.{Inputs, FleetOptions}
 use Rattle.script_model.specs.Follows.{Follows}
 use Rattle.line_laws.specs.Alone.{HadRoom}
@@ -35,10 +35,6 @@ full_none before line some are = by (is_options line) refl
     by true e = absurd (some (are.1 e))
     by false e = refl
 
-job_none : (line : Line) → IsOfOneJob line → is_options line ≡ false
-job_none (Options timeout concurrent slots ranges table_size moves retention) is = absurd is
-job_none line is = refl
-
 -- A fleet that follows a script ran the lines that its text spells, if its grammar bounds lines and sets options first.
 ran_text : (grammar : Grammar) → ((before : List Line) (line : Line) → grammar before line → IsInBounds line) → ((before : List Line) (line : Line) → before ≢ [] → grammar before line → is_options line ≡ false)
     → (inputs : Inputs) (options : FleetOptions) (text : List ℕ) (store : Store) (written : List ℕ) → IsLawful inputs.merge → HadRoom store → Follows grammar inputs options text store written → RanText inputs options text store written
@@ -56,5 +52,5 @@ ran_text grammar bound none inputs options text store written lawful room follow
 pub texts_run : (inputs : Inputs) (options : FleetOptions) → TextsRun inputs options
 texts_run inputs options = record {
   full = λ text store written lawful room follows. ran_text _ (λ before line is. is.0) full_none inputs options text store written lawful room follows;
-  jobs = λ text store written lawful room follows. ran_text _ (λ before line is. is.0) (λ before line some is. job_none line is.1) inputs options text store written lawful room follows;
+  served = λ text store written lawful room follows. ran_text _ (λ before line is. is.0.0) (λ before line some is. full_none before line some is.0) inputs options text store written lawful room follows;
 }

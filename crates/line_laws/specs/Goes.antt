@@ -3,7 +3,7 @@ use Rattle.std.specs.Prelude.{◌≡◌, ℕ, Bool, true, false, List}
 use Rattle.std.specs.List.{AllByRecursion}
 use Rattle.fleet_model.specs.Store.{Store}
 use Rattle.script_model.specs.Script.{Line, Together, Grammar, IsScript}
-use Rattle.script_model.specs.Grammars.{full_grammar, job_grammar}
+use Rattle.script_model.specs.Grammars.{full_grammar, served_grammar}
 use Rattle.script_model.specs.States.{Inputs, State, FleetOptions}
 use Rattle.script_model.specs.Follows.{LineStep, ScriptRun, Follows}
 
@@ -41,10 +41,11 @@ pub record CanFollow (grammar : Grammar) (inputs : Inputs) (options : FleetOptio
   pub written : List ℕ
   pub follows : Follows grammar inputs options text store written
 
--- So it can follow each script of the grammar of jobs, and each script of the full grammar without together lines.
+-- So it can follow each script of the lines that the program serves, and each script of the full grammar without
+-- together lines.
 pub record TextsGo : Type 0 where
   pub full : (inputs : Inputs) (options : FleetOptions) (text : List ℕ) (lines : List Line)
       → IsScript full_grammar text lines → AllByRecursion (λ line. is_together line ≡ false) lines
       → CanFollow full_grammar inputs options text
-  pub jobs : (inputs : Inputs) (options : FleetOptions) (text : List ℕ) (lines : List Line)
-      → IsScript job_grammar text lines → CanFollow job_grammar inputs options text
+  pub served : (inputs : Inputs) (options : FleetOptions) (text : List ℕ) (lines : List Line)
+      → IsScript served_grammar text lines → CanFollow served_grammar inputs options text

@@ -6,7 +6,7 @@ use Rattle.fleet_model.specs.Store.{Store}
 use Rattle.script_model.specs.Script.{Line, script_text}
 use Rattle.script_model.specs.States.{Inputs, State, FleetOptions, fresh_state}
 use Rattle.script_model.specs.LineCourses.{prepared_state}
-use Rattle.script_model.specs.Grammars.{is_options, full_grammar, job_grammar}
+use Rattle.script_model.specs.Grammars.{is_options, full_grammar, served_grammar}
 use Rattle.script_model.specs.Follows.{Follows}
 use Rattle.line_laws.specs.Alone.{HadRoom}
 use Rattle.line_laws.specs.Scripts.{HasRun}
@@ -49,5 +49,5 @@ pub record RanText (inputs : Inputs) (options : FleetOptions) (text : List ℕ) 
 pub record TextsRun (inputs : Inputs) (options : FleetOptions) : Type 0 where
   pub full : (text : List ℕ) (store : Store) (written : List ℕ) → IsLawful inputs.merge → HadRoom store
       → Follows full_grammar inputs options text store written → RanText inputs options text store written
-  pub jobs : (text : List ℕ) (store : Store) (written : List ℕ) → IsLawful inputs.merge → HadRoom store
-      → Follows job_grammar inputs options text store written → RanText inputs options text store written
+  pub served : (text : List ℕ) (store : Store) (written : List ℕ) → IsLawful inputs.merge → HadRoom store
+      → Follows served_grammar inputs options text store written → RanText inputs options text store written

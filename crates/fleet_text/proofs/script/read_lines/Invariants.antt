@@ -3,7 +3,7 @@ use Rattle.fleet_text.proofs.Lines.{ReadsLines}
 use Rattle.fleet_text.proofs.script.read_lines.Given as goal
 
 abbrev pub invariant-lines : goal.invariant-lines
-invariant-lines l = ReadsLines l.text l.lines.items l.started l.rest
+invariant-lines l = ReadsLines l.text l.lines.items l.rest
 
 abbrev pub decreases-lines : goal.decreases-lines
 decreases-lines l = length l.rest
