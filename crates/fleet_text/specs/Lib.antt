@@ -1,5 +1,6 @@
 pub mod Reading
 pub mod Lines
+pub mod Kinds
 pub mod Served
 pub mod Places
 pub mod Printed

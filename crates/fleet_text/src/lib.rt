@@ -2,6 +2,7 @@
 #![tactic(auto)]
 
 pub mod answers;
+mod copies;
 mod error;
 mod forms;
 mod line;

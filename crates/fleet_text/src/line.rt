@@ -3,13 +3,18 @@
 ghost use Rattle.std.specs.Prelude.{◌≡◌, IfOk, IsOkUnless};
 ghost use Rattle.fleet_rows.specs.declared.errors.SlateDBError.TheVariants as SlateDBError;
 
+use crate::copies::{
+    drain_copy, dump_copy, flush_copy, full_copy, plain_copy, read_copy, scan_copy, submit_copy,
+    tables_copy,
+};
 use crate::node::{NodeList, NodeName};
 use bytes::Bytes;
 use fleet_rows::{ListOf, RowEntry, SlateDBError};
+use std::alloc::AllocError;
 
 /// One line of a script, with the fields that the language gives it, in their order. Parties are
 /// named by their numbers, and a segment by its prefix.
-#[derive(Clone, Debug, Drop, PartialEq)]
+#[derive(Debug, Drop, PartialEq)]
 pub enum Line {
     /// Sets the options of the fleet. Only the first line of a script may do it.
     Options {
@@ -155,6 +160,46 @@ impl Line {
         ensures memory { IsOkUnless result SlateDBError.Memory }
     {
         Ok(Clone::clone(self)?)
+    }
+}
+
+impl Clone for Line {
+    ghost is_clone = { λ line copy. copy ≡ line };
+
+    fn clone(&self) -> Result<Line, AllocError> {
+        match self {
+            Line::Flush {
+                name,
+                segment,
+                floor,
+                tick,
+                rows,
+            } => flush_copy(*name, segment, *floor, *tick, rows),
+            Line::Read {
+                segment,
+                key,
+                seq,
+                now,
+            } => read_copy(segment, key, *seq, *now),
+            Line::Submit {
+                segment,
+                destination,
+                sources,
+            } => submit_copy(segment, *destination, sources),
+            Line::Drain { segment, sources } => drain_copy(segment, sources),
+            Line::Full { segment } => full_copy(segment),
+            Line::Tables { segment, node } => tables_copy(segment, *node),
+            Line::Dump { segment, node } => dump_copy(segment, *node),
+            Line::Scan {
+                segment,
+                from,
+                to,
+                seq,
+                now,
+                limit,
+            } => scan_copy(segment, from, to, *seq, *now, *limit),
+            _ => Ok(plain_copy(self)),
+        }
     }
 }
 
