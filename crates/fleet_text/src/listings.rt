@@ -13,13 +13,11 @@ ghost use Rattle.fleet_text.specs.Pages.{page_of};
 ghost use Rattle.fleet_text.specs.Printed.{attempt_begun, counted_tables, polled_text, tree_text};
 
 use crate::answers::said;
-use crate::lists::{
-    jobs_text, listed_apart, listed_each, listed_each_apart, listed_ranges, tables_text,
-};
+use crate::lists::{jobs_text, listed_each, listed_each_apart, listed_ranges, tables_text};
 use crate::prints::Prints;
 use crate::reply::Reply;
 use crate::report::{Begun, Page, PollReport, ScanEnd};
-use crate::shown::segment_text;
+use crate::shown::append_segment;
 use crate::texts::{append_bytes, bytes_text};
 use bytes::Bytes;
 use fleet_jobs::Compaction;
@@ -186,12 +184,15 @@ fn trees_text(alloc: Global, core: &ManifestCore) -> Result<String, AllocError>
     ensures { IfOk result (λ text. string_bytes text
         ≡ list_text semicolon (map tree_text (trees_with_prefix core.now))) }
 {
-    let mut words = Vec::new(alloc);
-    words.push(segment_text(alloc, &[], &core.tree)?)?;
-    'segments: for segment in core.segments.as_slice() {
-        words.push(segment_text(alloc, &segment.0, &segment.1)?)?;
+    let mut text = String::new(alloc);
+    append_segment(alloc, &[], &core.tree, &mut text)?;
+    let segments = core.segments.as_slice();
+    if segments.is_empty() {
+        return Ok(text);
     }
-    listed_apart(alloc, &words)
+    text.push_str(";")?;
+    text.push_str(listed_each_apart(alloc, segments)?.as_str())?;
+    Ok(text)
 }
 
 /// The reply that shows the trees. Which flushes went into a run is not printed.

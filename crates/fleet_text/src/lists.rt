@@ -33,17 +33,6 @@ pub fn listed(alloc: Global, words: &[String]) -> Result<String, AllocError>
     joined(alloc, words, ",")
 }
 
-/// Prints words with semicolons between them.
-pub fn listed_apart(alloc: Global, words: &[String]) -> Result<String, AllocError>
-    ensures { IfOk result
-        (λ text. string_bytes text ≡ list_text semicolon (map string_bytes words.now)) }
-{
-    if words.is_empty() {
-        return String::from_str(alloc, "-");
-    }
-    joined(alloc, words, ";")
-}
-
 // Appends the separator and the text of an item.
 fn append_next<T: Prints>(
     alloc: Global,

@@ -1,6 +1,6 @@
 //! Prints trees, jobs and attempts.
 
-ghost use Rattle.std.specs.Prelude.{◌≡◌, ◌++◌, ℕ, IfOk, Some, codes, decimal, map, option_map, string_bytes};
+ghost use Rattle.std.specs.Prelude.{◌≡◌, ◌++◌, ℕ, IfOk, OnOk, Some, codes, decimal, map, option_map, string_bytes};
 ghost use Rattle.std.specs.Option.{option_copied, unwrap_or};
 ghost use Rattle.fleet_model.specs.Jobs.{knows_cut};
 ghost use Rattle.fleet_jobs.specs.Contexts.{context_of, noted_range, release_in};
@@ -15,7 +15,7 @@ use crate::lists::{listed, listed_ranges};
 use crate::node::NodeName;
 use crate::prints::Prints;
 use crate::report::Begun;
-use crate::texts::{bytes_text, job_text, lettered, whole_id};
+use crate::texts::{append_bytes, append_job, job_text, lettered, whole_id};
 use bytes::Bytes;
 use fleet_jobs::{Compaction, CompactionContext, CompactionStatus, WorkerSpec};
 use fleet_plan::Subcompaction;
@@ -121,25 +121,15 @@ impl Prints for Compaction {
     }
 }
 
-impl Begun {
-    // The text of the attempt.
-    fn text(&self, alloc: Global) -> Result<String, AllocError>
-        ensures { IfOk result (λ text. string_bytes text ≡ attempt_begun self.now) }
-    {
-        let mut text = job_text(alloc, self.job)?;
-        text.push_str(".")?;
-        text.push_str(self.number.to_string(alloc)?.as_str())?;
-        text.push_str(":")?;
-        text.push_str(listed_ranges(alloc, self.tables.as_slice())?.as_str())?;
-        Ok(text)
-    }
-}
-
 impl Prints for Begun {
     ghost text = { attempt_begun };
 
     fn print(&self, alloc: Global, out: &mut String) -> Result<(), AllocError> {
-        out.push_str(self.text(alloc)?.as_str())
+        append_job(self.job, out)?;
+        out.push_str(".")?;
+        out.write(self.number)?;
+        out.push_str(":")?;
+        out.push_str(listed_ranges(alloc, self.tables.as_slice())?.as_str())
     }
 }
 
@@ -164,20 +154,25 @@ pub fn nodes_text(alloc: Global, tree: &LsmTreeState) -> Result<String, AllocErr
     listed(alloc, &nodes)
 }
 
-/// Prints a segment: its prefix and the nodes of its tree.
-pub fn segment_text(alloc: Global, prefix: &[u8], tree: &LsmTreeState) -> Result<String, AllocError>
-    ensures { IfOk result (λ text. string_bytes text ≡ tree_text (prefix.now, tree.now)) }
+/// Appends a segment: its prefix and the nodes of its tree.
+pub fn append_segment(
+    alloc: Global,
+    prefix: &[u8],
+    tree: &LsmTreeState,
+    out: &mut String,
+) -> Result<(), AllocError>
+    ensures { OnOk result (string_bytes out.new
+        ≡ string_bytes out.old ++ tree_text (prefix.now, tree.now)) }
 {
-    let mut text = bytes_text(alloc, prefix)?;
-    text.push_str(":")?;
-    text.push_str(nodes_text(alloc, tree)?.as_str())?;
-    Ok(text)
+    append_bytes(alloc, prefix, out)?;
+    out.push_str(":")?;
+    out.push_str(nodes_text(alloc, tree)?.as_str())
 }
 
 impl Prints for (Bytes, LsmTreeState) {
     ghost text = { tree_text };
 
     fn print(&self, alloc: Global, out: &mut String) -> Result<(), AllocError> {
-        out.push_str(segment_text(alloc, &self.0, &self.1)?.as_str())
+        append_segment(alloc, &self.0, &self.1, out)
     }
 }

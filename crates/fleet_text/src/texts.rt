@@ -32,36 +32,34 @@ pub fn job_text(alloc: Global, job: Ulid) -> Result<String, AllocError>
     job.number().to_string(alloc)
 }
 
-/// Prints a job with the rule that it failed, as `<job>:<rule>`.
-pub fn rule_text(alloc: Global, job: Ulid, rule: u8) -> Result<String, AllocError>
-    ensures { IfOk result (λ text. string_bytes text ≡ replies.rule_text (job, rule)) }
+/// Appends a job's number in decimal digits.
+pub fn append_job(job: Ulid, out: &mut String) -> Result<(), AllocError>
+    ensures { OnOk result
+        (string_bytes out.new ≡ string_bytes out.old ++ decimal (jobs.number_of job)) }
 {
-    let mut text = job_text(alloc, job)?;
-    text.push_str(":")?;
-    text.push_str(rule.to_string(alloc)?.as_str())?;
-    Ok(text)
+    out.write(job.number())
 }
 
-/// Prints a proposal's place with the rule that it failed, as `<place>:<rule>`.
-pub fn place_text(alloc: Global, place: u64, rule: u8) -> Result<String, AllocError>
-    ensures { IfOk result (λ text. string_bytes text ≡ places.place_text (place, rule)) }
+// Appends a drawn table as `t` and its number, or a flush's table as `l` and the flush's name.
+fn append_table(table: Ulid, out: &mut String) -> Result<(), AllocError>
+    ensures { OnOk result
+        (string_bytes out.new ≡ string_bytes out.old ++ replies.table_text table) }
 {
-    let mut text = place.to_string(alloc)?;
-    text.push_str(":")?;
-    text.push_str(rule.to_string(alloc)?.as_str())?;
-    Ok(text)
+    let number = table.number();
+    if number >= DRAWN_BASE {
+        return append_lettered("t", number - DRAWN_BASE, out);
+    }
+    // The id of a flush's table is the flush's name.
+    append_lettered("l", whole_id(table), out)
 }
 
 /// Prints a drawn table as `t` and its number, or a flush's table as `l` and the flush's name.
 pub fn table_text(alloc: Global, table: Ulid) -> Result<String, AllocError>
     ensures { IfOk result (λ text. string_bytes text ≡ replies.table_text table) }
 {
-    let number = table.number();
-    if number >= DRAWN_BASE {
-        return lettered(alloc, "t", number - DRAWN_BASE);
-    }
-    // The id of a flush's table is the flush's name.
-    lettered(alloc, "l", whole_id(table))
+    let mut text = String::new(alloc);
+    append_table(table, &mut text)?;
+    Ok(text)
 }
 
 /// The id as one number.
@@ -71,21 +69,12 @@ pub fn whole_id(id: Ulid) -> u128
     id.moment_ms() as u128 * (1 << 80) + id.number()
 }
 
-/// Prints a table with a number of rows, as `<table>:<rows>`.
-pub fn counted_text(alloc: Global, table: Ulid, rows: u64) -> Result<String, AllocError>
-    ensures { IfOk result (λ text. string_bytes text ≡ replies.counted_text (table, rows)) }
-{
-    let mut text = table_text(alloc, table)?;
-    text.push_str(":")?;
-    text.push_str(rows.to_string(alloc)?.as_str())?;
-    Ok(text)
-}
-
 impl Prints for SsTableHandle {
     ghost text = { λ table. replies.counted_text (table.id, table.rows) };
 
     fn print(&self, alloc: Global, out: &mut String) -> Result<(), AllocError> {
-        out.push_str(counted_text(alloc, self.id, self.rows)?.as_str())
+        append_table(self.id, out)?;
+        append_number(self.rows, out)
     }
 }
 
@@ -104,7 +93,8 @@ impl Prints for (Ulid, u8) {
     ghost text = { replies.rule_text };
 
     fn print(&self, alloc: Global, out: &mut String) -> Result<(), AllocError> {
-        out.push_str(rule_text(alloc, self.0, self.1)?.as_str())
+        append_job(self.0, out)?;
+        append_number(u64::from(self.1), out)
     }
 }
 
@@ -112,7 +102,8 @@ impl Prints for (u64, u8) {
     ghost text = { places.place_text };
 
     fn print(&self, alloc: Global, out: &mut String) -> Result<(), AllocError> {
-        out.push_str(place_text(alloc, self.0, self.1)?.as_str())
+        out.write(self.0)?;
+        append_number(u64::from(self.1), out)
     }
 }
 
