@@ -4,7 +4,7 @@ use Rattle.std.specs.Prelude.{◌==◌}
 use Rattle.std.specs.List.{AllByRecursion}
 use Rattle.std.proofs.lemmas.Bool.Decides.{Decides-eqb}
 use Rattle.std.proofs.lemmas.List.{length-map}
-use Rattle.script_model.specs.Script.{spelt_line, script_text, AreLines, IsScript, IsBadAt, Options, IsInBounds}
+use Rattle.script_model.specs.Script.{spelt_line, script_text, AreLines, IsScript, IsBadAt, Options}
 use Rattle.script_model.specs.Script as model
 use Rattle.script_model.specs.Grammars.{served_grammar, is_served, is_options}
 use Rattle.script_laws.proofs.Pieces.{lacks_all, same_front, no_front, not_nothing}

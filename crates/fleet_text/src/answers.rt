@@ -1,6 +1,6 @@
 //! Prints whole replies that have no lists.
 
-ghost use Rattle.std.specs.Prelude.{◌≡◌, ◌∷◌, [], IfOk, IsOkUnless, None, map, codes, decimal, string_bytes};
+ghost use Rattle.std.specs.Prelude.{◌≡◌, ◌≢◌, ◌∷◌, ◌++◌, [], IfOk, IsOkUnless, None, length, map, codes, decimal, string_bytes};
 ghost use Rattle.std.specs.List.{join_with_byte};
 ghost use Rattle.std.specs.Fmt.{signed_decimal};
 ghost use Rattle.fleet_rows.specs.declared.errors.SlateDBError.TheVariants as SlateDBError;
@@ -11,10 +11,11 @@ ghost use Rattle.script_model.specs.Lines.Settles.{settled_reply, all_taken};
 ghost use Rattle.script_model.specs.Words.{bytes_text};
 ghost use Rattle.fleet_text.specs.Faults.{fault_of};
 
+use crate::lists::jobs_text;
 use crate::reply::Reply;
 use crate::report::FlushFault;
 use crate::texts::{bytes_text, table_text};
-use fleet_rows::{SlateDBError, Ulid};
+use fleet_rows::{JobList, SlateDBError, Ulid};
 use std::alloc::{AllocError, Global};
 
 // The words with a space between each two.
@@ -35,6 +36,73 @@ pub(crate) fn said(alloc: Global, words: &[&str]) -> Result<Reply, SlateDBError>
     answer.word(text.as_str())?;
     answer.word("\n")?;
     Ok(answer)
+}
+
+// A reply of these words and of one more after them.
+fn said_before(alloc: Global, words: &[&str], last: &str) -> Result<Reply, SlateDBError>
+    requires { length words.now ≢ 0 }
+    ensures reply { IfOk result
+        (λ answer. answer ≡ reply (map (λ word. word.now) words.now ++ last.now ∷ [])) }
+    ensures memory { IsOkUnless result SlateDBError.Memory }
+{
+    let text = spaced(alloc, words)?;
+    said(alloc, &[text.as_str(), last])
+}
+
+// A reply of these words and of a number after them.
+fn said_number(alloc: Global, words: &[&str], number: u64) -> Result<Reply, SlateDBError>
+    requires { length words.now ≢ 0 }
+    ensures reply { IfOk result
+        (λ answer. answer ≡ reply (map (λ word. word.now) words.now ++ decimal number ∷ [])) }
+    ensures memory { IsOkUnless result SlateDBError.Memory }
+{
+    let digits = number.to_string(alloc)?;
+    said_before(alloc, words, digits.as_str())
+}
+
+// A reply of these words and of bytes after them.
+fn said_bytes(alloc: Global, words: &[&str], bytes: &[u8]) -> Result<Reply, SlateDBError>
+    requires { length words.now ≢ 0 }
+    ensures reply { IfOk result
+        (λ answer. answer ≡ reply (map (λ word. word.now) words.now ++ bytes_text bytes.now ∷ [])) }
+    ensures memory { IsOkUnless result SlateDBError.Memory }
+{
+    let digits = bytes_text(alloc, bytes)?;
+    said_before(alloc, words, digits.as_str())
+}
+
+/// A reply of these words and of jobs after them.
+pub(crate) fn said_jobs(
+    alloc: Global,
+    words: &[&str],
+    jobs: &JobList,
+) -> Result<Reply, SlateDBError>
+    requires { length words.now ≢ 0 }
+    ensures reply { IfOk result
+        (λ answer. answer ≡ reply (map (λ word. word.now) words.now ++ replies.jobs_text jobs.now ∷ [])) }
+    ensures memory { IsOkUnless result SlateDBError.Memory }
+{
+    let jobs = jobs_text(alloc, jobs.as_slice())?;
+    said_before(alloc, words, jobs.as_str())
+}
+
+// A reply of a word, and of the numbers of claims and of commits, each after its name.
+fn said_counts(alloc: Global, state: &str, claims: u64, commits: u64) -> Result<Reply, SlateDBError>
+    ensures reply { IfOk result (λ answer. answer ≡ reply (codes "ok" ∷ state.now
+        ∷ codes "claims" ∷ decimal claims ∷ codes "commits" ∷ decimal commits ∷ [])) }
+    ensures memory { IsOkUnless result SlateDBError.Memory }
+{
+    let claims = claims.to_string(alloc)?;
+    let commits = commits.to_string(alloc)?;
+    let words = [
+        "ok",
+        state,
+        "claims",
+        claims.as_str(),
+        "commits",
+        commits.as_str(),
+    ];
+    said(alloc, &words)
 }
 
 /// The reply of a line that has nothing else to say.
@@ -115,8 +183,7 @@ pub fn started(alloc: Global, epoch: u64) -> Result<Reply, SlateDBError>
         (λ answer. answer ≡ reply (codes "ok" ∷ codes "epoch" ∷ decimal epoch ∷ [])) }
     ensures memory { IsOkUnless result SlateDBError.Memory }
 {
-    let digits = epoch.to_string(alloc)?;
-    said(alloc, &["ok", "epoch", digits.as_str()])
+    said_number(alloc, &["ok", "epoch"], epoch)
 }
 
 /// The reply to a coordinator that is fenced by the stored epoch.
@@ -124,8 +191,7 @@ pub fn fenced(alloc: Global, stored: u64) -> Result<Reply, SlateDBError>
     ensures reply { IfOk result (λ answer. answer ≡ reply (codes "fenced" ∷ decimal stored ∷ [])) }
     ensures memory { IsOkUnless result SlateDBError.Memory }
 {
-    let digits = stored.to_string(alloc)?;
-    said(alloc, &["fenced", digits.as_str()])
+    said_number(alloc, &["fenced"], stored)
 }
 
 /// The reply of a step that gave up after many refused puts, with the version that it saw last.
@@ -133,8 +199,7 @@ pub fn conflict(alloc: Global, seen: u64) -> Result<Reply, SlateDBError>
     ensures reply { IfOk result (λ answer. answer ≡ reply (codes "conflict" ∷ decimal seen ∷ [])) }
     ensures memory { IsOkUnless result SlateDBError.Memory }
 {
-    let digits = seen.to_string(alloc)?;
-    said(alloc, &["conflict", digits.as_str()])
+    said_number(alloc, &["conflict"], seen)
 }
 
 /// The reply of a settle line that settled in this round.
@@ -142,8 +207,7 @@ pub fn settled(alloc: Global, round: u64) -> Result<Reply, SlateDBError>
     ensures reply { IfOk result (λ answer. answer ≡ settled_reply round) }
     ensures memory { IsOkUnless result SlateDBError.Memory }
 {
-    let digits = round.to_string(alloc)?;
-    said(alloc, &["ok", "settled", digits.as_str()])
+    said_number(alloc, &["ok", "settled"], round)
 }
 
 /// The reply of a settle line that took all its rounds.
@@ -151,8 +215,7 @@ pub fn rounds_taken(alloc: Global, rounds: u64) -> Result<Reply, SlateDBError>
     ensures reply { IfOk result (λ answer. answer ≡ all_taken rounds) }
     ensures memory { IsOkUnless result SlateDBError.Memory }
 {
-    let digits = rounds.to_string(alloc)?;
-    said(alloc, &["ok", "rounds", digits.as_str()])
+    said_number(alloc, &["ok", "rounds"], rounds)
 }
 
 /// The reply to a read below the horizon or before the tick.
@@ -170,19 +233,7 @@ pub fn idle(alloc: Global, claims: u64, commits: u64) -> Result<Reply, SlateDBEr
     ensures reply { IfOk result (λ answer. answer ≡ replies.idle_reply claims commits) }
     ensures memory { IsOkUnless result SlateDBError.Memory }
 {
-    let claims = claims.to_string(alloc)?;
-    let commits = commits.to_string(alloc)?;
-    said(
-        alloc,
-        &[
-            "ok",
-            "idle",
-            "claims",
-            claims.as_str(),
-            "commits",
-            commits.as_str(),
-        ],
-    )
+    said_counts(alloc, "idle", claims, commits)
 }
 
 /// The reply to a together line after which a stored job is active.
@@ -190,19 +241,7 @@ pub fn turns(alloc: Global, claims: u64, commits: u64) -> Result<Reply, SlateDBE
     ensures reply { IfOk result (λ answer. answer ≡ replies.turns_reply claims commits) }
     ensures memory { IsOkUnless result SlateDBError.Memory }
 {
-    let claims = claims.to_string(alloc)?;
-    let commits = commits.to_string(alloc)?;
-    said(
-        alloc,
-        &[
-            "ok",
-            "turns",
-            "claims",
-            claims.as_str(),
-            "commits",
-            commits.as_str(),
-        ],
-    )
+    said_counts(alloc, "turns", claims, commits)
 }
 
 /// The reply to a read of a value.
@@ -211,8 +250,7 @@ pub fn value(alloc: Global, bytes: &[u8]) -> Result<Reply, SlateDBError>
         (λ answer. answer ≡ reply (codes "value" ∷ bytes_text bytes.now ∷ [])) }
     ensures memory { IsOkUnless result SlateDBError.Memory }
 {
-    let digits = bytes_text(alloc, bytes)?;
-    said(alloc, &["value", digits.as_str()])
+    said_bytes(alloc, &["value"], bytes)
 }
 
 /// The reply if the operator refuses a fold, with the operator's message.
@@ -221,8 +259,7 @@ pub fn callback(alloc: Global, message: &[u8]) -> Result<Reply, SlateDBError>
         (λ answer. answer ≡ reply (codes "callback" ∷ bytes_text message.now ∷ [])) }
     ensures memory { IsOkUnless result SlateDBError.Memory }
 {
-    let digits = bytes_text(alloc, message)?;
-    said(alloc, &["callback", digits.as_str()])
+    said_bytes(alloc, &["callback"], message)
 }
 
 /// The reply if the scheduler declines, with its message.
@@ -231,8 +268,7 @@ pub fn generate_refused(alloc: Global, message: &[u8]) -> Result<Reply, SlateDBE
         (λ answer. answer ≡ reply (codes "generate" ∷ bytes_text message.now ∷ [])) }
     ensures memory { IsOkUnless result SlateDBError.Memory }
 {
-    let digits = bytes_text(alloc, message)?;
-    said(alloc, &["generate", digits.as_str()])
+    said_bytes(alloc, &["generate"], message)
 }
 
 /// The reply to a refused flush, with the rule that it breaks.

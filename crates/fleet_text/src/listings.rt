@@ -12,7 +12,7 @@ ghost use Rattle.script_model.specs.Words.{list_text, rows_text};
 ghost use Rattle.fleet_text.specs.Pages.{page_of};
 ghost use Rattle.fleet_text.specs.Printed.{attempt_begun, counted_tables, polled_text, tree_text};
 
-use crate::answers::said;
+use crate::answers::{said, said_jobs};
 use crate::lists::{jobs_text, listed_each, listed_each_apart, listed_ranges, tables_text};
 use crate::prints::Prints;
 use crate::reply::Reply;
@@ -31,8 +31,7 @@ pub fn submitted(alloc: Global, job: &JobList) -> Result<Reply, SlateDBError>
         (λ answer. answer ≡ reply (codes "ok" ∷ codes "job" ∷ jobs_text job.now ∷ [])) }
     ensures memory { IsOkUnless result SlateDBError.Memory }
 {
-    let job = jobs_text(alloc, job.as_slice())?;
-    said(alloc, &["ok", "job", job.as_str()])
+    said_jobs(alloc, &["ok", "job"], job)
 }
 
 /// The reply to the submission of the jobs that the scheduler made.
@@ -41,8 +40,7 @@ pub fn submitted_all(alloc: Global, jobs: &JobList) -> Result<Reply, SlateDBErro
         (λ answer. answer ≡ reply (codes "ok" ∷ codes "jobs" ∷ jobs_text jobs.now ∷ [])) }
     ensures memory { IsOkUnless result SlateDBError.Memory }
 {
-    let jobs = jobs_text(alloc, jobs.as_slice())?;
-    said(alloc, &["ok", "jobs", jobs.as_str()])
+    said_jobs(alloc, &["ok", "jobs"], jobs)
 }
 
 /// The reply to a worker that stops, with the jobs that it gave back.
@@ -51,8 +49,7 @@ pub fn released(alloc: Global, jobs: &JobList) -> Result<Reply, SlateDBError>
         (λ answer. answer ≡ reply (codes "ok" ∷ codes "released" ∷ jobs_text jobs.now ∷ [])) }
     ensures memory { IsOkUnless result SlateDBError.Memory }
 {
-    let jobs = jobs_text(alloc, jobs.as_slice())?;
-    said(alloc, &["ok", "released", jobs.as_str()])
+    said_jobs(alloc, &["ok", "released"], jobs)
 }
 
 /// The reply to a heartbeat: the jobs that the worker owns, and those that it no longer owns.

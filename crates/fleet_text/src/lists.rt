@@ -8,7 +8,7 @@ ghost use Rattle.script_model.specs.Replies.{bar, semicolon};
 ghost use Rattle.script_model.specs.Words.{list_text, comma};
 
 use crate::prints::Prints;
-use crate::texts::{job_text, table_text};
+use crate::texts::table_text;
 use fleet_plan::Subcompaction;
 use fleet_rows::{JobList, Ulid};
 use fleet_tree::{SsTableHandle, TableList};
@@ -100,11 +100,7 @@ pub(crate) fn listed_ranges<T: Prints>(alloc: Global, ranges: &[T]) -> Result<St
 pub fn jobs_text(alloc: Global, jobs: &[Ulid]) -> Result<String, AllocError>
     ensures { IfOk result (λ text. string_bytes text ≡ replies.jobs_text jobs.now) }
 {
-    let mut words = Vec::new(alloc);
-    'jobs: for job in jobs {
-        words.push(job_text(alloc, *job)?)?;
-    }
-    listed(alloc, &words)
+    listed_each(alloc, jobs)
 }
 
 pub fn tables_text(alloc: Global, tables: &[Ulid]) -> Result<String, AllocError>

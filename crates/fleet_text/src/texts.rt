@@ -69,6 +69,14 @@ pub fn whole_id(id: Ulid) -> u128
     id.moment_ms() as u128 * (1 << 80) + id.number()
 }
 
+impl Prints for Ulid {
+    ghost text = { λ job. decimal (jobs.number_of job) };
+
+    fn print(&self, alloc: Global, out: &mut String) -> Result<(), AllocError> {
+        append_job(*self, out)
+    }
+}
+
 impl Prints for SsTableHandle {
     ghost text = { λ table. replies.counted_text (table.id, table.rows) };
 

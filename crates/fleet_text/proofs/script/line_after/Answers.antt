@@ -1,7 +1,6 @@
-use Rattle.std.proofs.Common.{◌≡◌, sym, ap, subst, ◌∙◌}
+use Rattle.std.proofs.Common.{◌≡◌, sym, ◌∙◌}
 use Rattle.script_laws.proofs.SameLines.{same_joined}
 use Rattle.fleet_text.specs.Lines.{line_of}
-use Rattle.fleet_text.specs.Served.{may_stand}
 use Rattle.fleet_text.proofs.script.line_after.Goals as goal
 
 pub returns-then-not-may_stand : goal.returns-then-not-may_stand
