@@ -78,8 +78,8 @@ pub(crate) fn said_jobs(
     jobs: &JobList,
 ) -> Result<Reply, SlateDBError>
     requires { length words.now ≢ 0 }
-    ensures reply { IfOk result
-        (λ answer. answer ≡ reply (map (λ word. word.now) words.now ++ replies.jobs_text jobs.now ∷ [])) }
+    ensures reply { IfOk result (λ answer. answer
+        ≡ reply (map (λ word. word.now) words.now ++ replies.jobs_text jobs.now ∷ [])) }
     ensures memory { IsOkUnless result SlateDBError.Memory }
 {
     let jobs = jobs_text(alloc, jobs.as_slice())?;

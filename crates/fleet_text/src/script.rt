@@ -50,8 +50,8 @@ fn read_lines(alloc: Global, text: &[u8]) -> Result<LineList, TextError>
     Ok(LineList::from_vec(lines))
 }
 
-// Reads a line that the program serves, as the first line of a script or as a later one. The list is
-// for its words.
+// Reads a line that the program serves, as the first line of a script or as a later one. The list
+// is for its words.
 fn line_after<'a>(
     alloc: Global,
     words: &mut Vec<&'a [u8]>,
