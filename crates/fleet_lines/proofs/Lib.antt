@@ -11,6 +11,8 @@ pub mod FlushAsks
 pub mod NoteLines
 pub mod Noting
 pub mod WorkLines
+pub mod ClaimLines
+pub mod Named
 pub mod StopLines
 pub mod StartLines
 pub mod ServeLines

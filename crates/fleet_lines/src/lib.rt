@@ -1,6 +1,7 @@
 //! A fleet, and each line of a script as one call on it.
 #![tactic(auto)]
 
+mod claims;
 mod fleet;
 mod flushes;
 mod looks;
@@ -11,6 +12,7 @@ mod refusals;
 mod settings;
 mod steps;
 mod submits;
+mod tables;
 
 pub use fleet::Fleet;
 pub use options::FleetOptions;

@@ -6,7 +6,7 @@ use Rattle.fleet_text.specs.Lines.{line_of, nodes_of}
 use Rattle.fleet_text.specs.declared.node.NodeName.{NodeName}
 use Rattle.fleet_lines.specs.Fleets.{state_of}
 use Rattle.fleet_lines.specs.Lines.{Runs}
-use Rattle.fleet_lines.proofs.ServeLines.{drain_serves, full_serves, served_as, submit_serves}
+use Rattle.fleet_lines.proofs.ServeLines.{claim_serves, drain_serves, full_serves, served_as, submit_serves}
 use Rattle.fleet_lines.proofs.fleet.Fleet.call.Goals as goal
 
 pub returns-in_ok-spec-in-Submit-clause-served : goal.returns-in_ok-spec-in-Submit-clause-served
@@ -35,3 +35,10 @@ returns-in-Full-clause-served g c =
     served_as _ c.args.number _ (model.SubmitFull c.in-Full.segment) old c.full.new.self c.full.new.self _ c.full.result (ap line_of c.in-Full.is) refl
     (λ answer ran. full_serves _ c.args.number old answer c.in-Full.segment c.full.new.self ran)
     c.full.ensures.ran
+
+pub returns-in-Claim-clause-served : goal.returns-in-Claim-clause-served
+returns-in-Claim-clause-served g c =
+    let old = c.args.self.now in
+    served_as _ c.args.number _ (model.ClaimJobs c.in-Claim.worker) old c.claim.new.self c.claim.new.self _ c.claim.result (ap line_of c.in-Claim.is) refl
+    (λ answer ran. claim_serves _ c.args.number old answer c.in-Claim.worker c.claim.new.self ran)
+    c.claim.ensures.ran
