@@ -194,6 +194,13 @@ impl Fleet {
             }
             Line::Full { segment } => self.full(operator, scheduler, number, segment),
             Line::Claim { worker } => self.claim(operator, number, worker),
+            Line::Output {
+                worker,
+                job,
+                range,
+                rows,
+            } => self.output(operator, number, worker, job, range, rows),
+            Line::Finish { worker, job } => self.finish(rt, operator, number, worker, job),
 
             // The fleet serves no other line.
             _ => unreachable!(),

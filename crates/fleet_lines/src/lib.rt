@@ -2,11 +2,14 @@
 #![tactic(auto)]
 
 mod claims;
+mod finishes;
 mod fleet;
 mod flushes;
 mod looks;
+mod lookups;
 mod names;
 mod options;
+mod outputs;
 mod parties;
 mod refusals;
 mod settings;
