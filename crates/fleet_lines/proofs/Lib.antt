@@ -11,6 +11,15 @@ pub mod FlushAsks
 pub mod NoteLines
 pub mod Noting
 pub mod WorkLines
+pub mod ClaimLines
+pub mod Named
+pub mod Attempts
+pub mod FewLeft
+pub mod OperatorRefusals
+pub mod MadeOutputs
+pub mod OutputLines
+pub mod MadeFinishes
+pub mod FinishLines
 pub mod StopLines
 pub mod StartLines
 pub mod ServeLines

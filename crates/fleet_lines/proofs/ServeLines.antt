@@ -8,9 +8,9 @@ use Rattle.script_model.specs.Lines.Flushes.{flush_line}
 use Rattle.script_model.specs.Lines.Looks.{dump_reply}
 use Rattle.script_model.specs.Lines.Starts.{start_coordinator, start_worker, end_coordinator, kill_worker}
 use Rattle.script_model.specs.Lines.Submits.{submit_line, full_line}
-use Rattle.script_model.specs.Lines.WorkLines.{heartbeat_line, stop_worker}
+use Rattle.script_model.specs.Lines.WorkLines.{claim_line, heartbeat_line, stop_worker}
 use Rattle.script_model.specs.Replies.{absent_reply, jobs_reply, ok, tables_reply, trees_reply}
-use Rattle.script_model.specs.Script.{Line, Options, Clock, StartCoordinator, StartWorker, KillCoordinator, KillWorker, StopCoordinator, StopWorker, FlushRows, SubmitJob, SubmitDrain, SubmitFull, Heartbeat, SetFault, ShowTrees, ShowJobs, ShowTables, Dump, IsInBounds}
+use Rattle.script_model.specs.Script.{Line, Options, Clock, StartCoordinator, StartWorker, KillCoordinator, KillWorker, StopCoordinator, StopWorker, FlushRows, SubmitJob, SubmitDrain, SubmitFull, ClaimJobs, Heartbeat, SetFault, ShowTrees, ShowJobs, ShowTables, Dump, IsInBounds}
 use Rattle.script_model.specs.States.{Inputs, State}
 use Rattle.script_model.specs.LineRuns.{LineCourse, if_some, only_replies}
 use Rattle.script_model.specs.LineCourses.{prepared_state, course_of}
@@ -144,6 +144,10 @@ module _ (inputs : Inputs) (number : ℕ) (old : FleetParts) (answer : List ℕ)
   pub heartbeat_serves : (n : ℕ) (new : FleetParts) → Runs inputs.merge number (state_of old) (heartbeat_line n (state_of old)) old new answer → Serves inputs number (Heartbeat n) old new answer
   unfolding course_of
   heartbeat_serves n new runs = serves inputs number (Heartbeat n) old new answer _ refl refl runs
+
+  pub claim_serves : (n : ℕ) (new : FleetParts) → Runs inputs.merge number (state_of old) (claim_line n (state_of old)) old new answer → Serves inputs number (ClaimJobs n) old new answer
+  unfolding course_of
+  claim_serves n new runs = serves inputs number (ClaimJobs n) old new answer _ refl refl runs
 
 -- ---- after the line
 

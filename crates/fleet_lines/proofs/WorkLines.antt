@@ -7,6 +7,7 @@ use Rattle.row_model.specs.Fold.{Operator, IsLawful}
 use Rattle.fleet_model.specs.Exchanges.{Fault, does_stand}
 use Rattle.fleet_model.specs.History.{Worker}
 use Rattle.fleet_model.specs.Work.Parties.{Attempt, LiveWorker, Parties, worker_with, without_worker}
+use Rattle.fleet_model.specs.Store.{Store}
 use Rattle.step_model.specs.Past.{World}
 use Rattle.step_model.specs.Courses.Course.{Course}
 use Rattle.step_model.specs.Courses.CourseRuns.{End, Gives, MeetsFault, IsLawfulCourse}
@@ -54,29 +55,33 @@ at_found n fleet w none act e = ap (λ (o : Option LiveWorker). if_some o none a
 pub at_none : (n : ℕ) (fleet : FleetParts) (none : LineCourse) (act : LiveWorker → LineCourse) → find (λ (w : WorkerParts). n == w.number) fleet.workers ≡ None → if_some (worker_with n (parties_of fleet)) none act ≡ none
 at_none n fleet none act e = ap (λ (o : Option LiveWorker). if_some o none act) (find_map live_of (λ (w : LiveWorker). n == w.number) fleet.workers ∙ ap (option_map live_of) e)
 
--- ---- steps that are never fenced
+-- ---- how a step ends
 
--- A step that reports whenever nobody disturbs it is not fenced.
-unfenced : {A : Type 0} (merge : Operator) (number n stored : ℕ) (step : Course (StepEnd A)) (old new : World) (waits left : Option Fault) → EndsSo number (Worker n) step old.store Reported
-    → Ran (caller_of merge number (Worker n)) step old new waits left (Gives (Fenced stored)) → ⊥
-unfenced {A} merge number n stored step old new waits left so ran =
-    by (run_alone number (Worker n) step waits old.store) (ran_alone (caller_of merge number (Worker n)) step old new waits left (Gives (Fenced stored)) refl ran) (does_stand waits) (run_ends number (Worker n) step waits old.store Reported so)
+-- A step that nobody disturbs ends as its course does.
+ended_so : {A : Type 0} (merge : Operator) (number n : ℕ) (P : StepEnd A → Store → Type 0) (end : StepEnd A) (step : Course (StepEnd A)) (old new : World) (waits left : Option Fault) → EndsSo number (Worker n) step old.store P
+    → Ran (caller_of merge number (Worker n)) step old new waits left (Gives end) → P end new.store
+ended_so {A} merge number n P end step old new waits left so ran =
+    by (run_alone number (Worker n) step waits old.store) (ran_alone (caller_of merge number (Worker n)) step old new waits left (Gives end) refl ran) (does_stand waits) (run_ends number (Worker n) step waits old.store P so)
   where
-    by : (run : AloneEnd (StepEnd A)) → run ≡ record { answer = Some (Fenced stored); store = new.store; fault = left } → (stands : Bool) → RunEnds number (Worker n) stands step old.store Reported run → ⊥
-    by run is stands (RunStruck none gone struck) = absurd (cc (sym none ∙ ap (λ (r : AloneEnd (StepEnd A)). r.answer) is))
-    by run is stands (RunEnded answer gives reported) = at answer reported (the_answer answer (Fenced stored) (sym gives ∙ ap (λ (r : AloneEnd (StepEnd A)). r.answer) is))
-      where
-        the_answer : (a b : StepEnd A) → Some a ≡ Some b → a ≡ b
-        the_answer a b e = cc e
+    the_answer : (a b : StepEnd A) → Some a ≡ Some b → a ≡ b
+    the_answer a b e = cc e
 
-        at : (a : StepEnd A) → Reported a run.store → a ≡ Fenced stored → ⊥
-        at a reported same = subst (λ (e : StepEnd A). Reported e run.store) same reported
+    by : (run : AloneEnd (StepEnd A)) → run ≡ record { answer = Some end; store = new.store; fault = left } → (stands : Bool) → RunEnds number (Worker n) stands step old.store P run → P end new.store
+    by run is stands (RunStruck none gone struck) = absurd (cc (sym none ∙ ap (λ (r : AloneEnd (StepEnd A)). r.answer) is))
+    by run is stands (RunEnded answer gives so) =
+        subst (P end) (ap (λ (r : AloneEnd (StepEnd A)). r.store) is)
+        (subst (λ (e : StepEnd A). P e run.store) (the_answer answer end (sym gives ∙ ap (λ (r : AloneEnd (StepEnd A)). r.answer) is)) so)
+
+-- The worker's attempts are as before where the step failed.
+pub as_before : {A : Type 0} (result : Result A SlateDBError) (w : WorkerParts) (attempts : List AttemptParts) → OnErr result (attempts ≡ w.attempts) → (e : SlateDBError) → result ≡ Err e → map attempt_of w.attempts ≡ map attempt_of attempts
+as_before {A} result w attempts same e is = ap (λ (kept : List AttemptParts). map attempt_of kept) (sym (subst (λ (r : Result A SlateDBError). OnErr r (attempts ≡ w.attempts)) is same))
 
 -- ---- a line of one step
 
--- A line of one step of a worker. `attempts` and `stopped` are the worker's after the step.
-module _ {A B : Type 0} (merge : Operator) (number : ℕ) (old : FleetParts) (w : WorkerParts) (attempts : List AttemptParts) (stopped : Bool) (store : StoreParts) (ends : A → StepEnd B) (spell : B → List ℕ) (reported : B → List Attempt) (step : Course (StepEnd B)) (answer : List ℕ)
-    (lawful : IsLawful merge) (stands : Stands merge old) (n : ℕ) (is_number : n ≡ w.number) (is : IsLawfulCourse (caller_of merge number (Worker w.number)) old.store.world step) (so : EndsSo number (Worker w.number) step old.store.world.store Reported)
+-- A line of one step of a worker. `attempts` and `stopped` are the worker's after the step, and `refused` are the attempts
+-- that the line gives it after a refusal. The step ends so if nobody disturbs it.
+module _ {A B : Type 0} (merge : Operator) (number : ℕ) (old : FleetParts) (w : WorkerParts) (attempts : List AttemptParts) (stopped : Bool) (store : StoreParts) (ends : A → StepEnd B) (spell : B → List ℕ) (reported : B → List Attempt) (refused : List Attempt) (step : Course (StepEnd B)) (answer : List ℕ)
+    (lawful : IsLawful merge) (stands : Stands merge old) (n : ℕ) (is_number : n ≡ w.number) (is : IsLawfulCourse (caller_of merge number (Worker w.number)) old.store.world step) (P : StepEnd B → Store → Type 0) (so : EndsSo number (Worker w.number) step old.store.world.store P)
     (may : OnFalse stopped (MayWork merge store.world (record w { attempts = attempts; stopped = stopped }))) where
   abbrev left_over : Bool → List WorkerParts
   left_over stopped = cond stopped (others n old.workers) (record w { attempts = attempts; stopped = stopped } ∷ others n old.workers)
@@ -85,7 +90,7 @@ module _ {A B : Type 0} (merge : Operator) (number : ℕ) (old : FleetParts) (w 
   after stopped = record old { store = store; workers = left_over stopped }
 
   abbrev the_line : LineCourse
-  the_line = worker_line (live_of w) (state_of old) step spell reported (map attempt_of w.attempts)
+  the_line = worker_line (live_of w) (state_of old) step spell reported refused
 
   others_are : filter (λ (v : LiveWorker). not (w.number == v.number)) (map live_of old.workers) ≡ map live_of (others n old.workers)
   others_are = subst (λ (m : ℕ). filter (λ (v : LiveWorker). not (m == v.number)) (map live_of old.workers) ≡ map live_of (others n old.workers)) is_number (others_live n old.workers)
@@ -98,7 +103,7 @@ module _ {A B : Type 0} (merge : Operator) (number : ℕ) (old : FleetParts) (w 
   gone : stopped ≡ true → Ran (caller_of merge number (Worker w.number)) step old.store.world store.world old.store.waits store.waits MeetsFault → end_reply spell MeetsFault ≡ Some answer → Runs merge number (state_of old) the_line old (after stopped) answer
   gone e ran says = subst (λ (b : Bool). Runs merge number (state_of old) the_line old (after b) answer) (sym e) (record {
     ends =
-        step_ends merge number (options_of old.options) old.moment (parties_of old) (party.Worker w.number) step spell (λ report. running (live_of w) (state_of old) (reported report)) (running (live_of w) (state_of old) (map attempt_of w.attempts)) (without_worker w.number (parties_of old))
+        step_ends merge number (options_of old.options) old.moment (parties_of old) (party.Worker w.number) step spell (λ report. running (live_of w) (state_of old) (reported report)) (running (live_of w) (state_of old) refused) (without_worker w.number (parties_of old))
         old.store.world store.world old.store.waits store.waits answer MeetsFault ran says
         ∙ ap (λ (ws : List LiveWorker). (answer, state_at (options_of old.options) old.moment store.world store.waits (record { coordinators = old.coordinators; workers = ws }))) others_are;
     stands = record {
@@ -112,11 +117,11 @@ module _ {A B : Type 0} (merge : Operator) (number : ℕ) (old : FleetParts) (w 
 
   -- The worker is live and runs these attempts.
   goes_on : (end : StepEnd B) → stopped ≡ false → Ran (caller_of merge number (Worker w.number)) step old.store.world store.world old.store.waits store.waits (Gives end) → end_reply spell (Gives end) ≡ Some answer
-      → step_parties (λ report. running (live_of w) (state_of old) (reported report)) (running (live_of w) (state_of old) (map attempt_of w.attempts)) end ≡ running (live_of w) (state_of old) (map attempt_of attempts)
+      → step_parties (λ report. running (live_of w) (state_of old) (reported report)) (running (live_of w) (state_of old) refused) end ≡ running (live_of w) (state_of old) (map attempt_of attempts)
       → Runs merge number (state_of old) the_line old (after stopped) answer
   goes_on end e ran says same = subst (λ (b : Bool). Runs merge number (state_of old) the_line old (after b) answer) (sym e) (record {
     ends =
-        step_ends merge number (options_of old.options) old.moment (parties_of old) (party.Worker w.number) step spell (λ report. running (live_of w) (state_of old) (reported report)) (running (live_of w) (state_of old) (map attempt_of w.attempts)) (without_worker w.number (parties_of old))
+        step_ends merge number (options_of old.options) old.moment (parties_of old) (party.Worker w.number) step spell (λ report. running (live_of w) (state_of old) (reported report)) (running (live_of w) (state_of old) refused) (without_worker w.number (parties_of old))
         old.store.world store.world old.store.waits store.waits answer (Gives end) ran says
         ∙ ap (λ (parties : Parties). (answer, state_at (options_of old.options) old.moment store.world store.waits parties)) same
         ∙ ap (λ (ws : List LiveWorker). (answer, state_at (options_of old.options) old.moment store.world store.waits (record { coordinators = old.coordinators; workers = record (live_of w) { attempts = map attempt_of attempts } ∷ ws }))) others_are;
@@ -133,38 +138,46 @@ module _ {A B : Type 0} (merge : Operator) (number : ℕ) (old : FleetParts) (w 
       may_work : MayWork merge store.world (record w { attempts = attempts; stopped = false })
       may_work = subst (λ (b : Bool). OnFalse b (MayWork merge store.world (record w { attempts = attempts; stopped = b }))) e may
 
-  -- However the step ended.
-  pub work_runs : (result : Result A SlateDBError) → stopped ≡ stops result → OnErr result (attempts ≡ w.attempts) → ((report : B) (a : A) → result ≡ Ok a → ends a ≡ Reports report → reported report ≡ map attempt_of attempts)
-      → ((a : A) → (report : B) × (ends a ≡ Reports report)) → Made ends step merge number (party.Worker w.number) old.store store result → Says ends spell result answer → Runs merge number (state_of old) the_line old (after stopped) answer
-  work_runs result is_stopped same reports report_of made says = by result is_stopped same reports made.ran says.says
-    where
-      refused : (end : StepEnd B) → stopped ≡ false → attempts ≡ w.attempts → Ran (caller_of merge number (Worker w.number)) step old.store.world store.world old.store.waits store.waits (Gives end) → end_reply spell (Gives end) ≡ Some answer
-          → step_parties (λ report. running (live_of w) (state_of old) (reported report)) (running (live_of w) (state_of old) (map attempt_of w.attempts)) end ≡ running (live_of w) (state_of old) (map attempt_of w.attempts)
-          → Runs merge number (state_of old) the_line old (after stopped) answer
-      refused end e same ran says parties = goes_on end e ran says (parties ∙ ap (λ (kept : List AttemptParts). running (live_of w) (state_of old) (map attempt_of kept)) (sym same))
+  -- A refusal leaves the worker the attempts that the line gives it.
+  abbrev Kept : Result A SlateDBError → Type 0
+  Kept result = (e : SlateDBError) (end : StepEnd B) → result ≡ Err e → end_of ends (Err e) ≡ Some (Gives end) → P end store.world.store → refused ≡ map attempt_of attempts
 
-      by : (result : Result A SlateDBError) → stopped ≡ stops result → OnErr result (attempts ≡ w.attempts) → ((report : B) (a : A) → result ≡ Ok a → ends a ≡ Reports report → reported report ≡ map attempt_of attempts)
+  -- However the step ended. A report tells the worker's attempts, and the worker is never fenced.
+  pub work_runs : (result : Result A SlateDBError) → stopped ≡ stops result → ((report : B) (a : A) → result ≡ Ok a → ends a ≡ Reports report → reported report ≡ map attempt_of attempts) → ((a : A) → (report : B) × (ends a ≡ Reports report))
+      → Kept result → ((stored : ℕ) → P (Fenced stored) store.world.store → ⊥)
+      → Made ends step merge number (party.Worker w.number) old.store store result → Says ends spell result answer → Runs merge number (state_of old) the_line old (after stopped) answer
+  work_runs result is_stopped reports report_of kept unfenced made says = by result is_stopped reports kept made.ran says.says
+    where
+      ended : (end : StepEnd B) → Ran (caller_of merge number (Worker w.number)) step old.store.world store.world old.store.waits store.waits (Gives end) → P end store.world.store
+      ended end ran = ended_so merge number w.number P end step old.store.world store.world old.store.waits store.waits so ran
+
+      refuses : (e : SlateDBError) (end : StepEnd B) → Kept (Err e) → stopped ≡ false → end_of ends (Err e) ≡ Some (Gives end) → Ran (caller_of merge number (Worker w.number)) step old.store.world store.world old.store.waits store.waits (Gives end) → end_reply spell (Gives end) ≡ Some answer
+          → step_parties (λ report. running (live_of w) (state_of old) (reported report)) (running (live_of w) (state_of old) refused) end ≡ running (live_of w) (state_of old) refused
+          → Runs merge number (state_of old) the_line old (after stopped) answer
+      refuses e end kept is_on is_end ran says parties = goes_on end is_on ran says (parties ∙ ap (running (live_of w) (state_of old)) (kept e end refl is_end (ended end ran)))
+
+      by : (result : Result A SlateDBError) → stopped ≡ stops result → ((report : B) (a : A) → result ≡ Ok a → ends a ≡ Reports report → reported report ≡ map attempt_of attempts) → Kept result
           → OfSome (Ran (caller_of merge number (Worker w.number)) step old.store.world store.world old.store.waits store.waits) (end_of ends result) → OfSome (λ end. end_reply spell end ≡ Some answer) (end_of ends result)
           → Runs merge number (state_of old) the_line old (after stopped) answer
-      by (Ok a) e same reports runs said =
+      by (Ok a) e reports kept runs said =
           let r = report_of a in
-          goes_on (ends a) e runs said (ap (step_parties (λ report. running (live_of w) (state_of old) (reported report)) (running (live_of w) (state_of old) (map attempt_of w.attempts))) r.1 ∙ ap (running (live_of w) (state_of old)) (reports r.0 a refl r.1))
-      by (Err error.StoreFault) e same reports runs said = gone e runs said
-      by (Err error.Memory) e same reports runs said = absurd (cc said)
-      by (Err (error.Conflict seen)) e same reports runs said = refused (GivesUp seen) e same runs said refl
-      by (Err (error.Fenced stored)) e same reports runs said = absurd (unfenced merge number w.number stored step old.store.world store.world old.store.waits store.waits so runs)
-      by (Err error.NotOwner) e same reports runs said = refused NotOwner e same runs said refl
-      by (Err error.InvalidDBState) e same reports runs said = refused NoRecords e same runs said refl
-      by (Err error.InvalidCompaction) e same reports runs said = refused Invalid e same runs said refl
-      by (Err (error.Generate message)) e same reports runs said = refused (Declined message) e same runs said refl
-      by (Err (error.MergeOperator (merge_error.Callback message))) e same reports runs said = refused (OperatorRefuses message) e same runs said refl
-      by (Err (error.MergeOperator merge_error.EmptyBatch)) e same reports runs said = absurd runs
-      by (Err (error.MergeOperator merge_error.Memory)) e same reports runs said = absurd runs
-      by (Err error.IteratorNotInitialized) e same reports runs said = absurd runs
-      by (Err error.IteratorFailed) e same reports runs said = absurd runs
-      by (Err error.MergeOperatorMissing) e same reports runs said = absurd runs
-      by (Err (error.InvalidSequenceOrder current after)) e same reports runs said = absurd runs
-      by (Err (error.CompactionFilter cause)) e same reports runs said = absurd runs
+          goes_on (ends a) e runs said (ap (step_parties (λ report. running (live_of w) (state_of old) (reported report)) (running (live_of w) (state_of old) refused)) r.1 ∙ ap (running (live_of w) (state_of old)) (reports r.0 a refl r.1))
+      by (Err error.StoreFault) e reports kept runs said = gone e runs said
+      by (Err error.Memory) e reports kept runs said = absurd (cc said)
+      by (Err (error.Conflict seen)) e reports kept runs said = refuses (error.Conflict seen) (GivesUp seen) kept e refl runs said refl
+      by (Err (error.Fenced stored)) e reports kept runs said = absurd (unfenced stored (ended (Fenced stored) runs))
+      by (Err error.NotOwner) e reports kept runs said = refuses error.NotOwner NotOwner kept e refl runs said refl
+      by (Err error.InvalidDBState) e reports kept runs said = refuses error.InvalidDBState NoRecords kept e refl runs said refl
+      by (Err error.InvalidCompaction) e reports kept runs said = refuses error.InvalidCompaction Invalid kept e refl runs said refl
+      by (Err (error.Generate message)) e reports kept runs said = refuses (error.Generate message) (Declined message) kept e refl runs said refl
+      by (Err (error.MergeOperator (merge_error.Callback message))) e reports kept runs said = refuses (error.MergeOperator (merge_error.Callback message)) (OperatorRefuses message) kept e refl runs said refl
+      by (Err (error.MergeOperator merge_error.EmptyBatch)) e reports kept runs said = absurd runs
+      by (Err (error.MergeOperator merge_error.Memory)) e reports kept runs said = absurd runs
+      by (Err error.IteratorNotInitialized) e reports kept runs said = absurd runs
+      by (Err error.IteratorFailed) e reports kept runs said = absurd runs
+      by (Err error.MergeOperatorMissing) e reports kept runs said = absurd runs
+      by (Err (error.InvalidSequenceOrder current after)) e reports kept runs said = absurd runs
+      by (Err (error.CompactionFilter cause)) e reports kept runs said = absurd runs
 
 -- ---- heartbeats
 
@@ -176,9 +189,9 @@ beat_runs merge number n old w attempts stopped store result answer lawful stand
     let f = is_found merge old n w stands there in
     subst (λ (c : LineCourse). Runs merge number (state_of old) c old (record old { store = store; workers = cond stopped (others n old.workers) (record w { attempts = attempts; stopped = stopped } ∷ others n old.workers) }) answer)
     (sym (at_found n old w (no_such_party (state_of old)) (λ w. worker_line w (state_of old) (heartbeat old.moment w) (λ r. beat_reply r.beat r.not_owner) (λ r. r.attempts) w.attempts) there))
-    (work_runs merge number old w attempts stopped store (beat_ends attempts) (λ r. beat_reply r.beat r.not_owner) (λ r. r.attempts) (heartbeat old.moment (live_of w)) answer lawful stands n f.number
-    (beats_are_lawful (caller_of merge number (Worker w.number)) old.store.world old.moment (live_of w) (calls_keep merge lawful) refl stands.keeps.store f.may.holds) (beat_so number (Worker w.number) old.moment (live_of w) old.store.world.store) may
-    result is_stopped same (λ report a ok is. the_attempts report a is) (λ a. (beaten_with attempts a, refl)) made says)
+    (work_runs merge number old w attempts stopped store (beat_ends attempts) (λ r. beat_reply r.beat r.not_owner) (λ r. r.attempts) (map attempt_of w.attempts) (heartbeat old.moment (live_of w)) answer lawful stands n f.number
+    (beats_are_lawful (caller_of merge number (Worker w.number)) old.store.world old.moment (live_of w) (calls_keep merge lawful) refl stands.keeps.store f.may.holds) Reported (beat_so number (Worker w.number) old.moment (live_of w) old.store.world.store) may
+    result is_stopped (λ report a ok is. the_attempts report a is) (λ a. (beaten_with attempts a, refl)) (λ e end is gives so. as_before result w attempts same e is) (λ stored fenced. fenced) made says)
   where
     the_attempts : (report : Beaten) (a : BeatReport) → beat_ends attempts a ≡ Reports report → report.attempts ≡ map attempt_of attempts
     the_attempts report a is = let same : beaten_with attempts a ≡ report = cc is in sym (ap (λ (r : Beaten). r.attempts) same)

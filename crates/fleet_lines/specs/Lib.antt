@@ -1,4 +1,5 @@
 pub mod Fleets
 pub mod Steps
+pub mod Work
 pub mod Lines
 pub mod Looks

@@ -23,6 +23,7 @@ use fleet_text::{Line, Reply};
 use fleet_worker::Worker;
 use std::alloc::Global;
 use std::marker::Model;
+use std::thread::Threads;
 
 /// A fleet: a store in memory, and the live parties that call it. It runs the lines of a script.
 #[derive(Drop)]
@@ -90,9 +91,11 @@ impl Fleet {
 
     /// Runs the line with this number, counted from 1, and gives its reply. A fault, a party that is
     /// not live and a refused step are replies. After `Memory` the line's calls may have been made in
-    /// part, and the party that made them may be no longer live.
-    pub fn serve<O: MergeOperator>(
+    /// part, and the party that made them may be no longer live. A finish makes the tables of its
+    /// ranges on the threads of `rt`.
+    pub fn serve<R: Threads + Sync, O: MergeOperator>(
         &mut self,
+        rt: &R,
         operator: &O,
         scheduler: &(dyn CompactionScheduler + Send + Sync),
         number: u64,
@@ -109,14 +112,15 @@ impl Fleet {
         ensures memory { IsOkUnless result SlateDBError.Memory }
     {
         let known = self.store.history().len();
-        let reply = self.run(operator, scheduler, number, line)?;
+        let reply = self.run(rt, operator, scheduler, number, line)?;
         self.last_name = last_name(self.store.history(), known, self.last_name)?;
         Ok(reply)
     }
 
     // Runs the line.
-    fn run<O: MergeOperator>(
+    fn run<R: Threads + Sync, O: MergeOperator>(
         &mut self,
+        rt: &R,
         operator: &O,
         scheduler: &(dyn CompactionScheduler + Send + Sync),
         number: u64,
@@ -153,13 +157,14 @@ impl Fleet {
             Line::Dump { segment, node } => {
                 dump(self.alloc, &self.store, segment.as_slice(), node)
             }
-            line => self.call(operator, scheduler, number, line),
+            line => self.call(rt, operator, scheduler, number, line),
         }
     }
 
     // Runs a line that calls the store.
-    fn call<O: MergeOperator>(
+    fn call<R: Threads + Sync, O: MergeOperator>(
         &mut self,
+        rt: &R,
         operator: &O,
         scheduler: &(dyn CompactionScheduler + Send + Sync),
         number: u64,
@@ -188,6 +193,14 @@ impl Fleet {
                 self.submit(operator, number, spec)
             }
             Line::Full { segment } => self.full(operator, scheduler, number, segment),
+            Line::Claim { worker } => self.claim(operator, number, worker),
+            Line::Output {
+                worker,
+                job,
+                range,
+                rows,
+            } => self.output(operator, number, worker, job, range, rows),
+            Line::Finish { worker, job } => self.finish(rt, operator, number, worker, job),
 
             // The fleet serves no other line.
             _ => unreachable!(),

@@ -1,7 +1,8 @@
 //! The steps of the parties over the store of a fleet, lent to them in a line of a script.
 
-ghost use Rattle.std.specs.Prelude.{◌≡◌, ◌≤◌, ◌<◌, ◌^◌, ◌∷◌, [], false, map, IfOk, IsOkUnless, OnErr, OnOk};
+ghost use Rattle.std.specs.Prelude.{◌≡◌, ◌≤◌, ◌<◌, ◌^◌, ◌∷◌, [], false, map, IfOk, IsOkUnless, IsSome, OnErr, OnOk};
 ghost use Rattle.std.specs.Bool.{OnFalse};
+ghost use Rattle.fleet_model.specs.Work.Scheduler.{Scheduler};
 ghost use Rattle.step_model.specs.Courses.StepEnds.{Reports};
 ghost use Rattle.step_model.specs.Entries as entries;
 ghost use Rattle.step_model.specs.Fits.{CoordinatorHolds};
@@ -22,20 +23,27 @@ ghost use Rattle.fleet_claim.specs.Beginnings.{options_of};
 ghost use Rattle.fleet_coordinator.specs.Flushes.{ask_of, ends};
 ghost use Rattle.fleet_worker.specs.Beats.{beat_ends};
 ghost use Rattle.fleet_worker.specs.Claims.{claim_ends};
-ghost use Rattle.fleet_worker.specs.Workers.{live_of};
+ghost use Rattle.fleet_worker.specs.Finishing.{left_finished};
+ghost use Rattle.fleet_worker.specs.Outputs.{RunsRange, left_by};
+ghost use Rattle.fleet_worker.specs.Workers.{live_of, ranges_at};
 ghost use Rattle.fleet_step.specs.Steps.{stops};
+ghost use Rattle.script_model.specs.States.{State};
 ghost use Rattle.fleet_lines.specs.Steps.{Made, MayWork, Noted, note_event};
+ghost use Rattle.fleet_lines.specs.Work.{FinishMade, OutputMade};
 
 use fleet_book::CompactionRequest;
 use fleet_coordinator as coordinator;
 use fleet_coordinator::{FlushAsk, FlushFault};
+use fleet_exec::OpenGate;
 use fleet_fold::MergeOperator;
 use fleet_jobs::CompactionSpec;
-use fleet_rows::{JobList, SlateDBError};
+use fleet_rows::{JobList, SlateDBError, Ulid};
 use fleet_sched::CompactionScheduler;
 use fleet_store::{MemStore, Note, Party, Store};
+use fleet_tree::{OutputList, SsTableHandle};
 use fleet_worker::{BeatReport, ClaimReport, CompactionWorkerOptions, Worker};
 use std::alloc::Global;
+use std::thread::Threads;
 
 /// The submitter submits jobs of these specs.
 pub(crate) fn submitted<O: MergeOperator>(
@@ -155,6 +163,74 @@ pub(crate) fn claimed<O: MergeOperator>(
     let mut under = store.under(operator);
     under.set_actor(number, Party::Worker(worker.id()));
     worker.claim(&mut under, options, moment)
+}
+
+/// The worker writes the next rows of the range at this place of its attempt at the job.
+pub(crate) fn written<O: MergeOperator>(
+    store: &mut MemStore,
+    operator: &O,
+    number: u64,
+    worker: &mut Worker,
+    moment: u64,
+    job: Ulid,
+    range: u32,
+    rows: u64,
+) -> Result<Option<SsTableHandle>, SlateDBError>
+    requires running { worker.old.stopped ≡ false }
+    requires may { MayWork (O.merged (O.settings operator.now)) store.old.world worker.old }
+    requires runs { RunsRange worker.old job range }
+    requires some { 1 ≤ rows }
+    ensures made { (scheduler : Scheduler) (s : State) → s.moment ≡ moment
+        → s.store ≡ store.old.world.store → OutputMade (record {
+          merge = O.merged (O.settings operator.now);
+          scheduler = scheduler;
+        }) s number worker.old store.old store.new worker.new.attempts range rows result job }
+    ensures stopped { worker.new.stopped ≡ stops result }
+    ensures same { worker.new ≡ record worker.old {
+      attempts = worker.new.attempts;
+      stopped = worker.new.stopped;
+    } }
+    ensures err { OnErr result (worker.new.attempts ≡ left_by result job worker.old.attempts) }
+    ensures may { OnFalse worker.new.stopped
+        (MayWork (O.merged (O.settings operator.now)) store.new.world worker.new) }
+{
+    let mut under = store.under(operator);
+    under.set_actor(number, Party::Worker(worker.id()));
+    worker.output(&mut under, operator, moment, job, range, rows)
+}
+
+/// The worker finishes its attempt at the job. Nothing delays the tables of its ranges.
+pub(crate) fn finished<R: Threads + Sync, O: MergeOperator>(
+    rt: &R,
+    store: &mut MemStore,
+    operator: &O,
+    number: u64,
+    worker: &mut Worker,
+    options: &CompactionWorkerOptions,
+    moment: u64,
+    job: Ulid,
+) -> Result<OutputList, SlateDBError>
+    requires running { worker.old.stopped ≡ false }
+    requires may { MayWork (O.merged (O.settings operator.now)) store.old.world worker.old }
+    requires runs { IsSome (ranges_at worker.old.attempts job) }
+    ensures made { (scheduler : Scheduler) (s : State) → s.moment ≡ moment
+        → s.options.table_size ≡ options.now.max_sst_size → s.store ≡ store.old.world.store
+        → FinishMade (record {
+          merge = O.merged (O.settings operator.now);
+          scheduler = scheduler;
+        }) s number worker.old store.old store.new worker.new.attempts result job }
+    ensures stopped { worker.new.stopped ≡ stops result }
+    ensures same { worker.new ≡ record worker.old {
+      attempts = worker.new.attempts;
+      stopped = worker.new.stopped;
+    } }
+    ensures left { worker.new.attempts ≡ left_finished result job worker.old.attempts }
+    ensures may { OnFalse worker.new.stopped
+        (MayWork (O.merged (O.settings operator.now)) store.new.world worker.new) }
+{
+    let mut under = store.under(operator);
+    under.set_actor(number, Party::Worker(worker.id()));
+    worker.finish(rt, &mut under, operator, options, &OpenGate, moment, job)
 }
 
 /// The worker sends a heartbeat.

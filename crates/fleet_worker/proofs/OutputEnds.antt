@@ -1,10 +1,11 @@
 -- How an output ends.
 use Rattle.std.proofs.Common.{◌≡◌, refl, sym, ◌∙◌, ap, subst, ℕ, ◌-◌, cond, nat_lt, not, Bool, true, false, inl, inr, map, List, [], ◌∷◌, ◌++◌, Option, Some, None, option_map, Result, Ok, Err}
-use Rattle.std.specs.Prelude.{◌==◌}
+use Rattle.std.specs.Prelude.{◌==◌, IfSome}
 use Rattle.std.specs.Bool.{OnFalse}
 use Rattle.std.specs.List.{AllByRecursion}
 use Rattle.row_model.specs.Fold.{IsLawful}
 use Rattle.fleet_model.specs.Exchanges.{Fault}
+use Rattle.fleet_model.specs.Handles.{describe}
 use Rattle.fleet_model.specs.Jobs.{contains}
 use Rattle.fleet_model.specs.Store.{Store}
 use Rattle.step_model.specs.Past.{World}
@@ -17,12 +18,13 @@ use Rattle.step_model.specs.Views.{StoreView}
 use Rattle.step_laws.proofs.Elements.{all_append, all_at}
 use Rattle.fleet_rows.specs.declared.errors.SlateDBError.{SlateDBError}
 use Rattle.fleet_rows.specs.declared.errors.SlateDBError.TheVariants as error
+use Rattle.fleet_tree.specs.Handles.{handle_of}
 use Rattle.fleet_tree.specs.declared.handle.SsTableHandle.{SsTableHandle}
 use Rattle.fleet_plan.specs.Parts.{Part}
 use Rattle.fleet_store.specs.Handles.{IsDescribed}
 use Rattle.fleet_step.specs.Steps.{RunsTo, stops}
 use Rattle.fleet_worker.specs.Claims.{put_part, without_parts}
-use Rattle.fleet_worker.specs.Outputs.{IsPartAt, IsTold, OutputRan, OutputsRan, RangeRan, after_noting, asked, is_refusal, left_by, noted_parts, noting_part, output_ends, output_of, table_with, written_rows}
+use Rattle.fleet_worker.specs.Outputs.{IsPartAt, IsReason, IsTold, OutputRan, OutputsRan, RangeRan, after_noting, asked, is_refusal, left_by, noted_parts, noting_part, output_ends, output_of, table_with, written_rows}
 use Rattle.fleet_worker.specs.Workers.{AreNoted, AttemptParts, IsNoted, IsReady, WorkerParts, attempt_of, live_of, run_at}
 use Rattle.fleet_worker.proofs.Later.{some_noted}
 use Rattle.fleet_worker.proofs.OutputRuns.{err_alike}
@@ -46,6 +48,22 @@ runs_lack course old new answer runs = record { same = runs.same; faults = runs.
 -- ---- answers of another type
 
 module _ (moment : ℕ) (w : WorkerParts) (place rows : ℕ) (old new : StoreView) (a : AttemptParts) (part : Part) {A A' : Type 0} (t : A → Option SsTableHandle) (t' : A' → Option SsTableHandle) where
+  -- Whatever the step answers, an error has the same reason.
+  error_reason : (e : SlateDBError) (refusal : Option (List ℕ)) → IsReason moment w place rows old new {A = A} a part (Err e) refusal → IsReason moment w place rows old new {A = A'} a part (Err e) refusal
+  error_reason e None because = because
+  error_reason e (Some message) because = because
+
+  -- So has an answer.
+  answer_reason : (answer : A) (answer' : A') (refusal : Option (List ℕ)) → IsReason moment w place rows old new a part (Ok answer) refusal → IsReason moment w place rows old new a part (Ok answer') refusal
+  answer_reason answer answer' None because = because
+  answer_reason answer answer' (Some message) because = because
+
+  -- So has an error after it.
+  lacks_reason : (answer : A) (refusal : Option (List ℕ)) → IsReason moment w place rows old new a part (Ok answer) refusal → IsReason moment w place rows old new {A = A'} a part (Err error.Memory) refusal
+  lacks_reason answer None (inl enough) = inl enough
+  lacks_reason answer None (inr stops) = absurd stops
+  lacks_reason answer (Some message) because = because
+
   -- An error says the same.
   pub same_error : (next next' : List AttemptParts) (e : SlateDBError) → RangeRan moment w place rows old new t next (Err e) a part → RangeRan moment w place rows old new t' next' (Err e) a part
   same_error next next' e ran =
@@ -54,8 +72,8 @@ module _ (moment : ℕ) (w : WorkerParts) (place rows : ℕ) (old new : StoreVie
       let ends' = λ (answer : A'). output_ends (written_rows old ask) next' (t' answer) in
       record {
         refusal = ran.refusal;
-        because = ran.because;
-        whole = tt;
+        because = error_reason e ran.refusal ran.because;
+        described = tt;
         ran = record { to_end = err_alike (RunsTo (output_of old ask) old new) ends ends' e ran.ran.to_end };
       }
 
@@ -65,8 +83,8 @@ module _ (moment : ℕ) (w : WorkerParts) (place rows : ℕ) (old new : StoreVie
       let ask = asked moment w a place part rows ran.refusal in
       record {
         refusal = ran.refusal;
-        because = ran.because;
-        whole = ran.whole;
+        because = answer_reason answer answer' ran.refusal ran.because;
+        described = subst (λ (table : Option SsTableHandle). IfSome table (λ handle. handle_of handle ≡ describe handle.id (written_rows old ask))) same ran.described;
         ran = record { to_end = subst (λ table. RunsTo (output_of old ask) old new (Gives (output_ends (written_rows old ask) next table))) same ran.ran.to_end };
       }
 
@@ -76,8 +94,8 @@ module _ (moment : ℕ) (w : WorkerParts) (place rows : ℕ) (old new : StoreVie
       let ask = asked moment w a place part rows ran.refusal in
       record {
         refusal = ran.refusal;
-        because = ran.because;
-        whole = tt;
+        because = lacks_reason answer ran.refusal ran.because;
+        described = tt;
         ran = record { to_end = runs_lack (output_of old ask) old new _ ran.ran.to_end };
       }
 

@@ -1,8 +1,10 @@
 -- How an output runs.
 use Rattle.std.proofs.Common.{◌≡◌, ◌≢◌, refl, sym, ◌∙◌, ap, subst, ℕ, zero, suc, ◌<◌, cond, eq-eqb, true, false, inl, inr, length, take, List, [], ◌∷◌, Option, Some, None, option_map, Result, Ok, Err}
+use Rattle.std.proofs.lemmas.List.{append-nil}
 use Rattle.row_model.specs.Fold.{IsLawful, Operator}
 use Rattle.row_model.specs.JobRows.{JobRows}
 use Rattle.row_model.specs.Rows.{Row}
+use Rattle.fleet_model.specs.Handles.{describe}
 use Rattle.fleet_model.specs.Nodes.{Tables}
 use Rattle.step_model.specs.Courses.Course.{Course, Ends, puts_table}
 use Rattle.step_model.specs.Courses.CourseRuns.{End}
@@ -139,12 +141,18 @@ module _ (moment : ℕ) (view : StoreView) (w : WorkerParts) (a : AttemptParts) 
   none_left : (new : StoreView) → GivesNext merge (settings_in a.ctx) a.tables part rows view new None → Ran new (Ok None)
   none_left new gives = record {
     refusal = None;
-    because = tt;
-    whole = λ few. subst (λ (l : JobRows). l.whole ≡ true) same gives.next.1;
+    because = inl (λ few. subst (λ (l : JobRows). l.whole ≡ true) same gives.next.1);
+    described = tt;
     ran =
         then_ran _ (got_here view w a place part merges ready run at moment rows new gives.got None)
         (reports _ _ new None (ap (writes (ask None)) (sym rows_are ∙ ap (take rows) gives.next.0 ∙ take_none rows)));
   }
+
+  -- If fewer rows are read than asked for, no fold refuses.
+  enough : (mid : StoreView) (table : List RowEntry) → GivesNext merge (settings_in a.ctx) a.tables part rows view mid (Some table) → length (rows_written merge stored (ask None)) < rows → (unwritten merge stored (attempt_of a) (noted_range part)).whole ≡ true
+  enough mid table read few =
+      subst (λ (l : JobRows). l.whole ≡ true) same
+      (read.next.all (subst (λ n. n < rows) (ap length (sym (read.next.rows ∙ rows_are)) ∙ rows_long table) few))
 
   -- The next rows were written.
   one_written : (new : StoreView) (handle : SsTableHandle) → WroteRows merge (settings_in a.ctx) a.tables part rows moment view new (Ok handle) → Ran new (Ok (Some handle))
@@ -155,10 +163,8 @@ module _ (moment : ℕ) (view : StoreView) (w : WorkerParts) (a : AttemptParts) 
       let next = after_put (rows_of table) in
       record {
         refusal = None;
-        because = tt;
-        whole = λ few.
-            subst (λ (l : JobRows). l.whole ≡ true) same
-            (wrote.read.next.all (subst (λ n. n < rows) (ap length (sym are) ∙ rows_long table) few));
+        because = inl (enough wrote.mid table wrote.read);
+        described = wrote.puts.described ∙ ap (describe handle.id) are;
         ran =
             then_ran _
             (then_leads
@@ -177,33 +183,33 @@ module _ (moment : ℕ) (view : StoreView) (w : WorkerParts) (a : AttemptParts) 
       let some = filled table wrote.read.next.filled in
       record {
         refusal = None;
-        because = tt;
-        whole = tt;
+        because = inl (enough wrote.mid table wrote.read);
+        described = tt;
         ran =
             (then_tried _
             (subst (λ (c : Course (StepEnd Written)). Leads (output merge stored (ask None)) view c wrote.mid) (ap (writes (ask None)) (sym are) ∙ writes_some (ask None) (rows_of table) some) (got_here view w a place part merges ready run at moment rows wrote.mid wrote.read.got None))
             (puts_fail {again = λ seen. Ends (Reports (record { table = None; attempts = [] }))} moment (rows_of table) wrote.mid new e wrote.puts (after_put (rows_of table)))).ended (none_refused (Option SsTableHandle) e (puts_stop moment (rows_of table) wrote.mid new e wrote.puts));
       }
 
-  -- A get failed.
+  -- A get failed, or memory ran out at the gets, whatever the operator would have refused.
+  pub gets_end : (new : StoreView) (e : SlateDBError) → GotUntil (ids_in (range_of part.range) a.tables) view new e → (refusal : Option (List ℕ)) → StepRan {A = Option SsTableHandle} (ends w.attempts) (output merge stored (ask refusal)) view new (Err e)
+  gets_end new e until refusal =
+      subst (λ (c : Course (StepEnd Written)). StepRan {A = Option SsTableHandle} (ends w.attempts) c view new (Err e)) (sym (course_is view w a place part merges ready run at moment rows refusal))
+      ((gets_fail {A = Option SsTableHandle} (ends w.attempts) (λ seen. Ends (Reports (record { table = None; attempts = [] }))) _ e new (ids_in (range_of part.range) a.tables) view until).ended (none_refused (Option SsTableHandle) e (gets_stop (ids_in (range_of part.range) a.tables) view new e until)))
+
   get_failed : (new : StoreView) (e : SlateDBError) → GotUntil (ids_in (range_of part.range) a.tables) view new e → Ran new (Err e)
-  get_failed new e until = record {
-    refusal = None;
-    because = tt;
-    whole = tt;
-    ran =
-        subst (λ (c : Course (StepEnd Written)). StepRan {A = Option SsTableHandle} (ends w.attempts) c view new (Err e)) (sym (course_is view w a place part merges ready run at moment rows None))
-        ((gets_fail {A = Option SsTableHandle} (ends w.attempts) (λ seen. Ends (Reports (record { table = None; attempts = [] }))) _ e new (ids_in (range_of part.range) a.tables) view until).ended (none_refused (Option SsTableHandle) e (gets_stop (ids_in (range_of part.range) a.tables) view new e until)));
-  }
+  get_failed new e until = record { refusal = None; because = inr until; described = tt; ran = gets_end new e until None }
 
   -- Memory ran out after the gets.
   lacks_memory : (new : StoreView) → Refuses merge (settings_in a.ctx) a.tables part rows view new error.Memory → Ran new (Err error.Memory)
-  lacks_memory new refuses = record {
-    refusal = None;
-    because = tt;
-    whole = tt;
-    ran = then_ran _ (got_here view w a place part merges ready run at moment rows new refuses.got None) (wants _ _ new);
-  }
+  lacks_memory new refuses = get_failed new error.Memory (record {
+    first = ids_in (range_of part.range) a.tables;
+    later = [];
+    parts = sym (append-nil (ids_in (range_of part.range) a.tables));
+    mid = new;
+    got = refuses.got;
+    stopped = inr (refl, refl);
+  })
 
   -- The operator refused, and then the attempt was given back.
   module _ (mid new : StoreView) (message : List ℕ) (refuses : Refuses merge (settings_in a.ctx) a.tables part rows view mid (error.MergeOperator (merge_error.Callback message))) (attempts : List AttemptParts) where
@@ -221,7 +227,7 @@ module _ (moment : ℕ) (view : StoreView) (w : WorkerParts) (a : AttemptParts) 
     given ran = record {
       refusal = Some message;
       because = because_of;
-      whole = tt;
+      described = tt;
       ran = then_ran _ here (record { to_end = (gave (Ok tt) ran).to_end });
     }
 
@@ -230,7 +236,7 @@ module _ (moment : ℕ) (view : StoreView) (w : WorkerParts) (a : AttemptParts) 
     not_given e ran = record {
       refusal = Some message;
       because = because_of;
-      whole = tt;
+      described = tt;
       ran = then_ran _ here (record { to_end = err_alike (RunsTo (gives_back {A = Written} (live_of w) (attempt_of a) message) mid new) (λ (done : Unit {0}). OperatorRefuses message) (λ (answer : Option SsTableHandle). output_ends (rows_written merge stored (ask (Some message))) w.attempts answer) e (gave (Err e) ran).to_end });
     }
 

@@ -59,6 +59,10 @@ ranges_same place table (p ∷ parts) = by (place == 1) (ranges_same (place - 1)
     by true rest = ap (λ (ids : List ℕ). (range_of p.range, ids) ∷ map noted_range parts) (map-append (λ (t : SsTableHandle). t.id) p.output_ssts (table ∷ []))
     by false rest = ap (λ rs. noted_range p ∷ rs) rest
 
+-- The range at a place of the attempt is the one at this place in the model.
+pub range_there : (a : AttemptParts) (place : ℕ) (part : Part) → IsPartAt a place part → slice_get (map noted_range a.ctx.ranges) (place - 1) ≡ Some (noted_range part)
+range_there a place part at = range_at a.ctx.ranges (place - 1) part at.there
+
 noting_same : (place : ℕ) (table : SsTableHandle) (a : AttemptParts) → attempt_of (noting_part place table a) ≡ noting place table.id (attempt_of a)
 noting_same place table a = ap (λ (rs : List (Range × List ℕ)). record (attempt_of a) { context = record (context_of a.ctx) { ranges = rs } }) (ranges_same place table a.ctx.ranges)
 
@@ -94,8 +98,8 @@ module _ (view : StoreView) (w : WorkerParts) (a : AttemptParts) (place : ℕ) (
   pub can_resume : CanResume merge view.world.store (settings_in a.ctx) a.tables part
   can_resume = resumes view w a ready run part (found_part a.ctx.ranges (place - 1) part at.there)
 
-  range_there : IsRangeAt (attempt_of a) place (noted_range part)
-  range_there = record { counted = at.counted; there = range_at a.ctx.ranges (place - 1) part at.there }
+  is_range : IsRangeAt (attempt_of a) place (noted_range part)
+  is_range = record { counted = at.counted; there = range_there a place part at }
 
   module _ (moment rows : ℕ) where
     abbrev ask : Option (List ℕ) → OutputAsk
@@ -114,7 +118,7 @@ module _ (view : StoreView) (w : WorkerParts) (a : AttemptParts) (place : ℕ) (
     pub output_safe : (refusal : Option (List ℕ)) → IsSafe view (live_of w) (λ (report : Written). report.attempts) (course refusal)
     output_safe refusal = record {
       lawful = outputs_are_lawful view.who view.world (ask refusal) (calls_keep merge merges) merges ready.may.party kept holds (does_run w a run);
-      fits = outputs_keep_fit view.who view.world (ask refusal) (calls_keep merge merges) merges ready.may.party kept holds (does_run w a run) range_there;
+      fits = outputs_keep_fit view.who view.world (ask refusal) (calls_keep merge merges) merges ready.may.party kept holds (does_run w a run) is_range;
     }
 
     ids_same : ids_in range a.tables ≡ filter (meets stored range) a.sources

@@ -1,8 +1,7 @@
 -- How a worker writes one table of a job.
-use Rattle.std.specs.Prelude.{◌≡◌, ◌==◌, ◌-◌, ◌<◌, ◌≤◌, ◌++◌, ℕ, Bool, true, false, if◌then◌else◌, List, [], ◌∷◌, length, map, slice_get, IfOk, IfSome, Option, Some, None, option_map, Result, Ok, Err}
-use Rattle.row_model.specs.Fold.{Operator}
+use Rattle.std.specs.Prelude.{◌≡◌, ◌==◌, ◌-◌, ◌<◌, ◌≤◌, ◌++◌, ◌⊎◌, ℕ, Bool, true, false, if◌then◌else◌, List, [], ◌∷◌, length, map, slice_get, IfOk, IfSome, Option, Some, None, option_map, Result, Ok, Err}
 use Rattle.row_model.specs.Rows.{Row}
-use Rattle.fleet_model.specs.Nodes.{Tables}
+use Rattle.fleet_model.specs.Handles.{describe}
 use Rattle.step_model.specs.Courses.Course.{Course}
 use Rattle.step_model.specs.Courses.StepEnds.{StepEnd, Reports}
 use Rattle.step_model.specs.Steps.OutputSteps.{OutputAsk, Written, output, rows_written, unwritten}
@@ -10,10 +9,13 @@ use Rattle.step_model.specs.Views.{StoreView}
 use Rattle.fleet_rows.specs.declared.errors.MergeOperatorError.TheVariants.{Callback}
 use Rattle.fleet_rows.specs.declared.errors.SlateDBError.{SlateDBError}
 use Rattle.fleet_rows.specs.declared.errors.SlateDBError.TheVariants.{MergeOperator}
+use Rattle.fleet_tree.specs.Handles.{handle_of}
 use Rattle.fleet_tree.specs.declared.handle.SsTableHandle.{SsTableHandle}
+use Rattle.fleet_range.specs.Keys.{range_of}
 use Rattle.fleet_plan.specs.Parts.{Part}
 use Rattle.fleet_jobs.specs.Contexts.{noted_range, settings_in}
 use Rattle.fleet_store.specs.Handles.{IsDescribed}
+use Rattle.fleet_output.specs.Gets.{GotUntil, ids_in}
 use Rattle.fleet_output.specs.Next.{RefusesNext}
 use Rattle.fleet_step.specs.Steps.{StepRan}
 use Rattle.fleet_worker.specs.Claims.{put_part, without_parts}
@@ -46,11 +48,6 @@ pub record IsPartAt (a : AttemptParts) (place : ℕ) (part : Part) : Type 0 wher
   pub counted : 0 < place
   pub there : slice_get a.ctx.ranges (place - 1) ≡ Some part
 
--- The operator refused with this message, if there is one: a fold refuses in what is left of the range.
-abbrev pub IsRefusal : Operator → Tables → AttemptParts → Part → (rows : ℕ) → Option (List ℕ) → Type 0
-IsRefusal merge stored a part rows refusal = IfSome refusal
-    (λ message. RefusesNext merge stored (settings_in a.ctx) a.tables part rows (MergeOperator (Callback message)))
-
 -- The course of an output of this range, given what the operator refused.
 abbrev pub output_of : StoreView → OutputAsk → Course (StepEnd Written)
 output_of view ask = output view.who.merge view.world.store.tables ask
@@ -58,6 +55,11 @@ output_of view ask = output view.who.merge view.world.store.tables ask
 -- The rows that it writes.
 abbrev pub written_rows : StoreView → OutputAsk → List Row
 written_rows view ask = rows_written view.who.merge view.world.store.tables ask
+
+-- The output with this result came no further than the gets of the source tables that meet the range.
+abbrev pub EndsInGets : {A : Type 0} → AttemptParts → Part → (old new : StoreView) → Result A SlateDBError → Type 0
+EndsInGets a part old new (Ok answer) = ⊥
+EndsInGets a part old new (Err e) = GotUntil (ids_in (range_of part.range) a.tables) old new e
 
 -- ---- the table is noted
 
@@ -103,14 +105,25 @@ left_by result job attempts = if is_refusal result then without_parts (job ∷ [
 -- An output of a range of the attempt ran that had this answer for its table. After it the worker runs the `next`
 -- attempts.
 module _ (moment : ℕ) (w : WorkerParts) (place rows : ℕ) (old new : StoreView) where
-  -- What was refused is a refusal of the operator. If fewer rows were written than asked for, no fold refuses in what
-  -- is left.
+  -- If fewer rows are written than asked for, no fold refuses in what is left of the range.
+  abbrev pub WritesEnough : AttemptParts → Part → Type 0
+  WritesEnough a part = length (written_rows old (asked moment w a place part rows None)) < rows
+      → (unwritten old.who.merge old.world.store.tables (attempt_of a) (noted_range part)).whole ≡ true
+
+  -- A fold refuses in what is left of the range, and this is the operator's message. If there is no message, no fold
+  -- refuses in the rows that are written, or the output came no further than the gets.
+  abbrev pub IsReason : {A : Type 0} → AttemptParts → Part → Result A SlateDBError → Option (List ℕ) → Type 0
+  IsReason a part result None = WritesEnough a part ⊎ EndsInGets a part old new result
+  IsReason a part result (Some message) = RefusesNext old.who.merge old.world.store.tables (settings_in a.ctx)
+      a.tables part rows (MergeOperator (Callback message))
+
+  -- What was refused is a refusal of the operator. The table of an answer is described by the rows that were written.
   pub record RangeRan {A : Type 0} (table_in : A → Option SsTableHandle) (next : List AttemptParts)
       (result : Result A SlateDBError) (a : AttemptParts) (part : Part) : Type 0 where
     pub refusal : Option (List ℕ)
-    pub because : IsRefusal old.who.merge old.world.store.tables a part rows refusal
-    pub whole : IfOk result (λ answer. length (written_rows old (asked moment w a place part rows refusal)) < rows
-        → (unwritten old.who.merge old.world.store.tables (attempt_of a) (noted_range part)).whole ≡ true)
+    pub because : IsReason a part result refusal
+    pub described : IfOk result (λ answer. IfSome (table_in answer)
+        (λ handle. handle_of handle ≡ describe handle.id (written_rows old (asked moment w a place part rows refusal))))
     pub ran : StepRan
         (λ answer. output_ends (written_rows old (asked moment w a place part rows refusal)) next (table_in answer))
         (output_of old (asked moment w a place part rows refusal)) old new result

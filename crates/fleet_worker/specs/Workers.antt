@@ -2,6 +2,7 @@
 use Rattle.std.specs.Prelude.{◌≡◌, ◌==◌, ℕ, Bool, false, List, [], length, map, find, option_map, Option}
 use Rattle.std.specs.List.{AllByRecursion}
 use Rattle.fleet_model.specs.History.{Worker}
+use Rattle.fleet_model.specs.Jobs.{number_of}
 use Rattle.fleet_model.specs.Work.Parties.{Attempt, LiveWorker}
 use Rattle.fleet_model.specs.Store.{Store}
 use Rattle.step_model.specs.Kept.Keeps.{Keeps}
@@ -44,6 +45,10 @@ started number release = record { number = number; release = release; attempts =
 -- The attempt at the job that these attempts have, if there is one.
 abbrev pub run_at : List AttemptParts → ℕ → Option AttemptParts
 run_at attempts job = find (λ a. a.job == job) attempts
+
+-- The attempt at the job whose id has this number, if there is one.
+abbrev pub run_of_number : List AttemptParts → ℕ → Option AttemptParts
+run_of_number attempts number = find (λ a. number == number_of a.job) attempts
 
 -- How many ranges the attempt at the job has, if there is one.
 abbrev pub ranges_at : List AttemptParts → ℕ → Option ℕ

@@ -9,7 +9,7 @@ ghost use Rattle.fleet_jobs.specs.Workers.{lease_of};
 ghost use Rattle.fleet_worker.specs.Claims.{parts_of};
 ghost use Rattle.fleet_worker.specs.Messages.{if_numbered};
 ghost use Rattle.fleet_worker.specs.Releases.{live_named};
-ghost use Rattle.fleet_worker.specs.Workers.{attempt_of, run_at};
+ghost use Rattle.fleet_worker.specs.Workers.{attempt_of, run_at, run_of_number};
 
 use fleet_book::Compactions;
 use fleet_claim::ClaimedAttempt;
@@ -190,6 +190,15 @@ pub(crate) fn run_at(attempts: &[RunAttempt], job: Ulid) -> Option<&RunAttempt>
     ensures { option_copied result ≡ run_at attempts.now job }
 {
     attempts.iter().find(|attempt| attempt.job() == job)
+}
+
+/// The attempt at the job whose id has this number, if there is one.
+pub(crate) fn run_of_number(attempts: &[RunAttempt], number: u64) -> Option<&RunAttempt>
+    ensures { option_copied result ≡ run_of_number attempts.now number }
+{
+    attempts
+        .iter()
+        .find(|attempt| number as u128 == attempt.job().number())
 }
 
 /// The attempt, if there is one and it has this number.

@@ -22,10 +22,12 @@ ghost use Rattle.fleet_worker.specs.Held.{all_held};
 ghost use Rattle.fleet_worker.specs.Messages.{IsReturnOf, StaysReady, attempt_with, gone_ends, one_return, runs_then, went_on};
 ghost use Rattle.fleet_worker.specs.Releases.{IsReleaseOf, is_over, one_release};
 ghost use Rattle.fleet_step.specs.Steps.{StepRan, TryRan, stops};
-ghost use Rattle.fleet_worker.specs.Workers.{AreNoted, IsReady, IsReadyAnywhere, attempt_of, live_of, ranges_at, run_at, started};
+ghost use Rattle.fleet_worker.specs.Workers.{AreNoted, IsReady, IsReadyAnywhere, attempt_of, live_of, ranges_at, run_at, run_of_number, started};
 
 use crate::RunAttempt;
-use crate::attempt::{if_numbered, is_elsewhere, is_live, live_attempts, one_named, run_at};
+use crate::attempt::{
+    if_numbered, is_elsewhere, is_live, live_attempts, one_named, run_at, run_of_number,
+};
 use crate::beat::{
     BeatPut, BeatReport, beaten_records, is_live_in, live_jobs, lost_jobs, no_report,
 };
@@ -112,6 +114,14 @@ impl Worker {
         ensures { option_copied result ≡ run_at self.now.attempts job }
     {
         run_at(self.attempts.as_slice(), job)
+    }
+
+    /// The worker's attempt at the job whose id has this number, or None if the worker runs no such
+    /// job.
+    pub fn attempt_of_number(&self, number: u64) -> Option<&RunAttempt>
+        ensures { option_copied result ≡ run_of_number self.now.attempts number }
+    {
+        run_of_number(self.attempts.as_slice(), number)
     }
 
     /// How many ranges the worker's attempt at the job has, or None if the worker does not run the

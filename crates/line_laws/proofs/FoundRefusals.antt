@@ -51,14 +51,14 @@ one_key (r ∷ rows) = put (chunk_by same_key rows) (one_key rows)
 -- ---- contents
 
 -- The contents of the rows of a key.
-abbrev contents : List ℕ → List Row → List Content
+abbrev pub contents : List ℕ → List Row → List Content
 contents key rows = map (λ r. r.content) (rows_of_key key rows)
 
 one_more : (x : Content) (xs : List Content) (c : Content) → Contains xs c → Contains (x ∷ xs) c
 one_more x xs c (k, small, at) = (suc k, suc-le-suc small, at)
 
 -- Each row is among those of its key.
-are_there : (rows : List Row) → AllByRecursion (λ (r : Row). Contains (contents r.key rows) r.content) rows
+pub are_there : (rows : List Row) → AllByRecursion (λ (r : Row). Contains (contents r.key rows) r.content) rows
 are_there [] = tt
 are_there (q ∷ rows) = (itself (bytes_eq q.key q.key) ((bytes_eq-Decides q.key q.key).1 refl), all_weaken (λ (r : Row). Contains (contents r.key rows) r.content) (λ (r : Row). Contains (contents r.key (q ∷ rows)) r.content) further rows (are_there rows))
   where
@@ -74,12 +74,12 @@ are_there (q ∷ rows) = (itself (bytes_eq q.key q.key) ((bytes_eq-Decides q.key
         by false = there
 
 -- The row has this key, and the rows of the key have its content.
-record IsOf (all : List Row) (key : List ℕ) (r : Row) : Type 0 where
-  here : r.key ≡ key
-  there : Contains (contents key all) r.content
+pub record IsOf (all : List Row) (key : List ℕ) (r : Row) : Type 0 where
+  pub here : r.key ≡ key
+  pub there : Contains (contents key all) r.content
 
 -- What the operands of a group have.
-operands_there : (all : List Row) (key : List ℕ) (rows : List Row) → AllByRecursion (IsOf all key) rows → AllByRecursion (λ (x : List ℕ). Contains (contents key all) (Merge x)) (group_operands rows)
+pub operands_there : (all : List Row) (key : List ℕ) (rows : List Row) → AllByRecursion (IsOf all key) rows → AllByRecursion (λ (x : List ℕ). Contains (contents key all) (Merge x)) (group_operands rows)
 operands_there all key [] of = tt
 operands_there all key (r ∷ rows) of = by r.content of.0.there (operands_there all key rows of.1)
   where
@@ -93,11 +93,11 @@ operands_there all key (r ∷ rows) of = by r.content of.0.there (operands_there
     by (Merge bytes) there rest = push bytes (group_operands rows) there rest
     by Tombstone there rest = tt
 
-abbrev BaseIsOf : List Row → List ℕ → Option (List ℕ) → Type 0
+abbrev pub BaseIsOf : List Row → List ℕ → Option (List ℕ) → Type 0
 BaseIsOf all key existing = (existing ≡ None) ⊎ ((bytes : List ℕ) × (existing ≡ Some bytes) × Contains (contents key all) (Value bytes))
 
 -- What the base of a group has, if it has bytes.
-base_there : (all : List Row) (key : List ℕ) (rows : List Row) → AllByRecursion (IsOf all key) rows → BaseIsOf all key (base_bytes (group_base rows))
+pub base_there : (all : List Row) (key : List ℕ) (rows : List Row) → AllByRecursion (IsOf all key) rows → BaseIsOf all key (base_bytes (group_base rows))
 base_there all key [] of = inl refl
 base_there all key (r ∷ rows) of = by r.content of.0.there (base_there all key rows of.1)
   where
@@ -107,7 +107,7 @@ base_there all key (r ∷ rows) of = by r.content of.0.there (base_there all key
     by Tombstone there rest = inl refl
 
 -- By index, if each has it.
-by_index : {A : Type 0} (P : A → Type 0) (xs : List A) → AllByRecursion P xs → All P xs
+pub by_index : {A : Type 0} (P : A → Type 0) (xs : List A) → AllByRecursion P xs → All P xs
 by_index P [] all k d small = absurd (omega (arith, small))
 by_index P (x ∷ xs) all zero d small = all.0
 by_index P (x ∷ xs) all (suc k) d small = by_index P xs all.1 k d (le_of_suc-le-suc small)

@@ -29,7 +29,7 @@ record Some2 (P : List ℕ → State → Type 0) : Type 0 where
 -- ---- what the operator may do
 
 -- An output may succeed or be refused.
-output_may : (inputs : Inputs) (s : State) (rows : ℕ) (o : Option (LiveWorker × Attempt × (Range × List ℕ))) → (message : Option (List ℕ)) × OutputMay inputs s rows o message
+pub output_may : (inputs : Inputs) (s : State) (rows : ℕ) (o : Option (LiveWorker × Attempt × (Range × List ℕ))) → (message : Option (List ℕ)) × OutputMay inputs s rows o message
 output_may inputs s rows None = (None, refl)
 output_may inputs s rows (Some found) = by (left_in inputs s found.1 found.2).whole refl
   where
@@ -64,7 +64,7 @@ output_may inputs s rows (Some found) = by (left_in inputs s found.1 found.2).wh
     by false e = enough (leb_tells rows (length left)) e
 
 -- So may a finish.
-finish_may : (inputs : Inputs) (s : State) (o : Option (LiveWorker × Attempt)) → (message : Option (List ℕ)) × FinishMay inputs s o message
+pub finish_may : (inputs : Inputs) (s : State) (o : Option (LiveWorker × Attempt)) → (message : Option (List ℕ)) × FinishMay inputs s o message
 finish_may inputs s None = (None, refl)
 finish_may inputs s (Some found) = by (is_whole inputs s found.1) refl
   where

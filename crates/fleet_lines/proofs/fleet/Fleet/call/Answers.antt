@@ -2,11 +2,13 @@ use Rattle.std.proofs.Common.{rules, ◌∙◌, refl, ap, subst, List, Some, Non
 use Rattle.fleet_model.specs.Jobs.{JobSpec}
 use Rattle.script_model.specs.Lines.Submits.{submit_line}
 use Rattle.script_model.specs.Script as model
+use Rattle.script_model.specs.Script.{IsInBounds}
 use Rattle.fleet_text.specs.Lines.{line_of, nodes_of}
+use Rattle.fleet_text.specs.declared.line.Line.{Line}
 use Rattle.fleet_text.specs.declared.node.NodeName.{NodeName}
 use Rattle.fleet_lines.specs.Fleets.{state_of}
 use Rattle.fleet_lines.specs.Lines.{Runs}
-use Rattle.fleet_lines.proofs.ServeLines.{drain_serves, full_serves, served_as, submit_serves}
+use Rattle.fleet_lines.proofs.ServeLines.{claim_serves, drain_serves, full_serves, served_as, submit_serves}
 use Rattle.fleet_lines.proofs.fleet.Fleet.call.Goals as goal
 
 pub returns-in_ok-spec-in-Submit-clause-served : goal.returns-in_ok-spec-in-Submit-clause-served
@@ -35,3 +37,26 @@ returns-in-Full-clause-served g c =
     served_as _ c.args.number _ (model.SubmitFull c.in-Full.segment) old c.full.new.self c.full.new.self _ c.full.result (ap line_of c.in-Full.is) refl
     (λ answer ran. full_serves _ c.args.number old answer c.in-Full.segment c.full.new.self ran)
     c.full.ensures.ran
+
+pub returns-in-Claim-clause-served : goal.returns-in-Claim-clause-served
+returns-in-Claim-clause-served g c =
+    let old = c.args.self.now in
+    served_as _ c.args.number _ (model.ClaimJobs c.in-Claim.worker) old c.claim.new.self c.claim.new.self _ c.claim.result (ap line_of c.in-Claim.is) refl
+    (λ answer ran. claim_serves _ c.args.number old answer c.in-Claim.worker c.claim.new.self ran)
+    c.claim.ensures.ran
+
+pub output-requires-clause-counted : goal.output-requires-clause-counted
+output-requires-clause-counted g c κs within = (subst (λ (l : Line). IsInBounds (line_of l)) c.in-Output.is c.requires.bounds).3
+
+pub output-requires-clause-some : goal.output-requires-clause-some
+output-requires-clause-some g c κs within = (subst (λ (l : Line). IsInBounds (line_of l)) c.in-Output.is c.requires.bounds).5
+
+pub returns-in-Output-clause-served : goal.returns-in-Output-clause-served
+returns-in-Output-clause-served g c =
+    let i = c.in-Output in
+    served_as _ c.args.number _ (model.Output i.worker i.job i.range i.rows) c.args.self.now c.output.new.self c.output.new.self _ c.output.result (ap line_of c.in-Output.is) refl (λ answer serves. serves) (c.output.ensures.served _)
+
+pub returns-in-Finish-clause-served : goal.returns-in-Finish-clause-served
+returns-in-Finish-clause-served g c =
+    let i = c.in-Finish in
+    served_as _ c.args.number _ (model.FinishJob i.worker i.job) c.args.self.now c.finish.new.self c.finish.new.self _ c.finish.result (ap line_of c.in-Finish.is) refl (λ answer serves. serves) (c.finish.ensures.served _)
