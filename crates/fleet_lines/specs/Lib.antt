@@ -2,3 +2,4 @@ pub mod Fleets
 pub mod Steps
 pub mod Lines
 pub mod Looks
+pub mod Lists

@@ -175,6 +175,15 @@ impl Fleet {
         ensures memory { IsOkUnless result SlateDBError.Memory }
     {
         match line {
+            Line::StartCoordinator { number: party } => {
+                self.start_coordinator(operator, number, party)
+            }
+            Line::KillCoordinator { number: party } => {
+                self.end_coordinator(operator, number, party)
+            }
+            Line::StopCoordinator { number: party } => {
+                self.end_coordinator(operator, number, party)
+            }
             Line::Submit {
                 segment,
                 destination,
@@ -188,6 +197,12 @@ impl Fleet {
                 self.submit(operator, number, spec)
             }
             Line::Full { segment } => self.full(operator, scheduler, number, segment),
+            Line::Poll { coordinator } => {
+                self.poll(operator, scheduler, number, coordinator, false)
+            }
+            Line::Commit { coordinator } => {
+                self.poll(operator, scheduler, number, coordinator, true)
+            }
 
             // The fleet serves no other line.
             _ => unreachable!(),

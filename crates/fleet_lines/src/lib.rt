@@ -1,6 +1,7 @@
 //! A fleet, and each line of a script as one call on it.
 #![tactic(auto)]
 
+mod coordinators;
 mod fleet;
 mod flushes;
 mod looks;
