@@ -65,3 +65,7 @@ module _ {A : Type 0} (merge : Operator) (number n : ℕ) (old new : World) (par
   -- After the calls of a coordinator that is live and fits.
   pub coordinator_goes_on : (epoch : ℕ) → CoordinatorHolds new (record { number = n; epoch = epoch }) None → FleetKeeps merge new (with_coordinator (record { number = n; epoch = epoch }) parties)
   coordinator_goes_on epoch holds = coordinator_comes merge number old new parties (record { number = n; epoch = epoch }) fleet coordinator_left coordinator_quiet holds
+
+  -- After the calls of a coordinator that was live and is so still.
+  pub coordinator_stays : FleetKeeps merge new parties
+  coordinator_stays = all_stay merge number (Coordinator n) old new parties (λ w same. absurd (cc same)) fleet coordinator_left coordinator_quiet

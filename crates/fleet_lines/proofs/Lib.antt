@@ -1,8 +1,10 @@
 pub mod Histories
 pub mod Runs
+pub mod Seen
 pub mod Kept
 pub mod Lists
 pub mod Made
+pub mod Fails
 pub mod Lent
 pub mod Standing
 pub mod SubmitLines
@@ -22,6 +24,8 @@ pub mod MadeFinishes
 pub mod FinishLines
 pub mod StopLines
 pub mod StartLines
+pub mod Takes
+pub mod PollLines
 pub mod ServeLines
 pub mod LookLines
 pub mod Fresh

@@ -1,7 +1,6 @@
 -- Lists of parties by their numbers.
-use Rattle.std.proofs.Common.{◌≡◌, refl, ap, List, [], ◌∷◌, cond, Bool, true, false, Some}
-use Rattle.std.specs.Prelude.{filter, find, is_some, map, option_map, ◌||◌}
-use Rattle.std.specs.List.{list_any}
+use Rattle.std.proofs.Common.{◌≡◌, refl, ap, List, [], ◌∷◌, cond, Bool, true, false, Option, Some, None}
+use Rattle.std.specs.Prelude.{filter, find, is_some, map, option_map}
 
 -- What is found among the images is the image of what is found.
 pub find_map : {A B : Type 0} (f : A → B) (p : B → Bool) (xs : List A) → find p (map f xs) ≡ option_map f (find (λ x. p (f x)) xs)
@@ -20,11 +19,11 @@ filter_map {A} {B} f p (x ∷ xs) = by (p (f x)) (filter_map f p xs)
     by true rest = ap (λ (ys : List B). f x ∷ ys) rest
     by false rest = rest
 
--- An element passes the test if one is found.
-pub any_found : {A : Type 0} (p : A → Bool) (xs : List A) → list_any p xs ≡ is_some (find p xs)
-any_found p [] = refl
-any_found {A} p (x ∷ xs) = by (p x) (any_found p xs)
-  where
-    by : (b : Bool) → list_any p xs ≡ is_some (find p xs) → (b || list_any p xs) ≡ is_some (cond b (Some x) (find p xs))
-    by true rest = refl
-    by false rest = rest
+-- The image of a value is there if the value is.
+pub some_of : {A B : Type 0} (f : A → B) (o : Option A) → is_some o ≡ is_some (option_map f o)
+some_of f None = refl
+some_of f (Some x) = refl
+
+pub none_of : {A B : Type 0} (f : A → B) (o : Option A) → is_some o ≡ false → option_map f o ≡ None
+none_of f None e = refl
+none_of f (Some x) e = absurd (cc e)

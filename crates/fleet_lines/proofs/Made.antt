@@ -88,11 +88,11 @@ made_lent {A} {B} ends course merge mine number party lent old mid new last resu
     by (Some end) runs = rw (sym world, sym waits) runs.ran
 
 -- A store that keeps the invariant after a step over it, while it is lent, keeps it after that.
-pub keeps_back : {A B : Type 0} (ends : A → StepEnd B) (course : Course (StepEnd B)) (merge mine : Operator) (lent : ℕ) (mid new : StoreParts) (last : StoreView) (result : Result A SlateDBError) → mine ≡ merge → last.world ≡ new.world → StepRan ends course (view_of mine lent mid) last result
-    → Keeps last.who.merge last.world → Keeps merge new.world
+pub keeps_back : {A B : Type 0} (ends : A → StepEnd B) (course : Course (StepEnd B)) (merge mine : Operator) (lent : ℕ) (mid : StoreParts) (new : World) (last : StoreView) (result : Result A SlateDBError) → mine ≡ merge → last.world ≡ new → StepRan ends course (view_of mine lent mid) last result
+    → Keeps last.who.merge last.world → Keeps merge new
 keeps_back {A} {B} ends course merge mine lent mid new last result same world ran keeps = by (end_of ends result) ran.to_end
   where
-    by : (o : Option (End (StepEnd B))) → OfSome (RunsTo course (view_of mine lent mid) last) o → Keeps merge new.world
+    by : (o : Option (End (StepEnd B))) → OfSome (RunsTo course (view_of mine lent mid) last) o → Keeps merge new
     by None runs = absurd runs
     by (Some end) runs = subst (λ (w : World). Keeps merge w) world (subst (λ (o : Operator). Keeps o last.world) (ap (λ (w : Caller). w.merge) runs.same.who ∙ same) keeps)
 

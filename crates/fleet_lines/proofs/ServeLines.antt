@@ -1,16 +1,18 @@
 -- The run of a line's course serves the line.
-use Rattle.std.proofs.Common.{◌≡◌, refl, sym, ◌∙◌, ap, subst, ℕ, List, Option, Some, None, Result, Ok, Err, arith}
+use Rattle.std.proofs.Common.{◌≡◌, refl, sym, ◌∙◌, ap, subst, ℕ, List, true, false, Option, Some, None, Result, Ok, Err, arith}
 use Rattle.std.specs.Prelude.{ℤ, Bool, IfOk, drop, length, max}
 use Rattle.std.specs.Option.{unwrap_or}
 use Rattle.row_model.specs.Rows.{Row}
 use Rattle.fleet_model.specs.Nodes.{NodeName, node_named, tree_at}
 use Rattle.script_model.specs.Lines.Flushes.{flush_line}
 use Rattle.script_model.specs.Lines.Looks.{dump_reply}
+use Rattle.line_laws.specs.Lines.PollLines.{spell_poll}
+use Rattle.script_model.specs.Lines.PollLines.{polls}
 use Rattle.script_model.specs.Lines.Starts.{start_coordinator, start_worker, end_coordinator, kill_worker}
 use Rattle.script_model.specs.Lines.Submits.{submit_line, full_line}
 use Rattle.script_model.specs.Lines.WorkLines.{claim_line, heartbeat_line, stop_worker}
 use Rattle.script_model.specs.Replies.{absent_reply, jobs_reply, ok, tables_reply, trees_reply}
-use Rattle.script_model.specs.Script.{Line, Options, Clock, StartCoordinator, StartWorker, KillCoordinator, KillWorker, StopCoordinator, StopWorker, FlushRows, SubmitJob, SubmitDrain, SubmitFull, ClaimJobs, Heartbeat, SetFault, ShowTrees, ShowJobs, ShowTables, Dump, IsInBounds}
+use Rattle.script_model.specs.Script.{Line, Options, Clock, StartCoordinator, StartWorker, KillCoordinator, KillWorker, StopCoordinator, StopWorker, FlushRows, SubmitJob, SubmitDrain, SubmitFull, ClaimJobs, Heartbeat, SetFault, ShowTrees, ShowJobs, ShowTables, Dump, IsInBounds, Poll, CommitOnly}
 use Rattle.script_model.specs.States.{Inputs, State}
 use Rattle.script_model.specs.LineRuns.{LineCourse, if_some, only_replies}
 use Rattle.script_model.specs.LineCourses.{prepared_state, course_of}
@@ -120,6 +122,14 @@ module _ (inputs : Inputs) (number : ℕ) (old : FleetParts) (answer : List ℕ)
   pub start_coordinator_serves : (n : ℕ) (new : FleetParts) → Runs inputs.merge number (state_of old) (start_coordinator n (state_of old)) old new answer → Serves inputs number (StartCoordinator n) old new answer
   unfolding course_of
   start_coordinator_serves n new runs = serves inputs number (StartCoordinator n) old new answer _ refl refl runs
+
+  pub poll_serves : (n : ℕ) (new : FleetParts) → Runs inputs.merge number (state_of old) (polls false (spell_poll false) inputs n (state_of old)) old new answer → Serves inputs number (Poll n) old new answer
+  unfolding course_of
+  poll_serves n new runs = serves inputs number (Poll n) old new answer _ refl refl runs
+
+  pub commit_serves : (n : ℕ) (new : FleetParts) → Runs inputs.merge number (state_of old) (polls true (spell_poll true) inputs n (state_of old)) old new answer → Serves inputs number (CommitOnly n) old new answer
+  unfolding course_of
+  commit_serves n new runs = serves inputs number (CommitOnly n) old new answer _ refl refl runs
 
   pub start_worker_serves : (n : ℕ) (release : Option ℕ) (new : FleetParts) → Runs inputs.merge number (state_of old) (start_worker n release (state_of old)) old new answer → Serves inputs number (StartWorker n release) old new answer
   unfolding course_of

@@ -35,8 +35,9 @@ use Rattle.fleet_history.specs.declared.party.Party.TheVariants as party
 use Rattle.fleet_store.specs.Memory.{StoreParts}
 use Rattle.fleet_lines.specs.Fleets.{FleetParts, Stands, options_of, parties_of, state_of}
 use Rattle.fleet_lines.specs.Lines.{Runs}
-use Rattle.fleet_lines.specs.Steps.{Made, Noted, Says, end_reply, epoch_said, note_event, nothing}
-use Rattle.fleet_lines.proofs.Made.{ran_later, the_reply}
+use Rattle.fleet_lines.specs.Steps.{Made, Noted, end_reply, epoch_said, error_reply, note_event, nothing}
+use Rattle.fleet_lines.proofs.Fails.{failed_alike}
+use Rattle.fleet_lines.proofs.Made.{error_says, ran_later, the_reply}
 use Rattle.fleet_lines.proofs.NoteLines.{one_note, own_kills, own_note, then_on}
 use Rattle.fleet_lines.proofs.Runs.{state_at, line_gives, line_struck}
 use Rattle.fleet_lines.proofs.Kept.{coordinator_goes, coordinator_goes_on}
@@ -101,9 +102,11 @@ module _ (merge : Operator) (number n : ℕ) (old : FleetParts) (b : Bool) (mid 
   first end store ran = then_on who b (Coordinator n) start old.store.world mid.world store.world old.store.waits mid.waits store.waits end killed.ran ran
 
   -- The coordinator did not start.
-  pub start_fails : (store : StoreParts) (e : SlateDBError) (answer : List ℕ) → Made Reports start merge number (party.Coordinator n) mid store (Err e) → Says Reports epoch_said (Err e) answer
-      → Runs merge number (state_of old) (start_coordinator n (state_of old)) old (record old { store = store; coordinators = other_coordinators }) answer
-  start_fails store e answer made says = by (Err e) (λ epoch is. absurd (cc is)) made.ran says.says
+  pub start_fails : (store : StoreParts) (coordinators : List LiveCoordinator) (e : SlateDBError) (answer : List ℕ) → Made (λ (c : LiveCoordinator). Reports c.epoch) start merge number (party.Coordinator n) mid store (Err e) → coordinators ≡ other_coordinators → error_reply e ≡ Some answer
+      → Runs merge number (state_of old) (start_coordinator n (state_of old)) old (record old { store = store; coordinators = coordinators }) answer
+  start_fails store coordinators e answer made left says =
+      subst (λ (cs : List LiveCoordinator). Runs merge number (state_of old) (start_coordinator n (state_of old)) old (record old { store = store; coordinators = cs }) answer) (sym left)
+      (by (Err e) (λ epoch is. absurd (cc is)) (failed_alike (λ (c : LiveCoordinator). Reports c.epoch) Reports start merge number (party.Coordinator n) mid store e made).ran (error_says Reports epoch_said e answer says).says)
     where
       struck : Ran who start mid.world store.world mid.waits store.waits MeetsFault → end_reply epoch_said MeetsFault ≡ Some answer → Runs merge number (state_of old) (start_coordinator n (state_of old)) old (record old { store = store; coordinators = other_coordinators }) answer
       struck ran said =
@@ -145,11 +148,11 @@ module _ (merge : Operator) (number n : ℕ) (old : FleetParts) (b : Bool) (mid 
       by (Err (error.InvalidSequenceOrder current after)) failed runs said = absurd runs
       by (Err (error.CompactionFilter cause)) failed runs said = absurd runs
 
-  -- The coordinator started, and noted it.
-  pub start_runs : (last store : StoreParts) (epoch : ℕ) (answer : List ℕ) → Keeps merge last.world → Made Reports start merge number (party.Coordinator n) mid last (Ok epoch) → CoordinatorHolds last.world (record { number = n; epoch = epoch }) None
+  -- The coordinator started with this epoch, and noted it.
+  epoch_runs : (last store : StoreParts) (epoch : ℕ) (answer : List ℕ) → Keeps merge last.world → Made Reports start merge number (party.Coordinator n) mid last (Ok epoch) → CoordinatorHolds last.world (record { number = n; epoch = epoch }) None
       → Noted merge number (party.Coordinator n) (note_event true (party.Coordinator n) ∷ []) last store → answer ≡ epoch_said epoch
       → Runs merge number (state_of old) (start_coordinator n (state_of old)) old (record old { store = store; coordinators = record { number = n; epoch = epoch } ∷ other_coordinators }) answer
-  start_runs last store epoch answer kept made holds noted says =
+  epoch_runs last store epoch answer kept made holds noted says =
       let ran = then_ran who step (λ end. calls_each (start_notes n end) (Ends (ends end))) old.store.world last.world store.world (Reports epoch) old.store.waits last.waits store.waits (Gives (ends (Reports epoch)))
       (first (Gives (Reports epoch)) last made.ran) (one_note who (Start (Coordinator n)) (ends (Reports epoch)) last.world store.world last.waits store.waits noted.ran) in
       runs store (Gives (ends (Reports epoch))) answer (record { number = n; epoch = epoch } ∷ other_coordinators) ran
@@ -157,3 +160,13 @@ module _ (merge : Operator) (number n : ℕ) (old : FleetParts) (b : Bool) (mid 
       ∙ ap (λ (a : List ℕ). (a, state_at (options_of old.options) old.moment store.world store.waits (with_epoch epoch))) (sym says))
       (coordinator_goes_on merge number n old.store.world store.world (parties_of old) course.course (Gives (ends (Reports epoch))) lawful stands.keeps line_lawful (ran_runs who course.course old.store.world store.world old.store.waits store.waits (Gives (ends (Reports epoch))) ran) epoch
       (fits_on merge number n epoch last store lawful kept noted holds))
+
+  -- The coordinator started, and noted it.
+  pub start_runs : (last store : StoreParts) (c : LiveCoordinator) (left coordinators : List LiveCoordinator) (answer : List ℕ) → c.number ≡ n → Keeps merge last.world → Made (λ (c : LiveCoordinator). Reports c.epoch) start merge number (party.Coordinator n) mid last (Ok c) → CoordinatorHolds last.world c None
+      → Noted merge number (party.Coordinator n) (note_event true (party.Coordinator n) ∷ []) last store → answer ≡ epoch_said c.epoch → left ≡ other_coordinators → coordinators ≡ c ∷ left
+      → Runs merge number (state_of old) (start_coordinator n (state_of old)) old (record old { store = store; coordinators = coordinators }) answer
+  start_runs last store c left coordinators answer is kept made holds noted says others put =
+      let with_number : ℕ → LiveCoordinator = λ m. record { number = m; epoch = c.epoch } in
+      subst (λ (cs : List LiveCoordinator). Runs merge number (state_of old) (start_coordinator n (state_of old)) old (record old { store = store; coordinators = cs }) answer)
+      (sym (put ∙ (ap (λ (cs : List LiveCoordinator). c ∷ cs) others ∙ ap (λ (m : ℕ). with_number m ∷ other_coordinators) is)))
+      (epoch_runs last store c.epoch answer kept (record { ran = made.ran }) (subst (λ (m : ℕ). CoordinatorHolds last.world (with_number m) None) is holds) noted says)

@@ -3,3 +3,4 @@ pub mod Steps
 pub mod Work
 pub mod Lines
 pub mod Looks
+pub mod Lists

@@ -1,7 +1,7 @@
 -- What a line of a script does with a fleet.
 use Rattle.std.specs.Prelude.{◌≡◌, ℕ, Bool, true, false, List}
 use Rattle.row_model.specs.Fold.{Operator}
-use Rattle.script_model.specs.Script.{Line, Options, Clock, SubmitJob, SubmitDrain, SubmitFull, ClaimJobs, Output, FinishJob, SetFault, ShowTrees, ShowJobs, ShowTables, Dump}
+use Rattle.script_model.specs.Script.{Line, Options, Clock, SubmitJob, SubmitDrain, SubmitFull, ClaimJobs, Output, FinishJob, SetFault, ShowTrees, ShowJobs, ShowTables, Dump, StartCoordinator, KillCoordinator, StopCoordinator, Poll, CommitOnly}
 use Rattle.script_model.specs.States.{Inputs, State}
 use Rattle.script_model.specs.LineRuns.{LineCourse, run_line}
 use Rattle.script_model.specs.LineSteps.{OneCourse}
@@ -22,12 +22,17 @@ pub record Serves (inputs : Inputs) (number : ℕ) (line : Line) (old new : Flee
 
 -- True if lines of this kind call the store of the fleet, and the fleet serves them.
 abbrev pub calls_store : Line → Bool
+calls_store (StartCoordinator n) = true
+calls_store (KillCoordinator n) = true
+calls_store (StopCoordinator n) = true
 calls_store (SubmitJob segment destination sources) = true
 calls_store (SubmitDrain segment sources) = true
 calls_store (SubmitFull segment) = true
 calls_store (ClaimJobs n) = true
 calls_store (Output n job range rows) = true
 calls_store (FinishJob n job) = true
+calls_store (Poll n) = true
+calls_store (CommitOnly n) = true
 calls_store line = false
 
 -- True if the fleet serves lines of this kind.

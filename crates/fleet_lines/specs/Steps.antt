@@ -1,7 +1,9 @@
 -- How the steps of parties run over the store of a fleet, and what a line replies to their ends.
-use Rattle.std.specs.Prelude.{◌≡◌, ℕ, Bool, true, false, List, [], ◌∷◌, codes, decimal, Option, Some, None, Result, Err, ⊤}
+use Rattle.std.specs.Prelude.{◌≡◌, ℕ, Bool, true, false, List, [], ◌∷◌, codes, decimal, IfOk, Option, Some, None, Result, Err, ⊤}
 use Rattle.row_model.specs.Fold.{Operator}
 use Rattle.fleet_model.specs.History.{Event, Start, Kill}
+use Rattle.fleet_model.specs.Work.Parties.{LiveCoordinator}
+use Rattle.fleet_model.specs.Work.PollStates.{PollState}
 use Rattle.step_model.specs.Past.{World}
 use Rattle.step_model.specs.Kept.Keeps.{Keeps}
 use Rattle.step_model.specs.Fits.{WorkerHolds}
@@ -9,8 +11,8 @@ use Rattle.step_model.specs.LawfulRecords.{OfSome}
 use Rattle.step_model.specs.Courses.Course.{Course, Ends, calls_each}
 use Rattle.step_model.specs.Courses.CourseRuns.{End, Gives, MeetsFault, LacksMemory}
 use Rattle.step_model.specs.Courses.Ran.{Ran}
-use Rattle.step_model.specs.Courses.StepEnds.{StepEnd}
-use Rattle.script_model.specs.Replies.{jobs_text, reply}
+use Rattle.step_model.specs.Courses.StepEnds.{StepEnd, Reports}
+use Rattle.script_model.specs.Replies.{jobs_text, reply, rules_text}
 use Rattle.script_model.specs.Words.{bytes_text}
 use Rattle.script_model.specs.LineRuns.{step_reply}
 use Rattle.fleet_rows.specs.declared.errors.MergeOperatorError.TheVariants.{Callback}
@@ -18,6 +20,11 @@ use Rattle.fleet_rows.specs.declared.errors.SlateDBError.{SlateDBError}
 use Rattle.fleet_rows.specs.declared.errors.SlateDBError.TheVariants.{StoreFault, Conflict, Fenced, NotOwner, InvalidDBState, InvalidCompaction, Generate, MergeOperator}
 use Rattle.fleet_history.specs.Parties.{party_of}
 use Rattle.fleet_history.specs.declared.party.Party.{Party}
+use Rattle.fleet_history.specs.declared.party.Party.TheVariants.{Coordinator}
+use Rattle.fleet_poll.specs.declared.report.PollReport.{PollReport}
+use Rattle.fleet_coordinator.specs.Handling.{shown_of}
+use Rattle.fleet_text.specs.Printed.{polled_text}
+use Rattle.fleet_text.specs.declared.report.PollReport as text
 use Rattle.fleet_store.specs.Memory.{StoreParts}
 use Rattle.fleet_store.specs.Under.{caller_of}
 use Rattle.fleet_step.specs.Steps.{end_of}
@@ -47,6 +54,15 @@ pub record Noted (merge : Operator) (number : ℕ) (party : Party) (notes : List
     : Type 0 where
   pub ran : Ran (caller_of merge (at_line number party old)) (calls_each notes (Ends nothing)) old.world new.world
       old.waits new.waits (Gives nothing)
+
+-- A coordinator polled in this line, and nobody else called the store. The result tells how the poll ended: if it ended
+-- with a report, then with that of what it reached, and the coordinator is as it was.
+pub record Polled (course : Course (StepEnd PollState)) (merge : Operator) (number : ℕ) (c : LiveCoordinator)
+    (old new : StoreParts) (result : Result (LiveCoordinator × PollReport) SlateDBError) : Type 0 where
+  pub reached : PollState
+  pub made : Made (λ done. Reports reached) course merge number (Coordinator c.number) old new result
+  pub same : IfOk result (λ done. done.0 ≡ c)
+  pub report : IfOk result (λ done. done.1 ≡ shown_of reached)
 
 -- A worker may make a step over a store of this world, once the store's entries carry the worker.
 pub record MayWork (merge : Operator) (world : World) (w : WorkerParts) : Type 0 where
@@ -96,3 +112,23 @@ released_said jobs = reply (codes "ok" ∷ codes "released" ∷ jobs_text jobs �
 abbrev pub is_struck : {A : Type 0} → Result A SlateDBError → Bool
 is_struck (Err StoreFault) = true
 is_struck result = false
+
+-- The report of a poll as replies print it.
+abbrev pub printed : PollReport → text.PollReport
+printed r = record {
+  freed = r.freed;
+  done = r.committed;
+  lost = r.lost;
+  added = r.added;
+  dropped = r.dropped;
+  opened = r.opened;
+  moved = r.moved;
+  drained = r.drained;
+  refused = r.refused;
+}
+
+-- The reply to a poll with this report.
+abbrev pub report_said : (commits_only : Bool) → PollReport → List ℕ
+report_said false r = polled_text (printed r)
+report_said true r =
+    reply (codes "ok" ∷ codes "done" ∷ jobs_text r.committed ∷ codes "lost" ∷ rules_text r.lost ∷ [])

@@ -180,6 +180,15 @@ impl Fleet {
         ensures memory { IsOkUnless result SlateDBError.Memory }
     {
         match line {
+            Line::StartCoordinator { number: party } => {
+                self.start_coordinator(operator, number, party)
+            }
+            Line::KillCoordinator { number: party } => {
+                self.end_coordinator(operator, number, party)
+            }
+            Line::StopCoordinator { number: party } => {
+                self.end_coordinator(operator, number, party)
+            }
             Line::Submit {
                 segment,
                 destination,
@@ -201,6 +210,12 @@ impl Fleet {
                 rows,
             } => self.output(operator, number, worker, job, range, rows),
             Line::Finish { worker, job } => self.finish(rt, operator, number, worker, job),
+            Line::Poll { coordinator } => {
+                self.poll(operator, scheduler, number, coordinator, false)
+            }
+            Line::Commit { coordinator } => {
+                self.poll(operator, scheduler, number, coordinator, true)
+            }
 
             // The fleet serves no other line.
             _ => unreachable!(),

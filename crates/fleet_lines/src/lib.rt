@@ -3,6 +3,7 @@
 
 mod claims;
 mod finishes;
+mod coordinators;
 mod fleet;
 mod flushes;
 mod looks;

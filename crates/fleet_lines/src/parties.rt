@@ -1,29 +1,41 @@
 //! The live parties of a fleet, by number.
 
-ghost use Rattle.std.specs.Prelude.{◌≡◌, ◌≢◌, ◌==◌, ◌∷◌, filter, find, not, IsOkUnless, OnOk, if◌then◌else◌};
-ghost use Rattle.std.specs.List.{list_any, position};
+ghost use Rattle.std.specs.Prelude.{◌≡◌, ◌≢◌, ◌≤◌, ◌==◌, ◌∷◌, filter, find, length, not, option_map, IfSome, IsOkUnless, OnOk, if◌then◌else◌};
+ghost use Rattle.std.specs.List.{insert, position};
 ghost use Rattle.row_model.specs.Lists.{Pairs};
 ghost use Rattle.fleet_rows.specs.declared.errors.SlateDBError.TheVariants as SlateDBError;
+ghost use Rattle.fleet_lines.specs.Lists.{IsTaken};
 
+use fleet_coordinator::Coordinator;
 use fleet_rows::SlateDBError;
 use fleet_worker::Worker;
 use std::marker::Model;
 
-/// A live coordinator, with its epoch.
-#[derive(Clone, Copy, Debug)]
+/// A live coordinator. It is never stopped.
+#[derive(Debug, Drop)]
 pub(crate) struct LiveCoordinator {
     pub number: u64,
-    pub epoch: u64,
+    pub coordinator: Coordinator,
 }
 
 impl Model for LiveCoordinator {
+    ghost use Rattle.std.specs.Prelude.{◌≡◌, false};
     ghost use Rattle.fleet_model.specs.Work.Parties as model;
 
     ghost Value = { model.LiveCoordinator };
 
-    ghost view = { λ c. record { number = c.number; epoch = c.epoch } };
+    ghost view = { λ c. record { number = c.number; epoch = c.coordinator.epoch } };
 
-    ghost inverse = { λ v. record { number = v.number; epoch = v.epoch } };
+    ghost invariant = { λ c. c.coordinator.stopped ≡ false };
+}
+
+impl LiveCoordinator {
+    /// The epoch of the coordinator.
+    pub(crate) fn epoch(&self) -> u64
+        ensures { result ≡ self.now.epoch }
+    {
+        self.coordinator.epoch()
+    }
 }
 
 // Whether the coordinator has this number.
@@ -33,27 +45,44 @@ fn is_it(coordinator: &LiveCoordinator, number: u64) -> bool
     number == coordinator.number
 }
 
-// Whether the coordinator has another number.
-fn is_other(coordinator: &LiveCoordinator, number: u64) -> bool
-    ensures { result ≡ not (number == coordinator.now.number) }
-{
-    number != coordinator.number
-}
-
-/// Whether a coordinator has this number.
-pub(crate) fn has_coordinator(coordinators: &[LiveCoordinator], number: u64) -> bool
-    ensures { result ≡ list_any (λ c. number == c.number) coordinators.now }
+// The place of the first coordinator with this number.
+fn coordinator_place(coordinators: &[LiveCoordinator], number: u64) -> Option<usize>
+    ensures { result ≡ position (λ c. number == c.number) coordinators.now }
 {
     coordinators
         .iter()
-        .any(|coordinator| is_it(coordinator, number))
+        .position(|coordinator| is_it(coordinator, number))
 }
 
-/// Drops the coordinators with this number.
-pub(crate) fn drop_coordinator(coordinators: &mut Vec<LiveCoordinator>, number: u64)
-    ensures { coordinators.new.items ≡ filter (λ c. not (number == c.number)) coordinators.old.items }
+/// Takes the coordinator with this number from the others, and tells its place.
+pub(crate) fn take_coordinator(
+    coordinators: &mut Vec<LiveCoordinator>,
+    number: u64,
+) -> Option<(usize, LiveCoordinator)>
+    requires { Pairs (λ b c. b.number ≢ c.number) coordinators.old.items }
+    ensures found { option_map (λ taken. taken.1) result
+        ≡ find (λ c. number == c.number) coordinators.old.items }
+    ensures others { coordinators.new.items
+        ≡ filter (λ c. not (number == c.number)) coordinators.old.items }
+    ensures place { IfSome result (λ taken.
+        IsTaken coordinators.old.items taken.0 taken.1 coordinators.new.items) }
 {
-    coordinators.retain(|coordinator| is_other(coordinator, number));
+    let place = coordinator_place(coordinators.as_slice(), number)?;
+    Some((place, coordinators.remove(place)))
+}
+
+/// Puts a coordinator before the one at `place`, counted from 0.
+pub(crate) fn put_back(
+    coordinators: &mut Vec<LiveCoordinator>,
+    place: usize,
+    coordinator: LiveCoordinator,
+) -> Result<(), SlateDBError>
+    requires { place ≤ length coordinators.old.items }
+    ensures items { OnOk result
+        (coordinators.new.items ≡ insert coordinators.old.items place coordinator) }
+    ensures memory { IsOkUnless result SlateDBError.Memory }
+{
+    Ok(coordinators.insert(place, coordinator)?)
 }
 
 /// Puts a coordinator in front of the others.

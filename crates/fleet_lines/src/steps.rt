@@ -1,6 +1,6 @@
 //! The steps of the parties over the store of a fleet, lent to them in a line of a script.
 
-ghost use Rattle.std.specs.Prelude.{◌≡◌, ◌≤◌, ◌<◌, ◌^◌, ◌∷◌, [], false, map, IfOk, IsOkUnless, IsSome, OnErr, OnOk};
+ghost use Rattle.std.specs.Prelude.{◌≡◌, ◌≤◌, ◌<◌, ◌^◌, ◌∷◌, [], false, map, IfOk, IsOkUnless, IsSome, OnErr, OnOk, if◌then◌else◌};
 ghost use Rattle.std.specs.Bool.{OnFalse};
 ghost use Rattle.fleet_model.specs.Work.Scheduler.{Scheduler};
 ghost use Rattle.step_model.specs.Courses.StepEnds.{Reports};
@@ -21,6 +21,9 @@ ghost use Rattle.fleet_history.specs.Notes.{event_of_note};
 ghost use Rattle.fleet_history.specs.declared.party.Party.TheVariants as actor;
 ghost use Rattle.fleet_claim.specs.Beginnings.{options_of};
 ghost use Rattle.fleet_coordinator.specs.Flushes.{ask_of, ends};
+ghost use Rattle.fleet_coordinator.specs.Polling as asks;
+ghost use Rattle.fleet_coordinator.specs.declared.handling.CompactorMessage.TheVariants as messages;
+ghost use Rattle.fleet_history.specs.Parties.{party_of};
 ghost use Rattle.fleet_worker.specs.Beats.{beat_ends};
 ghost use Rattle.fleet_worker.specs.Claims.{claim_ends};
 ghost use Rattle.fleet_worker.specs.Finishing.{left_finished};
@@ -28,17 +31,21 @@ ghost use Rattle.fleet_worker.specs.Outputs.{RunsRange, left_by};
 ghost use Rattle.fleet_worker.specs.Workers.{live_of, ranges_at};
 ghost use Rattle.fleet_step.specs.Steps.{stops};
 ghost use Rattle.script_model.specs.States.{State};
-ghost use Rattle.fleet_lines.specs.Steps.{Made, MayWork, Noted, note_event};
+ghost use Rattle.fleet_lines.specs.Steps.{Made, MayWork, Noted, note_event, Polled};
 ghost use Rattle.fleet_lines.specs.Work.{FinishMade, OutputMade};
+ghost use Rattle.script_model.specs.Lines.Starts.{killed_first};
 
+use crate::parties::LiveCoordinator;
 use fleet_book::CompactionRequest;
 use fleet_coordinator as coordinator;
-use fleet_coordinator::{FlushAsk, FlushFault};
+use fleet_coordinator::{FlushAsk, FlushFault, CompactorMessage, Coordinator};
 use fleet_exec::OpenGate;
 use fleet_fold::MergeOperator;
 use fleet_jobs::CompactionSpec;
 use fleet_rows::{JobList, SlateDBError, Ulid};
 use fleet_sched::CompactionScheduler;
+use fleet_poll::PollReport;
+use fleet_sched::{CompactionScheduler, CompactorOptions};
 use fleet_store::{MemStore, Note, Party, Store};
 use fleet_tree::{OutputList, SsTableHandle};
 use fleet_worker::{BeatReport, ClaimReport, CompactionWorkerOptions, Worker};
@@ -122,6 +129,27 @@ pub(crate) fn noted<O: MergeOperator>(
     let mut under = store.under(operator);
     under.set_actor(number, party);
     under.note(note)
+}
+
+/// The party makes a note that it goes, if it was live.
+pub(crate) fn killed<O: MergeOperator>(
+    store: &mut MemStore,
+    operator: &O,
+    number: u64,
+    party: Party,
+    was_live: bool,
+) -> Result<(), SlateDBError>
+    requires { Keeps (O.merged (O.settings operator.now)) store.old.world }
+    ensures made { OnOk result (Noted (O.merged (O.settings operator.now)) number party
+        (killed_first was_live (party_of party)) store.old store.new) }
+    ensures keeps { OnOk result (Keeps (O.merged (O.settings operator.now)) store.new.world) }
+    ensures memory { IsOkUnless result SlateDBError.Memory }
+{
+    if was_live {
+        noted(store, operator, number, party, false)
+    } else {
+        Ok(())
+    }
 }
 
 // The note that the party comes or goes.
@@ -277,21 +305,79 @@ pub(crate) fn released<O: MergeOperator>(
     worker.release_all(&mut under)
 }
 
-/// The coordinator starts.
+/// The coordinator with this number starts.
 pub(crate) fn started<O: MergeOperator>(
     alloc: Global,
     store: &mut MemStore,
     operator: &O,
     number: u64,
     coordinator: u64,
-) -> Result<u64, SlateDBError>
+) -> Result<LiveCoordinator, SlateDBError>
     requires { Keeps (O.merged (O.settings operator.now)) store.old.world }
-    ensures made { Made Reports polling.start (O.merged (O.settings operator.now)) number
-        (actor.Coordinator coordinator) store.old store.new result }
-    ensures fits { IfOk result (λ epoch. CoordinatorHolds store.new.world
-        (record { number = coordinator; epoch = epoch }) None) }
+    ensures made { Made (λ c. Reports c.epoch) polling.start
+        (O.merged (O.settings operator.now)) number (actor.Coordinator coordinator)
+        store.old store.new result }
+    ensures number { IfOk result (λ c. c.number ≡ coordinator) }
+    ensures holds { IfOk result (λ c. CoordinatorHolds store.new.world c None) }
+    ensures keeps { Keeps (O.merged (O.settings operator.now)) store.new.world }
 {
     let mut under = store.under(operator);
     under.set_actor(number, Party::Coordinator(coordinator));
-    coordinator::start(alloc, &mut under)
+    match Coordinator::start(alloc, &mut under) {
+        Ok(started) => Ok(LiveCoordinator {
+            number: coordinator,
+            coordinator: started,
+        }),
+        Err(error) => Err(error),
+    }
+}
+
+// The message by which a coordinator polls, or only commits.
+fn message_for(commits_only: bool) -> CompactorMessage
+    ensures { result ≡ (if commits_only then messages.CommitCompacted else messages.PollManifest) }
+{
+    if commits_only {
+        CompactorMessage::CommitCompacted
+    } else {
+        CompactorMessage::PollManifest
+    }
+}
+
+/// The coordinator polls, or only commits. It comes back with what the poll reports. A poll that
+/// does not report drops it.
+pub(crate) fn polled<O: MergeOperator>(
+    store: &mut MemStore,
+    operator: &O,
+    number: u64,
+    live: LiveCoordinator,
+    scheduler: &(dyn CompactionScheduler + Send + Sync),
+    options: &CompactorOptions,
+    moment: u64,
+    commits_only: bool,
+) -> Result<(LiveCoordinator, PollReport), SlateDBError>
+    requires keeps { Keeps (O.merged (O.settings operator.now)) store.old.world }
+    requires holds { CoordinatorHolds store.old.world live None }
+    ensures { Polled (polling.poll (asks.ask_of (answers scheduler.now) options.now (record {
+      epoch = live.epoch;
+      moment = moment;
+      commits_only = commits_only;
+    }))) (O.merged (O.settings operator.now)) number live store.old store.new result }
+{
+    let LiveCoordinator {
+        number: party,
+        mut coordinator,
+    } = live;
+    let message = message_for(commits_only);
+    let mut under = store.under(operator);
+    under.set_actor(number, Party::Coordinator(party));
+    match coordinator.handle(&mut under, scheduler, options, moment, message) {
+        Ok(report) => Ok((
+            LiveCoordinator {
+                number: party,
+                coordinator,
+            },
+            report,
+        )),
+        Err(error) => Err(error),
+    }
 }
