@@ -1,13 +1,11 @@
 //! The fleet on which a script runs.
 
 ghost use Rattle.std.specs.Prelude.{◌≡◌, ◌<◌, ◌^◌, IfOk, IsOkUnless, OnOk, true};
-ghost use Rattle.row_model.specs.Fold.{Operator};
 ghost use Rattle.fleet_rows.specs.declared.errors.SlateDBError.TheVariants as SlateDBError;
 ghost use Rattle.fleet_text.specs.Lines.{line_of};
 ghost use Rattle.script_model.specs.LineSteps.{OneCourse};
 ghost use Rattle.script_model.specs.Script.{IsInBounds};
-ghost use Rattle.script_model.specs.States.{fresh_state};
-ghost use Rattle.fleet_lines.specs.Fleets.{IsServing, Stands, options_of, state_of};
+ghost use Rattle.fleet_lines.specs.Fleets.{IsFresh, IsServing, state_of};
 ghost use Rattle.fleet_lines.specs.Lines.{Serves, calls_store, is_built};
 
 use crate::looks::{dump, show_jobs, show_tables, show_trees};
@@ -59,8 +57,8 @@ impl Fleet {
     /// A fresh fleet with these options: its store is fresh, no party is live, and the moment is 0.
     pub fn new(alloc: Global, options: FleetOptions) -> Result<Fleet, SlateDBError>
         requires few { options.worker.max_subcompactions < 2 ^ 32 }
-        ensures fresh { IfOk result (λ fleet. state_of fleet ≡ fresh_state (options_of options)) }
-        ensures serving { (merge : Operator) → IfOk result (IsServing merge) }
+        ensures options { IfOk result (λ fleet. fleet.options ≡ options) }
+        ensures fresh { IfOk result IsFresh }
         ensures memory { IsOkUnless result SlateDBError.Memory }
     {
         Ok(Fleet {
