@@ -11,7 +11,9 @@ pub mod FlushAsks
 pub mod NoteLines
 pub mod Noting
 pub mod WorkLines
+pub mod Named
 pub mod StopLines
+pub mod WorkerLines
 pub mod StartLines
 pub mod ServeLines
 pub mod LookLines

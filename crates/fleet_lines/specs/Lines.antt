@@ -1,7 +1,7 @@
 -- What a line of a script does with a fleet.
 use Rattle.std.specs.Prelude.{◌≡◌, ℕ, Bool, true, false, List}
 use Rattle.row_model.specs.Fold.{Operator}
-use Rattle.script_model.specs.Script.{Line, Options, Clock, SubmitJob, SubmitDrain, SubmitFull, SetFault, ShowTrees, ShowJobs, ShowTables, Dump}
+use Rattle.script_model.specs.Script.{Line, Options, Clock, StartWorker, KillWorker, StopWorker, FlushRows, SubmitJob, SubmitDrain, SubmitFull, Heartbeat, SetFault, ShowTrees, ShowJobs, ShowTables, Dump}
 use Rattle.script_model.specs.States.{Inputs, State}
 use Rattle.script_model.specs.LineRuns.{LineCourse, run_line}
 use Rattle.script_model.specs.LineSteps.{OneCourse}
@@ -22,6 +22,11 @@ pub record Serves (inputs : Inputs) (number : ℕ) (line : Line) (old new : Flee
 
 -- True if lines of this kind call the store of the fleet, and the fleet serves them.
 abbrev pub calls_store : Line → Bool
+calls_store (StartWorker n release) = true
+calls_store (KillWorker n) = true
+calls_store (StopWorker n) = true
+calls_store (Heartbeat n) = true
+calls_store (FlushRows name segment floor tick rows) = true
 calls_store (SubmitJob segment destination sources) = true
 calls_store (SubmitDrain segment sources) = true
 calls_store (SubmitFull segment) = true

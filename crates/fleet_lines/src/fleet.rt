@@ -13,6 +13,7 @@ use crate::names::last_name;
 use crate::options::FleetOptions;
 use crate::parties::LiveCoordinator;
 use crate::submits::{drain_of, spec_of};
+use fleet_coordinator::FlushAsk;
 use fleet_fold::MergeOperator;
 use fleet_rows::SlateDBError;
 use fleet_sched::CompactionScheduler;
@@ -173,6 +174,30 @@ impl Fleet {
         ensures memory { IsOkUnless result SlateDBError.Memory }
     {
         match line {
+            Line::StartWorker {
+                number: worker,
+                release,
+            } => self.start_worker(operator, number, worker, release),
+            Line::KillWorker { number: worker } => self.kill_worker(operator, number, worker),
+            Line::StopWorker { number: worker } => self.stop_worker(operator, number, worker),
+            Line::Heartbeat { worker } => self.heartbeat(operator, number, worker),
+            Line::Flush {
+                name,
+                segment,
+                floor,
+                tick,
+                rows,
+            } => self.flush(
+                operator,
+                number,
+                FlushAsk {
+                    name,
+                    segment,
+                    floor,
+                    tick,
+                    rows,
+                },
+            ),
             Line::Submit {
                 segment,
                 destination,

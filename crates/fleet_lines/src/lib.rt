@@ -9,8 +9,10 @@ mod options;
 mod parties;
 mod refusals;
 mod settings;
+mod starts;
 mod steps;
 mod submits;
+mod work;
 
 pub use fleet::Fleet;
 pub use options::FleetOptions;

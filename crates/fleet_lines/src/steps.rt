@@ -20,10 +20,12 @@ ghost use Rattle.fleet_history.specs.Notes.{event_of_note};
 ghost use Rattle.fleet_history.specs.declared.party.Party.TheVariants as actor;
 ghost use Rattle.fleet_claim.specs.Beginnings.{options_of};
 ghost use Rattle.fleet_coordinator.specs.Flushes.{ask_of, ends};
+ghost use Rattle.fleet_history.specs.Parties.{party_of};
 ghost use Rattle.fleet_worker.specs.Beats.{beat_ends};
 ghost use Rattle.fleet_worker.specs.Claims.{claim_ends};
 ghost use Rattle.fleet_worker.specs.Workers.{live_of};
 ghost use Rattle.fleet_step.specs.Steps.{stops};
+ghost use Rattle.script_model.specs.Lines.Starts.{killed_first};
 ghost use Rattle.fleet_lines.specs.Steps.{Made, MayWork, Noted, note_event};
 
 use fleet_book::CompactionRequest;
@@ -114,6 +116,27 @@ pub(crate) fn noted<O: MergeOperator>(
     let mut under = store.under(operator);
     under.set_actor(number, party);
     under.note(note)
+}
+
+/// The party makes a note that it goes, if it was live.
+pub(crate) fn killed<O: MergeOperator>(
+    store: &mut MemStore,
+    operator: &O,
+    number: u64,
+    party: Party,
+    was_live: bool,
+) -> Result<(), SlateDBError>
+    requires { Keeps (O.merged (O.settings operator.now)) store.old.world }
+    ensures made { OnOk result (Noted (O.merged (O.settings operator.now)) number party
+        (killed_first was_live (party_of party)) store.old store.new) }
+    ensures keeps { OnOk result (Keeps (O.merged (O.settings operator.now)) store.new.world) }
+    ensures memory { IsOkUnless result SlateDBError.Memory }
+{
+    if was_live {
+        noted(store, operator, number, party, false)
+    } else {
+        Ok(())
+    }
 }
 
 // The note that the party comes or goes.
