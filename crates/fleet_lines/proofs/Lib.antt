@@ -17,6 +17,7 @@ pub mod WorkerLines
 pub mod StartLines
 pub mod ServeLines
 pub mod LookLines
+pub mod KeyReads
 pub mod Fresh
 pub mod NamesAfter
 pub mod Taken

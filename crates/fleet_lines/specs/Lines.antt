@@ -1,7 +1,7 @@
 -- What a line of a script does with a fleet.
 use Rattle.std.specs.Prelude.{◌≡◌, ℕ, Bool, true, false, List}
 use Rattle.row_model.specs.Fold.{Operator}
-use Rattle.script_model.specs.Script.{Line, Options, Clock, StartWorker, KillWorker, StopWorker, FlushRows, SubmitJob, SubmitDrain, SubmitFull, Heartbeat, SetFault, ShowTrees, ShowJobs, ShowTables, Dump}
+use Rattle.script_model.specs.Script.{Line, Options, Clock, StartWorker, KillWorker, StopWorker, FlushRows, ReadKey, SubmitJob, SubmitDrain, SubmitFull, Heartbeat, SetFault, ShowTrees, ShowJobs, ShowTables, Dump}
 use Rattle.script_model.specs.States.{Inputs, State}
 use Rattle.script_model.specs.LineRuns.{LineCourse, run_line}
 use Rattle.script_model.specs.LineSteps.{OneCourse}
@@ -37,6 +37,7 @@ abbrev pub is_built : Line → Bool
 is_built (Options timeout concurrent slots ranges table_size moves retention) = true
 is_built (Clock moment) = true
 is_built (SetFault k stands) = true
+is_built (ReadKey segment key seq now) = true
 is_built ShowTrees = true
 is_built ShowJobs = true
 is_built (ShowTables segment node) = true

@@ -12,6 +12,7 @@ use crate::looks::{dump, show_jobs, show_tables, show_trees};
 use crate::names::last_name;
 use crate::options::FleetOptions;
 use crate::parties::LiveCoordinator;
+use crate::reads::read_key;
 use crate::submits::{drain_of, spec_of};
 use fleet_coordinator::FlushAsk;
 use fleet_fold::MergeOperator;
@@ -151,6 +152,15 @@ impl Fleet {
             }
             Line::Dump { segment, node } => {
                 dump(self.alloc, &self.store, segment.as_slice(), node)
+            }
+            Line::Read {
+                segment,
+                key,
+                seq,
+                now,
+            } => {
+                let (segment, key) = (segment.as_slice(), key.as_slice());
+                read_key(self.alloc, &self.store, operator, segment, key, seq, now)
             }
             line => self.call(operator, scheduler, number, line),
         }

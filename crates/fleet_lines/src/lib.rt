@@ -7,6 +7,7 @@ mod looks;
 mod names;
 mod options;
 mod parties;
+mod reads;
 mod refusals;
 mod settings;
 mod starts;
