@@ -14,7 +14,7 @@ use Rattle.fleet_worker.specs.Workers.{AttemptParts, WorkerParts, attempt_of, li
 use Rattle.fleet_worker.proofs.Outputs.{range_there}
 use Rattle.fleet_lines.specs.Fleets.{FleetParts, parties_of, state_of}
 use Rattle.fleet_lines.specs.Work.{attempt_named}
-use Rattle.fleet_lines.proofs.Lists.{find_map}
+use Rattle.fleet_read.proofs.Trees.{find_map}
 
 -- The attempt that is found by the number of its job is the worker's attempt at the job.
 pub run_named : (attempts : List AttemptParts) (number : ℕ) (a : AttemptParts) → run_of_number attempts number ≡ Some a → run_at attempts a.job ≡ Some a

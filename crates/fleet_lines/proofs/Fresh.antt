@@ -1,15 +1,17 @@
 -- A fresh fleet may run a line.
-use Rattle.std.proofs.Common.{◌≡◌, refl, ℕ, List, [], cond, Bool, true, false, Some, None}
+use Rattle.std.proofs.Common.{◌≡◌, refl, ◌∙◌, ap, ℕ, List, [], cond, Bool, true, false, Option, Some, None}
 use Rattle.std.specs.Prelude.{◌<◌, ◌^◌, bytes_eq}
 use Rattle.row_model.specs.Fold.{Operator}
+use Rattle.fleet_model.specs.Exchanges.{Fault}
 use Rattle.fleet_model.specs.Nodes.{tree_at, tree_or_empty}
 use Rattle.fleet_model.specs.Trees.{empty_segment}
-use Rattle.step_model.specs.Past.{fresh_world}
+use Rattle.step_model.specs.Past.{World, fresh_world}
 use Rattle.step_laws.proofs.Fresh.{fresh_keeps}
 use Rattle.line_laws.specs.Undrained.{flushes_in}
 use Rattle.fleet_store.specs.Memory.{StoreParts}
-use Rattle.fleet_lines.specs.Fleets.{IsServing}
+use Rattle.fleet_lines.specs.Fleets.{IsFresh, IsServing, options_of}
 use Rattle.fleet_lines.specs.declared.options.FleetOptions.{FleetOptions}
+use Rattle.fleet_lines.proofs.Runs.{state_at}
 
 -- A fresh store has no flush.
 no_flushes : (prefix : List ℕ) → flushes_in (tree_at prefix fresh_world.store.manifest.trees) ≡ []
@@ -19,7 +21,7 @@ no_flushes prefix = by (bytes_eq prefix [])
     by true = refl
     by false = refl
 
-pub fresh_serves : (merge : Operator) (options : FleetOptions) (store : StoreParts) → options.worker.max_subcompactions < 2 ^ 32 → store.world ≡ fresh_world
+fresh_serves : (merge : Operator) (options : FleetOptions) (store : StoreParts) → options.worker.max_subcompactions < 2 ^ 32 → store.world ≡ fresh_world
     → IsServing merge (record { options = options; moment = 0; last_name = 0; store = store; coordinators = []; workers = [] })
 fresh_serves merge options store few fresh = rw fresh (record {
   stands = record {
@@ -29,3 +31,13 @@ fresh_serves merge options store few fresh = rw fresh (record {
   };
   named = refl;
 })
+
+-- A fleet without parties over a fresh store is fresh.
+pub is_fresh : (options : FleetOptions) (store : StoreParts) → options.worker.max_subcompactions < 2 ^ 32 → store.world ≡ fresh_world → store.waits ≡ None
+    → IsFresh (record { options = options; moment = 0; last_name = 0; store = store; coordinators = []; workers = [] })
+is_fresh options store few world waits = record {
+  state =
+      ap (λ (w : World). state_at (options_of options) 0 w store.waits (record { coordinators = []; workers = [] })) world
+      ∙ ap (λ (fault : Option Fault). state_at (options_of options) 0 fresh_world fault (record { coordinators = []; workers = [] })) waits;
+  serving = λ merge. fresh_serves merge options store few world;
+}

@@ -23,11 +23,13 @@ pub mod OutputLines
 pub mod MadeFinishes
 pub mod FinishLines
 pub mod StopLines
+pub mod WorkerLines
 pub mod StartLines
 pub mod Takes
 pub mod PollLines
 pub mod ServeLines
 pub mod LookLines
+pub mod KeyReads
 pub mod Fresh
 pub mod NamesAfter
 pub mod Taken

@@ -1,15 +1,7 @@
 -- Lists of parties by their numbers.
 use Rattle.std.proofs.Common.{◌≡◌, refl, ap, List, [], ◌∷◌, cond, Bool, true, false, Option, Some, None}
-use Rattle.std.specs.Prelude.{filter, find, is_some, map, option_map}
-
--- What is found among the images is the image of what is found.
-pub find_map : {A B : Type 0} (f : A → B) (p : B → Bool) (xs : List A) → find p (map f xs) ≡ option_map f (find (λ x. p (f x)) xs)
-find_map f p [] = refl
-find_map {A} {B} f p (x ∷ xs) = by (p (f x)) (find_map f p xs)
-  where
-    by : (b : Bool) → find p (map f xs) ≡ option_map f (find (λ x. p (f x)) xs) → cond b (Some (f x)) (find p (map f xs)) ≡ option_map f (cond b (Some x) (find (λ x. p (f x)) xs))
-    by true rest = refl
-    by false rest = rest
+use Rattle.std.specs.Prelude.{filter, find, is_some, map, option_map, ◌||◌}
+use Rattle.std.specs.List.{list_any}
 
 pub filter_map : {A B : Type 0} (f : A → B) (p : B → Bool) (xs : List A) → filter p (map f xs) ≡ map f (filter (λ x. p (f x)) xs)
 filter_map f p [] = refl

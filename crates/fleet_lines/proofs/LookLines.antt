@@ -1,13 +1,10 @@
 -- What lines show of a program's trees is what the model's lines show of the stored ones.
 use Rattle.std.proofs.Common.{◌≡◌, refl, sym, ◌∙◌, ap, subst, ℕ, List, [], ◌∷◌, ◌++◌, cond, Bool, true, false, Option, Some, None}
-use Rattle.std.specs.Prelude.{◌==◌, IsTrue, filter, find, flat_map, not, map, option_map, bytes_eq, codes}
+use Rattle.std.specs.Prelude.{◌==◌, IsTrue, find, flat_map, map, option_map, bytes_eq, codes}
 use Rattle.std.specs.List.{AllByRecursion}
 use Rattle.row_model.specs.Rows.{Row}
 use Rattle.fleet_model.specs.Handles.{Handle}
-use Rattle.fleet_model.specs.Nodes.{Tables, Node, NodeName, L0, Run, Segment, Tree, Trees, names, name_eq, node_named, node_rows, segment_at, is_among, table_rows, tree_at, tree_or_empty}
-use Rattle.fleet_model.specs.Nodes as nodes
-use Rattle.fleet_model.specs.Jobs.{contains}
-use Rattle.std.proofs.lemmas.Bool.Decides.{Decides-eqb}
+use Rattle.fleet_model.specs.Nodes.{Tables, Node, NodeName, L0, Run, Segment, Tree, Trees, names, name_eq, node_named, segment_at, table_rows, tree_at, tree_or_empty}
 use Rattle.fleet_model.specs.Store.{AreHeld, Store, is_held}
 use Rattle.fleet_model.specs.Invariants.Invariant.{TablesHeld}
 use Rattle.step_laws.proofs.Elements.{all_at, all_back, all_front, all_true_front, all_unflat}
@@ -26,8 +23,10 @@ use Rattle.fleet_store.specs.Handles.{IsDescribed, NamesTable}
 use Rattle.fleet_store.specs.Manifests.{IsManifest, bare_node, bare_segment, tree_views, views_in}
 use Rattle.fleet_store.specs.Tables.{held_rows}
 use Rattle.fleet_text.specs.Printed.{counted_tables}
-use Rattle.fleet_lines.specs.Looks.{rows_or_none, views_named, views_in_tree, views_at}
-use Rattle.fleet_lines.proofs.Lists.{find_map}
+use Rattle.fleet_read.specs.Stored.{rows_or_none}
+use Rattle.fleet_read.proofs.HeldRows.{held_are}
+use Rattle.fleet_read.proofs.Trees.{find_map}
+use Rattle.fleet_lines.specs.Looks.{views_named, views_in_tree, views_at}
 
 -- ---- trees
 
@@ -205,43 +204,6 @@ pub shown_said : (store : Store) (n : NodeName) (segment : List ℕ) (handles sh
 shown_said store n segment handles shown answer is same says = tables_said store n segment handles answer is (says ∙ ap (λ (hs : List SsTableHandle). reply (codes "ok" ∷ counted_tables hs ∷ [])) same)
 
 -- ---- rows
-
-module _ (deleted : List ℕ) (id : ℕ) where
-  abbrev is_kept : ℕ × List Row → Bool
-  is_kept t = not (contains deleted t.0)
-
-  none_kept : contains deleted id ≡ true → (tables : Tables) → is_among (filter is_kept tables) id ≡ false
-  none_kept gone [] = refl
-  none_kept gone (t ∷ tables) = by (contains deleted t.0) refl (t.0 == id) refl (none_kept gone tables)
-    where
-      by : (d : Bool) → contains deleted t.0 ≡ d → (b : Bool) → (t.0 == id) ≡ b → is_among (filter is_kept tables) id ≡ false → is_among (cond (not d) (t ∷ filter is_kept tables) (filter is_kept tables)) id ≡ false
-      by true e b f rest = rest
-      by false e true f rest = let same = ap (contains deleted) ((Decides-eqb t.0 id).0 f) in absurd (cc (e, gone, same))
-      by false e false f rest = rw f rest
-
-  -- A table that is kept is found among the kept ones as among all.
-  found_kept : (tables : Tables) → is_among (filter is_kept tables) id ≡ true
-      → rows_or_none (option_map (λ (t : ℕ × List Row). t.1) (find (λ (t : ℕ × List Row). id == t.0) (filter is_kept tables))) ≡ table_rows tables id
-  found_kept [] there = absurd (cc there)
-  found_kept (t ∷ tables) there = by (contains deleted t.0) refl (t.0 == id) refl there (λ there. found_kept tables there)
-    where
-      by : (d : Bool) → contains deleted t.0 ≡ d → (b : Bool) → (t.0 == id) ≡ b → is_among (cond (not d) (t ∷ filter is_kept tables) (filter is_kept tables)) id ≡ true
-          → (is_among (filter is_kept tables) id ≡ true → rows_or_none (option_map (λ (t : ℕ × List Row). t.1) (find (λ (t : ℕ × List Row). id == t.0) (filter is_kept tables))) ≡ table_rows tables id)
-          → rows_or_none (option_map (λ (t : ℕ × List Row). t.1) (find (λ (t : ℕ × List Row). id == t.0) (cond (not d) (t ∷ filter is_kept tables) (filter is_kept tables)))) ≡ nodes.rows_or_none (cond b (Some t) (find (λ (t : ℕ × List Row). t.0 == id) tables))
-      by true e true f there rest =
-          let gone = sym (ap (contains deleted) ((Decides-eqb t.0 id).0 f)) ∙ e in
-          let none = none_kept gone tables in
-          absurd (cc (there, none))
-      by true e false f there rest = rest there
-      by false e true f there rest = rw ((Decides-eqb id t.0).1 (sym ((Decides-eqb t.0 id).0 f))) refl
-      by false e false f there rest = at (id == t.0) refl
-        where
-          at : (c : Bool) → (id == t.0) ≡ c → rows_or_none (option_map (λ (t : ℕ × List Row). t.1) (cond c (Some t) (find (λ (t : ℕ × List Row). id == t.0) (filter is_kept tables)))) ≡ table_rows tables id
-          at true g = let same = (Decides-eqb t.0 id).1 (sym ((Decides-eqb id t.0).0 g)) in absurd (cc (f, same))
-          at false g = rest (rw f at there)
-
-held_are : (store : Store) (id : ℕ) → IsTrue (is_held store id) → rows_or_none (held_rows id store) ≡ table_rows store.tables id
-held_are store id held = found_kept store.deleted id store.tables held
 
 all_rows : (store : Store) (handles : List SsTableHandle) → AllByRecursion (λ id. IsTrue (is_held store id)) (map (λ (h : SsTableHandle). h.id) handles)
     → flat_map (λ (h : SsTableHandle). rows_or_none (held_rows h.id store)) handles ≡ flat_map (table_rows store.tables) (map (λ (h : SsTableHandle). h.id) handles)

@@ -34,7 +34,8 @@ use Rattle.fleet_jobs.specs.declared.release.Release.{Release}
 use Rattle.fleet_lines.specs.Fleets.{FleetParts, Stands, options_of, parties_of, state_of}
 use Rattle.fleet_lines.specs.Lines.{Runs}
 use Rattle.fleet_lines.specs.Steps.{Noted, note_event, nothing}
-use Rattle.fleet_lines.proofs.Lists.{find_map, filter_map}
+use Rattle.fleet_read.proofs.Trees.{find_map}
+use Rattle.fleet_lines.proofs.Lists.{filter_map}
 use Rattle.fleet_lines.proofs.Made.{ran_later}
 use Rattle.fleet_lines.proofs.Runs.{state_at, line_gives}
 use Rattle.fleet_lines.proofs.Kept.{worker_goes, worker_goes_on, coordinator_goes}

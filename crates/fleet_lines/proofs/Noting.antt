@@ -1,5 +1,5 @@
 -- The note that a party makes over the store of a fleet that is lent to it.
-use Rattle.std.proofs.Common.{◌≡◌, refl, sym, ◌∙◌, ap, subst, ℕ, List, [], ◌∷◌, Bool, true, false, inr, Result, Ok, Err}
+use Rattle.std.proofs.Common.{◌≡◌, refl, sym, ◌∙◌, ap, subst, ℕ, [], ◌∷◌, Bool, inr, Result, Ok, Err}
 use Rattle.std.specs.Prelude.{IsOkUnless, IsTrue, OnOk}
 use Rattle.row_model.specs.Fold.{Operator, IsLawful}
 use Rattle.fleet_model.specs.History.{Event, is_get_or_put}
@@ -9,7 +9,6 @@ use Rattle.step_model.specs.Courses.Course.{Ends, calls_each}
 use Rattle.step_model.specs.Courses.CourseRuns.{Gives}
 use Rattle.step_model.specs.Courses.Ran.{Ran}
 use Rattle.step_model.specs.Views.{StoreView}
-use Rattle.line_laws.proofs.PartyLines.{IsOwnNote}
 use Rattle.fleet_rows.specs.declared.errors.SlateDBError.{SlateDBError}
 use Rattle.fleet_rows.specs.declared.errors.SlateDBError.TheVariants as error
 use Rattle.fleet_history.specs.Entries.{event_of}

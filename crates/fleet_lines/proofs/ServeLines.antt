@@ -12,7 +12,7 @@ use Rattle.script_model.specs.Lines.Starts.{start_coordinator, start_worker, end
 use Rattle.script_model.specs.Lines.Submits.{submit_line, full_line}
 use Rattle.script_model.specs.Lines.WorkLines.{claim_line, heartbeat_line, stop_worker}
 use Rattle.script_model.specs.Replies.{absent_reply, jobs_reply, ok, tables_reply, trees_reply}
-use Rattle.script_model.specs.Script.{Line, Options, Clock, StartCoordinator, StartWorker, KillCoordinator, KillWorker, StopCoordinator, StopWorker, FlushRows, SubmitJob, SubmitDrain, SubmitFull, ClaimJobs, Heartbeat, SetFault, ShowTrees, ShowJobs, ShowTables, Dump, IsInBounds, Poll, CommitOnly}
+use Rattle.script_model.specs.Script.{Line, Options, Clock, StartCoordinator, StartWorker, KillCoordinator, KillWorker, StopCoordinator, StopWorker, FlushRows, SubmitJob, SubmitDrain, SubmitFull, ClaimJobs, Heartbeat, SetFault, ShowTrees, ShowJobs, ShowTables, Dump, IsInBounds, Poll, CommitOnly, ReadKey}
 use Rattle.script_model.specs.States.{Inputs, State}
 use Rattle.script_model.specs.LineRuns.{LineCourse, if_some, only_replies}
 use Rattle.script_model.specs.LineCourses.{prepared_state, course_of}
@@ -23,6 +23,7 @@ use Rattle.fleet_history.specs.Entries.{history_of}
 use Rattle.fleet_history.specs.declared.entry.HistoryEntry.{HistoryEntry}
 use Rattle.fleet_lines.specs.Fleets.{FleetParts, IsServing, Stands, state_of}
 use Rattle.fleet_lines.specs.Lines.{Runs, Serves}
+use Rattle.fleet_lines.specs.Looks.{read_said}
 use Rattle.fleet_lines.proofs.NamesAfter.{named_after}
 
 -- A line whose course ran.
@@ -95,6 +96,10 @@ module _ (inputs : Inputs) (number : ℕ) (old : FleetParts) (answer : List ℕ)
   unfolding course_of
   tables_serves segment node stands says =
       replies inputs number (ShowTables segment node) old old (tables_reply old.store.world.store.tables (node_named node (tree_at segment old.store.world.store.manifest.trees))) answer refl refl refl stands refl says
+
+  pub read_serves : (segment key : List ℕ) (seq : ℕ) (now : ℤ) → Stands inputs.merge old → answer ≡ read_said inputs.merge old.store.world.store segment key seq now → Serves inputs number (ReadKey segment key seq now) old old answer
+  unfolding course_of
+  read_serves segment key seq now stands says = replies inputs number (ReadKey segment key seq now) old old (read_said inputs.merge old.store.world.store segment key seq now) answer refl refl refl stands refl says
 
   pub dump_serves : (segment : List ℕ) (node : NodeName) → Stands inputs.merge old → answer ≡ dump_reply old.store.world.store.tables (node_named node (tree_at segment old.store.world.store.manifest.trees)) → Serves inputs number (Dump segment node) old old answer
   unfolding course_of

@@ -38,7 +38,7 @@ use Rattle.fleet_worker.specs.declared.beat.BeatReport.{BeatReport}
 use Rattle.fleet_lines.specs.Fleets.{FleetParts, IsUp, Stands, options_of, parties_of, state_of}
 use Rattle.fleet_lines.specs.Lines.{Runs}
 use Rattle.fleet_lines.specs.Steps.{Made, MayWork, Says, end_reply}
-use Rattle.fleet_lines.proofs.Lists.{find_map}
+use Rattle.fleet_read.proofs.Trees.{find_map}
 use Rattle.fleet_lines.proofs.Made.{ran_later, step_ends}
 use Rattle.fleet_lines.proofs.NoteLines.{others, others_live}
 use Rattle.fleet_lines.proofs.Runs.{state_at}

@@ -6,7 +6,7 @@ use Rattle.fleet_model.specs.Store.{Store}
 use Rattle.fleet_model.specs.Work.Parties.{LiveCoordinator, Parties}
 use Rattle.step_model.specs.Entries.{last_name}
 use Rattle.script_model.specs.States as model
-use Rattle.script_model.specs.States.{State}
+use Rattle.script_model.specs.States.{State, fresh_state}
 use Rattle.line_laws.specs.States.{FleetKeeps}
 use Rattle.fleet_store.specs.Memory.{StoreParts}
 use Rattle.fleet_worker.specs.Workers.{AreNoted, WorkerParts, live_of}
@@ -63,3 +63,8 @@ pub record Stands (merge : Operator) (fleet : FleetParts) : Type 0 where
 pub record IsServing (merge : Operator) (fleet : FleetParts) : Type 0 where
   pub stands : Stands merge fleet
   pub named : fleet.last_name ≡ last_name fleet.store.world.store.history
+
+-- The fleet ran no line yet: its state is fresh, and it may run a line under each operator.
+pub record IsFresh (fleet : FleetParts) : Type 0 where
+  pub state : state_of fleet ≡ fresh_state (options_of fleet.options)
+  pub serving : (merge : Operator) → IsServing merge fleet

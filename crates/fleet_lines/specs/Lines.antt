@@ -1,7 +1,7 @@
 -- What a line of a script does with a fleet.
 use Rattle.std.specs.Prelude.{◌≡◌, ℕ, Bool, true, false, List}
 use Rattle.row_model.specs.Fold.{Operator}
-use Rattle.script_model.specs.Script.{Line, Options, Clock, SubmitJob, SubmitDrain, SubmitFull, ClaimJobs, Output, FinishJob, SetFault, ShowTrees, ShowJobs, ShowTables, Dump, StartCoordinator, KillCoordinator, StopCoordinator, Poll, CommitOnly}
+use Rattle.script_model.specs.Script.{Line, StartCoordinator, StartWorker, KillCoordinator, KillWorker, StopCoordinator, StopWorker, FlushRows, SubmitJob, SubmitDrain, SubmitFull, Poll, CommitOnly, ClaimJobs, Heartbeat, Output, FinishJob}
 use Rattle.script_model.specs.States.{Inputs, State}
 use Rattle.script_model.specs.LineRuns.{LineCourse, run_line}
 use Rattle.script_model.specs.LineSteps.{OneCourse}
@@ -20,11 +20,16 @@ pub record Serves (inputs : Inputs) (number : ℕ) (line : Line) (old new : Flee
   pub stands : Stands inputs.merge new
   pub same_name : new.last_name ≡ old.last_name
 
--- True if lines of this kind call the store of the fleet, and the fleet serves them.
+-- True if lines of this kind call the store of the fleet, and the program serves them.
 abbrev pub calls_store : Line → Bool
 calls_store (StartCoordinator n) = true
 calls_store (KillCoordinator n) = true
 calls_store (StopCoordinator n) = true
+calls_store (StartWorker n release) = true
+calls_store (KillWorker n) = true
+calls_store (StopWorker n) = true
+calls_store (Heartbeat n) = true
+calls_store (FlushRows name segment floor tick rows) = true
 calls_store (SubmitJob segment destination sources) = true
 calls_store (SubmitDrain segment sources) = true
 calls_store (SubmitFull segment) = true
@@ -34,14 +39,3 @@ calls_store (FinishJob n job) = true
 calls_store (Poll n) = true
 calls_store (CommitOnly n) = true
 calls_store line = false
-
--- True if the fleet serves lines of this kind.
-abbrev pub is_built : Line → Bool
-is_built (Options timeout concurrent slots ranges table_size moves retention) = true
-is_built (Clock moment) = true
-is_built (SetFault k stands) = true
-is_built ShowTrees = true
-is_built ShowJobs = true
-is_built (ShowTables segment node) = true
-is_built (Dump segment node) = true
-is_built line = calls_store line

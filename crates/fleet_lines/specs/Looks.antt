@@ -1,7 +1,14 @@
--- What lines look at: the tables that a node of a program's tree names.
-use Rattle.std.specs.Prelude.{ℕ, ◌==◌, List, [], ◌∷◌, find, bytes_eq, Option, Some, None, option_map}
-use Rattle.row_model.specs.Rows.{Row}
+-- What lines look at: the tables that a node of a program's tree names, and the answer of a read.
+use Rattle.std.specs.Prelude.{ℕ, ℤ, ◌==◌, if◌then◌else◌, List, [], ◌∷◌, find, bytes_eq, codes, Option, Some, None, option_map}
+use Rattle.row_model.specs.Fold.{Operator}
 use Rattle.fleet_model.specs.Nodes.{NodeName, L0, Run}
+use Rattle.fleet_model.specs.Reads.{flushed_read}
+use Rattle.fleet_model.specs.Store.{Store}
+use Rattle.script_model.specs.Lines.Looks.{is_not_retained}
+use Rattle.script_model.specs.Replies.{not_retained, read_reply, reply}
+use Rattle.script_model.specs.Words.{bytes_text}
+use Rattle.fleet_read.specs.declared.answer.ReadAnswer.{ReadAnswer}
+use Rattle.fleet_read.specs.declared.answer.ReadAnswer.TheVariants.{Value, Nothing, NotRetained, Callback}
 use Rattle.fleet_tree.specs.Trees.{trees_with_prefix}
 use Rattle.fleet_tree.specs.Views.{View}
 use Rattle.fleet_tree.specs.declared.manifest.ManifestCore.{ManifestCore}
@@ -21,7 +28,15 @@ views_in_tree node (Some s) = views_named node s.1
 abbrev pub views_at : ManifestCore → List ℕ → NodeName → Option (List View)
 views_at core segment node = views_in_tree node (find (λ s. bytes_eq segment s.0) (trees_with_prefix core))
 
--- The rows that a look-up gave, or none.
-abbrev pub rows_or_none : Option (List Row) → List Row
-rows_or_none None = []
-rows_or_none (Some rows) = rows
+-- The reply that shows the answer of a read.
+abbrev pub answer_reply : ReadAnswer → List ℕ
+answer_reply (Value bytes) = reply (codes "value" ∷ bytes_text bytes ∷ [])
+answer_reply Nothing = read_reply None
+answer_reply (NotRetained least tick) = not_retained least tick
+answer_reply (Callback message) = reply (codes "callback" ∷ bytes_text message ∷ [])
+
+-- The reply to a read of a key over all rows that were flushed into the segment and not drained.
+abbrev pub read_said : Operator → Store → (segment key : List ℕ) → ℕ → ℤ → List ℕ
+read_said merge store segment key seq now =
+    if is_not_retained store.manifest seq now then not_retained store.manifest.horizon store.manifest.tick
+    else read_reply (flushed_read merge store segment key seq now)

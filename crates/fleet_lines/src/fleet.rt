@@ -1,20 +1,21 @@
 //! The fleet on which a script runs.
 
 ghost use Rattle.std.specs.Prelude.{◌≡◌, ◌<◌, ◌^◌, IfOk, IsOkUnless, OnOk, true};
-ghost use Rattle.row_model.specs.Fold.{Operator};
 ghost use Rattle.fleet_rows.specs.declared.errors.SlateDBError.TheVariants as SlateDBError;
 ghost use Rattle.fleet_text.specs.Lines.{line_of};
+ghost use Rattle.script_model.specs.Grammars.{is_served};
 ghost use Rattle.script_model.specs.LineSteps.{OneCourse};
 ghost use Rattle.script_model.specs.Script.{IsInBounds};
-ghost use Rattle.script_model.specs.States.{fresh_state};
-ghost use Rattle.fleet_lines.specs.Fleets.{IsServing, Stands, options_of, state_of};
-ghost use Rattle.fleet_lines.specs.Lines.{Serves, calls_store, is_built};
+ghost use Rattle.fleet_lines.specs.Fleets.{IsFresh, IsServing, state_of};
+ghost use Rattle.fleet_lines.specs.Lines.{Serves, calls_store};
 
 use crate::looks::{dump, show_jobs, show_tables, show_trees};
 use crate::names::last_name;
 use crate::options::FleetOptions;
 use crate::parties::LiveCoordinator;
+use crate::reads::read_key;
 use crate::submits::{drain_of, spec_of};
+use fleet_coordinator::FlushAsk;
 use fleet_fold::MergeOperator;
 use fleet_rows::SlateDBError;
 use fleet_sched::CompactionScheduler;
@@ -60,8 +61,8 @@ impl Fleet {
     /// A fresh fleet with these options: its store is fresh, no party is live, and the moment is 0.
     pub fn new(alloc: Global, options: FleetOptions) -> Result<Fleet, SlateDBError>
         requires few { options.worker.max_subcompactions < 2 ^ 32 }
-        ensures fresh { IfOk result (λ fleet. state_of fleet ≡ fresh_state (options_of options)) }
-        ensures serving { (merge : Operator) → IfOk result (IsServing merge) }
+        ensures options { IfOk result (λ fleet. fleet.options ≡ options) }
+        ensures fresh { IfOk result IsFresh }
         ensures memory { IsOkUnless result SlateDBError.Memory }
     {
         Ok(Fleet {
@@ -103,7 +104,7 @@ impl Fleet {
     ) -> Result<Reply, SlateDBError>
         requires serving { IsServing (O.merged (O.settings operator.now)) self.old }
         requires bounds { IsInBounds (line_of line) }
-        requires built { is_built (line_of line) ≡ true }
+        requires kind { is_served (line_of line) ≡ true }
         ensures course { IfOk result (λ answer. OneCourse (record {
           merge = O.merged (O.settings operator.now);
           scheduler = answers scheduler.now;
@@ -128,7 +129,7 @@ impl Fleet {
     ) -> Result<Reply, SlateDBError>
         requires serving { IsServing (O.merged (O.settings operator.now)) self.old }
         requires bounds { IsInBounds (line_of line) }
-        requires built { is_built (line_of line) ≡ true }
+        requires kind { is_served (line_of line) ≡ true }
         ensures served { IfOk result (Serves (record {
           merge = O.merged (O.settings operator.now);
           scheduler = answers scheduler.now;
@@ -156,6 +157,15 @@ impl Fleet {
             }
             Line::Dump { segment, node } => {
                 dump(self.alloc, &self.store, segment.as_slice(), node)
+            }
+            Line::Read {
+                segment,
+                key,
+                seq,
+                now,
+            } => {
+                let (segment, key) = (segment.as_slice(), key.as_slice());
+                read_key(self.alloc, &self.store, operator, segment, key, seq, now)
             }
             line => self.call(rt, operator, scheduler, number, line),
         }
@@ -189,6 +199,30 @@ impl Fleet {
             Line::StopCoordinator { number: party } => {
                 self.end_coordinator(operator, number, party)
             }
+            Line::StartWorker {
+                number: worker,
+                release,
+            } => self.start_worker(operator, number, worker, release),
+            Line::KillWorker { number: worker } => self.kill_worker(operator, number, worker),
+            Line::StopWorker { number: worker } => self.stop_worker(operator, number, worker),
+            Line::Heartbeat { worker } => self.heartbeat(operator, number, worker),
+            Line::Flush {
+                name,
+                segment,
+                floor,
+                tick,
+                rows,
+            } => self.flush(
+                operator,
+                number,
+                FlushAsk {
+                    name,
+                    segment,
+                    floor,
+                    tick,
+                    rows,
+                },
+            ),
             Line::Submit {
                 segment,
                 destination,

@@ -2,8 +2,8 @@
 #![tactic(auto)]
 
 mod claims;
-mod finishes;
 mod coordinators;
+mod finishes;
 mod fleet;
 mod flushes;
 mod looks;
@@ -12,11 +12,14 @@ mod names;
 mod options;
 mod outputs;
 mod parties;
+mod reads;
 mod refusals;
 mod settings;
+mod starts;
 mod steps;
 mod submits;
 mod tables;
+mod work;
 
 pub use fleet::Fleet;
 pub use options::FleetOptions;

@@ -12,7 +12,8 @@ ghost use Rattle.fleet_text.specs.Lines.{node_of};
 ghost use Rattle.script_model.specs.LineRuns.{if_some};
 ghost use Rattle.script_model.specs.Lines.Looks.{dump_reply};
 ghost use Rattle.script_model.specs.Replies.{absent_reply, jobs_reply, tables_reply, trees_reply};
-ghost use Rattle.fleet_lines.specs.Looks.{rows_or_none, views_at, views_named};
+ghost use Rattle.fleet_read.specs.Stored.{rows_or_none};
+ghost use Rattle.fleet_lines.specs.Looks.{views_at, views_named};
 
 use fleet_book::Compactions;
 use fleet_rows::{RowEntry, SlateDBError, Ulid};

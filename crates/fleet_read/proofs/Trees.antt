@@ -34,7 +34,7 @@ use Rattle.fleet_read.specs.declared.answer.ReadAnswer.TheVariants as answers
 
 -- ---- lists
 
-find_map : {A B : Type 0} (f : A → B) (p : B → Bool) (xs : List A) → find p (map f xs) ≡ option_map f (find (λ x. p (f x)) xs)
+pub find_map : {A B : Type 0} (f : A → B) (p : B → Bool) (xs : List A) → find p (map f xs) ≡ option_map f (find (λ x. p (f x)) xs)
 find_map f p [] = refl
 find_map {A} {B} f p (x ∷ xs) = by (p (f x)) (find_map f p xs)
   where

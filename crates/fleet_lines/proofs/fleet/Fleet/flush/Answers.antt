@@ -3,7 +3,6 @@ use Rattle.std.specs.Prelude.{IfOk}
 use Rattle.std.proofs.lemmas.Result.{IfOk-weaker}
 use Rattle.step_model.specs.Steps.FlushSteps.{flush}
 use Rattle.script_model.specs.Lines.Flushes.{flush_line}
-use Rattle.fleet_rows.specs.Row.{rows_of}
 use Rattle.fleet_history.specs.declared.party.Party.TheVariants as party
 use Rattle.fleet_coordinator.specs.Flushes as coordinator
 use Rattle.fleet_lines.specs.Fleets.{FleetParts, state_of}

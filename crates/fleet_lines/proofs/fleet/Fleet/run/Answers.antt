@@ -8,7 +8,9 @@ use Rattle.script_model.specs.Script.{IsInBounds}
 use Rattle.fleet_text.specs.Lines.{line_of, node_of}
 use Rattle.fleet_text.specs.declared.line.Line.{Line}
 use Rattle.fleet_lines.specs.Fleets.{FleetParts}
-use Rattle.fleet_lines.proofs.ServeLines.{clock_serves, dump_serves, fault_serves, jobs_serves, options_serves, served_as, tables_serves, trees_serves}
+use Rattle.fleet_lines.proofs.FlushAsks.{tick_back}
+use Rattle.fleet_lines.proofs.KeyReads.{read_seen}
+use Rattle.fleet_lines.proofs.ServeLines.{clock_serves, dump_serves, fault_serves, jobs_serves, options_serves, read_serves, served_as, tables_serves, trees_serves}
 use Rattle.fleet_lines.proofs.fleet.Fleet.run.Goals as goal
 
 pub returns-in-Options-clause-served : goal.returns-in-Options-clause-served
@@ -57,3 +59,14 @@ returns-in-Dump-clause-served g c =
     (λ answer says. dump_serves _ c.args.number old answer i.segment (node_of i.node) c.requires.serving.stands
     (says ∙ (ap (λ (f : FleetParts). dump_reply f.store.world.store.tables (node_named (node_of i.node) (tree_at c.as_slice-in-Dump.result.now f.store.world.store.manifest.trees))) c.self-in-Dump.view_is
     ∙ ap (λ (segment : List ℕ). dump_reply old.store.world.store.tables (node_named (node_of i.node) (tree_at segment old.store.world.store.manifest.trees))) (search rules)))) c.dump.ensures.reply
+
+pub returns-in-Read-clause-served : goal.returns-in-Read-clause-served
+returns-in-Read-clause-served g c =
+    let old = c.args.self.now in
+    let i = c.in-Read in
+    let merge = g.O.MergeOperator.merged (g.O.MergeOperator.settings c.args.operator.now) in
+    let bounds = subst (λ (l : Line). IsInBounds (line_of l)) i.is c.requires.bounds in
+    served_as _ c.args.number _ (model.ReadKey i.segment i.key i.seq i.now) old old old _ c.read_key.result (ap line_of i.is) refl
+    (λ answer says. read_serves _ c.args.number old answer i.segment i.key i.seq i.now c.requires.serving.stands
+    (read_seen merge _ old.store.world.store c.as_slice-segment.result.now i.segment c.as_slice-key.result.now i.key i.seq _ i.now answer (ap (λ (f : FleetParts). f.store.world.store) c.self-in-Read.view_is) (search rules) (search rules) (tick_back i.now bounds.3) says))
+    c.read_key.ensures.reply
