@@ -1,10 +1,11 @@
 -- What a fleet shows, and the state of the model that it stands for.
-use Rattle.std.specs.Prelude.{◌≡◌, ℕ, ◌<◌, ◌^◌, false, List, map}
+use Rattle.std.specs.Prelude.{◌≡◌, ℕ, ◌<◌, ◌^◌, false, List, [], map}
 use Rattle.std.specs.List.{AllByRecursion}
 use Rattle.row_model.specs.Fold.{Operator}
 use Rattle.fleet_model.specs.Store.{Store}
 use Rattle.fleet_model.specs.Work.Parties.{LiveCoordinator, Parties}
 use Rattle.step_model.specs.Entries.{last_name}
+use Rattle.step_model.specs.Past.{fresh_world}
 use Rattle.script_model.specs.States as model
 use Rattle.script_model.specs.States.{State, fresh_state}
 use Rattle.line_laws.specs.States.{FleetKeeps}
@@ -64,7 +65,12 @@ pub record IsServing (merge : Operator) (fleet : FleetParts) : Type 0 where
   pub stands : Stands merge fleet
   pub named : fleet.last_name ≡ last_name fleet.store.world.store.history
 
--- The fleet ran no line yet: its state is fresh, and it may run a line under each operator.
+-- The fleet ran no line yet: its state is the fresh one of its options, its store has no past, no party is live, and
+-- the options have room.
 pub record IsFresh (fleet : FleetParts) : Type 0 where
   pub state : state_of fleet ≡ fresh_state (options_of fleet.options)
-  pub serving : (merge : Operator) → IsServing merge fleet
+  pub world : fleet.store.world ≡ fresh_world
+  pub coordinators : fleet.coordinators ≡ []
+  pub workers : fleet.workers ≡ []
+  pub named : fleet.last_name ≡ 0
+  pub few : fleet.options.worker.max_subcompactions < 2 ^ 32

@@ -44,7 +44,7 @@ use fleet_fold::MergeOperator;
 use fleet_jobs::CompactionSpec;
 use fleet_poll::PollReport;
 use fleet_rows::{JobList, SlateDBError, Ulid};
-use fleet_sched::{CompactionScheduler, CompactionScheduler, CompactorOptions};
+use fleet_sched::{CompactionScheduler, CompactorOptions};
 use fleet_store::{MemStore, Note, Party, Store};
 use fleet_tree::{OutputList, SsTableHandle};
 use fleet_worker::{BeatReport, ClaimReport, CompactionWorkerOptions, Worker};
