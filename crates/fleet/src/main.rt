@@ -2,7 +2,9 @@
 //! standard output.
 #![tactic(auto)]
 
-use fleet_run::{Fleet, StreamSink, StreamSource, fleet_main};
+use fleet_fold::AppendOperator;
+use fleet_run::{Fleet, FleetOptions, StreamSink, StreamSource, fleet_main};
+use fleet_sched::{CompactionScheduler, SizeTieredCompactionScheduler};
 use std::io::ErrorKind;
 use std::process::ExitCode;
 use std::{env, io};
@@ -30,10 +32,23 @@ fn main(rt: HostRuntime) -> ExitCode {
     let Ok(texts) = texts else {
         return ExitCode::from(MEMORY);
     };
-    let Ok(mut fleet) = Fleet::new(alloc) else {
+    let Ok(mut fleet) = Fleet::new(alloc, FleetOptions::default()) else {
         return ExitCode::from(MEMORY);
     };
+    let Ok(scheduler) = Box::new(alloc, SizeTieredCompactionScheduler::default()) else {
+        return ExitCode::from(MEMORY);
+    };
+    let scheduler: Box<dyn CompactionScheduler + Send + Sync> = scheduler;
     let mut source = StreamSource::new(rt.reader());
     let mut sink = StreamSink::new(io::writer(&rt));
-    ExitCode::from(fleet_main(alloc, texts.as_slice(), &mut source, &mut fleet, &mut sink))
+    ExitCode::from(fleet_main(
+        &rt,
+        alloc,
+        texts.as_slice(),
+        &mut source,
+        &AppendOperator,
+        scheduler,
+        &mut fleet,
+        &mut sink,
+    ))
 }

@@ -1,209 +1,169 @@
 -- How a script runs, line after line.
-use Rattle.std.proofs.Common.{◌≡◌, refl, sym, ap, ◌∙◌, subst, ℕ, ◌+◌, List, [], ◌∷◌, ◌++◌, length, None, append_assoc, append-nil, ◌≤◌, arith}
+use Rattle.std.proofs.Common.{◌≡◌, refl, sym, ap, ◌∙◌, subst, ℕ, ◌+◌, suc, List, [], ◌∷◌, ◌++◌, length, length-append, append_assoc, append-nil, ◌≤◌, arith, true, Result, Ok, Err}
+use Rattle.std.specs.Prelude.{OnOk}
 use Rattle.std.specs.List.{concat}
 use Rattle.std.proofs.lemmas.List.Folds.{concat-append}
 use Rattle.row_model.specs.Fold.{Operator}
-use Rattle.script_model.specs.Script.{Line, AreLines, IsScript}
-use Rattle.script_model.specs.Grammars.{job_grammar}
-use Rattle.script_model.specs.States.{fresh_state}
-use Rattle.script_model.specs.Defaults.{default_options, with_quiet_scheduler}
+use Rattle.fleet_model.specs.Work.Scheduler.{Scheduler}
+use Rattle.script_model.specs.Script.{Line, AreLines, IsScript, IsInBounds, Settle, Together}
+use Rattle.script_model.specs.Grammars.{is_served, served_grammar}
+use Rattle.script_model.specs.LineSteps.{OneCourse}
+use Rattle.script_model.specs.States.{Inputs, FleetOptions, State, fresh_state}
 use Rattle.script_model.specs.Follows.{LineStep, ScriptRun}
 use Rattle.fleet_run.proofs.MoreLines.{run-more}
-use Rattle.fleet_run.specs.FleetView.{FleetView, fresh_fleet}
-use Rattle.fleet_run.specs.Holds.{held_parts, Holds, state_of}
-use Rattle.fleet_run.specs.Serve.{reply_to, fleet_after}
+use Rattle.fleet_run.specs.declared.script.FleetError.{FleetError}
 use Rattle.fleet_run.specs.Program.{ReadWhole, ReadFront, RunsFirst}
-use Rattle.fleet_run.specs.SourceAndSink.{SourceView, SinkView, Took, TookShort, TookNothing}
-use Rattle.fleet_run.specs.Served.{Ran, RanButTheEnd, RunsUpToFault, RunsFront, Served, ServedUpToFault, ServedFront}
-use Rattle.fleet_run.proofs.Steps.{AreStarted, LineServes, line_serves, started_more}
+use Rattle.fleet_run.specs.Served.{inputs_of, BeginsScript, Ran, RanButTheEnd, RanLine, RanLineShort, RunsFront, RunsUpToFault, Served, ServedFront, ServedUpToFault}
+use Rattle.fleet_run.specs.SourceAndSink.{SinkView, SourceView, Took, TookNothing, TookShort}
 use Rattle.fleet_run.proofs.Written.{took_none, took_more, took_kept}
 
--- These lines were run on a fresh fleet, and the sink took their replies.
-pub record SoFar (merge : Operator) (lines : List Line) (fleet : FleetView) (old new : SinkView) : Type 0 where
-  pub ran : Ran merge lines fleet old new
-  pub last : ran.last ≡ state_of fleet ran.last.store
-  pub started : AreStarted lines fleet
+-- ---- one line
 
--- A fresh fleet holds what a fresh store has.
-fresh_holds : Holds fresh_fleet (held_parts (fresh_state default_options).store)
-fresh_holds = record {
-  made = [];
-  watermark = None;
-  trees = refl;
-  floor = refl;
-  horizon = refl;
-  tracker = refl;
-  tick = refl;
-  runs = refl;
-  falling = tt;
-  flushes = tt;
-  newest = refl;
-  last = refl;
-  small = omega arith;
-  kept = tt;
-  tables = tt;
-  used = tt;
-  named = refl;
-  jobs_drawn = refl;
-  tables_drawn = refl;
-  records = (refl, refl);
-  jobs = record { are = refl; rising = tt; below = tt };
-  opened = tt;
-  idle = λ _. refl;
-}
+-- A line that the program serves runs one course.
+pub one_course : (inputs : Inputs) (number : ℕ) (line : Line) (old : State) (answer : List ℕ) (new : State) → is_served line ≡ true → OneCourse inputs number old line answer new → LineStep inputs number old line answer new
+one_course inputs number (Settle coordinator worker rounds) old answer new served course = absurd (cc served)
+one_course inputs number (Together workers turns) old answer new served course = absurd (cc served)
+one_course inputs number _ old answer new served course = course
 
-pub so_far_none : (merge : Operator) (sink : SinkView) → SoFar merge [] fresh_fleet sink sink
-so_far_none merge sink = record {
-  ran = record { answers = []; last = fresh_state default_options; run = refl; holds = fresh_holds; live = refl; took = took_none sink };
-  last = refl;
-  started = record { coordinator = refl; worker = refl };
-}
+-- ---- lines
 
 concat-one : (answers : List (List ℕ)) (answer : List ℕ) → concat (answers ++ answer ∷ []) ≡ concat answers ++ answer
 concat-one answers answer = concat-append answers (answer ∷ []) ∙ ap (λ l. concat answers ++ l) (append-nil answer)
 
-served_next : (merge : Operator) (lines : List Line) (line : Line) (fleet : FleetView) (old mid : SinkView) (so_far : SoFar merge lines fleet old mid)
-    → job_grammar lines line → LineServes merge (1 + length lines) line fleet so_far.ran.last.store
-served_next merge lines line fleet old mid so_far fits =
-    line_serves merge (1 + length lines) lines line fleet so_far.ran.last.store fits (fits.0, fits.1) so_far.started so_far.ran.holds
+-- Of all lines, some were run so far, and these are left.
+pub record RunSoFar (inputs : Inputs) (options : FleetOptions) (all left : List Line) (last : State) (old new : SinkView) : Type 0 where
+  pub run : List Line
+  pub parts : all ≡ run ++ left
+  pub each : AreLines served_grammar run left
+  pub ran : Ran inputs options run last old new
+  pub never_fall : old.faults ≤ new.faults
 
-run_next : (merge : Operator) (lines : List Line) (line : Line) (fleet : FleetView) (old mid : SinkView) (so_far : SoFar merge lines fleet old mid)
-    (next : LineServes merge (1 + length lines) line fleet so_far.ran.last.store)
-    → ScriptRun (with_quiet_scheduler merge) 1 (fresh_state default_options) (lines ++ line ∷ []) (so_far.ran.answers ++ reply_to line fleet ∷ []) (state_of (fleet_after line fleet) next.left)
-run_next merge lines line fleet old mid so_far next =
-    let ran = so_far.ran in
-    let inputs = with_quiet_scheduler merge in
-    let new = state_of (fleet_after line fleet) next.left in
-    run-more inputs 1 (fresh_state default_options) lines ran.answers ran.last line (reply_to line fleet) new ran.run
-    (subst (λ s. LineStep inputs (1 + length lines) s line (reply_to line fleet) new) (sym so_far.last) next.step)
+pub run_none : (inputs : Inputs) (options : FleetOptions) (all : List Line) (fresh : State) (sink : SinkView) → fresh ≡ fresh_state options → AreLines served_grammar [] all → RunSoFar inputs options all all fresh sink sink
+run_none inputs options all fresh sink is each = record {
+  run = [];
+  parts = refl;
+  each = each;
+  ran = record { answers = []; run = is; took = took_none sink };
+  never_fall = omega arith;
+}
 
--- If the sink takes the fleet's reply to the next line, the lines up to that one were run.
-pub so_far_more : (merge : Operator) (lines : List Line) (line : Line) (fleet : FleetView) (old mid new : SinkView) → SoFar merge lines fleet old mid
-    → job_grammar lines line → Took (reply_to line fleet) mid new → SoFar merge (lines ++ line ∷ []) (fleet_after line fleet) old new
-so_far_more merge lines line fleet old mid new so_far fits took =
+-- The next line has the number of the lines before it, and one.
+numbered : (all run left : List Line) (line : Line) (number : ℕ) → all ≡ run ++ line ∷ left → number + length left ≡ length all → number ≡ 1 + length run
+numbered all run left line number parts place = omega (arith, place, ap length parts, length-append run (line ∷ left))
+
+next_parts : (all run left : List Line) (line : Line) → all ≡ run ++ line ∷ left → all ≡ (run ++ line ∷ []) ++ left
+next_parts all run left line parts = parts ∙ sym (append_assoc run (line ∷ []) left)
+
+-- The lines so far and one more, of which the sink took the reply.
+pub run_more : (inputs : Inputs) (options : FleetOptions) (all : List Line) (line : Line) (left : List Line) (number : ℕ) (last after : State) (old mid new : SinkView) → RunSoFar inputs options all (line ∷ left) last old mid
+    → number + length left ≡ length all → RanLine inputs number line last after mid new → mid.faults ≤ new.faults → RunSoFar inputs options all left after old new
+run_more inputs options all line left number last after old mid new so_far place line_ran fell =
     let ran = so_far.ran in
-    let answer = reply_to line fleet in
-    let next = served_next merge lines line fleet old mid so_far fits in
     record {
+      run = so_far.run ++ line ∷ [];
+      parts = next_parts all so_far.run left line so_far.parts;
+      each = so_far.each.1;
       ran = record {
-        answers = ran.answers ++ answer ∷ [];
-        last = state_of (fleet_after line fleet) next.left;
-        run = run_next merge lines line fleet old mid so_far next;
-        holds = next.holds;
-        live = refl;
-        took = rw (concat-one ran.answers answer) (took_more old mid new (concat ran.answers) answer ran.took took);
+        answers = ran.answers ++ line_ran.answer ∷ [];
+        run = run-more inputs 1 (fresh_state options) so_far.run ran.answers last line line_ran.answer after ran.run
+            (subst (λ n. LineStep inputs n last line line_ran.answer after) (numbered all so_far.run left line number so_far.parts place) line_ran.step);
+        took = rw (concat-one ran.answers line_ran.answer) (took_more old mid new (concat ran.answers) line_ran.answer ran.took line_ran.took);
       };
-      last = refl;
-      started = started_more lines line fleet so_far.started;
+      never_fall = omega (arith, so_far.never_fall, fell);
     }
 
--- A front of the reply to one more line was written.
-pub so_far_part : (merge : Operator) (lines : List Line) (line : Line) (fleet : FleetView) (old mid new : SinkView) → SoFar merge lines fleet old mid
-    → job_grammar lines line → TookShort (reply_to line fleet) mid new → RanButTheEnd merge (lines ++ line ∷ []) (fleet_after line fleet) old new
-so_far_part merge lines line fleet old mid new so_far fits short =
+pub run_all : (inputs : Inputs) (options : FleetOptions) (all : List Line) (last : State) (old new : SinkView) → RunSoFar inputs options all [] last old new → Ran inputs options all last old new
+run_all inputs options all last old new so_far = rw (so_far.parts ∙ append-nil so_far.run) so_far.ran
+
+-- The lines so far and one more, of which the sink did not take the reply to its end.
+pub run_part : (inputs : Inputs) (options : FleetOptions) (all : List Line) (line : Line) (left : List Line) (number : ℕ) (last after : State) (old mid new : SinkView) → RunSoFar inputs options all (line ∷ left) last old mid
+    → number + length left ≡ length all → RanLineShort inputs number line last after mid new → RunsUpToFault inputs options all after old new
+run_part inputs options all line left number last after old mid new so_far place line_ran =
     let ran = so_far.ran in
-    let next = served_next merge lines line fleet old mid so_far fits in
+    let short = line_ran.short in
     record {
-      answers = ran.answers;
-      answer = reply_to line fleet;
-      last = state_of (fleet_after line fleet) next.left;
-      run = run_next merge lines line fleet old mid so_far next;
-      holds = next.holds;
-      live = refl;
-      front = short.front;
-      end = short.end;
-      parts = short.parts;
-      some_left = short.some_left;
-      took = took_more old mid new (concat ran.answers) short.front ran.took short.took;
+      run = so_far.run ++ line ∷ [];
+      left = left;
+      parts = next_parts all so_far.run left line so_far.parts;
+      ran = record {
+        answers = ran.answers;
+        answer = line_ran.answer;
+        run = run-more inputs 1 (fresh_state options) so_far.run ran.answers last line line_ran.answer after ran.run
+            (subst (λ n. LineStep inputs n last line line_ran.answer after) (numbered all so_far.run left line number so_far.parts place) line_ran.step);
+        front = short.front;
+        end = short.end;
+        parts = short.parts;
+        some_left = short.some_left;
+        took = took_more old mid new (concat ran.answers) short.front ran.took short.took;
+      };
     }
 
--- Nothing of the reply to one more line was written, and the fleet stayed as it was.
-pub so_far_kept : (merge : Operator) (lines : List Line) (fleet : FleetView) (old mid new : SinkView) → SoFar merge lines fleet old mid → TookNothing mid new → Ran merge lines fleet old new
-so_far_kept merge lines fleet old mid new so_far kept =
-    let ran = so_far.ran in
-    record { answers = ran.answers; last = ran.last; run = ran.run; holds = ran.holds; live = ran.live; took = took_kept old mid new (concat ran.answers) ran.took kept }
+-- The lines so far, and nothing of the reply to the next one.
+pub run_kept : (inputs : Inputs) (options : FleetOptions) (all left : List Line) (last : State) (old mid new : SinkView) → RunSoFar inputs options all left last old mid → TookNothing mid new → RunsFront inputs options all old new
+run_kept inputs options all left last old mid new so_far kept = record {
+  run = so_far.run;
+  left = left;
+  parts = so_far.parts;
+  last = last;
+  ran = record { answers = so_far.ran.answers; run = so_far.ran.run; took = took_kept old mid new (concat so_far.ran.answers) so_far.ran.took kept };
+}
 
 -- ---- texts
 
-pub served : (merge : Operator) (text : List ℕ) (lines : List Line) (fleet : FleetView) (old new : SinkView) → IsScript job_grammar text lines → Ran merge lines fleet old new → Served merge text fleet old new
-served merge text lines fleet old new script ran = record {
+served : (inputs : Inputs) (options : FleetOptions) (text : List ℕ) (lines : List Line) (last : State) (old new : SinkView) → IsScript served_grammar text lines → Ran inputs options lines last old new → Served inputs options text last old new
+served inputs options text lines last old new script ran = record {
   written = concat ran.answers;
-  store = ran.last.store;
-  follows = record { lines = lines; answers = ran.answers; last = ran.last; script = script; run = ran.run; stored = refl; replies = refl };
-  holds = ran.holds;
-  live = ran.live;
+  follows = record { lines = lines; answers = ran.answers; last = last; script = script; run = ran.run; stored = refl; replies = refl };
+  left = refl;
   took = ran.took;
 }
 
-pub served_up_to_fault : (merge : Operator) (text : List ℕ) (lines : List Line) (fleet : FleetView) (old new : SinkView) → IsScript job_grammar text lines → RunsUpToFault merge lines fleet old new → ServedUpToFault merge text fleet old new
-served_up_to_fault merge text lines fleet old new script runs = record { lines = lines; script = script; runs = runs }
+served_up_to_fault : (inputs : Inputs) (options : FleetOptions) (text : List ℕ) (lines : List Line) (last : State) (old new : SinkView) → IsScript served_grammar text lines → RunsUpToFault inputs options lines last old new
+    → ServedUpToFault inputs options text last old new
+served_up_to_fault inputs options text lines last old new script runs = record { lines = lines; script = script; runs = runs }
 
-pub served_front : (text : List ℕ) (lines : List Line) (fleet : FleetView) (old new : SinkView) → IsScript job_grammar text lines → RunsFront lines fleet old new → ServedFront text fleet old new
-served_front text lines fleet old new script runs = record {
+served_front : (inputs : Inputs) (options : FleetOptions) (text : List ℕ) (lines : List Line) (old new : SinkView) → IsScript served_grammar text lines → RunsFront inputs options lines old new → ServedFront inputs options text old new
+served_front inputs options text lines old new script runs = record {
   run = runs.run;
+  last = runs.last;
   ran = runs.ran;
-  begins = λ some. record { left = runs.left; script = subst (IsScript job_grammar text) runs.parts script };
+  begins = λ some. record { left = runs.left; script = subst (IsScript served_grammar text) runs.parts script };
 }
 
+-- The same, for a scheduler that is handed on: it has the same answers.
+module _ (merge : Operator) (given same : Scheduler) (alike : given ≡ same) (options : FleetOptions) (text : List ℕ) (lines : List Line) (script : IsScript served_grammar text lines) (old new : SinkView) where
+  pub served_by : (last : State) (r : Result (Unit {0}) FleetError) → OnOk r (Ran (inputs_of merge given) options lines last old new) → OnOk r (Served (inputs_of merge same) options text last old new)
+  served_by last (Ok x) ran = subst (λ (s : Scheduler). Served (inputs_of merge s) options text last old new) alike (served (inputs_of merge given) options text lines last old new script ran)
+  served_by last (Err e) ran = ran
+
+  pub served_up_to_fault_by : (last : State) → RunsUpToFault (inputs_of merge given) options lines last old new → ServedUpToFault (inputs_of merge same) options text last old new
+  served_up_to_fault_by last runs =
+      subst (λ (s : Scheduler). ServedUpToFault (inputs_of merge s) options text last old new) alike (served_up_to_fault (inputs_of merge given) options text lines last old new script runs)
+
+  pub served_front_by : RunsFront (inputs_of merge given) options lines old new → ServedFront (inputs_of merge same) options text old new
+  served_front_by runs = subst (λ (s : Scheduler). ServedFront (inputs_of merge s) options text old new) alike (served_front (inputs_of merge given) options text lines old new script runs)
+
+-- No line was run.
+ran_none : (inputs : Inputs) (options : FleetOptions) (sink : SinkView) → Ran inputs options [] (fresh_state options) sink sink
+ran_none inputs options sink = record { answers = []; run = refl; took = took_none sink }
+
 -- Nothing was run and nothing was written.
-pub served_nothing : (text : List ℕ) (sink : SinkView) → ServedFront text fresh_fleet sink sink
-served_nothing text sink = record { run = []; ran = λ merge. (so_far_none merge sink).ran; begins = λ some. absurd (some refl) }
+pub served_nothing : (inputs : Inputs) (options : FleetOptions) (text : List ℕ) (sink : SinkView) → ServedFront inputs options text sink sink
+served_nothing inputs options text sink = record { run = []; last = fresh_state options; ran = ran_none inputs options sink; begins = λ some. absurd (some refl) }
 
 -- ---- the program
 
 -- Nothing was run, whatever the source gave.
-pub runs_nothing : (source_old source_new : SourceView) (sink : SinkView) → ReadFront source_old source_new → RunsFirst fresh_fleet source_old source_new sink sink
-runs_nothing source_old source_new sink front = record { run = []; front = front; ran = λ merge. (so_far_none merge sink).ran; reads = λ some. absurd (some refl) }
+pub runs_nothing : (inputs : Inputs) (options : FleetOptions) (source_old source_new : SourceView) (sink : SinkView) → ReadFront source_old source_new → RunsFirst inputs options source_old source_new sink sink
+runs_nothing inputs options source_old source_new sink front = record { run = []; last = fresh_state options; front = front; ran = ran_none inputs options sink; reads = λ some. absurd (some refl) }
 
 -- The first lines of a text were run, and the source gave that text and ended.
-pub runs_first : (text : List ℕ) (fleet : FleetView) (source_old source_new : SourceView) (sink_old sink_new : SinkView) → ReadWhole text source_old source_new → ServedFront text fleet sink_old sink_new
-    → RunsFirst fleet source_old source_new sink_old sink_new
-runs_first text fleet source_old source_new sink_old sink_new read served = record {
+pub runs_first : (inputs : Inputs) (options : FleetOptions) (text : List ℕ) (source_old source_new : SourceView) (sink_old sink_new : SinkView) → ReadWhole text source_old source_new → ServedFront inputs options text sink_old sink_new
+    → RunsFirst inputs options source_old source_new sink_old sink_new
+runs_first inputs options text source_old source_new sink_old sink_new read served = record {
   run = served.run;
+  last = served.last;
   front = record { text = text; bytes = read.bytes; given = read.given };
   ran = served.ran;
   reads = λ some. record { text = text; read = read; begins = served.begins some };
-}
-
--- ---- the loop over the lines
-
--- Of all lines, some were run so far, and these are left.
-pub record RunSoFar (all left : List Line) (fleet : FleetView) (old new : SinkView) : Type 0 where
-  pub run : List Line
-  pub parts : all ≡ run ++ left
-  pub each : AreLines job_grammar run left
-  pub ran : (merge : Operator) → SoFar merge run fleet old new
-  pub never_fall : old.faults ≤ new.faults
-
-pub run_none : (all : List Line) (sink : SinkView) → AreLines job_grammar [] all → RunSoFar all all fresh_fleet sink sink
-run_none all sink each = record { run = []; parts = refl; each = each; ran = λ merge. so_far_none merge sink; never_fall = omega arith }
-
-pub run_more : (all : List Line) (line : Line) (left : List Line) (fleet after : FleetView) (old mid new : SinkView) → RunSoFar all (line ∷ left) fleet old mid
-    → after ≡ fleet_after line fleet → Took (reply_to line fleet) mid new → mid.faults ≤ new.faults → RunSoFar all left after old new
-run_more all line left fleet after old mid new so_far is took fell = record {
-  run = so_far.run ++ line ∷ [];
-  parts = so_far.parts ∙ sym (append_assoc so_far.run (line ∷ []) left);
-  each = so_far.each.1;
-  ran = λ merge. rw is (so_far_more merge so_far.run line fleet old mid new (so_far.ran merge) so_far.each.0 took);
-  never_fall = omega (arith, so_far.never_fall, fell);
-}
-
-pub run_all : (all : List Line) (fleet : FleetView) (old new : SinkView) → RunSoFar all [] fleet old new → (merge : Operator) → Ran merge all fleet old new
-run_all all fleet old new so_far merge = rw (so_far.parts ∙ append-nil so_far.run) (so_far.ran merge).ran
-
-pub run_part : (all : List Line) (line : Line) (left : List Line) (fleet after : FleetView) (old mid new : SinkView) → RunSoFar all (line ∷ left) fleet old mid
-    → after ≡ fleet_after line fleet → TookShort (reply_to line fleet) mid new → (merge : Operator) → RunsUpToFault merge all after old new
-run_part all line left fleet after old mid new so_far is short merge = record {
-  run = so_far.run ++ line ∷ [];
-  left = left;
-  parts = so_far.parts ∙ sym (append_assoc so_far.run (line ∷ []) left);
-  ran = rw is (so_far_part merge so_far.run line fleet old mid new (so_far.ran merge) so_far.each.0 short);
-}
-
-pub run_kept : (all left : List Line) (fleet after : FleetView) (old mid new : SinkView) → RunSoFar all left fleet old mid → after ≡ fleet → TookNothing mid new → RunsFront all after old new
-run_kept all left fleet after old mid new so_far is kept = record {
-  run = so_far.run;
-  left = left;
-  parts = so_far.parts;
-  ran = λ merge. rw is (so_far_kept merge so_far.run fleet old mid new (so_far.ran merge) kept);
 }

@@ -2,11 +2,8 @@ pub mod SourceAndSink
 pub mod Memory
 pub mod SliceStreams
 pub mod Streams
-pub mod Jobs
-pub mod Outputs
-pub mod FleetView
-pub mod Serve
-pub mod Holds
 pub mod Served
 pub mod Errors
+pub mod Commands
 pub mod Program
+pub mod Generating

@@ -1,45 +1,50 @@
--- The result of running a script: the replies that were written, and the fleet that is left.
+-- The result of running a script: the replies that were written, and the state of the fleet that is left.
 use Rattle.std.specs.Prelude.{◌≡◌, ◌≢◌, ℕ, List, [], ◌∷◌, ◌++◌}
 use Rattle.std.specs.List.{concat}
 use Rattle.row_model.specs.Fold.{Operator}
-use Rattle.fleet_model.specs.Store.{Store}
+use Rattle.fleet_model.specs.Work.Scheduler.{Scheduler}
 use Rattle.script_model.specs.Script.{Line, IsScript}
-use Rattle.script_model.specs.Grammars.{job_grammar}
-use Rattle.script_model.specs.States.{State, fresh_state}
-use Rattle.script_model.specs.Defaults.{default_options, with_quiet_scheduler}
-use Rattle.script_model.specs.Follows.{ScriptRun, Follows}
-use Rattle.fleet_run.specs.FleetView.{FleetView}
-use Rattle.fleet_run.specs.Holds.{held_parts, Holds, parties_of}
-use Rattle.fleet_run.specs.SourceAndSink.{SinkView, Took}
+use Rattle.script_model.specs.Grammars.{served_grammar}
+use Rattle.script_model.specs.States.{Inputs, FleetOptions, State, fresh_state}
+use Rattle.script_model.specs.Follows.{LineStep, ScriptRun, Follows}
+use Rattle.fleet_run.specs.SourceAndSink.{SinkView, Took, TookShort}
 
--- The text is a script. A fresh fleet ran it, and the sink took exactly the replies. The fleet
--- holds the store at the end of the run, and has the parties that are live then.
-pub record Served (merge : Operator) (text : List ℕ) (fleet : FleetView) (old new : SinkView) : Type 0 where
-  pub written : List ℕ
-  pub store : Store
-  pub follows : Follows job_grammar (with_quiet_scheduler merge) default_options text store written
-  pub holds : Holds fleet (held_parts store)
-  pub live : follows.last.parties ≡ parties_of fleet
-  pub took : Took written old new
+-- What is given beside a script: the merge operator and the scheduler.
+abbrev pub inputs_of : Operator → Scheduler → Inputs
+inputs_of merge scheduler = record { merge = merge; scheduler = scheduler }
 
--- A fresh fleet ran these lines, and the sink took exactly their replies.
-pub record Ran (merge : Operator) (lines : List Line) (fleet : FleetView) (old new : SinkView) : Type 0 where
+-- ---- one line
+
+-- The line took the old state to the new one, and the sink took exactly its reply.
+pub record RanLine (inputs : Inputs) (number : ℕ) (line : Line) (old new : State) (sink_old sink_new : SinkView)
+    : Type 0 where
+  pub answer : List ℕ
+  pub step : LineStep inputs number old line answer new
+  pub took : Took answer sink_old sink_new
+
+-- The line took the old state to the new one. The sink did not take its reply to the end.
+pub record RanLineShort (inputs : Inputs) (number : ℕ) (line : Line) (old new : State) (sink_old sink_new : SinkView)
+    : Type 0 where
+  pub answer : List ℕ
+  pub step : LineStep inputs number old line answer new
+  pub short : TookShort answer sink_old sink_new
+
+-- ---- lines
+
+-- A fresh fleet with these options ran these lines and has this state. The sink took exactly their replies.
+pub record Ran (inputs : Inputs) (options : FleetOptions) (lines : List Line) (last : State) (old new : SinkView)
+    : Type 0 where
   pub answers : List (List ℕ)
-  pub last : State
-  pub run : ScriptRun (with_quiet_scheduler merge) 1 (fresh_state default_options) lines answers last
-  pub holds : Holds fleet (held_parts last.store)
-  pub live : last.parties ≡ parties_of fleet
+  pub run : ScriptRun inputs 1 (fresh_state options) lines answers last
   pub took : Took (concat answers) old new
 
 -- A fresh fleet ran these lines. The sink took all their replies, except that it did not take the
 -- last one to its end.
-pub record RanButTheEnd (merge : Operator) (lines : List Line) (fleet : FleetView) (old new : SinkView) : Type 0 where
+pub record RanButTheEnd (inputs : Inputs) (options : FleetOptions) (lines : List Line) (last : State)
+    (old new : SinkView) : Type 0 where
   pub answers : List (List ℕ)
   pub answer : List ℕ
-  pub last : State
-  pub run : ScriptRun (with_quiet_scheduler merge) 1 (fresh_state default_options) lines (answers ++ answer ∷ []) last
-  pub holds : Holds fleet (held_parts last.store)
-  pub live : last.parties ≡ parties_of fleet
+  pub run : ScriptRun inputs 1 (fresh_state options) lines (answers ++ answer ∷ []) last
   pub front : List ℕ
   pub end : List ℕ
   pub parts : answer ≡ front ++ end
@@ -48,35 +53,49 @@ pub record RanButTheEnd (merge : Operator) (lines : List Line) (fleet : FleetVie
 
 -- A fresh fleet ran the first of these lines. The sink took their replies, except that it did not
 -- take the last one to its end.
-pub record RunsUpToFault (merge : Operator) (lines : List Line) (fleet : FleetView) (old new : SinkView) : Type 0 where
+pub record RunsUpToFault (inputs : Inputs) (options : FleetOptions) (lines : List Line) (last : State)
+    (old new : SinkView) : Type 0 where
   pub run : List Line
   pub left : List Line
   pub parts : lines ≡ run ++ left
-  pub ran : RanButTheEnd merge run fleet old new
+  pub ran : RanButTheEnd inputs options run last old new
 
--- A fresh fleet ran the first of these lines, and the sink took exactly their replies. This holds
--- for every merge operator.
-pub record RunsFront (lines : List Line) (fleet : FleetView) (old new : SinkView) : Type 0 where
+-- A fresh fleet ran the first of these lines to their ends, and the sink took exactly their replies.
+pub record RunsFront (inputs : Inputs) (options : FleetOptions) (lines : List Line) (old new : SinkView)
+    : Type 0 where
   pub run : List Line
   pub left : List Line
   pub parts : lines ≡ run ++ left
-  pub ran : (merge : Operator) → Ran merge run fleet old new
+  pub last : State
+  pub ran : Ran inputs options run last old new
+
+-- ---- texts
+
+-- The text is a script. A fresh fleet with these options ran it and has this state. The sink took exactly the
+-- replies.
+pub record Served (inputs : Inputs) (options : FleetOptions) (text : List ℕ) (last : State) (old new : SinkView)
+    : Type 0 where
+  pub written : List ℕ
+  pub follows : Follows served_grammar inputs options text last.store written
+  pub left : follows.last ≡ last
+  pub took : Took written old new
 
 -- The text is a script. It was run up to a line whose reply the sink did not take to its end.
-pub record ServedUpToFault (merge : Operator) (text : List ℕ) (fleet : FleetView) (old new : SinkView) : Type 0 where
+pub record ServedUpToFault (inputs : Inputs) (options : FleetOptions) (text : List ℕ) (last : State)
+    (old new : SinkView) : Type 0 where
   pub lines : List Line
-  pub script : IsScript job_grammar text lines
-  pub runs : RunsUpToFault merge lines fleet old new
+  pub script : IsScript served_grammar text lines
+  pub runs : RunsUpToFault inputs options lines last old new
 
 -- The text is a script that begins with these lines.
 pub record BeginsScript (text : List ℕ) (lines : List Line) : Type 0 where
   pub left : List Line
-  pub script : IsScript job_grammar text (lines ++ left)
+  pub script : IsScript served_grammar text (lines ++ left)
 
--- A fresh fleet ran some lines, or none, and the sink took exactly their replies. This holds for
--- every merge operator. If a line was run, the text is a script that begins with the lines that
--- were run.
-pub record ServedFront (text : List ℕ) (fleet : FleetView) (old new : SinkView) : Type 0 where
+-- A fresh fleet ran some lines to their ends, or none, and the sink took exactly their replies. If a line was
+-- run, the text is a script that begins with the lines that were run.
+pub record ServedFront (inputs : Inputs) (options : FleetOptions) (text : List ℕ) (old new : SinkView) : Type 0 where
   pub run : List Line
-  pub ran : (merge : Operator) → Ran merge run fleet old new
+  pub last : State
+  pub ran : Ran inputs options run last old new
   pub begins : run ≢ [] → BeginsScript text run

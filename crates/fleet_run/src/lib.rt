@@ -1,20 +1,19 @@
 //! Runs scripts on a fleet. It has the whole program except `main`.
 #![tactic(auto)]
 
-mod answer;
-mod fleet;
-mod jobs;
+mod command;
+mod generated;
 mod memory;
-mod outputs;
 mod program;
 mod script;
 mod slice_streams;
 mod source_and_sink;
 mod stream;
-mod tables;
-mod work;
 
-pub use fleet::Fleet;
+pub use fleet_generate::make_script;
+pub use fleet_lines::{Fleet, FleetOptions};
+pub use fleet_read::{ReadAnswer, read_stored};
+pub use command::Command;
 pub use memory::{MemSink, MemSource};
 pub use program::fleet_main;
 pub use script::{FleetError, run_script};

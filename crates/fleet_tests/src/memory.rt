@@ -3,8 +3,11 @@
 ghost use Rattle.std.specs.Prelude.{None};
 ghost use Rattle.fleet_run.specs.SourceAndSink.{SinkView};
 
-use fleet_run::{Failed, Fleet, SafeSource, Sink, fleet_main};
+use fleet_fold::AppendOperator;
+use fleet_run::{Failed, Fleet, FleetOptions, SafeSource, Sink, fleet_main};
+use fleet_sched::{CompactionScheduler, SizeTieredCompactionScheduler};
 use std::alloc::Global;
+use std::thread::Threads;
 
 const FLUSH_AND_READ: &str =
     "flush 1 - 3 0 61:t:-:4:-:-,61:v:7631:2:-:-,61:v:7630:1:-:-\nread - 61 3 0\nread - 61 4 0\nread - 61 2 0\nread - 62 9 0\n";
@@ -62,17 +65,35 @@ impl Sink for ShortSink {
 }
 
 // Whether only whole replies to a script were written, and the status is 0 if all were, and else 6.
-fn ends_between_replies(alloc: Global, script: &str, replies: &str) -> bool {
-    let Ok(mut fleet) = Fleet::new(alloc) else {
+fn ends_between_replies<R: Threads + Sync>(
+    rt: &R,
+    alloc: Global,
+    script: &str,
+    replies: &str,
+) -> bool {
+    let Ok(mut fleet) = Fleet::new(alloc, FleetOptions::default()) else {
         return true;
     };
+    let Ok(scheduler) = Box::new(alloc, SizeTieredCompactionScheduler::default()) else {
+        return true;
+    };
+    let scheduler: Box<dyn CompactionScheduler + Send + Sync> = scheduler;
     let mut source = SafeSource::new(script.as_bytes());
     let mut sink = ShortSink {
         bytes: [0; 512],
         len: 0,
         taken: 0,
     };
-    let status = fleet_main(alloc, &["run"], &mut source, &mut fleet, &mut sink);
+    let status = fleet_main(
+        rt,
+        alloc,
+        &["run"],
+        &mut source,
+        &AppendOperator,
+        scheduler,
+        &mut fleet,
+        &mut sink,
+    );
     let written = &sink.bytes[..sink.len.min(sink.bytes.len())];
     are_whole(written, replies) && status == if written == replies.as_bytes() { 0 } else { 6 }
 }
@@ -85,6 +106,6 @@ fn are_whole(written: &[u8], replies: &str) -> bool {
 // ample memory it is 0.
 #[test]
 fn memory_ends_between_replies(rt: HostRuntime) {
-    assert!(rt; ends_between_replies(rt.alloc(), FLUSH_AND_READ, FLUSH_AND_READ_REPLIES));
-    assert!(rt; ends_between_replies(rt.alloc(), DELETED_KEY, DELETED_KEY_REPLIES));
+    assert!(rt; ends_between_replies(&rt, rt.alloc(), FLUSH_AND_READ, FLUSH_AND_READ_REPLIES));
+    assert!(rt; ends_between_replies(&rt, rt.alloc(), DELETED_KEY, DELETED_KEY_REPLIES));
 }

@@ -1,5 +1,0 @@
-use Rattle.fleet_run.proofs.LastIds.{last_at}
-use Rattle.fleet_run.proofs.jobs.is_last_run.Goals as goal
-
-pub returns-in-Some : goal.returns-in-Some
-returns-in-Some c = last_at c.args.id c.args.ids.now c.in-Some.last.now c.in-Some.ensures.item.3.0 c.in-Some.ensures.item.1

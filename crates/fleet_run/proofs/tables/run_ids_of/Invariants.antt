@@ -1,6 +1,0 @@
-use Rattle.std.proofs.Common.{◌≡◌, ◌++◌, drop}
-use Rattle.fleet_model.specs.Work.Records.{firsts}
-use Rattle.fleet_run.proofs.tables.run_ids_of.Given as goal
-
-abbrev pub invariant-loop-i : goal.invariant-loop-i
-invariant-loop-i l = l.ids.items ++ firsts (drop l.i l.runs.items) ≡ firsts l.runs.items
