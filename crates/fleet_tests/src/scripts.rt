@@ -66,7 +66,12 @@ fn bad_lines_are_named(rt: HostRuntime) {
 #[test]
 fn second_write_fails(rt: HostRuntime) {
     let mut sink = MemSink::new(rt.alloc(), &[2]);
-    let result = run(&rt, rt.alloc(), b"read - 61 1 0\nread - 61 2 0\n", &mut sink);
+    let result = run(
+        &rt,
+        rt.alloc(),
+        b"read - 61 1 0\nread - 61 2 0\n",
+        &mut sink,
+    );
     assert!(rt; result == Err(FleetError::WriteFault));
     assert!(rt; sink.as_slice() == b"none\n".as_slice());
 }
