@@ -10,10 +10,10 @@ mod slice_streams;
 mod source_and_sink;
 mod stream;
 
+pub use command::Command;
 pub use fleet_generate::make_script;
 pub use fleet_lines::{Fleet, FleetOptions};
 pub use fleet_read::{ReadAnswer, read_stored};
-pub use command::Command;
 pub use memory::{MemSink, MemSource};
 pub use program::fleet_main;
 pub use script::{FleetError, run_script};
