@@ -3,18 +3,39 @@
 ghost use Rattle.std.specs.Prelude.{◌≡◌, ◌↔◌, IsTrue};
 ghost use Rattle.std.specs.List.{AllByRecursion};
 ghost use Rattle.row_model.specs.Bounds.{IsInBounds};
-ghost use Rattle.row_model.specs.Rows.{are_ordered, row_cmp, IsStrictlyOrdered};
+ghost use Rattle.row_model.specs.Rows.{are_ordered, key_cmp, row_cmp, IsStrictlyOrdered};
 ghost use Rattle.fleet_rows.specs.Row.{row_of, rows_of};
 
 use crate::RowEntry;
 use std::cmp::Ordering;
+
+// Compares keys. It takes eight bytes at once as a number, whose highest byte is the first one.
+#[inline]
+fn key_order(key: &[u8], other: &[u8]) -> Ordering
+    ensures { result ≡ key_cmp key.now other.now }
+{
+    let mut rest = key;
+    let mut other_rest = other;
+    'words: while let Some(bytes) = rest.first_chunk::<8>()
+        && let Some(other_bytes) = other_rest.first_chunk::<8>()
+    {
+        let word = u64::from_be_bytes(*bytes);
+        let other_word = u64::from_be_bytes(*other_bytes);
+        if word != other_word {
+            return word.cmp(&other_word);
+        }
+        rest = &rest[8..];
+        other_rest = &other_rest[8..];
+    }
+    rest.cmp(other_rest)
+}
 
 /// Compares rows as tables order them: keys rise, and within a key sequences fall.
 #[inline]
 pub fn row_order(row: &RowEntry, other: &RowEntry) -> Ordering
     ensures { result ≡ row_cmp (row_of row.now) (row_of other.now) }
 {
-    match row.key.cmp(&other.key) {
+    match key_order(row.key.as_slice(), other.key.as_slice()) {
         Ordering::Equal => other.seq.cmp(&row.seq),
         order => order,
     }

@@ -1,0 +1,20 @@
+use Rattle.std.proofs.Common.{refl}
+use Rattle.fleet_rows.proofs.Words.{words_left, words_answer}
+use Rattle.fleet_rows.proofs.order.key_order.Goals as goal
+
+pub words-init : goal.words-init
+words-init c = record { small = λ i. (c.type_inv.key i).fits; low = λ i. (c.type_inv.other i).fits; same = refl }
+
+pub words-preserved : goal.words-preserved
+words-preserved c =
+    let one = c.in-Some.ensures.cases in
+    let two = c.in-Some-first_chunk.ensures.cases in
+    words_left c.args.key.now c.args.other.now c.words.rest.now c.words.other_rest.now c.in-Some.bytes.now c.in-Some-first_chunk.other_bytes.now _ _ c.words.invariant one.enough two.enough one.same two.same
+    c.from_be_bytes-word.ensures c.from_be_bytes-other_word.ensures c.if-word-other_word.false
+
+pub returns-then-word-other_word : goal.returns-then-word-other_word
+returns-then-word-other_word c =
+    let one = c.in-Some.ensures.cases in
+    let two = c.in-Some-first_chunk.ensures.cases in
+    words_answer c.args.key.now c.args.other.now c.words.rest.now c.words.other_rest.now c.in-Some.bytes.now c.in-Some-first_chunk.other_bytes.now _ _ c.cmp.result c.words.invariant one.enough two.enough one.same two.same
+    c.from_be_bytes-word.ensures c.from_be_bytes-other_word.ensures c.if-word-other_word.true c.cmp.ensures
