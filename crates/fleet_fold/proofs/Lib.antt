@@ -1,4 +1,5 @@
 pub mod AllKept
+pub mod Batches
 pub mod Filters
 pub mod FoldRefusals
 pub mod FoldedRows
