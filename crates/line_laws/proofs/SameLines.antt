@@ -127,7 +127,7 @@ deletes_spare w [] answer rest all = tt
 deletes_spare w (table ∷ tables) answer rest all = (all.0, λ met. deletes_spare w tables answer rest all.1)
 
 -- A sweep deletes no table that a live worker holds.
-sweep_spares : {B : Type 0} (parties : Parties) (w : LiveWorker) (rest : List ℕ → B) → IsIn w parties.workers → AllCalls (SparesTables w) (then_course (sweep (pinned_tables parties)) (λ tables. Ends (rest tables)))
+pub sweep_spares : {B : Type 0} (parties : Parties) (w : LiveWorker) (rest : List ℕ → B) → IsIn w parties.workers → AllCalls (SparesTables w) (then_course (sweep (pinned_tables parties)) (λ tables. Ends (rest tables)))
 unfolding sweep
 sweep_spares parties w rest there = (
   tt,

@@ -26,6 +26,12 @@ LineStep inputs number old (Settle coordinator worker rounds) answer new =
 LineStep inputs number old (Together workers turns) answer new = ⊥
 LineStep inputs number old line answer new = OneCourse inputs number old line answer new
 
+-- True if the line runs one course, whatever its parties are.
+abbrev pub runs_one_course : Line → Bool
+runs_one_course (Settle coordinator worker rounds) = false
+runs_one_course (Together workers turns) = false
+runs_one_course _ = true
+
 -- The lines take the old state to the new one, each with its reply. `number` is the number of the
 -- first line.
 abbrev pub ScriptRun : Inputs → ℕ → State → List Line → List (List ℕ) → State → Type 0

@@ -1,6 +1,6 @@
 -- Two grammars: that of all lines, and that of the lines that the program serves.
 use Rattle.std.specs.Prelude.{◌≡◌, Bool, true, false, []}
-use Rattle.script_model.specs.Script.{Line, Options, Sweep, Scan, Settle, Together, IsInBounds, Grammar}
+use Rattle.script_model.specs.Script.{Line, Options, Together, IsInBounds, Grammar}
 
 -- The line sets the options.
 abbrev pub is_options : Line → Bool
@@ -13,9 +13,6 @@ full_grammar before line = IsInBounds line × (is_options line ≡ true → befo
 
 -- The program serves lines of this kind.
 abbrev pub is_served : Line → Bool
-is_served Sweep = false
-is_served (Scan segment from to seq now limit) = false
-is_served (Settle coordinator worker rounds) = false
 is_served (Together workers turns) = false
 is_served _ = true
 
