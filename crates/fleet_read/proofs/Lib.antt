@@ -3,3 +3,9 @@ pub mod HeldRows
 pub mod Taken
 pub mod Views
 pub mod Trees
+pub mod Kept
+pub mod TreeApart
+pub mod SameScans
+pub mod TreeScans
+pub mod Pages
+pub mod Scanned

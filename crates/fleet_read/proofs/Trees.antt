@@ -43,7 +43,7 @@ find_map {A} {B} f p (x ∷ xs) = by (p (f x)) (find_map f p xs)
     by false rest = rest
 
 -- What holds of all elements holds of one that is found.
-of_found : {A : Type 0} (P : A → Type 0) (p : A → Bool) (xs : List A) (x : A) → AllByRecursion P xs → find p xs ≡ Some x → P x
+pub of_found : {A : Type 0} (P : A → Type 0) (p : A → Bool) (xs : List A) (x : A) → AllByRecursion P xs → find p xs ≡ Some x → P x
 of_found P p [] x all is = absurd (cc is)
 of_found {A} P p (y ∷ xs) x all is = by (p y) is (λ is. of_found P p xs x all.1 is)
   where
@@ -78,7 +78,7 @@ bare_at segment trees = ap tree_or_empty (find_map bare_segment (λ (s : Segment
     by (Some s) = refl
 
 -- The tree of a program that is found for a segment, or no nodes.
-abbrev found_tree : Option LsmTreeState → Tree
+abbrev pub found_tree : Option LsmTreeState → Tree
 found_tree None = []
 found_tree (Some tree) = tree_of (λ run. []) tree
 

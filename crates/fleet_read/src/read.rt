@@ -33,8 +33,8 @@ fn is_outside(view: &SsTableView, key: &[u8]) -> bool
     key.cmp(view.sst.first_key.as_slice()).is_lt() || key.cmp(view.sst.last_key.as_slice()).is_gt()
 }
 
-// Whether reads at this sequence or moment are not answered any more.
-fn is_not_retained(store: &MemStore, seq: u64, now: i64) -> bool
+/// Whether reads at this sequence or moment are not answered any more.
+pub(crate) fn is_not_retained(store: &MemStore, seq: u64, now: i64) -> bool
     ensures { result ≡ is_not_retained store.now.world.store.manifest seq now }
 {
     let core = &store.manifest().manifest.core;
