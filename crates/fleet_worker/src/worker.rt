@@ -109,6 +109,13 @@ impl Worker {
         self.release
     }
 
+    /// The attempts that the worker runs, by rising job.
+    pub fn attempts(&self) -> &[RunAttempt]
+        ensures { result.now ≡ self.now.attempts }
+    {
+        self.attempts.as_slice()
+    }
+
     /// The worker's attempt at the job, or None if the worker does not run the job.
     pub fn attempt(&self, job: Ulid) -> Option<&RunAttempt>
         ensures { option_copied result ≡ run_at self.now.attempts job }
