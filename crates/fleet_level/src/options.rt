@@ -1,11 +1,11 @@
 //! The options of the level scheduler.
 
-ghost use Rattle.std.specs.Prelude.{◌≡◌, ◌↔◌, if◌then◌else◌, IsTrue, Some, None, map};
+ghost use Rattle.std.specs.Prelude.{◌≡◌, if◌then◌else◌, Some, None, map};
 ghost use Rattle.sched_model.specs.Levels.{are_allowed};
 ghost use Rattle.fleet_text.specs.Reading.{Reads};
 ghost use Rattle.fleet_level.specs.Options.{FitOptions, level_options, option_words};
 
-use fleet_text::number_of;
+use fleet_text::{is_word, number_of};
 use std::marker::Model;
 
 /// The options of the level scheduler. Contracts see them as the model's options.
@@ -56,7 +56,10 @@ impl LevelOptions {
     pub fn from_words(words: &[&str]) -> Option<LevelOptions>
         ensures { Reads option_words FitOptions (map (λ word. word.now) words.now) result }
     {
-        if words.len() != 5 || !is_word(words[0], "run") || !is_word(words[1], "level") {
+        if words.len() != 5
+            || !is_word(words[0].as_bytes(), "run")
+            || !is_word(words[1].as_bytes(), "level")
+        {
             return None;
         }
         let l0_trigger = number_of(words[2].as_bytes())?;
@@ -64,10 +67,4 @@ impl LevelOptions {
         let ratio = number_of(words[4].as_bytes())?;
         LevelOptions::try_new(l0_trigger, base, ratio)
     }
-}
-
-fn is_word(word: &str, name: &str) -> bool
-    ensures { IsTrue result ↔ (word.now ≡ name.now) }
-{
-    word == name
 }

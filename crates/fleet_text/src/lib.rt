@@ -29,4 +29,4 @@ pub use reply::Reply;
 pub use report::{Begun, FlushFault, Page, PollReport, ScanEnd};
 pub use row::{row_at, rows_at};
 pub use script::read_script;
-pub use word::{bytes_of, number_of, run_of, signed_of, stamp_of};
+pub use word::{bytes_of, is_word, number_of, run_of, signed_of, stamp_of};

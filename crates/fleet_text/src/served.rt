@@ -12,7 +12,7 @@ pub fn may_stand(line: &Line, is_first: bool) -> bool
 {
     match line {
         Line::Options { .. } => is_first,
-        Line::Sweep | Line::Scan { .. } | Line::Settle { .. } | Line::Together { .. } => false,
+        Line::Together { .. } => false,
         _ => true,
     }
 }
