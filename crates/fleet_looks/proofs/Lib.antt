@@ -1,0 +1,3 @@
+pub mod LookLines
+pub mod KeyReads
+pub mod KeyScans
