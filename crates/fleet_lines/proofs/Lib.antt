@@ -27,9 +27,9 @@ pub mod WorkerLines
 pub mod StartLines
 pub mod Takes
 pub mod PollLines
+pub mod SweepLines
 pub mod ServeLines
-pub mod LookLines
-pub mod KeyReads
 pub mod Fresh
 pub mod NamesAfter
 pub mod Taken
+pub mod WorkLeft

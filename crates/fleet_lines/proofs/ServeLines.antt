@@ -10,9 +10,10 @@ use Rattle.line_laws.specs.Lines.PollLines.{spell_poll}
 use Rattle.script_model.specs.Lines.PollLines.{polls}
 use Rattle.script_model.specs.Lines.Starts.{start_coordinator, start_worker, end_coordinator, kill_worker}
 use Rattle.script_model.specs.Lines.Submits.{submit_line, full_line}
+use Rattle.script_model.specs.Lines.Sweeps.{sweep_line}
 use Rattle.script_model.specs.Lines.WorkLines.{claim_line, heartbeat_line, stop_worker}
 use Rattle.script_model.specs.Replies.{absent_reply, jobs_reply, ok, tables_reply, trees_reply}
-use Rattle.script_model.specs.Script.{Line, Options, Clock, StartCoordinator, StartWorker, KillCoordinator, KillWorker, StopCoordinator, StopWorker, FlushRows, SubmitJob, SubmitDrain, SubmitFull, ClaimJobs, Heartbeat, SetFault, ShowTrees, ShowJobs, ShowTables, Dump, IsInBounds, Poll, CommitOnly, ReadKey}
+use Rattle.script_model.specs.Script.{Line, Options, Clock, StartCoordinator, StartWorker, KillCoordinator, KillWorker, StopCoordinator, StopWorker, FlushRows, SubmitJob, SubmitDrain, SubmitFull, ClaimJobs, Heartbeat, SetFault, ShowTrees, ShowJobs, ShowTables, Dump, Sweep, IsInBounds, Poll, CommitOnly, ReadKey, Scan}
 use Rattle.script_model.specs.States.{Inputs, State}
 use Rattle.script_model.specs.LineRuns.{LineCourse, if_some, only_replies}
 use Rattle.script_model.specs.LineCourses.{prepared_state, course_of}
@@ -23,7 +24,7 @@ use Rattle.fleet_history.specs.Entries.{history_of}
 use Rattle.fleet_history.specs.declared.entry.HistoryEntry.{HistoryEntry}
 use Rattle.fleet_lines.specs.Fleets.{FleetParts, IsServing, Stands, state_of}
 use Rattle.fleet_lines.specs.Lines.{Runs, Serves}
-use Rattle.fleet_lines.specs.Looks.{read_said}
+use Rattle.fleet_looks.specs.Looks.{read_said, scan_said}
 use Rattle.fleet_lines.proofs.NamesAfter.{named_after}
 
 -- A line whose course ran.
@@ -101,6 +102,11 @@ module _ (inputs : Inputs) (number : ℕ) (old : FleetParts) (answer : List ℕ)
   unfolding course_of
   read_serves segment key seq now stands says = replies inputs number (ReadKey segment key seq now) old old (read_said inputs.merge old.store.world.store segment key seq now) answer refl refl refl stands refl says
 
+  pub scan_serves : (segment from to : List ℕ) (seq : ℕ) (now : ℤ) (limit : ℕ) → Stands inputs.merge old → answer ≡ scan_said inputs.merge old.store.world.store segment from to seq now limit → Serves inputs number (Scan segment from to seq now limit) old old answer
+  unfolding course_of
+  scan_serves segment from to seq now limit stands says =
+      replies inputs number (Scan segment from to seq now limit) old old (scan_said inputs.merge old.store.world.store segment from to seq now limit) answer refl refl refl stands refl says
+
   pub dump_serves : (segment : List ℕ) (node : NodeName) → Stands inputs.merge old → answer ≡ dump_reply old.store.world.store.tables (node_named node (tree_at segment old.store.world.store.manifest.trees)) → Serves inputs number (Dump segment node) old old answer
   unfolding course_of
   dump_serves segment node stands says =
@@ -135,6 +141,10 @@ module _ (inputs : Inputs) (number : ℕ) (old : FleetParts) (answer : List ℕ)
   pub commit_serves : (n : ℕ) (new : FleetParts) → Runs inputs.merge number (state_of old) (polls true (spell_poll true) inputs n (state_of old)) old new answer → Serves inputs number (CommitOnly n) old new answer
   unfolding course_of
   commit_serves n new runs = serves inputs number (CommitOnly n) old new answer _ refl refl runs
+
+  pub sweep_serves : (new : FleetParts) → Runs inputs.merge number (state_of old) (sweep_line (state_of old)) old new answer → Serves inputs number Sweep old new answer
+  unfolding course_of
+  sweep_serves new runs = serves inputs number Sweep old new answer _ refl refl runs
 
   pub start_worker_serves : (n : ℕ) (release : Option ℕ) (new : FleetParts) → Runs inputs.merge number (state_of old) (start_worker n release (state_of old)) old new answer → Serves inputs number (StartWorker n release) old new answer
   unfolding course_of

@@ -2,5 +2,5 @@ pub mod Fleets
 pub mod Steps
 pub mod Work
 pub mod Lines
-pub mod Looks
 pub mod Lists
+pub mod Sweeps

@@ -1,22 +1,22 @@
 //! The fleet on which a script runs.
 
 ghost use Rattle.std.specs.Prelude.{◌≡◌, ◌<◌, ◌^◌, IfOk, IsOkUnless, OnOk, true};
+ghost use Rattle.fleet_model.specs.Work.Scheduler.{Scheduler};
 ghost use Rattle.fleet_rows.specs.declared.errors.SlateDBError.TheVariants as SlateDBError;
 ghost use Rattle.fleet_text.specs.Lines.{line_of};
-ghost use Rattle.script_model.specs.Grammars.{is_served};
+ghost use Rattle.script_model.specs.Follows.{runs_one_course};
 ghost use Rattle.script_model.specs.LineSteps.{OneCourse};
 ghost use Rattle.script_model.specs.Script.{IsInBounds};
 ghost use Rattle.fleet_lines.specs.Fleets.{IsFresh, IsServing, state_of};
-ghost use Rattle.fleet_lines.specs.Lines.{Serves, calls_store};
+ghost use Rattle.fleet_lines.specs.Lines.{Serves, calls_store, looks_or_calls, works, works_or_asks};
 
-use crate::looks::{dump, show_jobs, show_tables, show_trees};
 use crate::names::last_name;
 use crate::options::FleetOptions;
 use crate::parties::LiveCoordinator;
-use crate::reads::read_key;
 use crate::submits::{drain_of, spec_of};
 use fleet_coordinator::FlushAsk;
 use fleet_fold::MergeOperator;
+use fleet_looks::{dump, read_key, scan_keys, show_jobs, show_tables, show_trees};
 use fleet_rows::SlateDBError;
 use fleet_sched::CompactionScheduler;
 use fleet_store::{HistoryEntry, MemStore};
@@ -104,7 +104,7 @@ impl Fleet {
     ) -> Result<Reply, SlateDBError>
         requires serving { IsServing (O.merged (O.settings operator.now)) self.old }
         requires bounds { IsInBounds (line_of line) }
-        requires kind { is_served (line_of line) ≡ true }
+        requires kind { runs_one_course (line_of line) ≡ true }
         ensures course { IfOk result (λ answer. OneCourse (record {
           merge = O.merged (O.settings operator.now);
           scheduler = answers scheduler.now;
@@ -129,7 +129,7 @@ impl Fleet {
     ) -> Result<Reply, SlateDBError>
         requires serving { IsServing (O.merged (O.settings operator.now)) self.old }
         requires bounds { IsInBounds (line_of line) }
-        requires kind { is_served (line_of line) ≡ true }
+        requires kind { runs_one_course (line_of line) ≡ true }
         ensures served { IfOk result (Serves (record {
           merge = O.merged (O.settings operator.now);
           scheduler = answers scheduler.now;
@@ -150,6 +150,29 @@ impl Fleet {
             ),
             Line::Clock { moment } => self.set_clock(moment),
             Line::Fault { k, stands } => self.set_fault(k, stands),
+            line => self.look(rt, operator, scheduler, number, line),
+        }
+    }
+
+    // Runs a line that looks at the store, or that calls it and runs one course.
+    fn look<R: Threads + Sync, O: MergeOperator>(
+        &mut self,
+        rt: &R,
+        operator: &O,
+        scheduler: &(dyn CompactionScheduler + Send + Sync),
+        number: u64,
+        line: Line,
+    ) -> Result<Reply, SlateDBError>
+        requires serving { IsServing (O.merged (O.settings operator.now)) self.old }
+        requires bounds { IsInBounds (line_of line) }
+        requires looks { looks_or_calls (line_of line) ≡ true }
+        ensures served { IfOk result (Serves (record {
+          merge = O.merged (O.settings operator.now);
+          scheduler = answers scheduler.now;
+        }) number (line_of line) self.old self.new) }
+        ensures memory { IsOkUnless result SlateDBError.Memory }
+    {
+        match line {
             Line::Trees => show_trees(self.alloc, &self.store),
             Line::Jobs => show_jobs(self.alloc, &self.store),
             Line::Tables { segment, node } => {
@@ -167,11 +190,33 @@ impl Fleet {
                 let (segment, key) = (segment.as_slice(), key.as_slice());
                 read_key(self.alloc, &self.store, operator, segment, key, seq, now)
             }
+            Line::Scan {
+                segment,
+                from,
+                to,
+                seq,
+                now,
+                limit,
+            } => {
+                let segment = segment.as_slice();
+                let (from, to) = (from.as_slice(), to.as_slice());
+                scan_keys(
+                    self.alloc,
+                    &self.store,
+                    operator,
+                    segment,
+                    from,
+                    to,
+                    seq,
+                    now,
+                    limit,
+                )
+            }
             line => self.call(rt, operator, scheduler, number, line),
         }
     }
 
-    // Runs a line that calls the store.
+    // Runs a line that calls the store and runs one course.
     fn call<R: Threads + Sync, O: MergeOperator>(
         &mut self,
         rt: &R,
@@ -199,30 +244,52 @@ impl Fleet {
             Line::StopCoordinator { number: party } => {
                 self.end_coordinator(operator, number, party)
             }
-            Line::StartWorker {
-                number: worker,
-                release,
-            } => self.start_worker(operator, number, worker, release),
-            Line::KillWorker { number: worker } => self.kill_worker(operator, number, worker),
-            Line::StopWorker { number: worker } => self.stop_worker(operator, number, worker),
-            Line::Heartbeat { worker } => self.heartbeat(operator, number, worker),
+            Line::Poll { coordinator } => {
+                self.poll(operator, scheduler, number, coordinator, false)
+            }
+            Line::Commit { coordinator } => {
+                self.poll(operator, scheduler, number, coordinator, true)
+            }
+            Line::Sweep => self.sweep(operator, number),
+            line => self.ask(rt, operator, scheduler, number, line),
+        }
+    }
+
+    // Runs a line of the writer, the submitter or a worker.
+    fn ask<R: Threads + Sync, O: MergeOperator>(
+        &mut self,
+        rt: &R,
+        operator: &O,
+        scheduler: &(dyn CompactionScheduler + Send + Sync),
+        number: u64,
+        line: Line,
+    ) -> Result<Reply, SlateDBError>
+        requires serving { IsServing (O.merged (O.settings operator.now)) self.old }
+        requires bounds { IsInBounds (line_of line) }
+        requires asks { works_or_asks (line_of line) ≡ true }
+        ensures served { IfOk result (Serves (record {
+          merge = O.merged (O.settings operator.now);
+          scheduler = answers scheduler.now;
+        }) number (line_of line) self.old self.new) }
+        ensures memory { IsOkUnless result SlateDBError.Memory }
+    {
+        match line {
             Line::Flush {
                 name,
                 segment,
                 floor,
                 tick,
                 rows,
-            } => self.flush(
-                operator,
-                number,
-                FlushAsk {
+            } => {
+                let ask = FlushAsk {
                     name,
                     segment,
                     floor,
                     tick,
                     rows,
-                },
-            ),
+                };
+                self.flush(operator, number, ask)
+            }
             Line::Submit {
                 segment,
                 destination,
@@ -236,6 +303,35 @@ impl Fleet {
                 self.submit(operator, number, spec)
             }
             Line::Full { segment } => self.full(operator, scheduler, number, segment),
+            line => self.work(rt, operator, number, line),
+        }
+    }
+
+    // Runs a line of a worker.
+    fn work<R: Threads + Sync, O: MergeOperator>(
+        &mut self,
+        rt: &R,
+        operator: &O,
+        number: u64,
+        line: Line,
+    ) -> Result<Reply, SlateDBError>
+        requires serving { IsServing (O.merged (O.settings operator.now)) self.old }
+        requires bounds { IsInBounds (line_of line) }
+        requires works { works (line_of line) ≡ true }
+        ensures served { (scheduler : Scheduler) → IfOk result (Serves (record {
+          merge = O.merged (O.settings operator.now);
+          scheduler = scheduler;
+        }) number (line_of line) self.old self.new) }
+        ensures memory { IsOkUnless result SlateDBError.Memory }
+    {
+        match line {
+            Line::StartWorker {
+                number: worker,
+                release,
+            } => self.start_worker(operator, number, worker, release),
+            Line::KillWorker { number: worker } => self.kill_worker(operator, number, worker),
+            Line::StopWorker { number: worker } => self.stop_worker(operator, number, worker),
+            Line::Heartbeat { worker } => self.heartbeat(operator, number, worker),
             Line::Claim { worker } => self.claim(operator, number, worker),
             Line::Output {
                 worker,
@@ -244,14 +340,8 @@ impl Fleet {
                 rows,
             } => self.output(operator, number, worker, job, range, rows),
             Line::Finish { worker, job } => self.finish(rt, operator, number, worker, job),
-            Line::Poll { coordinator } => {
-                self.poll(operator, scheduler, number, coordinator, false)
-            }
-            Line::Commit { coordinator } => {
-                self.poll(operator, scheduler, number, coordinator, true)
-            }
 
-            // The fleet serves no other line.
+            // No other line is a worker's.
             _ => unreachable!(),
         }
     }

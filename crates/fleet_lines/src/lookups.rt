@@ -6,8 +6,8 @@ ghost use Rattle.fleet_lines.specs.Work.{attempt_named};
 
 use fleet_worker::{RunAttempt, Worker};
 
-// The worker with this number.
-fn worker_with(workers: &[Worker], number: u64) -> Option<&Worker>
+/// The worker with this number.
+pub(crate) fn worker_with(workers: &[Worker], number: u64) -> Option<&Worker>
     ensures { option_copied result ≡ find (λ w. number == w.number) workers.now }
 {
     workers.iter().find(|worker| number == worker.id())

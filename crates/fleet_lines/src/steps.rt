@@ -1,6 +1,6 @@
 //! The steps of the parties over the store of a fleet, lent to them in a line of a script.
 
-ghost use Rattle.std.specs.Prelude.{◌≡◌, ◌≤◌, ◌<◌, ◌^◌, ◌∷◌, [], false, map, IfOk, IsOkUnless, IsSome, OnErr, OnOk, if◌then◌else◌};
+ghost use Rattle.std.specs.Prelude.{◌≡◌, ℕ, ◌≤◌, ◌<◌, ◌^◌, ◌∷◌, [], false, map, IfOk, IsOkUnless, IsSome, OnErr, OnOk, if◌then◌else◌};
 ghost use Rattle.std.specs.Bool.{OnFalse};
 ghost use Rattle.fleet_model.specs.Work.Scheduler.{Scheduler};
 ghost use Rattle.step_model.specs.Courses.StepEnds.{Reports};
@@ -32,6 +32,7 @@ ghost use Rattle.fleet_worker.specs.Workers.{live_of, ranges_at};
 ghost use Rattle.fleet_step.specs.Steps.{stops};
 ghost use Rattle.script_model.specs.States.{State};
 ghost use Rattle.fleet_lines.specs.Steps.{Made, MayWork, Noted, note_event, Polled};
+ghost use Rattle.fleet_lines.specs.Sweeps.{Swept};
 ghost use Rattle.fleet_lines.specs.Work.{FinishMade, OutputMade};
 ghost use Rattle.script_model.specs.Lines.Starts.{killed_first};
 
@@ -43,7 +44,7 @@ use fleet_exec::OpenGate;
 use fleet_fold::MergeOperator;
 use fleet_jobs::CompactionSpec;
 use fleet_poll::PollReport;
-use fleet_rows::{JobList, SlateDBError, Ulid};
+use fleet_rows::{IdList, JobList, SlateDBError, Ulid};
 use fleet_sched::{CompactionScheduler, CompactorOptions};
 use fleet_store::{MemStore, Note, Party, Store};
 use fleet_tree::{OutputList, SsTableHandle};
@@ -379,4 +380,23 @@ pub(crate) fn polled<O: MergeOperator>(
         )),
         Err(error) => Err(error),
     }
+}
+
+/// The sweeper deletes the tables that nothing can need and that are not pinned.
+pub(crate) fn swept<O: MergeOperator>(
+    alloc: Global,
+    store: &mut MemStore,
+    operator: &O,
+    number: u64,
+    pins: &IdList,
+) -> Result<IdList, SlateDBError>
+    requires keeps { Keeps (O.merged (O.settings operator.now)) store.old.world }
+    requires none_pending { (table : ℕ)
+        → entries.is_pending store.old.world.store.history table ≡ false }
+    ensures { Swept pins.now (O.merged (O.settings operator.now)) number
+        store.old store.new result }
+{
+    let mut under = store.under(operator);
+    under.set_actor(number, Party::Sweeper);
+    fleet_sweep::sweep(alloc, &mut under, pins)
 }
