@@ -1,10 +1,12 @@
 //! The fleet's program. `fleet run` runs the script on standard input and writes its replies to
-//! standard output.
+//! standard output. `fleet run level <trigger> <base> <ratio>` does so under the level scheduler.
 #![tactic(auto)]
 
 use fleet_fold::AppendOperator;
+use fleet_level::{LevelOptions, LevelScheduler};
 use fleet_run::{Fleet, FleetOptions, StreamSink, StreamSource, fleet_main};
 use fleet_sched::{CompactionScheduler, SizeTieredCompactionScheduler};
+use std::alloc::{AllocError, Global};
 use std::io::ErrorKind;
 use std::process::ExitCode;
 use std::{env, io};
@@ -14,6 +16,20 @@ const USAGE: u8 = 2;
 
 // The status if there is no memory for the words of the command line or for the fleet.
 const MEMORY: u8 = 6;
+
+// The most jobs that the level scheduler lets run at a time.
+const LEVEL_JOBS: u64 = 4;
+
+// The level scheduler, if the words name its options, and otherwise the size-tiered one.
+fn scheduler_for(
+    alloc: Global,
+    words: &[&str],
+) -> Result<Box<dyn CompactionScheduler + Send + Sync>, AllocError> {
+    match LevelOptions::from_words(words) {
+        Some(options) => Ok(Box::new(alloc, LevelScheduler::new(options, LEVEL_JOBS))?),
+        None => Ok(Box::new(alloc, SizeTieredCompactionScheduler::default())?),
+    }
+}
 
 fn main(rt: HostRuntime) -> ExitCode {
     let alloc = rt.alloc();
@@ -35,10 +51,9 @@ fn main(rt: HostRuntime) -> ExitCode {
     let Ok(mut fleet) = Fleet::new(alloc, FleetOptions::default()) else {
         return ExitCode::from(MEMORY);
     };
-    let Ok(scheduler) = Box::new(alloc, SizeTieredCompactionScheduler::default()) else {
+    let Ok(scheduler) = scheduler_for(alloc, texts.as_slice()) else {
         return ExitCode::from(MEMORY);
     };
-    let scheduler: Box<dyn CompactionScheduler + Send + Sync> = scheduler;
     let mut source = StreamSource::new(rt.reader());
     let mut sink = StreamSink::new(io::writer(&rt));
     ExitCode::from(fleet_main(

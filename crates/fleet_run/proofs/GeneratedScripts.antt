@@ -1,16 +1,13 @@
 -- Generated scripts are in the grammar that the program serves.
 use Rattle.std.proofs.Common.{◌≡◌, refl, ℕ, ◌≤◌, List, [], ◌∷◌, ◌++◌, true}
 use Rattle.std.specs.List.{AllByRecursion}
-use Rattle.script_model.specs.Script.{Line, Options, Sweep, Scan, Settle, Together, AreLines, IsScript, script_text}
+use Rattle.script_model.specs.Script.{Line, Options, Together, AreLines, IsScript, script_text}
 use Rattle.script_model.specs.Grammars.{full_grammar, is_served, served_grammar}
 use Rattle.script_model.specs.Generated.{generated}
 use Rattle.fleet_generate.specs.Laws.{is_of_generated_kind}
 use Rattle.fleet_generate.proofs.ScriptLines.{are_of_kinds, is_script}
 
 kind_is_served : (line : Line) → is_of_generated_kind line ≡ true → is_served line ≡ true
-kind_is_served Sweep kind = absurd (cc kind)
-kind_is_served (Scan segment from to seq now limit) kind = absurd (cc kind)
-kind_is_served (Settle coordinator worker rounds) kind = absurd (cc kind)
 kind_is_served (Together workers turns) kind = absurd (cc kind)
 kind_is_served _ kind = refl
 

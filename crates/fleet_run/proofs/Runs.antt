@@ -5,9 +5,8 @@ use Rattle.std.specs.List.{concat}
 use Rattle.std.proofs.lemmas.List.Folds.{concat-append}
 use Rattle.row_model.specs.Fold.{Operator}
 use Rattle.fleet_model.specs.Work.Scheduler.{Scheduler}
-use Rattle.script_model.specs.Script.{Line, AreLines, IsScript, IsInBounds, Settle, Together}
-use Rattle.script_model.specs.Grammars.{is_served, served_grammar}
-use Rattle.script_model.specs.LineSteps.{OneCourse}
+use Rattle.script_model.specs.Script.{Line, AreLines, IsScript, IsInBounds}
+use Rattle.script_model.specs.Grammars.{served_grammar}
 use Rattle.script_model.specs.States.{Inputs, FleetOptions, State, fresh_state}
 use Rattle.script_model.specs.Follows.{LineStep, ScriptRun}
 use Rattle.fleet_run.proofs.MoreLines.{run-more}
@@ -16,14 +15,6 @@ use Rattle.fleet_run.specs.Program.{ReadWhole, ReadFront, RunsFirst}
 use Rattle.fleet_run.specs.Served.{inputs_of, BeginsScript, Ran, RanButTheEnd, RanLine, RanLineShort, RunsFront, RunsUpToFault, Served, ServedFront, ServedUpToFault}
 use Rattle.fleet_run.specs.SourceAndSink.{SinkView, SourceView, Took, TookNothing, TookShort}
 use Rattle.fleet_run.proofs.Written.{took_none, took_more, took_kept}
-
--- ---- one line
-
--- A line that the program serves runs one course.
-pub one_course : (inputs : Inputs) (number : ℕ) (line : Line) (old : State) (answer : List ℕ) (new : State) → is_served line ≡ true → OneCourse inputs number old line answer new → LineStep inputs number old line answer new
-one_course inputs number (Settle coordinator worker rounds) old answer new served course = absurd (cc served)
-one_course inputs number (Together workers turns) old answer new served course = absurd (cc served)
-one_course inputs number _ old answer new served course = course
 
 -- ---- lines
 

@@ -8,9 +8,9 @@ ghost use Rattle.script_model.specs.Grammars.{served_grammar};
 ghost use Rattle.fleet_lines.specs.Fleets.{IsFresh, options_of, state_of};
 ghost use Rattle.fleet_run.specs.SourceAndSink.{Rose, TookNothing};
 ghost use Rattle.fleet_run.specs.Served.{inputs_of};
-ghost use Rattle.fleet_run.specs.Commands.{Asks};
+ghost use Rattle.fleet_run.specs.Commands.{AskToRun, Asks};
 ghost use Rattle.fleet_run.specs.Program.{ReadWhole, ReadFront, IsStatus, IsRunStatus, IsGenerateStatus, RunsNothing, RunsScript, HasBadLine, RunsUpTo, RunsFirst, WritesSummary, WritesSummaryShort, longest};
-ghost use Rattle.fleet_run.specs.declared.command.Command.TheVariants.{Generate, Run};
+ghost use Rattle.fleet_run.specs.declared.command.Command.TheVariants.{Generate};
 ghost use Rattle.fleet_run.specs.declared.script.FleetError.TheVariants.{Memory, TooLong, ReadFault};
 
 use crate::command::Command;
@@ -107,15 +107,16 @@ fn run_source<R: Threads + Sync, S: Source, K: Sink, O: MergeOperator + Sync>(
     }
 }
 
-/// Runs the program and returns its status. The words `run` run the script that the source gives,
-/// and write its replies to the sink. The words `generate <number> <rounds>` run the script that
+/// Runs the program and returns its status. The words `run`, and the words `run level <trigger>
+/// <base> <ratio>`, run the script that the source gives under the scheduler that is handed in, and
+/// write its replies to the sink. The words `generate <number> <rounds>` run the script that
 /// `make_script` makes of these numbers, and write one line to the sink: `rounds <rounds> lines
 /// <lines> script <bytes> replies <bytes>`. They read nothing.
 ///
 /// | Status | Meaning |
 /// |---|---|
 /// | 0 | the script was run, and all its replies, or the line on it, were written |
-/// | 2 | the words are neither `run`, nor `generate` with a u64 and a number up to 2,000 |
+/// | 2 | the words are none that `Command::from_words` takes |
 /// | 3 | a line of the script is outside the grammar |
 /// | 4 | the source failed |
 /// | 5 | the sink failed |
@@ -138,16 +139,16 @@ pub fn fleet_main<R: Threads + Sync, S: Source, K: Sink, O: MergeOperator + Sync
     ensures usage { (result ≡ 2) ↔ ((command : _) → Asks (map (λ word. word.now) words.now) command → ⊥) }
     ensures usage_reads_nothing { result ≡ 2 → source.new ≡ source.old }
 
-    // `run`
-    ensures run { result ≡ 0 → Asks (map (λ word. word.now) words.now) Run → RunsScript
+    // `run` and `run level`
+    ensures run { result ≡ 0 → AskToRun (map (λ word. word.now) words.now) → RunsScript
         (inputs_of (O.merged (O.settings operator.now)) (answers scheduler))
         (options_of fleet.old.options) (state_of fleet.new)
         (S.view source.old) (S.view source.new) (K.view sink.old) (K.view sink.new) }
-    ensures wrote_front { result ≡ 5 → Asks (map (λ word. word.now) words.now) Run → RunsUpTo
+    ensures wrote_front { result ≡ 5 → AskToRun (map (λ word. word.now) words.now) → RunsUpTo
         (inputs_of (O.merged (O.settings operator.now)) (answers scheduler))
         (options_of fleet.old.options) (state_of fleet.new)
         (S.view source.old) (S.view source.new) (K.view sink.old) (K.view sink.new) }
-    ensures memory { result ≡ 6 → Asks (map (λ word. word.now) words.now) Run → RunsFirst
+    ensures memory { result ≡ 6 → AskToRun (map (λ word. word.now) words.now) → RunsFirst
         (inputs_of (O.merged (O.settings operator.now)) (answers scheduler))
         (options_of fleet.old.options)
         (S.view source.old) (S.view source.new) (K.view sink.old) (K.view sink.new) }
@@ -188,7 +189,9 @@ pub fn fleet_main<R: Threads + Sync, S: Source, K: Sink, O: MergeOperator + Sync
 {
     match Command::from_words(words) {
         None => 2,
-        Some(Command::Run) => run_source(rt, alloc, source, operator, scheduler, fleet, sink),
+        Some(Command::Run | Command::RunLevels(_)) => {
+            run_source(rt, alloc, source, operator, scheduler, fleet, sink)
+        }
         Some(Command::Generate { number, rounds }) => {
             let ran = run_generated(rt, alloc, number, rounds, operator, scheduler, fleet, sink);
             match ran {

@@ -15,6 +15,7 @@ use crate::source_and_sink::Sink;
 use fleet_fold::MergeOperator;
 use fleet_lines::Fleet;
 use fleet_sched::CompactionScheduler;
+use fleet_settle::serve_line;
 use fleet_text::{Line, LineList, TextError, read_script};
 use std::alloc::Global;
 use std::collections::VecDeque;
@@ -97,7 +98,7 @@ fn run_line<R: Threads + Sync, O: MergeOperator, K: Sink>(
     ensures never_fall { (K.view sink.old).faults ≤ (K.view sink.new).faults }
 {
     // The line fails only when out of memory.
-    let Ok(reply) = fleet.serve(rt, operator, scheduler, number, line) else {
+    let Ok(reply) = serve_line(fleet, rt, operator, scheduler, number, line) else {
         return Err(FleetError::Memory);
     };
     write_all(sink, reply.as_slice())
