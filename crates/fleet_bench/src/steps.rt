@@ -7,6 +7,7 @@ ghost use Rattle.fleet_iter.specs.List.{giving};
 ghost use Rattle.fleet_iter.specs.MergeState.{state_of, IsSound};
 
 use crate::ranges::{count_finished, count_rows, make_runs};
+use crate::scans::count_scanned;
 use crate::sources::{Load, make_sources};
 use fleet_fold::{AppendOperator, MergeOperatorIterator, RetentionIterator};
 use fleet_iter::{ListIterator, MergeIterator, RowEntryIterator, merges_rise};
@@ -32,10 +33,17 @@ pub enum Step {
     Range,
     /// Four ranges are finished from the tables, as in a job that writes the last run.
     Ranges,
+    /// The tables are scanned once.
+    Scan,
+    /// The tables are scanned in pages of 1,000 keys.
+    Pages,
 }
 
+// The keys of a page.
+const PAGE: u64 = 1_000;
+
 // All steps.
-const STEPS: [Step; 7] = [
+const STEPS: [Step; 9] = [
     Step::Rows,
     Step::Merge,
     Step::Fold,
@@ -43,6 +51,8 @@ const STEPS: [Step; 7] = [
     Step::Tables,
     Step::Range,
     Step::Ranges,
+    Step::Scan,
+    Step::Pages,
 ];
 
 impl Step {
@@ -56,6 +66,8 @@ impl Step {
             Step::Tables => "tables",
             Step::Range => "range",
             Step::Ranges => "ranges",
+            Step::Scan => "scan",
+            Step::Pages => "pages",
         }
     }
 
@@ -139,6 +151,14 @@ fn count_ranged<R: Threads + Sync>(
     ))
 }
 
+// Puts the rows into tables, and scans them in pages of `most` keys. Returns how many rows were made,
+// and how many keys have an answer.
+fn count_paged(alloc: Global, load: Load, most: u64) -> Result<(u64, u64), SlateDBError> {
+    let runs = make_runs(alloc, load)?;
+    let rows = count_rows(&runs);
+    Ok((rows, count_scanned(alloc, &runs, load.rows, most)?))
+}
+
 /// Takes the rows through the steps up to this one. Returns how many were made, and how many the
 /// last step gave.
 pub fn count<R: Threads + Sync>(
@@ -151,6 +171,8 @@ pub fn count<R: Threads + Sync>(
         Step::Tables => count_ranged(rt, alloc, load, 0),
         Step::Range => count_ranged(rt, alloc, load, 1),
         Step::Ranges => count_ranged(rt, alloc, load, 4),
+        Step::Scan => count_paged(alloc, load, load.rows),
+        Step::Pages => count_paged(alloc, load, PAGE),
         _ => count_listed(alloc, load, step),
     }
 }
