@@ -55,7 +55,7 @@ fn bad_lines_are_named(rt: HostRuntime) {
         ("\n", 1),
         ("clock 1\noptions 1 1 1 1 1 no\n", 2),
         ("start worker 1\nstart worker 1 3\n", 2),
-        ("start coordinator 1\npoll 2\nsettle 1 1 1\n", 3),
+        ("start coordinator 1\npoll 2\nsettle 1 1 0\n", 3),
         ("together 1 1\n", 1),
     ];
     for (script, line) in rows {
@@ -135,6 +135,8 @@ fn status<R: Threads + Sync + Abort>(
 fn statuses(rt: HostRuntime) {
     let alloc = rt.alloc();
     assert!(rt; status(&rt, alloc, &["run"], &[], &[], REPLIES) == 0);
+    let levels = ["run", "level", "2", "20", "2"];
+    assert!(rt; status(&rt, alloc, &levels, &[], &[], REPLIES) == 0);
     assert!(rt; status(&rt, alloc, &["run"], &[1], &[], "") == 4);
     assert!(rt; status(&rt, alloc, &["run"], &[2], &[], "") == 4);
     assert!(rt; status(&rt, alloc, &["run"], &[], &[2], "ok\n") == 5);
@@ -152,9 +154,11 @@ fn generated_scripts_are_summed_up(rt: HostRuntime) {
 #[test]
 fn other_words_are_refused(rt: HostRuntime) {
     let alloc = rt.alloc();
-    let other: [&[&str]; 7] = [
+    let other: [&[&str]; 9] = [
         &[],
         &["runs"],
+        &["run", "level", "0", "1", "2"],
+        &["run", "levels", "1", "1", "2"],
         &["run", "1", "1"],
         &["generate", "1"],
         &["generate", "01", "1"],
