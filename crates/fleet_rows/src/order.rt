@@ -9,9 +9,10 @@ ghost use Rattle.fleet_rows.specs.Row.{row_of, rows_of};
 use crate::RowEntry;
 use std::cmp::Ordering;
 
-// Compares keys. It takes eight bytes at once as a number, whose highest byte is the first one.
+/// Compares keys by their bytes. It takes eight bytes at once as a number, whose highest byte is the
+/// first one: most keys differ early.
 #[inline]
-fn key_order(key: &[u8], other: &[u8]) -> Ordering
+pub fn key_order(key: &[u8], other: &[u8]) -> Ordering
     ensures { result ≡ key_cmp key.now other.now }
 {
     let mut rest = key;
